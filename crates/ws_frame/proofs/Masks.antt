@@ -1,0 +1,99 @@
+-- Masking, one byte after the other.
+use Rattle.std.proofs.Common.{◌≡◌, ℕ, zero, suc, Option, Some, None, ◌+◌, ◌%◌, ◌<◌, ◌≤◌, List, [], ◌∷◌, ◌++◌, length, get_or, set, take, drop, refl, sym, ap, ◌∙◌, append_assoc, add_assoc, arith, zero-add, add-zero}
+use Rattle.std.specs.Prelude.{bit_xor, slice_index}
+use Rattle.std.proofs.lemmas.List.{take_more_set, drop-set-lt, drop_more, take_all, append-nil, drop_all}
+use Rattle.std.specs.Int.Bits.{xor_assoc, xor_self, xor_zero_r}
+use Rattle.std.proofs.lemmas.Nat.{xor_of_8}
+use Rattle.std.proofs.lemmas.Grind.{same_number_lists}
+use Rattle.ws_frame.specs.Header.{AreBytes, IsKey}
+use Rattle.ws_frame.specs.Masking.{masked, masked_payload, IsMasked}
+
+pub length-masked : (key : List ℕ) (phase : ℕ) (p : List ℕ) → length (masked key phase p) ≡ length p
+length-masked key phase [] = refl
+length-masked key phase (b ∷ p) = ap suc (length-masked key (phase + 1) p)
+
+-- what is masked in two parts
+pub masked-append : (key : List ℕ) (phase : ℕ) (p q : List ℕ) → masked key phase (p ++ q) ≡ masked key phase p ++ masked key (phase + length p) q
+masked-append key phase [] q = ap (λ n. masked key n q) (sym (add-zero phase))
+masked-append key phase (b ∷ p) q =
+    let same : (phase + 1) + length p ≡ phase + suc (length p) = omega arith in
+    ap (λ (t : List ℕ). bit_xor b (slice_index key (phase % 4)) ∷ t) (masked-append key (phase + 1) p q ∙ ap (λ n. masked key (phase + 1) p ++ masked key n q) same)
+
+-- the loop's step: the bytes up to i are masked, those from i on are not
+pub masked_more : (key : List ℕ) (phase i : ℕ) (p : List ℕ) → i < length p
+    → take (i + 1) (set p i (bit_xor (get_or p i 0) (get_or key ((phase + i) % 4) 0))) ++ masked key (phase + (i + 1)) (drop (i + 1) (set p i (bit_xor (get_or p i 0) (get_or key ((phase + i) % 4) 0))))
+    ≡ take i p ++ masked key (phase + i) (drop i p)
+masked_more key phase i p lt =
+    let lt' : i < i + 1 = omega arith in
+    let v = bit_xor (get_or p i 0) (get_or key ((phase + i) % 4) 0) in
+    let step : phase + (i + 1) ≡ (phase + i) + 1 = omega arith in
+    rw (take_more_set p i v lt, drop-set-lt (i + 1) p i v lt', drop_more p i 0 lt, step, append_assoc) refl
+
+-- ---- the rule by index and the list
+
+-- the next byte's place is one more, in the payload as in the list
+next_phase : (phase i : ℕ) → (phase + 1) + i ≡ phase + suc i
+next_phase phase i = omega arith
+
+masked_at : (key : List ℕ) (phase : ℕ) (p : List ℕ) (i : ℕ) → i < length p → slice_index (masked key phase p) i ≡ bit_xor (slice_index p i) (slice_index key ((phase + i) % 4))
+masked_at key phase [] i lt = absurd (omega arith)
+masked_at key phase (b ∷ p) zero lt = ap (λ n. bit_xor b (slice_index key (n % 4))) (sym (add-zero phase))
+masked_at key phase (b ∷ p) (suc i) lt =
+    masked_at key (phase + 1) p i (omega arith) ∙ ap (λ n. bit_xor (slice_index p i) (slice_index key (n % 4))) (next_phase phase i)
+
+pub masked_is_rule : (key : List ℕ) (phase : ℕ) (p : List ℕ) → IsMasked key phase p (masked key phase p)
+masked_is_rule key phase p = record { len = length-masked key phase p; bytes = masked_at key phase p }
+
+pub rule_is_masked : (key : List ℕ) (phase : ℕ) (old new : List ℕ) → IsMasked key phase old new → new ≡ masked key phase old
+rule_is_masked key phase old new is = same_number_lists new (masked key phase old) (is.len ∙ sym (length-masked key phase old)) (λ i lt. is.bytes i (omega (arith, is.len)) ∙ sym (masked_at key phase old i (omega (arith, is.len))))
+
+-- ---- masking twice
+
+-- a byte xored twice with one key byte is the byte
+pub xor_twice : (k a : ℕ) → bit_xor (bit_xor a k) k ≡ a
+xor_twice k a = xor_assoc a k k ∙ ap (λ n. bit_xor a n) (xor_self k) ∙ xor_zero_r a
+
+-- masking undoes masking
+pub masked_twice : (key : List ℕ) (phase : ℕ) (p : List ℕ) → masked key phase (masked key phase p) ≡ p
+masked_twice key phase [] = refl
+masked_twice key phase (b ∷ p) =
+    let one : bit_xor (bit_xor b (slice_index key (phase % 4))) (slice_index key (phase % 4)) ≡ b = xor_twice (slice_index key (phase % 4)) b in
+    let more = masked_twice key (phase + 1) p in
+    cc
+
+pub masked_payload_twice : (k : Option (List ℕ)) (p : List ℕ) → masked_payload k (masked_payload k p) ≡ p
+masked_payload_twice None p = refl
+masked_payload_twice (Some key) p = masked_twice key 0 p
+
+pub length-masked_payload : (k : Option (List ℕ)) (p : List ℕ) → length (masked_payload k p) ≡ length p
+length-masked_payload None p = refl
+length-masked_payload (Some key) p = length-masked key 0 p
+
+-- what is masked to one list is one payload
+pub same_masked_payload : (k : Option (List ℕ)) (p q : List ℕ) → masked_payload k p ≡ masked_payload k q → p ≡ q
+same_masked_payload k p q e = sym (masked_payload_twice k p) ∙ ap (λ (t : List ℕ). masked_payload k t) e ∙ masked_payload_twice k q
+
+masked_bytes : (key : List ℕ) (phase : ℕ) (p : List ℕ) → AreBytes key → AreBytes p → AreBytes (masked key phase p)
+masked_bytes key phase [] k h i = omega arith
+masked_bytes key phase (b ∷ p) k h zero = xor_of_8 b (slice_index key (phase % 4)) (h 0) (k (phase % 4))
+masked_bytes key phase (b ∷ p) k h (suc i) = masked_bytes key (phase + 1) p k (λ j. h (suc j)) i
+
+pub masked_payload_bytes : (k : Option (List ℕ)) (p : List ℕ) → IsKey k → AreBytes p → AreBytes (masked_payload k p)
+masked_payload_bytes None p k h = h
+masked_payload_bytes (Some key) p k h = masked_bytes key 0 p k.1 h
+
+-- a front of the payload is masked to the front
+pub take-masked : (key : List ℕ) (phase n : ℕ) (p : List ℕ) → take n (masked key phase p) ≡ masked key phase (take n p)
+take-masked key phase zero p = refl
+take-masked key phase (suc n) [] = refl
+take-masked key phase (suc n) (b ∷ p) = ap (λ (t : List ℕ). bit_xor b (slice_index key (phase % 4)) ∷ t) (take-masked key (phase + 1) n p)
+
+pub take-masked_payload : (k : Option (List ℕ)) (n : ℕ) (p : List ℕ) → take n (masked_payload k p) ≡ masked_payload k (take n p)
+take-masked_payload None n p = refl
+take-masked_payload (Some key) n p = take-masked key 0 n p
+
+-- at the loop's end all of the bytes are masked
+pub masked_done : (key : List ℕ) (phase i : ℕ) (p all : List ℕ) → length p ≤ i → take i p ++ masked key (phase + i) (drop i p) ≡ all → p ≡ all
+masked_done key phase i p all le e =
+    let whole : take i p ++ masked key (phase + i) (drop i p) ≡ p = ap (λ (t : List ℕ). take i p ++ masked key (phase + i) t) (drop_all i p le) ∙ append-nil (take i p) ∙ take_all i p le in
+    sym whole ∙ e

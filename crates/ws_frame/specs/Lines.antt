@@ -1,0 +1,153 @@
+-- The lines of `show`: one for each frame of a stream (RFC 6455 section 5.2), in any form, and a last one where the
+-- stream stops inside a frame. A line ends with LF.
+use Rattle.std.specs.Prelude.{◌≡◌, ◌≢◌, ℕ, ◌+◌, ◌/◌, ◌%◌, ◌<◌, ◌≤◌, Bool, true, false, nat_lt, ◌==◌, if◌then◌else◌, List, [], ◌∷◌, ◌++◌, length, take, Option, Some, None, codes}
+use Rattle.std.specs.List.{flat_map, concat}
+use Rattle.std.specs.Fmt.{decimal, digits}
+use Rattle.std.specs.Io.KnownBytes.{Consumes, Appends, IsAtEnd}
+use Rattle.ws_frame.specs.declared.role.Role.{Role}
+use Rattle.ws_frame.specs.declared.role.Role.TheVariants.{Client, Server}
+use Rattle.ws_frame.specs.declared.header.Form.{Form}
+use Rattle.ws_frame.specs.declared.header.Form.TheVariants.{Short, Two, Eight}
+use Rattle.ws_frame.specs.declared.showing.ShowEnd.{ShowEnd}
+use Rattle.ws_frame.specs.declared.showing.ShowEnd.TheVariants.{Done, CutAt, BadLengthAt, Budget, ReadFault, WriteFault, NoMemory}
+use Rattle.ws_frame.specs.Header.{HeaderFields}
+use Rattle.ws_frame.specs.Frame.{WireFrame, wire_bytes, is_longer_than_needed}
+use Rattle.ws_frame.specs.Stream.{SplitsIntoAnyForm}
+use Rattle.ws_frame.specs.Reading.{BeginsBadLength}
+
+-- ---- the words of a line
+
+-- two lower-case hexadecimal digits a byte
+abbrev pub hex : List ℕ → List ℕ
+hex bytes = flat_map (λ b. digits 16 false (b / 16) ++ digits 16 false (b % 16)) bytes
+
+-- the name of an opcode (section 5.2); a reserved one is `op` and its number
+abbrev pub kind_word : ℕ → List ℕ
+kind_word opcode =
+    if opcode == 0 then codes "cont"
+    else (if opcode == 1 then codes "text"
+    else (if opcode == 2 then codes "binary"
+    else (if opcode == 8 then codes "close"
+    else (if opcode == 9 then codes "ping"
+    else (if opcode == 10 then codes "pong"
+    else codes "op" ++ decimal opcode)))))
+
+abbrev pub bit_word : Bool → List ℕ
+bit_word true = codes "1"
+bit_word false = codes "0"
+
+-- the masking key as eight digits, or a dash
+abbrev pub key_word : Option (List ℕ) → List ℕ
+key_word None = codes "-"
+key_word (Some key) = hex key
+
+abbrev pub form_word : Form → List ℕ
+form_word Short = codes "short"
+form_word Two = codes "two"
+form_word Eight = codes "eight"
+
+-- the first sixteen bytes, unmasked, and two dots where there are more; a dash where there are none
+abbrev pub data_word : List ℕ → List ℕ
+data_word payload =
+    if length payload == 0 then codes "-"
+    else hex (take 16 payload) ++ (if nat_lt 16 (length payload) then codes ".." else [])
+
+-- a client masks each frame and a server none (section 5.1); the other way round is told
+abbrev pub mask_mark : Role → Option (List ℕ) → List ℕ
+mask_mark Client None = codes " !mask"
+mask_mark Client (Some _) = []
+mask_mark Server None = []
+mask_mark Server (Some _) = codes " !mask"
+
+-- a form longer than the shortest that holds the length is told
+abbrev pub form_mark : Form → ℕ → List ℕ
+form_mark form len = if is_longer_than_needed form len then codes " !form" else []
+
+-- ---- the lines
+
+-- the line of a frame that begins at this place of the stream
+abbrev pub line_of : Role → ℕ → WireFrame → List ℕ
+line_of from offset x = concat (
+    decimal offset ∷ codes " " ∷ kind_word x.header.opcode
+    ∷ codes " fin=" ∷ bit_word x.header.fin ∷ codes " rsv=" ∷ decimal x.header.rsv
+    ∷ codes " key=" ∷ key_word x.header.key ∷ codes " len=" ∷ decimal x.header.len
+    ∷ codes " " ∷ form_word x.header.form ∷ codes " " ∷ data_word x.payload
+    ∷ mask_mark from x.header.key ∷ form_mark x.header.form x.header.len ∷ codes "\n" ∷ [])
+
+-- the lines of frames that stand one after the other, the first at this place
+abbrev pub frame_lines : Role → ℕ → List WireFrame → List ℕ
+frame_lines from offset [] = []
+frame_lines from offset (x ∷ frames) = line_of from offset x ++ frame_lines from (offset + length (wire_bytes x)) frames
+
+-- what is left behind the whole frames, at this place: nothing, a bad length, or else part of a frame
+abbrev pub Leaves : ShowEnd → ℕ → List ℕ → Type 0
+Leaves Done at rest = rest ≡ []
+Leaves (CutAt place) at rest = (place ≡ at) × (0 < length rest) × (BeginsBadLength rest → ⊥)
+Leaves (BadLengthAt place) at rest = (place ≡ at) × BeginsBadLength rest
+Leaves Budget at rest = ⊥
+Leaves ReadFault at rest = ⊥
+Leaves WriteFault at rest = ⊥
+Leaves NoMemory at rest = ⊥
+
+-- the line for what is left
+abbrev pub last_line : ShowEnd → List ℕ
+last_line Done = []
+last_line (CutAt place) = codes "cut at " ++ (decimal place ++ codes "\n")
+last_line (BadLengthAt place) = codes "bad length at " ++ (decimal place ++ codes "\n")
+last_line Budget = []
+last_line ReadFault = []
+last_line WriteFault = []
+last_line NoMemory = []
+
+-- the lines of a stream that has ended, and what is told of its end
+pub record AreLinesOf (from : Role) (bytes : List ℕ) (end : ShowEnd) (lines : List ℕ) : Type 0 where
+  pub frames : List WireFrame
+  pub rest : List ℕ
+  pub split : SplitsIntoAnyForm bytes frames rest
+  pub leaves : Leaves end (length (flat_map wire_bytes frames)) rest
+  pub all : lines ≡ frame_lines from 0 frames ++ last_line end
+
+-- the lines of the whole frames of a stream that may go on
+pub record AreFrameLinesOf (from : Role) (bytes : List ℕ) (lines : List ℕ) : Type 0 where
+  pub frames : List WireFrame
+  pub rest : List ℕ
+  pub split : SplitsIntoAnyForm bytes frames rest
+  pub goes_on : BeginsBadLength rest → ⊥
+  pub all : lines ≡ frame_lines from 0 frames
+
+-- a beginning of the lines
+pub record BeginsLinesOf (from : Role) (bytes : List ℕ) (front : List ℕ) : Type 0 where
+  pub end : ShowEnd
+  pub lines : List ℕ
+  pub more : List ℕ
+  pub are_lines : AreLinesOf from bytes end lines
+  pub begins : lines ≡ front ++ more
+
+-- ---- a run of `show`
+
+-- what was written for what was read, by how the run ended
+abbrev pub IsShownAt : Role → ℕ → ShowEnd → List ℕ → List ℕ → Type 0
+IsShownAt from budget Done read written = AreLinesOf from read Done written × (length read < budget)
+IsShownAt from budget (CutAt place) read written = AreLinesOf from read (CutAt place) written × (length read < budget)
+IsShownAt from budget (BadLengthAt place) read written = AreLinesOf from read (BadLengthAt place) written
+IsShownAt from budget Budget read written = AreFrameLinesOf from read written × (length read ≡ budget)
+IsShownAt from budget ReadFault read written = AreFrameLinesOf from read written × (length read < budget)
+IsShownAt from budget WriteFault read written = BeginsLinesOf from read written
+IsShownAt from budget NoMemory read written = BeginsLinesOf from read written
+
+-- a run of `show` from what the reader has left and the writer holds, where those are told, to what they have then
+abbrev pub Shows : Role → ℕ → ShowEnd → Option (List ℕ) → Option (List ℕ) → Option (List ℕ) → Option (List ℕ) → Type 0
+Shows from budget end unread_old unread_new held_old held_new =
+    (read : List ℕ) × (written : List ℕ)
+    × Consumes unread_old unread_new read × Appends held_old held_new written
+    × (length read ≤ budget) × IsShownAt from budget end read written
+
+-- which device has failed, and that the reader is at its end where the run says so
+abbrev pub IsFairEnd : ShowEnd → Bool → Bool → Option (List ℕ) → Type 0
+IsFairEnd Done reader_failed writer_failed unread = (reader_failed ≡ false) × (writer_failed ≡ false) × IsAtEnd unread
+IsFairEnd (CutAt _) reader_failed writer_failed unread = (reader_failed ≡ false) × (writer_failed ≡ false) × IsAtEnd unread
+IsFairEnd (BadLengthAt _) reader_failed writer_failed unread = writer_failed ≡ false
+IsFairEnd Budget reader_failed writer_failed unread = (reader_failed ≡ false) × (writer_failed ≡ false)
+IsFairEnd ReadFault reader_failed writer_failed unread = (reader_failed ≡ true) × (writer_failed ≡ false)
+IsFairEnd WriteFault reader_failed writer_failed unread = writer_failed ≡ true
+IsFairEnd NoMemory reader_failed writer_failed unread = writer_failed ≡ false

@@ -1,0 +1,52 @@
+//! Laws over the definitions, each the contract of a function that does nothing: proofs of the layers above call them.
+
+ghost use Rattle.std.specs.Prelude.{◌≡◌, ◌<◌, ◌^◌, ◌↔◌, ℕ, List, ◌++◌};
+ghost use Rattle.ws_frame.specs.Header.{AreBytes, HeaderFields, IsHeaderOf, IsShortestForm};
+ghost use Rattle.ws_frame.specs.Masking.{IsMasked, masked};
+ghost use Rattle.ws_frame.specs.Frame.{WireFrame, IsWireFrame, wire_bytes, KeyedFrame, CanBeSent, frame_bytes, shortest_form};
+ghost use Rattle.ws_frame.specs.Stream.{SplitsInto, SplitsIntoAnyForm};
+ghost use Rattle.ws_frame.specs.declared.header.Form.{Form};
+
+/// No header begins another: where two stand at the front of the same bytes they are one.
+pub fn no_header_begins_another()
+    ensures { (g h : HeaderFields) (a b x y : List ℕ) → IsHeaderOf g a → IsHeaderOf h b → a ++ x ≡ b ++ y → (g ≡ h) × (a ≡ b) × (x ≡ y) }
+{}
+
+/// No frame begins another, in whatever form their headers are.
+pub fn no_wire_frame_begins_another()
+    ensures { (f g : WireFrame) (x y : List ℕ) → IsWireFrame f → IsWireFrame g → wire_bytes f ++ x ≡ wire_bytes g ++ y → (f ≡ g) × (x ≡ y) }
+{}
+
+/// No frame as it is sent begins another.
+pub fn no_frame_begins_another()
+    ensures { (f g : KeyedFrame) (x y : List ℕ) → CanBeSent f → CanBeSent g → frame_bytes f ++ x ≡ frame_bytes g ++ y → (f ≡ g) × (x ≡ y) }
+{}
+
+/// Masking by the rule on each byte and the masked list are one.
+pub fn masked_by_rule()
+    ensures { (key : List ℕ) (phase : ℕ) (old new : List ℕ) → IsMasked key phase old new ↔ (new ≡ masked key phase old) }
+{}
+
+/// The shortest form holds the length, none that does is shorter, and no other form has both.
+pub fn shortest_form_is_least()
+    ensures least { (len : ℕ) → len < 2 ^ 64 → IsShortestForm (shortest_form len) len }
+    ensures only { (form : Form) (len : ℕ) → IsShortestForm form len → form ≡ shortest_form len }
+{}
+
+/// A stream splits into frames and a rest in one way.
+pub fn one_split()
+    ensures sent { (bytes : List ℕ) (xs ys : List KeyedFrame) (a b : List ℕ) → SplitsInto bytes xs a → SplitsInto bytes ys b → (xs ≡ ys) × (a ≡ b) }
+    ensures any_form { (bytes : List ℕ) (xs ys : List WireFrame) (a b : List ℕ) → SplitsIntoAnyForm bytes xs a → SplitsIntoAnyForm bytes ys b → (xs ≡ ys) × (a ≡ b) }
+{}
+
+/// Every list of bytes splits.
+pub fn every_stream_splits()
+    ensures sent { (bytes : List ℕ) → AreBytes bytes → (xs : List KeyedFrame) × (rest : List ℕ) × SplitsInto bytes xs rest }
+    ensures any_form { (bytes : List ℕ) → AreBytes bytes → (xs : List WireFrame) × (rest : List ℕ) × SplitsIntoAnyForm bytes xs rest }
+{}
+
+/// More bytes leave the frames before them: those of what was left, with the bytes after it, come behind.
+pub fn splits_go_on()
+    ensures sent { (bytes more : List ℕ) (xs ys : List KeyedFrame) (a b : List ℕ) → SplitsInto bytes xs a → SplitsInto (a ++ more) ys b → SplitsInto (bytes ++ more) (xs ++ ys) b }
+    ensures any_form { (bytes more : List ℕ) (xs ys : List WireFrame) (a b : List ℕ) → SplitsIntoAnyForm bytes xs a → SplitsIntoAnyForm (a ++ more) ys b → SplitsIntoAnyForm (bytes ++ more) (xs ++ ys) b }
+{}
