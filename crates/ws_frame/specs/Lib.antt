@@ -6,3 +6,4 @@ pub mod Stream
 pub mod Watching
 pub mod Lines
 pub mod Parts
+pub mod Printing

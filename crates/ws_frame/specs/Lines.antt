@@ -46,11 +46,10 @@ form_word Short = codes "short"
 form_word Two = codes "two"
 form_word Eight = codes "eight"
 
--- the first sixteen bytes, unmasked, and two dots where there are more; a dash where there are none
-abbrev pub data_word : List ℕ → List ℕ
-data_word payload =
-    if length payload == 0 then codes "-"
-    else hex (take 16 payload) ++ (if nat_lt 16 (length payload) then codes ".." else [])
+-- of a payload of this length the first bytes, at most sixteen: a dash where there are none, and two dots behind them
+-- where there are more
+abbrev pub data_word : ℕ → List ℕ → List ℕ
+data_word len first = if len == 0 then codes "-" else hex first ++ (if nat_lt 16 len then codes ".." else [])
 
 -- a client masks each frame and a server none (section 5.1); the other way round is told
 abbrev pub mask_mark : Role → Option (List ℕ) → List ℕ
@@ -65,14 +64,18 @@ form_mark form len = if is_longer_than_needed form len then codes " !form" else 
 
 -- ---- the lines
 
--- the line of a frame that begins at this place of the stream
+-- the line of a frame that begins at this place of the stream, by its header and the first bytes of its payload
+abbrev pub line_with : Role → ℕ → HeaderFields → List ℕ → List ℕ
+line_with from offset header first = concat (
+    decimal offset ∷ codes " " ∷ kind_word header.opcode
+    ∷ codes " fin=" ∷ bit_word header.fin ∷ codes " rsv=" ∷ decimal header.rsv
+    ∷ codes " key=" ∷ key_word header.key ∷ codes " len=" ∷ decimal header.len
+    ∷ codes " " ∷ form_word header.form ∷ codes " " ∷ data_word header.len first
+    ∷ mask_mark from header.key ∷ form_mark header.form header.len ∷ codes "\n" ∷ [])
+
+-- the line shows the first sixteen bytes, unmasked
 abbrev pub line_of : Role → ℕ → WireFrame → List ℕ
-line_of from offset x = concat (
-    decimal offset ∷ codes " " ∷ kind_word x.header.opcode
-    ∷ codes " fin=" ∷ bit_word x.header.fin ∷ codes " rsv=" ∷ decimal x.header.rsv
-    ∷ codes " key=" ∷ key_word x.header.key ∷ codes " len=" ∷ decimal x.header.len
-    ∷ codes " " ∷ form_word x.header.form ∷ codes " " ∷ data_word x.payload
-    ∷ mask_mark from x.header.key ∷ form_mark x.header.form x.header.len ∷ codes "\n" ∷ [])
+line_of from offset x = line_with from offset x.header (take 16 x.payload)
 
 -- the lines of frames that stand one after the other, the first at this place
 abbrev pub frame_lines : Role → ℕ → List WireFrame → List ℕ

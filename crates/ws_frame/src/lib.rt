@@ -6,6 +6,7 @@
 
 mod header;
 mod laws;
+mod line;
 mod masking;
 mod reading;
 mod role;
