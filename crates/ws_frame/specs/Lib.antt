@@ -5,5 +5,7 @@ pub mod Frame
 pub mod Stream
 pub mod Watching
 pub mod Lines
+pub mod Showing
+pub mod Examples
 pub mod Parts
 pub mod Printing

@@ -5,7 +5,10 @@ ghost use Rattle.ws_frame.specs.Header.{AreBytes, HeaderFields, IsHeaderOf, IsSh
 ghost use Rattle.ws_frame.specs.Masking.{IsMasked, masked};
 ghost use Rattle.ws_frame.specs.Frame.{WireFrame, IsWireFrame, wire_bytes, KeyedFrame, CanBeSent, frame_bytes, shortest_form};
 ghost use Rattle.ws_frame.specs.Stream.{SplitsInto, SplitsIntoAnyForm};
+ghost use Rattle.ws_frame.specs.Lines.{AreLinesOf};
 ghost use Rattle.ws_frame.specs.declared.header.Form.{Form};
+ghost use Rattle.ws_frame.specs.declared.role.Role.{Role};
+ghost use Rattle.ws_frame.specs.declared.showing.ShowEnd.{ShowEnd};
 
 /// No header begins another: where two stand at the front of the same bytes they are one.
 pub fn no_header_begins_another()
@@ -49,4 +52,14 @@ pub fn every_stream_splits()
 pub fn splits_go_on()
     ensures sent { (bytes more : List ℕ) (xs ys : List KeyedFrame) (a b : List ℕ) → SplitsInto bytes xs a → SplitsInto (a ++ more) ys b → SplitsInto (bytes ++ more) (xs ++ ys) b }
     ensures any_form { (bytes more : List ℕ) (xs ys : List WireFrame) (a b : List ℕ) → SplitsIntoAnyForm bytes xs a → SplitsIntoAnyForm (a ++ more) ys b → SplitsIntoAnyForm (bytes ++ more) (xs ++ ys) b }
+{}
+
+/// Every stream that has ended has its lines.
+pub fn every_stream_has_lines()
+    ensures { (from : Role) (bytes : List ℕ) → AreBytes bytes → (end : ShowEnd) × (lines : List ℕ) × AreLinesOf from bytes end lines }
+{}
+
+/// A stream that has ended has one list of lines, and one end.
+pub fn one_list_of_lines()
+    ensures { (from : Role) (bytes : List ℕ) (end other : ShowEnd) (lines others : List ℕ) → AreLinesOf from bytes end lines → AreLinesOf from bytes other others → (end ≡ other) × (lines ≡ others) }
 {}

@@ -1,0 +1,76 @@
+-- The steps of `show`, for the contracts of its private functions. A reader may skip this file: no public contract
+-- speaks of it.
+use Rattle.std.specs.Prelude.{◌≡◌, ℕ, ◌≤◌, ◌<◌, ◌⊎◌, Bool, true, false, List, [], ◌++◌, length, take, Option, Result, Ok, Err}
+use Rattle.std.specs.List.{flat_map}
+use Rattle.std.specs.Io.KnownBytes.{Consumes, Appends, IsAtEnd}
+use Rattle.ws_frame.specs.declared.role.Role.{Role}
+use Rattle.ws_frame.specs.declared.showing.ShowEnd.{ShowEnd}
+use Rattle.ws_frame.specs.declared.showing.ShowEnd.TheVariants as end
+use Rattle.ws_frame.specs.declared.showing.InputEnd.{InputEnd}
+use Rattle.ws_frame.specs.declared.showing.InputEnd.TheVariants as input
+use Rattle.ws_frame.specs.declared.showing.Stop.{Stop}
+use Rattle.ws_frame.specs.declared.showing.Stop.TheVariants as stop
+use Rattle.ws_frame.specs.declared.showing.Front.{Front}
+use Rattle.ws_frame.specs.declared.showing.Front.TheVariants.{Nothing, Part, BadLength, Whole}
+use Rattle.ws_frame.specs.Masking.{masked_payload}
+use Rattle.ws_frame.specs.Frame.{WireFrame, IsWireFrame, wire_bytes}
+use Rattle.ws_frame.specs.Stream.{BeginsNone, SplitsIntoAnyForm}
+use Rattle.ws_frame.specs.Reading.{BeginsBadLength}
+use Rattle.ws_frame.specs.Lines.{Leaves, frame_lines}
+
+-- a frame stands at the front, with this header and these payload bytes on the wire
+pub record IsWhole (bytes : List ℕ) (x : WireFrame) (payload : List ℕ) (used : ℕ) : Type 0 where
+  pub is_wire : IsWireFrame x
+  pub masks : payload ≡ masked_payload x.header.key x.payload
+  pub len : used ≡ length (wire_bytes x)
+  pub within : used ≤ length bytes
+  pub front : take used bytes ≡ wire_bytes x
+
+-- what stands at the front
+abbrev pub IsFront : List ℕ → Front → Type 0
+IsFront bytes Nothing = bytes ≡ []
+IsFront bytes Part = (0 < length bytes) × (BeginsBadLength bytes → ⊥) × BeginsNone IsWireFrame wire_bytes bytes
+IsFront bytes BadLength = BeginsBadLength bytes × BeginsNone IsWireFrame wire_bytes bytes
+IsFront bytes (Whole header payload used) = (x : WireFrame) × (x.header ≡ header) × IsWhole bytes x payload.now used
+
+-- these lines of the whole frames were written, and this is left
+pub record IsLeft (from : Role) (bytes : List ℕ) (left : ShowEnd) (written : List ℕ) : Type 0 where
+  pub frames : List WireFrame
+  pub rest : List ℕ
+  pub split : SplitsIntoAnyForm bytes frames rest
+  pub leaves : Leaves left (length (flat_map wire_bytes frames)) rest
+  pub all : written ≡ frame_lines from 0 frames
+
+-- whether a writer has failed by what a function over it answers
+abbrev pub FailedBy : Bool → Stop → Type 0
+FailedBy failed stop.WriteFault = failed ≡ true
+FailedBy failed stop.NoMemory = failed ≡ false
+
+-- some bytes were written: at Ok such as P says, at Err such as Q says
+abbrev pub WritesFront : {T : Type 0} → Option (List ℕ) → Option (List ℕ) → Bool → Result T Stop → (T → List ℕ → Type 0) → (List ℕ → Type 0) → Type 0
+WritesFront held_old held_new failed (Ok v) P Q = (written : List ℕ) × Appends held_old held_new written × (failed ≡ false) × P v written
+WritesFront held_old held_new failed (Err e) P Q = (written : List ℕ) × Appends held_old held_new written × FailedBy failed e × Q written
+
+-- the text was written, or a beginning of it
+abbrev pub WritesText : Option (List ℕ) → Option (List ℕ) → Bool → Result (Unit {0}) Stop → List ℕ → Type 0
+WritesText held_old held_new failed (Ok _) text = Appends held_old held_new text × (failed ≡ false)
+WritesText held_old held_new failed (Err e) text = (front : List ℕ) × (more : List ℕ) × (text ≡ front ++ more) × Appends held_old held_new front × FailedBy failed e
+
+-- what was read, by how it ended
+abbrev pub ReadsInput : ℕ → InputEnd → List ℕ → Bool → Option (List ℕ) → Option (List ℕ) → Type 0
+ReadsInput budget input.End read failed unread_old unread_new = Consumes unread_old unread_new read × (length read < budget) × (failed ≡ false) × IsAtEnd unread_new
+ReadsInput budget input.Budget read failed unread_old unread_new = Consumes unread_old unread_new read × (length read ≡ budget) × (failed ≡ false)
+ReadsInput budget input.Fault read failed unread_old unread_new = Consumes unread_old unread_new read × (length read < budget) × (failed ≡ true)
+ReadsInput budget input.NoMemory read failed unread_old unread_new = Consumes unread_old unread_new read × (length read < budget) × (failed ≡ false)
+
+-- a bad length is told first; then how the input ended
+abbrev pub end_after_input : ShowEnd → InputEnd → ShowEnd
+end_after_input (end.BadLengthAt place) ended = end.BadLengthAt place
+end_after_input left input.End = left
+end_after_input left input.Budget = end.Budget
+end_after_input left input.Fault = end.ReadFault
+end_after_input left input.NoMemory = end.NoMemory
+
+abbrev pub end_of_stop : Stop → ShowEnd
+end_of_stop stop.WriteFault = end.WriteFault
+end_of_stop stop.NoMemory = end.NoMemory
