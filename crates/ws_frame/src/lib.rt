@@ -11,6 +11,8 @@ mod masking;
 mod reading;
 mod role;
 mod showing;
+#[cfg(test)]
+mod tests;
 mod watching;
 mod writing;
 

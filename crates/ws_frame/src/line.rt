@@ -52,7 +52,7 @@ impl fmt::Display for FrameLine<'_> {
             header.payload_len(),
             header.form()
         )?;
-        write!(f, "{}{}{}\n", data, mask, form)
+        writeln!(f, "{}{}{}", data, mask, form)
     }
 }
 
