@@ -10,7 +10,7 @@ use Rattle.ws_frame.specs.Frame.{WireFrame, IsWireFrame, wire_bytes, Frame, Keye
 use Rattle.ws_frame.specs.Reading.{Begins, BeginsNoHeader}
 use Rattle.ws_frame.specs.Stream.{BeginsNone}
 use Rattle.ws_frame.proofs.Numbers.{front_bytes}
-use Rattle.ws_frame.proofs.Headers.{same_header, same_parts, SomeHeader, header_or_none, header_parts}
+use Rattle.ws_frame.proofs.Headers.{same_header, same_fields, same_parts, SomeHeader, header_or_none, header_parts}
 use Rattle.ws_frame.proofs.Masks.{masked_payload_twice, length-masked_payload, same_masked_payload, masked_payload_bytes}
 use Rattle.ws_frame.proofs.Splits.{NoneBegins, SomeFront, IsToldAtFront, rest_bytes}
 
@@ -194,15 +194,11 @@ none_begins = record { same = no_frame_begins }
 keyed_of : WireFrame → KeyedFrame
 keyed_of x = record { frame = record { fin = x.header.fin; rsv = x.header.rsv; opcode = x.header.opcode; payload = x.payload }; key = x.header.key }
 
-make_fields : Bool → ℕ → ℕ → Option (List ℕ) → ℕ → Form → HeaderFields
-make_fields fin rsv opcode key len form = record { fin = fin; rsv = rsv; opcode = opcode; key = key; len = len; form = form }
-
 sent_as-keyed_of : (x : WireFrame) → IsWireFrame x → x.header.form ≡ shortest_form x.header.len → sent_as (keyed_of x) ≡ x
-unfolding keyed_of make_fields
+unfolding keyed_of
 sent_as-keyed_of x is e =
     let form : shortest_form (length x.payload) ≡ x.header.form = ap (λ n. shortest_form n) is.len ∙ sym e in
-    let len = is.len in
-    let header : make_fields x.header.fin x.header.rsv x.header.opcode x.header.key (length x.payload) (shortest_form (length x.payload)) ≡ make_fields x.header.fin x.header.rsv x.header.opcode x.header.key x.header.len x.header.form = cc in
+    let header = same_fields (sent_as (keyed_of x)).header x.header refl refl refl refl is.len form in
     same_wire (sent_as (keyed_of x)) x header refl
 
 keyed_can_be_sent : (x : WireFrame) → IsWireFrame x → CanBeSent (keyed_of x)

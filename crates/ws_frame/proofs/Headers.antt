@@ -167,7 +167,8 @@ same_first false false r s o p lr ls lo lp e = record { fin = refl; rsv = omega 
 make_fields : Bool → ℕ → ℕ → Option (List ℕ) → ℕ → Form → HeaderFields
 make_fields fin rsv opcode key len form = record { fin = fin; rsv = rsv; opcode = opcode; key = key; len = len; form = form }
 
-same_fields : (h g : HeaderFields) → h.fin ≡ g.fin → h.rsv ≡ g.rsv → h.opcode ≡ g.opcode → h.key ≡ g.key → h.len ≡ g.len → h.form ≡ g.form → h ≡ g
+-- headers with the same fields are one
+pub same_fields : (h g : HeaderFields) → h.fin ≡ g.fin → h.rsv ≡ g.rsv → h.opcode ≡ g.opcode → h.key ≡ g.key → h.len ≡ g.len → h.form ≡ g.form → h ≡ g
 unfolding make_fields
 same_fields h g a b c d e f =
     let same : make_fields h.fin h.rsv h.opcode h.key h.len h.form ≡ make_fields g.fin g.rsv g.opcode g.key g.len g.form = cc in
