@@ -2,6 +2,8 @@
 use Rattle.std.proofs.Common.{◌≡◌, ℕ, ◌+◌, ◌-◌, ◌<◌, ◌≤◌, ◌⊎◌, Option, None, Some, List, [], ◌∷◌, ◌++◌, length, take, drop, get_or, sym, ap, ◌∙◌, append_assoc, arith, inl, inr, subst}
 use Rattle.std.specs.List.{flat_map}
 use Rattle.std.specs.Prelude.{All}
+use Rattle.std.proofs.lemmas.Bool.{cases_lt}
+use Rattle.std.specs.Prelude.{◌↔◌}
 use Rattle.std.proofs.lemmas.List.{append-nil, take_more, take_all, take_rest, take-append-drop, take-take, drop-take, drop-drop, length-drop, drop_all}
 use Rattle.std.proofs.lemmas.List.Elements.{All-head}
 use Rattle.ws_text.specs.Text.{IsText, BeginsText, char_bytes, IsScalarValue, IsUnfinished, HasUnfinished}
@@ -113,17 +115,32 @@ module _ (text piece tail : List ℕ) (used whole : ℕ) (front : HasUnfinished 
 
 -- ---- a stream
 
+-- a front of what begins a text begins one
+front_begins : (bytes more : List ℕ) → BeginsText (bytes ++ more) → BeginsText bytes
+front_begins bytes more h = record { more = more ++ h.more; is_text = subst (λ (l : List ℕ). IsText l) (append_assoc bytes more h.more) h.is_text }
+
 -- a text that is broken once begins no text any more
 pub broken : (text piece : List ℕ) (place : ℕ) → BreaksTextAt text piece place → ¬ BeginsText (text ++ piece)
-broken text piece place b h = b.after (record {
-  more = drop (place + 1) piece ++ h.more;
-  is_text = subst (λ (l : List ℕ). IsText l)
-      (ap (λ (l : List ℕ). (text ++ l) ++ h.more) (sym (take-append-drop (place + 1) piece)) ∙ ap (λ (l : List ℕ). l ++ h.more) (sym (append_assoc text (take (place + 1) piece) (drop (place + 1) piece))) ∙ append_assoc (text ++ take (place + 1) piece) (drop (place + 1) piece) h.more)
-      h.is_text;
-})
+broken text piece place b h =
+    let parts : (text ++ take (place + 1) piece) ++ drop (place + 1) piece ≡ text ++ piece = append_assoc text (take (place + 1) piece) (drop (place + 1) piece) ∙ ap (λ (l : List ℕ). text ++ l) (take-append-drop (place + 1) piece) in
+    b.after (front_begins (text ++ take (place + 1) piece) (drop (place + 1) piece) (subst (λ (l : List ℕ). BeginsText l) (sym parts) h))
 
 pub read_of : (kept : Option Unfinished) (unfinished : Unfinished) (stream : Option (List ℕ)) (text : List ℕ) → kept ≡ Some unfinished → option_map kept_bytes kept ≡ stream → HasRead stream text → HasUnfinished text (kept_bytes unfinished)
 read_of None unfinished stream text e view h = absurd cc
 read_of (Some kept) unfinished stream text e view h =
     let same : kept ≡ unfinished = cc in
     subst (λ (u : Unfinished). HasUnfinished text (kept_bytes u)) same (subst (λ (s : Option (List ℕ)). HasRead s text) (sym view) h)
+
+-- the same of fewer bytes of a piece
+fewer_begin : (text piece : List ℕ) (few many : ℕ) → few ≤ many → BeginsText (text ++ take many piece) → BeginsText (text ++ take few piece)
+fewer_begin text piece few many le h =
+    let parts : take few piece ++ drop few (take many piece) ≡ take many piece = ap (λ (l : List ℕ). l ++ drop few (take many piece)) (sym (take-take few many piece le)) ∙ take-append-drop few (take many piece) in
+    front_begins (text ++ take few piece) (drop few (take many piece)) (subst (λ (l : List ℕ). BeginsText l) (sym (append_assoc text (take few piece) (drop few (take many piece)) ∙ ap (λ (l : List ℕ). text ++ l) parts)) h)
+
+pub least_place : (text piece : List ℕ) (place count : ℕ) → BreaksTextAt text piece place → BeginsText (text ++ take count piece) ↔ (count ≤ place)
+least_place text piece place count b = (
+    λ h. elim (cases_lt place count) [
+      | inl past ↦ absurd (b.after (fewer_begin text piece (place + 1) count (omega arith) h))
+      | inr within ↦ within
+    ],
+    λ le. fewer_begin text piece count place le b.before)

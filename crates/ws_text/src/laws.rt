@@ -1,13 +1,20 @@
 //! Laws of text, each the contract of a function that does nothing (RFC 3629 section 3). Those who
 //! judge a text in parts need them.
 
-ghost use Rattle.std.specs.Prelude.{◌≡◌, ◌↔◌, ◌≤◌, ℕ, List, [], ◌++◌, length, IsUtf8};
+ghost use Rattle.std.specs.Prelude.{◌≡◌, ◌↔◌, ◌≤◌, ℕ, List, [], ◌++◌, length, take, IsUtf8};
 ghost use Rattle.ws_text.specs.Text.{IsText, BeginsText, HasUnfinished};
+ghost use Rattle.ws_text.specs.Stream.{BreaksTextAt};
 
 /// A front of what begins a text begins one, and a text begins one itself.
 pub fn fronts_begin()
     ensures front { (bytes more : List ℕ) → BeginsText (bytes ++ more) → BeginsText bytes }
     ensures text { (bytes : List ℕ) → IsText bytes → BeginsText bytes }
+{}
+
+/// The place at which a piece breaks a text is the least: just the fronts up to it begin a text.
+pub fn place_is_least()
+    ensures { (text piece : List ℕ) (place count : ℕ) → BreaksTextAt text piece place →
+        (BeginsText (text ++ take count piece) ↔ (count ≤ place)) }
 {}
 
 /// Texts one after the other are a text.

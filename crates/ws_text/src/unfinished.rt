@@ -89,13 +89,13 @@ impl Unfinished {
             MatchResult result (λ end. HasUnfinished (text ++ take end.1 piece.now) (kept_bytes end.0)) (BreaksTextAt text piece.now) }
     {
         let mut unfinished = self;
-        for (i, byte) in piece.iter().enumerate() {
+        for (place, byte) in piece.iter().enumerate() {
             if unfinished.is_nothing() {
-                return Ok((unfinished, i));
+                return Ok((unfinished, place));
             }
             match unfinished.fed(*byte) {
                 Some(next) => unfinished = next,
-                None => return Err(i),
+                None => return Err(place),
             }
         }
         Ok((unfinished, piece.len()))
