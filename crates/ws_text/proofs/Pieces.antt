@@ -139,8 +139,9 @@ fewer_begin text piece few many le h =
 
 pub least_place : (text piece : List ℕ) (place count : ℕ) → BreaksTextAt text piece place → BeginsText (text ++ take count piece) ↔ (count ≤ place)
 least_place text piece place count b = (
-    λ h. elim (cases_lt place count) [
-      | inl past ↦ absurd (b.after (fewer_begin text piece (place + 1) count (omega arith) h))
-      | inr within ↦ within
-    ],
-    λ le. fewer_begin text piece count place le b.before)
+  λ h. elim (cases_lt place count) [
+    | inl past ↦ absurd (b.after (fewer_begin text piece (place + 1) count (omega arith) h))
+    | inr within ↦ within
+  ],
+  λ le. fewer_begin text piece count place le b.before,
+)

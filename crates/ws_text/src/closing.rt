@@ -127,3 +127,67 @@ fn padded(reason: &[u8]) -> [u8; MAX_REASON]
     front.copy_from_slice(reason);
     bytes
 }
+
+#[cfg(test)]
+mod tests {
+    use super::*;
+
+    #[test]
+    fn payloads(rt: HostRuntime) {
+        let mut longest = [0x2a; MAX_CONTROL_PAYLOAD];
+        longest[0] = 0x03;
+        longest[1] = 0xe8;
+        let cases: [(&[u8], Result<Option<(u16, &str)>, CloseFault>); 13] = [
+            (b"", Ok(None)),
+            (b"\x03", Err(CloseFault::OneByte)),
+            (b"\x03\xed", Err(CloseFault::BadCode)),
+            (b"\x03\xed\xff", Err(CloseFault::BadCode)),
+            (b"\x03\xe8\xff", Err(CloseFault::ReasonNotText)),
+            (b"\x03\xe8\xce", Err(CloseFault::ReasonNotText)),
+            (b"\x03\xe8", Ok(Some((1000, "")))),
+            (b"\x03\xe8\xce\xba", Ok(Some((1000, "κ")))),
+            (b"\x03\xf6", Ok(Some((1014, "")))),
+            (b"\x03\xf7", Err(CloseFault::BadCode)),
+            (b"\x13\x87", Ok(Some((4999, "")))),
+            (b"\x13\x88", Err(CloseFault::BadCode)),
+            (
+                &longest,
+                Ok(Some((
+                    1000,
+                    "***************************************************************************************************************************",
+                ))),
+            ),
+        ];
+        for (payload, want) in cases {
+            assert!(rt; payload.len() <= MAX_CONTROL_PAYLOAD);
+            let close = ClosePayload::read(payload);
+            let told = match &close {
+                Ok(Some(close)) => Ok(Some((close.code(), close.reason()))),
+                Ok(None) => Ok(None),
+                Err(fault) => Err(*fault),
+            };
+            assert_eq!(rt; told, want, "payload {payload:?}");
+        }
+    }
+
+    #[test]
+    fn codes(rt: HostRuntime) {
+        let first_and_last: [(u16, u16); 3] = [(1000, 1003), (1007, 1014), (3000, 4999)];
+        for (first, last) in first_and_last {
+            assert!(rt;
+                code_allowed(first) && code_allowed(last),
+                "{first} to {last}"
+            );
+            assert!(rt;
+                !code_allowed(first.wrapping_sub(1)) && !code_allowed(last.wrapping_add(1)),
+                "round {first} to {last}"
+            );
+        }
+        for code in [0, 1004, 1005, 1006, 1015, 1016, 2999, 5000, 65535] {
+            assert!(rt; !code_allowed(code), "{code}");
+        }
+        assert_eq!(rt; CloseFault::OneByte as u8, 1);
+        assert_eq!(rt; CloseFault::BadCode as u8, 2);
+        assert_eq!(rt; CloseFault::ReasonNotText as u8, 3);
+    }
+}

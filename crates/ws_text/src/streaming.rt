@@ -8,6 +8,9 @@ use crate::unfinished::Unfinished;
 use crate::whole::whole_front;
 use std::marker::Model;
 
+#[cfg(test)]
+mod tests;
+
 /// A judge of one text that comes in pieces. It keeps at most three bytes, those of a character that
 /// a piece has cut, or that it has failed. A copy goes on where the original stands.
 #[derive(Clone, Copy, Debug, PartialEq, Eq)]
