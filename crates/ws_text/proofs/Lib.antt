@@ -2,3 +2,4 @@ pub mod Characters
 pub mod Texts
 pub mod Pieces
 pub mod Closes
+pub mod NoTexts

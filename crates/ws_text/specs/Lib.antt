@@ -3,3 +3,4 @@ pub mod Stream
 pub mod Close
 pub mod Kept
 pub mod Step
+pub mod Examples
