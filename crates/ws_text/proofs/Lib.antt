@@ -1,0 +1,5 @@
+pub mod Characters
+pub mod Texts
+pub mod Pieces
+pub mod Closes
+pub mod NoTexts

@@ -1,0 +1,6 @@
+pub mod Text
+pub mod Stream
+pub mod Close
+pub mod Kept
+pub mod Step
+pub mod Examples
