@@ -1,16 +1,16 @@
 -- No frame begins another, and whether one stands at the front can be told.
-use Rattle.std.proofs.Common.{◌≡◌, ℕ, zero, suc, ◌+◌, ◌^◌, ◌<◌, ◌≤◌, ◌⊎◌, Bool, List, [], ◌∷◌, ◌++◌, length, take, drop, Option, Some, None, refl, sym, ap, ◌∙◌, append_assoc, arith, inl, inr, subst}
+use Rattle.std.proofs.Common.{◌≡◌, ℕ, ◌^◌, ◌<◌, ◌≤◌, ◌⊎◌, Bool, List, ◌++◌, length, take, drop, Option, refl, sym, ap, ◌∙◌, append_assoc, arith, inl, inr}
 use Rattle.std.proofs.lemmas.Bool.{cases_lt, lt-ltb, le-ltb}
 use Rattle.std.proofs.lemmas.List.{length-append, length-take-le, take-append-drop}
 use Rattle.ws_frame.specs.declared.header.Form.{Form}
 use Rattle.ws_frame.specs.declared.header.Form.TheVariants.{Short, Two, Eight}
-use Rattle.ws_frame.specs.Header.{HeaderFields, IsHeader, IsHeaderOf, IsKey, CanHold, AreBytes, header_bytes, IsShortestForm, extra_bytes}
+use Rattle.ws_frame.specs.Header.{HeaderFields, CanHold, AreBytes, header_bytes, IsShortestForm, extra_bytes}
 use Rattle.ws_frame.specs.Masking.{masked_payload}
-use Rattle.ws_frame.specs.Frame.{WireFrame, IsWireFrame, wire_bytes, Frame, KeyedFrame, CanBeSent, sent_as, frame_bytes, shortest_form}
+use Rattle.ws_frame.specs.Frame.{WireFrame, IsWireFrame, wire_bytes, KeyedFrame, CanBeSent, sent_as, frame_bytes, shortest_form}
 use Rattle.ws_frame.specs.Reading.{Begins, BeginsNoHeader}
 use Rattle.ws_frame.specs.Stream.{BeginsNone}
 use Rattle.ws_frame.proofs.Numbers.{front_bytes}
-use Rattle.ws_frame.proofs.Headers.{same_header, same_fields, same_parts, SomeHeader, header_or_none, header_parts}
+use Rattle.ws_frame.proofs.Headers.{same_header, same_fields, same_parts, header_or_none, header_parts}
 use Rattle.ws_frame.proofs.Masks.{masked_payload_twice, length-masked_payload, same_masked_payload, masked_payload_bytes}
 use Rattle.ws_frame.proofs.Splits.{NoneBegins, SomeFront, IsToldAtFront, rest_bytes}
 

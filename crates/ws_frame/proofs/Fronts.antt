@@ -1,22 +1,22 @@
 -- What stands at the front of a stream, and the lines of its frames.
-use Rattle.std.proofs.Common.{◌≡◌, ℕ, zero, suc, ◌+◌, ◌-◌, ◌^◌, ◌<◌, ◌≤◌, ◌⊎◌, List, [], ◌∷◌, ◌++◌, length, take, drop, Option, Some, None, refl, sym, ap, ◌∙◌, append_assoc, append-nil, add-zero, zero-add, min, arith, inl, inr, subst}
+use Rattle.std.proofs.Common.{◌≡◌, ℕ, ◌+◌, ◌-◌, ◌^◌, ◌<◌, ◌≤◌, List, [], ◌∷◌, ◌++◌, length, take, drop, refl, sym, ap, ◌∙◌, append_assoc, append-nil, add-zero, zero-add, min, arith, inl, inr, subst}
 use Rattle.std.specs.List.{flat_map, AllByRecursion}
 use Rattle.std.proofs.lemmas.Bool.{cases_lt}
-use Rattle.std.proofs.lemmas.List.{length-append, length-take, length-take-le, length-drop, take-append-drop, take_at, take_all, take_rest, drop-drop}
+use Rattle.std.proofs.lemmas.List.{length-append, length-take-le, length-drop, take-append-drop, take_at, take_all, take_rest, drop-drop}
 use Rattle.std.proofs.lemmas.Grind.{flat_map-append}
 use Rattle.ws_frame.specs.declared.role.Role.{Role}
 use Rattle.ws_frame.specs.declared.showing.ShowEnd.{ShowEnd}
 use Rattle.ws_frame.specs.declared.showing.ShowEnd.TheVariants.{Done, CutAt, BadLengthAt, Budget, ReadFault, WriteFault, NoMemory}
-use Rattle.ws_frame.specs.Header.{HeaderFields, AreBytes, header_bytes}
+use Rattle.ws_frame.specs.Header.{HeaderFields, AreBytes}
 use Rattle.ws_frame.specs.Masking.{masked, masked_payload}
 use Rattle.ws_frame.specs.Frame.{WireFrame, IsWireFrame, wire_bytes}
 use Rattle.ws_frame.specs.Reading.{Begins, BeginsNoHeader, BeginsBadLength}
-use Rattle.ws_frame.specs.Stream.{BeginsNone, SplitsIntoAnyForm}
+use Rattle.ws_frame.specs.Stream.{BeginsNone}
 use Rattle.ws_frame.specs.Lines.{line_with, line_of, frame_lines, last_line, Leaves, AreLinesOf, AreFrameLinesOf, BeginsLinesOf}
 use Rattle.ws_frame.specs.Showing.{IsWhole, IsLeft}
 use Rattle.ws_frame.proofs.Headers.{same_header, header_parts, header_or_none}
-use Rattle.ws_frame.proofs.Masks.{masked_payload_twice, take-masked_payload, length-masked_payload, length-masked}
-use Rattle.ws_frame.proofs.Splits.{some_split, split_goes_on, split_is_one, rest_bytes, all-append}
+use Rattle.ws_frame.proofs.Masks.{masked_payload_twice, take-masked_payload, length-masked}
+use Rattle.ws_frame.proofs.Splits.{some_split, split_is_one, rest_bytes, all-append}
 use Rattle.ws_frame.proofs.Frames.{wire_here, wire_told, wire_none_begins, some_wire_bytes, no_wire_without_header, no_wire_of_bad_length, no_wire_of_cut_payload}
 
 -- ---- the front

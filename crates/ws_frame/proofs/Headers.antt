@@ -1,8 +1,8 @@
 -- A header read field by field: where each part ends, and that no other header begins the same bytes.
-use Rattle.std.proofs.Common.{◌≡◌, ℕ, zero, suc, ◌+◌, ◌-◌, ◌*◌, ◌/◌, ◌%◌, ◌^◌, ◌<◌, ◌≤◌, ◌⊎◌, Bool, true, false, cond, List, [], ◌∷◌, ◌++◌, length, get_or, take, drop, Option, Some, None, refl, sym, ap, ◌∙◌, append_assoc, arith, inl, inr, lit<, subst}
+use Rattle.std.proofs.Common.{◌≡◌, ℕ, ◌+◌, ◌-◌, ◌*◌, ◌/◌, ◌%◌, ◌^◌, ◌<◌, ◌≤◌, ◌⊎◌, Bool, true, false, List, [], ◌∷◌, ◌++◌, length, get_or, take, drop, Option, Some, None, refl, sym, ap, ◌∙◌, append_assoc, arith, inl, inr, lit<, subst}
 use Rattle.std.specs.Prelude.{slice_index, nat_le}
-use Rattle.std.proofs.lemmas.Bool.{cases_lt, cases_eq, le-leb, lt-leb, leb-true, leb-false}
-use Rattle.std.proofs.lemmas.List.{take-append-drop, length-append, length-take, length-take-le, length-drop, take_at, drop_at, append_cancel_left, drop-drop, take_rest}
+use Rattle.std.proofs.lemmas.Bool.{cases_lt, cases_eq, le-leb, lt-leb}
+use Rattle.std.proofs.lemmas.List.{take-append-drop, length-append, length-take-le, length-drop, take_at, append_cancel_left, drop-drop, take_rest}
 use Rattle.byteorder.specs.Endian.{big_bytes, big_number, big_from}
 use Rattle.byteorder.specs.Numbers.{big_number-reads_back, big_from-lt}
 use Rattle.ws_frame.specs.declared.header.Form.{Form}

@@ -1,12 +1,12 @@
 -- Worked examples, each a theorem. Those of RFC 6455 section 5.7 first.
-use Rattle.std.specs.Prelude.{◌≡◌, ℕ, Bool, true, false, List, [], ◌∷◌, ◌++◌, Option, Some, None, codes, refl}
-use Rattle.std.specs.Fmt.{digits, decimal}
+use Rattle.std.specs.Prelude.{◌≡◌, ℕ, Bool, true, false, List, [], ◌∷◌, Option, Some, None, codes, refl}
+use Rattle.std.specs.Fmt.{digits}
 use Rattle.ws_frame.specs.declared.role.Role.TheVariants.{Client, Server}
 use Rattle.ws_frame.specs.declared.header.Form.TheVariants.{Short, Two, Eight}
-use Rattle.ws_frame.specs.Header.{HeaderFields, header_bytes}
+use Rattle.ws_frame.specs.Header.{header_bytes}
 use Rattle.ws_frame.specs.Masking.{masked}
-use Rattle.ws_frame.specs.Frame.{Frame, KeyedFrame, WireFrame, frame_bytes, stream_bytes, shortest_form, is_longer_than_needed}
-use Rattle.ws_frame.specs.Lines.{line_of, hex, kind_word}
+use Rattle.ws_frame.specs.Frame.{KeyedFrame, frame_bytes, stream_bytes, shortest_form}
+use Rattle.ws_frame.specs.Lines.{line_of}
 
 -- a frame with FIN, if so, and no reserved bit
 abbrev sent : Bool → ℕ → List ℕ → Option (List ℕ) → KeyedFrame

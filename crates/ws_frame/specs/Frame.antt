@@ -1,6 +1,6 @@
 -- Frames on the wire: RFC 6455 section 5.2. A `WireFrame` has its header in any form that can hold the length; a
 -- `KeyedFrame` is a frame as an endpoint sends it, in the shortest form.
-use Rattle.std.specs.Prelude.{◌≡◌, ℕ, ◌+◌, ◌^◌, ◌<◌, Bool, nat_lt, if◌then◌else◌, List, ◌++◌, length, Option}
+use Rattle.std.specs.Prelude.{◌≡◌, ℕ, ◌^◌, ◌<◌, Bool, nat_lt, if◌then◌else◌, List, ◌++◌, length, Option}
 use Rattle.std.specs.List.{flat_map}
 use Rattle.ws_frame.specs.declared.header.Form.{Form}
 use Rattle.ws_frame.specs.declared.header.Form.TheVariants.{Short, Two, Eight}

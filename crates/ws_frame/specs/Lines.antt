@@ -1,6 +1,6 @@
 -- The lines of `show`: one for each frame of a stream (RFC 6455 section 5.2), in any form, and a last one where the
 -- stream stops inside a frame. A line ends with LF.
-use Rattle.std.specs.Prelude.{◌≡◌, ◌≢◌, ℕ, ◌+◌, ◌/◌, ◌%◌, ◌<◌, ◌≤◌, Bool, true, false, nat_lt, ◌==◌, if◌then◌else◌, List, [], ◌∷◌, ◌++◌, length, take, Option, Some, None, codes}
+use Rattle.std.specs.Prelude.{◌≡◌, ℕ, ◌+◌, ◌/◌, ◌%◌, ◌<◌, ◌≤◌, Bool, true, false, nat_lt, ◌==◌, if◌then◌else◌, List, [], ◌∷◌, ◌++◌, length, take, Option, Some, None, codes}
 use Rattle.std.specs.List.{flat_map, concat}
 use Rattle.std.specs.Fmt.{decimal, digits}
 use Rattle.std.specs.Io.KnownBytes.{Consumes, Appends, IsAtEnd}

@@ -5,7 +5,7 @@
 #![tactic(auto)]
 
 mod header;
-mod laws;
+pub mod laws;
 mod line;
 mod masking;
 mod reading;
@@ -17,11 +17,6 @@ mod watching;
 mod writing;
 
 pub use header::{Form, Header};
-pub use laws::{
-    every_stream_has_lines, every_stream_splits, masked_by_rule, no_frame_begins_another,
-    no_header_begins_another, no_wire_frame_begins_another, one_list_of_lines, one_split,
-    shortest_form_is_least, splits_go_on,
-};
 pub use masking::mask;
 pub use reading::{HeaderRead, read_header};
 pub use role::Role;

@@ -1,4 +1,3 @@
-use Rattle.std.proofs.Common.{arith}
 use Rattle.ws_frame.proofs.Headers.{key_cut}
 use Rattle.ws_frame.proofs.reading.key_at.Goals as goal
 

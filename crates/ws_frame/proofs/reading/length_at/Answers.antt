@@ -1,5 +1,5 @@
 use Rattle.std.proofs.Common.{◌≡◌, ◌%◌, arith, get_or, ◌∙◌}
-use Rattle.ws_frame.proofs.Headers.{two_read, eight_read, eight_cut}
+use Rattle.ws_frame.proofs.Headers.{two_read, eight_read}
 use Rattle.ws_frame.proofs.reading.length_at.Goals as goal
 
 pub returns-then-bits-eq126 : goal.returns-then-bits-eq126

@@ -1,4 +1,4 @@
-use Rattle.std.proofs.Common.{rules, ◌≡◌, ◌∙◌, ap, take, Option, Some, List, ℕ, Result, Ok, Err, IfOk}
+use Rattle.std.proofs.Common.{◌≡◌, ◌∙◌, ap, take, Option, List, ℕ, Result, Ok, Err, IfOk}
 use Rattle.ws_frame.specs.Masking.{masked_payload}
 use Rattle.ws_frame.proofs.Fronts.{line_shown}
 use Rattle.ws_frame.proofs.showing.frame_text.Goals as goal

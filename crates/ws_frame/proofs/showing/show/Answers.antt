@@ -1,4 +1,4 @@
-use Rattle.std.proofs.Common.{rules, arith, ◌≡◌, ◌++◌, List, ℕ, subst, sym}
+use Rattle.std.proofs.Common.{◌++◌, List, ℕ, subst}
 use Rattle.std.proofs.KnownBytes.{Appends-trans}
 use Rattle.ws_frame.specs.Lines.{last_line, BeginsLinesOf}
 use Rattle.ws_frame.specs.Showing.{IsLeft}
