@@ -1,1 +1,3 @@
+pub mod Words
+pub mod Examples
 pub mod Run

@@ -1,10 +1,15 @@
--- What a run of the program leaves. Which words ask for what is clap's grammar of the commands: tests show it.
+-- What a run of the program leaves: what its words ask for is done, or it is told what is wrong with them.
 use Rattle.std.specs.Prelude.{◌≡◌, ℕ, ◌⊎◌, Bool, List, Option, ⊤}
 use Rattle.std.specs.Io.KnownBytes.{Keeps}
+use Rattle.clap.specs.Words.{App, IsAmong, Text, fault_of}
+use Rattle.clap.specs.declared.error.kind.ErrorKind.{ErrorKind}
+use Rattle.clap.specs.declared.error.kind.ErrorKind.TheVariants.{DisplayHelp, DisplayVersion, OutOfMemory}
 use Rattle.ws_frame.specs.declared.role.Role.{Role}
 use Rattle.ws_frame.specs.declared.showing.ShowEnd.{ShowEnd}
 use Rattle.ws_frame.specs.declared.showing.ShowEnd.TheVariants.{Done, CutAt, BadLengthAt, Budget, ReadFault, WriteFault, NoMemory}
 use Rattle.ws_frame.specs.Lines.{Shows, IsFairEnd}
+use Rattle.wst.specs.Words.{AsksFor}
+use Rattle.wst.specs.declared.words.Task.TheVariants.{Show}
 
 -- the exit status for how `show` ended
 abbrev pub status_of : ShowEnd → ℕ
@@ -32,13 +37,20 @@ RunsShow from budget status reader_failed writer_failed unread_old unread_new he
     (end : ShowEnd) × Shows from budget end unread_old unread_new held_old held_new
     × IsFairEnd end reader_failed writer_failed unread_new × IsQuiet end faults_old faults_new × (status ≡ status_of end)
 
--- help is written with status 0, or 3 where that fails; wrong words have status 2 and leave the output as it was
-abbrev pub TellsOf : ℕ → Option (List ℕ) → Option (List ℕ) → Option (List ℕ) → Option (List ℕ) → Type 0
-TellsOf status held_old held_new faults_old faults_new =
-    ((status ≡ 0) × Keeps faults_old faults_new) ⊎ (((status ≡ 2) × Keeps held_old held_new) ⊎ (status ≡ 3))
+-- what is told at an error of this kind: of want of memory with status 3, and help goes to the output with status 0, or 3 where that fails. All else is wrong words, with status 2. What is told on one output leaves the other as it was
+abbrev pub TellsOf : ErrorKind → ℕ → Option (List ℕ) → Option (List ℕ) → Option (List ℕ) → Option (List ℕ) → Type 0
+TellsOf OutOfMemory status held_old held_new faults_old faults_new = (status ≡ 3) × Keeps held_old held_new
+TellsOf DisplayHelp status held_old held_new faults_old faults_new = ((status ≡ 0) ⊎ (status ≡ 3)) × Keeps faults_old faults_new
+TellsOf DisplayVersion status held_old held_new faults_old faults_new = ((status ≡ 0) ⊎ (status ≡ 3)) × Keeps faults_old faults_new
+TellsOf _ status held_old held_new faults_old faults_new = (status ≡ 2) × Keeps held_old held_new
 
--- what was asked for was done: a run of `show`, or help or a fault in the words was told and nothing was read
-abbrev pub Runs : ℕ → Bool → Bool → Option (List ℕ) → Option (List ℕ) → Option (List ℕ) → Option (List ℕ) → Option (List ℕ) → Option (List ℕ) → Type 0
-Runs status reader_failed writer_failed unread_old unread_new held_old held_new faults_old faults_new =
-    ((from : Role) × (budget : ℕ) × RunsShow from budget status reader_failed writer_failed unread_old unread_new held_old held_new faults_old faults_new)
-    ⊎ (Keeps unread_old unread_new × TellsOf status held_old held_new faults_old faults_new)
+-- memory ran out, or clap's reading of the words has a fault of this kind
+abbrev pub MayFailBy : App → List Text → ErrorKind → Type 0
+MayFailBy app words kind = (kind ≡ OutOfMemory) ⊎ IsAmong kind (fault_of app words)
+
+-- what the words ask for was done: a run of `show` with the end and the budget that they give, or their fault was told and nothing was read
+abbrev pub Runs : App → List Text → ℕ → Bool → Bool → Option (List ℕ) → Option (List ℕ) → Option (List ℕ) → Option (List ℕ) → Option (List ℕ) → Option (List ℕ) → Type 0
+Runs app words status reader_failed writer_failed unread_old unread_new held_old held_new faults_old faults_new =
+    ((from : Role) × (budget : ℕ) × AsksFor app words (Show from budget)
+    × RunsShow from budget status reader_failed writer_failed unread_old unread_new held_old held_new faults_old faults_new)
+    ⊎ ((kind : ErrorKind) × MayFailBy app words kind × Keeps unread_old unread_new × TellsOf kind status held_old held_new faults_old faults_new)

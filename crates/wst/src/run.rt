@@ -1,8 +1,10 @@
 //! Runs what the words ask for, over watched devices.
 
-ghost use Rattle.std.specs.Prelude.{◌≡◌, ◌≤◌, false, if◌then◌else◌};
+ghost use Rattle.std.specs.Prelude.{◌≡◌, ◌≤◌, false, if◌then◌else◌, map, string_bytes};
+ghost use Rattle.clap.specs.Words.{kind_of};
 ghost use Rattle.ws_frame.specs.Watching.{has_failed, inner_of};
 ghost use Rattle.wst.specs.Run.{RunsShow, Runs, TellsOf, status_of};
+ghost use Rattle.wst.specs.Words.{Places, wst_app};
 
 use crate::words::{Task, read_words};
 use clap::Error;
@@ -37,7 +39,8 @@ pub fn run<R: Read, W: Write, F: Write>(
     requires reader_works { has_failed reader.old ≡ false }
     requires writer_works { has_failed writer.old ≡ false }
     ensures status { result ≤ 3 }
-    ensures runs { Runs result (has_failed reader.new) (has_failed writer.new)
+    ensures runs { (places : Places) × Runs (wst_app places) (map string_bytes words.now)
+        result (has_failed reader.new) (has_failed writer.new)
         (R.remaining (inner_of reader.old)) (R.remaining (inner_of reader.new))
         (W.contents (inner_of writer.old)) (W.contents (inner_of writer.new))
         (F.contents (inner_of faults.old)) (F.contents (inner_of faults.new)) }
@@ -84,20 +87,23 @@ fn status_for(end: ShowEnd) -> u8
 
 /// Tells help or what is wrong with the words, and answers the exit status.
 fn tell<W: Write, F: Write>(error: &Error, writer: &mut Watched<W>, faults: &mut Watched<F>) -> u8
-    ensures { TellsOf result (W.contents (inner_of writer.old)) (W.contents (inner_of writer.new))
+    ensures { TellsOf (kind_of error.now) result
+        (W.contents (inner_of writer.old)) (W.contents (inner_of writer.new))
         (F.contents (inner_of faults.old)) (F.contents (inner_of faults.new)) }
 {
-    if error.kind() == ErrorKind::OutOfMemory {
-        tell_no_memory(faults);
-        return FAILED;
-    }
-    if error.use_stderr() {
-        let _ = write!(faults, "{error}");
-        return WRONG_WORDS;
-    }
-    match write!(writer, "{error}") {
-        Ok(()) => DONE,
-        Err(_) => FAILED,
+    match error.kind() {
+        ErrorKind::OutOfMemory => {
+            tell_no_memory(faults);
+            FAILED
+        }
+        ErrorKind::DisplayHelp | ErrorKind::DisplayVersion => match write!(writer, "{error}") {
+            Ok(()) => DONE,
+            Err(_) => FAILED,
+        },
+        _ => {
+            let _ = write!(faults, "{error}");
+            WRONG_WORDS
+        }
     }
 }
 

@@ -1,5 +1,11 @@
 //! What the words of a command line ask for, by `clap`.
 
+ghost use Rattle.std.specs.Prelude.{◌≡◌, IfOk, IfSome, false, map, string_bytes};
+ghost use Rattle.clap.specs.Words.{app_of, found_of, rows_of, rule_of, subcommand_rows_of};
+ghost use Rattle.clap.specs.declared.builder.command.Command.TheViews.{out-Command as fields_of};
+ghost use Rattle.wst.specs.Words.{CommandAsks, IsRead, OptionsAsk, Places, budget_rule, from_rule, role_named};
+ghost use Rattle.wst.specs.Words.{show_app, wst_app};
+
 use clap::{Arg, ArgAction, ArgMatches, Command, Error};
 use std::alloc::{AllocError, Global};
 use ws_frame::Role;
@@ -14,31 +20,42 @@ pub enum Task {
 
 /// What the words ask for, the program's name first. An error of `clap` where they are wrong, ask
 /// for help, or memory ran out.
-pub fn read_words<'a>(alloc: Global, words: &'a [String]) -> Result<Task, Error> {
+pub fn read_words<'a>(alloc: Global, words: &'a [String]) -> Result<Task, Error>
+    ensures read { (places : Places)
+        × IsRead (wst_app places) (map string_bytes words.entry.now) result }
+{
     let command: Command<'a> = command(alloc)?;
     let matches = command.try_get_matches_from(words)?;
-    let task = matches
-        .subcommand()
-        .and_then(|(name, matches)| task_of(name, matches));
-    match task {
+    match task_of(&matches) {
         Some(task) => Ok(task),
         None => Err(Error::from(AllocError)),
     }
 }
 
-/// The task of a command and its options. `None` only for a command that `command` does not have.
-fn task_of(name: &str, matches: &ArgMatches<'_>) -> Option<Task> {
+/// The task of the command that was met. `None` only for one that `command` does not have.
+fn task_of(matches: &ArgMatches<'_>) -> Option<Task>
+    ensures { IfSome result (CommandAsks (subcommand_rows_of matches.now)) }
+{
+    let (name, options) = matches.subcommand()?;
     match name {
-        "show" => Some(Task::Show {
-            from: role_of(matches.get_str("from")?),
-            budget: matches.get_one::<u64>("budget")?,
-        }),
+        "show" => show_task(options),
         _ => None,
     }
 }
 
+/// The task of `show` with its options, which have defaults.
+fn show_task(options: &ArgMatches<'_>) -> Option<Task>
+    ensures { IfSome result (OptionsAsk (rows_of (found_of options.now))) }
+{
+    let from = role_of(options.get_str("from")?);
+    let budget = options.get_one::<u64>("budget")?;
+    Some(Task::Show { from, budget })
+}
+
 /// The end that a word names.
-fn role_of(word: &str) -> Role {
+fn role_of(word: &str) -> Role
+    ensures { result ≡ role_named word.now }
+{
     match word {
         "client" => Role::Client,
         _ => Role::Server,
@@ -46,7 +63,9 @@ fn role_of(word: &str) -> Role {
 }
 
 /// All commands.
-fn command<'a>(alloc: Global) -> Result<Command<'a>, AllocError> {
+fn command<'a>(alloc: Global) -> Result<Command<'a>, AllocError>
+    ensures { IfOk result (λ r. (places : Places) × (app_of r ≡ wst_app places)) }
+{
     Command::new(alloc, "wst")
         .about("Tests WebSocket endpoints frame by frame (RFC 6455)")
         .after_help("Example:\n  printf '\\201\\005Hello' | wst show")
@@ -54,27 +73,45 @@ fn command<'a>(alloc: Global) -> Result<Command<'a>, AllocError> {
         .subcommand(show_command(alloc)?)
 }
 
-fn show_command<'a>(alloc: Global) -> Result<Command<'a>, AllocError> {
-    let from = Arg::new(alloc, "from")
+/// `show` and its options.
+fn show_command<'a>(alloc: Global) -> Result<Command<'a>, AllocError>
+    ensures app { IfOk result (λ r. (places : Places) × (app_of r ≡ show_app places)) }
+    ensures local { IfOk result (λ r. (fields_of r).has_globals ≡ false) }
+{
+    Command::new(alloc, "show")
+        .about("Shows the frames of a captured stream, a line each")
+        .long_about(SHOW_ABOUT)
+        .after_help("Example:\n  printf '\\201\\005Hello' | wst show")
+        .arg(from_option(alloc))?
+        .arg(budget_option(alloc))
+}
+
+/// The option for the end that sent the frames.
+fn from_option<'a>(alloc: Global) -> Arg<'a>
+    ensures rule { (places : Places) × (rule_of result ≡ from_rule places) }
+    ensures local { result.global ≡ false }
+{
+    Arg::new(alloc, "from")
         .long("from")
         .value_name("END")
         .help("The end that sent the frames: a client masks each, a server none")
         .action(ArgAction::Set)
         .value_parser(["client", "server"].as_slice())
-        .default_value("server");
-    let budget = Arg::new(alloc, "budget")
+        .default_value("server")
+}
+
+/// The option for how much is read.
+fn budget_option<'a>(alloc: Global) -> Arg<'a>
+    ensures rule { rule_of result ≡ budget_rule }
+    ensures local { result.global ≡ false }
+{
+    Arg::new(alloc, "budget")
         .long("budget")
         .value_name("N")
         .help("Read at most N bytes")
         .action(ArgAction::Set)
         .value_parser(clap::value_parser!(u64))
-        .default_value("1073741824");
-    Command::new(alloc, "show")
-        .about("Shows the frames of a captured stream, a line each")
-        .long_about(SHOW_ABOUT)
-        .after_help("Example:\n  printf '\\201\\005Hello' | wst show")
-        .arg(from)?
-        .arg(budget)
+        .default_value("1073741824")
 }
 
 /// What `show` is for.

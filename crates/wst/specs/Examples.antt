@@ -1,0 +1,128 @@
+-- Worked examples of words and what they ask for, each a theorem, wherever the names of the ends lie in memory.
+use Rattle.std.proofs.Common.{rules}
+use Rattle.std.specs.Prelude.{◌≡◌, ⊤, true, false, List, [], ◌∷◌, map, codes, refl}
+use Rattle.std.specs.Char.{encode_utf8}
+use Rattle.std.specs.Str.{chars}
+use Rattle.clap.specs.Words.{Text, fault_of, takes}
+use Rattle.clap.specs.Walk.{bundle_met, walked}
+use Rattle.clap.specs.Takes.{flags_pass, walk_passes}
+use Rattle.clap.specs.Faults.{defaults_fault, flags_fault, walk_fault}
+use Rattle.clap.specs.declared.error.kind.ErrorKind.TheVariants.{DisplayHelp, InvalidSubcommand, InvalidValue, MissingSubcommand, UnknownArgument, ValueValidation}
+use Rattle.ws_frame.specs.declared.role.Role.TheVariants.{Client, Server}
+use Rattle.wst.specs.Words.{AsksFor, Places, wst_app}
+use Rattle.wst.specs.declared.words.Task.TheVariants.{Show}
+
+-- what is computed at words that are written out
+unfoldable on_words : ⊤
+unfolding walked bundle_met chars encode_utf8 flags_pass walk_passes flags_fault walk_fault defaults_fault
+on_words = tt
+
+-- ---- words that ask for a task
+
+-- `wst show` reads what a server sent, up to 1 GiB
+abbrev plain_words : List Text
+plain_words = codes "wst" ∷ codes "show" ∷ []
+
+pub plain_show : (places : Places) → AsksFor (wst_app places) plain_words (Show Server 1073741824)
+unfolding on_words
+plain_show places = (
+  refl,
+  (
+    refl,
+    record {
+      end_word = codes "server";
+      has_end = refl;
+      end = refl;
+      budget_word = codes "1073741824";
+      has_budget = refl;
+      numeral = search rules;
+      number = refl;
+    },
+  ),
+)
+
+-- `wst show --from client --budget 7` reads at most 7 bytes that a client sent
+abbrev client_words : List Text
+client_words = codes "wst" ∷ codes "show" ∷ codes "--from" ∷ codes "client" ∷ codes "--budget" ∷ codes "7" ∷ []
+
+pub client_show : (places : Places) → AsksFor (wst_app places) client_words (Show Client 7)
+unfolding on_words
+client_show places = (
+  refl,
+  (
+    refl,
+    record {
+      end_word = codes "client";
+      has_end = refl;
+      end = refl;
+      budget_word = codes "7";
+      has_budget = refl;
+      numeral = search rules;
+      number = refl;
+    },
+  ),
+)
+
+-- the same with the options the other way round, each as one word
+abbrev joined_words : List Text
+joined_words = codes "wst" ∷ codes "show" ∷ codes "--budget=7" ∷ codes "--from=client" ∷ []
+
+pub joined_show : (places : Places) → AsksFor (wst_app places) joined_words (Show Client 7)
+unfolding on_words
+joined_show places = (
+  refl,
+  (
+    refl,
+    record {
+      end_word = codes "client";
+      has_end = refl;
+      end = refl;
+      budget_word = codes "7";
+      has_budget = refl;
+      numeral = search rules;
+      number = refl;
+    },
+  ),
+)
+
+-- such words can fail for want of memory alone
+pub plain_show_is_taken : (places : Places) → takes (wst_app places) plain_words ≡ true
+unfolding on_words
+plain_show_is_taken places = refl
+
+pub client_show_is_taken : (places : Places) → takes (wst_app places) client_words ≡ true
+unfolding on_words
+client_show_is_taken places = refl
+
+-- ---- words that ask for none
+
+-- `wst` alone
+pub no_command : (places : Places) → fault_of (wst_app places) (codes "wst" ∷ []) ≡ MissingSubcommand ∷ []
+unfolding on_words
+no_command places = refl
+
+-- `wst pair`: no such command
+pub unknown_command : (places : Places) → fault_of (wst_app places) (codes "wst" ∷ codes "pair" ∷ []) ≡ UnknownArgument ∷ InvalidSubcommand ∷ []
+unfolding on_words
+unknown_command places = refl
+
+-- `wst show --budget x`: no number
+pub budget_no_number : (places : Places) → fault_of (wst_app places) (codes "wst" ∷ codes "show" ∷ codes "--budget" ∷ codes "x" ∷ []) ≡ ValueValidation ∷ []
+unfolding on_words
+budget_no_number places = refl
+
+-- `wst show --from nobody`: no end
+pub from_nobody : (places : Places) → fault_of (wst_app places) (codes "wst" ∷ codes "show" ∷ codes "--from" ∷ codes "nobody" ∷ []) ≡ InvalidValue ∷ []
+unfolding on_words
+from_nobody places = refl
+
+-- `wst show --help` is answered with help
+pub show_help : (places : Places) → fault_of (wst_app places) (codes "wst" ∷ codes "show" ∷ codes "--help" ∷ []) ≡ DisplayHelp ∷ []
+unfolding on_words
+show_help places = refl
+
+-- and none of them is taken
+pub faulty_words_are_not_taken : (places : Places) → map (takes (wst_app places))
+    ((codes "wst" ∷ []) ∷ (codes "wst" ∷ codes "pair" ∷ []) ∷ (codes "wst" ∷ codes "show" ∷ codes "--budget" ∷ codes "x" ∷ []) ∷ []) ≡ false ∷ false ∷ false ∷ []
+unfolding on_words
+faulty_words_are_not_taken places = refl
