@@ -37,7 +37,8 @@ RunsShow from budget status reader_failed writer_failed unread_old unread_new he
     (end : ShowEnd) × Shows from budget end unread_old unread_new held_old held_new
     × IsFairEnd end reader_failed writer_failed unread_new × IsQuiet end faults_old faults_new × (status ≡ status_of end)
 
--- what is told at an error of this kind: of want of memory with status 3, and help goes to the output with status 0, or 3 where that fails. All else is wrong words, with status 2. What is told on one output leaves the other as it was
+-- what is told at an error of this kind: of want of memory with status 3, and help goes to the output with status 0, or 3
+-- where that fails. All else is wrong words, with status 2. What is told on one output leaves the other as it was
 abbrev pub TellsOf : ErrorKind → ℕ → Option (List ℕ) → Option (List ℕ) → Option (List ℕ) → Option (List ℕ) → Type 0
 TellsOf OutOfMemory status held_old held_new faults_old faults_new = (status ≡ 3) × Keeps held_old held_new
 TellsOf DisplayHelp status held_old held_new faults_old faults_new = ((status ≡ 0) ⊎ (status ≡ 3)) × Keeps faults_old faults_new
@@ -48,7 +49,8 @@ TellsOf _ status held_old held_new faults_old faults_new = (status ≡ 2) × Kee
 abbrev pub MayFailBy : App → List Text → ErrorKind → Type 0
 MayFailBy app words kind = (kind ≡ OutOfMemory) ⊎ IsAmong kind (fault_of app words)
 
--- what the words ask for was done: a run of `show` with the end and the budget that they give, or their fault was told and nothing was read
+-- what the words ask for was done: a run of `show` with the end and the budget that they give, or their fault was told
+-- and nothing was read
 abbrev pub Runs : App → List Text → ℕ → Bool → Bool → Option (List ℕ) → Option (List ℕ) → Option (List ℕ) → Option (List ℕ) → Option (List ℕ) → Option (List ℕ) → Type 0
 Runs app words status reader_failed writer_failed unread_old unread_new held_old held_new faults_old faults_new =
     ((from : Role) × (budget : ℕ) × AsksFor app words (Show from budget)

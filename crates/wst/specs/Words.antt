@@ -1,4 +1,5 @@
--- What the words of a command line ask for: the program's commands as clap's data, and what they ask for by clap's own reading of the words.
+-- What the words of a command line ask for: the program's commands as clap's data, and clap's own reading of the words
+-- by them.
 use Rattle.std.specs.Prelude.{◌≡◌, ℕ, true, if◌then◌else◌, List, [], ◌∷◌, Option, Some, None, Result, MatchResult, codes}
 use Rattle.std.specs.Borrow.{Bor}
 use Rattle.std.specs.Str.{bytes_eq}
@@ -15,7 +16,8 @@ use Rattle.wst.specs.declared.words.Task.TheVariants.{Show}
 
 -- ---- the commands
 
--- where the names of the two ends lie in memory: clap's data of a list of names says so, and its reading of the words asks for the names alone
+-- where the names of the two ends lie in memory: clap's data of a list of names says so, and its reading of the words
+-- asks for the names alone
 pub record Places : Type 0 where
   pub list : ℕ × ℕ
   pub client : ℕ × ℕ
