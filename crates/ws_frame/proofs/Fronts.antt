@@ -11,9 +11,9 @@ use Rattle.ws_frame.specs.Header.{HeaderFields, AreBytes}
 use Rattle.ws_frame.specs.Masking.{masked, masked_payload}
 use Rattle.ws_frame.specs.Frame.{WireFrame, IsWireFrame, wire_bytes}
 use Rattle.ws_frame.specs.Reading.{Begins, BeginsNoHeader, BeginsBadLength}
-use Rattle.ws_frame.specs.Stream.{BeginsNone}
-use Rattle.ws_frame.specs.Lines.{line_with, line_of, frame_lines, last_line, Leaves, AreLinesOf, AreFrameLinesOf, BeginsLinesOf}
-use Rattle.ws_frame.specs.Showing.{IsWhole, IsLeft}
+use Rattle.ws_frame.specs.Stream.{SplitsIntoAnyForm, BeginsNone}
+use Rattle.ws_frame.specs.Lines.{line_with, line_of, frame_lines, last_line, Leaves, AreLinesOf, AreFrameLinesOf}
+use Rattle.ws_frame.specs.Showing.{IsWhole, IsLeft, BeginsLines}
 use Rattle.ws_frame.proofs.Headers.{same_header, header_parts, header_or_none}
 use Rattle.ws_frame.proofs.Masks.{masked_payload_twice, take-masked_payload, length-masked}
 use Rattle.ws_frame.proofs.Splits.{some_split, split_is_one, rest_bytes, all-append}
@@ -144,6 +144,10 @@ nothing_begins_none rest e x more is given = absurd (omega (arith, ap (λ (t : L
 
 -- ---- all lines
 
+-- nothing begins with no bad length
+nothing_bad : (rest : List ℕ) → rest ≡ [] → BeginsBadLength rest → ⊥
+nothing_bad rest e (h, used, b, big) = omega (arith, ap (λ (t : List ℕ). length t) (sym e ∙ header_parts h used rest b))
+
 -- what is left of any stream
 some_left : (at : ℕ) (rest : List ℕ) → AreBytes rest → (left : ShowEnd) × Leaves left at rest
 some_left at [] are = (Done, refl)
@@ -199,8 +203,26 @@ lines_are_one from bytes left other lines others p q =
     let same : left ≡ other = same_left left other (length (flat_map wire_bytes p.frames)) p.rest p.leaves other_leaves in
     (same, p.all ∙ ap (λ (t : List WireFrame). frame_lines from 0 t ++ last_line left) s.0 ∙ ap (λ (e : ShowEnd). frame_lines from 0 q.frames ++ last_line e) same ∙ sym q.all)
 
--- the lines so far begin the lines of the whole
-pub begins_so_far : (from : Role) (bytes : List ℕ) (at : ℕ) (written front more : List ℕ) → AreBytes bytes → SoFar from bytes at written → written ≡ front ++ more → BeginsLinesOf from bytes front
+-- the lines so far begin the lines of the whole: those of all frames, and that of a bad length
+by_left : (from : Role) (bytes : List ℕ) (frames : List WireFrame) (rest : List ℕ) (left : ShowEnd) (front more : List ℕ) → SplitsIntoAnyForm bytes frames rest
+    → Leaves left (length (flat_map wire_bytes frames)) rest → frame_lines from 0 frames ≡ front ++ more → BeginsLines from bytes front
+by_left from bytes frames rest Done front more split leaves e =
+    record { lines = frame_lines from 0 frames; more = more; are = inl (record { frames = frames; rest = rest; split = split; goes_on = nothing_bad rest leaves; all = refl }); begins = e }
+by_left from bytes frames rest (CutAt n) front more split leaves e =
+    record { lines = frame_lines from 0 frames; more = more; are = inl (record { frames = frames; rest = rest; split = split; goes_on = leaves.2; all = refl }); begins = e }
+by_left from bytes frames rest (BadLengthAt n) front more split leaves e =
+    record {
+      lines = frame_lines from 0 frames ++ last_line (BadLengthAt n);
+      more = more ++ last_line (BadLengthAt n);
+      are = inr (n, record { frames = frames; rest = rest; split = split; leaves = leaves; all = refl });
+      begins = ap (λ (t : List ℕ). t ++ last_line (BadLengthAt n)) e ∙ append_assoc front more (last_line (BadLengthAt n));
+    }
+by_left from bytes frames rest Budget front more split leaves e = absurd leaves
+by_left from bytes frames rest ReadFault front more split leaves e = absurd leaves
+by_left from bytes frames rest WriteFault front more split leaves e = absurd leaves
+by_left from bytes frames rest NoMemory front more split leaves e = absurd leaves
+
+pub begins_so_far : (from : Role) (bytes : List ℕ) (at : ℕ) (written front more : List ℕ) → AreBytes bytes → SoFar from bytes at written → written ≡ front ++ more → BeginsLines from bytes front
 begins_so_far from bytes at written front more are so front_of =
     let are_rest : AreBytes (drop at bytes) = rest_bytes bytes (flat_map wire_bytes so.frames) (drop at bytes) so.parts are in
     let s = some_split IsWireFrame wire_bytes wire_told (drop at bytes) are_rest in
@@ -209,36 +231,22 @@ begins_so_far from bytes at written front more are so front_of =
     let whole : bytes ≡ flat_map wire_bytes frames ++ s.rest =
     so.parts ∙ ap (λ (t : List ℕ). flat_map wire_bytes so.frames ++ t) s.split.whole ∙ sym (append_assoc (flat_map wire_bytes so.frames) (flat_map wire_bytes s.frames) s.rest) ∙ ap (λ (t : List ℕ). t ++ s.rest) (sym joined) in
     let (left, leaves) = some_left (length (flat_map wire_bytes frames)) s.rest (rest_bytes bytes (flat_map wire_bytes frames) s.rest whole are) in
-    let behind = frame_lines from (0 + length (flat_map wire_bytes so.frames)) s.frames ++ last_line left in
-    record {
-      end = left;
-      lines = frame_lines from 0 frames ++ last_line left;
-      more = more ++ behind;
-      are_lines = record { frames = frames; rest = s.rest; split = record { each = all-append IsWireFrame so.frames s.frames so.each s.split.each; whole = whole; left = s.split.left }; leaves = leaves; all = refl };
-      begins = ap (λ (t : List ℕ). t ++ last_line left) (frame_lines-append from 0 so.frames s.frames) ∙ append_assoc (frame_lines from 0 so.frames) (frame_lines from (0 + length (flat_map wire_bytes so.frames)) s.frames) (last_line left)
-          ∙ ap (λ (t : List ℕ). t ++ behind) (sym so.lines ∙ front_of) ∙ append_assoc front more behind;
-    }
+    let behind = frame_lines from (0 + length (flat_map wire_bytes so.frames)) s.frames in
+    let lines : frame_lines from 0 frames ≡ front ++ (more ++ behind) =
+    frame_lines-append from 0 so.frames s.frames ∙ ap (λ (t : List ℕ). t ++ behind) (sym so.lines ∙ front_of) ∙ append_assoc front more behind in
+    by_left from bytes frames s.rest left front (more ++ behind) (record { each = all-append IsWireFrame so.frames s.frames so.each s.split.each; whole = whole; left = s.split.left }) leaves lines
 
 -- ---- how a run ends
 
 pub all_lines : (from : Role) (bytes : List ℕ) (left : ShowEnd) (written : List ℕ) → IsLeft from bytes left written → AreLinesOf from bytes left (written ++ last_line left)
 all_lines from bytes left written is = record { frames = is.frames; rest = is.rest; split = is.split; leaves = is.leaves; all = ap (λ (t : List ℕ). t ++ last_line left) is.all }
 
-pub begins_left : (from : Role) (bytes : List ℕ) (left : ShowEnd) (written front more : List ℕ) → IsLeft from bytes left written → last_line left ≡ front ++ more → BeginsLinesOf from bytes (written ++ front)
-begins_left from bytes left written front more is part = record {
-  end = left;
-  lines = written ++ last_line left;
-  more = more;
-  are_lines = all_lines from bytes left written is;
-  begins = ap (λ (t : List ℕ). written ++ t) part ∙ sym (append_assoc written front more);
-}
-
 -- the lines of the frames alone, where no bad length is left
 pub frame_lines_alone : (from : Role) (bytes : List ℕ) (left : ShowEnd) (written : List ℕ) → IsLeft from bytes left written → ((place : ℕ) → left ≡ BadLengthAt place → ⊥) → AreFrameLinesOf from bytes written
 frame_lines_alone from bytes left written is good = record { frames = is.frames; rest = is.rest; split = is.split; goes_on = goes_on left good (length (flat_map wire_bytes is.frames)) is.rest is.leaves; all = is.all }
   where
     goes_on : (left : ShowEnd) → ((place : ℕ) → left ≡ BadLengthAt place → ⊥) → (at : ℕ) (rest : List ℕ) → Leaves left at rest → BeginsBadLength rest → ⊥
-    goes_on Done good at rest leaves (h, used, b, big) = omega (arith, ap (λ (t : List ℕ). length t) (sym leaves ∙ header_parts h used rest b))
+    goes_on Done good at rest leaves bad = nothing_bad rest leaves bad
     goes_on (CutAt n) good at rest leaves bad = leaves.2 bad
     goes_on (BadLengthAt n) good at rest leaves bad = good n refl
     goes_on Budget good at rest leaves bad = leaves

@@ -1,6 +1,6 @@
 -- The lines of `show`: one for each frame of a stream (RFC 6455 section 5.2), in any form, and a last one where the
 -- stream stops inside a frame. A line ends with LF.
-use Rattle.std.specs.Prelude.{◌≡◌, ℕ, ◌+◌, ◌/◌, ◌%◌, ◌<◌, ◌≤◌, Bool, true, false, nat_lt, ◌==◌, if◌then◌else◌, List, [], ◌∷◌, ◌++◌, length, take, Option, Some, None, codes}
+use Rattle.std.specs.Prelude.{◌⊎◌, ◌≡◌, ℕ, ◌+◌, ◌/◌, ◌%◌, ◌<◌, ◌≤◌, Bool, true, false, nat_lt, ◌==◌, if◌then◌else◌, List, [], ◌∷◌, ◌++◌, length, take, Option, Some, None, codes}
 use Rattle.std.specs.List.{flat_map, concat}
 use Rattle.std.specs.Fmt.{decimal, digits}
 use Rattle.std.specs.Io.KnownBytes.{Consumes, Appends, IsAtEnd}
@@ -118,32 +118,39 @@ pub record AreFrameLinesOf (from : Role) (bytes : List ℕ) (lines : List ℕ) :
   pub goes_on : BeginsBadLength rest → ⊥
   pub all : lines ≡ frame_lines from 0 frames
 
--- a beginning of the lines
-pub record BeginsLinesOf (from : Role) (bytes : List ℕ) (front : List ℕ) : Type 0 where
-  pub end : ShowEnd
+-- The lines that are due. While more may come they are those of the whole frames, and that of a bad length; once the
+-- reader is at its end, before the budget is used up, they are all lines.
+abbrev pub AreDue : Role → ℕ → Option (List ℕ) → List ℕ → List ℕ → Type 0
+AreDue from budget unread read lines =
+    AreFrameLinesOf from read lines
+    ⊎ (((place : ℕ) × AreLinesOf from read (BadLengthAt place) lines)
+    ⊎ ((length read < budget) × IsAtEnd unread × ((end : ShowEnd) × AreLinesOf from read end lines)))
+
+-- a beginning of the lines that are due
+pub record BeginsDueLines (from : Role) (budget : ℕ) (unread : Option (List ℕ)) (read front : List ℕ) : Type 0 where
   pub lines : List ℕ
   pub more : List ℕ
-  pub are_lines : AreLinesOf from bytes end lines
+  pub due : AreDue from budget unread read lines
   pub begins : lines ≡ front ++ more
 
 -- ---- a run of `show`
 
 -- what was written for what was read, by how the run ended
-abbrev pub IsShownAt : Role → ℕ → ShowEnd → List ℕ → List ℕ → Type 0
-IsShownAt from budget Done read written = AreLinesOf from read Done written × (length read < budget)
-IsShownAt from budget (CutAt place) read written = AreLinesOf from read (CutAt place) written × (length read < budget)
-IsShownAt from budget (BadLengthAt place) read written = AreLinesOf from read (BadLengthAt place) written
-IsShownAt from budget Budget read written = AreFrameLinesOf from read written × (length read ≡ budget)
-IsShownAt from budget ReadFault read written = AreFrameLinesOf from read written × (length read < budget)
-IsShownAt from budget WriteFault read written = BeginsLinesOf from read written
-IsShownAt from budget NoMemory read written = BeginsLinesOf from read written
+abbrev pub IsShownAt : Role → ℕ → ShowEnd → Option (List ℕ) → List ℕ → List ℕ → Type 0
+IsShownAt from budget Done unread read written = AreLinesOf from read Done written × (length read < budget)
+IsShownAt from budget (CutAt place) unread read written = AreLinesOf from read (CutAt place) written × (length read < budget)
+IsShownAt from budget (BadLengthAt place) unread read written = AreLinesOf from read (BadLengthAt place) written
+IsShownAt from budget Budget unread read written = AreFrameLinesOf from read written × (length read ≡ budget)
+IsShownAt from budget ReadFault unread read written = AreFrameLinesOf from read written × (length read < budget)
+IsShownAt from budget WriteFault unread read written = BeginsDueLines from budget unread read written
+IsShownAt from budget NoMemory unread read written = BeginsDueLines from budget unread read written
 
 -- a run of `show` from what the reader has left and the writer holds, where those are told, to what they have then
 abbrev pub Shows : Role → ℕ → ShowEnd → Option (List ℕ) → Option (List ℕ) → Option (List ℕ) → Option (List ℕ) → Type 0
 Shows from budget end unread_old unread_new held_old held_new =
     (read : List ℕ) × (written : List ℕ)
     × Consumes unread_old unread_new read × Appends held_old held_new written
-    × (length read ≤ budget) × IsShownAt from budget end read written
+    × (length read ≤ budget) × IsShownAt from budget end unread_new read written
 
 -- which device has failed, and that the reader is at its end where the run says so
 abbrev pub IsFairEnd : ShowEnd → Bool → Bool → Option (List ℕ) → Type 0

@@ -1,6 +1,6 @@
 -- The steps of `show`, for the contracts of its private functions. A reader may skip this file: no public contract
 -- speaks of it.
-use Rattle.std.specs.Prelude.{◌≡◌, ℕ, ◌≤◌, ◌<◌, Bool, true, false, List, [], ◌++◌, length, take, Option, Result, Ok, Err}
+use Rattle.std.specs.Prelude.{◌⊎◌, ◌≡◌, ℕ, ◌≤◌, ◌<◌, Bool, true, false, List, [], ◌++◌, length, take, Option, Result, Ok, Err}
 use Rattle.std.specs.List.{flat_map}
 use Rattle.std.specs.Io.KnownBytes.{Consumes, Appends, IsAtEnd}
 use Rattle.ws_frame.specs.declared.role.Role.{Role}
@@ -16,7 +16,7 @@ use Rattle.ws_frame.specs.Masking.{masked_payload}
 use Rattle.ws_frame.specs.Frame.{WireFrame, IsWireFrame, wire_bytes}
 use Rattle.ws_frame.specs.Stream.{BeginsNone, SplitsIntoAnyForm}
 use Rattle.ws_frame.specs.Reading.{BeginsBadLength}
-use Rattle.ws_frame.specs.Lines.{Leaves, frame_lines}
+use Rattle.ws_frame.specs.Lines.{Leaves, frame_lines, AreLinesOf, AreFrameLinesOf}
 
 -- a frame stands at the front, with this header and these payload bytes on the wire
 pub record IsWhole (bytes : List ℕ) (x : WireFrame) (payload : List ℕ) (used : ℕ) : Type 0 where
@@ -40,6 +40,13 @@ pub record IsLeft (from : Role) (bytes : List ℕ) (left : ShowEnd) (written : L
   pub split : SplitsIntoAnyForm bytes frames rest
   pub leaves : Leaves left (length (flat_map wire_bytes frames)) rest
   pub all : written ≡ frame_lines from 0 frames
+
+-- a beginning of the lines of a stream that may go on: of those of its whole frames, and that of a bad length
+pub record BeginsLines (from : Role) (bytes front : List ℕ) : Type 0 where
+  pub lines : List ℕ
+  pub more : List ℕ
+  pub are : AreFrameLinesOf from bytes lines ⊎ ((place : ℕ) × AreLinesOf from bytes (end.BadLengthAt place) lines)
+  pub begins : lines ≡ front ++ more
 
 -- whether a writer has failed by what a function over it answers
 abbrev pub FailedBy : Bool → Stop → Type 0

@@ -1,13 +1,11 @@
 //! The lines of a stream of frames (RFC 6455 section 5.2), from a reader to a writer.
 
-ghost use Rattle.std.specs.Prelude.{◌≡◌, ◌≤◌, ◌<◌, ◌+◌, ℕ, List, ◌++◌, [], length, take, false, IfOk, string_bytes};
-ghost use Rattle.std.specs.Io.KnownBytes.{Appends};
+ghost use Rattle.std.specs.Prelude.{◌≡◌, ◌≤◌, take, false, IfOk, string_bytes};
 ghost use Rattle.ws_frame.specs.Watching.{has_failed, inner_of};
 ghost use Rattle.ws_frame.specs.Masking.{masked_payload};
 ghost use Rattle.ws_frame.specs.Frame.{WireFrame, IsWireFrame};
-ghost use Rattle.ws_frame.specs.Lines.{line_of, last_line, BeginsLinesOf, Shows, IsFairEnd};
-ghost use Rattle.ws_frame.specs.Showing.{IsFront, IsLeft, WritesFront, WritesText, ReadsInput, end_after_input, end_of_stop};
-ghost use Rattle.ws_frame.specs.Header.{IsKey, AreBytes};
+ghost use Rattle.ws_frame.specs.Lines.{line_of, last_line, Shows, IsFairEnd};
+ghost use Rattle.ws_frame.specs.Showing.{IsFront, IsLeft, BeginsLines, WritesFront, WritesText, ReadsInput, end_after_input, end_of_stop};
 
 use crate::header::Header;
 use crate::line::{FrameLine, SHOWN};
@@ -92,10 +90,9 @@ enum Front<'a> {
 /// most `budget` bytes are read; once so many are, nothing more is read and no last line is
 /// written. Nothing is judged but the masking and the form of the length.
 ///
-/// A bad length is told whatever else happened to the reader. What is due is written also where a
-/// read failed or memory for the input ran out. At `WriteFault` and at `NoMemory` a beginning of
-/// what was due is written. The reader and the writer then stand where they stood at the call that
-/// failed.
+/// A bad length is told also where the budget is used up or a read failed, and a failed read loses no
+/// line of a frame that was read. At `WriteFault` and at `NoMemory` a beginning of what was due is
+/// written.
 pub fn show<R: Read, W: Write>(
     alloc: Global,
     reader: &mut Watched<R>,
@@ -173,7 +170,7 @@ fn write_frame_lines<W: Write>(
 ) -> Result<ShowEnd, Stop>
     requires { has_failed writer.old ≡ false }
     ensures { WritesFront (W.contents (inner_of writer.old)) (W.contents (inner_of writer.new)) (has_failed writer.new) result
-        (λ left written. IsLeft from input.now left written) (λ written. BeginsLinesOf from input.now written) }
+        (λ left written. IsLeft from input.now left written) (λ written. BeginsLines from input.now written) }
 {
     let mut at = 0;
     loop {
