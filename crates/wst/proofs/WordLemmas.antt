@@ -2,10 +2,12 @@
 use Rattle.std.proofs.Common.{◌≡◌, ◌∙◌, ℕ, zero, suc, List, [], ◌∷◌, Option, Some, None, Result, Ok, Err, IsErrAnd, arith, ap, refl, sym, subst, inl, length, map, codes, slice_index_or}
 use Rattle.std.specs.Borrow.{Bor}
 use Rattle.std.specs.Str.Parse.{IsNumeral, digits_value, without_leading_plus}
-use Rattle.clap.specs.Words.{App, HasKind, Row, Text, fault_of, kind_of, subcommand_of}
+use Rattle.clap.specs.Words.{App, HasKind, Row, Rule, Text, fault_of, kind_of, subcommand_of}
+use Rattle.clap.specs.declared.builder.value_parser.ValueParser.{ValueParser}
+use Rattle.clap.specs.declared.builder.value_parser.ValueParser.TheVariants.{Names}
 use Rattle.clap.specs.declared.error.Error.{Error}
 use Rattle.clap.specs.declared.error.kind.ErrorKind.TheVariants.{OutOfMemory}
-use Rattle.wst.specs.Words.{AsksFor, CommandAsks, IsRead, Places, end_names}
+use Rattle.wst.specs.Words.{AsksFor, CommandAsks, IsRead, Places, end_names, from_rule}
 use Rattle.wst.specs.declared.words.Task.{Task}
 
 -- a list of the two names is that of some places
@@ -26,6 +28,10 @@ places_of list (a ∷ b ∷ []) e =
 places_of list (a ∷ b ∷ x ∷ rest) e =
     let bad : suc (suc (suc (length (map (λ s. s.now) rest)))) ≡ suc (suc zero) = ap (λ (l : List Text). length l) e in
     absurd (omega arith)
+
+-- the rule of `--from` with the parser that it was given
+pub from_rule_given : (r : Rule) (places : Places) (parser : Option ValueParser) → r ≡ record (from_rule places) { parser = parser } → parser ≡ Some (Names (end_names places)) → r ≡ from_rule places
+from_rule_given r places parser others given = others ∙ ap (λ (p : Option ValueParser). record (from_rule places) { parser = p }) given
 
 -- a number that a typed getter gave is that of a text which is there
 pub number_read : (o : Option Text) (budget : ℕ) → (o ≡ None → Some budget ≡ None)

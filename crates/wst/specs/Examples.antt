@@ -1,13 +1,16 @@
 -- Worked examples of words and what they ask for, each a theorem, wherever the names of the ends lie in memory.
-use Rattle.std.proofs.Common.{rules}
 use Rattle.std.specs.Prelude.{◌≡◌, ⊤, true, false, List, [], ◌∷◌, map, codes, refl}
 use Rattle.std.specs.Char.{encode_utf8}
 use Rattle.std.specs.Str.{chars}
+use Rattle.std.specs.Str.Parse.{IsNumeral, without_leading_plus}
+use Rattle.clap.proofs.ValueTestLemmas.{accepts-Accepts}
 use Rattle.clap.specs.Words.{Text, fault_of, takes}
+use Rattle.clap.specs.ValueTests.{accepts}
 use Rattle.clap.specs.Walk.{bundle_met, walked}
 use Rattle.clap.specs.Takes.{flags_pass, walk_passes}
 use Rattle.clap.specs.Faults.{defaults_fault, flags_fault, walk_fault}
 use Rattle.clap.specs.declared.error.kind.ErrorKind.TheVariants.{DisplayHelp, InvalidSubcommand, InvalidValue, MissingSubcommand, UnknownArgument, ValueValidation}
+use Rattle.clap.specs.declared.builder.value_parser.ValueParser.TheVariants.{Unsigned}
 use Rattle.ws_frame.specs.declared.role.Role.TheVariants.{Client, Server}
 use Rattle.wst.specs.Words.{AsksFor, Places, wst_app}
 use Rattle.wst.specs.declared.words.Task.TheVariants.{Show}
@@ -16,6 +19,10 @@ use Rattle.wst.specs.declared.words.Task.TheVariants.{Show}
 unfoldable on_words : ⊤
 unfolding walked bundle_met chars encode_utf8 flags_pass walk_passes flags_fault walk_fault defaults_fault
 on_words = tt
+
+-- what passes the test for a number of 64 bits is a numeral
+numeral_of : (text : Text) → accepts false (Unsigned 0 18446744073709551615) text ≡ true → IsNumeral 10 (without_leading_plus text)
+numeral_of text e = (accepts-Accepts false (Unsigned 0 18446744073709551615) text e).0
 
 -- ---- words that ask for a task
 
@@ -35,7 +42,7 @@ plain_show places = (
       end = refl;
       budget_word = codes "1073741824";
       has_budget = refl;
-      numeral = search rules;
+      numeral = numeral_of (codes "1073741824") refl;
       number = refl;
     },
   ),
@@ -57,7 +64,7 @@ client_show places = (
       end = refl;
       budget_word = codes "7";
       has_budget = refl;
-      numeral = search rules;
+      numeral = numeral_of (codes "7") refl;
       number = refl;
     },
   ),
@@ -79,7 +86,7 @@ joined_show places = (
       end = refl;
       budget_word = codes "7";
       has_budget = refl;
-      numeral = search rules;
+      numeral = numeral_of (codes "7") refl;
       number = refl;
     },
   ),

@@ -16,8 +16,7 @@ use Rattle.wst.specs.declared.words.Task.TheVariants.{Show}
 
 -- ---- the commands
 
--- where the names of the two ends lie in memory: clap's data of a list of names says so, and its reading of the words
--- asks for the names alone
+-- where the names of the two ends lie in memory, which clap's data of a list of names holds beside the names
 pub record Places : Type 0 where
   pub list : ℕ × ℕ
   pub client : ℕ × ℕ

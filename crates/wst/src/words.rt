@@ -19,7 +19,7 @@ pub enum Task {
 }
 
 /// What the words ask for, the program's name first. An error of `clap` where they are wrong, ask
-/// for help, or memory ran out.
+/// for help, or memory ran out. Where `clap` finds no fault in them, only want of memory is one.
 pub fn read_words<'a>(alloc: Global, words: &'a [String]) -> Result<Task, Error>
     ensures read { (places : Places)
         × IsRead (wst_app places) (map string_bytes words.entry.now) result }
@@ -28,11 +28,12 @@ pub fn read_words<'a>(alloc: Global, words: &'a [String]) -> Result<Task, Error>
     let matches = command.try_get_matches_from(words)?;
     match task_of(&matches) {
         Some(task) => Ok(task),
+        // Never: the command is required, and each of its options has a default. That is tested, and not proved.
         None => Err(Error::from(AllocError)),
     }
 }
 
-/// The task of the command that was met. `None` only for one that `command` does not have.
+/// The task of the command that was met. `None` where there is none or an option has no value.
 fn task_of(matches: &ArgMatches<'_>) -> Option<Task>
     ensures { IfSome result (CommandAsks (subcommand_rows_of matches.now)) }
 {
@@ -43,7 +44,7 @@ fn task_of(matches: &ArgMatches<'_>) -> Option<Task>
     }
 }
 
-/// The task of `show` with its options, which have defaults.
+/// The task of `show` by its options. `None` where one has no value.
 fn show_task(options: &ArgMatches<'_>) -> Option<Task>
     ensures { IfSome result (OptionsAsk (rows_of (found_of options.now))) }
 {

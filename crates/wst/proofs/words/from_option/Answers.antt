@@ -1,9 +1,9 @@
-use Rattle.std.proofs.Common.{rules, ◌≡◌, ◌∙◌, ap, map, codes, [], ◌∷◌, Option, Some}
+use Rattle.std.proofs.Common.{rules, ◌≡◌, ◌∙◌, ap, map, codes, [], ◌∷◌, Some}
 use Rattle.clap.specs.Words.{rule_of}
 use Rattle.clap.specs.declared.builder.value_parser.ValueParser.{ValueParser}
 use Rattle.clap.specs.declared.builder.value_parser.ValueParser.TheVariants.{Names}
 use Rattle.wst.specs.Words.{end_names, from_rule}
-use Rattle.wst.proofs.WordLemmas.{places_of}
+use Rattle.wst.proofs.WordLemmas.{from_rule_given, places_of}
 use Rattle.wst.proofs.words.from_option.Goals as goal
 
 pub returns-clause-rule : goal.returns-clause-rule
@@ -13,4 +13,4 @@ returns-clause-rule c =
     let given = c.value_parser.ensures.given in
     let parser : c.value_parser.result.value_parser ≡ Some (Names (end_names places.0)) = given.1 ∙ ap (λ (p : ValueParser). Some p) given.2 ∙ ap (λ x. Some (Names x)) places.1 in
     let others : rule_of c.default_value.result ≡ record (from_rule places.0) { parser = c.value_parser.result.value_parser } = search rules in
-    (places.0, others ∙ ap (λ (p : Option ValueParser). record (from_rule places.0) { parser = p }) parser)
+    (places.0, from_rule_given _ places.0 _ others parser)
