@@ -4,6 +4,7 @@
 //! that stands at the front, and no header or frame begins another, so a stream is its frames in one way.
 #![tactic(auto)]
 
+mod appending;
 mod header;
 mod laws;
 mod masking;
@@ -13,6 +14,7 @@ mod showing;
 mod watching;
 mod writing;
 
+pub use appending::{NoMemory, append_frame};
 pub use header::{Form, Header};
 pub use laws::{
     every_stream_splits, masked_by_rule, no_frame_begins_another, no_header_begins_another,
