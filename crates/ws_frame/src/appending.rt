@@ -7,10 +7,23 @@ ghost use Rattle.ws_frame.specs.Masking.{masked_payload};
 
 use crate::header::Header;
 use crate::masking::mask;
+use std::alloc::{AllocError, AllocFailed};
 
 /// Memory ran out: a growth was refused.
 #[derive(Clone, Copy, Debug, PartialEq, Eq)]
 pub struct NoMemory;
+
+impl From<AllocError> for NoMemory {
+    fn from(_refused: AllocError) -> NoMemory {
+        NoMemory
+    }
+}
+
+impl<T: Drop> From<AllocFailed<T>> for NoMemory {
+    fn from(_refused: AllocFailed<T>) -> NoMemory {
+        NoMemory
+    }
+}
 
 /// Puts a frame at the end of `out`: the header, then the payload, masked from its first byte on where
 /// the header has a key. The header's payload length is that of `payload`. The bytes are those of a

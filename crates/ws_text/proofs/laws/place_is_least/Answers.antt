@@ -1,0 +1,5 @@
+use Rattle.ws_text.proofs.Pieces.{least_place}
+use Rattle.ws_text.proofs.laws.place_is_least.Goals as goal
+
+pub returns : goal.returns
+returns c = least_place

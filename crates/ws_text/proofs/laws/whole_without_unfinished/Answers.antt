@@ -1,0 +1,5 @@
+use Rattle.ws_text.proofs.Texts.{text_without_unfinished}
+use Rattle.ws_text.proofs.laws.whole_without_unfinished.Goals as goal
+
+pub returns : goal.returns
+returns c = text_without_unfinished

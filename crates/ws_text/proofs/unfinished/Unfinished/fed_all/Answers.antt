@@ -1,0 +1,8 @@
+use Rattle.ws_text.proofs.Pieces.{piece_goes_on, piece_breaks, still_unfinished}
+use Rattle.ws_text.proofs.unfinished.Unfinished.fed_all.Goals as goal
+
+pub returns-in-None-clause-text : goal.returns-in-None-clause-text
+returns-in-None-clause-text c = λ text h. piece_breaks text _ _ _ c.loop-i-test.true (c.loop-i.invariant.1 text h) c.in-None.ensures
+
+pub loop-i-preserved : goal.loop-i-preserved
+loop-i-preserved c = (still_unfinished _ _ _ c.in-Some.ensures, λ text h. piece_goes_on text _ _ _ _ c.loop-i-test.true (c.loop-i.invariant.1 text h) c.in-Some.ensures)

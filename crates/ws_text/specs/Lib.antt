@@ -1,0 +1,5 @@
+pub mod Text
+pub mod Stream
+pub mod Close
+pub mod Kept
+pub mod Step

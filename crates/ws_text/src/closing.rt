@@ -1,0 +1,129 @@
+//! Close codes and close payloads (RFC 6455 sections 5.5.1 and 7.4).
+
+ghost use Rattle.std.specs.Prelude.{◌≡◌, ◌↔◌, ◌-◌, ◌≤◌, ℕ, ◌++◌, length, replicate, Option, IsTrue, Ok, IsErrOf};
+ghost use Rattle.ws_text.specs.Close.{CloseValue, CodeAllowed, IsClosePayload, HasBadCode, HasBadReason};
+ghost use Rattle.ws_text.specs.declared.closing.TheConstants.{MAX_CONTROL_PAYLOAD, MAX_REASON};
+ghost use Rattle.ws_text.specs.declared.closing.CloseFault.TheVariants.{OneByte, BadCode, ReasonNotText};
+
+use std::marker::Model;
+
+/// The most payload bytes of a control frame (section 5.5).
+pub const MAX_CONTROL_PAYLOAD: usize = 125;
+
+/// The most bytes of a close reason: what a control frame holds beside the code.
+pub const MAX_REASON: usize = 123;
+
+/// Whether the code may be sent in a close frame, and is accepted in one: 1000 to 1003, 1007 to 1014
+/// and 3000 to 4999 (section 7.4). The others are reserved, or stand for a close of which no frame
+/// tells, as 1005, 1006 and 1015.
+pub fn code_allowed(code: u16) -> bool
+    ensures { IsTrue result ↔ CodeAllowed code }
+{
+    matches!(code, 1000..=1003 | 1007..=1014 | 3000..=4999)
+}
+
+/// What a close frame says: a code that may stand in one, and a reason of at most 123 bytes of text,
+/// kept in place.
+#[derive(Clone, Copy, Debug, PartialEq, Eq)]
+pub struct Close {
+    code: u16,
+    bytes: [u8; MAX_REASON],
+    len: usize,
+}
+
+impl Model for Close {
+    ghost use Rattle.std.specs.Prelude.{◌-◌, ◌++◌, length, take, replicate};
+    ghost use Rattle.ws_text.specs.Close.{CloseValue, CanBeSaid};
+    ghost use Rattle.ws_text.specs.Kept.{IsPadded};
+
+    ghost Value = { CloseValue };
+
+    ghost view = { λ c. record { code = c.code; reason = take c.len c.bytes } };
+
+    ghost invariant = { λ c. CanBeSaid (record { code = c.code; reason = take c.len c.bytes })
+        × IsPadded c.bytes c.len };
+
+    ghost inverse = { λ v. record { code = v.code; bytes = v.reason ++ replicate (123 - length v.reason) 0; len = length v.reason } };
+}
+
+impl Close {
+    /// The close code.
+    pub fn code(&self) -> u16
+        ensures { result ≡ self.now.code }
+    {
+        self.code
+    }
+
+    /// The close reason, empty where the frame gave none.
+    pub fn reason(&self) -> &str
+        ensures { result.now ≡ self.now.reason }
+    {
+        std::str::from_utf8(&self.bytes[..self.len]).unwrap()
+    }
+
+    /// A close of these two, kept in place.
+    fn of(code: u16, reason: &str) -> Close
+        requires { CodeAllowed code × (length reason.now ≤ MAX_REASON) }
+        ensures { result ≡ record { code = code; reason = reason.now } }
+    {
+        Close {
+            code,
+            bytes: padded(reason.as_bytes()),
+            len: reason.len(),
+        }
+    }
+}
+
+/// What is wrong with a close payload: the first of these that applies.
+#[derive(Clone, Copy, Debug, PartialEq, Eq)]
+pub enum CloseFault {
+    /// The payload is half a code: a receiver fails the connection with code 1002.
+    OneByte = 1,
+    /// The code may not stand in a close frame: a receiver fails the connection with code 1002.
+    BadCode = 2,
+    /// The reason is no text: a receiver fails the connection with code 1007.
+    ReasonNotText = 3,
+}
+
+/// The payload of a close frame.
+pub struct ClosePayload;
+
+impl ClosePayload {
+    /// What the payload of a close frame says: `None` where it is empty. The payload has at most 125
+    /// bytes, as that of every control frame.
+    pub fn read(payload: &[u8]) -> Result<Option<Close>, CloseFault>
+        requires { length payload.now ≤ MAX_CONTROL_PAYLOAD }
+        ensures read { (close : Option CloseValue) → (result ≡ Ok close) ↔ IsClosePayload payload.now close }
+
+        // The lowest fault that applies.
+        ensures one_byte { IsErrOf result OneByte ↔ (length payload.now ≡ 1) }
+        ensures bad_code { IsErrOf result BadCode ↔ HasBadCode payload.now }
+        ensures reason_not_text { IsErrOf result ReasonNotText ↔ HasBadReason payload.now }
+    {
+        match payload {
+            [] => Ok(None),
+            [_] => Err(CloseFault::OneByte),
+            [high, low, reason @ ..] => {
+                let code = u16::from_be_bytes([*high, *low]);
+                if !code_allowed(code) {
+                    return Err(CloseFault::BadCode);
+                }
+                match simdutf8::compat::from_utf8(reason) {
+                    Ok(text) => Ok(Some(Close::of(code, text))),
+                    Err(_) => Err(CloseFault::ReasonNotText),
+                }
+            }
+        }
+    }
+}
+
+/// The bytes of a reason, and zeros behind them.
+fn padded(reason: &[u8]) -> [u8; MAX_REASON]
+    requires { length reason.now ≤ MAX_REASON }
+    ensures { result ≡ reason.now ++ replicate (MAX_REASON - length reason.now) 0 }
+{
+    let mut bytes = [0; MAX_REASON];
+    let (front, _) = bytes.split_at_mut(reason.len());
+    front.copy_from_slice(reason);
+    bytes
+}

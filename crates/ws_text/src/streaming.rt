@@ -1,0 +1,84 @@
+//! Text that comes in pieces (RFC 6455 section 8.1).
+
+ghost use Rattle.std.specs.Prelude.{◌≡◌, ◌↔◌, ℕ, List, [], ◌++◌, IsTrue, Bool, false, IsOk, OnOk, OnErr, IfErr, Err};
+ghost use Rattle.ws_text.specs.Text.{IsText, BeginsText};
+ghost use Rattle.ws_text.specs.Stream.{HasRead, HasFailed, BreaksTextAt};
+
+use crate::unfinished::Unfinished;
+use crate::whole::whole_front;
+use std::marker::Model;
+
+/// A judge of one text that comes in pieces. It keeps at most three bytes, those of a character that
+/// a piece has cut, or that it has failed. A copy goes on where the original stands.
+#[derive(Clone, Copy, Debug, PartialEq, Eq)]
+pub struct Utf8Stream {
+    unfinished: Option<Unfinished>,
+}
+
+impl Model for Utf8Stream {
+    ghost use Rattle.std.specs.Prelude.{ℕ, List, Option, IfSome};
+    ghost use Rattle.std.specs.Option.{option_map};
+
+    ghost Value = { Option (List ℕ) };
+
+    ghost use Rattle.ws_text.specs.Text.{IsUnfinished};
+    ghost use Rattle.ws_text.specs.Step.{kept_bytes, from_kept_bytes};
+
+    ghost view = { λ s. option_map kept_bytes s.unfinished };
+
+    ghost invariant = { λ s. IfSome s.unfinished (λ kept. IsUnfinished (kept_bytes kept)) };
+
+    ghost inverse = { λ v. record { unfinished = option_map from_kept_bytes v } };
+}
+
+impl Utf8Stream {
+    /// A stream that has read nothing yet.
+    pub fn new() -> Utf8Stream
+        ensures { HasRead result [] }
+    {
+        Utf8Stream {
+            unfinished: Some(Unfinished::Nothing),
+        }
+    }
+
+    /// Reads the next piece of the text. `Err` is the place in the piece of the first byte after which
+    /// nothing can complete the text so far: a receiver fails the connection with code 1007
+    /// (section 8.1). From then on the stream has failed, and each push is `Err(0)`.
+    pub fn push(&mut self, piece: &[u8]) -> Result<(), usize>
+        ensures fits { (text : List ℕ) → HasRead self.old text →
+            (IsOk result ↔ BeginsText (text ++ piece.now)) }
+        ensures read { (text : List ℕ) → HasRead self.old text →
+            OnOk result (HasRead self.new (text ++ piece.now)) }
+
+        // The place is the least: every front of what begins a text begins one.
+        ensures place { (text : List ℕ) → HasRead self.old text →
+            IfErr result (BreaksTextAt text piece.now) }
+        ensures fails { OnErr result (HasFailed self.new) }
+        ensures failed { HasFailed self.old → result ≡ Err 0 }
+    {
+        let Some(unfinished) = self.unfinished else {
+            return Err(0);
+        };
+        match unfinished.after(piece) {
+            Ok(unfinished) => {
+                self.unfinished = Some(unfinished);
+                Ok(())
+            }
+            Err(place) => {
+                self.unfinished = None;
+                Err(place)
+            }
+        }
+    }
+
+    /// Whether what was read is a text: it was never refused, and ends inside no character.
+    pub fn is_whole(&self) -> bool
+        ensures whole { (text : List ℕ) → HasRead self.now text → (IsTrue result ↔ IsText text) }
+        ensures failed { HasFailed self.now → result ≡ false }
+    {
+        match self.unfinished {
+            Some(unfinished) => unfinished.is_nothing(),
+            None => false,
+        }
+    }
+}

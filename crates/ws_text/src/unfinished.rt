@@ -1,0 +1,165 @@
+//! The character inside which a piece of text ends (RFC 3629 section 3).
+
+ghost use Rattle.std.specs.Prelude.{◌≡◌, ◌≤◌, ◌<◌, ℕ, List, [], ◌∷◌, ◌++◌, length, take, IsTrue, ◌↔◌, ◌⊎◌, MatchOption, MatchResult, IfOk, IfErr};
+ghost use Rattle.std.specs.Int.{IsInRange};
+ghost use Rattle.ws_text.specs.Text.{HasUnfinished, IsUnfinished};
+ghost use Rattle.ws_text.specs.Stream.{BreaksTextAt};
+ghost use Rattle.ws_text.specs.Step.{kept_bytes, BeginsCharacter, GoesOn};
+
+use crate::whole::whole_front;
+
+/// The first bytes of a character that is not all there, or none.
+#[derive(Clone, Copy, Debug, PartialEq, Eq)]
+pub(crate) enum Unfinished {
+    Nothing,
+    One(u8),
+    Two(u8, u8),
+    Three(u8, u8, u8),
+}
+
+impl Unfinished {
+    /// Whether no byte is kept.
+    pub(crate) fn is_nothing(self) -> bool
+        ensures { IsTrue result ↔ (kept_bytes self ≡ []) }
+    {
+        matches!(self, Unfinished::Nothing)
+    }
+
+    /// What the next byte makes of it: `None` where no character goes on so.
+    fn fed(self, byte: u8) -> Option<Unfinished>
+        requires { IsUnfinished (kept_bytes self) }
+        ensures { MatchOption result (¬ BeginsCharacter (kept_bytes self ++ byte ∷ []))
+            (λ new. GoesOn (kept_bytes self) byte (kept_bytes new)) }
+    {
+        match self {
+            Unfinished::Nothing => begun(byte),
+            Unfinished::One(lead) => {
+                if !may_be_second(lead, byte) {
+                    return None;
+                }
+                if lead < 0xe0 {
+                    return Some(Unfinished::Nothing);
+                }
+                Some(Unfinished::Two(lead, byte))
+            }
+            Unfinished::Two(lead, second) => {
+                if !may_be_later(byte) {
+                    return None;
+                }
+                if lead < 0xf0 {
+                    return Some(Unfinished::Nothing);
+                }
+                Some(Unfinished::Three(lead, second, byte))
+            }
+            Unfinished::Three(_, _, _) => {
+                if !may_be_later(byte) {
+                    return None;
+                }
+                Some(Unfinished::Nothing)
+            }
+        }
+    }
+
+    /// Takes a piece: what is unfinished after it, or the place of the byte with which no text goes on.
+    /// A cut character is joined byte by byte, and so is one that the piece cuts; `simdutf8` judges
+    /// what lies between.
+    pub(crate) fn after(self, piece: &[u8]) -> Result<Unfinished, usize>
+        requires { IsUnfinished (kept_bytes self) }
+        ensures unfinished { IfOk result (λ new. IsUnfinished (kept_bytes new)) }
+        ensures text { (text : List ℕ) → HasUnfinished text (kept_bytes self) →
+            MatchResult result (λ new. HasUnfinished (text ++ piece.now) (kept_bytes new)) (BreaksTextAt text piece.now) }
+    {
+        let (unfinished, used) = self.finished(piece)?;
+        let rest = &piece[used..];
+        let whole = whole_front(rest);
+        match unfinished.fed_all(&rest[whole..]) {
+            Ok(unfinished) => Ok(unfinished),
+            Err(place) => Err(used + whole + place),
+        }
+    }
+
+    /// Takes bytes until no character is unfinished, or the piece ends: what is unfinished then and
+    /// how many bytes it took, or the place of the byte with which no text goes on.
+    fn finished(self, piece: &[u8]) -> Result<(Unfinished, usize), usize>
+        requires { IsUnfinished (kept_bytes self) }
+        ensures used { IfOk result (λ end. (end.1 ≤ length piece.now)
+            × ((kept_bytes end.0 ≡ []) ⊎ (end.1 ≡ length piece.now))) }
+        ensures unfinished { IfOk result (λ end. IsUnfinished (kept_bytes end.0)) }
+        ensures text { (text : List ℕ) → HasUnfinished text (kept_bytes self) →
+            MatchResult result (λ end. HasUnfinished (text ++ take end.1 piece.now) (kept_bytes end.0)) (BreaksTextAt text piece.now) }
+    {
+        let mut unfinished = self;
+        for (place, byte) in piece.iter().enumerate() {
+            if unfinished.is_nothing() {
+                return Ok((unfinished, place));
+            }
+            match unfinished.fed(*byte) {
+                Some(next) => unfinished = next,
+                None => return Err(place),
+            }
+        }
+        Ok((unfinished, piece.len()))
+    }
+
+    /// Takes every byte of the piece, one by one.
+    fn fed_all(self, piece: &[u8]) -> Result<Unfinished, usize>
+        requires { IsUnfinished (kept_bytes self) }
+        ensures unfinished { IfOk result (λ new. IsUnfinished (kept_bytes new)) }
+        ensures within { IfErr result (λ place. place < length piece.now) }
+        ensures text { (text : List ℕ) → HasUnfinished text (kept_bytes self) →
+            MatchResult result (λ new. HasUnfinished (text ++ piece.now) (kept_bytes new)) (BreaksTextAt text piece.now) }
+    {
+        let mut unfinished = self;
+        for (i, byte) in piece.iter().enumerate() {
+            match unfinished.fed(*byte) {
+                Some(next) => unfinished = next,
+                None => return Err(i),
+            }
+        }
+        Ok(unfinished)
+    }
+}
+
+/// What a character's first byte makes of nothing.
+fn begun(byte: u8) -> Option<Unfinished>
+    ensures { MatchOption result (¬ BeginsCharacter (byte ∷ []))
+        (λ new. GoesOn [] byte (kept_bytes new)) }
+{
+    match byte {
+        0x00..=0x7f => Some(Unfinished::Nothing),
+        0x80..=0xc1 => None,
+        0xc2..=0xf4 => Some(Unfinished::One(byte)),
+        0xf5..=0xff => None,
+    }
+}
+
+/// Whether some character begins with these two bytes.
+fn may_be_second(lead: u8, byte: u8) -> bool
+    requires { IsUnfinished (lead ∷ []) }
+    ensures { IsTrue result ↔ BeginsCharacter (lead ∷ byte ∷ []) }
+{
+    let (least, most) = second_bytes(lead);
+    least <= byte && byte <= most
+}
+
+/// The least and the greatest byte that may be the second behind this first one: neither a longer
+/// form than is needed, nor a surrogate, nor past the last character.
+fn second_bytes(lead: u8) -> (u8, u8)
+    requires { IsUnfinished (lead ∷ []) }
+    ensures { (byte : ℕ) → (BeginsCharacter (lead ∷ byte ∷ []) ↔ IsInRange result.0 result.1 byte) }
+{
+    match lead {
+        0xe0 => (0xa0, 0xbf),
+        0xed => (0x80, 0x9f),
+        0xf0 => (0x90, 0xbf),
+        0xf4 => (0x80, 0x8f),
+        _ => (0x80, 0xbf),
+    }
+}
+
+/// Whether the byte may be the third or fourth of a character.
+fn may_be_later(byte: u8) -> bool
+    ensures { IsTrue result ↔ IsInRange 0x80 0xbf byte }
+{
+    matches!(byte, 0x80..=0xbf)
+}
