@@ -11,6 +11,7 @@ mod masking;
 mod reading;
 mod role;
 mod showing;
+mod stream_laws;
 mod watching;
 mod writing;
 
@@ -24,5 +25,6 @@ pub use masking::mask;
 pub use reading::{HeaderRead, read_header};
 pub use role::Role;
 pub use showing::ShowEnd;
+pub use stream_laws::fourteen_bytes_hold_a_header;
 pub use watching::Watched;
 pub use writing::HeadBytes;
