@@ -29,11 +29,7 @@ impl<T: Drop> From<AllocFailed<T>> for NoMemory {
 /// the header has a key. The header's payload length is that of `payload`. The bytes are those of a
 /// frame as it is sent where the header has the shortest form, as `Header::shortest` gives it.
 /// `NoMemory` where `out` can't grow: then it holds what it held.
-pub fn append_frame(
-    header: &Header,
-    payload: &[u8],
-    out: &mut Vec<u8>,
-) -> Result<(), NoMemory>
+pub fn append_frame(header: &Header, payload: &[u8], out: &mut Vec<u8>) -> Result<(), NoMemory>
     requires { header.now.len ≡ length payload.now }
     ensures appended { OnOk result (out.new.items ≡ out.old.items ++ (header_bytes header.now ++ masked_payload header.now.key payload.now)) }
     ensures kept { OnErr result (out.new.items ≡ out.old.items) }

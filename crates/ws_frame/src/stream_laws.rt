@@ -8,5 +8,4 @@ ghost use Rattle.ws_frame.specs.Reading.{BeginsNoHeader};
 /// A header has at most fourteen bytes: where none stands at the front there are fewer.
 pub fn fourteen_bytes_hold_a_header()
     ensures { (bytes : List ℕ) → AreBytes bytes → BeginsNoHeader bytes → length bytes < 14 }
-{
-}
+{}

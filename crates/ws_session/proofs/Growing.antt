@@ -1,51 +1,36 @@
 -- What more bytes do to a session that isn't over: nothing, one more frame, or a fault.
-use Rattle.std.proofs.Common.{◌≡◌, ◌≢◌, ℕ, zero, suc, ◌+◌, ◌-◌, ◌*◌, ◌/◌, ◌%◌, ◌^◌, ◌<◌, ◌≤◌, ◌⊎◌, Bool, true, false, cond, List, [], ◌∷◌, ◌++◌, length, get_or, take, drop, Option, Some, None, refl, sym, ap, ◌∙◌, append_assoc, arith, inl, inr, subst}
-use Rattle.std.specs.Prelude.{map, filter, not, nat_lt, slice_index, ◌&&◌, ◌==◌, bit_xor, option_to_list}
-use Rattle.std.specs.List.{AllByRecursion, flat_map}
-use Rattle.std.proofs.lemmas.Bool.{cases_lt, lt-ltb, le-ltb, and_parts, ltb-true}
-use Rattle.std.proofs.lemmas.List.{append_cancel_left, length-append, append-nil, map-append, take_at, drop_at, take-append-le, take-append-drop, length-take, length-take-le}
+use Rattle.std.proofs.Common.{◌≡◌, ℕ, ◌+◌, ◌-◌, ◌<◌, ◌≤◌, Bool, true, false, cond, List, [], ◌∷◌, ◌++◌, length, Option, Some, None, refl, sym, ap, ◌∙◌, append_assoc, arith, subst}
+use Rattle.std.specs.List.{AllByRecursion}
+use Rattle.std.proofs.lemmas.Bool.{le-ltb}
+use Rattle.std.proofs.lemmas.List.{length-append, append-nil, map-append}
 use Rattle.std.proofs.lemmas.Grind.{flat_map-append}
 use Rattle.ws_frame.specs.declared.role.Role.{Role}
-use Rattle.ws_frame.specs.declared.role.Role.TheVariants.{Client, Server}
-use Rattle.ws_frame.specs.declared.header.Form.{Form}
-use Rattle.ws_frame.specs.declared.header.Form.TheVariants.{Short, Two, Eight}
-use Rattle.ws_frame.specs.Header.{HeaderFields, IsHeader, IsKey, AreBytes, header_bytes, is_masked, CanHold}
-use Rattle.ws_frame.specs.Masking.{masked, masked_payload}
-use Rattle.ws_frame.specs.Frame.{Frame, KeyedFrame, CanBeSent, frame_bytes, stream_bytes, sent_as, shortest_form}
-use Rattle.ws_frame.specs.Stream.{SplitsInto, BeginsNone}
-use Rattle.ws_frame.proofs.Frames.{no_frame_begins, none_begins, sent_is_wire, frame_told}
-use Rattle.ws_frame.proofs.Headers.{same_header, same_parts}
-use Rattle.ws_frame.proofs.Masks.{length-masked, length-masked_payload, same_masked_payload, take-masked_payload, masked-append}
-use Rattle.ws_frame.proofs.Splits.{split_is_one}
-use Rattle.ws_text.specs.Text.{IsText, BeginsText}
-use Rattle.ws_session.specs.declared.message.Kind.{Kind}
-use Rattle.ws_session.specs.declared.message.Kind.TheVariants.{Text, Binary}
+use Rattle.ws_frame.specs.Header.{AreBytes}
+use Rattle.ws_frame.specs.Frame.{Frame, KeyedFrame, CanBeSent, frame_bytes, stream_bytes}
+use Rattle.ws_frame.specs.Stream.{SplitsInto}
+use Rattle.ws_frame.proofs.Frames.{no_frame_begins, frame_told}
 use Rattle.ws_session.specs.declared.message.Message.{Message}
 use Rattle.ws_session.specs.declared.reason.Reason.{Reason}
-use Rattle.ws_session.specs.declared.reason.Reason.TheVariants.{ReservedBits, Opcode, MaskWrong, NotShortest, BadLength, ControlCut, ControlLong, NothingToContinue, MessageOpen, TooBig, NotText, TextCut, CloseOneByte, CloseCode, CloseReason}
 use Rattle.ws_session.specs.declared.event.Event.{Event}
 use Rattle.ws_session.specs.declared.event.Event.TheVariants as event
 use Rattle.ws_session.specs.Limits.{LimitsValue}
-use Rattle.ws_session.specs.Messages.{is_control, is_close, data_frames, Groups, before_first, with_frame, groups_of, kind_of, first_opcode, joined_payload, message_of, message_if_any, open_message_of}
-use Rattle.ws_session.specs.Faults.{frames_of, number_of, expects_key, open_payload, IsOfText, Applies, AppliesAtHeader, AppliesInPayload, IsNoClose, IsFaultAt, IsNoLater, IsFirstFault, HasNoFault}
-use Rattle.ws_session.specs.Events.{event_of_control, event_of, events_after, through_close, ending_before, events_of, IsFaultOf, HasEvents, close_in}
-use Rattle.ws_session.specs.NextFrame.{AreSent, BeginsNoFrame, header_of, IsFaultOfNext, HasNoFaultOfNext, IsFirstFaultOfNext, IsPartOfFrame, message_with, opened_with, event_behind, status_with, owed_at, IsAfter}
-use Rattle.std.specs.Prelude.{◌||◌, nat_le}
-use Rattle.std.proofs.Common.{eqb-true}
+use Rattle.ws_session.specs.Messages.{is_close, open_message_of}
+use Rattle.ws_session.specs.Faults.{frames_of, IsNoClose, IsFaultAt, IsFirstFault, HasNoFault}
+use Rattle.ws_session.specs.Events.{event_of, events_after, through_close, ending_before, events_of, IsFaultOf, HasEvents}
+use Rattle.ws_session.specs.NextFrame.{BeginsNoFrame, HasNoFaultOfNext, IsFirstFaultOfNext, IsPartOfFrame, opened_with, event_behind, owed_at, IsAfter}
 use Rattle.ws_session.specs.declared.status.Status.{Status}
 use Rattle.ws_session.specs.declared.status.Status.TheVariants as status
-use Rattle.ws_session.specs.Replies.{control_frame, close_frame, close_reply, reply_to, until_close, has_close, replies_of, under_key}
-use Rattle.ws_session.specs.Exchange.{SessionValue, SendingValue, HasExchanged, IsSendingOf, code_if_any, is_over, last_event, status_before_close, status_after, status_of, Takes, TakesNothing}
-use Rattle.ws_session.proofs.Faults.{fault_before, fault_later}
+use Rattle.ws_session.specs.Replies.{replies_of}
+use Rattle.ws_session.specs.Exchange.{SessionValue, SendingValue, HasExchanged, IsSendingOf, is_over, status_after, status_of}
+use Rattle.ws_session.proofs.Faults.{fault_before}
 use Rattle.ws_session.proofs.Growth.{events_after-append, one_events}
 use Rattle.ws_session.proofs.OpenMessage.{open_snoc, event_snoc}
-
-use Rattle.ws_session.proofs.Statuses.{IsGoingOn, is_going_on, status_snoc, replies_at, owed_control, open_control, status_after_event}
+use Rattle.ws_session.proofs.Statuses.{IsGoingOn, status_snoc, replies_at, owed_control, open_control, status_after_event}
 use Rattle.ws_session.proofs.Streams.{ending_before_past}
-use Rattle.ws_session.proofs.Next.{still_clean, first_of_next, within_front, next_later, next_earlier, length-frame_bytes, two_bytes}
+use Rattle.ws_session.proofs.Next.{still_clean, first_of_next, within_front, two_bytes}
 use Rattle.ws_frame.proofs.Splits.{all-append, SomeSplit, some_split, split_goes_on}
 
-through_close_same : (xs : List KeyedFrame) → AllByRecursion IsNoClose xs → through_close xs ≡ xs
+pub through_close_same : (xs : List KeyedFrame) → AllByRecursion IsNoClose xs → through_close xs ≡ xs
 through_close_same [] h = refl
 through_close_same (y ∷ xs) h = ap (λ b. cond b (y ∷ []) (y ∷ through_close xs)) h.0 ∙ ap (λ (l : List KeyedFrame). y ∷ l) (through_close_same xs h.1)
 
@@ -62,7 +47,7 @@ one_more : (xs : List KeyedFrame) (x : KeyedFrame) → AllByRecursion IsNoClose 
 one_more xs x h =
     ap (λ (l : List KeyedFrame). events_after [] (frames_of l)) (through_close_all xs x h) ∙ ap (λ (l : List Frame). events_after [] l) (map-append (λ (y : KeyedFrame). y.frame) xs (x ∷ [])) ∙ events_after-append [] (frames_of xs) (x.frame ∷ [])
 
-none_in_nothing : BeginsNoFrame []
+pub none_in_nothing : BeginsNoFrame []
 none_in_nothing x more can e = absurd cc
 
 failed_is_over : (s : Status) (r : Reason) → s ≡ status.Failed r → is_over s ≡ false → ⊥
@@ -70,7 +55,6 @@ failed_is_over s r e going = let no : true ≡ false = ap (λ (t : Status). is_o
 
 -- a session that isn't over and has taken s
 module _ (v : SessionValue) (sent : List Frame) (s : List ℕ) (ended : Bool) (g : IsGoingOn v sent s ended) where
-
   joins : (u : List ℕ) → s ++ u ≡ stream_bytes g.frames ++ (v.rest ++ u)
   joins u = ap (λ (l : List ℕ). l ++ u) g.whole ∙ append_assoc (stream_bytes g.frames) v.rest u
 
@@ -82,9 +66,11 @@ module _ (v : SessionValue) (sent : List Frame) (s : List ℕ) (ended : Bool) (g
   -- the events so far
   so_far : HasEvents v.role v.limits s (events_after [] (frames_of g.frames))
   so_far = record {
-    frames = g.frames; rest = v.rest;
+    frames = g.frames;
+    rest = v.rest;
     split = record { each = g.each; whole = g.whole; left = g.left };
-    fault = None; is_fault = g.clean;
+    fault = None;
+    is_fault = g.clean;
     are = ap (λ (l : List KeyedFrame). events_after [] (frames_of l)) (sym (through_close_same g.frames g.no_close));
   }
 
@@ -98,7 +84,8 @@ module _ (v : SessionValue) (sent : List Frame) (s : List ℕ) (ended : Bool) (g
 
   quiet_here : (u : List ℕ) → IsPartOfFrame v.role v.limits (open_message_of (frames_of g.frames)) (v.rest ++ u) → HasEvents v.role v.limits (s ++ u) (events_after [] (frames_of g.frames))
   quiet_here u p = record {
-    frames = g.frames; rest = v.rest ++ u;
+    frames = g.frames;
+    rest = v.rest ++ u;
     split = record { each = g.each; whole = joins u; left = p.none };
     fault = None;
     is_fault = subst (λ (l : List ℕ). HasNoFault v.role v.limits l) (sym (joins u)) (still_clean v.role v.limits g.frames (v.rest ++ u) g.each g.no_close (clean_front u) p.clean (none_alone (v.rest ++ u) p.none));
@@ -118,7 +105,8 @@ module _ (v : SessionValue) (sent : List Frame) (s : List ℕ) (ended : Bool) (g
   quiet_agrees u p was w role limits opened rest sending status = record {
     events = events_after [] (frames_of g.frames);
     has_events = let h = quiet_here u (at_open u p) in record {
-      frames = g.frames; rest = v.rest ++ u;
+      frames = g.frames;
+      rest = v.rest ++ u;
       split = h.split;
       fault = None;
       is_fault = subst (λ (k : LimitsValue). HasNoFault w.role k (s ++ u)) (sym limits) (subst (λ (k : Role). HasNoFault k v.limits (s ++ u)) (sym role) h.is_fault);
@@ -139,7 +127,10 @@ module _ (v : SessionValue) (sent : List Frame) (s : List ℕ) (ended : Bool) (g
       record {
         events = es ++ e ∷ [];
         has_events = record {
-          frames = h.frames; rest = h.rest; split = h.split; fault = h.fault;
+          frames = h.frames;
+          rest = h.rest;
+          split = h.split;
+          fault = h.fault;
           is_fault = subst (λ (k : LimitsValue). IsFaultOf w.role k t h.fault) (sym a.limits) (subst (λ (k : Role). IsFaultOf k v.limits t h.fault) (sym a.role) h.is_fault);
           are = h.are;
         };
@@ -160,7 +151,8 @@ module _ (v : SessionValue) (sent : List Frame) (s : List ℕ) (ended : Bool) (g
 
     frame_here : HasEvents v.role v.limits (s ++ u) (events_after [] (frames_of g.frames) ++ event_behind v.opened x.frame ∷ [])
     frame_here = record {
-      frames = g.frames ++ x ∷ []; rest = [];
+      frames = g.frames ++ x ∷ [];
+      rest = [];
       split = record {
         each = all-append CanBeSent g.frames (x ∷ []) g.each (can, tt);
         whole = joins u ∙ ap (λ (l : List ℕ). stream_bytes g.frames ++ l) (is_frame ∙ sym (append-nil (frame_bytes x))) ∙ sym (flat_map-append frame_bytes g.frames (x ∷ [])) ∙ sym (append-nil (stream_bytes (g.frames ++ x ∷ [])));
@@ -202,7 +194,8 @@ module _ (v : SessionValue) (sent : List Frame) (s : List ℕ) (ended : Bool) (g
 
     fault_by : (c : SomeSplit CanBeSent frame_bytes (v.rest ++ u)) → HasEvents v.role v.limits (s ++ u) (events_after [] (frames_of g.frames) ++ event.Failed r ∷ [])
     fault_by c = record {
-      frames = g.frames ++ c.frames; rest = c.rest;
+      frames = g.frames ++ c.frames;
+      rest = c.rest;
       split = split_goes_on CanBeSent frame_bytes s u g.frames c.frames v.rest c.rest (record { each = g.each; whole = g.whole; left = g.left }) c.split;
       fault = Some (length (stream_bytes g.frames) + length (v.rest ++ u), r);
       is_fault = subst (λ (l : List ℕ). IsFirstFault v.role v.limits l (length (stream_bytes g.frames) + length (v.rest ++ u)) r) (sym (joins u)) (first_of_next v.role v.limits g.frames (v.rest ++ u) g.each g.no_close (clean_front u) (length (v.rest ++ u)) r open_first);
@@ -217,3 +210,7 @@ module _ (v : SessionValue) (sent : List Frame) (s : List ℕ) (ended : Bool) (g
 
     pub fault_agrees : (w : SessionValue) → IsAfter v w (event.Failed r) None → HasExchanged w (sent ++ replies_of sent (event.Failed r ∷ [])) (s ++ u) ended
     fault_agrees w a = event_agrees (s ++ u) (event.Failed r) None w a fault_here (λ going. absurd (failed_is_over w.status r a.status going))
+
+-- its status by the events so far
+pub status_going : (v : SessionValue) (sent : List Frame) (s : List ℕ) (ended : Bool) → HasExchanged v sent s ended → (g : IsGoingOn v sent s ended) → v.status ≡ status_of sent ended (events_after [] (frames_of g.frames))
+status_going v sent s ended h g = h.status ∙ ap (λ (es : List Event). status_of sent ended es) (are_so_far v sent s ended g h.events h.has_events)

@@ -1,36 +1,21 @@
 -- A fault behind the frames that have come is one of the next frame, or lies behind a whole one.
-use Rattle.std.proofs.Common.{◌≡◌, ◌≢◌, ℕ, zero, suc, ◌+◌, ◌-◌, ◌*◌, ◌/◌, ◌%◌, ◌^◌, ◌<◌, ◌≤◌, ◌⊎◌, Bool, true, false, cond, List, [], ◌∷◌, ◌++◌, length, get_or, take, drop, Option, Some, None, refl, sym, ap, ◌∙◌, append_assoc, arith, inl, inr, subst}
-use Rattle.std.specs.Prelude.{map, nat_lt, slice_index, ◌&&◌, ◌==◌, bit_xor}
-use Rattle.std.specs.List.{AllByRecursion, flat_map}
-use Rattle.std.proofs.lemmas.Bool.{cases_lt, lt-ltb, le-ltb, and_parts, ltb-true}
-use Rattle.std.proofs.lemmas.List.{append_cancel_left, length-append, append-nil, map-append, take_at, drop_at, take-append-le, take-append-drop, length-take, length-take-le}
+use Rattle.std.proofs.Common.{◌≡◌, ℕ, ◌+◌, ◌<◌, ◌≤◌, ◌⊎◌, List, [], ◌∷◌, ◌++◌, length, take, drop, Option, refl, sym, ap, ◌∙◌, append_assoc, arith, inl, inr, subst}
+use Rattle.std.specs.List.{AllByRecursion}
+use Rattle.std.proofs.lemmas.Bool.{cases_lt}
+use Rattle.std.proofs.lemmas.List.{length-append, append-nil, take_at, take-append-le, take-append-drop, length-take-le}
 use Rattle.std.proofs.lemmas.Grind.{flat_map-append}
 use Rattle.ws_frame.specs.declared.role.Role.{Role}
-use Rattle.ws_frame.specs.declared.role.Role.TheVariants.{Client, Server}
-use Rattle.ws_frame.specs.declared.header.Form.{Form}
-use Rattle.ws_frame.specs.declared.header.Form.TheVariants.{Short, Two, Eight}
-use Rattle.ws_frame.specs.Header.{HeaderFields, IsHeader, IsKey, AreBytes, header_bytes, is_masked, CanHold}
+use Rattle.ws_frame.specs.Header.{HeaderFields, header_bytes}
 use Rattle.ws_frame.specs.Masking.{masked, masked_payload}
-use Rattle.ws_frame.specs.Frame.{Frame, KeyedFrame, CanBeSent, frame_bytes, stream_bytes, sent_as, shortest_form}
-use Rattle.ws_frame.specs.Stream.{SplitsInto, BeginsNone}
-use Rattle.ws_frame.proofs.Frames.{no_frame_begins, none_begins, sent_is_wire, frame_told}
-use Rattle.ws_frame.proofs.Headers.{same_header, same_parts}
-use Rattle.ws_frame.proofs.Masks.{length-masked, length-masked_payload, same_masked_payload, take-masked_payload, masked-append}
-use Rattle.ws_frame.proofs.Splits.{split_is_one}
-use Rattle.ws_text.specs.Text.{IsText, BeginsText}
-use Rattle.ws_session.specs.declared.message.Kind.{Kind}
-use Rattle.ws_session.specs.declared.message.Kind.TheVariants.{Text, Binary}
+use Rattle.ws_frame.specs.Frame.{KeyedFrame, CanBeSent, frame_bytes, stream_bytes}
+use Rattle.ws_frame.proofs.Masks.{length-masked_payload}
 use Rattle.ws_session.specs.declared.message.Message.{Message}
 use Rattle.ws_session.specs.declared.reason.Reason.{Reason}
-use Rattle.ws_session.specs.declared.reason.Reason.TheVariants.{ReservedBits, Opcode, MaskWrong, NotShortest, BadLength, ControlCut, ControlLong, NothingToContinue, MessageOpen, TooBig, NotText, TextCut, CloseOneByte, CloseCode, CloseReason}
-use Rattle.ws_session.specs.declared.event.Event.{Event}
-use Rattle.ws_session.specs.declared.event.Event.TheVariants as event
 use Rattle.ws_session.specs.Limits.{LimitsValue}
-use Rattle.ws_session.specs.Messages.{is_control, is_close, data_frames, groups_of, message_of, open_message_of}
-use Rattle.ws_session.specs.Faults.{frames_of, number_of, expects_key, open_payload, IsOfText, Applies, AppliesAtHeader, AppliesInPayload, IsNoClose, IsFaultAt, IsNoLater, IsFirstFault, HasNoFault}
-use Rattle.ws_session.specs.Events.{event_of, events_after, through_close, ending_before, events_of, IsFaultOf, HasEvents}
-use Rattle.ws_session.specs.NextFrame.{AreSent, BeginsNoFrame, header_of, IsFaultOfNext, HasNoFaultOfNext, IsFirstFaultOfNext}
-use Rattle.ws_session.proofs.Places.{compare_frames, Before, Within, fault_parts, PartOf, part_of}
+use Rattle.ws_session.specs.Messages.{open_message_of}
+use Rattle.ws_session.specs.Faults.{frames_of, Applies, IsNoClose, IsFaultAt, IsNoLater, IsFirstFault, HasNoFault}
+use Rattle.ws_session.specs.NextFrame.{AreSent, header_of, IsFaultOfNext, HasNoFaultOfNext, IsFirstFaultOfNext}
+use Rattle.ws_session.proofs.Places.{compare_frames, Within, fault_parts, PartOf, part_of}
 
 plain_sum : (n taken before head payload frame masked : ℕ) → taken ≡ n → taken ≡ before + frame → frame ≡ head + masked → masked ≡ payload → n ≡ before + (head + payload)
 plain_sum n taken before head payload frame masked a b c d = omega arith
@@ -70,14 +55,19 @@ within_front role limits opened t n r f x more can e =
 -- more bytes leave it
 pub next_later : (role : Role) (limits : LimitsValue) (opened : Option Message) (t u : List ℕ) (n : ℕ) (r : Reason) → IsFaultOfNext role limits opened t n r → IsFaultOfNext role limits opened (t ++ u) n r
 next_later role limits opened t u n r f = record {
-  header = f.header; is_header = f.is_header; payload = f.payload; are_bytes = f.are_bytes; within = f.within;
+  header = f.header;
+  is_header = f.is_header;
+  payload = f.payload;
+  are_bytes = f.are_bytes;
+  within = f.within;
   rest = f.rest ++ u;
   parts = ap (λ (l : List ℕ). l ++ u) f.parts ∙ append_assoc (header_bytes f.header) (masked_payload f.header.key f.payload ++ f.rest) u ∙ ap (λ (l : List ℕ). header_bytes f.header ++ l) (append_assoc (masked_payload f.header.key f.payload) f.rest u);
-  is_place = f.is_place; applies = f.applies;
+  is_place = f.is_place;
+  applies = f.applies;
 }
 
 -- a front and what follows, cut within what follows
-drop_front : (a b t u : List ℕ) → t ++ u ≡ a ++ b → length a ≤ length t → t ≡ a ++ drop (length a) t
+pub drop_front : (a b t u : List ℕ) → t ++ u ≡ a ++ b → length a ≤ length t → t ≡ a ++ drop (length a) t
 drop_front a b t u e le =
     let front : take (length a) t ≡ a = sym (take-append-le (length a) t u le) ∙ ap (λ (l : List ℕ). take (length a) l) e ∙ take_at a b (length a) refl in
     sym (take-append-drop (length a) t) ∙ ap (λ (l : List ℕ). l ++ drop (length a) t) front
@@ -90,10 +80,15 @@ next_earlier role limits opened t u n r le f =
     let short : length seen ≤ length t = omega arith in
     let parts : t ++ u ≡ seen ++ f.rest = f.parts ∙ sym (append_assoc (header_bytes f.header) (masked_payload f.header.key f.payload) f.rest) in
     record {
-      header = f.header; is_header = f.is_header; payload = f.payload; are_bytes = f.are_bytes; within = f.within;
+      header = f.header;
+      is_header = f.is_header;
+      payload = f.payload;
+      are_bytes = f.are_bytes;
+      within = f.within;
       rest = drop (length seen) t;
       parts = drop_front seen f.rest t u parts short ∙ append_assoc (header_bytes f.header) (masked_payload f.header.key f.payload) (drop (length seen) t);
-      is_place = f.is_place; applies = f.applies;
+      is_place = f.is_place;
+      applies = f.applies;
     }
 
 -- ---- behind the frames that have come
@@ -117,7 +112,7 @@ length-stream_bytes xs x more =
     ap (λ (l : List ℕ). length l) (flat_map-append frame_bytes xs (x ∷ more)) ∙ length-append (stream_bytes xs) (stream_bytes (x ∷ more)) ∙ ap (λ k. length (stream_bytes xs) + k) (length-append (frame_bytes x) (stream_bytes more))
 
 module _ (role : Role) (limits : LimitsValue) (xs : List KeyedFrame) (t : List ℕ) (each : AreSent xs) (n : ℕ) (r : Reason) (f : IsFaultAt role limits (stream_bytes xs ++ t) n r) (late : length (stream_bytes xs) < n) where
-  in_frames : Within xs f.before t (header_bytes f.header ++ (masked_payload f.header.key f.payload ++ drop n (stream_bytes xs ++ t))) → ⊥
+  pub in_frames : Within xs f.before t (header_bytes f.header ++ (masked_payload f.header.key f.payload ++ drop n (stream_bytes xs ++ t))) → ⊥
   in_frames w =
       let part = part_of f.header f.payload (drop n (stream_bytes xs ++ t)) w.next (stream_bytes w.more ++ t) f.is_header w.is_sent f.within w.bytes in
       let le = part_within f.header f.payload w.next part in
@@ -129,22 +124,29 @@ module _ (role : Role) (limits : LimitsValue) (xs : List KeyedFrame) (t : List �
       → LiesInNext role limits xs t n r ⊎ LiesBehindNext xs t n
   behind_frames [] sent e parts =
       let same : f.before ≡ xs = e ∙ append-nil xs in
-      inl (record { place = length (header_bytes f.header) + length f.payload;
+      inl (record {
+        place = length (header_bytes f.header) + length f.payload;
         fault = record { header = f.header; is_header = f.is_header; payload = f.payload; are_bytes = f.are_bytes; within = f.within; rest = drop n (stream_bytes xs ++ t); parts = parts; is_place = refl; applies = subst (λ (l : List KeyedFrame). Applies role limits (open_message_of (frames_of l)) f.header f.payload r) same f.applies };
-        is_place = place_is role limits (stream_bytes xs ++ t) n r f ∙ ap (λ (l : List KeyedFrame). length (stream_bytes l) + (length (header_bytes f.header) + length f.payload)) same })
+        is_place = place_is role limits (stream_bytes xs ++ t) n r f ∙ ap (λ (l : List KeyedFrame). length (stream_bytes l) + (length (header_bytes f.header) + length f.payload)) same;
+      })
   behind_frames (x ∷ more) sent e parts =
       let tail = masked_payload f.header.key f.payload ++ drop n (stream_bytes xs ++ t) in
       let at = place_is role limits (stream_bytes xs ++ t) n r f in
       let all : length (stream_bytes f.before) ≡ length (stream_bytes xs) + (length (frame_bytes x) + length (stream_bytes more)) = ap (λ (l : List KeyedFrame). length (stream_bytes l)) e ∙ length-stream_bytes xs x more in
-      inr (record { next = x; can = sent.0; rest = stream_bytes more ++ (header_bytes f.header ++ tail); parts = parts ∙ append_assoc (frame_bytes x) (stream_bytes more) (header_bytes f.header ++ tail);
-        beyond = omega (arith, at, all, two_bytes f.header) })
+      inr (record {
+        next = x;
+        can = sent.0;
+        rest = stream_bytes more ++ (header_bytes f.header ++ tail);
+        parts = parts ∙ append_assoc (frame_bytes x) (stream_bytes more) (header_bytes f.header ++ tail);
+        beyond = omega (arith, at, all, two_bytes f.header);
+      })
 
   -- a fault behind the frames is one of the next frame, or lies behind a whole one
   pub lies_in_next : LiesInNext role limits xs t n r ⊎ LiesBehindNext xs t n
   lies_in_next = elim (compare_frames xs f.before t (header_bytes f.header ++ (masked_payload f.header.key f.payload ++ drop n (stream_bytes xs ++ t))) each f.sent (fault_parts role limits (stream_bytes xs ++ t) n r f)) [
-      | inl b ↦ behind_frames b.more b.sent b.frames b.bytes
-      | inr w ↦ absurd (in_frames w)
-    ]
+    | inl b ↦ behind_frames b.more b.sent b.frames b.bytes
+    | inr w ↦ absurd (in_frames w)
+  ]
 
 -- ---- the stream with the next frame
 
@@ -155,7 +157,6 @@ shift n m k j r q (inr same) e = inr (omega (arith, same.0), same.1)
 -- the frames that have come have no fault, and t follows them
 module _ (role : Role) (limits : LimitsValue) (xs : List KeyedFrame) (t : List ℕ) (each : AreSent xs) (no_close : AllByRecursion IsNoClose xs)
     (clean : (n : ℕ) (r : Reason) → n ≤ length (stream_bytes xs) → IsFaultAt role limits (stream_bytes xs ++ t) n r → ⊥) where
-
   pub fault_of_next : (k : ℕ) (r : Reason) → IsFaultOfNext role limits (open_message_of (frames_of xs)) t k r → IsFaultAt role limits (stream_bytes xs ++ t) (length (stream_bytes xs) + k) r
   fault_of_next k r found =
       let seen = header_bytes found.header ++ masked_payload found.header.key found.payload in
@@ -163,10 +164,19 @@ module _ (role : Role) (limits : LimitsValue) (xs : List KeyedFrame) (t : List �
       let size : length seen ≡ k = length-append (header_bytes found.header) (masked_payload found.header.key found.payload) ∙ ap (λ n. length (header_bytes found.header) + n) (length-masked_payload found.header.key found.payload) ∙ sym found.is_place in
       let all : length (stream_bytes xs ++ seen) ≡ length (stream_bytes xs) + k = length-append (stream_bytes xs) seen ∙ ap (λ n. length (stream_bytes xs) + n) size in
       let within : length (stream_bytes xs) + k ≤ length (stream_bytes xs ++ t) = subst (λ n. length (stream_bytes xs) + k ≤ n) (sym (ap (λ (l : List ℕ). length l) regroup ∙ length-append (stream_bytes xs ++ seen) found.rest ∙ ap (λ n. n + length found.rest) all)) (omega arith) in
-      record { before = xs; sent = each; no_close = no_close; header = found.header; is_header = found.is_header; payload = found.payload; are_bytes = found.are_bytes; within = found.within;
+      record {
+        before = xs;
+        sent = each;
+        no_close = no_close;
+        header = found.header;
+        is_header = found.is_header;
+        payload = found.payload;
+        are_bytes = found.are_bytes;
+        within = found.within;
         long = within;
         parts = ap (λ (l : List ℕ). take (length (stream_bytes xs) + k) l) regroup ∙ take_at (stream_bytes xs ++ seen) found.rest (length (stream_bytes xs) + k) all;
-        applies = found.applies }
+        applies = found.applies;
+      }
 
   -- no fault in what follows, where each lies in the next frame
   pub still_clean : HasNoFaultOfNext role limits (open_message_of (frames_of xs)) t → ((x : KeyedFrame) (more : List ℕ) → CanBeSent x → t ≡ frame_bytes x ++ more → length more ≡ 0) → HasNoFault role limits (stream_bytes xs ++ t)
@@ -188,11 +198,11 @@ module _ (role : Role) (limits : LimitsValue) (xs : List KeyedFrame) (t : List �
   first_of_next k r found = record {
     fault = fault_of_next k r found.fault;
     first = λ m q f.
-      elim (cases_lt (length (stream_bytes xs)) m) as (λ _. IsNoLater (length (stream_bytes xs) + k) r m q) [
-        | inr early ↦ absurd (clean m q early f)
-        | inl after ↦ elim (lies_in_next role limits xs t each m q f after) as (λ _. IsNoLater (length (stream_bytes xs) + k) r m q) [
-          | inl h ↦ subst (λ n. IsNoLater (length (stream_bytes xs) + k) r n q) (sym h.is_place) (shift h.place (length (stream_bytes xs)) k h.place r q (found.first h.place q h.fault) refl)
-          | inr p ↦ inl (omega (arith, p.beyond, within_front role limits (open_message_of (frames_of xs)) t k r found.fault p.next p.rest p.can p.parts))
-        ]
-      ];
+        elim (cases_lt (length (stream_bytes xs)) m) as (λ _. IsNoLater (length (stream_bytes xs) + k) r m q) [
+          | inr early ↦ absurd (clean m q early f)
+          | inl after ↦ elim (lies_in_next role limits xs t each m q f after) as (λ _. IsNoLater (length (stream_bytes xs) + k) r m q) [
+            | inl h ↦ subst (λ n. IsNoLater (length (stream_bytes xs) + k) r n q) (sym h.is_place) (shift h.place (length (stream_bytes xs)) k h.place r q (found.first h.place q h.fault) refl)
+            | inr p ↦ inl (omega (arith, p.beyond, within_front role limits (open_message_of (frames_of xs)) t k r found.fault p.next p.rest p.can p.parts))
+          ]
+        ];
   }

@@ -1,44 +1,24 @@
 -- The status of a session that isn't over, and after one more event.
-use Rattle.std.proofs.Common.{◌≡◌, ◌≢◌, ℕ, zero, suc, ◌+◌, ◌-◌, ◌*◌, ◌/◌, ◌%◌, ◌^◌, ◌<◌, ◌≤◌, ◌⊎◌, Bool, true, false, cond, List, [], ◌∷◌, ◌++◌, length, get_or, take, drop, Option, Some, None, refl, sym, ap, ◌∙◌, append_assoc, arith, inl, inr, subst}
-use Rattle.std.specs.Prelude.{map, filter, not, nat_lt, slice_index, ◌&&◌, ◌==◌, bit_xor, option_to_list}
+use Rattle.std.proofs.Common.{◌≡◌, ℕ, ◌⊎◌, Bool, true, false, cond, List, [], ◌∷◌, ◌++◌, Option, Some, None, refl, sym, ap, ◌∙◌, append_assoc, inl, inr, subst}
+use Rattle.std.specs.Prelude.{◌==◌}
 use Rattle.std.specs.List.{AllByRecursion, flat_map}
-use Rattle.std.proofs.lemmas.Bool.{cases_lt, lt-ltb, le-ltb, and_parts, ltb-true}
-use Rattle.std.proofs.lemmas.List.{append_cancel_left, length-append, append-nil, map-append, take_at, drop_at, take-append-le, take-append-drop, length-take, length-take-le}
-use Rattle.std.proofs.lemmas.Grind.{flat_map-append}
-use Rattle.ws_frame.specs.declared.role.Role.{Role}
-use Rattle.ws_frame.specs.declared.role.Role.TheVariants.{Client, Server}
-use Rattle.ws_frame.specs.declared.header.Form.{Form}
-use Rattle.ws_frame.specs.declared.header.Form.TheVariants.{Short, Two, Eight}
-use Rattle.ws_frame.specs.Header.{HeaderFields, IsHeader, IsKey, AreBytes, header_bytes, is_masked, CanHold}
-use Rattle.ws_frame.specs.Masking.{masked, masked_payload}
-use Rattle.ws_frame.specs.Frame.{Frame, KeyedFrame, CanBeSent, frame_bytes, stream_bytes, sent_as, shortest_form}
-use Rattle.ws_frame.specs.Stream.{SplitsInto, BeginsNone}
-use Rattle.ws_frame.proofs.Frames.{no_frame_begins, none_begins, sent_is_wire, frame_told}
-use Rattle.ws_frame.proofs.Headers.{same_header, same_parts}
-use Rattle.ws_frame.proofs.Masks.{length-masked, length-masked_payload, same_masked_payload, take-masked_payload, masked-append}
-use Rattle.ws_frame.proofs.Splits.{split_is_one}
-use Rattle.ws_text.specs.Text.{IsText, BeginsText}
-use Rattle.ws_session.specs.declared.message.Kind.{Kind}
-use Rattle.ws_session.specs.declared.message.Kind.TheVariants.{Text, Binary}
-use Rattle.ws_session.specs.declared.message.Message.{Message}
+use Rattle.std.proofs.lemmas.List.{append-nil, map-append}
+use Rattle.ws_frame.specs.Frame.{Frame, KeyedFrame, stream_bytes}
 use Rattle.ws_session.specs.declared.reason.Reason.{Reason}
-use Rattle.ws_session.specs.declared.reason.Reason.TheVariants.{ReservedBits, Opcode, MaskWrong, NotShortest, BadLength, ControlCut, ControlLong, NothingToContinue, MessageOpen, TooBig, NotText, TextCut, CloseOneByte, CloseCode, CloseReason}
 use Rattle.ws_session.specs.declared.event.Event.{Event}
 use Rattle.ws_session.specs.declared.event.Event.TheVariants as event
-use Rattle.ws_session.specs.Limits.{LimitsValue}
-use Rattle.ws_session.specs.Messages.{is_control, is_close, data_frames, Groups, before_first, with_frame, groups_of, kind_of, first_opcode, joined_payload, message_of, message_if_any, open_message_of}
-use Rattle.ws_session.specs.Faults.{frames_of, number_of, expects_key, open_payload, IsOfText, Applies, AppliesAtHeader, AppliesInPayload, IsNoClose, IsFaultAt, IsNoLater, IsFirstFault, HasNoFault}
-use Rattle.ws_session.specs.Events.{event_of_control, event_of, events_after, through_close, ending_before, events_of, IsFaultOf, HasEvents, close_in}
-use Rattle.ws_session.specs.NextFrame.{AreSent, BeginsNoFrame, header_of, IsFaultOfNext, HasNoFaultOfNext, IsFirstFaultOfNext, IsPartOfFrame, message_with, opened_with, event_behind, status_with, owed_at, IsAfter}
+use Rattle.ws_session.specs.Messages.{is_control, is_close, data_frames, groups_of, message_of, open_message_of}
+use Rattle.ws_session.specs.Faults.{frames_of, IsNoClose, HasNoFault}
+use Rattle.ws_session.specs.Events.{event_of, events_after, through_close, ending_before, events_of, IsFaultOf, close_in}
+use Rattle.ws_session.specs.NextFrame.{AreSent, BeginsNoFrame, message_with, status_with, owed_at}
 use Rattle.std.specs.Prelude.{◌||◌, nat_le}
 use Rattle.std.proofs.Common.{eqb-true}
 use Rattle.ws_session.specs.declared.status.Status.{Status}
 use Rattle.ws_session.specs.declared.status.Status.TheVariants as status
-use Rattle.ws_session.specs.Replies.{control_frame, close_frame, close_reply, reply_to, until_close, has_close, replies_of, under_key}
-use Rattle.ws_session.specs.Exchange.{SessionValue, SendingValue, HasExchanged, IsSendingOf, code_if_any, is_over, last_event, status_before_close, status_after, status_of, Takes, TakesNothing}
-use Rattle.ws_session.proofs.Faults.{fault_before, fault_later}
-use Rattle.ws_session.proofs.Growth.{events_after-append, one_events}
-use Rattle.ws_session.proofs.OpenMessage.{open_snoc, event_snoc}
+use Rattle.ws_session.specs.Replies.{control_frame, reply_to, until_close, has_close, replies_of}
+use Rattle.ws_session.specs.Exchange.{SessionValue, HasExchanged, IsSendingOf, is_over, last_event, status_before_close, status_after, status_of}
+use Rattle.ws_session.proofs.Growth.{events_after-append}
+use Rattle.ws_session.proofs.OpenMessage.{open_snoc}
 
 last_snoc : (es : List Event) (e : Event) → last_event (es ++ e ∷ []) ≡ Some e
 last_snoc [] e = refl

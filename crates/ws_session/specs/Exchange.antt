@@ -1,5 +1,8 @@
 -- What a session shows of the frames that it sent and the bytes that it took: RFC 6455 sections 4.1, 5.4 and 7.1.
-use Rattle.std.specs.Prelude.{◌≡◌, ℕ, ◌+◌, Bool, true, false, if◌then◌else◌, ◌<◌, ◌≤◌, List, [], ◌∷◌, ◌++◌, length, take, map, Option, Some, None, option_to_list}
+use Rattle.std.specs.Prelude.{◌≡◌, ℕ, Bool, true, false, if◌then◌else◌, ◌<◌, ◌≤◌, List, [], ◌∷◌, ◌++◌, length, take, map, Option, Some, None, option_to_list}
+use Rattle.std.specs.declared.alloc.Global.{Global}
+use Rattle.std.specs.declared.vec.Vec.{Vec}
+use Rattle.std.specs.List.{flat_map}
 use Rattle.ws_frame.specs.declared.role.Role.{Role}
 use Rattle.ws_frame.specs.Frame.{Frame, stream_bytes}
 use Rattle.ws_text.specs.Text.{HasUnfinished}
@@ -14,7 +17,7 @@ use Rattle.ws_session.specs.declared.status.Status.TheVariants.{Open, Closing, C
 use Rattle.ws_session.specs.declared.event.Taken.{Taken}
 use Rattle.ws_session.specs.Limits.{LimitsValue}
 use Rattle.ws_session.specs.Messages.{open_message_of}
-use Rattle.ws_session.specs.Faults.{frames_of, open_payload}
+use Rattle.ws_session.specs.Faults.{frames_of}
 use Rattle.ws_session.specs.Events.{HasEvents}
 use Rattle.ws_session.specs.Replies.{has_close, replies_of, under_key}
 
@@ -111,3 +114,7 @@ pub record TakesNothing (old new : SessionValue) (piece put_before put_after : L
   pub event : taken.event ≡ None
   pub unchanged : new ≡ old
   pub put : put_after ≡ put_before
+
+-- the bytes of some pieces, one after the other
+abbrev pub joined_pieces : List (Vec ℕ Global) → List ℕ
+joined_pieces pieces = flat_map (λ (piece : Vec ℕ Global). piece.items) pieces

@@ -1,16 +1,15 @@
 -- Where a stream breaks the rules, and which rule it breaks there: RFC 6455 sections 5.1 to 5.5, 7.4 and 8.1.
-use Rattle.std.specs.Prelude.{◌≡◌, ◌≢◌, ℕ, ◌+◌, ◌^◌, ◌≤◌, ◌<◌, ◌⊎◌, Bool, true, false, List, [], ◌∷◌, ◌++◌, length, take, map, Option, Some, None}
+use Rattle.std.specs.Prelude.{◌≡◌, ◌≢◌, ℕ, ◌+◌, ◌^◌, ◌≤◌, ◌<◌, ◌⊎◌, Bool, true, false, List, [], ◌++◌, length, take, map, Option, Some, None}
 use Rattle.std.specs.List.{AllByRecursion}
 use Rattle.ws_frame.specs.declared.role.Role.{Role}
 use Rattle.ws_frame.specs.declared.role.Role.TheVariants.{Client, Server}
-use Rattle.ws_frame.specs.declared.header.Form.{Form}
-use Rattle.ws_frame.specs.declared.header.Form.TheVariants.{Short, Two, Eight}
+use Rattle.ws_frame.specs.declared.header.Form.TheVariants.{Two, Eight}
 use Rattle.ws_frame.specs.Header.{HeaderFields, IsHeader, AreBytes, header_bytes, is_masked}
 use Rattle.ws_frame.specs.Masking.{masked_payload}
 use Rattle.ws_frame.specs.Frame.{Frame, KeyedFrame, CanBeSent, stream_bytes}
 use Rattle.ws_text.specs.Text.{IsText, BeginsText}
 use Rattle.ws_text.specs.Close.{CloseValue, HoldsCode, HasBadCode}
-use Rattle.ws_session.specs.declared.message.Kind.TheVariants.{Text, Binary}
+use Rattle.ws_session.specs.declared.message.Kind.TheVariants.{Text}
 use Rattle.ws_session.specs.declared.message.Message.{Message}
 use Rattle.ws_session.specs.declared.reason.Reason.{Reason}
 use Rattle.ws_session.specs.declared.reason.Reason.TheVariants.{ReservedBits, Opcode, MaskWrong, NotShortest, BadLength, ControlCut, ControlLong, NothingToContinue, MessageOpen, TooBig, NotText, TextCut, CloseOneByte, CloseCode, CloseReason}

@@ -6,3 +6,7 @@ pub mod Events
 pub mod Replies
 pub mod Exchange
 pub mod NextFrame
+pub mod Assembly
+pub mod Judging
+pub mod Inside
+pub mod Feeding

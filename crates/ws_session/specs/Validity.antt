@@ -1,5 +1,5 @@
 -- Sequences of frames that an endpoint may send: RFC 6455 sections 5.2 to 5.6, 7.4 and 8.1.
-use Rattle.std.specs.Prelude.{◌≡◌, ℕ, ◌≤◌, ◌⊎◌, Bool, true, false, List, [], ◌∷◌, length, Option}
+use Rattle.std.specs.Prelude.{◌≡◌, ℕ, ◌≤◌, ◌⊎◌, true, List, [], ◌∷◌, length, Option}
 use Rattle.std.specs.List.{AllByRecursion}
 use Rattle.ws_frame.specs.Frame.{Frame}
 use Rattle.ws_text.specs.Text.{IsText, BeginsText}

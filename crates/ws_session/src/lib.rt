@@ -4,18 +4,26 @@
 //! The layers above use one contract, that of `Session::take`: the events and the answers are those of the joined bytes.
 #![tactic(auto)]
 
+mod assembly;
 mod event;
+mod feeding;
+mod judging;
 mod laws;
 mod limits;
 mod message;
 mod reason;
+mod session;
 mod small;
 mod status;
 
 pub use event::{Event, Taken};
-pub use laws::{events_go_on, first_fault_stays, one_list_of_events};
+pub use feeding::{Events, Run, feed_all};
+pub use laws::{
+    bytes_after_the_end, events_go_on, first_fault_stays, one_list_of_events, replies_go_on,
+};
 pub use limits::Limits;
 pub use message::{Bytes, Kind, Message};
 pub use reason::Reason;
+pub use session::Session;
 pub use small::Small;
 pub use status::Status;

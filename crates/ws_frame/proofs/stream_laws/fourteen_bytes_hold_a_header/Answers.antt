@@ -1,4 +1,4 @@
-use Rattle.std.proofs.Common.{◌≡◌, ℕ, ◌+◌, ◌-◌, ◌%◌, ◌<◌, ◌≤◌, ◌⊎◌, List, ◌++◌, length, take, drop, Option, Some, None, refl, sym, ap, ◌∙◌, arith, inl, inr}
+use Rattle.std.proofs.Common.{◌≡◌, ℕ, ◌+◌, ◌%◌, ◌≤◌, List, ◌++◌, length, take, drop, Option, Some, None, refl, sym, ap, ◌∙◌, arith, inl, inr}
 use Rattle.std.specs.Prelude.{slice_index}
 use Rattle.std.proofs.lemmas.Bool.{cases_lt, cases_eq, lt-leb, le-leb}
 use Rattle.std.proofs.lemmas.List.{length-drop, length-take-le, take-append-drop, drop-drop}
@@ -6,9 +6,9 @@ use Rattle.ws_frame.specs.declared.header.Form.{Form}
 use Rattle.ws_frame.specs.declared.header.Form.TheVariants.{Short, Two, Eight}
 use Rattle.ws_frame.specs.Header.{AreBytes}
 use Rattle.ws_frame.specs.Parts.{LengthEnds, KeyEnds}
-use Rattle.ws_frame.specs.Reading.{Begins, BeginsNoHeader}
+use Rattle.ws_frame.specs.Reading.{BeginsNoHeader}
 use Rattle.ws_frame.proofs.Numbers.{AreBytes-drop, front_bytes}
-use Rattle.ws_frame.proofs.Headers.{two_ends, eight_ends, header_begins, header_parts}
+use Rattle.ws_frame.proofs.Headers.{two_ends, eight_ends, header_begins}
 use Rattle.ws_frame.proofs.stream_laws.fourteen_bytes_hold_a_header.Goals as goal
 
 record LengthWithin (bytes : List ℕ) : Type 0 where
@@ -40,17 +40,17 @@ key_within bytes from are early long =
     elim (cases_lt (slice_index bytes 1) 128) [
       | inl none ↦ record { key = None; at = from; ends = record { is_key = tt; bit = sym (lt-leb 128 (slice_index bytes 1) none); within = omega arith; layout = refl } }
       | inr some ↦
-        let size : length (take 4 (drop from bytes)) ≡ 4 = length-take-le 4 (drop from bytes) (omega (arith, length-drop from bytes)) in
-        record {
-          key = Some (take 4 (drop from bytes));
-          at = from + 4;
-          ends = record {
-            is_key = (size, front_bytes 4 (drop from bytes) (AreBytes-drop from bytes are));
-            bit = sym (le-leb 128 (slice_index bytes 1) some);
-            within = omega arith;
-            layout = sym (take-append-drop 4 (drop from bytes)) ∙ ap (λ (t : List ℕ). take 4 (drop from bytes) ++ t) (drop-drop 4 from bytes);
-          };
-        }
+          let size : length (take 4 (drop from bytes)) ≡ 4 = length-take-le 4 (drop from bytes) (omega (arith, length-drop from bytes)) in
+          record {
+            key = Some (take 4 (drop from bytes));
+            at = from + 4;
+            ends = record {
+              is_key = (size, front_bytes 4 (drop from bytes) (AreBytes-drop from bytes are));
+              bit = sym (le-leb 128 (slice_index bytes 1) some);
+              within = omega arith;
+              layout = sym (take-append-drop 4 (drop from bytes)) ∙ ap (λ (t : List ℕ). take 4 (drop from bytes) ++ t) (drop-drop 4 from bytes);
+            };
+          }
     ]
 
 holds_header : (bytes : List ℕ) → AreBytes bytes → 14 ≤ length bytes → BeginsNoHeader bytes → ⊥
