@@ -15,6 +15,8 @@ mod reason;
 mod session;
 mod small;
 mod status;
+#[cfg(test)]
+mod tests;
 
 pub use event::{Event, Taken};
 pub use feeding::{Events, Run, feed_all};
