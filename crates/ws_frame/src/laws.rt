@@ -1,9 +1,10 @@
 //! Laws over the definitions, each the contract of a function that does nothing: proofs of the layers above call them.
 
-ghost use Rattle.std.specs.Prelude.{◌≡◌, ◌<◌, ◌^◌, ◌↔◌, ℕ, List, ◌++◌};
+ghost use Rattle.std.specs.Prelude.{◌≡◌, ◌<◌, ◌^◌, ◌↔◌, ℕ, List, ◌++◌, length};
 ghost use Rattle.ws_frame.specs.Header.{AreBytes, HeaderFields, IsHeaderOf, IsShortestForm};
 ghost use Rattle.ws_frame.specs.Masking.{IsMasked, masked};
 ghost use Rattle.ws_frame.specs.Frame.{WireFrame, IsWireFrame, wire_bytes, KeyedFrame, CanBeSent, frame_bytes, shortest_form};
+ghost use Rattle.ws_frame.specs.Reading.{BeginsNoHeader};
 ghost use Rattle.ws_frame.specs.Stream.{SplitsInto, SplitsIntoAnyForm};
 ghost use Rattle.ws_frame.specs.Lines.{AreLinesOf};
 ghost use Rattle.ws_frame.specs.declared.header.Form.{Form};
@@ -14,6 +15,12 @@ ghost use Rattle.ws_frame.specs.declared.showing.ShowEnd.{ShowEnd};
 pub fn no_header_begins_another()
     ensures { (g h : HeaderFields) (a b x y : List ℕ) → IsHeaderOf g a → IsHeaderOf h b → a ++ x ≡ b ++ y → (g ≡ h) × (a ≡ b) × (x ≡ y) }
 {}
+
+/// A header has at most fourteen bytes: where none stands at the front there are fewer.
+pub fn fourteen_bytes_hold_a_header()
+    ensures { (bytes : List ℕ) → AreBytes bytes → BeginsNoHeader bytes → length bytes < 14 }
+{
+}
 
 /// No frame begins another, in whatever form their headers are.
 pub fn no_wire_frame_begins_another()

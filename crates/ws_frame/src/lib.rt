@@ -4,6 +4,7 @@
 //! that stands at the front, and no header or frame begins another, so a stream is its frames in one way.
 #![tactic(auto)]
 
+mod appending;
 mod header;
 pub mod laws;
 mod line;
@@ -16,6 +17,7 @@ mod tests;
 mod watching;
 mod writing;
 
+pub use appending::{NoMemory, append_frame};
 pub use header::{Form, Header};
 pub use masking::mask;
 pub use reading::{HeaderRead, read_header};

@@ -1,0 +1,16 @@
+pub mod Faults
+pub mod Streams
+pub mod Growth
+pub mod Places
+pub mod Next
+pub mod OpenMessage
+pub mod Statuses
+pub mod Growing
+pub mod Taking
+pub mod Fresh
+pub mod HeaderReasons
+pub mod Payloads
+pub mod Frames
+pub mod Views
+pub mod Over
+pub mod FedPieces

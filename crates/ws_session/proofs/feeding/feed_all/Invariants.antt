@@ -1,0 +1,8 @@
+use Rattle.std.proofs.Common.{take}
+use Rattle.ws_session.specs.Exchange.{joined_pieces}
+use Rattle.ws_session.specs.Feeding.{HasFed}
+use Rattle.ws_session.proofs.feeding.feed_all.Given as goal
+
+-- the pieces so far were fed
+abbrev pub invariant-loop-piece : goal.invariant-loop-piece
+invariant-loop-piece l = HasFed l.fn.role l.fn.limits l.key l.session l.events.items l.put.items (joined_pieces (take l.piece-index l.pieces))

@@ -1,0 +1,5 @@
+use Rattle.ws_session.proofs.Over.{over_agrees}
+use Rattle.ws_session.proofs.laws.bytes_after_the_end.Goals as goal
+
+pub returns : goal.returns
+returns c = over_agrees

@@ -1,0 +1,5 @@
+use Rattle.ws_session.proofs.Growth.{events_front}
+use Rattle.ws_session.proofs.laws.events_go_on.Goals as goal
+
+pub returns : goal.returns
+returns c = events_front

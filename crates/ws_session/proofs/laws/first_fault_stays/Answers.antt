@@ -1,0 +1,5 @@
+use Rattle.ws_session.proofs.Faults.{first_stays}
+use Rattle.ws_session.proofs.laws.first_fault_stays.Goals as goal
+
+pub returns : goal.returns
+returns c = first_stays

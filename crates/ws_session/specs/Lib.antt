@@ -1,0 +1,12 @@
+pub mod Limits
+pub mod Messages
+pub mod Validity
+pub mod Faults
+pub mod Events
+pub mod Replies
+pub mod Exchange
+pub mod NextFrame
+pub mod Assembly
+pub mod Judging
+pub mod Inside
+pub mod Feeding

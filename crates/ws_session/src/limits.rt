@@ -1,0 +1,52 @@
+//! What a session takes at most (RFC 6455 section 10.4 leaves the numbers to the endpoint).
+
+ghost use Rattle.std.specs.Prelude.{◌≡◌, ◌≤◌, MatchOption};
+ghost use Rattle.ws_session.specs.Limits.{LimitsValue, AreLimits};
+
+use std::marker::Model;
+
+/// The most that a limit on a message's payload can be, in bytes.
+const MOST: u32 = 16_777_216;
+
+/// What a session takes at most: the payload bytes of one message.
+#[derive(Clone, Copy, Debug, PartialEq, Eq)]
+pub struct Limits {
+    max_message: u32,
+    max_frame: u32,
+}
+
+impl Model for Limits {
+    ghost use Rattle.ws_session.specs.Limits.{LimitsValue, AreLimits};
+
+    ghost Value = { LimitsValue };
+
+    ghost view = { λ l. record { max_message = l.max_message; max_frame = l.max_frame } };
+
+    ghost invariant = { λ l. AreLimits (record { max_message = l.max_message; max_frame = l.max_frame }) };
+
+    ghost inverse = { λ l. record { max_message = l.max_message; max_frame = l.max_frame } };
+}
+
+impl Limits {
+    /// Messages of at most so many payload bytes. `None` outside 1 to 16,777,216.
+    pub fn new(max_message: u32) -> Option<Limits>
+        ensures { let limits : LimitsValue = record { max_message = max_message; max_frame = max_message }
+            in MatchOption result (¬ (AreLimits limits)) (λ l. (l ≡ limits) × AreLimits limits) }
+    {
+        if max_message == 0 || max_message > MOST {
+            return None;
+        }
+        Some(Limits {
+            max_message,
+            max_frame: max_message,
+        })
+    }
+
+    /// The most payload bytes of one message.
+    pub fn max_message(&self) -> u32
+        ensures value { result ≡ self.now.max_message }
+        ensures bound { result ≤ 16777216 }
+    {
+        self.max_message
+    }
+}

@@ -1,0 +1,62 @@
+//! Why a session fails its connection (RFC 6455 sections 7.1.7 and 7.4.1).
+
+ghost use Rattle.std.specs.Prelude.{◌≡◌};
+ghost use Rattle.ws_session.specs.Replies.{close_code_of};
+
+/// Why a session failed: what the peer's bytes did. Of several at one place the one with the lowest number is told.
+#[derive(Clone, Copy, Debug, PartialEq, Eq)]
+pub enum Reason {
+    /// A reserved bit is set (section 5.2). Told, like all up to `TooBig`, at the last byte of the header.
+    ReservedBits = 1,
+    /// The opcode is reserved: 3 to 7, or 11 to 15.
+    Opcode = 2,
+    /// A server's peer sent a frame without a key, or a client's peer one with a key (section 5.1).
+    MaskWrong = 3,
+    /// The length is in a longer form than it needs.
+    NotShortest = 4,
+    /// The top bit of an eight-byte length is set.
+    BadLength = 5,
+    /// A control frame without FIN (section 5.5).
+    ControlCut = 6,
+    /// A control frame of more than 125 payload bytes.
+    ControlLong = 7,
+    /// A continuation where no message is open (section 5.4).
+    NothingToContinue = 8,
+    /// A new message inside an open one.
+    MessageOpen = 9,
+    /// The frame takes its message above the limit.
+    TooBig = 10,
+    /// Nothing can complete the text: told at the first byte after which that is so (section 8.1).
+    NotText = 11,
+    /// The message ends inside a character. Told, like all below, at the last byte of the frame.
+    TextCut = 12,
+    /// The close payload is half a code (section 5.5.1).
+    CloseOneByte = 13,
+    /// The close code may not stand in a close frame (section 7.4).
+    CloseCode = 14,
+    /// The close reason is no text.
+    CloseReason = 15,
+}
+
+impl Reason {
+    /// The code of the close frame that tells the reason.
+    pub fn close_code(self) -> u16
+        ensures { result ≡ close_code_of self }
+    {
+        match self {
+            Reason::ReservedBits
+            | Reason::Opcode
+            | Reason::MaskWrong
+            | Reason::NotShortest
+            | Reason::BadLength
+            | Reason::ControlCut
+            | Reason::ControlLong
+            | Reason::NothingToContinue
+            | Reason::MessageOpen
+            | Reason::CloseOneByte
+            | Reason::CloseCode => 1002,
+            Reason::NotText | Reason::TextCut | Reason::CloseReason => 1007,
+            Reason::TooBig => 1009,
+        }
+    }
+}
