@@ -1,0 +1,76 @@
+-- From the answer to a head at the front to what is said of the bytes.
+use Rattle.std.proofs.Common.{arith, ℕ, ◌≡◌, ◌≤◌, List, [], ◌∷◌, length, ap, sym, ◌∙◌, take, length-take, inl, inr}
+use Rattle.std.specs.Prelude.{⊤}
+use Rattle.std.proofs.lemmas.List.{length-map}
+use Rattle.httparse.specs.Grammar.{Field}
+use Rattle.httparse.specs.Spans.{AreFieldsAt, header_bytes, name_and_value}
+use Rattle.httparse.specs.declared.spans.HeaderSpan.{HeaderSpan}
+use Rattle.ws_upgrade.specs.Heads.{RequestParts, ResponseParts, RequestMeets, ResponseMeets, request_order, response_order, request_parts, response_parts, IsFirstUnmet, IsRequestRefusal, IsResponseRefusal}
+use Rattle.ws_upgrade.specs.Reading.{JudgesRequest, RefusesRequest, IsRequestRead, JudgesResponse, RefusesResponse, IsResponseRead}
+use Rattle.ws_upgrade.specs.declared.faults.HeadFault.{HeadFault}
+use Rattle.ws_upgrade.specs.declared.faults.HeadFault.TheVariants.{Head, TooLarge}
+use Rattle.ws_upgrade.specs.declared.requests.RequestRead.{RequestRead}
+use Rattle.ws_upgrade.specs.declared.requests.RequestRead.TheVariants.{Need as NeedRequest, Got as GotRequest, Refused as RefusedRequest}
+use Rattle.ws_upgrade.specs.declared.responses.ResponseRead.{ResponseRead}
+use Rattle.ws_upgrade.specs.declared.responses.ResponseRead.TheVariants.{Need as NeedResponse, Got as GotResponse, Refused as RefusedResponse}
+
+-- a head has no more fields than headers that cover them
+pub few_fields : (buf : List ℕ) (headers : List HeaderSpan) (count : ℕ) (fields : List Field) → AreFieldsAt buf headers count fields
+    → length headers ≡ 64 → length fields ≤ 64
+few_fields buf headers count fields at n =
+    let covered = take count headers in
+    let same : length covered ≡ length fields =
+    sym (length-map covered (header_bytes buf)) ∙ ap length at ∙ length-map fields name_and_value in
+    omega (arith, same, n, length-take count headers)
+
+-- the fault stands nowhere in the list
+Lacks : HeadFault → List HeadFault → Type 0
+Lacks fault [] = ⊤
+Lacks fault (first ∷ others) = ¬ (fault ≡ first) × Lacks fault others
+
+no_refusal : (Meets : HeadFault → Type 0) (order : List HeadFault) (fault : HeadFault) → Lacks fault order → IsFirstUnmet Meets order fault → ⊥
+unfolding Lacks
+no_refusal Meets [] fault lacks refusal = refusal
+no_refusal Meets (first ∷ others) fault lacks refusal =
+    elim refusal [
+      | inl here ↦ lacks.0 here.0
+      | inr later ↦ no_refusal Meets others fault lacks.1 later.1
+    ]
+
+no_head_request : (request : RequestParts) → IsRequestRefusal request Head → ⊥
+unfolding Lacks
+no_head_request request = no_refusal (RequestMeets request) request_order Head ((λ e. cc), ((λ e. cc), ((λ e. cc), ((λ e. cc), ((λ e. cc), ((λ e. cc), ((λ e. cc), tt)))))))
+
+too_large_request : (request : RequestParts) → IsRequestRefusal request TooLarge → ⊥
+unfolding Lacks
+too_large_request request = no_refusal (RequestMeets request) request_order TooLarge ((λ e. cc), ((λ e. cc), ((λ e. cc), ((λ e. cc), ((λ e. cc), ((λ e. cc), ((λ e. cc), tt)))))))
+
+refuses_request : (bytes : List ℕ) (fault : HeadFault) → JudgesRequest bytes (RefusedRequest fault) → RefusesRequest bytes fault
+refuses_request bytes Head judged = absurd (no_head_request (request_parts judged.0) judged.3)
+refuses_request bytes TooLarge judged = absurd (too_large_request (request_parts judged.0) judged.3)
+refuses_request bytes fault judged = judged
+
+-- the answer to a head at the front
+pub request_read : (bytes : List ℕ) (answer : RequestRead) → JudgesRequest bytes answer → IsRequestRead bytes answer
+request_read bytes NeedRequest judged = absurd judged.3
+request_read bytes (GotRequest upgrade used) judged = judged
+request_read bytes (RefusedRequest fault) judged = refuses_request bytes fault judged
+
+no_head_response : (nonce : List ℕ) (response : ResponseParts) → IsResponseRefusal nonce response Head → ⊥
+unfolding Lacks
+no_head_response nonce response = no_refusal (ResponseMeets nonce response) response_order Head ((λ e. cc), ((λ e. cc), ((λ e. cc), ((λ e. cc), ((λ e. cc), ((λ e. cc), ((λ e. cc), tt)))))))
+
+too_large_response : (nonce : List ℕ) (response : ResponseParts) → IsResponseRefusal nonce response TooLarge → ⊥
+unfolding Lacks
+too_large_response nonce response = no_refusal (ResponseMeets nonce response) response_order TooLarge ((λ e. cc), ((λ e. cc), ((λ e. cc), ((λ e. cc), ((λ e. cc), ((λ e. cc), ((λ e. cc), tt)))))))
+
+refuses_response : (nonce bytes : List ℕ) (fault : HeadFault) → JudgesResponse nonce bytes (RefusedResponse fault) → RefusesResponse nonce bytes fault
+refuses_response nonce bytes Head judged = absurd (no_head_response nonce (response_parts judged.0) judged.3)
+refuses_response nonce bytes TooLarge judged = absurd (too_large_response nonce (response_parts judged.0) judged.3)
+refuses_response nonce bytes fault judged = judged
+
+-- the answer to a head at the front
+pub response_read : (nonce bytes : List ℕ) (answer : ResponseRead) → JudgesResponse nonce bytes answer → IsResponseRead nonce bytes answer
+response_read nonce bytes NeedResponse judged = absurd judged.3
+response_read nonce bytes (GotResponse used) judged = judged
+response_read nonce bytes (RefusedResponse fault) judged = refuses_response nonce bytes fault judged

@@ -1,0 +1,23 @@
+use Rattle.std.proofs.Common.{rules, arith, inr}
+use Rattle.httparse.specs.Spans.{IsResponseOf}
+use Rattle.httparse.specs.Grammar.{HasNoResponse, MayBecomeResponse}
+use Rattle.ws_upgrade.proofs.Judged.{few_fields, response_read}
+use Rattle.ws_upgrade.proofs.responses.read_response.Goals as goal
+
+pub returns-in-Ok-Complete-clause-read : goal.returns-in-Ok-Complete-clause-read
+returns-in-Ok-Complete-clause-read c =
+    let found : IsResponseOf c.head_part-front.result.now c.parse_response.new.headers c.in-Ok-Complete.head = search rules in
+    let at = found.1 in
+    response_read c.args.nonce c.args.bytes.now c.answer.result (
+      found.0,
+      c.in-Ok-Complete.head.len,
+      record { reads = rw (← c.head_part-front.ensures) at.reads; whole = at.len; headers = few_fields c.head_part-front.result.now c.parse_response.new.headers c.in-Ok-Complete.head.headers found.0.fields at.fields c.parse_response.auto.headers },
+      c.answer.ensures found.0 at,
+    )
+
+pub returns-else-bytes-lt-MAX_HEAD-clause-read : goal.returns-else-bytes-lt-MAX_HEAD-clause-read
+returns-else-bytes-lt-MAX_HEAD-clause-read c =
+    let front = c.head_part-front.result.now in
+    let none : HasNoResponse front = search rules in
+    let may : MayBecomeResponse front = search rules in
+    inr (omega arith, rw (← c.head_part-front.ensures) (none, may))

@@ -1,0 +1,6 @@
+pub mod Accept
+pub mod Members
+pub mod Heads
+pub mod Reading
+pub mod Texts
+pub mod Walking

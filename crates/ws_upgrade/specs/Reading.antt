@@ -1,0 +1,118 @@
+-- What reading the front of some bytes as a head answers. What a head is is the grammar of `httparse` alone: the one
+-- of RFC 9112 sections 2 to 5.
+use Rattle.std.specs.Prelude.{◌≡◌, ℕ, ◌<◌, ◌≤◌, List, length, take, drop, codes, ◌⊎◌}
+use Rattle.httparse.specs.Grammar.{RequestHead, ResponseHead, print_request, print_response, ReadsRequest, ReadsResponse, HasNoRequest, HasNoResponse, NeverHasRequest, NeverHasResponse, MayBecomeRequest, MayBecomeResponse}
+use Rattle.httparse.specs.Spans.{RequestExceeds, ResponseExceeds}
+use Rattle.ws_upgrade.specs.Accept.{accept_value_of}
+use Rattle.ws_upgrade.specs.Members.{IsOnlyValue}
+use Rattle.ws_upgrade.specs.Heads.{RequestParts, ResponseParts, request_parts, response_parts, IsOnlyKey, IsRequestRefusal, IsAcceptedRequest, IsResponseRefusal, IsAcceptedResponse}
+use Rattle.ws_upgrade.specs.declared.faults.HeadFault.{HeadFault}
+use Rattle.ws_upgrade.specs.declared.faults.HeadFault.TheVariants.{Head, TooLarge}
+use Rattle.ws_upgrade.specs.declared.requests.Upgrade.{Upgrade}
+use Rattle.ws_upgrade.specs.declared.requests.RequestRead.{RequestRead}
+use Rattle.ws_upgrade.specs.declared.requests.RequestRead.TheVariants.{Need as NeedRequest, Got as GotRequest, Refused as RefusedRequest}
+use Rattle.ws_upgrade.specs.declared.responses.ResponseRead.{ResponseRead}
+use Rattle.ws_upgrade.specs.declared.responses.ResponseRead.TheVariants.{Need as NeedResponse, Got as GotResponse, Refused as RefusedResponse}
+
+-- a head is looked for in so many bytes, our choice
+abbrev pub max_head : ℕ
+max_head = 8192
+
+-- and has at most so many headers, our choice
+abbrev pub max_headers : ℕ
+max_headers = 64
+
+-- the bytes in which a head is looked for
+abbrev pub head_part : List ℕ → List ℕ
+head_part bytes = take max_head bytes
+
+-- ---- requests
+
+-- this head stands at the front, whole and within both limits; it is the first `len` bytes
+pub record BeginsWithRequest (bytes : List ℕ) (head : RequestHead) (len : ℕ) : Type 0 where
+  pub reads : ReadsRequest (head_part bytes) head (drop len (head_part bytes))
+  pub whole : len ≡ length (print_request head)
+  pub headers : length head.fields ≤ max_headers
+
+-- what is handed out of an accepted request
+pub record IsUpgradeOf (request : RequestParts) (upgrade : Upgrade) : Type 0 where
+  pub host : IsOnlyValue (codes "Host") request.headers upgrade.host.now
+  pub path : upgrade.path.now ≡ request.target
+  pub accept : (key : List ℕ) × IsOnlyKey request.headers key × (upgrade.accept ≡ accept_value_of key)
+
+-- the request is accepted, and this is handed out
+pub record OpensRequest (request : RequestParts) (upgrade : Upgrade) : Type 0 where
+  pub accepted : IsAcceptedRequest request
+  pub parts : IsUpgradeOf request upgrade
+
+-- no front of these bytes is a head, and some bytes behind them could make one, or a request ends inside its target
+abbrev pub IsUnfinishedRequest : List ℕ → Type 0
+IsUnfinishedRequest bytes = HasNoRequest (head_part bytes) × MayBecomeRequest (head_part bytes)
+
+-- more headers than the limit stand there, or an unfinished head has all bytes of the limit
+abbrev pub IsTooLargeRequest : List ℕ → Type 0
+IsTooLargeRequest bytes =
+    RequestExceeds max_headers (head_part bytes) ⊎ ((max_head ≤ length bytes) × IsUnfinishedRequest bytes)
+
+-- what is answered to the head at the front
+abbrev pub AnswersRequest : RequestParts → ℕ → RequestRead → Type 0
+AnswersRequest request len NeedRequest = ⊥
+AnswersRequest request len (GotRequest upgrade used) = (used ≡ len) × OpensRequest request upgrade
+AnswersRequest request len (RefusedRequest fault) = IsRequestRefusal request fault
+
+-- the answer is about a head at the front
+abbrev pub JudgesRequest : List ℕ → RequestRead → Type 0
+JudgesRequest bytes answer =
+    (head : RequestHead) × (len : ℕ) × BeginsWithRequest bytes head len × AnswersRequest (request_parts head) len answer
+
+-- what a refusal says of the bytes: Head, that no continuation of them is a head
+abbrev pub RefusesRequest : List ℕ → HeadFault → Type 0
+RefusesRequest bytes Head = NeverHasRequest (head_part bytes)
+RefusesRequest bytes TooLarge = IsTooLargeRequest bytes
+RefusesRequest bytes fault = JudgesRequest bytes (RefusedRequest fault)
+
+-- what is answered to some bytes
+abbrev pub IsRequestRead : List ℕ → RequestRead → Type 0
+IsRequestRead bytes NeedRequest = (length bytes < max_head) × IsUnfinishedRequest bytes
+IsRequestRead bytes (GotRequest upgrade used) = JudgesRequest bytes (GotRequest upgrade used)
+IsRequestRead bytes (RefusedRequest fault) = RefusesRequest bytes fault
+
+-- ---- responses
+
+-- this head stands at the front, whole and within both limits; it is the first `len` bytes
+pub record BeginsWithResponse (bytes : List ℕ) (head : ResponseHead) (len : ℕ) : Type 0 where
+  pub reads : ReadsResponse (head_part bytes) head (drop len (head_part bytes))
+  pub whole : len ≡ length (print_response head)
+  pub headers : length head.fields ≤ max_headers
+
+-- no front of these bytes is a head, and some bytes behind them could make one
+abbrev pub IsUnfinishedResponse : List ℕ → Type 0
+IsUnfinishedResponse bytes = HasNoResponse (head_part bytes) × MayBecomeResponse (head_part bytes)
+
+-- more headers than the limit stand there, or an unfinished head has all bytes of the limit
+abbrev pub IsTooLargeResponse : List ℕ → Type 0
+IsTooLargeResponse bytes =
+    ResponseExceeds max_headers (head_part bytes) ⊎ ((max_head ≤ length bytes) × IsUnfinishedResponse bytes)
+
+-- what is answered to the head at the front
+abbrev pub AnswersResponse : List ℕ → ResponseParts → ℕ → ResponseRead → Type 0
+AnswersResponse nonce response len NeedResponse = ⊥
+AnswersResponse nonce response len (GotResponse used) = (used ≡ len) × IsAcceptedResponse nonce response
+AnswersResponse nonce response len (RefusedResponse fault) = IsResponseRefusal nonce response fault
+
+-- the answer is about a head at the front
+abbrev pub JudgesResponse : List ℕ → List ℕ → ResponseRead → Type 0
+JudgesResponse nonce bytes answer =
+    (head : ResponseHead) × (len : ℕ) × BeginsWithResponse bytes head len × AnswersResponse nonce (response_parts head) len answer
+
+-- what a refusal says of the bytes: Head, that no continuation of them is a head
+abbrev pub RefusesResponse : List ℕ → List ℕ → HeadFault → Type 0
+RefusesResponse nonce bytes Head = NeverHasResponse (head_part bytes)
+RefusesResponse nonce bytes TooLarge = IsTooLargeResponse bytes
+RefusesResponse nonce bytes fault = JudgesResponse nonce bytes (RefusedResponse fault)
+
+-- what is answered to some bytes
+abbrev pub IsResponseRead : List ℕ → List ℕ → ResponseRead → Type 0
+IsResponseRead nonce bytes NeedResponse = (length bytes < max_head) × IsUnfinishedResponse bytes
+IsResponseRead nonce bytes (GotResponse used) = JudgesResponse nonce bytes (GotResponse used)
+IsResponseRead nonce bytes (RefusedResponse fault) = RefusesResponse nonce bytes fault

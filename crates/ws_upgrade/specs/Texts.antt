@@ -1,0 +1,81 @@
+-- The heads that are written: RFC 6455 sections 4.1, 4.2.2 and 4.4.
+use Rattle.std.specs.Prelude.{◌≡◌, ℕ, ◌≤◌, List, [], ◌∷◌, ◌++◌, length, codes, Bool, ◌||◌, ◌==◌, All, IsTrue, slice_get, Some}
+use Rattle.std.specs.List.{flat_map, list_any}
+use Rattle.std.specs.Char.{is_ascii_alphanumeric}
+use Rattle.ws_upgrade.specs.Accept.{key_of}
+use Rattle.ws_upgrade.specs.declared.faults.HeadFault.{HeadFault}
+use Rattle.ws_upgrade.specs.declared.faults.HeadFault.TheVariants.{WsVersion}
+
+-- a line end: CR LF
+abbrev pub line_end : List ℕ
+line_end = 13 ∷ 10 ∷ []
+
+-- the bytes of a head of these lines: each with its line end, and an empty line behind them
+abbrev pub head_bytes : List (List ℕ) → List ℕ
+head_bytes lines = flat_map (λ line. line ++ line_end) lines ++ line_end
+
+-- the first line of a request for this path
+abbrev pub request_line : List ℕ → List ℕ
+request_line path = codes "GET " ++ path ++ codes " HTTP/1.1"
+
+-- the line of a header
+abbrev pub header_line : List ℕ → List ℕ → List ℕ
+header_line name value = name ++ codes ": " ++ value
+
+-- ---- what a client asks
+
+-- a host that can be asked for, our choice: 1 to 255 visible ASCII characters
+abbrev pub IsHost : List ℕ → Type 0
+IsHost host = (1 ≤ length host) × (length host ≤ 255) × All (λ byte. (0x21 ≤ byte) × (byte ≤ 0x7e)) host
+
+-- a letter, a digit or one of /-._~?=&%
+abbrev pub is_path_byte : ℕ → Bool
+is_path_byte byte = is_ascii_alphanumeric byte || list_any (λ other. other == byte) (codes "/-._~?=&%")
+
+abbrev pub slash : ℕ
+slash = 47
+
+-- a path that can be asked for, our choice: a slash first, at most 2048 bytes, and only those above
+abbrev pub IsPath : List ℕ → Type 0
+IsPath path = (slice_get path 0 ≡ Some slash) × (length path ≤ 2048) × All (λ byte. IsTrue (is_path_byte byte)) path
+
+-- the request of a client with this key (section 4.1)
+abbrev pub request_text : List ℕ → List ℕ → List ℕ → List ℕ
+request_text host path key = head_bytes (
+    request_line path
+    ∷ header_line (codes "Host") host
+    ∷ header_line (codes "Upgrade") (codes "websocket")
+    ∷ header_line (codes "Connection") (codes "Upgrade")
+    ∷ header_line (codes "Sec-WebSocket-Key") key
+    ∷ header_line (codes "Sec-WebSocket-Version") (codes "13")
+    ∷ [])
+
+-- the request of a client with this nonce
+abbrev pub request_bytes : List ℕ → List ℕ → List ℕ → List ℕ
+request_bytes host path nonce = request_text host path (key_of nonce)
+
+-- ---- what a server answers
+
+-- the response that accepts, with this accept value (section 4.2.2)
+abbrev pub response_bytes : List ℕ → List ℕ
+response_bytes accept = head_bytes (
+    codes "HTTP/1.1 101 Switching Protocols"
+    ∷ header_line (codes "Upgrade") (codes "websocket")
+    ∷ header_line (codes "Connection") (codes "Upgrade")
+    ∷ header_line (codes "Sec-WebSocket-Accept") accept
+    ∷ [])
+
+-- the response that refuses: of another version the one that is spoken is told (section 4.4)
+abbrev pub refusal_bytes : HeadFault → List ℕ
+refusal_bytes WsVersion = head_bytes (
+    codes "HTTP/1.1 426 Upgrade Required"
+    ∷ header_line (codes "Upgrade") (codes "websocket")
+    ∷ header_line (codes "Connection") (codes "Upgrade, close")
+    ∷ header_line (codes "Sec-WebSocket-Version") (codes "13")
+    ∷ header_line (codes "Content-Length") (codes "0")
+    ∷ [])
+refusal_bytes fault = head_bytes (
+    codes "HTTP/1.1 400 Bad Request"
+    ∷ header_line (codes "Connection") (codes "close")
+    ∷ header_line (codes "Content-Length") (codes "0")
+    ∷ [])

@@ -1,0 +1,151 @@
+//! Reading the head of a request (RFC 6455 section 4.2.1).
+
+ghost use Rattle.std.specs.Prelude.{◌≡◌, ℕ, List, MatchOption, MatchResult};
+ghost use Rattle.httparse.specs.Grammar.{RequestHead};
+ghost use Rattle.httparse.specs.Spans.{IsRequestAt, IsRequestWithin};
+ghost use Rattle.ws_upgrade.specs.Heads.{RequestParts, request_parts, IsOnlyKey, IsRequestRefusal};
+ghost use Rattle.ws_upgrade.specs.Reading.{head_part, BeginsWithRequest, OpensRequest, AnswersRequest, IsRequestRead};
+
+use crate::accepting::{accept_of, is_key};
+use crate::faults::HeadFault;
+use crate::headers::Headers;
+use httparse::spans::{EMPTY_HEADER_SPAN, HeaderSpan, RequestSpans, parse_request};
+use httparse::{Error, Status};
+
+/// A head is looked for in so many bytes.
+pub const MAX_HEAD: usize = 8192;
+
+/// The most headers that a head has.
+pub const MAX_HEADERS: usize = 64;
+
+/// What an accepted request asks for. The slices are parts of the bytes that were read.
+#[derive(Clone, Copy, Debug, PartialEq, Eq)]
+pub struct Upgrade<'a> {
+    /// The value of its `Host` header.
+    pub host: &'a [u8],
+    /// Its target.
+    pub path: &'a [u8],
+    /// The accept value of its key, for `response`.
+    pub accept: [u8; 28],
+}
+
+/// What stands at the front of some bytes.
+#[derive(Clone, Copy, Debug, PartialEq, Eq)]
+pub enum RequestRead<'a> {
+    /// Less than a whole head: read more.
+    Need,
+    /// A head that asks for an upgrade, and its length.
+    Got { upgrade: Upgrade<'a>, used: usize },
+    /// The bytes are to be refused.
+    Refused(HeadFault),
+}
+
+/// Reads the head of a request at the front of some bytes. It takes no memory. What follows the
+/// head doesn't matter.
+///
+/// A head is what the grammar of `httparse` says, looked for in the first 8192 bytes, with at most
+/// 64 headers. `Need` comes where more bytes may complete one; also inside a target, where a byte
+/// that is no UTF-8 may be told only at the target's end. Refusals are told in this order: `Head`,
+/// `TooLarge`, `Method`, `Version`, `Host`, `Upgrade`, `Connection`, `Key`, `WsVersion`; where
+/// there are more than 64 headers, or a target doesn't end, either of the first two may be told.
+/// Offers of extensions and subprotocols are ignored.
+pub fn read_request(bytes: &[u8]) -> RequestRead<'_>
+    // Of each head that stands at the front: it is accepted with its parts, or refused with the
+    // first requirement that it doesn't meet.
+    ensures judged { (head : RequestHead) (len : ℕ) → BeginsWithRequest bytes.now head len
+        → AnswersRequest (request_parts head) len result }
+
+    // What each answer says of the bytes.
+    ensures read { IsRequestRead bytes.now result }
+{
+    let front = head_part(bytes);
+    let mut spans = [EMPTY_HEADER_SPAN; MAX_HEADERS];
+    match parse_request(front, &mut spans) {
+        Ok(Status::Complete(head)) => answer(front, &spans, head),
+        Ok(Status::Partial) => {
+            if bytes.len() < MAX_HEAD {
+                RequestRead::Need
+            } else {
+                RequestRead::Refused(HeadFault::TooLarge)
+            }
+        }
+        Err(error) => match error {
+            Error::TooManyHeaders => RequestRead::Refused(HeadFault::TooLarge),
+            _ => RequestRead::Refused(HeadFault::Head),
+        },
+    }
+}
+
+/// The bytes in which a head is looked for.
+pub(crate) fn head_part(bytes: &[u8]) -> &[u8]
+    ensures { result.now ≡ head_part bytes.now }
+{
+    if bytes.len() < MAX_HEAD {
+        bytes
+    } else {
+        &bytes[..MAX_HEAD]
+    }
+}
+
+/// What is answered to the head that was found.
+fn answer<'b>(front: &'b [u8], spans: &[HeaderSpan], head: RequestSpans) -> RequestRead<'b>
+    requires { IsRequestWithin front.now spans.now head }
+    ensures { (grammar : RequestHead) → IsRequestAt front.now spans.now head grammar
+        → AnswersRequest (request_parts grammar) head.len result }
+{
+    let headers = Headers::new(front, &spans[..head.headers]);
+    let (method, target) = (head.method.of(front), head.path.of(front));
+    match judge(method, target, head.version, &headers) {
+        Ok(upgrade) => RequestRead::Got {
+            upgrade,
+            used: head.len,
+        },
+        Err(fault) => RequestRead::Refused(fault),
+    }
+}
+
+/// What a request asks for, or the first requirement that it doesn't meet.
+fn judge<'b>(
+    method: &[u8],
+    target: &'b [u8],
+    minor: u8,
+    headers: &Headers<'_, 'b>,
+) -> Result<Upgrade<'b>, HeadFault>
+    ensures { let request : RequestParts = record { method = method.now; target = target.now; minor = minor; headers = headers.now }
+        in MatchResult result (λ upgrade. OpensRequest request upgrade) (λ fault. IsRequestRefusal request fault) }
+{
+    if method != b"GET".as_slice() {
+        return Err(HeadFault::Method);
+    }
+    if minor != 1 {
+        return Err(HeadFault::Version);
+    }
+    let Some(host) = headers.only_value(b"Host") else {
+        return Err(HeadFault::Host);
+    };
+    if !headers.has_member(b"Upgrade", b"websocket") {
+        return Err(HeadFault::Upgrade);
+    }
+    if !headers.has_member(b"Connection", b"upgrade") {
+        return Err(HeadFault::Connection);
+    }
+    let Some(key) = only_key(headers) else {
+        return Err(HeadFault::Key);
+    };
+    if !headers.has_only_value(b"Sec-WebSocket-Version", b"13") {
+        return Err(HeadFault::WsVersion);
+    }
+    Ok(Upgrade {
+        host,
+        path: target,
+        accept: accept_of(key),
+    })
+}
+
+/// The only key of a request, if it has one and that is right.
+fn only_key<'b>(headers: &Headers<'_, 'b>) -> Option<&'b [u8]>
+    ensures { MatchOption result ((key : List ℕ) → ¬ (IsOnlyKey headers.now key)) (λ key. IsOnlyKey headers.now key.now) }
+{
+    let key = headers.only_value(b"Sec-WebSocket-Key")?;
+    if is_key(key) { Some(key) } else { None }
+}

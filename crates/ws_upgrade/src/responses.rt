@@ -1,0 +1,110 @@
+//! Reading the head of a response (RFC 6455 section 4.1).
+
+ghost use Rattle.std.specs.Prelude.{◌≡◌, ℕ, MatchResult};
+ghost use Rattle.httparse.specs.Grammar.{ResponseHead};
+ghost use Rattle.httparse.specs.Spans.{IsResponseAt, IsResponseWithin};
+ghost use Rattle.ws_upgrade.specs.Heads.{ResponseParts, response_parts, IsResponseRefusal, IsAcceptedResponse};
+ghost use Rattle.ws_upgrade.specs.Reading.{BeginsWithResponse, AnswersResponse, IsResponseRead};
+
+use crate::accepting::{accept_of, key_text};
+use crate::faults::HeadFault;
+use crate::headers::Headers;
+use crate::requests::{MAX_HEAD, MAX_HEADERS, head_part};
+use httparse::spans::{EMPTY_HEADER_SPAN, HeaderSpan, ResponseSpans, parse_response};
+use httparse::{Error, Status};
+
+/// The status of a response that switches to the protocol asked for.
+const SWITCHING_PROTOCOLS: u16 = 101;
+
+/// What stands at the front of some bytes.
+#[derive(Clone, Copy, Debug, PartialEq, Eq)]
+pub enum ResponseRead {
+    /// Less than a whole head: read more.
+    Need,
+    /// A head that accepts the upgrade, and its length: the first frame begins there.
+    Got { used: usize },
+    /// The bytes are to be refused.
+    Refused(HeadFault),
+}
+
+/// Reads the head of a response at the front of some bytes, to a request with this nonce that
+/// offers neither extensions nor subprotocols. It takes no memory. What follows the head doesn't
+/// matter.
+///
+/// A head is what the grammar of `httparse` says, looked for in the first 8192 bytes, with at most
+/// 64 headers. `Need` comes where more bytes may complete one. Refusals are told in this order:
+/// `Head`, `TooLarge`, `Status`, `Version`, `Upgrade`, `Connection`, `Accept`, `Extension`,
+/// `Protocol`; where there are more than 64 headers, either of the first two may be told.
+pub fn read_response(bytes: &[u8], nonce: [u8; 16]) -> ResponseRead
+    // Of each head that stands at the front: it is accepted, or refused with the first requirement
+    // that it doesn't meet.
+    ensures judged { (head : ResponseHead) (len : ℕ) → BeginsWithResponse bytes.now head len
+        → AnswersResponse nonce (response_parts head) len result }
+
+    // What each answer says of the bytes.
+    ensures read { IsResponseRead nonce bytes.now result }
+{
+    let front = head_part(bytes);
+    let mut spans = [EMPTY_HEADER_SPAN; MAX_HEADERS];
+    match parse_response(front, &mut spans) {
+        Ok(Status::Complete(head)) => answer(front, &spans, head, &nonce),
+        Ok(Status::Partial) => {
+            if bytes.len() < MAX_HEAD {
+                ResponseRead::Need
+            } else {
+                ResponseRead::Refused(HeadFault::TooLarge)
+            }
+        }
+        Err(error) => match error {
+            Error::TooManyHeaders => ResponseRead::Refused(HeadFault::TooLarge),
+            _ => ResponseRead::Refused(HeadFault::Head),
+        },
+    }
+}
+
+/// What is answered to the head that was found.
+fn answer(front: &[u8], spans: &[HeaderSpan], head: ResponseSpans, nonce: &[u8; 16]) -> ResponseRead
+    requires { IsResponseWithin front.now spans.now head }
+    ensures { (grammar : ResponseHead) → IsResponseAt front.now spans.now head grammar
+        → AnswersResponse nonce.now (response_parts grammar) head.len result }
+{
+    let headers = Headers::new(front, &spans[..head.headers]);
+    match judge(head.code, head.version, &headers, nonce) {
+        Ok(()) => ResponseRead::Got { used: head.len },
+        Err(fault) => ResponseRead::Refused(fault),
+    }
+}
+
+/// Whether a response accepts, or the first requirement that it doesn't meet.
+fn judge(
+    status: u16,
+    minor: u8,
+    headers: &Headers<'_, '_>,
+    nonce: &[u8; 16],
+) -> Result<(), HeadFault>
+    ensures { let response : ResponseParts = record { minor = minor; status = status; headers = headers.now }
+        in MatchResult result (λ _. IsAcceptedResponse nonce.now response) (λ fault. IsResponseRefusal nonce.now response fault) }
+{
+    if status != SWITCHING_PROTOCOLS {
+        return Err(HeadFault::Status);
+    }
+    if minor != 1 {
+        return Err(HeadFault::Version);
+    }
+    if !headers.has_member(b"Upgrade", b"websocket") {
+        return Err(HeadFault::Upgrade);
+    }
+    if !headers.has_member(b"Connection", b"upgrade") {
+        return Err(HeadFault::Connection);
+    }
+    if !headers.has_only_value(b"Sec-WebSocket-Accept", &accept_of(&key_text(nonce))) {
+        return Err(HeadFault::Accept);
+    }
+    if !headers.has_no_member(b"Sec-WebSocket-Extensions") {
+        return Err(HeadFault::Extension);
+    }
+    if !headers.has_no_member(b"Sec-WebSocket-Protocol") {
+        return Err(HeadFault::Protocol);
+    }
+    Ok(())
+}
