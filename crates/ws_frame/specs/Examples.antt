@@ -61,12 +61,13 @@ masked_from_3 = refl
 pub odd_header : header_bytes (record { fin = false; rsv = 7; opcode = 15; key = Some standard_key; len = 5; form = Two }) ≡ 0x7f ∷ 0xfe ∷ 0x00 ∷ 0x05 ∷ 0x37 ∷ 0xfa ∷ 0x21 ∷ 0x3d ∷ []
 odd_header = refl
 
--- the line of "Hello", sent by a server, and then read as if a client had sent it
+-- the line of "Hello", sent by a server
 pub line_of_hello : line_of Server 0 (record { header = record { fin = true; rsv = 0; opcode = 1; key = None; len = 5; form = Short }; payload = codes "Hello" })
     ≡ codes "0 text fin=1 rsv=0 key=- len=5 short 48656c6c6f\n"
 unfolding digits
 line_of_hello = refl
 
+-- a frame without a key that a client should have masked, with RSV1, a reserved opcode and a longer form than needed
 pub line_of_odd_frame : line_of Client 11 (record { header = record { fin = false; rsv = 4; opcode = 3; key = None; len = 0; form = Two }; payload = [] })
     ≡ codes "11 op3 fin=0 rsv=4 key=- len=0 two - !mask !form\n"
 unfolding digits

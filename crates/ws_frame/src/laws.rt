@@ -19,8 +19,7 @@ pub fn no_header_begins_another()
 /// A header has at most fourteen bytes: where none stands at the front there are fewer.
 pub fn fourteen_bytes_hold_a_header()
     ensures { (bytes : List ℕ) → AreBytes bytes → BeginsNoHeader bytes → length bytes < 14 }
-{
-}
+{}
 
 /// No frame begins another, in whatever form their headers are.
 pub fn no_wire_frame_begins_another()

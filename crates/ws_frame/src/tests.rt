@@ -1,6 +1,10 @@
 //! Headers and masking against the bytes of RFC 6455 sections 5.2, 5.3 and 5.7.
 
-use crate::{Form, Header, HeaderRead, mask, read_header};
+ghost use Rattle.std.specs.Prelude.{IfOk, ◌≤◌};
+
+use crate::{Form, Header, HeaderRead, Watched, mask, read_header};
+use std::io;
+use std::io::{Read, Write};
 use std::test::Fail;
 
 /// The key of the examples in section 5.7.
@@ -146,4 +150,79 @@ fn masked_bytes(rt: HostRuntime) {
         mask(KEY, phase, &mut bytes);
         assert_eq!(rt; &bytes[64..], last.as_slice(), "phase {phase}");
     }
+}
+
+/// Counts the calls that it gets, and answers each as it is told.
+#[derive(Drop)]
+struct Counting {
+    calls: u32,
+    works: bool,
+    takes: usize,
+}
+
+impl Counting {
+    fn answer(&mut self, room: usize) -> io::Result<usize>
+        ensures { IfOk result (λ count. count ≤ room) }
+    {
+        self.calls = self.calls.saturating_add(1);
+        if self.works {
+            Ok(self.takes.min(room))
+        } else {
+            Err(io::Error::from(io::ErrorKind::Other))
+        }
+    }
+}
+
+impl Read for Counting {
+    fn read(&mut self, buf: &mut [u8]) -> io::Result<usize> {
+        self.answer(buf.len())
+    }
+}
+
+impl Write for Counting {
+    fn write(&mut self, buf: &[u8]) -> io::Result<usize> {
+        self.answer(buf.len())
+    }
+
+    fn flush(&mut self) -> io::Result<()> {
+        self.calls = self.calls.saturating_add(1);
+        Ok(())
+    }
+}
+
+/// A watched device gets each call, and has failed after a call that failed and for good.
+#[test]
+fn watched_calls(rt: HostRuntime) {
+    let cases: [(bool, usize, bool, bool); 3] = [
+        (true, 1, false, false),
+        (true, 0, false, true),
+        (false, 1, true, true),
+    ];
+    for (works, takes, read_fails, write_fails) in cases {
+        let mut reader = Watched::new(Counting {
+            calls: 0,
+            works,
+            takes,
+        });
+        assert_eq!(rt; reader.read(&mut [0; 2]).is_err(), !works);
+        assert_eq!(rt; reader.failed(), read_fails, "{works} {takes}");
+        assert_eq!(rt; reader.into_inner().calls, 1);
+        let mut writer = Watched::new(Counting {
+            calls: 0,
+            works,
+            takes,
+        });
+        assert_eq!(rt; writer.write(&[0; 2]).is_err(), !works);
+        assert_eq!(rt; writer.failed(), write_fails, "{works} {takes}");
+        assert!(rt; writer.flush().is_ok());
+        assert_eq!(rt; writer.failed(), write_fails, "{works} {takes}");
+        assert_eq!(rt; writer.into_inner().calls, 2);
+    }
+    let mut writer = Watched::new(Counting {
+        calls: 0,
+        works: true,
+        takes: 1,
+    });
+    assert!(rt; writer.write(&[]).is_ok());
+    assert!(rt; !writer.failed());
 }

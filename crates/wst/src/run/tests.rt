@@ -299,6 +299,22 @@ fn failing_writes(rt: HostRuntime) -> Result<(), Fail> {
     Ok(())
 }
 
+/// Help that cannot be written is a failure, not a success.
+#[test]
+fn failing_help(rt: HostRuntime) -> Result<(), Fail> {
+    let mut reader = Watched::new(b"".as_slice());
+    let mut writer = Watched::new(FailingWriter {
+        taken: Vec::new(rt.alloc()),
+        room: 10,
+        takes_nothing: false,
+    });
+    let (status, faults) = run_over(rt.alloc(), &["--help"], &mut reader, &mut writer)?;
+    assert_eq!(rt; status, 3);
+    assert!(rt; writer.failed());
+    assert!(rt; faults.is_empty());
+    Ok(())
+}
+
 /// Words that are no text are wrong words; want of memory before them is told as such.
 #[test]
 fn words_that_are_no_text(rt: HostRuntime) {
