@@ -3,4 +3,5 @@ pub mod Members
 pub mod Heads
 pub mod Reading
 pub mod Texts
+pub mod Examples
 pub mod Walking

@@ -1,0 +1,100 @@
+-- Worked examples, each a theorem: first those of RFC 6455 sections 1.2 and 1.3.
+use Rattle.std.specs.Prelude.{◌≡◌, ℕ, List, [], ◌∷◌, true, false, codes, refl}
+use Rattle.std.proofs.Common.{arith, inl, inr}
+use Rattle.sha1.specs.Sha1.{sha1, digest_bytes, hash_after, compress, rounds, schedule, first_words}
+use Rattle.base64.specs.Rfc4648.{encode_symbols}
+use Rattle.httparse.specs.Grammar.{trim_ows}
+use Rattle.ws_upgrade.specs.Accept.{key_of, accept_value_of}
+use Rattle.ws_upgrade.specs.Members.{HeaderPairs, members_in, members_of, has_member}
+use Rattle.ws_upgrade.specs.Heads.{RequestParts, IsRequestRefusal, IsResponseRefusal}
+use Rattle.ws_upgrade.specs.Texts.{request_bytes, response_bytes, refusal_bytes}
+use Rattle.ws_upgrade.specs.declared.faults.HeadFault.TheVariants.{Head, Method, Host, Connection, Status, WsVersion}
+
+-- ---- the key and its accept value
+
+abbrev sample_nonce : List ℕ
+sample_nonce = codes "the sample nonce"
+
+abbrev sample_key : List ℕ
+sample_key = codes "dGhlIHNhbXBsZSBub25jZQ=="
+
+abbrev sample_accept : List ℕ
+sample_accept = codes "s3pPLMBiTxaQ9kYGzzhZRbK+xOo="
+
+pub key_of_sample : key_of sample_nonce ≡ sample_key
+unfolding encode_symbols
+key_of_sample = refl
+
+pub accept_value_of_sample : accept_value_of sample_key ≡ sample_accept
+unfolding encode_symbols sha1 digest_bytes hash_after compress rounds schedule first_words
+accept_value_of_sample = refl
+
+-- ---- members
+
+pub members_between_commas : members_in (codes "keep-alive,\t Upgrade ,, x y") ≡ codes "keep-alive" ∷ codes "Upgrade" ∷ codes "x y" ∷ []
+unfolding trim_ows
+members_between_commas = refl
+
+pub no_member : members_in (codes " , \t,") ≡ []
+unfolding trim_ows
+no_member = refl
+
+abbrev two_upgrades : HeaderPairs
+two_upgrades = (codes "upgrade", codes "h2c") ∷ (codes "Host", codes "a") ∷ (codes "UPGRADE", codes "x, WebSocket") ∷ []
+
+pub members_of_two_headers : members_of (codes "Upgrade") two_upgrades ≡ codes "h2c" ∷ codes "x" ∷ codes "WebSocket" ∷ []
+unfolding trim_ows
+members_of_two_headers = refl
+
+pub member_without_case : has_member (codes "Upgrade") (codes "websocket") two_upgrades ≡ true
+unfolding trim_ows
+member_without_case = refl
+
+pub no_member_that_only_begins_so : has_member (codes "Upgrade") (codes "web") two_upgrades ≡ false
+unfolding trim_ows
+no_member_that_only_begins_so = refl
+
+-- ---- requests and responses
+
+abbrev asked : List ℕ → List ℕ → HeaderPairs → RequestParts
+asked method connection more = record {
+  method = method;
+  target = codes "/chat";
+  minor = 1;
+  headers =
+      (codes "Host", codes "server.example.com") ∷ (codes "Upgrade", codes "websocket") ∷ (codes "Connection", connection)
+      ∷ (codes "Sec-WebSocket-Key", sample_key) ∷ (codes "Sec-WebSocket-Version", codes "12") ∷ more;
+}
+
+-- the method is told before the version of the protocol
+pub post_is_refused : IsRequestRefusal (asked (codes "POST") (codes "Upgrade") []) Method
+post_is_refused = inl (refl, λ same. cc)
+
+pub two_hosts_are_refused : IsRequestRefusal (asked (codes "GET") (codes "Upgrade") ((codes "hOST", codes "b") ∷ [])) Host
+two_hosts_are_refused = inr (refl, inr (refl, inl (refl, λ (host, only). cc)))
+
+pub keep_alive_is_refused : IsRequestRefusal (asked (codes "GET") (codes "keep-alive") []) Connection
+unfolding trim_ows
+keep_alive_is_refused = inr (refl, inr (refl, inr ((codes "server.example.com", refl), inr (refl, inl (refl, λ wrong. cc)))))
+
+-- the status is told first
+pub status_200_is_refused : IsResponseRefusal sample_nonce (record { minor = 0; status = 200; headers = [] }) Status
+status_200_is_refused = inl (refl, λ same. omega arith)
+
+-- ---- texts
+
+pub request_of_sample : request_bytes (codes "server.example.com") (codes "/chat") sample_nonce
+    ≡ codes "GET /chat HTTP/1.1\r\nHost: server.example.com\r\nUpgrade: websocket\r\nConnection: Upgrade\r\nSec-WebSocket-Key: dGhlIHNhbXBsZSBub25jZQ==\r\nSec-WebSocket-Version: 13\r\n\r\n"
+unfolding encode_symbols
+request_of_sample = refl
+
+pub response_of_sample : response_bytes sample_accept
+    ≡ codes "HTTP/1.1 101 Switching Protocols\r\nUpgrade: websocket\r\nConnection: Upgrade\r\nSec-WebSocket-Accept: s3pPLMBiTxaQ9kYGzzhZRbK+xOo=\r\n\r\n"
+response_of_sample = refl
+
+pub refusal_of_another_version : refusal_bytes WsVersion
+    ≡ codes "HTTP/1.1 426 Upgrade Required\r\nUpgrade: websocket\r\nConnection: Upgrade, close\r\nSec-WebSocket-Version: 13\r\nContent-Length: 0\r\n\r\n"
+refusal_of_another_version = refl
+
+pub refusal_of_no_head : refusal_bytes Head ≡ codes "HTTP/1.1 400 Bad Request\r\nConnection: close\r\nContent-Length: 0\r\n\r\n"
+refusal_of_no_head = refl
