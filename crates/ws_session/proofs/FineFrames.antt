@@ -1,35 +1,24 @@
 -- A frame behind others is valid exactly where it has no fault.
-use Rattle.std.proofs.Common.{◌≡◌, ◌≢◌, ℕ, zero, suc, ◌+◌, ◌-◌, ◌*◌, ◌/◌, ◌%◌, ◌^◌, ◌<◌, ◌≤◌, ◌⊎◌, Bool, true, false, cond, List, [], ◌∷◌, ◌++◌, length, get_or, take, drop, Option, Some, None, refl, sym, ap, ◌∙◌, append_assoc, arith, inl, inr, subst}
-use Rattle.std.specs.Prelude.{map, filter, not, nat_lt, slice_index, ◌&&◌, ◌==◌, bit_xor, option_to_list}
-use Rattle.std.specs.List.{AllByRecursion, flat_map}
-use Rattle.std.proofs.lemmas.Bool.{cases_lt, lt-ltb, le-ltb, and_parts, ltb-true}
-use Rattle.std.proofs.lemmas.List.{append_cancel_left, length-append, append-nil, map-append, take_at, drop_at, take-append-le, take-append-drop, length-take, length-take-le}
-use Rattle.std.proofs.lemmas.Grind.{flat_map-append}
+use Rattle.std.proofs.Common.{◌≡◌, ℕ, suc, ◌+◌, ◌*◌, ◌/◌, ◌%◌, ◌^◌, ◌<◌, ◌≤◌, ◌⊎◌, Bool, true, false, cond, List, [], ◌∷◌, ◌++◌, length, get_or, drop, Option, Some, None, refl, sym, ap, ◌∙◌, append_assoc, arith, inl, inr, subst}
+use Rattle.std.specs.Prelude.{nat_lt}
+use Rattle.std.proofs.lemmas.Bool.{cases_lt, lt-ltb, le-ltb}
+use Rattle.std.proofs.lemmas.List.{length-append, append-nil}
 use Rattle.ws_frame.specs.declared.role.Role.{Role}
-use Rattle.ws_frame.specs.declared.role.Role.TheVariants.{Client, Server}
-use Rattle.ws_frame.specs.declared.header.Form.{Form}
 use Rattle.ws_frame.specs.declared.header.Form.TheVariants.{Short, Two, Eight}
-use Rattle.ws_frame.specs.Header.{HeaderFields, IsHeader, IsKey, AreBytes, header_bytes, is_masked, CanHold}
-use Rattle.ws_frame.specs.Masking.{masked, masked_payload}
-use Rattle.ws_frame.specs.Frame.{Frame, KeyedFrame, CanBeSent, frame_bytes, stream_bytes, sent_as, shortest_form}
-use Rattle.ws_frame.specs.Stream.{SplitsInto, BeginsNone}
-use Rattle.ws_frame.proofs.Frames.{no_frame_begins, none_begins, sent_is_wire, frame_told}
-use Rattle.ws_frame.proofs.Headers.{same_header, same_parts}
-use Rattle.ws_frame.proofs.Masks.{length-masked, length-masked_payload, same_masked_payload, take-masked_payload, masked-append}
-use Rattle.ws_frame.proofs.Splits.{split_is_one}
+use Rattle.ws_frame.specs.Header.{HeaderFields, IsHeader, header_bytes, is_masked}
+use Rattle.ws_frame.specs.Masking.{masked_payload}
+use Rattle.ws_frame.specs.Frame.{KeyedFrame, CanBeSent, frame_bytes, shortest_form}
+use Rattle.ws_frame.proofs.Frames.{sent_is_wire}
 use Rattle.ws_text.specs.Text.{IsText, BeginsText}
 use Rattle.ws_session.specs.declared.message.Kind.{Kind}
 use Rattle.ws_session.specs.declared.message.Kind.TheVariants.{Text, Binary}
 use Rattle.ws_session.specs.declared.message.Message.{Message}
 use Rattle.ws_session.specs.declared.reason.Reason.{Reason}
 use Rattle.ws_session.specs.declared.reason.Reason.TheVariants.{ReservedBits, Opcode, MaskWrong, NotShortest, BadLength, ControlCut, ControlLong, NothingToContinue, MessageOpen, TooBig, NotText, TextCut, CloseOneByte, CloseCode, CloseReason}
-use Rattle.ws_session.specs.declared.event.Event.{Event}
-use Rattle.ws_session.specs.declared.event.Event.TheVariants as event
 use Rattle.ws_session.specs.Limits.{LimitsValue}
-use Rattle.ws_session.specs.Messages.{is_control, is_close, data_frames, Groups, before_first, with_frame, groups_of, kind_of, first_opcode, joined_payload, message_of, message_if_any, open_message_of}
-use Rattle.ws_session.specs.Faults.{frames_of, number_of, expects_key, open_payload, IsOfText, Applies, AppliesAtHeader, AppliesInPayload, IsNoClose, IsFaultAt, IsNoLater, IsFirstFault, HasNoFault}
-use Rattle.ws_session.specs.Events.{event_of_control, event_of, events_after, through_close, ending_before, events_of, IsFaultOf, HasEvents, close_in}
-use Rattle.ws_session.specs.NextFrame.{AreSent, BeginsNoFrame, header_of, IsFaultOfNext, HasNoFaultOfNext, IsFirstFaultOfNext, IsPartOfFrame, message_with, opened_with, event_behind, status_with, owed_at, IsAfter}
+use Rattle.ws_session.specs.Messages.{is_control, is_close}
+use Rattle.ws_session.specs.Faults.{expects_key, open_payload, Applies, AppliesAtHeader, AppliesInPayload}
+use Rattle.ws_session.specs.NextFrame.{header_of, HasNoFaultOfNext}
 use Rattle.std.proofs.Common.{eqb-true, eq-eqb}
 use Rattle.std.proofs.lemmas.Bool.{leb-true, le-leb, cases_eq}
 use Rattle.ws_text.specs.Close.{CloseValue, IsClosePayload, close_payload, CodeAllowed, HoldsCode}
@@ -179,14 +168,28 @@ module _ (role : Role) (limits : LimitsValue) (opened : Option Message) (x : Key
   -- nothing applies to the frame
   never : (r : Reason) → Applies role limits opened (header_of x) [] r → ⊥
   never r a = fine (length (header_bytes (header_of x)) + 0) r (record {
-    header = header_of x; is_header = is_header; payload = []; are_bytes = λ i. omega arith; within = omega arith;
-    rest = masked_payload x.key x.frame.payload; parts = ap (λ (l : List ℕ). header_bytes (header_of x) ++ l) (nothing_masked x.key (masked_payload x.key x.frame.payload)); is_place = refl; applies = a;
+    header = header_of x;
+    is_header = is_header;
+    payload = [];
+    are_bytes = λ i. omega arith;
+    within = omega arith;
+    rest = masked_payload x.key x.frame.payload;
+    parts = ap (λ (l : List ℕ). header_bytes (header_of x) ++ l) (nothing_masked x.key (masked_payload x.key x.frame.payload));
+    is_place = refl;
+    applies = a;
   })
 
   never_whole : (r : Reason) → AppliesInPayload opened (header_of x) x.frame.payload r → ⊥
   never_whole r a = fine (length (header_bytes (header_of x)) + length x.frame.payload) r (record {
-    header = header_of x; is_header = is_header; payload = x.frame.payload; are_bytes = can.payload; within = omega arith;
-    rest = []; parts = ap (λ (l : List ℕ). header_bytes (header_of x) ++ l) (sym (append-nil (masked_payload x.key x.frame.payload))); is_place = refl; applies = inr a;
+    header = header_of x;
+    is_header = is_header;
+    payload = x.frame.payload;
+    are_bytes = can.payload;
+    within = omega arith;
+    rest = [];
+    parts = ap (λ (l : List ℕ). header_bytes (header_of x) ++ l) (sym (append-nil (masked_payload x.key x.frame.payload)));
+    is_place = refl;
+    applies = inr a;
   })
 
   opcode_is : (x.frame.opcode ≤ 2) ⊎ ((8 ≤ x.frame.opcode) × (x.frame.opcode ≤ 10))
@@ -244,8 +247,16 @@ module _ (role : Role) (limits : LimitsValue) (opened : Option Message) (x : Key
       let close = make_value (256 * a + b) reason in
       let bytes : a ∷ b ∷ reason ≡ close_payload (Some close) = two_bytes_are a b reason high low in
       let holds : HoldsCode x.frame.payload close = record { fits = code_fits a b high low; bytes = sym is ∙ bytes } in
-      never_whole CloseCode (e, refl, (close, holds, λ allowed.
-        never_whole CloseReason (e, refl, (close, holds, λ text. h (Some close, (record { code = allowed; reason = text; short = reason_short a b reason short }, bytes))))))
+      never_whole CloseCode (
+        e,
+        refl,
+        (
+          close,
+          holds,
+          λ allowed.
+              never_whole CloseReason (e, refl, (close, holds, λ text. h (Some close, (record { code = allowed; reason = text; short = reason_short a b reason short }, bytes)))),
+        ),
+      )
 
   of_text_or_not : FrameOfText opened x.frame ⊎ (FrameOfText opened x.frame → ⊥)
   of_text_or_not = text_frame_or_not opened x.frame.opcode
@@ -275,5 +286,11 @@ module _ (role : Role) (limits : LimitsValue) (opened : Option Message) (x : Key
   pub fine_is_valid : (IsOpenText opened → BeginsText (open_payload opened)) → (IsValidNext limits opened x.frame → ⊥) → ⊥
   fine_is_valid open_begins h =
       close_or_never (λ close. text_or_never open_begins (λ text whole. h (record {
-        alone = alone_is; close = close; goes_on = λ e none. never NothingToContinue (inl (refl, (e, none))); begins = begins_is; size = size_is; text = text; whole = whole;
+        alone = alone_is;
+        close = close;
+        goes_on = λ e none. never NothingToContinue (inl (refl, (e, none)));
+        begins = begins_is;
+        size = size_is;
+        text = text;
+        whole = whole;
       })))

@@ -1,39 +1,20 @@
 -- Valid frames, one after the other: each is valid behind those before it.
-use Rattle.std.proofs.Common.{◌≡◌, ◌≢◌, ℕ, zero, suc, ◌+◌, ◌-◌, ◌*◌, ◌/◌, ◌%◌, ◌^◌, ◌<◌, ◌≤◌, ◌⊎◌, Bool, true, false, cond, List, [], ◌∷◌, ◌++◌, length, get_or, take, drop, Option, Some, None, refl, sym, ap, ◌∙◌, append_assoc, arith, inl, inr, subst}
-use Rattle.std.specs.Prelude.{map, filter, not, nat_lt, slice_index, ◌&&◌, ◌==◌, bit_xor, option_to_list}
-use Rattle.std.specs.List.{AllByRecursion, flat_map}
-use Rattle.std.proofs.lemmas.Bool.{cases_lt, lt-ltb, le-ltb, and_parts, ltb-true}
-use Rattle.std.proofs.lemmas.List.{append_cancel_left, length-append, append-nil, map-append, take_at, drop_at, take-append-le, take-append-drop, length-take, length-take-le}
+use Rattle.std.proofs.Common.{◌≡◌, ◌≢◌, ℕ, ◌+◌, ◌<◌, ◌≤◌, ◌⊎◌, Bool, true, false, List, [], ◌∷◌, ◌++◌, length, Option, None, refl, sym, ap, ◌∙◌, arith, inl, inr, subst}
+use Rattle.std.specs.List.{AllByRecursion}
+use Rattle.std.proofs.lemmas.Bool.{cases_lt}
+use Rattle.std.proofs.lemmas.List.{length-append, append-nil}
 use Rattle.std.proofs.lemmas.Grind.{flat_map-append}
-use Rattle.ws_frame.specs.declared.role.Role.{Role}
-use Rattle.ws_frame.specs.declared.role.Role.TheVariants.{Client, Server}
-use Rattle.ws_frame.specs.declared.header.Form.{Form}
-use Rattle.ws_frame.specs.declared.header.Form.TheVariants.{Short, Two, Eight}
-use Rattle.ws_frame.specs.Header.{HeaderFields, IsHeader, IsKey, AreBytes, header_bytes, is_masked, CanHold}
-use Rattle.ws_frame.specs.Masking.{masked, masked_payload}
-use Rattle.ws_frame.specs.Frame.{Frame, KeyedFrame, CanBeSent, frame_bytes, stream_bytes, sent_as, shortest_form}
-use Rattle.ws_frame.specs.Stream.{SplitsInto, BeginsNone}
-use Rattle.ws_frame.proofs.Frames.{no_frame_begins, none_begins, sent_is_wire, frame_told}
-use Rattle.ws_frame.proofs.Headers.{same_header, same_parts}
-use Rattle.ws_frame.proofs.Masks.{length-masked, length-masked_payload, same_masked_payload, take-masked_payload, masked-append}
-use Rattle.ws_frame.proofs.Splits.{split_is_one}
+use Rattle.ws_frame.specs.Frame.{Frame}
 use Rattle.ws_text.specs.Text.{IsText, BeginsText}
-use Rattle.ws_session.specs.declared.message.Kind.{Kind}
-use Rattle.ws_session.specs.declared.message.Kind.TheVariants.{Text, Binary}
+use Rattle.ws_session.specs.declared.message.Kind.TheVariants.{Text}
 use Rattle.ws_session.specs.declared.message.Message.{Message}
-use Rattle.ws_session.specs.declared.reason.Reason.{Reason}
-use Rattle.ws_session.specs.declared.reason.Reason.TheVariants.{ReservedBits, Opcode, MaskWrong, NotShortest, BadLength, ControlCut, ControlLong, NothingToContinue, MessageOpen, TooBig, NotText, TextCut, CloseOneByte, CloseCode, CloseReason}
-use Rattle.ws_session.specs.declared.event.Event.{Event}
-use Rattle.ws_session.specs.declared.event.Event.TheVariants as event
 use Rattle.ws_session.specs.Limits.{LimitsValue}
-use Rattle.ws_session.specs.Messages.{is_control, is_close, data_frames, Groups, before_first, with_frame, groups_of, kind_of, first_opcode, joined_payload, message_of, message_if_any, open_message_of}
-use Rattle.ws_session.specs.Faults.{frames_of, number_of, expects_key, open_payload, IsOfText, Applies, AppliesAtHeader, AppliesInPayload, IsNoClose, IsFaultAt, IsNoLater, IsFirstFault, HasNoFault}
-use Rattle.ws_session.specs.Events.{event_of_control, event_of, events_after, through_close, ending_before, events_of, IsFaultOf, HasEvents, close_in}
-use Rattle.ws_session.specs.NextFrame.{AreSent, BeginsNoFrame, header_of, IsFaultOfNext, HasNoFaultOfNext, IsFirstFaultOfNext, IsPartOfFrame, message_with, opened_with, event_behind, status_with, owed_at, IsAfter}
+use Rattle.ws_session.specs.Messages.{is_control, is_close, data_frames, Groups, groups_of, kind_of, first_opcode, joined_payload, message_if_any, open_message_of}
+use Rattle.ws_session.specs.Faults.{open_payload}
 use Rattle.std.proofs.lemmas.Bool.{leb-false, leb-true}
 use Rattle.ws_text.specs.Close.{CloseValue, IsClosePayload}
 use Rattle.ws_session.specs.Messages.{Groups, kind_of, first_opcode, joined_payload, message_if_any}
-use Rattle.ws_session.specs.Validity.{IsValidAlone, CloseIsLast, IsContinuation, IsGroup, OfText, IsValidGroup, AreValidFrames}
+use Rattle.ws_session.specs.Validity.{IsValidAlone, CloseIsLast, IsContinuation, IsGroup, IsValidGroup, AreValidFrames}
 use Rattle.ws_session.specs.Faults.{IsOpenText}
 use Rattle.ws_frame.proofs.Splits.{all-append}
 use Rattle.ws_session.proofs.OpenMessage.{groups_control, groups_end, groups_more}

@@ -1,35 +1,23 @@
 -- Streams of valid frames have no fault, and those of others have one.
-use Rattle.std.proofs.Common.{◌≡◌, ◌≢◌, ℕ, zero, suc, ◌+◌, ◌-◌, ◌*◌, ◌/◌, ◌%◌, ◌^◌, ◌<◌, ◌≤◌, ◌⊎◌, Bool, true, false, cond, List, [], ◌∷◌, ◌++◌, length, get_or, take, drop, Option, Some, None, refl, sym, ap, ◌∙◌, append_assoc, arith, inl, inr, subst}
-use Rattle.std.specs.Prelude.{map, filter, not, nat_lt, slice_index, ◌&&◌, ◌==◌, bit_xor, option_to_list}
-use Rattle.std.specs.List.{AllByRecursion, flat_map}
-use Rattle.std.proofs.lemmas.Bool.{cases_lt, lt-ltb, le-ltb, and_parts, ltb-true}
-use Rattle.std.proofs.lemmas.List.{append_cancel_left, length-append, append-nil, map-append, take_at, drop_at, take-append-le, take-append-drop, length-take, length-take-le}
+use Rattle.std.proofs.Common.{◌≡◌, ℕ, zero, suc, ◌+◌, ◌≤◌, ◌⊎◌, Bool, true, false, cond, List, [], ◌∷◌, ◌++◌, length, Option, Some, None, refl, sym, ap, ◌∙◌, arith, inl, inr, subst}
+use Rattle.std.specs.Prelude.{◌==◌}
+use Rattle.std.specs.List.{AllByRecursion}
+use Rattle.std.proofs.lemmas.List.{length-append, append-nil, map-append}
 use Rattle.std.proofs.lemmas.Grind.{flat_map-append}
 use Rattle.ws_frame.specs.declared.role.Role.{Role}
-use Rattle.ws_frame.specs.declared.role.Role.TheVariants.{Client, Server}
-use Rattle.ws_frame.specs.declared.header.Form.{Form}
-use Rattle.ws_frame.specs.declared.header.Form.TheVariants.{Short, Two, Eight}
-use Rattle.ws_frame.specs.Header.{HeaderFields, IsHeader, IsKey, AreBytes, header_bytes, is_masked, CanHold}
-use Rattle.ws_frame.specs.Masking.{masked, masked_payload}
-use Rattle.ws_frame.specs.Frame.{Frame, KeyedFrame, CanBeSent, frame_bytes, stream_bytes, sent_as, shortest_form}
-use Rattle.ws_frame.specs.Stream.{SplitsInto, BeginsNone}
-use Rattle.ws_frame.proofs.Frames.{no_frame_begins, none_begins, sent_is_wire, frame_told}
-use Rattle.ws_frame.proofs.Headers.{same_header, same_parts}
-use Rattle.ws_frame.proofs.Masks.{length-masked, length-masked_payload, same_masked_payload, take-masked_payload, masked-append}
-use Rattle.ws_frame.proofs.Splits.{split_is_one}
-use Rattle.ws_text.specs.Text.{IsText, BeginsText}
-use Rattle.ws_session.specs.declared.message.Kind.{Kind}
-use Rattle.ws_session.specs.declared.message.Kind.TheVariants.{Text, Binary}
+use Rattle.ws_frame.specs.Header.{is_masked}
+use Rattle.ws_frame.specs.Frame.{Frame, KeyedFrame, CanBeSent, frame_bytes, stream_bytes}
+use Rattle.ws_frame.proofs.Frames.{no_frame_begins}
+use Rattle.ws_text.specs.Text.{BeginsText}
 use Rattle.ws_session.specs.declared.message.Message.{Message}
 use Rattle.ws_session.specs.declared.reason.Reason.{Reason}
-use Rattle.ws_session.specs.declared.reason.Reason.TheVariants.{ReservedBits, Opcode, MaskWrong, NotShortest, BadLength, ControlCut, ControlLong, NothingToContinue, MessageOpen, TooBig, NotText, TextCut, CloseOneByte, CloseCode, CloseReason}
 use Rattle.ws_session.specs.declared.event.Event.{Event}
 use Rattle.ws_session.specs.declared.event.Event.TheVariants as event
 use Rattle.ws_session.specs.Limits.{LimitsValue}
-use Rattle.ws_session.specs.Messages.{is_control, is_close, data_frames, Groups, before_first, with_frame, groups_of, kind_of, first_opcode, joined_payload, message_of, message_if_any, open_message_of}
-use Rattle.ws_session.specs.Faults.{frames_of, number_of, expects_key, open_payload, IsOfText, Applies, AppliesAtHeader, AppliesInPayload, IsNoClose, IsFaultAt, IsNoLater, IsFirstFault, HasNoFault}
-use Rattle.ws_session.specs.Events.{event_of_control, event_of, events_after, through_close, ending_before, events_of, IsFaultOf, HasEvents, close_in}
-use Rattle.ws_session.specs.NextFrame.{AreSent, BeginsNoFrame, header_of, IsFaultOfNext, HasNoFaultOfNext, IsFirstFaultOfNext, IsPartOfFrame, message_with, opened_with, event_behind, status_with, owed_at, IsAfter}
+use Rattle.ws_session.specs.Messages.{is_control, is_close, data_frames, groups_of, kind_of, joined_payload, message_of, message_if_any, open_message_of}
+use Rattle.ws_session.specs.Faults.{frames_of, expects_key, open_payload, IsNoClose, IsFaultAt, HasNoFault}
+use Rattle.ws_session.specs.Events.{event_of_control, events_after, through_close, ending_before, events_of, IsFaultOf, HasEvents, close_in}
+use Rattle.ws_session.specs.NextFrame.{AreSent, HasNoFaultOfNext}
 use Rattle.ws_session.specs.Messages.{kind_of, joined_payload, message_if_any}
 use Rattle.ws_session.specs.Validity.{AreValidFrames, IsValidGroup, NothingAfterClose}
 use Rattle.ws_session.specs.Faults.{IsOpenText, KeysFit}
@@ -109,14 +97,14 @@ module _ (role : Role) (limits : LimitsValue) where
       elim (snoc_of xs) [
         | inl e ↦ subst (λ (l : List KeyedFrame). HasNoFault role limits (stream_bytes l)) (sym e) (no_fault_in_nothing role limits)
         | inr s ↦
-          let sent = all_before CanBeSent s.front s.last (subst (λ (l : List KeyedFrame). AreSent l) s.parts each) in
-          let fit = all_before (λ (y : KeyedFrame). is_masked y.key ≡ expects_key role) s.front s.last (subst (λ (l : List KeyedFrame). KeysFit role l) s.parts keys) in
-          let valid = valid_front limits (frames_of s.front) s.last.frame (subst (λ (l : List Frame). AreValidFrames limits l) (ap (λ (l : List KeyedFrame). frames_of l) s.parts ∙ frames_snoc s.front s.last) v) in
-          let shorter : length s.front ≤ n = omega (arith, ap (λ (l : List KeyedFrame). length l) s.parts, length-append s.front (s.last ∷ [])) in
-          let clean = valid_within n s.front shorter sent.0 fit.0 valid.before in
-          subst (λ (l : List ℕ). HasNoFault role limits l) (sym (ap (λ (l : List KeyedFrame). stream_bytes l) s.parts ∙ stream_snoc s.front s.last))
-              (still_clean role limits s.front (frame_bytes s.last) sent.0 (no_closes s.front valid.none) (before_last s.front s.last clean)
-                  (valid_is_fine role limits (open_message_of (frames_of s.front)) s.last sent.1 fit.1 valid.next) (λ y more sends e. last_alone s.last y more sent.1 sends e))
+            let sent = all_before CanBeSent s.front s.last (subst (λ (l : List KeyedFrame). AreSent l) s.parts each) in
+            let fit = all_before (λ (y : KeyedFrame). is_masked y.key ≡ expects_key role) s.front s.last (subst (λ (l : List KeyedFrame). KeysFit role l) s.parts keys) in
+            let valid = valid_front limits (frames_of s.front) s.last.frame (subst (λ (l : List Frame). AreValidFrames limits l) (ap (λ (l : List KeyedFrame). frames_of l) s.parts ∙ frames_snoc s.front s.last) v) in
+            let shorter : length s.front ≤ n = omega (arith, ap (λ (l : List KeyedFrame). length l) s.parts, length-append s.front (s.last ∷ [])) in
+            let clean = valid_within n s.front shorter sent.0 fit.0 valid.before in
+            subst (λ (l : List ℕ). HasNoFault role limits l) (sym (ap (λ (l : List KeyedFrame). stream_bytes l) s.parts ∙ stream_snoc s.front s.last))
+            (still_clean role limits s.front (frame_bytes s.last) sent.0 (no_closes s.front valid.none) (before_last s.front s.last clean)
+            (valid_is_fine role limits (open_message_of (frames_of s.front)) s.last sent.1 fit.1 valid.next) (λ y more sends e. last_alone s.last y more sent.1 sends e))
       ]
 
   pub valid_has_none : (xs : List KeyedFrame) → AreSent xs → KeysFit role xs → AreValidFrames limits (frames_of xs) → HasNoFault role limits (stream_bytes xs)
@@ -133,17 +121,17 @@ module _ (role : Role) (limits : LimitsValue) where
       elim (snoc_of xs) [
         | inl e ↦ h (subst (λ (l : List KeyedFrame). AreValidFrames limits (frames_of l)) (sym e) (valid_nothing limits))
         | inr s ↦
-          let sent = all_before CanBeSent s.front s.last (subst (λ (l : List KeyedFrame). AreSent l) s.parts each) in
-          let fit = all_before (λ (y : KeyedFrame). is_masked y.key ≡ expects_key role) s.front s.last (subst (λ (l : List KeyedFrame). KeysFit role l) s.parts keys) in
-          let frames = ap (λ (l : List KeyedFrame). frames_of l) s.parts ∙ frames_snoc s.front s.last in
-          let last = nothing_after (frames_of s.front) s.last.frame (subst (λ (l : List Frame). NothingAfterClose l) frames after) in
-          let shorter : length s.front ≤ n = omega (arith, ap (λ (l : List KeyedFrame). length l) s.parts, length-append s.front (s.last ∷ [])) in
-          let here : HasNoFault role limits (stream_bytes s.front ++ frame_bytes s.last) = subst (λ (l : List ℕ). HasNoFault role limits l) (ap (λ (l : List KeyedFrame). stream_bytes l) s.parts ∙ stream_snoc s.front s.last) clean in
-          let front : HasNoFault role limits (stream_bytes s.front) = faultless_before role limits (stream_bytes s.front) (frame_bytes s.last) here in
-          let fine : HasNoFaultOfNext role limits (open_message_of (frames_of s.front)) (frame_bytes s.last) = λ k r f. here (length (stream_bytes s.front) + k) r (fault_of_next role limits s.front (frame_bytes s.last) sent.0 (no_closes s.front last.0) (before_last s.front s.last front) k r f) in
-          invalid_within n s.front shorter sent.0 fit.0 last.1 front (λ v.
-              fine_is_valid role limits (open_message_of (frames_of s.front)) s.last sent.1 fit.1 fine (open_begins_of (groups_of (data_frames (frames_of s.front))).unfinished v.unfinished)
-                  (λ next. h (subst (λ (l : List Frame). AreValidFrames limits l) (sym frames) (valid_snoc limits (frames_of s.front) s.last.frame v last.0 next))))
+            let sent = all_before CanBeSent s.front s.last (subst (λ (l : List KeyedFrame). AreSent l) s.parts each) in
+            let fit = all_before (λ (y : KeyedFrame). is_masked y.key ≡ expects_key role) s.front s.last (subst (λ (l : List KeyedFrame). KeysFit role l) s.parts keys) in
+            let frames = ap (λ (l : List KeyedFrame). frames_of l) s.parts ∙ frames_snoc s.front s.last in
+            let last = nothing_after (frames_of s.front) s.last.frame (subst (λ (l : List Frame). NothingAfterClose l) frames after) in
+            let shorter : length s.front ≤ n = omega (arith, ap (λ (l : List KeyedFrame). length l) s.parts, length-append s.front (s.last ∷ [])) in
+            let here : HasNoFault role limits (stream_bytes s.front ++ frame_bytes s.last) = subst (λ (l : List ℕ). HasNoFault role limits l) (ap (λ (l : List KeyedFrame). stream_bytes l) s.parts ∙ stream_snoc s.front s.last) clean in
+            let front : HasNoFault role limits (stream_bytes s.front) = faultless_before role limits (stream_bytes s.front) (frame_bytes s.last) here in
+            let fine : HasNoFaultOfNext role limits (open_message_of (frames_of s.front)) (frame_bytes s.last) = λ k r f. here (length (stream_bytes s.front) + k) r (fault_of_next role limits s.front (frame_bytes s.last) sent.0 (no_closes s.front last.0) (before_last s.front s.last front) k r f) in
+            invalid_within n s.front shorter sent.0 fit.0 last.1 front (λ v.
+            fine_is_valid role limits (open_message_of (frames_of s.front)) s.last sent.1 fit.1 fine (open_begins_of (groups_of (data_frames (frames_of s.front))).unfinished v.unfinished)
+            (λ next. h (subst (λ (l : List Frame). AreValidFrames limits l) (sym frames) (valid_snoc limits (frames_of s.front) s.last.frame v last.0 next))))
       ]
 
   pub invalid_has_one : (xs : List KeyedFrame) → AreSent xs → KeysFit role xs → NothingAfterClose (frames_of xs) → (AreValidFrames limits (frames_of xs) → ⊥) → HasNoFault role limits (stream_bytes xs) → ⊥

@@ -1,16 +1,14 @@
 -- Worked examples of the definitions, as theorems. The masking key is that of section 5.7 of RFC 6455.
-use Rattle.std.specs.Prelude.{◌≡◌, ℕ, Bool, true, false, List, [], ◌∷◌, Option, Some, None, refl}
-use Rattle.ws_frame.specs.Frame.{Frame, KeyedFrame, frame_bytes, stream_bytes}
+use Rattle.std.specs.Prelude.{◌≡◌, ℕ, true, false, List, [], ◌∷◌, Some, None, refl}
+use Rattle.ws_frame.specs.Frame.{KeyedFrame, frame_bytes, stream_bytes}
 use Rattle.ws_frame.specs.declared.role.Role.TheVariants.{Client, Server}
 use Rattle.ws_session.specs.declared.message.Kind.TheVariants.{Text, Binary}
-use Rattle.ws_session.specs.declared.message.Message.{Message}
-use Rattle.ws_session.specs.declared.reason.Reason.TheVariants.{CloseOneByte, TooBig, NotText}
-use Rattle.ws_session.specs.declared.event.Event.{Event}
+use Rattle.ws_session.specs.declared.reason.Reason.TheVariants.{TooBig, NotText}
 use Rattle.ws_session.specs.declared.event.Event.TheVariants as event
 use Rattle.ws_session.specs.declared.status.Status.TheVariants as status
 use Rattle.ws_session.specs.Messages.{messages_of, open_message_of}
 use Rattle.ws_session.specs.Faults.{frames_of}
-use Rattle.ws_session.specs.Events.{events_of, close_in, ending_before}
+use Rattle.ws_session.specs.Events.{events_of, close_in}
 use Rattle.ws_session.specs.Replies.{replies_of, control_frame, close_frame, under_key}
 use Rattle.ws_session.specs.Exchange.{status_of}
 

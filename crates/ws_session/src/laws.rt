@@ -54,5 +54,4 @@ pub fn faults_are_of_invalid_frames()
     // So a session fails exactly then.
     ensures failed { (role : Role) (limits : LimitsValue) (xs : List KeyedFrame) (events : List Event) → AllByRecursion CanBeSent xs → KeysFit role xs → NothingAfterClose (frames_of xs) →
         HasEvents role limits (stream_bytes xs) events → (¬ (AreValidFrames limits (frames_of xs))) ↔ ((reason : Reason) × (last_event events ≡ Some (event.Failed reason))) }
-{
-}
+{}
