@@ -37,11 +37,11 @@ use Rattle.ws_session.specs.Judging.{NoneAtHeader, IsFirstAtHeader, NoneInPayloa
 use Rattle.ws_session.proofs.HeaderReasons.{at_most_ten}
 use Rattle.ws_session.proofs.Next.{length-frame_bytes}
 
-none_or_some : (opened : Option Message) → (opened ≢ None → ⊥) → opened ≡ None
+pub none_or_some : (opened : Option Message) → (opened ≢ None → ⊥) → opened ≡ None
 none_or_some None h = refl
 none_or_some (Some m) h = absurd (h (λ e. absurd cc))
 
-one_or_two : (n : ℕ) → n ≤ 2 → 1 ≤ n → (n ≡ 1) ⊎ (n ≡ 2)
+pub one_or_two : (n : ℕ) → n ≤ 2 → 1 ≤ n → (n ≡ 1) ⊎ (n ≡ 2)
 one_or_two n le one = elim (cases_lt n 2) [ inl lt ↦ inl (omega arith) | inr ge ↦ inr (omega arith) ]
 
 shortest_by : (form : Form) (n : ℕ) → CanHold form n → (((form ≡ Two) × (n < 126)) ⊎ ((form ≡ Eight) × (n < 65536)) → ⊥) → form ≡ shortest_form n

@@ -11,7 +11,7 @@ use Rattle.ws_session.specs.Exchange.{HasExchanged}
 use Rattle.ws_session.proofs.Next.{place_is, two_bytes}
 use Rattle.ws_session.proofs.Growing.{none_in_nothing}
 
-no_fault_in_nothing : (role : Role) (limits : LimitsValue) → HasNoFault role limits []
+pub no_fault_in_nothing : (role : Role) (limits : LimitsValue) → HasNoFault role limits []
 no_fault_in_nothing role limits n r f = omega (arith, f.long, place_is role limits [] n r f, two_bytes f.header)
 
 pub no_events : (role : Role) (limits : LimitsValue) → HasEvents role limits [] []

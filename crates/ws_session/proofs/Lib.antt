@@ -14,3 +14,6 @@ pub mod Frames
 pub mod Views
 pub mod Over
 pub mod FedPieces
+pub mod Valid
+pub mod FineFrames
+pub mod ValidStreams

@@ -76,3 +76,16 @@ open_snoc fs f = open_by (is_control f) f.fin fs f refl refl
 -- the event of one more frame
 pub event_snoc : (fs : List Frame) (f : Frame) → event_of fs f ≡ event_behind (open_message_of fs) f
 event_snoc fs f = ap (λ (m : Message). cond (is_control f) (event_of_control f) (cond f.fin (event.Message m) event.Part)) (message_snoc (groups_of (data_frames fs)).unfinished f)
+
+-- ---- the groups with one more frame
+
+pub groups_control : (fs : List Frame) (f : Frame) → is_control f ≡ true → groups_of (data_frames (fs ++ f ∷ [])) ≡ groups_of (data_frames fs)
+groups_control fs f e = ap (λ (ds : List Frame). groups_of ds) (data_snoc true fs f e)
+
+pub groups_end : (fs : List Frame) (f : Frame) → is_control f ≡ false → f.fin ≡ true → groups_of (data_frames (fs ++ f ∷ [])) ≡ record { finished = (groups_of (data_frames fs)).finished ++ ((groups_of (data_frames fs)).unfinished ++ f ∷ []) ∷ []; unfinished = [] }
+unfolding and_by
+groups_end fs f e fin = ap (λ (ds : List Frame). groups_of ds) (data_snoc false fs f e) ∙ groups_snoc (data_frames fs) f ∙ ap (λ b. and_by b (groups_of (data_frames fs)).finished (groups_of (data_frames fs)).unfinished f) fin
+
+pub groups_more : (fs : List Frame) (f : Frame) → is_control f ≡ false → f.fin ≡ false → groups_of (data_frames (fs ++ f ∷ [])) ≡ record { finished = (groups_of (data_frames fs)).finished; unfinished = (groups_of (data_frames fs)).unfinished ++ f ∷ [] }
+unfolding and_by
+groups_more fs f e fin = ap (λ (ds : List Frame). groups_of ds) (data_snoc false fs f e) ∙ groups_snoc (data_frames fs) f ∙ ap (λ b. and_by b (groups_of (data_frames fs)).finished (groups_of (data_frames fs)).unfinished f) fin

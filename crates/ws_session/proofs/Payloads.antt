@@ -285,7 +285,7 @@ module _ (opened : Option Message) (h : HeaderFields) (p : List ℕ) (opcode : h
 
 -- ---- the judge of a text
 
-text_of : (k : Kind) (A : Type 0) → k ≡ Text → OfText k A → A
+pub text_of : (k : Kind) (A : Type 0) → k ≡ Text → OfText k A → A
 text_of Text A e h = h
 text_of Binary A e h = absurd cc
 
@@ -295,7 +295,7 @@ read_open None h text begins is of_text = is
 read_open (Some m) h text begins is (inl one) = let e = begins (omega arith) in absurd cc
 read_open (Some m) h text begins is (inr goes_on) = text_of m.kind (HasRead text m.payload) goes_on.1 is
 
-text_if : (k : Kind) (A : Type 0) → (k ≡ Text → A) → OfText k A
+pub text_if : (k : Kind) (A : Type 0) → (k ≡ Text → A) → OfText k A
 text_if Text A h = h refl
 text_if Binary A h = tt
 
@@ -303,7 +303,7 @@ kind_by : (b : Bool) → cond b Text Binary ≡ Text → b ≡ true
 kind_by true e = refl
 kind_by false e = absurd cc
 
-kind_is_text : (opcode : ℕ) → kind_of opcode ≡ Text → opcode ≡ 1
+pub kind_is_text : (opcode : ℕ) → kind_of opcode ≡ Text → opcode ≡ 1
 kind_is_text opcode e = eqb-true opcode 1 (kind_by (opcode == 1) e)
 
 -- and with the payload behind it the message with it

@@ -20,7 +20,7 @@ use Rattle.ws_session.specs.Exchange.{SessionValue, HasExchanged, IsSendingOf, i
 use Rattle.ws_session.proofs.Growth.{events_after-append}
 use Rattle.ws_session.proofs.OpenMessage.{open_snoc}
 
-last_snoc : (es : List Event) (e : Event) → last_event (es ++ e ∷ []) ≡ Some e
+pub last_snoc : (es : List Event) (e : Event) → last_event (es ++ e ∷ []) ≡ Some e
 last_snoc [] e = refl
 last_snoc (d ∷ []) e = refl
 last_snoc (d ∷ c ∷ es) e = last_snoc (c ∷ es) e

@@ -45,6 +45,10 @@ abbrev pub expects_key : Role → Bool
 expects_key Server = true
 expects_key Client = false
 
+-- the keys of frames that a peer of this role's endpoint sent are as they must be
+abbrev pub KeysFit : Role → List KeyedFrame → Type 0
+KeysFit role xs = AllByRecursion (λ (x : KeyedFrame). is_masked x.key ≡ expects_key role) xs
+
 -- the payload of the open message so far
 abbrev pub open_payload : Option Message → List ℕ
 open_payload None = []

@@ -10,3 +10,4 @@ pub mod Assembly
 pub mod Judging
 pub mod Inside
 pub mod Feeding
+pub mod Examples

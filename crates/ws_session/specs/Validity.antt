@@ -46,3 +46,8 @@ pub record AreValidFrames (limits : LimitsValue) (frames : List Frame) : Type 0 
   pub close : CloseIsLast frames
   pub finished : AllByRecursion (IsValidGroup IsText limits) (groups_of (data_frames frames)).finished
   pub unfinished : IsValidGroup BeginsText limits (groups_of (data_frames frames)).unfinished
+
+-- nothing follows a close frame
+abbrev pub NothingAfterClose : List Frame → Type 0
+NothingAfterClose [] = Unit {0}
+NothingAfterClose (frame ∷ frames) = (is_close frame ≡ true → frames ≡ []) × NothingAfterClose frames

@@ -1,16 +1,19 @@
 //! Laws over the definitions, each the contract of a function that does nothing.
 
-ghost use Rattle.std.specs.Prelude.{◌≡◌, ◌≤◌, ℕ, List, ◌++◌, length, Bool, true, false};
+ghost use Rattle.std.specs.Prelude.{◌≡◌, ◌≤◌, ◌↔◌, ℕ, List, [], ◌++◌, length, Bool, true, false, Some};
+ghost use Rattle.std.specs.List.{AllByRecursion};
 ghost use Rattle.ws_frame.specs.declared.role.Role.{Role};
+ghost use Rattle.ws_frame.specs.Header.{AreBytes};
+ghost use Rattle.ws_frame.specs.Frame.{Frame, KeyedFrame, CanBeSent, stream_bytes};
 ghost use Rattle.ws_session.specs.declared.reason.Reason.{Reason};
 ghost use Rattle.ws_session.specs.declared.event.Event.{Event};
+ghost use Rattle.ws_session.specs.declared.event.Event.TheVariants as event;
 ghost use Rattle.ws_session.specs.Limits.{LimitsValue};
-ghost use Rattle.ws_session.specs.Faults.{IsFirstFault};
+ghost use Rattle.ws_session.specs.Validity.{AreValidFrames, NothingAfterClose};
+ghost use Rattle.ws_session.specs.Faults.{frames_of, KeysFit, IsFirstFault, HasNoFault};
 ghost use Rattle.ws_session.specs.Events.{HasEvents};
 ghost use Rattle.ws_session.specs.Replies.{replies_of};
-ghost use Rattle.ws_session.specs.Exchange.{SessionValue, HasExchanged, is_over};
-ghost use Rattle.ws_frame.specs.Frame.{Frame};
-ghost use Rattle.ws_frame.specs.Header.{AreBytes};
+ghost use Rattle.ws_session.specs.Exchange.{SessionValue, HasExchanged, is_over, last_event};
 
 /// A stream has one list of events.
 pub fn one_list_of_events()
@@ -39,4 +42,16 @@ pub fn bytes_after_the_end()
 /// Replies to more events are those to the first, and then, with these sent, those to the others.
 pub fn replies_go_on()
     ensures { (sent : List Frame) (events later : List Event) → replies_of sent (events ++ later) ≡ replies_of sent events ++ replies_of (sent ++ replies_of sent events) later }
+{}
+
+/// Frames under fitting keys, of which none follows a close, have a fault exactly where they aren't valid.
+pub fn faults_are_of_invalid_frames()
+    ensures valid { (role : Role) (limits : LimitsValue) (xs : List KeyedFrame) → AllByRecursion CanBeSent xs → KeysFit role xs →
+        AreValidFrames limits (frames_of xs) → HasNoFault role limits (stream_bytes xs) }
+    ensures invalid { (role : Role) (limits : LimitsValue) (xs : List KeyedFrame) → AllByRecursion CanBeSent xs → KeysFit role xs → NothingAfterClose (frames_of xs) →
+        ¬ (AreValidFrames limits (frames_of xs)) → ¬ (HasNoFault role limits (stream_bytes xs)) }
+
+    // So a session fails exactly then.
+    ensures failed { (role : Role) (limits : LimitsValue) (xs : List KeyedFrame) (events : List Event) → AllByRecursion CanBeSent xs → KeysFit role xs → NothingAfterClose (frames_of xs) →
+        HasEvents role limits (stream_bytes xs) events → (¬ (AreValidFrames limits (frames_of xs))) ↔ ((reason : Reason) × (last_event events ≡ Some (event.Failed reason))) }
 {}

@@ -21,7 +21,8 @@ mod tests;
 pub use event::{Event, Taken};
 pub use feeding::{Events, Run, feed_all};
 pub use laws::{
-    bytes_after_the_end, events_go_on, first_fault_stays, one_list_of_events, replies_go_on,
+    bytes_after_the_end, events_go_on, faults_are_of_invalid_frames, first_fault_stays,
+    one_list_of_events, replies_go_on,
 };
 pub use limits::Limits;
 pub use message::{Bytes, Kind, Message};
