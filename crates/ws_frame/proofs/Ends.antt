@@ -1,5 +1,5 @@
 -- How a run of `show` ends, by what is left behind the whole frames and how its input ended.
-use Rattle.std.proofs.Common.{inl, inr, append_assoc, ◌<◌, ◌⊎◌, ◌≡◌, ℕ, ◌≤◌, Bool, List, [], ◌∷◌, ◌++◌, length, Option, refl, sym, ap, ◌∙◌, append-nil, arith, subst}
+use Rattle.std.proofs.Common.{inl, inr, append_assoc, ◌<◌, ◌≡◌, ℕ, ◌≤◌, Bool, List, [], ◌∷◌, ◌++◌, length, Option, refl, sym, ap, ◌∙◌, append-nil, arith, subst}
 use Rattle.std.specs.Io.KnownBytes.{Consumes, IsAtEnd}
 use Rattle.ws_frame.specs.declared.role.Role.{Role}
 use Rattle.ws_frame.specs.declared.showing.ShowEnd.{ShowEnd}

@@ -5,6 +5,7 @@
 #![tactic(auto)]
 
 mod appending;
+mod delivering;
 mod header;
 pub mod laws;
 mod line;
@@ -18,6 +19,7 @@ mod watching;
 mod writing;
 
 pub use appending::{NoMemory, append_frame};
+pub use delivering::{WriteFault, write_whole};
 pub use header::{Form, Header};
 pub use masking::mask;
 pub use reading::{HeaderRead, read_header};

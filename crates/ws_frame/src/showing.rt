@@ -7,6 +7,7 @@ ghost use Rattle.ws_frame.specs.Frame.{WireFrame, IsWireFrame};
 ghost use Rattle.ws_frame.specs.Lines.{line_of, last_line, Shows, IsFairEnd};
 ghost use Rattle.ws_frame.specs.Showing.{IsFront, IsLeft, BeginsLines, WritesFront, WritesText, ReadsInput, end_after_input, end_of_stop};
 
+use crate::delivering::write_whole;
 use crate::header::Header;
 use crate::line::{FrameLine, SHOWN};
 use crate::masking::mask;
@@ -300,14 +301,8 @@ fn write_text<W: Write>(writer: &mut Watched<W>, text: &str) -> Result<(), Stop>
     requires { has_failed writer.old ≡ false }
     ensures { WritesText (W.contents (inner_of writer.old)) (W.contents (inner_of writer.new)) (has_failed writer.new) result text.now }
 {
-    let bytes = text.as_bytes();
-    let mut at = 0;
-    while at < bytes.len() {
-        match writer.write(&bytes[at..]) {
-            Ok(0) => return Err(Stop::WriteFault),
-            Ok(taken) => at += taken,
-            Err(_) => return Err(Stop::WriteFault),
-        }
+    match write_whole(writer, text.as_bytes()) {
+        Ok(()) => Ok(()),
+        Err(_) => Err(Stop::WriteFault),
     }
-    Ok(())
 }
