@@ -1,12 +1,12 @@
 -- From the answer to a head at the front to what is said of the bytes.
-use Rattle.std.proofs.Common.{arith, ℕ, ◌≡◌, ◌≤◌, List, [], ◌∷◌, length, ap, sym, ◌∙◌, take, length-take, inl, inr}
+use Rattle.std.proofs.Common.{arith, ℕ, ◌≡◌, ◌≤◌, List, [], ◌∷◌, length, ap, sym, ◌∙◌, ◌+◌, take, drop, length-append, length-take, inl, inr}
 use Rattle.std.specs.Prelude.{⊤}
 use Rattle.std.proofs.lemmas.List.{length-map}
-use Rattle.httparse.specs.Grammar.{Field}
+use Rattle.httparse.specs.Grammar.{Field, print_request, print_response}
 use Rattle.httparse.specs.Spans.{AreFieldsAt, header_bytes, name_and_value}
 use Rattle.httparse.specs.declared.spans.HeaderSpan.{HeaderSpan}
 use Rattle.ws_upgrade.specs.Heads.{RequestParts, ResponseParts, RequestMeets, ResponseMeets, request_order, response_order, request_parts, response_parts, IsFirstUnmet, IsRequestRefusal, IsResponseRefusal}
-use Rattle.ws_upgrade.specs.Reading.{JudgesRequest, RefusesRequest, IsRequestRead, JudgesResponse, RefusesResponse, IsResponseRead}
+use Rattle.ws_upgrade.specs.Reading.{head_part, HoldsRequest, HoldsResponse, JudgesRequest, RefusesRequest, IsRequestRead, JudgesResponse, RefusesResponse, IsResponseRead}
 use Rattle.ws_upgrade.specs.declared.faults.HeadFault.{HeadFault}
 use Rattle.ws_upgrade.specs.declared.faults.HeadFault.TheVariants.{Head, TooLarge}
 use Rattle.ws_upgrade.specs.declared.requests.RequestRead.{RequestRead}
@@ -56,6 +56,14 @@ request_read bytes NeedRequest judged = absurd judged.3
 request_read bytes (GotRequest upgrade used) judged = judged
 request_read bytes (RefusedRequest fault) judged = refuses_request bytes fault judged
 
+-- the head that is told of is among the bytes
+pub request_held : (bytes : List ℕ) (answer : RequestRead) → IsRequestRead bytes answer → HoldsRequest bytes answer
+request_held bytes NeedRequest read = tt
+request_held bytes (GotRequest upgrade used) (head, len, begins, answers) =
+    let all : length (head_part bytes) ≡ length (print_request head) + length (drop len (head_part bytes)) = ap length begins.reads.1 ∙ length-append (print_request head) (drop len (head_part bytes)) in
+    omega (arith, answers.0, begins.whole, all, length-take 8192 bytes)
+request_held bytes (RefusedRequest fault) read = tt
+
 no_head_response : (nonce : List ℕ) (response : ResponseParts) → IsResponseRefusal nonce response Head → ⊥
 unfolding Lacks
 no_head_response nonce response = no_refusal (ResponseMeets nonce response) response_order Head ((λ e. cc), ((λ e. cc), ((λ e. cc), ((λ e. cc), ((λ e. cc), ((λ e. cc), ((λ e. cc), tt)))))))
@@ -74,3 +82,11 @@ pub response_read : (nonce bytes : List ℕ) (answer : ResponseRead) → JudgesR
 response_read nonce bytes NeedResponse judged = absurd judged.3
 response_read nonce bytes (GotResponse used) judged = judged
 response_read nonce bytes (RefusedResponse fault) judged = refuses_response nonce bytes fault judged
+
+-- the head that is told of is among the bytes
+pub response_held : (nonce bytes : List ℕ) (answer : ResponseRead) → IsResponseRead nonce bytes answer → HoldsResponse bytes answer
+response_held nonce bytes NeedResponse read = tt
+response_held nonce bytes (GotResponse used) (head, len, begins, answers) =
+    let all : length (head_part bytes) ≡ length (print_response head) + length (drop len (head_part bytes)) = ap length begins.reads.1 ∙ length-append (print_response head) (drop len (head_part bytes)) in
+    omega (arith, answers.0, begins.whole, all, length-take 8192 bytes)
+response_held nonce bytes (RefusedResponse fault) read = tt

@@ -1,6 +1,6 @@
 -- What reading the front of some bytes as a head answers. What a head is is the grammar of `httparse` alone: the one
 -- of RFC 9112 sections 2 to 5.
-use Rattle.std.specs.Prelude.{◌≡◌, ℕ, ◌<◌, ◌≤◌, List, length, take, drop, codes, ◌⊎◌}
+use Rattle.std.specs.Prelude.{◌≡◌, ℕ, ◌<◌, ◌≤◌, List, length, take, drop, codes, ◌⊎◌, ⊤}
 use Rattle.httparse.specs.Grammar.{RequestHead, ResponseHead, print_request, print_response, ReadsRequest, ReadsResponse, HasNoRequest, HasNoResponse, NeverHasRequest, NeverHasResponse, MayBecomeRequest, MayBecomeResponse}
 use Rattle.httparse.specs.Spans.{RequestExceeds, ResponseExceeds}
 use Rattle.ws_upgrade.specs.Accept.{accept_value_of}
@@ -65,6 +65,18 @@ abbrev pub JudgesRequest : List ℕ → RequestRead → Type 0
 JudgesRequest bytes answer =
     (head : RequestHead) × (len : ℕ) × BeginsWithRequest bytes head len × AnswersRequest (request_parts head) len answer
 
+-- each head that stands at the front is accepted with its parts, or refused with the first requirement that it doesn't
+-- meet
+abbrev pub JudgesEachRequest : List ℕ → RequestRead → Type 0
+JudgesEachRequest bytes answer =
+    (head : RequestHead) (len : ℕ) → BeginsWithRequest bytes head len → AnswersRequest (request_parts head) len answer
+
+-- the head that is told of is among the bytes
+abbrev pub HoldsRequest : List ℕ → RequestRead → Type 0
+HoldsRequest bytes NeedRequest = ⊤
+HoldsRequest bytes (GotRequest upgrade used) = used ≤ length bytes
+HoldsRequest bytes (RefusedRequest fault) = ⊤
+
 -- what a refusal says of the bytes: Head, that no continuation of them is a head
 abbrev pub RefusesRequest : List ℕ → HeadFault → Type 0
 RefusesRequest bytes Head = NeverHasRequest (head_part bytes)
@@ -104,6 +116,17 @@ AnswersResponse nonce response len (RefusedResponse fault) = IsResponseRefusal n
 abbrev pub JudgesResponse : List ℕ → List ℕ → ResponseRead → Type 0
 JudgesResponse nonce bytes answer =
     (head : ResponseHead) × (len : ℕ) × BeginsWithResponse bytes head len × AnswersResponse nonce (response_parts head) len answer
+
+-- each head that stands at the front is accepted, or refused with the first requirement that it doesn't meet
+abbrev pub JudgesEachResponse : List ℕ → List ℕ → ResponseRead → Type 0
+JudgesEachResponse nonce bytes answer =
+    (head : ResponseHead) (len : ℕ) → BeginsWithResponse bytes head len → AnswersResponse nonce (response_parts head) len answer
+
+-- the head that is told of is among the bytes
+abbrev pub HoldsResponse : List ℕ → ResponseRead → Type 0
+HoldsResponse bytes NeedResponse = ⊤
+HoldsResponse bytes (GotResponse used) = used ≤ length bytes
+HoldsResponse bytes (RefusedResponse fault) = ⊤
 
 -- what a refusal says of the bytes: Head, that no continuation of them is a head
 abbrev pub RefusesResponse : List ℕ → List ℕ → HeadFault → Type 0

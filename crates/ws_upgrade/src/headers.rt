@@ -1,8 +1,8 @@
 //! The headers of a head by name (RFC 6455 section 4.2.1, RFC 9110 section 5.1).
 
-ghost use Rattle.std.specs.Prelude.{◌≡◌, ◌≢◌, ◌<◌, ◌≤◌, ◌∷◌, ◌++◌, [], List, ℕ, length, map, drop, All, MatchOption, IfSome, IsTrue, ◌↔◌};
+ghost use Rattle.std.specs.Prelude.{◌≡◌, ◌<◌, ◌≤◌, ◌∷◌, [], List, ℕ, length, map, drop, All, MatchOption, IfSome, IsTrue, ◌↔◌};
 ghost use Rattle.httparse.specs.Spans.{header_bytes, IsHeaderWithin};
-ghost use Rattle.ws_upgrade.specs.Members.{IsOnlyValue, values_of, members_in, members_of, has_member};
+ghost use Rattle.ws_upgrade.specs.Members.{IsOnlyValue, values_of, members_of, has_member};
 ghost use Rattle.ws_upgrade.specs.Walking.{members_left};
 
 use crate::members::{first_member, is_same_word};

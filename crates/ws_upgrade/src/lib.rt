@@ -13,6 +13,6 @@ mod writing;
 
 pub use accepting::accept_of;
 pub use faults::{HeadFault, RequestFault};
-pub use requests::{RequestRead, Upgrade, read_request};
+pub use requests::{MAX_HEAD, RequestRead, Upgrade, read_request};
 pub use responses::{ResponseRead, read_response};
 pub use writing::{refusal, request, response};

@@ -1,7 +1,6 @@
 //! The members of a value that is a list (RFC 9110 section 5.6.1).
 
 ghost use Rattle.std.specs.Prelude.{◌≡◌, ◌<◌, ◌∷◌, ◌++◌, [], length, not, ◌==◌, filter, position, reverse, MatchOption};
-ghost use Rattle.std.specs.List.{slice_split};
 ghost use Rattle.std.specs.Str.{str_eq_ignore_ascii_case};
 ghost use Rattle.httparse.specs.Grammar.{skip_ows, trim_ows};
 ghost use Rattle.ws_upgrade.specs.Members.{comma, members_in};

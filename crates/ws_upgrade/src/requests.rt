@@ -4,7 +4,7 @@ ghost use Rattle.std.specs.Prelude.{◌≡◌, ℕ, List, MatchOption, MatchResu
 ghost use Rattle.httparse.specs.Grammar.{RequestHead};
 ghost use Rattle.httparse.specs.Spans.{IsRequestAt, IsRequestWithin};
 ghost use Rattle.ws_upgrade.specs.Heads.{RequestParts, request_parts, IsOnlyKey, IsRequestRefusal};
-ghost use Rattle.ws_upgrade.specs.Reading.{head_part, BeginsWithRequest, OpensRequest, AnswersRequest, IsRequestRead};
+ghost use Rattle.ws_upgrade.specs.Reading.{head_part, OpensRequest, AnswersRequest, HoldsRequest, IsRequestRead, JudgesEachRequest};
 
 use crate::accepting::{accept_of, is_key};
 use crate::faults::HeadFault;
@@ -52,11 +52,11 @@ pub enum RequestRead<'a> {
 pub fn read_request(bytes: &[u8]) -> RequestRead<'_>
     // Of each head that stands at the front: it is accepted with its parts, or refused with the
     // first requirement that it doesn't meet.
-    ensures judged { (head : RequestHead) (len : ℕ) → BeginsWithRequest bytes.now head len
-        → AnswersRequest (request_parts head) len result }
+    ensures judged { JudgesEachRequest bytes.now result }
 
     // What each answer says of the bytes.
     ensures read { IsRequestRead bytes.now result }
+    ensures within { HoldsRequest bytes.now result }
 {
     let front = head_part(bytes);
     let mut spans = [EMPTY_HEADER_SPAN; MAX_HEADERS];

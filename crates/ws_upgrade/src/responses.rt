@@ -1,10 +1,10 @@
 //! Reading the head of a response (RFC 6455 section 4.1).
 
-ghost use Rattle.std.specs.Prelude.{◌≡◌, ℕ, MatchResult};
+ghost use Rattle.std.specs.Prelude.{MatchResult};
 ghost use Rattle.httparse.specs.Grammar.{ResponseHead};
 ghost use Rattle.httparse.specs.Spans.{IsResponseAt, IsResponseWithin};
 ghost use Rattle.ws_upgrade.specs.Heads.{ResponseParts, response_parts, IsResponseRefusal, IsAcceptedResponse};
-ghost use Rattle.ws_upgrade.specs.Reading.{BeginsWithResponse, AnswersResponse, IsResponseRead};
+ghost use Rattle.ws_upgrade.specs.Reading.{AnswersResponse, HoldsResponse, IsResponseRead, JudgesEachResponse};
 
 use crate::accepting::{accept_of, key_text};
 use crate::faults::HeadFault;
@@ -38,11 +38,11 @@ pub enum ResponseRead {
 pub fn read_response(bytes: &[u8], nonce: [u8; 16]) -> ResponseRead
     // Of each head that stands at the front: it is accepted, or refused with the first requirement
     // that it doesn't meet.
-    ensures judged { (head : ResponseHead) (len : ℕ) → BeginsWithResponse bytes.now head len
-        → AnswersResponse nonce (response_parts head) len result }
+    ensures judged { JudgesEachResponse nonce bytes.now result }
 
     // What each answer says of the bytes.
     ensures read { IsResponseRead nonce bytes.now result }
+    ensures within { HoldsResponse bytes.now result }
 {
     let front = head_part(bytes);
     let mut spans = [EMPTY_HEADER_SPAN; MAX_HEADERS];

@@ -1,6 +1,6 @@
 //! The heads that are written (RFC 6455 sections 4.1, 4.2.2 and 4.4).
 
-ghost use Rattle.std.specs.Prelude.{◌≡◌, ◌≤◌, ◌++◌, ◌↔◌, length, All, IsTrue, IfOk, OnOk, IsErrOf};
+ghost use Rattle.std.specs.Prelude.{◌≡◌, ◌++◌, ◌↔◌, IsTrue, IfOk, OnOk, IsErrOf};
 ghost use Rattle.ws_upgrade.specs.Texts.{line_end, request_line, header_line, IsHost, is_path_byte, IsPath, request_text, request_bytes, response_bytes, refusal_bytes};
 
 use crate::accepting::key_text;

@@ -1,7 +1,7 @@
 use Rattle.std.proofs.Common.{rules, arith, inr}
 use Rattle.httparse.specs.Spans.{IsRequestOf}
 use Rattle.httparse.specs.Grammar.{HasNoRequest, MayBecomeRequest}
-use Rattle.ws_upgrade.proofs.Judged.{few_fields, request_read}
+use Rattle.ws_upgrade.proofs.Judged.{few_fields, request_held, request_read}
 use Rattle.ws_upgrade.proofs.requests.read_request.Goals as goal
 
 pub returns-in-Ok-Complete-clause-read : goal.returns-in-Ok-Complete-clause-read
@@ -21,3 +21,6 @@ returns-else-bytes-lt-MAX_HEAD-clause-read c =
     let none : HasNoRequest front = search rules in
     let may : MayBecomeRequest front = search rules in
     inr (omega arith, rw (← c.head_part-front.ensures) (none, may))
+
+pub returns-in-Ok-Complete-clause-within : goal.returns-in-Ok-Complete-clause-within
+returns-in-Ok-Complete-clause-within c = request_held c.args.bytes.now c.answer.result (returns-in-Ok-Complete-clause-read c)

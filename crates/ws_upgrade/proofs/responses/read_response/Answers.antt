@@ -1,7 +1,7 @@
 use Rattle.std.proofs.Common.{rules, arith, inr}
 use Rattle.httparse.specs.Spans.{IsResponseOf}
 use Rattle.httparse.specs.Grammar.{HasNoResponse, MayBecomeResponse}
-use Rattle.ws_upgrade.proofs.Judged.{few_fields, response_read}
+use Rattle.ws_upgrade.proofs.Judged.{few_fields, response_held, response_read}
 use Rattle.ws_upgrade.proofs.responses.read_response.Goals as goal
 
 pub returns-in-Ok-Complete-clause-read : goal.returns-in-Ok-Complete-clause-read
@@ -21,3 +21,6 @@ returns-else-bytes-lt-MAX_HEAD-clause-read c =
     let none : HasNoResponse front = search rules in
     let may : MayBecomeResponse front = search rules in
     inr (omega arith, rw (← c.head_part-front.ensures) (none, may))
+
+pub returns-in-Ok-Complete-clause-within : goal.returns-in-Ok-Complete-clause-within
+returns-in-Ok-Complete-clause-within c = response_held c.args.nonce c.args.bytes.now c.answer.result (returns-in-Ok-Complete-clause-read c)
