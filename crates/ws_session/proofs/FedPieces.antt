@@ -9,7 +9,7 @@ use Rattle.ws_frame.specs.Frame.{Frame, KeyedFrame, frame_bytes, stream_bytes}
 use Rattle.ws_session.specs.declared.event.Event.{Event}
 use Rattle.ws_session.specs.Limits.{LimitsValue}
 use Rattle.ws_session.specs.Events.{HasEvents}
-use Rattle.ws_session.specs.Replies.{replies_of, under_key}
+use Rattle.ws_session.specs.Replies.{reply_to, replies_of, under_key}
 use Rattle.ws_session.specs.Exchange.{SessionValue, HasExchanged, is_over, status_of, Takes, TakesNothing}
 use Rattle.ws_session.proofs.Growth.{one_events}
 use Rattle.std.proofs.lemmas.List.{take-take, drop-take}
@@ -34,7 +34,7 @@ module _ (role : Role) (limits : LimitsValue) (key : List ℕ) (es : List Event)
   sent : List Frame
   sent = replies_of [] es
 
-  fed_going : Takes old new (replies_of [] es) bytes piece false key put after taken → HasFed role limits key new (es ++ option_to_list taken.event) after (bytes ++ take taken.used piece)
+  fed_going : Takes reply_to old new (replies_of [] es) bytes piece false key put after taken → HasFed role limits key new (es ++ option_to_list taken.event) after (bytes ++ take taken.used piece)
   fed_going t =
       let more : replies_of [] (es ++ option_to_list taken.event) ≡ replies_of [] es ++ replies_of (replies_of [] es) (option_to_list taken.event) = replies-append [] es (option_to_list taken.event) in
       let events : HasEvents old.role old.limits bytes es = subst (λ (k : LimitsValue). HasEvents old.role k bytes es) (sym fed.limits_kept) (subst (λ (k : Role). HasEvents k limits bytes es) (sym fed.role_kept) fed.has_events) in
@@ -67,13 +67,13 @@ module _ (role : Role) (limits : LimitsValue) (key : List ℕ) (es : List Event)
       subst (λ (l : List Event). HasFed role limits key new l after (bytes ++ take taken.used piece)) (sym none)
       (subst (λ (l : List ℕ). HasFed role limits key new es l (bytes ++ take taken.used piece)) (sym t.put) (subst (λ (x : SessionValue). HasFed role limits key x es put (bytes ++ take taken.used piece)) (sym t.unchanged) now))
 
-  fed_by : (b : Bool) → is_over old.status ≡ b → (is_over old.status ≡ false → (sent : List Frame) (s : List ℕ) (ended : Bool) → HasExchanged old sent s ended → Takes old new sent s piece ended key put after taken)
+  fed_by : (b : Bool) → is_over old.status ≡ b → (is_over old.status ≡ false → (sent : List Frame) (s : List ℕ) (ended : Bool) → HasExchanged old sent s ended → Takes reply_to old new sent s piece ended key put after taken)
       → (is_over old.status ≡ true → TakesNothing old new piece put after taken) → HasFed role limits key new (es ++ option_to_list taken.event) after (bytes ++ take taken.used piece)
   fed_by true e going over = fed_over e (over e)
   fed_by false e going over = fed_going (going e (replies_of [] es) bytes false fed.exchanged)
 
   -- one call on what was fed so far
-  pub fed_more : (is_over old.status ≡ false → (sent : List Frame) (s : List ℕ) (ended : Bool) → HasExchanged old sent s ended → Takes old new sent s piece ended key put after taken)
+  pub fed_more : (is_over old.status ≡ false → (sent : List Frame) (s : List ℕ) (ended : Bool) → HasExchanged old sent s ended → Takes reply_to old new sent s piece ended key put after taken)
       → (is_over old.status ≡ true → TakesNothing old new piece put after taken) → HasFed role limits key new (es ++ option_to_list taken.event) after (bytes ++ take taken.used piece)
   fed_more going over = fed_by (is_over old.status) refl going over
 

@@ -157,13 +157,13 @@ module _ (role : Role) (limits : LimitsValue) (opened : Option Message) (x : Key
 
 -- ---- a frame without a fault is valid
 
-module _ (role : Role) (limits : LimitsValue) (opened : Option Message) (x : KeyedFrame) (can : CanBeSent x) (key : is_masked x.key ≡ expects_key role) (fine : HasNoFaultOfNext role limits opened (frame_bytes x)) where
+pub nothing_masked : (k : Option (List ℕ)) (l : List ℕ) → l ≡ masked_payload k [] ++ l
+nothing_masked None l = refl
+nothing_masked (Some k) l = refl
+
+module _ (role : Role) (limits : LimitsValue) (opened : Option Message) (x : KeyedFrame) (can : CanBeSent x) (fine : HasNoFaultOfNext role limits opened (frame_bytes x)) where
   is_header : IsHeader (header_of x)
   is_header = (sent_is_wire x can).header
-
-  nothing_masked : (k : Option (List ℕ)) (l : List ℕ) → l ≡ masked_payload k [] ++ l
-  nothing_masked None l = refl
-  nothing_masked (Some k) l = refl
 
   -- nothing applies to the frame
   never : (r : Reason) → Applies role limits opened (header_of x) [] r → ⊥
@@ -209,7 +209,7 @@ module _ (role : Role) (limits : LimitsValue) (opened : Option Message) (x : Key
   true_of true h = refl
   true_of false h = absurd (h refl)
 
-  alone_is : IsValidAlone x.frame
+  pub alone_is : IsValidAlone x.frame
   alone_is = record {
     rsv = elim (cases_eq x.frame.rsv 0) [ inl e ↦ e | inr other ↦ absurd (never ReservedBits (inl (refl, other))) ];
     opcode = opcode_is;
@@ -238,25 +238,24 @@ module _ (role : Role) (limits : LimitsValue) (opened : Option Message) (x : Key
   not_never_text : FrameOfText opened x.frame → x.frame.fin ≡ true → BeginsText (open_payload opened ++ x.frame.payload) → (IsText (open_payload opened ++ x.frame.payload) → ⊥) → ⊥
   not_never_text is fin begins h = never_whole TextCut (is, fin, refl, begins, h)
 
+  held : (a b : ℕ) (reason : List ℕ) → a ∷ b ∷ reason ≡ x.frame.payload → HoldsCode x.frame.payload (make_value (256 * a + b) reason)
+  held a b reason is =
+      let high : a < 256 = subst (λ (l : List ℕ). get_or l 0 0 < 256) (sym is) (can.payload 0) in
+      let low : b < 256 = subst (λ (l : List ℕ). get_or l 1 0 < 256) (sym is) (can.payload 1) in
+      record { fits = code_fits a b high low; bytes = sym is ∙ two_bytes_are a b reason high low }
+
+  -- its code is allowed
+  pub not_never_code : x.frame.opcode ≡ 8 → (a b : ℕ) (reason : List ℕ) → a ∷ b ∷ reason ≡ x.frame.payload → (CodeAllowed (256 * a + b) → ⊥) → ⊥
+  not_never_code e a b reason is h = never_whole CloseCode (e, refl, (make_value (256 * a + b) reason, held a b reason is, h))
+
   not_never_close : x.frame.opcode ≡ 8 → (p : List ℕ) → p ≡ x.frame.payload → length p ≤ 125 → ((c : Option CloseValue) × IsClosePayload p c → ⊥) → ⊥
   not_never_close e [] is short h = h (None, refl)
   not_never_close e (a ∷ []) is short h = never_whole CloseOneByte (e, refl, ap (λ (l : List ℕ). length l) (sym is))
   not_never_close e (a ∷ b ∷ reason) is short h =
-      let high : a < 256 = subst (λ (l : List ℕ). get_or l 0 0 < 256) (sym is) (can.payload 0) in
-      let low : b < 256 = subst (λ (l : List ℕ). get_or l 1 0 < 256) (sym is) (can.payload 1) in
       let close = make_value (256 * a + b) reason in
-      let bytes : a ∷ b ∷ reason ≡ close_payload (Some close) = two_bytes_are a b reason high low in
-      let holds : HoldsCode x.frame.payload close = record { fits = code_fits a b high low; bytes = sym is ∙ bytes } in
-      never_whole CloseCode (
-        e,
-        refl,
-        (
-          close,
-          holds,
-          λ allowed.
-              never_whole CloseReason (e, refl, (close, holds, λ text. h (Some close, (record { code = allowed; reason = text; short = reason_short a b reason short }, bytes)))),
-        ),
-      )
+      let holds = held a b reason is in
+      not_never_code e a b reason is (λ allowed.
+      never_whole CloseReason (e, refl, (close, holds, λ text. h (Some close, (record { code = allowed; reason = text; short = reason_short a b reason short }, is ∙ holds.bytes)))))
 
   of_text_or_not : FrameOfText opened x.frame ⊎ (FrameOfText opened x.frame → ⊥)
   of_text_or_not = text_frame_or_not opened x.frame.opcode

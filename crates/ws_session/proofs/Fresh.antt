@@ -7,7 +7,7 @@ use Rattle.ws_session.specs.Faults.{HasNoFault}
 use Rattle.ws_session.specs.Events.{HasEvents}
 use Rattle.ws_session.specs.NextFrame.{IsPartOfFrame}
 use Rattle.ws_session.specs.declared.status.Status.TheVariants as status
-use Rattle.ws_session.specs.Exchange.{HasExchanged}
+use Rattle.ws_session.specs.Exchange.{SendingValue, HasExchanged}
 use Rattle.ws_session.proofs.Next.{place_is, two_bytes}
 use Rattle.ws_session.proofs.Growing.{none_in_nothing}
 
@@ -32,7 +32,8 @@ fresh role limits = record { events = []; has_events = no_events role limits; st
 pub part_of_nothing : (role : Role) (limits : LimitsValue) (opened : Option Message) → IsPartOfFrame role limits opened []
 part_of_nothing role limits opened = record { clean = λ n r f. let e = f.parts in absurd cc; none = none_in_nothing }
 
-pub fresh_by : (role : Role) (limits : LimitsValue) (opened : Option Message) (rest : List ℕ) → opened ≡ None → rest ≡ [] → HasExchanged (record { role = role; limits = limits; opened = opened; rest = rest; sending = None; status = status.Open }) [] [] false
-fresh_by role limits opened rest a b =
-    subst (λ (o : Option Message). HasExchanged (record { role = role; limits = limits; opened = o; rest = rest; sending = None; status = status.Open }) [] [] false) (sym a)
-    (subst (λ (l : List ℕ). HasExchanged (record { role = role; limits = limits; opened = None; rest = l; sending = None; status = status.Open }) [] [] false) (sym b) (fresh role limits))
+pub fresh_by : (role : Role) (limits : LimitsValue) (opened : Option Message) (rest : List ℕ) (sending : Option SendingValue) → opened ≡ None → rest ≡ [] → sending ≡ None → HasExchanged (record { role = role; limits = limits; opened = opened; rest = rest; sending = sending; status = status.Open }) [] [] false
+fresh_by role limits opened rest sending a b d =
+    subst (λ (o : Option Message). HasExchanged (record { role = role; limits = limits; opened = o; rest = rest; sending = sending; status = status.Open }) [] [] false) (sym a)
+    (subst (λ (l : List ℕ). HasExchanged (record { role = role; limits = limits; opened = None; rest = l; sending = sending; status = status.Open }) [] [] false) (sym b)
+    (subst (λ (o : Option SendingValue). HasExchanged (record { role = role; limits = limits; opened = None; rest = []; sending = o; status = status.Open }) [] [] false) (sym d) (fresh role limits)))

@@ -20,12 +20,14 @@ use Rattle.ws_session.specs.Events.{event_of, events_after, through_close, endin
 use Rattle.ws_session.specs.NextFrame.{BeginsNoFrame, HasNoFaultOfNext, IsFirstFaultOfNext, IsPartOfFrame, opened_with, event_behind, owed_at, IsAfter}
 use Rattle.ws_session.specs.declared.status.Status.{Status}
 use Rattle.ws_session.specs.declared.status.Status.TheVariants as status
-use Rattle.ws_session.specs.Replies.{replies_of}
+use Rattle.ws_session.specs.declared.session.Answering.{Answering}
+use Rattle.ws_session.specs.Inside.{reply_by, CanAnswer}
+use Rattle.ws_session.specs.Replies.{replies_by}
 use Rattle.ws_session.specs.Exchange.{SessionValue, SendingValue, HasExchanged, IsSendingOf, is_over, status_after, status_of}
 use Rattle.ws_session.proofs.Faults.{fault_before}
 use Rattle.ws_session.proofs.Growth.{events_after-append, one_events}
 use Rattle.ws_session.proofs.OpenMessage.{open_snoc, event_snoc}
-use Rattle.ws_session.proofs.Statuses.{IsGoingOn, status_snoc, replies_at, owed_control, open_control, status_after_event}
+use Rattle.ws_session.proofs.Statuses.{IsGoingOn, status_snoc, replies_at, owed_keeps, status_after_event}
 use Rattle.ws_session.proofs.Streams.{ending_before_past}
 use Rattle.ws_session.proofs.Next.{still_clean, first_of_next, within_front, two_bytes}
 use Rattle.ws_frame.proofs.Splits.{all-append, SomeSplit, some_split, split_goes_on}
@@ -119,11 +121,11 @@ module _ (v : SessionValue) (sent : List Frame) (s : List ℕ) (ended : Bool) (g
 
   -- ---- an event
 
-  pub event_agrees : (t : List ℕ) (e : Event) (opened : Option Message) (w : SessionValue) → IsAfter v w e opened
-      → (h : HasEvents v.role v.limits t (events_after [] (frames_of g.frames) ++ e ∷ [])) → (is_over w.status ≡ false → (opened ≡ open_message_of (frames_of h.frames)) × (h.rest ≡ [])) → HasExchanged w (sent ++ replies_of sent (e ∷ [])) t ended
-  event_agrees t e opened w a h taking =
+  pub event_agrees : (a : Answering) → CanAnswer a v.sending → (t : List ℕ) (e : Event) (opened : Option Message) (w : SessionValue) → IsAfter v w e opened
+      → (h : HasEvents v.role v.limits t (events_after [] (frames_of g.frames) ++ e ∷ [])) → (is_over w.status ≡ false → (opened ≡ open_message_of (frames_of h.frames)) × (h.rest ≡ [])) → HasExchanged w (sent ++ replies_by (reply_by a) sent (e ∷ [])) t ended
+  event_agrees a can t e opened w is_after h taking =
       let es = events_after [] (frames_of g.frames) in
-      let owed : replies_of sent (e ∷ []) ≡ owed_at v.status e = replies_at sent v.status e g.status in
+      let owed : replies_by (reply_by a) sent (e ∷ []) ≡ owed_at v.status (reply_by a e) = replies_at a sent v.status e g.status in
       record {
         events = es ++ e ∷ [];
         has_events = record {
@@ -131,14 +133,14 @@ module _ (v : SessionValue) (sent : List Frame) (s : List ℕ) (ended : Bool) (g
           rest = h.rest;
           split = h.split;
           fault = h.fault;
-          is_fault = subst (λ (k : LimitsValue). IsFaultOf w.role k t h.fault) (sym a.limits) (subst (λ (k : Role). IsFaultOf k v.limits t h.fault) (sym a.role) h.is_fault);
+          is_fault = subst (λ (k : LimitsValue). IsFaultOf w.role k t h.fault) (sym is_after.limits) (subst (λ (k : Role). IsFaultOf k v.limits t h.fault) (sym is_after.role) h.is_fault);
           are = h.are;
         };
-        status = a.status ∙ sym (status_after_event sent v.status e g.status) ∙ ap (λ b. status_after (sent ++ owed_at v.status e) b (Some e)) (sym g.goes_on) ∙ sym (status_snoc (sent ++ owed_at v.status e) ended es e)
+        status = is_after.status ∙ sym (status_after_event a sent v.status e g.status) ∙ ap (λ b. status_after (sent ++ owed_at v.status (reply_by a e)) b (Some e)) (sym g.goes_on) ∙ sym (status_snoc (sent ++ owed_at v.status (reply_by a e)) ended es e)
             ∙ ap (λ (l : List Frame). status_of (sent ++ l) ended (es ++ e ∷ [])) (sym owed);
-        taking = λ going. let is = a.taking going in let now = taking going in (is.0 ∙ now.0, is.1 ∙ sym now.1);
-        sending = subst (λ (o : Option SendingValue). IsSendingOf (open_message_of (sent ++ replies_of sent (e ∷ []))) o) (sym a.sending)
-            (subst (λ (m : Option Message). IsSendingOf m v.sending) (sym (ap (λ (l : List Frame). open_message_of (sent ++ l)) owed ∙ open_control sent (owed_at v.status e) (owed_control v.status e))) g.sending);
+        taking = λ going. let is = is_after.taking going in let now = taking going in (is.0 ∙ now.0, is.1 ∙ sym now.1);
+        sending = subst (λ (o : Option SendingValue). IsSendingOf (open_message_of (sent ++ replies_by (reply_by a) sent (e ∷ []))) o) (sym is_after.sending)
+            (subst (λ (fs : List Frame). IsSendingOf (open_message_of (sent ++ fs)) v.sending) (sym owed) (owed_keeps a v.status e sent v.sending can g.sending));
       }
 
   -- ---- one more frame
@@ -170,9 +172,9 @@ module _ (v : SessionValue) (sent : List Frame) (s : List ℕ) (ended : Bool) (g
     opened_here : opened_with v.opened x.frame ≡ open_message_of (frames_of (g.frames ++ x ∷ []))
     opened_here = ap (λ (o : Option Message). opened_with o x.frame) g.opened ∙ sym (open_snoc (frames_of g.frames) x.frame) ∙ ap (λ (l : List Frame). open_message_of l) (sym (map-append (λ (y : KeyedFrame). y.frame) g.frames (x ∷ [])))
 
-    pub frame_agrees : (w : SessionValue) → IsAfter v w (event_behind v.opened x.frame) (opened_with v.opened x.frame) → HasExchanged w (sent ++ replies_of sent (event_behind v.opened x.frame ∷ [])) (s ++ u) ended
+    pub frame_agrees : (a : Answering) → CanAnswer a v.sending → (w : SessionValue) → IsAfter v w (event_behind v.opened x.frame) (opened_with v.opened x.frame) → HasExchanged w (sent ++ replies_by (reply_by a) sent (event_behind v.opened x.frame ∷ [])) (s ++ u) ended
     unfolding frame_here
-    frame_agrees w a = event_agrees (s ++ u) (event_behind v.opened x.frame) (opened_with v.opened x.frame) w a frame_here (λ going. (opened_here, refl))
+    frame_agrees a can w is_after = event_agrees a can (s ++ u) (event_behind v.opened x.frame) (opened_with v.opened x.frame) w is_after frame_here (λ going. (opened_here, refl))
 
   -- ---- a fault
 
@@ -208,8 +210,8 @@ module _ (v : SessionValue) (sent : List Frame) (s : List ℕ) (ended : Bool) (g
     pub fault_events : (es : List Event) → HasEvents v.role v.limits s es → HasEvents v.role v.limits (s ++ u) (es ++ event.Failed r ∷ [])
     fault_events es h = subst (λ (l : List Event). HasEvents v.role v.limits (s ++ u) (l ++ event.Failed r ∷ [])) (sym (are_so_far es h)) fault_here
 
-    pub fault_agrees : (w : SessionValue) → IsAfter v w (event.Failed r) None → HasExchanged w (sent ++ replies_of sent (event.Failed r ∷ [])) (s ++ u) ended
-    fault_agrees w a = event_agrees (s ++ u) (event.Failed r) None w a fault_here (λ going. absurd (failed_is_over w.status r a.status going))
+    pub fault_agrees : (a : Answering) → CanAnswer a v.sending → (w : SessionValue) → IsAfter v w (event.Failed r) None → HasExchanged w (sent ++ replies_by (reply_by a) sent (event.Failed r ∷ [])) (s ++ u) ended
+    fault_agrees a can w is_after = event_agrees a can (s ++ u) (event.Failed r) None w is_after fault_here (λ going. absurd (failed_is_over w.status r is_after.status going))
 
 -- its status by the events so far
 pub status_going : (v : SessionValue) (sent : List Frame) (s : List ℕ) (ended : Bool) → HasExchanged v sent s ended → (g : IsGoingOn v sent s ended) → v.status ≡ status_of sent ended (events_after [] (frames_of g.frames))

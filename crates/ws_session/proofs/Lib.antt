@@ -17,3 +17,12 @@ pub mod FedPieces
 pub mod Valid
 pub mod FineFrames
 pub mod ValidStreams
+pub mod ToldMessages
+pub mod Within
+pub mod Fitting
+pub mod Told
+pub mod Longest
+pub mod Decided
+pub mod SentValid
+pub mod Replied
+pub mod Sent

@@ -22,7 +22,7 @@ use Rattle.ws_session.specs.Events.{event_of_control, event_of, events_after, th
 use Rattle.std.specs.Prelude.{◌||◌}
 use Rattle.ws_session.specs.declared.status.Status.{Status}
 use Rattle.ws_session.specs.declared.status.Status.TheVariants as status
-use Rattle.ws_session.specs.Replies.{reply_to, until_close, has_close, replies_of}
+use Rattle.ws_session.specs.Replies.{reply_to, until_close, has_close, replies_by, replies_of}
 use Rattle.ws_session.specs.Exchange.{SessionValue, HasExchanged, is_over, last_event, status_before_close, status_after, status_of}
 use Rattle.ws_session.proofs.Faults.{fault_before}
 use Rattle.ws_session.proofs.Growth.{one_events}
@@ -63,20 +63,25 @@ has_until : (xs : List Frame) → has_close (until_close xs) ≡ has_close xs
 has_until [] = refl
 has_until (x ∷ xs) = has_until_by (is_close x) x xs refl (has_until xs)
 
-replies_by : (b : Bool) (sent : List Frame) (es fs : List Event) → has_close sent ≡ b → replies_of sent (es ++ fs) ≡ replies_of sent es ++ replies_of (sent ++ replies_of sent es) fs
-replies_by true sent es fs e =
-    let none : replies_of sent es ≡ [] = ap (λ b. cond b [] (until_close (flat_map reply_to es))) e in
-    let again : has_close (sent ++ replies_of sent es) ≡ true = ap (λ (l : List Frame). has_close (sent ++ l)) none ∙ ap (λ (l : List Frame). has_close l) (append-nil sent) ∙ e in
-    ap (λ b. cond b [] (until_close (flat_map reply_to (es ++ fs)))) e ∙ sym (ap (λ (l : List Frame). l ++ replies_of (sent ++ replies_of sent es) fs) none ∙ ap (λ b. cond b [] (until_close (flat_map reply_to fs))) again)
-replies_by false sent es fs e =
-    let first : replies_of sent es ≡ until_close (flat_map reply_to es) = ap (λ b. cond b [] (until_close (flat_map reply_to es))) e in
-    let after : has_close (sent ++ replies_of sent es) ≡ has_close (flat_map reply_to es) = has_close-append sent (replies_of sent es) ∙ ap (λ b. b || has_close (replies_of sent es)) e ∙ ap (λ (l : List Frame). has_close l) first ∙ has_until (flat_map reply_to es) in
-    ap (λ b. cond b [] (until_close (flat_map reply_to (es ++ fs)))) e ∙ ap (λ (l : List Frame). until_close l) (flat_map-append reply_to es fs) ∙ until_close-append (flat_map reply_to es) (flat_map reply_to fs)
-    ∙ ap (λ (l : List Frame). l ++ cond (has_close (flat_map reply_to es)) [] (until_close (flat_map reply_to fs))) (sym first) ∙ ap (λ b. replies_of sent es ++ cond b [] (until_close (flat_map reply_to fs))) (sym after)
+-- whatever is replied to an event
+module _ (reply : Event → List Frame) where
+  by_close : (b : Bool) (sent : List Frame) (es fs : List Event) → has_close sent ≡ b → replies_by reply sent (es ++ fs) ≡ replies_by reply sent es ++ replies_by reply (sent ++ replies_by reply sent es) fs
+  by_close true sent es fs e =
+      let none : replies_by reply sent es ≡ [] = ap (λ b. cond b [] (until_close (flat_map reply es))) e in
+      let again : has_close (sent ++ replies_by reply sent es) ≡ true = ap (λ (l : List Frame). has_close (sent ++ l)) none ∙ ap (λ (l : List Frame). has_close l) (append-nil sent) ∙ e in
+      ap (λ b. cond b [] (until_close (flat_map reply (es ++ fs)))) e ∙ sym (ap (λ (l : List Frame). l ++ replies_by reply (sent ++ replies_by reply sent es) fs) none ∙ ap (λ b. cond b [] (until_close (flat_map reply fs))) again)
+  by_close false sent es fs e =
+      let first : replies_by reply sent es ≡ until_close (flat_map reply es) = ap (λ b. cond b [] (until_close (flat_map reply es))) e in
+      let after : has_close (sent ++ replies_by reply sent es) ≡ has_close (flat_map reply es) = has_close-append sent (replies_by reply sent es) ∙ ap (λ b. b || has_close (replies_by reply sent es)) e ∙ ap (λ (l : List Frame). has_close l) first ∙ has_until (flat_map reply es) in
+      ap (λ b. cond b [] (until_close (flat_map reply (es ++ fs)))) e ∙ ap (λ (l : List Frame). until_close l) (flat_map-append reply es fs) ∙ until_close-append (flat_map reply es) (flat_map reply fs)
+      ∙ ap (λ (l : List Frame). l ++ cond (has_close (flat_map reply es)) [] (until_close (flat_map reply fs))) (sym first) ∙ ap (λ b. replies_by reply sent es ++ cond b [] (until_close (flat_map reply fs))) (sym after)
 
--- replies to more events are those to the first, and then, with these sent, those to the others
+  -- replies to more events are those to the first, and then, with these sent, those to the others
+  pub replies_by-append : (sent : List Frame) (es fs : List Event) → replies_by reply sent (es ++ fs) ≡ replies_by reply sent es ++ replies_by reply (sent ++ replies_by reply sent es) fs
+  replies_by-append sent es fs = by_close (has_close sent) sent es fs refl
+
 pub replies-append : (sent : List Frame) (es fs : List Event) → replies_of sent (es ++ fs) ≡ replies_of sent es ++ replies_of (sent ++ replies_of sent es) fs
-replies-append sent es fs = replies_by (has_close sent) sent es fs refl
+replies-append = replies_by-append reply_to
 
 -- ---- what a session that is over was told last
 

@@ -1,5 +1,5 @@
 -- What a call takes of a piece: nothing yet, a frame, or a fault.
-use Rattle.std.proofs.Common.{◌≡◌, ℕ, zero, suc, ◌+◌, ◌<◌, ◌≤◌, Bool, false, List, [], ◌∷◌, ◌++◌, length, take, drop, Option, Some, None, refl, sym, ap, ◌∙◌, append_assoc, arith, inl, inr, subst}
+use Rattle.std.proofs.Common.{◌≡◌, ℕ, zero, suc, ◌+◌, ◌<◌, ◌≤◌, Bool, false, cond, List, [], ◌∷◌, ◌++◌, length, take, drop, Option, Some, None, refl, sym, ap, ◌∙◌, append_assoc, arith, inl, inr, subst}
 use Rattle.std.specs.Prelude.{map}
 use Rattle.std.proofs.lemmas.Bool.{cases_lt}
 use Rattle.std.proofs.lemmas.List.{length-append, append-nil, take-append-drop, length-take-le}
@@ -18,7 +18,12 @@ use Rattle.ws_session.specs.Limits.{LimitsValue}
 use Rattle.ws_session.specs.Faults.{IsNoLater}
 use Rattle.ws_session.specs.Events.{HasEvents}
 use Rattle.ws_session.specs.NextFrame.{IsFaultOfNext, HasNoFaultOfNext, IsFirstFaultOfNext, IsPartOfFrame, opened_with, event_behind, owed_at, IsAfter}
-use Rattle.ws_session.specs.Replies.{replies_of, under_key}
+use Rattle.ws_session.specs.declared.session.Answering.{Answering}
+use Rattle.ws_session.specs.declared.session.Answering.TheVariants.{Plain, Echoing}
+use Rattle.ws_session.specs.Inside.{reply_by, CanAnswer}
+use Rattle.ws_session.specs.declared.event.Taken.{Taken}
+use Rattle.ws_session.specs.Replies.{reply_to, echo_reply_to, until_close, has_close, replies_by, under_key}
+use Rattle.std.specs.Prelude.{option_to_list}
 use Rattle.ws_session.specs.Exchange.{SessionValue, HasExchanged, is_over, Takes}
 use Rattle.std.proofs.lemmas.List.{take_all}
 use Rattle.ws_session.proofs.Next.{within_front, next_later, next_earlier, drop_front}
@@ -110,37 +115,37 @@ cut_piece kept piece n = ap (λ (l : List ℕ). kept ++ l) (sym (take-append-dro
 long_of : (kept piece : List ℕ) (n : ℕ) → n ≤ length piece → length (kept ++ take n piece) ≡ length kept + n
 long_of kept piece n le = length-append kept (take n piece) ∙ ap (λ k. length kept + k) (length-take-le n piece le)
 
-module _ (old : SessionValue) (sent : List Frame) (s piece : List ℕ) (ended : Bool) (key before after : List ℕ) (h : HasExchanged old sent s ended) (going : is_over old.status ≡ false) where
+module _ (a : Answering) (old : SessionValue) (can_answer : CanAnswer a old.sending) (sent : List Frame) (s piece : List ℕ) (ended : Bool) (key before after : List ℕ) (h : HasExchanged old sent s ended) (going : is_over old.status ≡ false) where
   g : IsGoingOn old sent s ended
   g = is_going_on old sent s ended h going
 
   -- nothing is whole yet
   pub takes_part : (new : SessionValue) → IsPartOfFrame old.role old.limits old.opened (old.rest ++ piece) → after ≡ before
       → new.role ≡ old.role → new.limits ≡ old.limits → new.opened ≡ old.opened → new.rest ≡ old.rest ++ piece → new.sending ≡ old.sending → new.status ≡ old.status
-      → Takes old new sent s piece ended key before after (record { used = length piece; event = None })
+      → Takes (reply_by a) old new sent s piece ended key before after (record { used = length piece; event = None })
   takes_part new p put role limits opened rest sending status =
       let all : take (length piece) piece ≡ piece = take_all (length piece) piece (omega arith) in
       record {
         used = omega arith;
-        agrees = subst (λ (l : List Frame). HasExchanged new l (s ++ take (length piece) piece) ended) (sym (ap (λ (l : List Frame). sent ++ l) (no_replies sent) ∙ append-nil sent))
+        agrees = subst (λ (l : List Frame). HasExchanged new l (s ++ take (length piece) piece) ended) (sym (ap (λ (l : List Frame). sent ++ l) (no_replies (reply_by a) sent) ∙ append-nil sent))
             (subst (λ (l : List ℕ). HasExchanged new sent (s ++ l) ended) (sym all) (quiet_agrees old sent s ended g piece p (status_going old sent s ended h g) new role limits opened rest sending status));
         event = λ es has. subst (λ (l : List Event). HasEvents old.role old.limits (s ++ take (length piece) piece) l) (sym (append-nil es))
             (subst (λ (l : List ℕ). HasEvents old.role old.limits (s ++ l) es) (sym all) (quiet_events old sent s ended g piece p es has));
         least = λ n es lt has. quiet_events old sent s ended g (take n piece) (part_of_part old.role old.limits old.opened (old.rest ++ take n piece) (drop n piece) (subst (λ (l : List ℕ). IsPartOfFrame old.role old.limits old.opened l) (cut_piece old.rest piece n) p)) es has;
         whole = λ none. refl;
-        put = put ∙ sym (append-nil before) ∙ ap (λ (l : List Frame). before ++ stream_bytes (map (under_key old.role key) l)) (sym (no_replies sent));
+        put = put ∙ sym (append-nil before) ∙ ap (λ (l : List Frame). before ++ stream_bytes (map (under_key old.role key) l)) (sym (no_replies (reply_by a) sent));
         same = (role, limits);
       }
 
-  owed_here : (e : Event) → replies_of sent (e ∷ []) ≡ owed_at old.status e
-  owed_here e = replies_at sent old.status e g.status
+  owed_here : (e : Event) → replies_by (reply_by a) sent (e ∷ []) ≡ owed_at old.status (reply_by a e)
+  owed_here e = replies_at a sent old.status e g.status
 
   -- a frame is whole
   pub takes_frame : (new : SessionValue) (x : KeyedFrame) (more : List ℕ) (used : ℕ) → CanBeSent x → old.rest ++ piece ≡ frame_bytes x ++ more → length (frame_bytes x) ≡ length old.rest + used → HasNoFaultOfNext old.role old.limits old.opened (old.rest ++ piece)
-      → after ≡ before ++ stream_bytes (map (under_key old.role key) (owed_at old.status (event_behind old.opened x.frame)))
+      → after ≡ before ++ stream_bytes (map (under_key old.role key) (owed_at old.status (reply_by a (event_behind old.opened x.frame))))
       → IsAfter old new (event_behind old.opened x.frame) (opened_with old.opened x.frame)
-      → Takes old new sent s piece ended key before after (record { used = used; event = Some (event_behind old.opened x.frame) })
-  takes_frame new x more used can e size clean put a =
+      → Takes (reply_by a) old new sent s piece ended key before after (record { used = used; event = Some (event_behind old.opened x.frame) })
+  takes_frame new x more used can e size clean put is_after =
       let total : length old.rest + length piece ≡ length (frame_bytes x) + length more = sym (length-append old.rest piece) ∙ ap (λ (l : List ℕ). length l) e ∙ length-append (frame_bytes x) more in
       let le : used ≤ length piece = omega arith in
       let cut = cut_piece old.rest piece used in
@@ -148,22 +153,22 @@ module _ (old : SessionValue) (sent : List Frame) (s piece : List ℕ) (ended : 
       let none : HasNoFaultOfNext old.role old.limits old.opened (old.rest ++ take used piece) = λ n r f. clean n r (subst (λ (l : List ℕ). IsFaultOfNext old.role old.limits old.opened l n r) (sym cut) (next_later old.role old.limits old.opened (old.rest ++ take used piece) (drop used piece) n r f)) in
       record {
         used = le;
-        agrees = frame_agrees old sent s ended g (take used piece) x can front none new a;
+        agrees = frame_agrees old sent s ended g (take used piece) x can front none a can_answer new is_after;
         event = λ es has. frame_events old sent s ended g (take used piece) x can front none es has;
         least = λ n es lt has.
             let short : length (old.rest ++ take n piece) ≡ length old.rest + n = long_of old.rest piece n (omega arith) in
             quiet_events old sent s ended g (take n piece) (part_of_frame old.role old.limits old.opened (old.rest ++ take n piece) (drop n piece) x more can (sym (cut_piece old.rest piece n) ∙ e) (omega arith) (subst (λ (l : List ℕ). HasNoFaultOfNext old.role old.limits old.opened l) (cut_piece old.rest piece n) clean)) es has;
         whole = λ some. absurd cc;
         put = put ∙ ap (λ (l : List Frame). before ++ stream_bytes (map (under_key old.role key) l)) (sym (owed_here (event_behind old.opened x.frame)));
-        same = (a.role, a.limits);
+        same = (is_after.role, is_after.limits);
       }
 
   -- a fault
   pub takes_fault : (new : SessionValue) (place used : ℕ) (r : Reason) → AreBytes (old.rest ++ piece) → IsFirstFaultOfNext old.role old.limits old.opened (old.rest ++ piece) place r → place ≡ length old.rest + used
-      → after ≡ before ++ stream_bytes (map (under_key old.role key) (owed_at old.status (event.Failed r)))
+      → after ≡ before ++ stream_bytes (map (under_key old.role key) (owed_at old.status (reply_by a (event.Failed r))))
       → IsAfter old new (event.Failed r) None
-      → Takes old new sent s piece ended key before after (record { used = used; event = Some (event.Failed r) })
-  takes_fault new place used r bytes first size put a =
+      → Takes (reply_by a) old new sent s piece ended key before after (record { used = used; event = Some (event.Failed r) })
+  takes_fault new place used r bytes first size put is_after =
       let total : length (old.rest ++ piece) ≡ length old.rest + length piece = length-append old.rest piece in
       let le : used ≤ length piece = omega (arith, within_bytes old.role old.limits old.opened (old.rest ++ piece) place r first.fault) in
       let cut = cut_piece old.rest piece used in
@@ -173,14 +178,14 @@ module _ (old : SessionValue) (sent : List Frame) (s piece : List ℕ) (ended : 
       let are : AreBytes (old.rest ++ take used piece) = front_are_bytes (old.rest ++ take used piece) (drop used piece) (subst (λ (l : List ℕ). AreBytes l) cut bytes) in
       record {
         used = le;
-        agrees = fault_agrees old sent s ended g (take used piece) r are here new a;
+        agrees = fault_agrees old sent s ended g (take used piece) r are here a can_answer new is_after;
         event = λ es has. fault_events old sent s ended g (take used piece) r are here es has;
         least = λ n es lt has.
             let short : length (old.rest ++ take n piece) ≡ length old.rest + n = long_of old.rest piece n (omega arith) in
             quiet_events old sent s ended g (take n piece) (part_before_fault old.role old.limits old.opened (old.rest ++ take n piece) (drop n piece) place r (subst (λ (l : List ℕ). IsFirstFaultOfNext old.role old.limits old.opened l place r) (cut_piece old.rest piece n) first) (omega arith)) es has;
         whole = λ some. absurd cc;
         put = put ∙ ap (λ (l : List Frame). before ++ stream_bytes (map (under_key old.role key) l)) (sym (owed_here (event.Failed r)));
-        same = (a.role, a.limits);
+        same = (is_after.role, is_after.limits);
       }
 
 -- what is judged ends behind what was kept, and within the piece
@@ -191,3 +196,51 @@ ends_between role limits opened kept piece (judged.Whole used content) p is =
     (omega (arith, is.size, frame_behind_kept role limits opened kept piece is.frame is.more p is.can is.front), omega (arith, is.size))
 ends_between role limits opened kept piece (judged.Fault reason place) p is =
     (fault_behind_kept role limits opened kept piece place reason p is.fault, omega (arith, within_bytes role limits opened (kept ++ piece) place reason is.fault, length-append kept piece))
+
+-- ---- two ways to say what is owed
+
+replies_as : (f g : Event → List Frame) → ((e : Event) → f e ≡ g e) → (sent : List Frame) (o : Option Event) → replies_by f sent (option_to_list o) ≡ replies_by g sent (option_to_list o)
+replies_as f g same sent None = refl
+replies_as f g same sent (Some e) = ap (λ (fs : List Frame). cond (has_close sent) [] (until_close (fs ++ []))) (same e)
+
+takes_as : (f g : Event → List Frame) → ((e : Event) → f e ≡ g e) → (old new : SessionValue) (sent : List Frame) (s piece : List ℕ) (ended : Bool) (key before after : List ℕ) (taken : Taken)
+    → Takes f old new sent s piece ended key before after taken → Takes g old new sent s piece ended key before after taken
+takes_as f g same old new sent s piece ended key before after taken t =
+    let owed = replies_as f g same sent taken.event in
+    record {
+      used = t.used;
+      agrees = subst (λ (fs : List Frame). HasExchanged new (sent ++ fs) (s ++ take taken.used piece) ended) owed t.agrees;
+      event = t.event;
+      least = t.least;
+      whole = t.whole;
+      put = t.put ∙ ap (λ (fs : List Frame). before ++ stream_bytes (map (under_key old.role key) fs)) owed;
+      same = t.same;
+    }
+
+plain_reply : (e : Event) → reply_by Plain e ≡ reply_to e
+plain_reply event.Part = refl
+plain_reply (event.Message m) = refl
+plain_reply (event.Ping p) = refl
+plain_reply (event.Pong p) = refl
+plain_reply (event.Close c) = refl
+plain_reply (event.Failed r) = refl
+
+echo_reply : (e : Event) → reply_by Echoing e ≡ echo_reply_to e
+echo_reply event.Part = refl
+echo_reply (event.Message m) = refl
+echo_reply (event.Ping p) = refl
+echo_reply (event.Pong p) = refl
+echo_reply (event.Close c) = refl
+echo_reply (event.Failed r) = refl
+
+pub takes_plain : (old new : SessionValue) (sent : List Frame) (s piece : List ℕ) (ended : Bool) (key before after : List ℕ) (taken : Taken) → Takes (reply_by Plain) old new sent s piece ended key before after taken → Takes reply_to old new sent s piece ended key before after taken
+takes_plain = takes_as (reply_by Plain) reply_to plain_reply
+
+-- what is taken by the session within
+pub echo_takes : (v old new : SessionValue) (sent : List Frame) (s piece : List ℕ) (ended : Bool) (key before after : List ℕ) (taken : Taken) → v ≡ old
+    → (is_over v.status ≡ false → (sent : List Frame) (s : List ℕ) (ended : Bool) → HasExchanged v sent s ended → Takes (reply_by Echoing) v new sent s piece ended key before after taken)
+    → is_over old.status ≡ false → HasExchanged old sent s ended → Takes echo_reply_to old new sent s piece ended key before after taken
+echo_takes v old new sent s piece ended key before after taken e takes going h =
+    takes_as (reply_by Echoing) echo_reply_to echo_reply old new sent s piece ended key before after taken
+    (subst (λ (x : SessionValue). Takes (reply_by Echoing) x new sent s piece ended key before after taken) e
+    (takes (subst (λ (x : SessionValue). is_over x.status ≡ false) (sym e) going) sent s ended (subst (λ (x : SessionValue). HasExchanged x sent s ended) (sym e) h)))

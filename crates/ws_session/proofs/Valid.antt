@@ -138,7 +138,7 @@ data_by : (f : Frame) → f.opcode < 8 → (f.opcode ≤ 2) ⊎ ((8 ≤ f.opcode
 data_by f lt (inl le) = le
 data_by f lt (inr big) = absurd (omega (arith, big.0))
 
-data_opcode : (f : Frame) → is_control f ≡ false → IsValidAlone f → f.opcode ≤ 2
+pub data_opcode : (f : Frame) → is_control f ≡ false → IsValidAlone f → f.opcode ≤ 2
 data_opcode f e a = data_by f (leb-false 8 f.opcode e) a.opcode
 
 good_snoc : (limits : LimitsValue) (fs : List Frame) (f : Frame) (b c : Bool) → is_control f ≡ b → f.fin ≡ c → GoodGroups limits (groups_of (data_frames fs)) → IsValidNext limits (open_message_of fs) f → GoodGroups limits (groups_of (data_frames (fs ++ f ∷ [])))

@@ -45,7 +45,7 @@ frames_snoc xs x = map-append (λ (y : KeyedFrame). y.frame) xs (x ∷ [])
 stream_snoc : (xs : List KeyedFrame) (x : KeyedFrame) → stream_bytes (xs ++ x ∷ []) ≡ stream_bytes xs ++ frame_bytes x
 stream_snoc xs x = flat_map-append frame_bytes xs (x ∷ []) ∙ ap (λ (l : List ℕ). stream_bytes xs ++ l) (append-nil (frame_bytes x))
 
-no_closes : (xs : List KeyedFrame) → NoneCloses (frames_of xs) → AllByRecursion IsNoClose xs
+pub no_closes : (xs : List KeyedFrame) → NoneCloses (frames_of xs) → AllByRecursion IsNoClose xs
 no_closes [] h = tt
 no_closes (x ∷ xs) h = (h.0, no_closes xs h.1)
 
@@ -130,7 +130,7 @@ module _ (role : Role) (limits : LimitsValue) where
             let front : HasNoFault role limits (stream_bytes s.front) = faultless_before role limits (stream_bytes s.front) (frame_bytes s.last) here in
             let fine : HasNoFaultOfNext role limits (open_message_of (frames_of s.front)) (frame_bytes s.last) = λ k r f. here (length (stream_bytes s.front) + k) r (fault_of_next role limits s.front (frame_bytes s.last) sent.0 (no_closes s.front last.0) (before_last s.front s.last front) k r f) in
             invalid_within n s.front shorter sent.0 fit.0 last.1 front (λ v.
-            fine_is_valid role limits (open_message_of (frames_of s.front)) s.last sent.1 fit.1 fine (open_begins_of (groups_of (data_frames (frames_of s.front))).unfinished v.unfinished)
+            fine_is_valid role limits (open_message_of (frames_of s.front)) s.last sent.1 fine (open_begins_of (groups_of (data_frames (frames_of s.front))).unfinished v.unfinished)
             (λ next. h (subst (λ (l : List Frame). AreValidFrames limits l) (sym frames) (valid_snoc limits (frames_of s.front) s.last.frame v last.0 next))))
       ]
 

@@ -21,7 +21,8 @@ use Rattle.ws_session.specs.declared.judging.Content.TheVariants as content
 use Rattle.ws_session.specs.declared.judging.Judged.{Judged}
 use Rattle.ws_session.specs.Assembly.{message_plus}
 use Rattle.ws_session.specs.Judging.{IsJudged, IsWholeFrame, IsContentOf, event_of_content, opened_after}
-use Rattle.ws_session.specs.Inside.{IsSound, EndsBetween, HasActed}
+use Rattle.ws_session.specs.declared.session.Answering.{Answering}
+use Rattle.ws_session.specs.Inside.{IsSound, EndsBetween, HasActed, CanAnswer, reply_by}
 use Rattle.ws_session.proofs.Taking.{ends_between, takes_part, takes_frame, takes_fault}
 
 -- what was judged of the fields is judged of the session
@@ -71,33 +72,33 @@ content_opened opened frame (content.Close close) is = sym (ap (λ n. cond (nat_
 -- ---- a call
 
 -- nothing was whole yet
-pub took_part : (old new : SessionValue) (sent : List Frame) (s piece : List ℕ) (ended : Bool) (key put : List ℕ) → HasExchanged old sent s ended → is_over old.status ≡ false → IsPartOfFrame old.role old.limits old.opened (old.rest ++ piece)
+pub took_part : (a : Answering) (old new : SessionValue) (sent : List Frame) (s piece : List ℕ) (ended : Bool) (key put : List ℕ) → CanAnswer a old.sending → HasExchanged old sent s ended → is_over old.status ≡ false → IsPartOfFrame old.role old.limits old.opened (old.rest ++ piece)
     → (made : SessionValue) → made ≡ old → new.role ≡ made.role → new.limits ≡ made.limits → new.opened ≡ made.opened → new.rest ≡ made.rest ++ piece → new.sending ≡ made.sending → new.status ≡ made.status
-    → Takes old new sent s piece ended key put put (record { used = length piece; event = None })
-took_part old new sent s piece ended key put h going p made e role limits opened rest sending status =
-    takes_part old sent s piece ended key put put h going new p refl (role ∙ ap (λ (x : SessionValue). x.role) e) (limits ∙ ap (λ (x : SessionValue). x.limits) e) (opened ∙ ap (λ (x : SessionValue). x.opened) e)
+    → Takes (reply_by a) old new sent s piece ended key put put (record { used = length piece; event = None })
+took_part a old new sent s piece ended key put can_answer h going p made e role limits opened rest sending status =
+    takes_part a old can_answer sent s piece ended key put put h going new p refl (role ∙ ap (λ (x : SessionValue). x.role) e) (limits ∙ ap (λ (x : SessionValue). x.limits) e) (opened ∙ ap (λ (x : SessionValue). x.opened) e)
     (rest ∙ ap (λ (x : SessionValue). x.rest ++ piece) e) (sending ∙ ap (λ (x : SessionValue). x.sending) e) (status ∙ ap (λ (x : SessionValue). x.status) e)
 
 -- a frame was whole
-pub took_frame : (old new : SessionValue) (sent : List Frame) (s piece : List ℕ) (ended : Bool) (key before after : List ℕ) (used kept : ℕ) (x : Content) (e : Event) → HasExchanged old sent s ended → is_over old.status ≡ false
-    → IsWholeFrame old.role old.limits old.opened (old.rest ++ piece) used x → kept ≡ length old.rest → length old.rest < used → e ≡ event_of_content old.opened x → HasActed old new key before after e (opened_after old.opened x)
-    → Takes old new sent s piece ended key before after (record { used = used - kept; event = Some e })
-took_frame old new sent s piece ended key before after used kept x e h going w same behind is_event acted =
+pub took_frame : (a : Answering) (old new : SessionValue) (sent : List Frame) (s piece : List ℕ) (ended : Bool) (key before after : List ℕ) (used kept : ℕ) (x : Content) (e : Event) → CanAnswer a old.sending → HasExchanged old sent s ended → is_over old.status ≡ false
+    → IsWholeFrame old.role old.limits old.opened (old.rest ++ piece) used x → kept ≡ length old.rest → length old.rest < used → e ≡ event_of_content old.opened x → HasActed a old new key before after e (opened_after old.opened x)
+    → Takes (reply_by a) old new sent s piece ended key before after (record { used = used - kept; event = Some e })
+took_frame a old new sent s piece ended key before after used kept x e can_answer h going w same behind is_event acted =
     let event_is : e ≡ event_behind old.opened w.frame.frame = is_event ∙ content_event old.opened w.frame.frame x w.is_content in
     let opened_is : opened_after old.opened x ≡ opened_with old.opened w.frame.frame = content_opened old.opened w.frame.frame x w.is_content in
     let size : length (frame_bytes w.frame) ≡ length old.rest + (used - kept) = omega (arith, w.size) in
-    subst (λ (d : Event). Takes old new sent s piece ended key before after (record { used = used - kept; event = Some d })) (sym event_is)
-    (takes_frame old sent s piece ended key before after h going new w.frame w.more (used - kept) w.can w.front size w.clean
-    (subst (λ (d : Event). after ≡ before ++ stream_bytes (map (under_key old.role key) (owed_at old.status d))) event_is acted.put)
+    subst (λ (d : Event). Takes (reply_by a) old new sent s piece ended key before after (record { used = used - kept; event = Some d })) (sym event_is)
+    (takes_frame a old can_answer sent s piece ended key before after h going new w.frame w.more (used - kept) w.can w.front size w.clean
+    (subst (λ (d : Event). after ≡ before ++ stream_bytes (map (under_key old.role key) (owed_at old.status (reply_by a d)))) event_is acted.put)
     (subst (λ (o : Option Message). IsAfter old new (event_behind old.opened w.frame.frame) o) opened_is (subst (λ (d : Event). IsAfter old new d (opened_after old.opened x)) event_is acted.is_after)))
 
 -- a rule was broken
-pub took_fault : (old new : SessionValue) (sent : List Frame) (s piece : List ℕ) (ended : Bool) (key before after : List ℕ) (place kept : ℕ) (r : Reason) (e : Event) → HasExchanged old sent s ended → is_over old.status ≡ false
-    → AreBytes (old.rest ++ piece) → IsFirstFaultOfNext old.role old.limits old.opened (old.rest ++ piece) place r → kept ≡ length old.rest → length old.rest < place → e ≡ event.Failed r → HasActed old new key before after e None
-    → Takes old new sent s piece ended key before after (record { used = place - kept; event = Some e })
-took_fault old new sent s piece ended key before after place kept r e h going are first same behind is_event acted =
+pub took_fault : (a : Answering) (old new : SessionValue) (sent : List Frame) (s piece : List ℕ) (ended : Bool) (key before after : List ℕ) (place kept : ℕ) (r : Reason) (e : Event) → CanAnswer a old.sending → HasExchanged old sent s ended → is_over old.status ≡ false
+    → AreBytes (old.rest ++ piece) → IsFirstFaultOfNext old.role old.limits old.opened (old.rest ++ piece) place r → kept ≡ length old.rest → length old.rest < place → e ≡ event.Failed r → HasActed a old new key before after e None
+    → Takes (reply_by a) old new sent s piece ended key before after (record { used = place - kept; event = Some e })
+took_fault a old new sent s piece ended key before after place kept r e can_answer h going are first same behind is_event acted =
     let size : place ≡ length old.rest + (place - kept) = omega arith in
-    subst (λ (d : Event). Takes old new sent s piece ended key before after (record { used = place - kept; event = Some d })) (sym is_event)
-    (takes_fault old sent s piece ended key before after h going new place (place - kept) r are first size
-    (subst (λ (d : Event). after ≡ before ++ stream_bytes (map (under_key old.role key) (owed_at old.status d))) is_event acted.put)
+    subst (λ (d : Event). Takes (reply_by a) old new sent s piece ended key before after (record { used = place - kept; event = Some d })) (sym is_event)
+    (takes_fault a old can_answer sent s piece ended key before after h going new place (place - kept) r are first size
+    (subst (λ (d : Event). after ≡ before ++ stream_bytes (map (under_key old.role key) (owed_at old.status (reply_by a d)))) is_event acted.put)
     (subst (λ (d : Event). IsAfter old new d None) is_event acted.is_after))

@@ -1,9 +1,11 @@
 -- What a session tells of the bytes that it takes: RFC 6455 sections 5.4, 5.5 and 6.2.
 use Rattle.std.specs.Prelude.{◌≡◌, ℕ, ◌+◌, ◌-◌, ◌*◌, nat_lt, ◌==◌, if◌then◌else◌, List, [], ◌∷◌, ◌++◌, length, Option, Some, None}
+use Rattle.std.specs.List.{flat_map}
 use Rattle.ws_frame.specs.declared.role.Role.{Role}
 use Rattle.ws_frame.specs.Frame.{Frame, KeyedFrame, frame_bytes}
 use Rattle.ws_frame.specs.Stream.{SplitsInto}
 use Rattle.ws_text.specs.Close.{CloseValue}
+use Rattle.ws_session.specs.declared.message.Message.{Message}
 use Rattle.ws_session.specs.declared.reason.Reason.{Reason}
 use Rattle.ws_session.specs.declared.event.Event.{Event}
 use Rattle.ws_session.specs.declared.event.Event.TheVariants as event
@@ -61,3 +63,13 @@ pub record HasEvents (role : Role) (limits : LimitsValue) (bytes : List ℕ) (ev
   pub fault : Option (ℕ × Reason)
   pub is_fault : IsFaultOf role limits bytes fault
   pub are : events ≡ events_of frames fault
+
+-- ---- messages among events
+
+abbrev pub message_in : Event → List Message
+message_in (event.Message message) = message ∷ []
+message_in _ = []
+
+-- the messages that events tell, in order
+abbrev pub messages_in : List Event → List Message
+messages_in events = flat_map message_in events

@@ -19,7 +19,7 @@ use Rattle.ws_session.specs.Limits.{LimitsValue}
 use Rattle.ws_session.specs.Messages.{open_message_of}
 use Rattle.ws_session.specs.Faults.{frames_of}
 use Rattle.ws_session.specs.Events.{HasEvents}
-use Rattle.ws_session.specs.Replies.{has_close, replies_of, under_key}
+use Rattle.ws_session.specs.Replies.{has_close, replies_by, under_key}
 
 -- ---- status
 
@@ -93,11 +93,12 @@ pub record HasExchanged (session : SessionValue) (sent : List Frame) (taken : Li
 
 -- ---- taking a piece
 
--- A call took the front of a piece, of a session that isn't over and has sent these frames and taken these bytes
-pub record Takes (old new : SessionValue) (sent : List Frame) (bytes piece : List ℕ) (ended : Bool) (key put_before put_after : List ℕ) (taken : Taken) : Type 0 where
+-- A call took the front of a piece, of a session that isn't over, has sent these frames and taken these bytes, and so
+-- replies to events
+pub record Takes (reply : Event → List Frame) (old new : SessionValue) (sent : List Frame) (bytes piece : List ℕ) (ended : Bool) (key put_before put_after : List ℕ) (taken : Taken) : Type 0 where
   pub used : taken.used ≤ length piece
   -- afterwards the session has also sent the frames owed for the event, and taken the bytes used
-  pub agrees : HasExchanged new (sent ++ replies_of sent (option_to_list taken.event)) (bytes ++ take taken.used piece) ended
+  pub agrees : HasExchanged new (sent ++ replies_by reply sent (option_to_list taken.event)) (bytes ++ take taken.used piece) ended
   -- the event is the one that the bytes used add
   pub event : (events : List Event) → HasEvents old.role old.limits bytes events → HasEvents old.role old.limits (bytes ++ take taken.used piece) (events ++ option_to_list taken.event)
   -- fewer bytes add none
@@ -105,7 +106,7 @@ pub record Takes (old new : SessionValue) (sent : List Frame) (bytes piece : Lis
   -- where the piece adds none it is used whole
   pub whole : taken.event ≡ None → taken.used ≡ length piece
   -- the frames owed are put behind what was there, under the key that was handed in if this is a client
-  pub put : put_after ≡ put_before ++ stream_bytes (map (under_key old.role key) (replies_of sent (option_to_list taken.event)))
+  pub put : put_after ≡ put_before ++ stream_bytes (map (under_key old.role key) (replies_by reply sent (option_to_list taken.event)))
   pub same : (new.role ≡ old.role) × (new.limits ≡ old.limits)
 
 -- A call of a session that is over: the piece is used whole, nothing is told, put or changed

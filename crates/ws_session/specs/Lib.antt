@@ -5,9 +5,12 @@ pub mod Faults
 pub mod Events
 pub mod Replies
 pub mod Exchange
+pub mod Sends
+pub mod Reach
 pub mod NextFrame
 pub mod Assembly
 pub mod Judging
 pub mod Inside
+pub mod Sending
 pub mod Feeding
 pub mod Examples

@@ -41,6 +41,10 @@ groups_of (frame ∷ frames) = with_frame frame (groups_of frames)
 abbrev pub kind_of : ℕ → Kind
 kind_of opcode = if opcode == 1 then Text else Binary
 
+abbrev pub opcode_of : Kind → ℕ
+opcode_of Text = 1
+opcode_of Binary = 2
+
 abbrev pub first_opcode : List Frame → ℕ
 first_opcode [] = 0
 first_opcode (frame ∷ frames) = frame.opcode

@@ -17,7 +17,6 @@ use Rattle.ws_session.specs.Limits.{LimitsValue}
 use Rattle.ws_session.specs.Messages.{is_control, kind_of}
 use Rattle.ws_session.specs.Faults.{Applies, IsNoLater}
 use Rattle.ws_session.specs.Events.{event_of_control}
-use Rattle.ws_session.specs.Replies.{reply_to}
 use Rattle.ws_session.specs.Exchange.{SessionValue, code_if_any, is_over}
 
 abbrev pub AreSent : List KeyedFrame → Type 0
@@ -75,10 +74,10 @@ status_with old (event.Failed reason) = status.Failed reason
 status_with old (event.Close close) = status.Clean (code_if_any close)
 status_with old _ = old
 
--- what a session that isn't over owes for an event
-abbrev pub owed_at : Status → Event → List Frame
-owed_at status.Closing e = []
-owed_at _ e = reply_to e
+-- what a session that isn't over sends of the frames that it owes
+abbrev pub owed_at : Status → List Frame → List Frame
+owed_at status.Closing frames = []
+owed_at _ frames = frames
 
 -- the session after an event: nothing is left of the frame, and this message is open, unless all is over
 pub record IsAfter (old new : SessionValue) (e : Event) (opened : Option Message) : Type 0 where

@@ -9,7 +9,8 @@ use Rattle.ws_session.specs.declared.reason.Reason.{Reason}
 use Rattle.ws_session.specs.declared.reason.Reason.TheVariants.{TooBig, NotText, TextCut, CloseReason}
 use Rattle.ws_session.specs.declared.event.Event.{Event}
 use Rattle.ws_session.specs.declared.event.Event.TheVariants as event
-use Rattle.ws_session.specs.Messages.{is_close}
+use Rattle.ws_session.specs.declared.message.Message.{Message}
+use Rattle.ws_session.specs.Messages.{is_close, opcode_of}
 
 -- the close code that tells a reason (section 7.4.1): 1009 too big, 1007 not text, else 1002 protocol error
 abbrev pub close_code_of : Reason → ℕ
@@ -52,8 +53,27 @@ has_close (frame ∷ frames) = is_close frame || has_close frames
 
 -- the frames that the events call for, in their order, and none once a close was sent, before or among them
 -- our choice: after its close an endpoint sends no frame of any kind (section 5.5.1 forbids data frames)
+abbrev pub replies_by : (Event → List Frame) → List Frame → List Event → List Frame
+replies_by reply sent events = if has_close sent then [] else until_close (flat_map reply events)
+
 abbrev pub replies_of : List Frame → List Event → List Frame
-replies_of sent events = if has_close sent then [] else until_close (flat_map reply_to events)
+replies_of sent events = replies_by reply_to sent events
+
+-- ---- an echo
+
+-- the message in one frame
+abbrev pub message_frame : Message → Frame
+message_frame message = record { fin = true; rsv = 0; opcode = opcode_of message.kind; payload = message.payload }
+
+-- an echo also sends each message back in one frame
+abbrev pub echo_reply_to : Event → List Frame
+echo_reply_to (event.Message message) = message_frame message ∷ []
+echo_reply_to e = reply_to e
+
+abbrev pub echo_replies_of : List Frame → List Event → List Frame
+echo_replies_of sent events = replies_by echo_reply_to sent events
+
+-- ---- keys
 
 -- the key of a frame that this role sends: a client masks each frame, a server none (section 5.1)
 abbrev pub key_for : Role → List ℕ → Option (List ℕ)

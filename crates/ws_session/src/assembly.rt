@@ -1,10 +1,11 @@
 //! The message that is open on the receiving side (RFC 6455 section 5.4).
 
-ghost use Rattle.std.specs.Prelude.{◌≡◌, ◌↔◌, ◌++◌, length, is_some, IsTrue, OnOk, OnErr, Some, None};
+ghost use Rattle.std.specs.Prelude.{◌≡◌, ◌↔◌, ◌++◌, length, is_some, IsTrue, IfOk, OnOk, OnErr, Some, None};
 ghost use Rattle.ws_session.specs.Faults.{open_payload, IsOpenText};
 ghost use Rattle.ws_session.specs.Assembly.{message_plus, IsTextOf, HasReadOpen};
 
 use crate::message::{Bytes, Kind, Message};
+use std::alloc::Global;
 use std::marker::Model;
 use ws_frame::NoMemory;
 use ws_text::Utf8Stream;
@@ -112,23 +113,26 @@ impl Assembly {
         Ok(())
     }
 
-    /// Hands out what is open, and leaves nothing.
-    pub(crate) fn close(&mut self) -> Option<Message>
-        ensures value { result ≡ self.old }
-        ensures after { self.new ≡ None }
+    /// The whole message, once its last payload has come. What is open stays as it was.
+    pub(crate) fn finished(
+        &self,
+        alloc: Global,
+        kind: Kind,
+        payload: Vec<u8>,
+    ) -> Result<Message, NoMemory>
+        ensures { IfOk result (λ message. message ≡ message_plus self.now kind payload.items) }
     {
-        match self.open.take() {
-            None => None,
-            Some(
-                Fragments {
-                    kind,
-                    payload,
-                    text: _,
-                },
-            ) => Some(Message {
+        let Some(fragments) = &self.open else {
+            return Ok(Message {
                 kind,
                 payload: Bytes::from_vec(payload),
-            }),
-        }
+            });
+        };
+        let mut joined = Vec::from_slice(alloc, &fragments.payload)?;
+        joined.extend_from_slice(&payload)?;
+        Ok(Message {
+            kind: fragments.kind,
+            payload: Bytes::from_vec(joined),
+        })
     }
 }

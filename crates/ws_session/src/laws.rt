@@ -1,18 +1,22 @@
 //! Laws over the definitions, each the contract of a function that does nothing.
 
-ghost use Rattle.std.specs.Prelude.{◌≡◌, ◌≤◌, ◌↔◌, ℕ, List, [], ◌++◌, length, Bool, true, false, Some};
+ghost use Rattle.std.specs.Prelude.{◌≡◌, ◌≢◌, ◌≤◌, ◌↔◌, ℕ, List, [], ◌∷◌, ◌++◌, length, take, map, Bool, true, false, Some, None};
 ghost use Rattle.std.specs.List.{AllByRecursion};
 ghost use Rattle.ws_frame.specs.declared.role.Role.{Role};
-ghost use Rattle.ws_frame.specs.Header.{AreBytes};
+ghost use Rattle.ws_frame.specs.Header.{AreBytes, IsKey};
 ghost use Rattle.ws_frame.specs.Frame.{Frame, KeyedFrame, CanBeSent, stream_bytes};
 ghost use Rattle.ws_session.specs.declared.reason.Reason.{Reason};
 ghost use Rattle.ws_session.specs.declared.event.Event.{Event};
 ghost use Rattle.ws_session.specs.declared.event.Event.TheVariants as event;
+ghost use Rattle.ws_session.specs.declared.status.Status.{Status};
 ghost use Rattle.ws_session.specs.Limits.{LimitsValue};
 ghost use Rattle.ws_session.specs.Validity.{AreValidFrames, NothingAfterClose};
 ghost use Rattle.ws_session.specs.Faults.{frames_of, KeysFit, IsFirstFault, HasNoFault};
-ghost use Rattle.ws_session.specs.Events.{HasEvents};
-ghost use Rattle.ws_session.specs.Replies.{replies_of};
+ghost use Rattle.ws_session.specs.Messages.{messages_of};
+ghost use Rattle.ws_session.specs.Events.{HasEvents, events_after, messages_in};
+ghost use Rattle.ws_session.specs.Replies.{has_close, replies_by, replies_of, key_for, under_key};
+ghost use Rattle.ws_session.specs.Reach.{fitting, first_passing, IsWithin, frames_within, is_too_big, events_within};
+ghost use Rattle.ws_session.specs.Sends.{Send, frame_of, most_limits, HasTextReason, MaySend};
 ghost use Rattle.ws_session.specs.Exchange.{SessionValue, HasExchanged, is_over, last_event};
 
 /// A stream has one list of events.
@@ -39,9 +43,52 @@ pub fn bytes_after_the_end()
         AreBytes (bytes ++ more) → HasExchanged session sent (bytes ++ more) false }
 {}
 
-/// Replies to more events are those to the first, and then, with these sent, those to the others.
+/// Replies to more events are those to the first, and then, with these sent, those to the others: whatever is replied
+/// to an event, by a session as `reply_to` says or by an echo.
 pub fn replies_go_on()
-    ensures { (sent : List Frame) (events later : List Event) → replies_of sent (events ++ later) ≡ replies_of sent events ++ replies_of (sent ++ replies_of sent events) later }
+    ensures { (reply : Event → List Frame) (sent : List Frame) (events later : List Event) →
+        replies_by reply sent (events ++ later) ≡ replies_by reply sent events ++ replies_by reply (sent ++ replies_by reply sent events) later }
+{}
+
+/// The messages among the events of some frames are those that the frames finish.
+pub fn messages_are_told()
+    ensures { (frames : List Frame) → messages_in (events_after [] frames) ≡ messages_of frames }
+{}
+
+/// The frames within the first bytes are the longest front of all that takes no more bytes and in which none passes the
+/// limit.
+pub fn longest_front_within()
+    ensures is { (limits : LimitsValue) (n : ℕ) (xs : List KeyedFrame) → IsWithin limits n xs (frames_within limits n xs) }
+    ensures longest { (limits : LimitsValue) (n : ℕ) (xs front : List KeyedFrame) → IsWithin limits n xs front → length front ≤ length (frames_within limits n xs) }
+{}
+
+/// Frames that are sent later leave what the first bytes hold.
+pub fn appended_frames_are_not_within()
+    ensures frames { (limits : LimitsValue) (n : ℕ) (xs more : List KeyedFrame) → n ≤ length (stream_bytes xs) → frames_within limits n (xs ++ more) ≡ frames_within limits n xs }
+    ensures too_big { (limits : LimitsValue) (n : ℕ) (xs more : List KeyedFrame) → n ≤ length (stream_bytes xs) → is_too_big limits n (xs ++ more) ≡ is_too_big limits n xs }
+{}
+
+/// What a valid sender can do to a receiver, under whatever limits each has: of the first bytes the receiver tells the
+/// frames in them that fit its limit, and then that one is too big. So no other fault comes of valid frames.
+pub fn valid_frames_are_told()
+    ensures { (role : Role) (limits most : LimitsValue) (n : ℕ) (xs : List KeyedFrame) → AllByRecursion CanBeSent xs → KeysFit role xs → AreValidFrames most (frames_of xs) →
+        HasEvents role limits (take n (stream_bytes xs)) (events_within limits n xs) }
+{}
+
+/// Of frames that keep to a limit none passes a greater one: all of them fit.
+pub fn greater_limits_pass_none()
+    ensures { (limits most : LimitsValue) (xs : List KeyedFrame) → AreValidFrames most (frames_of xs) → most.max_message ≤ limits.max_message →
+        (fitting limits xs ≡ xs) × (first_passing limits xs ≡ None) }
+{}
+
+/// Once a frame was too big, or a close has come, more bytes hold nothing more.
+pub fn more_bytes_after_the_last()
+    ensures too_big { (limits : LimitsValue) (n m : ℕ) (xs : List KeyedFrame) → n ≤ m → is_too_big limits n xs ≡ true →
+        (frames_within limits m xs ≡ frames_within limits n xs) × (is_too_big limits m xs ≡ true) }
+
+    // A close is the last of valid frames, so all of them have come.
+    ensures close { (limits most : LimitsValue) (n m : ℕ) (xs : List KeyedFrame) → n ≤ m → AreValidFrames most (frames_of xs) → has_close (frames_of (frames_within limits n xs)) ≡ true →
+        (frames_within limits m xs ≡ xs) × (is_too_big limits m xs ≡ false) }
 {}
 
 /// Frames under fitting keys, of which none follows a close, have a fault exactly where they aren't valid.
@@ -54,4 +101,27 @@ pub fn faults_are_of_invalid_frames()
     // So a session fails exactly then.
     ensures failed { (role : Role) (limits : LimitsValue) (xs : List KeyedFrame) (events : List Event) → AllByRecursion CanBeSent xs → KeysFit role xs → NothingAfterClose (frames_of xs) →
         HasEvents role limits (stream_bytes xs) events → (¬ (AreValidFrames limits (frames_of xs))) ↔ ((reason : Reason) × (last_event events ≡ Some (event.Failed reason))) }
+{}
+
+/// What may be sent behind valid frames leaves them valid.
+pub fn sends_stay_valid()
+    ensures { (sent : List Frame) (status : Status) (send : Send) → AreValidFrames most_limits sent → HasTextReason send → MaySend sent status send →
+        AreValidFrames most_limits (sent ++ frame_of send ∷ []) }
+{}
+
+/// What is owed for what comes, behind whatever came before, leaves valid frames valid.
+pub fn replies_stay_valid()
+    ensures { (role : Role) (limits most : LimitsValue) (bytes : List ℕ) (events later : List Event) (sent : List Frame) → HasEvents role limits bytes (events ++ later) → AreValidFrames most sent →
+        AreValidFrames most (sent ++ replies_of sent later) }
+{}
+
+/// What is owed for what comes can be sent, under whatever key an endpoint of any role is handed.
+pub fn replies_can_be_sent()
+    ensures { (role own : Role) (limits : LimitsValue) (bytes key : List ℕ) (events later : List Event) (sent : List Frame) → HasEvents role limits bytes (events ++ later) → IsKey (key_for own key) →
+        AllByRecursion CanBeSent (map (under_key own key) (replies_of sent later)) }
+{}
+
+/// The keys of what one role sends fit the other.
+pub fn keys_fit_the_other_role()
+    ensures { (own other : Role) (key : List ℕ) (frames : List Frame) → own ≢ other → KeysFit other (map (under_key own key) frames) }
 {}

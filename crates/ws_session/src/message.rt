@@ -1,6 +1,7 @@
 //! Messages (RFC 6455 section 5.6).
 
-ghost use Rattle.std.specs.Prelude.{◌≡◌, length};
+ghost use Rattle.std.specs.Prelude.{◌≡◌, ◌≤◌};
+ghost use Rattle.ws_session.specs.Messages.{opcode_of};
 
 use std::marker::Model;
 
@@ -11,6 +12,19 @@ pub enum Kind {
     Text,
     /// The payload is any bytes.
     Binary,
+}
+
+impl Kind {
+    /// The opcode that begins such a message.
+    pub(crate) fn opcode(self) -> u8
+        ensures value { result ≡ opcode_of self }
+        ensures bound { result ≤ 2 }
+    {
+        match self {
+            Kind::Text => 1,
+            Kind::Binary => 2,
+        }
+    }
 }
 
 /// Bytes on the heap, which contracts see as their list. Made from a `Vec` and made one again without taking memory.

@@ -1,6 +1,6 @@
 //! The payload of a control frame (RFC 6455 section 5.5).
 
-ghost use Rattle.std.specs.Prelude.{◌≡◌, ◌≤◌, ◌-◌, ◌++◌, length, replicate};
+ghost use Rattle.std.specs.Prelude.{◌≡◌, ◌≤◌, ◌+◌, ◌-◌, ◌++◌, length, replicate};
 
 use std::marker::Model;
 
@@ -45,6 +45,17 @@ impl Small {
             len: bytes.len(),
         }
     }
+
+    /// These bytes one after the other, kept in place.
+    pub(crate) fn joined(front: &[u8], back: &[u8]) -> Small
+        requires { length front.now + length back.now ≤ 125 }
+        ensures { result ≡ front.now ++ back.now }
+    {
+        Small {
+            bytes: padded_pair(front, back),
+            len: front.len() + back.len(),
+        }
+    }
 }
 
 /// The bytes, and zeros behind them.
@@ -55,5 +66,18 @@ fn padded(bytes: &[u8]) -> [u8; MAX_CONTROL_PAYLOAD]
     let mut kept = [0; MAX_CONTROL_PAYLOAD];
     let (front, _) = kept.split_at_mut(bytes.len());
     front.copy_from_slice(bytes);
+    kept
+}
+
+/// The bytes one after the other, and zeros behind them.
+fn padded_pair(front: &[u8], back: &[u8]) -> [u8; MAX_CONTROL_PAYLOAD]
+    requires { length front.now + length back.now ≤ 125 }
+    ensures { result ≡ (front.now ++ back.now) ++ replicate (125 - length (front.now ++ back.now)) 0 }
+{
+    let mut kept = [0; MAX_CONTROL_PAYLOAD];
+    let (first, rest) = kept.split_at_mut(front.len());
+    first.copy_from_slice(front);
+    let (second, _) = rest.split_at_mut(back.len());
+    second.copy_from_slice(back);
     kept
 }

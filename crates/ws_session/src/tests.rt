@@ -1,11 +1,15 @@
 //! Worked streams, each with what it gives: examples of RFC 6455, and others worked by hand from its sections.
 
-use crate::{Bytes, Event, Kind, Limits, Message, Reason, Run, Session, Status, feed_all};
+use crate::{
+    Bytes, Event, Kind, Limits, Message, Reason, Run, SendFault, Session, Status, feed_all,
+};
 use std::alloc::Global;
 use std::fmt::Write;
 use std::process::Abort;
 use std::test::Fail;
 use ws_frame::Role;
+
+mod sends;
 
 /// The masking key of the RFC's own example (section 5.7).
 const KEY: [u8; 4] = [0x37, 0xfa, 0x21, 0x3d];
@@ -326,6 +330,45 @@ fn a_message_of_the_limit_is_taken(rt: HostRuntime) -> Result<(), Fail> {
     assert!(rt;
         Limits::new(16_777_216).is_some(),
         "the most that a limit can be"
+    );
+    Ok(())
+}
+
+/// The RFC's own masked frame comes one byte at a time, and two faults are told at the eighth byte.
+#[test]
+fn bytes_used_one_at_a_time(rt: HostRuntime) -> Result<(), Fail> {
+    let limits = Limits::new(1000).ok_or("limits")?;
+    let hello = bytes_of(rt.alloc(), "8185 37fa213d 7f9f4d5158")?;
+    let mut session = Session::new(rt.alloc(), Role::Server, limits);
+    let mut put = Vec::new(rt.alloc());
+    for (i, byte) in hello.iter().enumerate() {
+        let taken = session.take(&[*byte], KEY, &mut put)?;
+        assert_eq!(rt; taken.used, 1, "byte {i}");
+        assert_eq!(rt; taken.event.is_some(), i == 10, "byte {i}");
+    }
+    assert_eq!(rt; session.status(), Status::Open);
+    assert!(rt; put.is_empty());
+    let faults = [
+        ("81fe0005 37fa213d 7f", Reason::NotShortest),
+        ("81e4 00000000 f49041", Reason::NotText),
+    ];
+    for (stream, reason) in faults {
+        let bytes = bytes_of(rt.alloc(), stream)?;
+        let mut session = Session::new(rt.alloc(), Role::Server, limits);
+        let taken = session.take(&bytes, KEY, &mut put)?;
+        assert_eq!(rt; taken.used, 8, "{stream}");
+        assert_eq!(rt; taken.event, Some(Event::Failed(reason)), "{stream}");
+    }
+    let mut session = Session::new(rt.alloc(), Role::Server, limits);
+    session.end();
+    assert_eq!(rt; session.status(), Status::Lost);
+    let refused = session.begin(Kind::Binary, b"", true, KEY, &mut put);
+    assert_eq!(rt; refused, Err(SendFault::Over));
+    let after = session.take(&[0x81], KEY, &mut put)?;
+    assert_eq!(rt; after.used, 1);
+    assert!(rt;
+        after.event.is_none(),
+        "a session that is over says nothing"
     );
     Ok(())
 }

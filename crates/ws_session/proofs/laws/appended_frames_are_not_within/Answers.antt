@@ -1,0 +1,8 @@
+use Rattle.ws_session.proofs.Within.{later_frames_beyond, later_header_beyond}
+use Rattle.ws_session.proofs.laws.appended_frames_are_not_within.Goals as goal
+
+pub returns-clause-frames : goal.returns-clause-frames
+returns-clause-frames c = later_frames_beyond
+
+pub returns-clause-too_big : goal.returns-clause-too_big
+returns-clause-too_big c = later_header_beyond

@@ -1,0 +1,5 @@
+use Rattle.ws_session.proofs.ToldMessages.{messages_told}
+use Rattle.ws_session.proofs.laws.messages_are_told.Goals as goal
+
+pub returns : goal.returns
+returns c = messages_told

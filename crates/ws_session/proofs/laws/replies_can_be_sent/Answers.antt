@@ -1,0 +1,5 @@
+use Rattle.ws_session.proofs.Replied.{replies_can}
+use Rattle.ws_session.proofs.laws.replies_can_be_sent.Goals as goal
+
+pub returns : goal.returns
+returns c = replies_can

@@ -1,0 +1,5 @@
+use Rattle.ws_session.proofs.SentValid.{send_stays_valid}
+use Rattle.ws_session.proofs.laws.sends_stay_valid.Goals as goal
+
+pub returns : goal.returns
+returns c = send_stays_valid

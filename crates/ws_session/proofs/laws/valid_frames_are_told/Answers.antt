@@ -1,0 +1,5 @@
+use Rattle.ws_session.proofs.Told.{told_events}
+use Rattle.ws_session.proofs.laws.valid_frames_are_told.Goals as goal
+
+pub returns : goal.returns
+returns c = told_events

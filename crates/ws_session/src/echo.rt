@@ -1,0 +1,82 @@
+//! An endpoint that sends each message back (RFC 6455 section 5.6).
+
+ghost use Rattle.std.specs.Prelude.{◌≡◌, ◌≤◌, ◌<◌, ℕ, List, [], length, Bool, true, false, IfOk, OnErr};
+ghost use Rattle.ws_frame.specs.Frame.{Frame};
+ghost use Rattle.ws_session.specs.declared.status.Status.TheVariants.{Lost};
+ghost use Rattle.ws_session.specs.Replies.{echo_reply_to};
+ghost use Rattle.ws_session.specs.Exchange.{HasExchanged, Takes, TakesNothing, is_over};
+
+use crate::event::Taken;
+use crate::limits::Limits;
+use crate::session::{Answering, Session};
+use crate::status::Status;
+use std::alloc::Global;
+use std::marker::Model;
+use ws_frame::{NoMemory, Role};
+
+/// A session that sends each message back in one frame as soon as it is whole, unless its close was sent. It sends
+/// nothing else of its own accord, so no message is ever open on its sending side.
+#[derive(Drop)]
+pub struct Echo {
+    session: Session,
+}
+
+impl Model for Echo {
+    ghost use Rattle.std.specs.Prelude.{◌≡◌, None};
+    ghost use Rattle.ws_session.specs.Exchange.{SessionValue};
+
+    ghost Value = { SessionValue };
+
+    ghost view = { λ e. e.session };
+
+    ghost invariant = { λ e. e.session.sending ≡ None };
+}
+
+impl Echo {
+    /// An echo that has sent and taken nothing.
+    pub fn new(alloc: Global, limits: Limits, role: Role) -> Echo
+        ensures role { result.role ≡ role }
+        ensures limits { result.limits ≡ limits }
+        ensures exchanged { HasExchanged result [] [] false }
+    {
+        Echo {
+            session: Session::new(alloc, role, limits),
+        }
+    }
+
+    /// How the session stands.
+    pub fn status(&self) -> Status
+        ensures { result ≡ self.now.status }
+    {
+        self.session.status()
+    }
+
+    /// The stream has ended: a session that waits for the other's close is lost. One that is over stays
+    /// as it is.
+    pub fn end(&mut self)
+        ensures exchanged { (sent : List Frame) (bytes : List ℕ) (ended : Bool) →
+            HasExchanged self.old sent bytes ended → HasExchanged self.new sent bytes true }
+        ensures lost { is_over self.old.status ≡ false → self.new.status ≡ Lost }
+        ensures over { is_over self.old.status ≡ true → self.new ≡ self.old }
+        ensures role { self.new.role ≡ self.old.role }
+        ensures limits { self.new.limits ≡ self.old.limits }
+    {
+        self.session.end();
+    }
+
+    /// Takes bytes as `Session::take` does, and puts each whole message back at the end of `out` beside
+    /// what else is owed. `NoMemory` where a growth was refused: then nothing is taken and nothing changed.
+    pub fn take(&mut self, piece: &[u8], key: [u8; 4], out: &mut Vec<u8>) -> Result<Taken, NoMemory>
+        ensures taken { is_over self.old.status ≡ false → (sent : List Frame) (bytes : List ℕ) (ended : Bool) → HasExchanged self.old sent bytes ended →
+            IfOk result (λ taken. Takes echo_reply_to self.old self.new sent bytes piece.now ended key out.old.items out.new.items taken) }
+        ensures over { is_over self.old.status ≡ true →
+            IfOk result (λ taken. TakesNothing self.old self.new piece.now out.old.items out.new.items taken) }
+
+        // At least one byte is used where there is one, and want of memory leaves all as it was.
+        ensures used { IfOk result (λ taken. (0 < length piece.now → 0 < taken.used) × (taken.used ≤ length piece.now)) }
+        ensures kept { OnErr result ((self.new ≡ self.old) × (out.new.items ≡ out.old.items)) }
+    {
+        let taken = self.session.take_by(Answering::Echoing, piece, key, out)?;
+        Ok(taken)
+    }
+}

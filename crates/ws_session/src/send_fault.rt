@@ -1,0 +1,21 @@
+//! Why a frame was not sent.
+
+/// Why a frame was not sent: the first of these that applies. Nothing was put, and the session is as it was.
+#[derive(Clone, Copy, Debug, PartialEq, Eq)]
+pub enum SendFault {
+    /// This endpoint's close frame was sent, or the status is Clean, Failed or Lost.
+    Over = 1,
+    /// A message is open: it must end before the next begins (RFC 6455 section 5.4).
+    Busy,
+    /// No message is open that could go on (section 5.4).
+    NothingOpen,
+    /// The message is text, and with this payload nothing makes it UTF-8, or it ends here and isn't (section 8.1).
+    NotText,
+    /// The payload of a control frame is above 125 bytes or a close reason above 123 (section 5.5), or the message above
+    /// 16,777,216.
+    TooLong,
+    /// The code may not stand in a close frame (section 7.4).
+    BadCode,
+    /// A growth was refused.
+    NoMemory,
+}
