@@ -1,0 +1,182 @@
+-- One move at an end of a link.
+use Rattle.std.proofs.Common.{◌≡◌, ℕ, ◌+◌, ◌-◌, Bool, List, [], ◌∷◌, ◌++◌, length, take, min, cond, Option, Some, None, Result, Ok, Err, refl, sym, ap, ◌∙◌, subst}
+use Rattle.std.specs.Prelude.{map, String, IfSome, OnOk, OnErr, IfErr}
+use Rattle.std.specs.declared.alloc.Global.{Global}
+use Rattle.std.specs.declared.vec.Vec.{Vec}
+use Rattle.ws_session.specs.declared.session.Session.{Session}
+use Rattle.std.proofs.lemmas.List.{append-nil}
+use Rattle.ws_frame.specs.Frame.{Frame, KeyedFrame, stream_bytes}
+use Rattle.ws_text.specs.Text.{IsText}
+use Rattle.ws_text.specs.Close.{CloseValue}
+use Rattle.ws_session.specs.declared.message.Kind.{Kind}
+use Rattle.ws_session.specs.declared.status.Status.{Status}
+use Rattle.ws_session.specs.declared.send_fault.SendFault.{SendFault}
+use Rattle.ws_session.specs.declared.send_fault.SendFault.TheVariants as fault
+use Rattle.ws_session.specs.Faults.{frames_of}
+use Rattle.ws_session.specs.Replies.{replies_of, under_key}
+use Rattle.ws_session.specs.Sends.{Send, frame_of, HasTextReason, MaySend, IsFirstWrong, IsRefusal, Sends}
+use Rattle.ws_session.specs.Sends as send
+use Rattle.ws_session.specs.Exchange.{HasExchanged}
+use Rattle.ws_pair.specs.declared.moves.End.{End}
+use Rattle.ws_pair.specs.declared.moves.End.TheVariants.{Client, Server}
+use Rattle.ws_pair.specs.declared.moves.Move.{Move}
+use Rattle.ws_pair.specs.declared.moves.Move.TheVariants.{Begin, More, Ping, Pong, Close, Arrive, Cut}
+use Rattle.ws_pair.specs.declared.report.Answer.{Answer}
+use Rattle.ws_pair.specs.declared.report.Answer.TheVariants as outcome
+use Rattle.ws_pair.specs.declared.endpoint.Endpoint.{Endpoint}
+use Rattle.ws_pair.specs.Link.{LinkEnd, Link, BothLimits, other, role_of, end_of, limits_of, with_end, status_at}
+use Rattle.ws_pair.specs.Moves.{with_sent, IsSendAnswered, newly_told, count_arriving, with_cut, close_given}
+use Rattle.ws_pair.specs.Playing.{side_of, IsToldOf, peer, AreSentBy, IsEnd, grown, Stands, HasMoved, SessionLaws}
+use Rattle.ws_pair.proofs.Ends.{status_is, sent_by, unchanged}
+
+same_link : (link : Link) (side : End) → with_end link side (end_of link side) ≡ link
+same_link link Client = refl
+same_link link Server = refl
+
+-- the endpoint stands as the end of the link after the move
+pub stands_at : (limits : BothLimits) (link : Link) (side : End) (x : LinkEnd) (w : Endpoint) → IsEnd (role_of side) (limits_of limits side) x (end_of link (other side)).sent w → Stands limits (with_end link side x) side w
+stands_at limits link Client x w h = h
+stands_at limits link Server x w h = h
+
+-- what a move at an end promises
+abbrev pub Acts : Endpoint → Endpoint → List ℕ → Answer → Move → Type 0
+Acts v w others answer move = (limits : BothLimits) (link : Link) → Stands limits link (side_of move) v → AreSentBy (peer (role_of (side_of move))) (end_of link (other (side_of move))).sent
+    → others ≡ stream_bytes (end_of link (other (side_of move))).sent → HasMoved limits link move answer w
+
+-- ---- a send
+
+-- what a send at an end promises
+record HasSentMove (limits : BothLimits) (link : Link) (side : End) (what : Send) (key : List ℕ) (answer : Answer) (w : Endpoint) : Type 0 where
+  pub end : LinkEnd
+  pub answered : IsSendAnswered limits link side what key answer (with_end link side end)
+  pub stands : Stands limits (with_end link side end) side w
+  pub more : List KeyedFrame
+  pub sent : end.sent ≡ (end_of link side).sent ++ more
+
+-- the endpoint with its session and what it has put as a call left them
+abbrev pub after_call : Endpoint → Session → Vec ℕ Global → Endpoint
+after_call v session put = record { session = session; put = put; reached = v.reached; delivered = v.delivered; is_cut = v.is_cut }
+
+-- what the calls of a session say of a send, by which the endpoint changed
+pub record HasCalled {X : Type 0} (v w : Endpoint) (what : Send) (key : List ℕ) (sent : Result X SendFault) : Type 0 where
+  pub done : (frames : List Frame) (bytes : List ℕ) (ended : Bool) → HasExchanged v.session frames bytes ended → OnOk sent (Sends v.session w.session frames bytes ended what key v.put.items w.put.items)
+  pub refused : (frames : List Frame) (bytes : List ℕ) (ended : Bool) → HasExchanged v.session frames bytes ended → IfErr sent (λ why. IsRefusal frames v.session.status what why)
+  pub kept : OnErr sent ((w.session ≡ v.session) × (w.put.items ≡ v.put.items))
+  pub text : OnOk sent (HasTextReason what)
+  pub reached : w.reached ≡ v.reached
+  pub delivered : w.delivered ≡ v.delivered
+  pub is_cut : w.is_cut ≡ v.is_cut
+
+module _ (laws : SessionLaws) (limits : BothLimits) (link : Link) (side : End) (what : Send) (key : List ℕ) (v w : Endpoint) (is : Stands limits link side v) (peers : AreSentBy (peer (role_of side)) (end_of link (other side)).sent) where
+  status_here : v.session.status ≡ status_at limits link side
+  status_here = status_is laws (role_of side) (limits_of limits side) (end_of link (other side)).sent peers (end_of link side) v is
+
+  is_done : {X : Type 0} (done : X) → HasCalled {X = X} v w what key (Ok done) → HasSentMove limits link side what key outcome.Did w
+  is_done done h =
+      let x : LinkEnd = end_of link side in
+      let one : List KeyedFrame = under_key (role_of side) key (frame_of what) ∷ [] in
+      let t = h.done (frames_of x.sent) (take x.reached (stream_bytes (end_of link (other side)).sent)) x.is_cut is.exchanged in
+      record {
+        end = with_sent x one;
+        answered = (subst (λ (s : Status). MaySend (frames_of x.sent) s what) status_here t.may, refl);
+        stands = stands_at limits link side (with_sent x one) w (sent_by laws (role_of side) (limits_of limits side) (end_of link (other side)).sent peers x v is what key w t h.text h.reached (ap (λ d. d.items) h.delivered) h.is_cut);
+        more = one;
+        sent = refl;
+      }
+
+  is_refused : {X : Type 0} (why : SendFault) → HasCalled {X = X} v w what key (Err why) → IsFirstWrong (frames_of (end_of link side).sent) v.session.status what why → HasSentMove limits link side what key (outcome.Refused why) w
+  is_refused why h first =
+      let x : LinkEnd = end_of link side in
+      record {
+        end = x;
+        answered = (subst (λ (s : Status). IsFirstWrong (frames_of x.sent) s what why) status_here first, same_link link side);
+        stands = stands_at limits link side x w (unchanged (role_of side) (limits_of limits side) x (end_of link (other side)).sent v w is h.kept.0 h.kept.1 h.reached (ap (λ d. d.items) h.delivered) h.is_cut);
+        more = [];
+        sent = sym (append-nil x.sent);
+      }
+
+  at_answer : (a b : Answer) → b ≡ a → HasSentMove limits link side what key a w → HasSentMove limits link side what key b w
+  at_answer a b e h = subst (λ (c : Answer). HasSentMove limits link side what key c w) (sym e) h
+
+  -- whichever it is
+  send_moved : {X : Type 0} (sent : Result X SendFault) (answer : Answer) → HasCalled v w what key sent → IsToldOf sent answer → HasSentMove limits link side what key answer w
+  send_moved (Ok done) answer h e = at_answer outcome.Did answer e (is_done done h)
+  send_moved (Err fault.NoMemory) answer h e = absurd e
+  send_moved (Err fault.Over) answer h e = at_answer (outcome.Refused fault.Over) answer e (is_refused fault.Over h (h.refused _ _ _ is.exchanged))
+  send_moved (Err fault.Busy) answer h e = at_answer (outcome.Refused fault.Busy) answer e (is_refused fault.Busy h (h.refused _ _ _ is.exchanged))
+  send_moved (Err fault.NothingOpen) answer h e = at_answer (outcome.Refused fault.NothingOpen) answer e (is_refused fault.NothingOpen h (h.refused _ _ _ is.exchanged))
+  send_moved (Err fault.NotText) answer h e = at_answer (outcome.Refused fault.NotText) answer e (is_refused fault.NotText h (h.refused _ _ _ is.exchanged))
+  send_moved (Err fault.TooLong) answer h e = at_answer (outcome.Refused fault.TooLong) answer e (is_refused fault.TooLong h (h.refused _ _ _ is.exchanged))
+  send_moved (Err fault.BadCode) answer h e = at_answer (outcome.Refused fault.BadCode) answer e (is_refused fault.BadCode h (h.refused _ _ _ is.exchanged))
+
+-- ---- by the kind of send
+
+pub always : {X : Type 0} {P : Type 0} (sent : Result X SendFault) → P → OnOk sent P
+always (Ok done) p = p
+always (Err why) p = tt
+
+module _ (laws : SessionLaws) (v w : Endpoint) (others : List ℕ) (answer : Answer) (key : List ℕ) {X : Type 0} (sent : Result X SendFault) (told : IsToldOf sent answer) where
+  pub begin_acts : (side : End) (kind : Kind) (payload : List ℕ) (fin : Bool) → HasCalled v w (send.Begin kind payload fin) key sent → Acts v w others answer (Begin side kind payload fin key)
+  begin_acts side kind payload fin h limits link is peers all =
+      let m = send_moved laws limits link side (send.Begin kind payload fin) key v w is peers sent answer h told in
+      record { end = m.end; answered = m.answered; stands = m.stands; more = m.more; sent = m.sent }
+
+  pub more_acts : (side : End) (payload : List ℕ) (fin : Bool) → HasCalled v w (send.More payload fin) key sent → Acts v w others answer (More side payload fin key)
+  more_acts side payload fin h limits link is peers all =
+      let m = send_moved laws limits link side (send.More payload fin) key v w is peers sent answer h told in
+      record { end = m.end; answered = m.answered; stands = m.stands; more = m.more; sent = m.sent }
+
+  pub ping_acts : (side : End) (payload : List ℕ) → HasCalled v w (send.Ping payload) key sent → Acts v w others answer (Ping side payload key)
+  ping_acts side payload h limits link is peers all =
+      let m = send_moved laws limits link side (send.Ping payload) key v w is peers sent answer h told in
+      record { end = m.end; answered = m.answered; stands = m.stands; more = m.more; sent = m.sent }
+
+  pub pong_acts : (side : End) (payload : List ℕ) → HasCalled v w (send.Pong payload) key sent → Acts v w others answer (Pong side payload key)
+  pong_acts side payload h limits link is peers all =
+      let m = send_moved laws limits link side (send.Pong payload) key v w is peers sent answer h told in
+      record { end = m.end; answered = m.answered; stands = m.stands; more = m.more; sent = m.sent }
+
+  pub close_acts : (side : End) (given : Option (ℕ × String Global)) → HasCalled v w (send.Close (close_given given)) key sent → Acts v w others answer (Close side given key)
+  close_acts side given h limits link is peers all =
+      let m = send_moved laws limits link side (send.Close (close_given given)) key v w is peers sent answer h told in
+      record { end = m.end; answered = m.answered; stands = m.stands; more = m.more; sent = m.sent }
+
+text_of : (close : Option CloseValue) → IfSome close (λ given. IsText given.reason) → HasTextReason (send.Close close)
+text_of None h = tt
+text_of (Some close) h = h
+
+-- the reason of a close that was sent is a text
+pub close_text : {X : Type 0} (sent : Result X SendFault) (close : Option CloseValue) → OnOk sent (IfSome close (λ given. IsText given.reason)) → OnOk sent (HasTextReason (send.Close close))
+close_text (Ok done) close h = text_of close h
+close_text (Err why) close h = tt
+
+-- ---- bytes that arrive, and a cut
+
+pub arrive_acts : (v w : Endpoint) (others : List ℕ) (side : End) (bytes count : ℕ) (key : List ℕ) → count ≡ cond v.is_cut 0 (min bytes (length others - v.reached))
+    → ((limits : BothLimits) (link : Link) → Stands limits link side v → AreSentBy (peer (role_of side)) (end_of link (other side)).sent → others ≡ stream_bytes (end_of link (other side)).sent
+    → IsEnd (role_of side) (limits_of limits side) (grown (role_of side) (limits_of limits side) (end_of link side) (end_of link (other side)).sent count key) (end_of link (other side)).sent w)
+    → Acts v w others (outcome.Arrived count) (Arrive side bytes key)
+arrive_acts v w others side bytes count key is_count came limits link is peers all =
+    let x : LinkEnd = end_of link side in
+    let xs : List KeyedFrame = (end_of link (other side)).sent in
+    let same : count ≡ count_arriving link side bytes =
+    is_count ∙ ap (λ b. cond b 0 (min bytes (length others - v.reached))) is.is_cut ∙ ap (λ k. cond x.is_cut 0 (min bytes (length others - k))) is.reached ∙ ap (λ (l : List ℕ). cond x.is_cut 0 (min bytes (length l - x.reached))) all in
+    let next : LinkEnd = grown (role_of side) (limits_of limits side) x xs count key in
+    record {
+      end = next;
+      answered = (ap (λ k. outcome.Arrived k) same, ap (λ k. with_end link side (grown (role_of side) (limits_of limits side) x xs k key)) same);
+      stands = stands_at limits link side next w (came limits link is peers all);
+      more = map (under_key (role_of side) key) (replies_of (frames_of x.sent) (newly_told (limits_of limits side) xs x.reached (x.reached + count)));
+      sent = refl;
+    }
+
+pub cut_acts : (v w : Endpoint) (others : List ℕ) (side : End)
+    → ((limits : BothLimits) (link : Link) → Stands limits link side v → IsEnd (role_of side) (limits_of limits side) (with_cut (end_of link side)) (end_of link (other side)).sent w)
+    → Acts v w others outcome.Cut (Cut side)
+cut_acts v w others side ends limits link is peers all = record {
+  end = with_cut (end_of link side);
+  answered = (refl, refl);
+  stands = stands_at limits link side (with_cut (end_of link side)) w (ends limits link is);
+  more = [];
+  sent = sym (append-nil (end_of link side).sent);
+}

@@ -1,0 +1,231 @@
+-- An endpoint that stands as an end: what it is told, and each step of it.
+use Rattle.std.proofs.Common.{◌≡◌, ℕ, ◌+◌, ◌≤◌, Bool, true, false, List, [], ◌∷◌, ◌++◌, length, take, drop, Option, Some, refl, sym, ap, ◌∙◌, arith, subst}
+use Rattle.std.specs.Prelude.{map, option_to_list}
+use Rattle.std.proofs.lemmas.List.{append-nil, length-append, drop_at}
+use Rattle.ws_frame.specs.declared.role.Role.{Role}
+use Rattle.ws_frame.specs.declared.role.Role.TheVariants as role
+use Rattle.ws_frame.specs.Header.{AreBytes, IsKey, is_masked}
+use Rattle.ws_frame.specs.Frame.{Frame, KeyedFrame, CanBeSent, frame_bytes, stream_bytes}
+use Rattle.ws_session.specs.declared.message.Message.{Message}
+use Rattle.ws_session.specs.declared.event.Event.{Event}
+use Rattle.ws_session.specs.declared.event.Taken.{Taken}
+use Rattle.ws_session.specs.declared.status.Status.{Status}
+use Rattle.ws_session.specs.Limits.{LimitsValue}
+use Rattle.ws_session.specs.Messages.{messages_of}
+use Rattle.ws_session.specs.Validity.{AreValidFrames}
+use Rattle.ws_session.specs.Faults.{frames_of, KeysFit, expects_key}
+use Rattle.ws_session.specs.Events.{HasEvents, messages_in}
+use Rattle.ws_session.specs.Replies.{reply_to, has_close, replies_of, key_for, under_key}
+use Rattle.ws_session.specs.Sends.{Send, frame_of, most_limits, HasTextReason, Sends}
+use Rattle.ws_session.specs.Exchange.{SessionValue, HasExchanged, Takes, TakesNothing, is_over, status_of}
+use Rattle.ws_session.specs.Reach.{events_within}
+use Rattle.ws_pair.specs.declared.endpoint.Endpoint.{Endpoint}
+use Rattle.ws_pair.specs.Link.{LinkEnd}
+use Rattle.ws_pair.specs.Moves.{with_sent, newly_told}
+use Rattle.ws_pair.specs.Playing.{peer, AreSentBy, IsEnd, grown, SessionLaws, IsNextIn}
+use Rattle.ws_pair.proofs.Bytes.{front_of_next, take_plus, frames_append, frames_under, stream_append, all_append, front_stays, front_bytes}
+use Rattle.ws_pair.proofs.Told.{nothing_owed, status_by, status_told, nothing_more, messages-append, messages_within}
+
+back : (role : Role) → peer (peer role) ≡ role
+back role.Client = refl
+back role.Server = refl
+
+pub fitting_key : (role : Role) (key : List ℕ) (f : Frame) → is_masked (under_key role key f).key ≡ expects_key (peer role)
+fitting_key role.Client key f = refl
+fitting_key role.Server key f = refl
+
+sending_key : (role : Role) (key : List ℕ) → IsKey (Some key) → IsKey (key_for role key)
+sending_key role.Client key h = h
+sending_key role.Server key h = tt
+
+pub fitting_keys : (role : Role) (key : List ℕ) (fs : List Frame) → KeysFit (peer role) (map (under_key role key) fs)
+fitting_keys role key [] = tt
+fitting_keys role key (f ∷ fs) = (fitting_key role key f, fitting_keys role key fs)
+
+-- ---- what is told
+
+module _ (laws : SessionLaws) (role : Role) (limits : LimitsValue) (ys : List KeyedFrame) (peers : AreSentBy (peer role) ys) where
+  pub told_at : (n : ℕ) → n ≤ length (stream_bytes ys) → HasEvents role limits (take n (stream_bytes ys)) (events_within limits n ys)
+  told_at n le = laws.told role limits most_limits n ys peers.can (subst (λ (r : Role). KeysFit r ys) (back role) peers.keys) peers.valid
+
+  -- more bytes add to what is told
+  pub told_more : (n k : ℕ) → n + k ≤ length (stream_bytes ys) → (later : List Event) × (events_within limits (n + k) ys ≡ events_within limits n ys ++ later)
+  told_more n k le =
+      let less : n ≤ length (stream_bytes ys) = omega arith in
+      laws.go_on role limits (take n (stream_bytes ys)) (take k (drop n (stream_bytes ys))) (events_within limits n ys) (events_within limits (n + k) ys) (told_at n less)
+      (subst (λ (l : List ℕ). HasEvents role limits l (events_within limits (n + k) ys)) (sym (take_plus n k (stream_bytes ys))) (told_at (n + k) le))
+
+-- ---- the status
+
+at_role : (role : Role) (limits : LimitsValue) (v : SessionValue) (bytes : List ℕ) (events : List Event) → v.role ≡ role → v.limits ≡ limits → HasEvents v.role v.limits bytes events → HasEvents role limits bytes events
+at_role role limits v bytes events e f h = subst (λ (k : LimitsValue). HasEvents role k bytes events) f (subst (λ (r : Role). HasEvents r v.limits bytes events) e h)
+
+at_own : (role : Role) (limits : LimitsValue) (v : SessionValue) (bytes : List ℕ) (events : List Event) → v.role ≡ role → v.limits ≡ limits → HasEvents role limits bytes events → HasEvents v.role v.limits bytes events
+at_own role limits v bytes events e f h = subst (λ (k : LimitsValue). HasEvents v.role k bytes events) (sym f) (subst (λ (r : Role). HasEvents r limits bytes events) (sym e) h)
+
+module _ (laws : SessionLaws) (role : Role) (limits : LimitsValue) (ys : List KeyedFrame) (peers : AreSentBy (peer role) ys) (x : LinkEnd) (v : Endpoint) (is : IsEnd role limits x ys v) where
+  pub status_is : v.session.status ≡ status_by limits x ys
+  status_is =
+      is.exchanged.status
+      ∙ ap (λ (es : List Event). status_of (frames_of x.sent) x.is_cut es)
+      (laws.one_list role limits (take x.reached (stream_bytes ys)) is.exchanged.events (events_within limits x.reached ys)
+      (at_role role limits v.session (take x.reached (stream_bytes ys)) is.exchanged.events is.role_kept is.limits_kept is.exchanged.has_events)
+      (told_at laws role limits ys peers x.reached is.within))
+      ∙ status_told laws limits ys peers.valid x
+
+  -- ---- one call that takes the front of a piece
+
+  -- what came of it, where this event was told
+  record Took (key : List ℕ) (u : ℕ) (event : Option Event) (w : Endpoint) : Type 0 where
+    pub told : events_within limits (x.reached + u) ys ≡ events_within limits x.reached ys ++ option_to_list event
+    pub agrees : HasExchanged w.session (frames_of x.sent ++ replies_of (frames_of x.sent) (option_to_list event)) (take (x.reached + u) (stream_bytes ys)) x.is_cut
+    pub put : w.put.items ≡ v.put.items ++ stream_bytes (map (under_key role key) (replies_of (frames_of x.sent) (option_to_list event)))
+    pub same : (w.session.role ≡ v.session.role) × (w.session.limits ≡ v.session.limits)
+
+  module _ (key piece : List ℕ) (next : IsNextIn (stream_bytes ys) x.reached piece) (going : x.is_cut ≡ false) (taken : Taken) (le : taken.used ≤ length piece) (w : Endpoint) where
+    fits : x.reached + taken.used ≤ length (stream_bytes ys)
+    fits = omega (arith, next.fits)
+
+    took_going : Takes reply_to v.session w.session (frames_of x.sent) (take x.reached (stream_bytes ys)) piece x.is_cut key v.put.items w.put.items taken → Took key taken.used taken.event w
+    took_going t =
+        let n = x.reached in
+        let bytes : take n (stream_bytes ys) ++ take taken.used piece ≡ take (n + taken.used) (stream_bytes ys) = front_of_next (stream_bytes ys) piece n taken.used next le in
+        let before : HasEvents v.session.role v.session.limits (take n (stream_bytes ys)) (events_within limits n ys) = at_own role limits v.session (take n (stream_bytes ys)) (events_within limits n ys) is.role_kept is.limits_kept (told_at laws role limits ys peers n is.within) in
+        let after : HasEvents role limits (take n (stream_bytes ys) ++ take taken.used piece) (events_within limits n ys ++ option_to_list taken.event) =
+        at_role role limits v.session (take n (stream_bytes ys) ++ take taken.used piece) (events_within limits n ys ++ option_to_list taken.event) is.role_kept is.limits_kept (t.event (events_within limits n ys) before) in
+        record {
+          told = laws.one_list role limits (take (n + taken.used) (stream_bytes ys)) (events_within limits (n + taken.used) ys) (events_within limits n ys ++ option_to_list taken.event) (told_at laws role limits ys peers (n + taken.used) fits)
+              (subst (λ (l : List ℕ). HasEvents role limits l (events_within limits n ys ++ option_to_list taken.event)) bytes after);
+          agrees = subst (λ (l : List ℕ). HasExchanged w.session (frames_of x.sent ++ replies_of (frames_of x.sent) (option_to_list taken.event)) l x.is_cut) bytes t.agrees;
+          put = t.put ∙ ap (λ (r : Role). v.put.items ++ stream_bytes (map (under_key r key) (replies_of (frames_of x.sent) (option_to_list taken.event)))) is.role_kept;
+          same = t.same;
+        }
+
+    took_over : is_over v.session.status ≡ true → TakesNothing v.session w.session piece v.put.items w.put.items taken → Took key taken.used taken.event w
+    took_over over t =
+        let n = x.reached in
+        let sent : List Frame = frames_of x.sent in
+        let bytes : take n (stream_bytes ys) ++ take taken.used piece ≡ take (n + taken.used) (stream_bytes ys) = front_of_next (stream_bytes ys) piece n taken.used next le in
+        let none : option_to_list taken.event ≡ [] = ap (λ (o : Option Event). option_to_list o) t.event in
+        let owed : replies_of sent (option_to_list taken.event) ≡ [] = ap (λ (l : List Event). replies_of sent l) none ∙ nothing_owed (has_close sent) sent refl in
+        let later : n ≤ n + taken.used = omega arith in
+        let are : AreBytes (take n (stream_bytes ys) ++ take taken.used piece) = subst (λ (l : List ℕ). AreBytes l) (sym bytes) (front_bytes (n + taken.used) (stream_bytes ys) next.bytes) in
+        let open_end : HasExchanged v.session sent (take n (stream_bytes ys)) false = subst (λ b. HasExchanged v.session sent (take n (stream_bytes ys)) b) going is.exchanged in
+        let behind : HasExchanged v.session sent (take n (stream_bytes ys) ++ take taken.used piece) false = laws.behind v.session sent (take n (stream_bytes ys)) (take taken.used piece) open_end over are in
+        let moved : HasExchanged w.session sent (take (n + taken.used) (stream_bytes ys)) x.is_cut =
+        subst (λ (s : SessionValue). HasExchanged s sent (take (n + taken.used) (stream_bytes ys)) x.is_cut) (sym t.unchanged)
+        (subst (λ b. HasExchanged v.session sent (take (n + taken.used) (stream_bytes ys)) b) (sym going) (subst (λ (l : List ℕ). HasExchanged v.session sent l false) bytes behind)) in
+        record {
+          told = nothing_more laws limits ys peers.valid x (n + taken.used) going later (ap (λ (s : Status). is_over s) (sym status_is) ∙ over) ∙ sym (append-nil (events_within limits n ys)) ∙ ap (λ (l : List Event). events_within limits n ys ++ l) (sym none);
+          agrees = subst (λ (l : List Frame). HasExchanged w.session l (take (n + taken.used) (stream_bytes ys)) x.is_cut) (sym (ap (λ (l : List Frame). sent ++ l) owed ∙ append-nil sent)) moved;
+          put = t.put ∙ sym (ap (λ (l : List Frame). v.put.items ++ stream_bytes (map (under_key role key) l)) owed ∙ append-nil v.put.items);
+          same = (ap (λ (s : SessionValue). s.role) t.unchanged, ap (λ (s : SessionValue). s.limits) t.unchanged);
+        }
+
+    took_by : (b : Bool) → is_over v.session.status ≡ b
+        → (is_over v.session.status ≡ false → (sent : List Frame) (bytes : List ℕ) (ended : Bool) → HasExchanged v.session sent bytes ended → Takes reply_to v.session w.session sent bytes piece ended key v.put.items w.put.items taken)
+        → (is_over v.session.status ≡ true → TakesNothing v.session w.session piece v.put.items w.put.items taken) → Took key taken.used taken.event w
+    took_by true e some none = took_over e (none e)
+    took_by false e some none = took_going (some e (frames_of x.sent) (take x.reached (stream_bytes ys)) x.is_cut is.exchanged)
+
+    newly : (u : ℕ) (event : Option Event) → Took key u event w → newly_told limits ys x.reached (x.reached + u) ≡ option_to_list event
+    newly u event t =
+        ap (λ (l : List Event). drop (length (events_within limits x.reached ys)) l) t.told ∙ drop_at (events_within limits x.reached ys) (option_to_list event) (length (events_within limits x.reached ys)) refl
+
+    -- the endpoint stands as the end to which so many more bytes have come
+    grown_by : Took key taken.used taken.event w → w.reached ≡ v.reached + taken.used → w.delivered.items ≡ v.delivered.items ++ messages_in (option_to_list taken.event) → w.is_cut ≡ v.is_cut
+        → IsKey (Some key) → IsEnd role limits (grown role limits x ys taken.used key) ys w
+    grown_by t reached delivered cut is_key =
+        let u = taken.used in
+        let n = x.reached in
+        let event : List Event = option_to_list taken.event in
+        let sent : List Frame = frames_of x.sent in
+        let owed : List KeyedFrame = map (under_key role key) (replies_of sent event) in
+        let is_sent : (grown role limits x ys u key).sent ≡ x.sent ++ owed = ap (λ (l : List Event). x.sent ++ map (under_key role key) (replies_of sent l)) (newly u taken.event t) in
+        let frames : frames_of (x.sent ++ owed) ≡ sent ++ replies_of sent event = frames_append x.sent owed ∙ ap (λ (l : List Frame). sent ++ l) (frames_under role key (replies_of sent event)) in
+        let put : w.put.items ≡ stream_bytes (x.sent ++ owed) = t.put ∙ ap (λ (l : List ℕ). l ++ stream_bytes owed) is.put ∙ sym (stream_append x.sent owed) in
+        let told : HasEvents role limits (take (n + u) (stream_bytes ys)) (events_within limits n ys ++ event) = subst (λ (l : List Event). HasEvents role limits (take (n + u) (stream_bytes ys)) l) t.told (told_at laws role limits ys peers (n + u) fits) in
+        record {
+          role_kept = t.same.0 ∙ is.role_kept;
+          limits_kept = t.same.1 ∙ is.limits_kept;
+          put = put ∙ ap (λ (l : List KeyedFrame). stream_bytes l) (sym is_sent);
+          reached = reached ∙ ap (λ k. k + u) is.reached;
+          within = fits;
+          delivered = delivered ∙ ap (λ (l : List Message). l ++ messages_in event) (is.delivered ∙ sym (messages_within laws limits n ys)) ∙ sym (messages-append (events_within limits n ys) event)
+              ∙ ap (λ (l : List Event). messages_in l) (sym t.told) ∙ messages_within laws limits (n + u) ys;
+          is_cut = cut ∙ is.is_cut;
+          exchanged = subst (λ (l : List Frame). HasExchanged w.session l (take (n + u) (stream_bytes ys)) x.is_cut) (sym (ap (λ (l : List KeyedFrame). frames_of l) is_sent ∙ frames)) t.agrees;
+          sent = subst (λ (l : List KeyedFrame). AreSentBy role l) (sym is_sent) (record {
+            can = all_append CanBeSent x.sent owed is.sent.can (laws.replies_can role role limits (take (n + u) (stream_bytes ys)) key (events_within limits n ys) event sent told (sending_key role key is_key));
+            keys = all_append (λ (y : KeyedFrame). is_masked y.key ≡ expects_key (peer role)) x.sent owed is.sent.keys (fitting_keys role key (replies_of sent event));
+            valid = subst (λ (l : List Frame). AreValidFrames most_limits l) (sym frames) (laws.replies_stay role limits most_limits (take (n + u) (stream_bytes ys)) (events_within limits n ys) event sent told is.sent.valid);
+          });
+        }
+
+    -- one call takes the front of a piece
+    pub taken_by : (is_over v.session.status ≡ false → (sent : List Frame) (bytes : List ℕ) (ended : Bool) → HasExchanged v.session sent bytes ended → Takes reply_to v.session w.session sent bytes piece ended key v.put.items w.put.items taken)
+        → (is_over v.session.status ≡ true → TakesNothing v.session w.session piece v.put.items w.put.items taken)
+        → w.reached ≡ v.reached + taken.used → w.delivered.items ≡ v.delivered.items ++ messages_in (option_to_list taken.event) → w.is_cut ≡ v.is_cut
+        → IsKey (Some key) → IsEnd role limits (grown role limits x ys taken.used key) ys w
+    taken_by some none reached delivered cut is_key = grown_by (took_by (is_over v.session.status) refl some none) reached delivered cut is_key
+
+  -- ---- a send
+
+  module _ (what : Send) (key : List ℕ) (w : Endpoint) where
+    -- the endpoint stands as the end that has sent one more frame
+    pub sent_by : Sends v.session w.session (frames_of x.sent) (take x.reached (stream_bytes ys)) x.is_cut what key v.put.items w.put.items → HasTextReason what
+        → w.reached ≡ v.reached → w.delivered.items ≡ v.delivered.items → w.is_cut ≡ v.is_cut → IsEnd role limits (with_sent x (under_key role key (frame_of what) ∷ [])) ys w
+    sent_by t text reached delivered cut =
+        let one : List KeyedFrame = under_key role key (frame_of what) ∷ [] in
+        let frames : frames_of (x.sent ++ one) ≡ frames_of x.sent ++ frame_of what ∷ [] = frames_append x.sent one in
+        let put : w.put.items ≡ stream_bytes (x.sent ++ one) =
+        t.put ∙ ap (λ (r : Role). v.put.items ++ frame_bytes (under_key r key (frame_of what))) is.role_kept ∙ ap (λ (l : List ℕ). l ++ frame_bytes (under_key role key (frame_of what))) is.put
+        ∙ ap (λ (l : List ℕ). stream_bytes x.sent ++ l) (sym (append-nil (frame_bytes (under_key role key (frame_of what))))) ∙ sym (stream_append x.sent one) in
+        record {
+          role_kept = t.same.0 ∙ is.role_kept;
+          limits_kept = t.same.1 ∙ is.limits_kept;
+          put = put;
+          reached = reached ∙ is.reached;
+          within = is.within;
+          delivered = delivered ∙ is.delivered;
+          is_cut = cut ∙ is.is_cut;
+          exchanged = subst (λ (l : List Frame). HasExchanged w.session l (take x.reached (stream_bytes ys)) x.is_cut) (sym frames) t.agrees;
+          sent = record {
+            can = all_append CanBeSent x.sent one is.sent.can (subst (λ (r : Role). CanBeSent (under_key r key (frame_of what))) is.role_kept t.can, tt);
+            keys = all_append (λ (y : KeyedFrame). is_masked y.key ≡ expects_key (peer role)) x.sent one is.sent.keys (fitting_key role key (frame_of what), tt);
+            valid = subst (λ (l : List Frame). AreValidFrames most_limits l) (sym frames) (laws.sends_stay (frames_of x.sent) v.session.status what is.sent.valid text t.may);
+          };
+        }
+
+-- ---- the other end
+
+-- frames that the other end sends leave this end
+pub beside : (laws : SessionLaws) (role : Role) (limits : LimitsValue) (x : LinkEnd) (ys more : List KeyedFrame) (v : Endpoint) → IsEnd role limits x ys v → IsEnd role limits x (ys ++ more) v
+beside laws role limits x ys more v is = record {
+  role_kept = is.role_kept;
+  limits_kept = is.limits_kept;
+  put = is.put;
+  reached = is.reached;
+  within = omega (arith, is.within, ap (λ (l : List ℕ). length l) (stream_append ys more), length-append (stream_bytes ys) (stream_bytes more));
+  delivered = is.delivered ∙ ap (λ (l : List KeyedFrame). messages_of (frames_of l)) (sym (laws.frames_stay limits x.reached ys more is.within));
+  is_cut = is.is_cut;
+  exchanged = subst (λ (l : List ℕ). HasExchanged v.session (frames_of x.sent) l x.is_cut) (sym (front_stays x.reached ys more is.within)) is.exchanged;
+  sent = is.sent;
+}
+
+-- ---- what is refused
+
+-- an endpoint that has not changed stands as before
+pub unchanged : (role : Role) (limits : LimitsValue) (x : LinkEnd) (ys : List KeyedFrame) (v w : Endpoint) → IsEnd role limits x ys v
+    → w.session ≡ v.session → w.put.items ≡ v.put.items → w.reached ≡ v.reached → w.delivered.items ≡ v.delivered.items → w.is_cut ≡ v.is_cut → IsEnd role limits x ys w
+unchanged role limits x ys v w is session put reached delivered cut = record {
+  role_kept = ap (λ (s : SessionValue). s.role) session ∙ is.role_kept;
+  limits_kept = ap (λ (s : SessionValue). s.limits) session ∙ is.limits_kept;
+  put = put ∙ is.put;
+  reached = reached ∙ is.reached;
+  within = is.within;
+  delivered = delivered ∙ is.delivered;
+  is_cut = cut ∙ is.is_cut;
+  exchanged = subst (λ (s : SessionValue). HasExchanged s (frames_of x.sent) (take x.reached (stream_bytes ys)) x.is_cut) (sym session) is.exchanged;
+  sent = is.sent;
+}

@@ -1,0 +1,8 @@
+mod OnePlay
+mod Told
+mod Bytes
+mod Ends
+mod Growing
+mod Acting
+mod Joined
+mod Headlines

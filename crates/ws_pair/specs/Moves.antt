@@ -1,0 +1,77 @@
+-- What each move does to two joined endpoints, and what is answered: RFC 6455 sections 5 to 7.
+use Rattle.std.specs.Prelude.{◌≡◌, ℕ, ◌+◌, ◌-◌, min, true, if◌then◌else◌, List, [], ◌∷◌, ◌++◌, length, drop, map, Option, Some, None, String, string_bytes}
+use Rattle.std.specs.declared.alloc.Global.{Global}
+use Rattle.ws_frame.specs.Frame.{KeyedFrame, stream_bytes}
+use Rattle.ws_text.specs.Close.{CloseValue}
+use Rattle.ws_session.specs.declared.event.Event.{Event}
+use Rattle.ws_session.specs.Limits.{LimitsValue}
+use Rattle.ws_session.specs.Faults.{frames_of}
+use Rattle.ws_session.specs.Replies.{replies_of, under_key}
+use Rattle.ws_session.specs.Sends.{Send, frame_of, MaySend, IsFirstWrong}
+use Rattle.ws_session.specs.Sends as send
+use Rattle.ws_session.specs.Reach.{events_within}
+use Rattle.ws_pair.specs.declared.moves.End.{End}
+use Rattle.ws_pair.specs.declared.moves.Move.{Move}
+use Rattle.ws_pair.specs.declared.moves.Move.TheVariants.{Begin, More, Ping, Pong, Close, Arrive, Cut}
+use Rattle.ws_pair.specs.declared.report.Answer.{Answer}
+use Rattle.ws_pair.specs.declared.report.Answer.TheVariants as outcome
+use Rattle.ws_pair.specs.Link.{LinkEnd, Link, BothLimits, other, role_of, end_of, limits_of, with_end, status_at}
+
+-- ---- a send
+
+abbrev pub with_sent : LinkEnd → List KeyedFrame → LinkEnd
+with_sent x frames = record x { sent = x.sent ++ frames }
+
+-- the frame is sent where nothing is wrong with it, else the first thing that is wrong is answered and nothing changes
+abbrev pub IsSendAnswered : BothLimits → Link → End → Send → List ℕ → Answer → Link → Type 0
+IsSendAnswered limits link side what key outcome.Did after =
+    MaySend (frames_of (end_of link side).sent) (status_at limits link side) what
+    × (after ≡ with_end link side (with_sent (end_of link side) (under_key (role_of side) key (frame_of what) ∷ [])))
+IsSendAnswered limits link side what key (outcome.Refused fault) after =
+    IsFirstWrong (frames_of (end_of link side).sent) (status_at limits link side) what fault × (after ≡ link)
+IsSendAnswered limits link side what key _ after = ⊥
+
+-- ---- bytes that arrive
+
+-- how many come: none behind a cut, and at most what the other has put
+abbrev pub count_arriving : Link → End → ℕ → ℕ
+count_arriving link side bytes =
+    if (end_of link side).is_cut then 0
+    else min bytes (length (stream_bytes (end_of link (other side)).sent) - (end_of link side).reached)
+
+-- what more bytes of some frames tell
+abbrev pub newly_told : LimitsValue → List KeyedFrame → ℕ → ℕ → List Event
+newly_told limits xs before after = drop (length (events_within limits before xs)) (events_within limits after xs)
+
+-- so many bytes of the other's have come to an end, and each frame was answered
+abbrev pub with_arrived : BothLimits → Link → End → ℕ → List ℕ → LinkEnd
+with_arrived limits link side count key =
+    let x : LinkEnd = end_of link side
+    in let told : List Event = newly_told (limits_of limits side) (end_of link (other side)).sent x.reached (x.reached + count)
+    in record { sent = x.sent ++ map (under_key (role_of side) key) (replies_of (frames_of x.sent) told); reached = x.reached + count; is_cut = x.is_cut }
+
+abbrev pub with_cut : LinkEnd → LinkEnd
+with_cut x = record x { is_cut = true }
+
+-- ---- all moves
+
+-- the code and the reason's bytes of a close, if any
+abbrev pub close_given : Option (ℕ × String Global) → Option CloseValue
+close_given None = None
+close_given (Some given) = Some (record { code = given.0; reason = string_bytes given.1 })
+
+abbrev pub IsAnswered : BothLimits → Link → Move → Answer → Link → Type 0
+IsAnswered limits link (Begin side kind payload fin key) answer after = IsSendAnswered limits link side (send.Begin kind payload fin) key answer after
+IsAnswered limits link (More side payload fin key) answer after = IsSendAnswered limits link side (send.More payload fin) key answer after
+IsAnswered limits link (Ping side payload key) answer after = IsSendAnswered limits link side (send.Ping payload) key answer after
+IsAnswered limits link (Pong side payload key) answer after = IsSendAnswered limits link side (send.Pong payload) key answer after
+IsAnswered limits link (Close side given key) answer after = IsSendAnswered limits link side (send.Close (close_given given)) key answer after
+IsAnswered limits link (Arrive side bytes key) answer after =
+    (answer ≡ outcome.Arrived (count_arriving link side bytes)) × (after ≡ with_end link side (with_arrived limits link side (count_arriving link side bytes) key))
+IsAnswered limits link (Cut side) answer after = (answer ≡ outcome.Cut) × (after ≡ with_end link side (with_cut (end_of link side)))
+
+-- one move after the other
+abbrev pub Plays : BothLimits → Link → List Move → List Answer → Link → Type 0
+Plays limits link [] answers after = (answers ≡ []) × (after ≡ link)
+Plays limits link (move ∷ moves) [] after = ⊥
+Plays limits link (move ∷ moves) (answer ∷ answers) after = (next : Link) × IsAnswered limits link move answer next × Plays limits next moves answers after

@@ -1,0 +1,229 @@
+//! One end of two joined sessions: its session, and what it has put and delivered so far.
+
+ghost use Rattle.std.specs.Prelude.{◌≡◌, ◌+◌, ◌-◌, ◌≤◌, ◌<◌, ◌^◌, ℕ, List, [], length, take, drop, min, if◌then◌else◌, false, IfOk, OnOk, option_to_list};
+ghost use Rattle.ws_frame.specs.declared.role.Role.{Role};
+ghost use Rattle.ws_frame.specs.Frame.{KeyedFrame, stream_bytes};
+ghost use Rattle.ws_session.specs.Limits.{LimitsValue};
+ghost use Rattle.ws_session.specs.Events.{messages_in};
+ghost use Rattle.ws_pair.specs.Link.{LinkEnd, Link, BothLimits, new_end, end_of, other, role_of};
+ghost use Rattle.ws_pair.specs.Playing.{AreSentBy, IsEnd, IsNextIn, Stands, HasMoved, IsToldOf, grown, peer, side_of};
+ghost use Rattle.ws_session.specs.Sends as sends;
+ghost use Rattle.ws_pair.specs.Moves.{with_cut, close_given};
+
+use crate::known::{has_key_bytes, session_laws};
+use crate::moves::Move;
+use crate::report::{Answer, EndReport};
+use std::alloc::Global;
+use ws_frame::{NoMemory, Role};
+use ws_session::{Event, Limits, Message, SendFault, Session, Taken};
+
+/// One end of two joined sessions.
+#[derive(Drop)]
+pub(crate) struct Endpoint {
+    session: Session,
+    /// All bytes that it wrote.
+    pub(crate) put: Vec<u8>,
+    /// How many of the other's bytes have come.
+    pub(crate) reached: usize,
+    delivered: Vec<Message>,
+    /// Whether the stream to this end has ended.
+    is_cut: bool,
+}
+
+impl Endpoint {
+    /// An end at which nothing has happened.
+    pub(crate) fn new(alloc: Global, role: Role, limits: Limits) -> Endpoint
+        ensures { IsEnd role limits new_end [] result }
+    {
+        Endpoint {
+            session: Session::new(alloc, role, limits),
+            put: Vec::new(alloc),
+            reached: 0,
+            delivered: Vec::new(alloc),
+            is_cut: false,
+        }
+    }
+
+    /// What came of it.
+    pub(crate) fn into_report(self) -> EndReport
+        ensures put { result.put ≡ self.put }
+        ensures reached { result.reached ≡ self.reached }
+        ensures delivered { result.delivered ≡ self.delivered }
+        ensures status { result.status ≡ self.session.status }
+        ensures session { result.session ≡ self.session }
+    {
+        EndReport {
+            put: self.put,
+            reached: self.reached as u64,
+            delivered: self.delivered,
+            status: self.session.status(),
+            session: self.session,
+        }
+    }
+
+    /// One move at this end. `others` is all that the other end has put.
+    pub(crate) fn act(&mut self, others: &[u8], step: &Move) -> Result<Answer, NoMemory>
+        requires reached { self.old.reached ≤ length others.now }
+        ensures moved { (limits : BothLimits) (link : Link) → Stands limits link (side_of step.now) self.old →
+            AreSentBy (peer (role_of (side_of step.now))) (end_of link (other (side_of step.now))).sent → others.now ≡ stream_bytes (end_of link (other (side_of step.now))).sent →
+            IfOk result (λ answer. HasMoved limits link step.now answer self.new) }
+    {
+        session_laws();
+        match step {
+            Move::Begin {
+                kind,
+                payload,
+                fin,
+                key,
+                ..
+            } => {
+                let sent = self
+                    .session
+                    .begin(*kind, payload.as_slice(), *fin, *key, &mut self.put);
+                let answer = told(sent)?;
+                Ok(answer)
+            }
+            Move::More {
+                payload,
+                fin,
+                key,
+                ..
+            } => {
+                let sent = self
+                    .session
+                    .more(payload.as_slice(), *fin, *key, &mut self.put);
+                let answer = told(sent)?;
+                Ok(answer)
+            }
+            Move::Ping { payload, key, .. } => {
+                let sent = self.session.ping(payload.as_slice(), *key, &mut self.put);
+                let answer = told(sent)?;
+                Ok(answer)
+            }
+            Move::Pong { payload, key, .. } => {
+                let sent = self.session.pong(payload.as_slice(), *key, &mut self.put);
+                let answer = told(sent)?;
+                Ok(answer)
+            }
+            Move::Close { given, key, .. } => {
+                let sent = self.session.close(lent(given), *key, &mut self.put);
+                let answer = told(sent)?;
+                Ok(answer)
+            }
+            Move::Arrive { bytes, key, .. } => {
+                let count = self.arrive(others, *bytes, *key)?;
+                Ok(Answer::Arrived(count))
+            }
+            Move::Cut { .. } => {
+                self.cut();
+                Ok(Answer::Cut)
+            }
+        }
+    }
+
+    /// The next bytes come, at most so many: how many do.
+    fn arrive(&mut self, others: &[u8], bytes: u32, key: [u8; 4]) -> Result<u32, NoMemory>
+        requires reached { self.old.reached ≤ length others.now }
+        ensures count { IfOk result (λ count. count ≡ (if self.old.is_cut then 0 else min bytes (length others.now - self.old.reached))) }
+        ensures arrived { (role : Role) (limits : LimitsValue) (x : LinkEnd) (xs : List KeyedFrame) → IsEnd role limits x xs self.old → AreSentBy (peer role) xs → others.now ≡ stream_bytes xs →
+            IfOk result (λ count. IsEnd role limits (grown role limits x xs count key) xs self.new) }
+    {
+        session_laws();
+        let count = self.arriving(others.len(), bytes);
+        let end = self.reached + count as usize;
+        self.deliver(&others[self.reached..end], key)?;
+        Ok(count)
+    }
+
+    /// How many bytes come of so many that are asked for, where the other end has put so many: none behind a cut.
+    fn arriving(&self, put: usize, bytes: u32) -> u32
+        requires { self.now.reached ≤ put }
+        ensures { result ≡ (if self.now.is_cut then 0 else min bytes (put - self.now.reached)) }
+    {
+        let rest = put - self.reached;
+        if self.is_cut {
+            0
+        } else if rest < bytes as usize {
+            rest as u32
+        } else {
+            bytes
+        }
+    }
+
+    /// Takes a piece of what the other end has put, until it is used whole.
+    fn deliver(&mut self, piece: &[u8], key: [u8; 4]) -> Result<(), NoMemory>
+        requires room { self.old.reached + length piece.now < 2 ^ 64 }
+        ensures { (role : Role) (limits : LimitsValue) (x : LinkEnd) (xs : List KeyedFrame) → IsEnd role limits x xs self.old → AreSentBy (peer role) xs →
+            IsNextIn (stream_bytes xs) x.reached piece.now → (0 < length piece.now → x.is_cut ≡ false) →
+            OnOk result (IsEnd role limits (grown role limits x xs (length piece.now) key) xs self.new) }
+    {
+        session_laws();
+        let mut used = 0;
+        while used < piece.len() {
+            used += self.deliver_front(&piece[used..], key)?;
+        }
+        Ok(())
+    }
+
+    /// Takes the front of a piece, as much as one call takes, and answers how much that is.
+    fn deliver_front(&mut self, piece: &[u8], key: [u8; 4]) -> Result<usize, NoMemory>
+        requires room { self.old.reached + length piece.now < 2 ^ 64 }
+        ensures used { IfOk result (λ used. (0 < length piece.now → 0 < used) × (used ≤ length piece.now)) }
+        ensures reached { IfOk result (λ used. self.new.reached ≡ self.old.reached + used) }
+        ensures taken { (role : Role) (limits : LimitsValue) (x : LinkEnd) (xs : List KeyedFrame) → IsEnd role limits x xs self.old → AreSentBy (peer role) xs →
+            IsNextIn (stream_bytes xs) x.reached piece.now → x.is_cut ≡ false →
+            IfOk result (λ used. IsEnd role limits (grown role limits x xs used key) xs self.new) }
+    {
+        session_laws();
+        let Taken { used, event } = self.session.take(piece, key, &mut self.put)?;
+        has_key_bytes(key);
+        self.reached += used;
+        if let Some(message) = message_in(event) {
+            self.delivered.push(message)?;
+        }
+        Ok(used)
+    }
+
+    /// The stream to this end ends.
+    fn cut(&mut self)
+        ensures { (role : Role) (limits : LimitsValue) (x : LinkEnd) (xs : List KeyedFrame) → IsEnd role limits x xs self.old → IsEnd role limits (with_cut x) xs self.new }
+    {
+        self.session.end();
+        self.is_cut = true;
+    }
+}
+
+/// What a send is answered with. Want of memory ends the run.
+fn told(sent: Result<(), SendFault>) -> Result<Answer, NoMemory>
+    ensures { IfOk result (IsToldOf sent) }
+{
+    match sent {
+        Ok(()) => Ok(Answer::Did),
+        Err(SendFault::NoMemory) => Err(NoMemory),
+        Err(fault) => Ok(Answer::Refused(fault)),
+    }
+}
+
+/// The code and the reason of a close, lent.
+fn lent(given: &Option<(u16, String)>) -> Option<(u16, &str)>
+    ensures { sends.close_given result ≡ close_given given.now }
+{
+    match given {
+        None => None,
+        Some((code, reason)) => Some((*code, reason.as_str())),
+    }
+}
+
+/// The message that was told, if there is one.
+fn message_in(event: Option<Event>) -> Option<Message>
+    ensures { option_to_list result ≡ messages_in (option_to_list event) }
+{
+    match event {
+        None => None,
+        Some(event) => match event {
+            Event::Message(message) => Some(message),
+            Event::Part | Event::Ping(_) | Event::Pong(_) | Event::Close(_) | Event::Failed(_) =>
+                None,
+        },
+    }
+}
