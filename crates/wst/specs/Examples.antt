@@ -13,7 +13,7 @@ use Rattle.clap.specs.declared.error.kind.ErrorKind.TheVariants.{DisplayHelp, In
 use Rattle.clap.specs.declared.builder.value_parser.ValueParser.TheVariants.{Unsigned}
 use Rattle.ws_frame.specs.declared.role.Role.TheVariants.{Client, Server}
 use Rattle.wst.specs.Words.{AsksFor, Places, wst_app}
-use Rattle.wst.specs.declared.words.Task.TheVariants.{Show}
+use Rattle.wst.specs.declared.words.Task.TheVariants.{Head, Pair, Show}
 
 -- what is computed at words that are written out
 unfoldable on_words : ⊤
@@ -92,6 +92,26 @@ joined_show places = (
   ),
 )
 
+-- `wst head` answers the head of a request
+abbrev head_words : List Text
+head_words = codes "wst" ∷ codes "head" ∷ []
+
+pub plain_head : (places : Places) → AsksFor (wst_app places) head_words Head
+unfolding on_words
+plain_head places = (refl, refl)
+
+-- `wst pair` joins ends that take messages of 1 MiB, unless told another limit
+pub plain_pair : (places : Places) → AsksFor (wst_app places) (codes "wst" ∷ codes "pair" ∷ codes "--limit-server" ∷ codes "10" ∷ []) (Pair 1048576 10)
+unfolding on_words
+plain_pair places = (
+  refl,
+  (
+    refl,
+    record { word = codes "1048576"; has_word = refl; numeral = numeral_of (codes "1048576") refl; value = refl },
+    record { word = codes "10"; has_word = refl; numeral = numeral_of (codes "10") refl; value = refl },
+  ),
+)
+
 -- such words can fail for want of memory alone
 pub plain_show_is_taken : (places : Places) → takes (wst_app places) plain_words ≡ true
 unfolding on_words
@@ -101,6 +121,10 @@ pub client_show_is_taken : (places : Places) → takes (wst_app places) client_w
 unfolding on_words
 client_show_is_taken places = refl
 
+pub plain_head_is_taken : (places : Places) → takes (wst_app places) head_words ≡ true
+unfolding on_words
+plain_head_is_taken places = refl
+
 -- ---- words that ask for none
 
 -- `wst` alone
@@ -108,8 +132,8 @@ pub no_command : (places : Places) → fault_of (wst_app places) (codes "wst" �
 unfolding on_words
 no_command places = refl
 
--- `wst pair`: no such command
-pub unknown_command : (places : Places) → fault_of (wst_app places) (codes "wst" ∷ codes "pair" ∷ []) ≡ UnknownArgument ∷ InvalidSubcommand ∷ []
+-- `wst judge`: no such command
+pub unknown_command : (places : Places) → fault_of (wst_app places) (codes "wst" ∷ codes "judge" ∷ []) ≡ UnknownArgument ∷ InvalidSubcommand ∷ []
 unfolding on_words
 unknown_command places = refl
 
@@ -123,6 +147,11 @@ pub from_nobody : (places : Places) → fault_of (wst_app places) (codes "wst" �
 unfolding on_words
 from_nobody places = refl
 
+-- `wst head --from client`: no such option
+pub head_with_an_option : (places : Places) → fault_of (wst_app places) (codes "wst" ∷ codes "head" ∷ codes "--from" ∷ codes "client" ∷ []) ≡ UnknownArgument ∷ []
+unfolding on_words
+head_with_an_option places = refl
+
 -- `wst show --help` is answered with help
 pub show_help : (places : Places) → fault_of (wst_app places) (codes "wst" ∷ codes "show" ∷ codes "--help" ∷ []) ≡ DisplayHelp ∷ []
 unfolding on_words
@@ -130,6 +159,6 @@ show_help places = refl
 
 -- and none of them is taken
 pub faulty_words_are_not_taken : (places : Places) → map (takes (wst_app places))
-    ((codes "wst" ∷ []) ∷ (codes "wst" ∷ codes "pair" ∷ []) ∷ (codes "wst" ∷ codes "show" ∷ codes "--budget" ∷ codes "x" ∷ []) ∷ []) ≡ false ∷ false ∷ false ∷ []
+    ((codes "wst" ∷ []) ∷ (codes "wst" ∷ codes "judge" ∷ []) ∷ (codes "wst" ∷ codes "show" ∷ codes "--budget" ∷ codes "x" ∷ []) ∷ []) ≡ false ∷ false ∷ false ∷ []
 unfolding on_words
 faulty_words_are_not_taken places = refl

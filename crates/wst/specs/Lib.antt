@@ -1,3 +1,11 @@
 pub mod Words
 pub mod Examples
+pub mod Devices
+pub mod ReadingHeads
+pub mod Script
+pub mod Report
+pub mod ScriptExamples
+pub mod ReadingWhole
+pub mod Pairs
 pub mod Run
+pub mod Printing

@@ -12,7 +12,7 @@ use Rattle.clap.specs.declared.error.Error.{Error}
 use Rattle.ws_frame.specs.declared.role.Role.{Role}
 use Rattle.ws_frame.specs.declared.role.Role.TheVariants.{Client, Server}
 use Rattle.wst.specs.declared.words.Task.{Task}
-use Rattle.wst.specs.declared.words.Task.TheVariants.{Show}
+use Rattle.wst.specs.declared.words.Task.TheVariants.{Head, Pair, Show}
 
 -- ---- the commands
 
@@ -52,9 +52,29 @@ budget_rule = record (new_rule (codes "budget")) {
 abbrev pub show_app : Places → App
 show_app places = with_rule (with_rule (new_app (codes "show")) (from_rule places)) budget_rule
 
--- `wst` with its one command, which may not be left out
+abbrev pub head_app : App
+head_app = new_app (codes "head")
+
+-- a limit on messages, a number of 64 bits, and 1 MiB where it is left out
+abbrev pub limit_rule : Text → Rule
+limit_rule name = record (new_rule name) {
+  long = Some name;
+  action = Some Set;
+  value_names = 1;
+  defaults = codes "1048576" ∷ [];
+  parser = Some (Unsigned 0 18446744073709551615);
+}
+
+abbrev pub pair_app : App
+pair_app = with_rule (with_rule (new_app (codes "pair")) (limit_rule (codes "limit-client"))) (limit_rule (codes "limit-server"))
+
+-- `wst` itself: a command may not be left out
+abbrev pub bare_app : App
+bare_app = on_top (λ s. record s { subcommand_required = true }) (new_app (codes "wst"))
+
+-- `wst` with its commands
 abbrev pub wst_app : Places → App
-wst_app places = with_subcommand (on_top (λ s. record s { subcommand_required = true }) (new_app (codes "wst"))) (show_app places).top
+wst_app places = with_subcommand (with_subcommand (with_subcommand bare_app (show_app places).top) head_app.top) pair_app.top
 
 -- ---- what the words ask for
 
@@ -72,14 +92,20 @@ pub record AsksToShow (rows : List Row) (from : Role) (budget : ℕ) : Type 0 wh
   pub numeral : IsNumeral 10 (without_leading_plus budget_word)
   pub number : budget ≡ digits_value 10 (without_leading_plus budget_word)
 
--- the options give this task
-abbrev pub OptionsAsk : List Row → Task → Type 0
-OptionsAsk rows (Show from budget) = AsksToShow rows from budget
+-- the option of this name gives this number
+pub record GivesNumber (rows : List Row) (name : Text) (number : ℕ) : Type 0 where
+  pub word : Text
+  pub has_word : one_of name rows ≡ Some word
+  pub numeral : IsNumeral 10 (without_leading_plus word)
+  pub value : number ≡ digits_value 10 (without_leading_plus word)
 
 -- the command and its options ask for this task
 abbrev pub CommandAsks : Option (Text × List Row) → Task → Type 0
 CommandAsks None task = ⊥
-CommandAsks (Some (name, rows)) task = (name ≡ codes "show") × OptionsAsk rows task
+CommandAsks (Some (name, rows)) (Show from budget) = (name ≡ codes "show") × AsksToShow rows from budget
+CommandAsks (Some (name, rows)) (Pair client server) =
+    (name ≡ codes "pair") × GivesNumber rows (codes "limit-client") client × GivesNumber rows (codes "limit-server") server
+CommandAsks (Some (name, rows)) Head = name ≡ codes "head"
 
 -- the words are without fault and ask for this task
 abbrev pub AsksFor : App → List Text → Task → Type 0

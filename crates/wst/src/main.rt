@@ -1,7 +1,11 @@
 //! `wst`, the frame-level WebSocket tester: words, files and exit statuses. No rule of the protocol stands here.
 #![tactic(auto)]
 
+mod reading_head;
+mod reading_whole;
+mod report_lines;
 mod run;
+mod script;
 mod words;
 
 use run::{run, words_are_no_text};

@@ -3,6 +3,9 @@
 ghost use Rattle.std.specs.Prelude.{◌≡◌, false};
 ghost use Rattle.ws_frame.specs.Watching.{has_failed};
 
+mod heads;
+mod pairs;
+
 use super::*;
 use std::io;
 use std::test::Fail;
@@ -165,9 +168,10 @@ fn show_long_payload(rt: HostRuntime) -> Result<(), Fail> {
 /// Wrong words, and commands that are not built, are told on the fault output alone.
 #[test]
 fn wrong_words(rt: HostRuntime) -> Result<(), Fail> {
-    let cases: [&[&str]; 9] = [
+    let cases: [&[&str]; 10] = [
         &[],
-        &["pair"],
+        &["head", "more"],
+        &["pair", "more"],
         &["judge"],
         &["show", "--from", "nobody"],
         &["show", "--budget", "x"],
@@ -188,19 +192,21 @@ fn wrong_words(rt: HostRuntime) -> Result<(), Fail> {
 /// Help goes to the output and ends with an example.
 #[test]
 fn help(rt: HostRuntime) -> Result<(), Fail> {
-    let cases: [&[&str]; 4] = [
-        &["--help"],
-        &["help"],
-        &["show", "--help"],
-        &["help", "show"],
+    let cases: [(&[&str], &[u8]); 6] = [
+        (&["--help"], b"| wst show\n"),
+        (&["help"], b"| wst show\n"),
+        (&["show", "--help"], b"| wst show\n"),
+        (&["help", "show"], b"| wst show\n"),
+        (&["head", "--help"], b"wst head < examples/upgrade.head\n"),
+        (
+            &["pair", "--help"],
+            b"wst pair < examples/crossing_closes.moves\n",
+        ),
     ];
-    for words in cases {
+    for (words, ending) in cases {
         let outcome = run_on(rt.alloc(), words, b"")?;
         assert_eq!(rt; outcome.status, 0, "{words:?}");
-        assert!(rt;
-            outcome.output.as_slice().ends_with(b"| wst show\n"),
-            "{words:?}"
-        );
+        assert!(rt; outcome.output.as_slice().ends_with(ending), "{words:?}");
         assert!(rt; outcome.faults.is_empty(), "{words:?}");
     }
     Ok(())

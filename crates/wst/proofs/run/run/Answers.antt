@@ -5,4 +5,4 @@ use Rattle.wst.proofs.run.run.Goals as goal
 pub returns-in-Err-clause-runs : goal.returns-in-Err-clause-runs
 returns-in-Err-clause-runs g c =
     let read = c.in-Err.ensures.read in
-    (read.0, inr (kind_of c.in-Err.error, read.1, search rules, c.tell.ensures))
+    (read.0, inr (kind_of c.in-Err.error, read.1, search rules, c.tell_error.ensures.told))

@@ -2,6 +2,7 @@ use Rattle.std.proofs.Common.{◌≡◌, ◌∙◌, ap, ap₂, codes, true}
 use Rattle.std.proofs.lemmas.Result.{IfOk-weaker}
 use Rattle.clap.specs.Words.{App, app_of, new_app, with_subcommand}
 use Rattle.clap.specs.Simple.{app_of_fields, on_top}
+use Rattle.wst.specs.Words.{bare_app, head_app, show_app}
 use Rattle.wst.proofs.words.command.Goals as goal
 
 pub returns : goal.returns
@@ -10,4 +11,6 @@ returns c =
     let required : app_of c.subcommand_required.result ≡ on_top (λ s. record s { subcommand_required = true }) (new_app (codes "wst")) = ap app_of_fields c.subcommand_required.ensures
     ∙ ap (λ (a : App). on_top (λ s. record s { subcommand_required = true }) a) texts in
     let show = c.in_ok-show_command.ensures.app in
-    IfOk-weaker c.subcommand.result _ _ (λ r h. (show.0, h.shape c.in_ok-show_command.ensures.local ∙ ap₂ with_subcommand required (ap (λ (a : App). a.top) show.1))) c.subcommand.ensures
+    let shown : app_of c.in_ok-subcommand.field-0 ≡ with_subcommand bare_app (show_app show.0).top = c.in_ok-subcommand.ensures.shape c.in_ok-show_command.ensures.local ∙ ap₂ with_subcommand required (ap (λ (a : App). a.top) show.1) in
+    let headed : app_of c.in_ok-subcommand-2.field-0 ≡ with_subcommand (with_subcommand bare_app (show_app show.0).top) head_app.top = c.in_ok-subcommand-2.ensures.shape c.in_ok-head_command.ensures.local ∙ ap₂ with_subcommand shown (ap (λ (a : App). a.top) c.in_ok-head_command.ensures.app) in
+    IfOk-weaker c.subcommand-3.result _ _ (λ r h. (show.0, h.shape c.in_ok-pair_command.ensures.local ∙ ap₂ with_subcommand headed (ap (λ (a : App). a.top) c.in_ok-pair_command.ensures.app))) c.subcommand-3.ensures
