@@ -1,0 +1,5 @@
+pub mod PassedUp
+pub mod HexWords
+pub mod NumberWords
+pub mod DamagedLines
+pub mod LineWords

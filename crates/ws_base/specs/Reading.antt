@@ -1,0 +1,39 @@
+-- What the readers of words and lines answer, and inside the crate their steps. A reader may skip all but the first
+-- two.
+use Rattle.std.specs.Prelude.{◌≡◌, ◌≢◌, ℕ, ◌/◌, ◌%◌, ◌<◌, ◌⊎◌, false, All, List, ◌∷◌, ◌++◌, length, slice_index, Option}
+use Rattle.std.specs.Prelude.{Some, None, Result, Ok, Err}
+use Rattle.std.specs.Fmt.{digit_glyph}
+use Rattle.std.specs.Borrow.{Bor}
+use Rattle.ws_base.specs.Words.{AreBytes, hex}
+use Rattle.ws_base.specs.Lines.{line_feed, IsLine}
+use Rattle.ws_base.specs.declared.lines.LineFault.{LineFault}
+use Rattle.ws_base.specs.declared.lines.LineFault.TheVariants.{Damaged}
+
+-- a value of which this holds, or there is none
+abbrev pub Finds : {T : Type 0} → Option T → (T → Type 0) → Type 0
+Finds (Some value) P = P value
+Finds {T = T} None P = (value : T) → P value → ⊥
+
+-- a value of which this holds, or there is none, or memory ran out
+abbrev pub Reads : {T : Type 0} → Result T LineFault → (T → Type 0) → Type 0
+Reads (Ok value) P = P value
+Reads {T = T} (Err fault) P = fault ≡ Damaged → (value : T) → P value → ⊥
+
+-- ---- steps
+
+-- two digits spell the byte
+abbrev pub IsPair : ℕ → ℕ → ℕ → Type 0
+IsPair byte high low = (byte < 256) × (high ≡ digit_glyph false (byte / 16)) × (low ≡ digit_glyph false (byte % 16))
+
+-- pairs of digits spell the bytes
+abbrev pub ArePairs : List ℕ → List ℕ → Type 0
+ArePairs bytes word = AreBytes bytes × (word ≡ hex bytes)
+
+-- a plus stands first, or a zero with something behind it
+abbrev pub BeginsOddly : List ℕ → Type 0
+BeginsOddly word = (slice_index word 0 ≡ 43) ⊎ ((slice_index word 0 ≡ 48) × (1 < length word))
+
+-- the first line of a text, and what stands behind its LF; without an LF there is none
+abbrev pub CutsLine : List ℕ → Option (Bor (List ℕ) × Bor (List ℕ)) → Type 0
+CutsLine text None = IsLine text
+CutsLine text (Some parts) = (text ≡ parts.0.now ++ line_feed ∷ parts.1.now) × IsLine parts.0.now

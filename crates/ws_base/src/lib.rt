@@ -1,0 +1,22 @@
+//! What every layer shares: want of memory, a list that contracts see as a list, and the words and lines of our text
+//! formats.
+//!
+//! The layers above use the contract of `Sequence`, and that of `read_lines` for a script with one value a line.
+#![tactic(auto)]
+
+mod closing;
+mod hexadecimal;
+pub mod laws;
+mod lines;
+mod memory;
+mod numbers;
+mod sequence;
+mod words;
+
+pub use closing::read_close;
+pub use hexadecimal::{Hex, HexDigits, read_hex, read_key, read_key_or_dash};
+pub use lines::{Line, LineFault, TextFault, cut_line, read_lines};
+pub use memory::NoMemory;
+pub use numbers::{read_u16, read_u32};
+pub use sequence::{Payload, Sequence};
+pub use words::{read_fin, words_of};

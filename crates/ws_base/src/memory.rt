@@ -1,0 +1,30 @@
+//! Want of memory, as each layer tells it.
+
+use std::alloc::{AllocError, AllocFailed};
+use std::fmt;
+
+/// Memory ran out: a growth was refused.
+#[derive(Clone, Copy, Debug, PartialEq, Eq)]
+pub struct NoMemory;
+
+impl From<AllocError> for NoMemory {
+    fn from(_refused: AllocError) -> NoMemory {
+        NoMemory
+    }
+}
+
+impl<T: Drop> From<AllocFailed<T>> for NoMemory {
+    fn from(_refused: AllocFailed<T>) -> NoMemory {
+        NoMemory
+    }
+}
+
+impl fmt::Display for NoMemory {
+    ghost use Rattle.std.specs.Prelude.{Some, codes};
+
+    ghost output = { λ _. Some (codes "no memory") };
+
+    fn fmt<W: fmt::Write>(&self, f: &mut fmt::Formatter<W>) -> fmt::Result {
+        write!(f, "no memory")
+    }
+}
