@@ -6,7 +6,7 @@ use Rattle.ws_frame.specs.declared.header.Form.{Form}
 use Rattle.ws_frame.specs.declared.header.Form.TheVariants.{Short, Two, Eight}
 use Rattle.ws_frame.specs.Header.{HeaderFields, CanHold, AreBytes, header_bytes, IsShortestForm, extra_bytes}
 use Rattle.ws_frame.specs.Masking.{masked_payload}
-use Rattle.ws_frame.specs.Frame.{WireFrame, IsWireFrame, wire_bytes, KeyedFrame, CanBeSent, sent_as, frame_bytes, shortest_form}
+use Rattle.ws_frame.specs.Frame.{WireFrame, IsWireFrame, wire_bytes, KeyedFrame, FitsTheLayout, sent_as, frame_bytes, shortest_form}
 use Rattle.ws_frame.specs.Reading.{Begins, BeginsNoHeader}
 use Rattle.ws_frame.specs.Stream.{BeginsNone}
 use Rattle.ws_frame.proofs.Numbers.{front_bytes}
@@ -160,7 +160,7 @@ wire_told = record { tell = tell_wire; some = some_wire_bytes }
 
 -- ---- frames as they are sent
 
-pub sent_is_wire : (x : KeyedFrame) → CanBeSent x → IsWireFrame (sent_as x)
+pub sent_is_wire : (x : KeyedFrame) → FitsTheLayout x → IsWireFrame (sent_as x)
 sent_is_wire x c = record {
   header = record { rsv = c.rsv; opcode = c.opcode; len = shortest_holds (length x.frame.payload) (omega (arith, c.len)); key = c.key };
   payload = c.payload;
@@ -184,10 +184,10 @@ same_sent f g e =
     let same : make_keyed f.frame.fin f.frame.rsv f.frame.opcode f.frame.payload f.key ≡ make_keyed g.frame.fin g.frame.rsv g.frame.opcode g.frame.payload g.key = cc in
     same
 
-pub no_frame_begins : (f g : KeyedFrame) (x y : List ℕ) → CanBeSent f → CanBeSent g → frame_bytes f ++ x ≡ frame_bytes g ++ y → (f ≡ g) × (x ≡ y)
+pub no_frame_begins : (f g : KeyedFrame) (x y : List ℕ) → FitsTheLayout f → FitsTheLayout g → frame_bytes f ++ x ≡ frame_bytes g ++ y → (f ≡ g) × (x ≡ y)
 no_frame_begins f g x y cf cg e = let s = no_wire_begins (sent_as f) (sent_as g) x y (sent_is_wire f cf) (sent_is_wire g cg) e in (same_sent f g s.0, s.1)
 
-pub none_begins : NoneBegins CanBeSent frame_bytes
+pub none_begins : NoneBegins FitsTheLayout frame_bytes
 none_begins = record { same = no_frame_begins }
 
 -- a frame on the wire in the shortest form is one that was sent
@@ -201,11 +201,11 @@ sent_as-keyed_of x is e =
     let header = same_fields (sent_as (keyed_of x)).header x.header refl refl refl refl is.len form in
     same_wire (sent_as (keyed_of x)) x header refl
 
-keyed_can_be_sent : (x : WireFrame) → IsWireFrame x → CanBeSent (keyed_of x)
+keyed_can_be_sent : (x : WireFrame) → IsWireFrame x → FitsTheLayout (keyed_of x)
 unfolding keyed_of
 keyed_can_be_sent x is = record { rsv = is.header.rsv; opcode = is.header.opcode; key = is.header.key; payload = is.payload; len = rw is.len is.small }
 
-tell_frame : (bytes : List ℕ) → AreBytes bytes → SomeFront CanBeSent frame_bytes bytes ⊎ BeginsNone CanBeSent frame_bytes bytes
+tell_frame : (bytes : List ℕ) → AreBytes bytes → SomeFront FitsTheLayout frame_bytes bytes ⊎ BeginsNone FitsTheLayout frame_bytes bytes
 tell_frame bytes are =
     elim (tell_wire bytes are) [
       | inr none ↦ inr (λ x more can e. none (sent_as x) more (sent_is_wire x can) e)
@@ -222,5 +222,5 @@ tell_frame bytes are =
       ]
     ]
 
-pub frame_told : IsToldAtFront CanBeSent frame_bytes
+pub frame_told : IsToldAtFront FitsTheLayout frame_bytes
 frame_told = record { tell = tell_frame; some = λ x. some_wire_bytes (sent_as x) }

@@ -7,7 +7,7 @@ use Rattle.byteorder.specs.Endian.{big_bytes, big_number, big_from}
 use Rattle.byteorder.specs.Numbers.{big_number-reads_back, big_from-lt}
 use Rattle.ws_frame.specs.declared.header.Form.{Form}
 use Rattle.ws_frame.specs.declared.header.Form.TheVariants.{Short, Two, Eight}
-use Rattle.ws_frame.specs.Header.{HeaderFields, IsHeader, IsHeaderOf, AreBytes, CanHold, IsKey, length_bits, length_bytes, key_bytes, is_masked, top_bit, header_bytes, first_byte, second_byte}
+use Rattle.ws_frame.specs.Header.{HeaderFields, IsHeader, IsHeaderOf, AreBytes, CanHold, IsMaskingKey, length_bits, length_bytes, key_bytes, is_masked, top_bit, header_bytes, first_byte, second_byte}
 use Rattle.ws_frame.specs.Parts.{LengthEnds, LengthIsCut, KeyEnds, KeyIsCut}
 use Rattle.ws_frame.specs.Reading.{Begins, BeginsNoHeader}
 use Rattle.ws_frame.proofs.Numbers.{two_bytes, eight_bytes, front_bytes, AreBytes-drop}
@@ -147,7 +147,7 @@ same_parts a b x y l e =
     let front : a ≡ b = sym (take_at a x (length a) refl) ∙ ap (λ (t : List ℕ). take (length a) t) e ∙ take_at b y (length a) (sym l) in
     (front, append_cancel_left a x y (e ∙ ap (λ (t : List ℕ). t ++ y) (sym front)))
 
-pub same_key : (k j : Option (List ℕ)) (x y : List ℕ) → IsKey k → IsKey j → is_masked k ≡ is_masked j → key_bytes k ++ x ≡ key_bytes j ++ y → (k ≡ j) × (x ≡ y)
+pub same_key : (k j : Option (List ℕ)) (x y : List ℕ) → IsMaskingKey k → IsMaskingKey j → is_masked k ≡ is_masked j → key_bytes k ++ x ≡ key_bytes j ++ y → (k ≡ j) × (x ≡ y)
 same_key None None x y ik ij h e = (refl, e)
 same_key None (Some j) x y ik ij h e = absurd cc
 same_key (Some k) None x y ik ij h e = absurd cc

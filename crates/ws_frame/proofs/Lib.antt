@@ -6,3 +6,4 @@ pub mod Frames
 pub mod Written
 pub mod Fronts
 pub mod Ends
+pub mod TestDeviceLemmas

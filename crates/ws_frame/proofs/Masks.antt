@@ -5,7 +5,7 @@ use Rattle.std.proofs.lemmas.List.{take_more_set, drop-set-lt, drop_more, take_a
 use Rattle.std.specs.Int.Bits.{xor_assoc, xor_self, xor_zero_r}
 use Rattle.std.proofs.lemmas.Nat.{xor_of_8}
 use Rattle.std.proofs.lemmas.Grind.{same_number_lists}
-use Rattle.ws_frame.specs.Header.{AreBytes, IsKey}
+use Rattle.ws_frame.specs.Header.{AreBytes, IsMaskingKey}
 use Rattle.ws_frame.specs.Masking.{masked, masked_payload, IsMasked}
 
 pub length-masked : (key : List ℕ) (phase : ℕ) (p : List ℕ) → length (masked key phase p) ≡ length p
@@ -78,7 +78,7 @@ masked_bytes key phase [] k h i = omega arith
 masked_bytes key phase (b ∷ p) k h zero = xor_of_8 b (slice_index key (phase % 4)) (h 0) (k (phase % 4))
 masked_bytes key phase (b ∷ p) k h (suc i) = masked_bytes key (phase + 1) p k (λ j. h (suc j)) i
 
-pub masked_payload_bytes : (k : Option (List ℕ)) (p : List ℕ) → IsKey k → AreBytes p → AreBytes (masked_payload k p)
+pub masked_payload_bytes : (k : Option (List ℕ)) (p : List ℕ) → IsMaskingKey k → AreBytes p → AreBytes (masked_payload k p)
 masked_payload_bytes None p k h = h
 masked_payload_bytes (Some key) p k h = masked_bytes key 0 p k.1 h
 

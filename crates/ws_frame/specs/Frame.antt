@@ -4,7 +4,7 @@ use Rattle.std.specs.Prelude.{◌≡◌, ℕ, ◌^◌, ◌<◌, Bool, nat_lt, if
 use Rattle.std.specs.List.{flat_map}
 use Rattle.ws_frame.specs.declared.header.Form.{Form}
 use Rattle.ws_frame.specs.declared.header.Form.TheVariants.{Short, Two, Eight}
-use Rattle.ws_frame.specs.Header.{HeaderFields, IsHeader, IsKey, AreBytes, header_bytes, extra_bytes}
+use Rattle.ws_frame.specs.Header.{HeaderFields, IsHeader, IsMaskingKey, AreBytes, header_bytes, extra_bytes}
 use Rattle.ws_frame.specs.Masking.{masked_payload}
 
 -- ---- a frame with its header in any form
@@ -39,10 +39,10 @@ pub record KeyedFrame : Type 0 where
   pub key : Option (List ℕ)
 
 -- what can be sent at all
-pub record CanBeSent (x : KeyedFrame) : Type 0 where
+pub record FitsTheLayout (x : KeyedFrame) : Type 0 where
   pub rsv : x.frame.rsv < 8
   pub opcode : x.frame.opcode < 16
-  pub key : IsKey x.key
+  pub key : IsMaskingKey x.key
   pub payload : AreBytes x.frame.payload
   pub len : length x.frame.payload < 2 ^ 63
 
@@ -73,7 +73,7 @@ frame_bytes x = wire_bytes (sent_as x)
 
 -- the bytes are this frame's, as it is sent under this key
 pub record IsFrameOf (frame : Frame) (key : Option (List ℕ)) (bytes : List ℕ) : Type 0 where
-  pub sent : CanBeSent (record { frame = frame; key = key })
+  pub sent : FitsTheLayout (record { frame = frame; key = key })
   pub layout : bytes ≡ frame_bytes (record { frame = frame; key = key })
 
 -- the bytes of the frames, one after the other

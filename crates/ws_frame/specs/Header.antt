@@ -1,12 +1,10 @@
 -- A frame's header on the wire, from its fields to its bytes: RFC 6455 section 5.2.
-use Rattle.std.specs.Prelude.{◌≡◌, ℕ, ◌+◌, ◌*◌, ◌^◌, ◌<◌, ◌≤◌, Bool, true, false, cond, List, [], ◌∷◌, ◌++◌, length, slice_index, Option, Some, None}
+use Rattle.std.specs.Prelude.{◌≡◌, ℕ, ◌+◌, ◌*◌, ◌^◌, ◌<◌, ◌≤◌, Bool, true, false, cond, List, [], ◌∷◌, ◌++◌, length}
+use Rattle.std.specs.Prelude.{Option, Some, None}
 use Rattle.std.specs.Int.{w16, w64, to_be_bytes}
 use Rattle.ws_frame.specs.declared.header.Form.{Form}
 use Rattle.ws_frame.specs.declared.header.Form.TheVariants.{Short, Two, Eight}
-
--- each number of the list is a byte
-abbrev pub AreBytes : List ℕ → Type 0
-AreBytes bytes = (i : ℕ) → slice_index bytes i < 256
+pub use Rattle.ws_base.specs.Words.{AreBytes}
 
 -- what a header says. `rsv` is 4 * RSV1 + 2 * RSV2 + RSV3
 pub record HeaderFields : Type 0 where
@@ -23,7 +21,7 @@ CanHold Short len = len < 126
 CanHold Two len = len < 2 ^ 16
 CanHold Eight len = len < 2 ^ 64
 
--- how many bytes a form adds behind the first two
+-- how many bytes a form adds after the first two
 abbrev pub extra_bytes : Form → ℕ
 extra_bytes Short = 0
 extra_bytes Two = 2
@@ -35,16 +33,16 @@ pub record IsShortestForm (form : Form) (len : ℕ) : Type 0 where
   pub least : (other : Form) → CanHold other len → extra_bytes form ≤ extra_bytes other
 
 -- no masking key, or one of four bytes
-abbrev pub IsKey : Option (List ℕ) → Type 0
-IsKey None = Unit {0}
-IsKey (Some key) = (length key ≡ 4) × AreBytes key
+abbrev pub IsMaskingKey : Option (List ℕ) → Type 0
+IsMaskingKey None = Unit {0}
+IsMaskingKey (Some key) = (length key ≡ 4) × AreBytes key
 
 -- three reserved bits, four bits of opcode, a length that the form can hold, and a key of four bytes if any
 pub record IsHeader (header : HeaderFields) : Type 0 where
   pub rsv : header.rsv < 8
   pub opcode : header.opcode < 16
   pub len : CanHold header.form header.len
-  pub key : IsKey header.key
+  pub key : IsMaskingKey header.key
 
 -- FIN is the top bit of the first byte, MASK that of the second
 abbrev pub top_bit : Bool → ℕ
@@ -80,7 +78,8 @@ second_byte header = top_bit (is_masked header.key) + length_bits header.form he
 
 -- the bytes of a header: two, then the length bytes, then the masking key
 abbrev pub header_bytes : HeaderFields → List ℕ
-header_bytes header = first_byte header ∷ second_byte header ∷ (length_bytes header.form header.len ++ key_bytes header.key)
+header_bytes header =
+    first_byte header ∷ second_byte header ∷ (length_bytes header.form header.len ++ key_bytes header.key)
 
 -- the bytes are this header's
 pub record IsHeaderOf (header : HeaderFields) (bytes : List ℕ) : Type 0 where

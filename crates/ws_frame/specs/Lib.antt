@@ -4,6 +4,9 @@ pub mod Masking
 pub mod Frame
 pub mod Stream
 pub mod Watching
+pub mod Devices
+pub mod ReadingInput
+pub mod TestDevices
 pub mod Lines
 pub mod Showing
 pub mod Examples

@@ -1,25 +1,25 @@
 -- The lines of `show`: one for each frame of a stream (RFC 6455 section 5.2), in any form, and a last one where the
 -- stream stops inside a frame. A line ends with LF.
-use Rattle.std.specs.Prelude.{◌⊎◌, ◌≡◌, ℕ, ◌+◌, ◌/◌, ◌%◌, ◌<◌, ◌≤◌, Bool, true, false, nat_lt, ◌==◌, if◌then◌else◌, List, [], ◌∷◌, ◌++◌, length, take, Option, Some, None, codes}
+use Rattle.std.specs.Prelude.{◌⊎◌, ◌≡◌, ℕ, ◌+◌, ◌<◌, ◌≤◌, Bool, true, false, nat_lt, ◌==◌, if◌then◌else◌}
+use Rattle.std.specs.Prelude.{List, [], ◌∷◌, ◌++◌, length, take, Option, Some, None, codes}
 use Rattle.std.specs.List.{flat_map, concat}
-use Rattle.std.specs.Fmt.{decimal, digits}
-use Rattle.std.specs.Io.KnownBytes.{Consumes, Appends, IsAtEnd}
+use Rattle.std.specs.Fmt.{decimal}
+use Rattle.std.specs.Io.KnownBytes.{IsAtEnd}
 use Rattle.ws_frame.specs.declared.role.Role.{Role}
 use Rattle.ws_frame.specs.declared.role.Role.TheVariants.{Client, Server}
 use Rattle.ws_frame.specs.declared.header.Form.{Form}
 use Rattle.ws_frame.specs.declared.header.Form.TheVariants.{Short, Two, Eight}
 use Rattle.ws_frame.specs.declared.showing.ShowEnd.{ShowEnd}
-use Rattle.ws_frame.specs.declared.showing.ShowEnd.TheVariants.{Done, CutAt, BadLengthAt, Budget, ReadFault, WriteFault, NoMemory}
+use Rattle.ws_frame.specs.declared.showing.ShowEnd.TheVariants.{Done, CutAt, BadLengthAt, Budget, ReadFault, WriteFault}
+use Rattle.ws_frame.specs.declared.showing.ShowEnd.TheVariants.{NoMemory}
 use Rattle.ws_frame.specs.Header.{HeaderFields}
 use Rattle.ws_frame.specs.Frame.{WireFrame, wire_bytes, is_longer_than_needed}
 use Rattle.ws_frame.specs.Stream.{SplitsIntoAnyForm}
 use Rattle.ws_frame.specs.Reading.{BeginsBadLength}
+use Rattle.ws_frame.specs.Devices.{Device, HasRead, HasWritten}
+pub use Rattle.ws_base.specs.Words.{hex}
 
 -- ---- the words of a line
-
--- two lower-case hexadecimal digits a byte
-abbrev pub hex : List ℕ → List ℕ
-hex bytes = flat_map (λ b. digits 16 false (b / 16) ++ digits 16 false (b % 16)) bytes
 
 -- the name of an opcode (section 5.2); a reserved one is `op` and its number
 abbrev pub kind_word : ℕ → List ℕ
@@ -46,19 +46,19 @@ form_word Short = codes "short"
 form_word Two = codes "two"
 form_word Eight = codes "eight"
 
--- of a payload of this length the first bytes, at most sixteen: a dash where there are none, and two dots behind them
+-- of a payload of this length the first bytes, at most sixteen: a dash where there are none, and two dots after them
 -- where there are more
 abbrev pub data_word : ℕ → List ℕ → List ℕ
 data_word len first = if len == 0 then codes "-" else hex first ++ (if nat_lt 16 len then codes ".." else [])
 
--- a client masks each frame and a server none (section 5.1); the other way round is told
+-- a client masks each frame and a server none (section 5.1); the other way round is marked
 abbrev pub mask_mark : Role → Option (List ℕ) → List ℕ
 mask_mark Client None = codes " !mask"
 mask_mark Client (Some _) = []
 mask_mark Server None = []
 mask_mark Server (Some _) = codes " !mask"
 
--- a form longer than the shortest that holds the length is told
+-- a form longer than the shortest that holds the length is marked
 abbrev pub form_mark : Form → ℕ → List ℕ
 form_mark form len = if is_longer_than_needed form len then codes " !form" else []
 
@@ -82,7 +82,7 @@ abbrev pub frame_lines : Role → ℕ → List WireFrame → List ℕ
 frame_lines from offset [] = []
 frame_lines from offset (x ∷ frames) = line_of from offset x ++ frame_lines from (offset + length (wire_bytes x)) frames
 
--- what is left behind the whole frames, at this place: nothing, a bad length, or else part of a frame
+-- what is left after the whole frames, at this place: nothing, a bad length, or else part of a frame
 abbrev pub Leaves : ShowEnd → ℕ → List ℕ → Type 0
 Leaves Done at rest = rest ≡ []
 Leaves (CutAt place) at rest = (place ≡ at) × (0 < length rest) × (BeginsBadLength rest → ⊥)
@@ -102,7 +102,7 @@ last_line ReadFault = []
 last_line WriteFault = []
 last_line NoMemory = []
 
--- the lines of a stream that has ended, and what is told of its end
+-- the lines of a stream that has ended, and the line for its end
 pub record AreLinesOf (from : Role) (bytes : List ℕ) (end : ShowEnd) (lines : List ℕ) : Type 0 where
   pub frames : List WireFrame
   pub rest : List ℕ
@@ -138,26 +138,27 @@ pub record BeginsDueLines (from : Role) (budget : ℕ) (unread : Option (List �
 -- what was written for what was read, by how the run ended
 abbrev pub IsShownAt : Role → ℕ → ShowEnd → Option (List ℕ) → List ℕ → List ℕ → Type 0
 IsShownAt from budget Done unread read written = AreLinesOf from read Done written × (length read < budget)
-IsShownAt from budget (CutAt place) unread read written = AreLinesOf from read (CutAt place) written × (length read < budget)
+IsShownAt from budget (CutAt place) unread read written =
+    AreLinesOf from read (CutAt place) written × (length read < budget)
 IsShownAt from budget (BadLengthAt place) unread read written = AreLinesOf from read (BadLengthAt place) written
 IsShownAt from budget Budget unread read written = AreFrameLinesOf from read written × (length read ≡ budget)
 IsShownAt from budget ReadFault unread read written = AreFrameLinesOf from read written × (length read < budget)
 IsShownAt from budget WriteFault unread read written = BeginsDueLines from budget unread read written
 IsShownAt from budget NoMemory unread read written = BeginsDueLines from budget unread read written
 
--- a run of `show` from what the reader has left and the writer holds, where those are told, to what they have then
-abbrev pub Shows : Role → ℕ → ShowEnd → Option (List ℕ) → Option (List ℕ) → Option (List ℕ) → Option (List ℕ) → Type 0
-Shows from budget end unread_old unread_new held_old held_new =
-    (read : List ℕ) × (written : List ℕ)
-    × Consumes unread_old unread_new read × Appends held_old held_new written
-    × (length read ≤ budget) × IsShownAt from budget end unread_new read written
+-- a run of `show` over a reader and a writer: some bytes were read, at most as many as the budget, and what is due for
+-- them was written
+abbrev pub Shows : Role → ℕ → ShowEnd → Device → Device → Type 0
+Shows from budget end input output =
+    (read : List ℕ) × (written : List ℕ) × HasRead read input × HasWritten written output
+    × (length read ≤ budget) × IsShownAt from budget end input.new read written
 
 -- which device has failed, and that the reader is at its end where the run says so
-abbrev pub IsFairEnd : ShowEnd → Bool → Bool → Option (List ℕ) → Type 0
-IsFairEnd Done reader_failed writer_failed unread = (reader_failed ≡ false) × (writer_failed ≡ false) × IsAtEnd unread
-IsFairEnd (CutAt _) reader_failed writer_failed unread = (reader_failed ≡ false) × (writer_failed ≡ false) × IsAtEnd unread
-IsFairEnd (BadLengthAt _) reader_failed writer_failed unread = writer_failed ≡ false
-IsFairEnd Budget reader_failed writer_failed unread = (reader_failed ≡ false) × (writer_failed ≡ false)
-IsFairEnd ReadFault reader_failed writer_failed unread = (reader_failed ≡ true) × (writer_failed ≡ false)
-IsFairEnd WriteFault reader_failed writer_failed unread = writer_failed ≡ true
-IsFairEnd NoMemory reader_failed writer_failed unread = writer_failed ≡ false
+abbrev pub IsFairEnd : ShowEnd → Device → Device → Type 0
+IsFairEnd Done input output = (input.failed ≡ false) × (output.failed ≡ false) × IsAtEnd input.new
+IsFairEnd (CutAt _) input output = (input.failed ≡ false) × (output.failed ≡ false) × IsAtEnd input.new
+IsFairEnd (BadLengthAt _) input output = output.failed ≡ false
+IsFairEnd Budget input output = (input.failed ≡ false) × (output.failed ≡ false)
+IsFairEnd ReadFault input output = (input.failed ≡ true) × (output.failed ≡ false)
+IsFairEnd WriteFault input output = output.failed ≡ true
+IsFairEnd NoMemory input output = output.failed ≡ false

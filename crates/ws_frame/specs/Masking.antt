@@ -4,7 +4,8 @@ use Rattle.std.specs.Prelude.{◌≡◌, ℕ, ◌+◌, ◌%◌, ◌<◌, List, [
 -- each byte is xored with the key byte of its place in the payload, counted from the phase
 pub record IsMasked (key : List ℕ) (phase : ℕ) (old new : List ℕ) : Type 0 where
   pub len : length new ≡ length old
-  pub bytes : (i : ℕ) → i < length old → slice_index new i ≡ bit_xor (slice_index old i) (slice_index key ((phase + i) % 4))
+  pub bytes : (i : ℕ) → i < length old →
+      slice_index new i ≡ bit_xor (slice_index old i) (slice_index key ((phase + i) % 4))
 
 -- the one list that is so masked
 abbrev pub masked : List ℕ → ℕ → List ℕ → List ℕ

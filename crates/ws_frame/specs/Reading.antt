@@ -11,7 +11,8 @@ pub record Begins (header : HeaderFields) (used : ℕ) (bytes : List ℕ) : Type
 
 -- no header stands at the front
 abbrev pub BeginsNoHeader : List ℕ → Type 0
-BeginsNoHeader bytes = (header : HeaderFields) (bytes_of rest : List ℕ) → IsHeaderOf header bytes_of → bytes ≡ bytes_of ++ rest → ⊥
+BeginsNoHeader bytes =
+    (header : HeaderFields) (bytes_of rest : List ℕ) → IsHeaderOf header bytes_of → bytes ≡ bytes_of ++ rest → ⊥
 
 -- a header stands at the front whose length has the top bit set
 abbrev pub BeginsBadLength : List ℕ → Type 0

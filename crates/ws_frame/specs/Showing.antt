@@ -1,13 +1,12 @@
 -- The steps of `show`, for the contracts of its private functions. A reader may skip this file: no public contract
 -- speaks of it.
-use Rattle.std.specs.Prelude.{◌⊎◌, ◌≡◌, ℕ, ◌≤◌, ◌<◌, Bool, true, false, List, [], ◌++◌, length, take, Option, Result, Ok, Err}
+use Rattle.std.specs.Prelude.{◌⊎◌, ◌≡◌, ℕ, ◌≤◌, ◌<◌, Bool, true, false, List, [], ◌++◌, length, take, Result, Ok, Err}
 use Rattle.std.specs.List.{flat_map}
-use Rattle.std.specs.Io.KnownBytes.{Consumes, Appends, IsAtEnd}
 use Rattle.ws_frame.specs.declared.role.Role.{Role}
 use Rattle.ws_frame.specs.declared.showing.ShowEnd.{ShowEnd}
 use Rattle.ws_frame.specs.declared.showing.ShowEnd.TheVariants as end
-use Rattle.ws_frame.specs.declared.showing.InputEnd.{InputEnd}
-use Rattle.ws_frame.specs.declared.showing.InputEnd.TheVariants as input
+use Rattle.ws_frame.specs.declared.devices.reading_input.InputEnd.{InputEnd}
+use Rattle.ws_frame.specs.declared.devices.reading_input.InputEnd.TheVariants as input
 use Rattle.ws_frame.specs.declared.showing.Stop.{Stop}
 use Rattle.ws_frame.specs.declared.showing.Stop.TheVariants as stop
 use Rattle.ws_frame.specs.declared.showing.Front.{Front}
@@ -16,6 +15,7 @@ use Rattle.ws_frame.specs.Masking.{masked_payload}
 use Rattle.ws_frame.specs.Frame.{WireFrame, IsWireFrame, wire_bytes}
 use Rattle.ws_frame.specs.Stream.{BeginsNone, SplitsIntoAnyForm}
 use Rattle.ws_frame.specs.Reading.{BeginsBadLength}
+use Rattle.ws_frame.specs.Devices.{Device, HasWritten}
 use Rattle.ws_frame.specs.Lines.{Leaves, frame_lines, AreLinesOf, AreFrameLinesOf}
 
 -- a frame stands at the front, with this header and these payload bytes on the wire
@@ -53,24 +53,20 @@ abbrev pub FailedBy : Bool → Stop → Type 0
 FailedBy failed stop.WriteFault = failed ≡ true
 FailedBy failed stop.NoMemory = failed ≡ false
 
--- some bytes were written: at Ok such as P says, at Err such as Q says
-abbrev pub WritesFront : {T : Type 0} → Option (List ℕ) → Option (List ℕ) → Bool → Result T Stop → (T → List ℕ → Type 0) → (List ℕ → Type 0) → Type 0
-WritesFront held_old held_new failed (Ok v) P Q = (written : List ℕ) × Appends held_old held_new written × (failed ≡ false) × P v written
-WritesFront held_old held_new failed (Err e) P Q = (written : List ℕ) × Appends held_old held_new written × FailedBy failed e × Q written
+-- the lines of the whole frames were written, and what is left is answered; or a beginning of the lines was written
+abbrev pub WritesLines : Role → List ℕ → Device → Result ShowEnd Stop → Type 0
+WritesLines from bytes output (Ok left) =
+    (written : List ℕ) × HasWritten written output × (output.failed ≡ false) × IsLeft from bytes left written
+WritesLines from bytes output (Err why) =
+    (written : List ℕ) × HasWritten written output × FailedBy output.failed why × BeginsLines from bytes written
 
 -- the text was written, or a beginning of it
-abbrev pub WritesText : Option (List ℕ) → Option (List ℕ) → Bool → Result (Unit {0}) Stop → List ℕ → Type 0
-WritesText held_old held_new failed (Ok _) text = Appends held_old held_new text × (failed ≡ false)
-WritesText held_old held_new failed (Err e) text = (front : List ℕ) × (more : List ℕ) × (text ≡ front ++ more) × Appends held_old held_new front × FailedBy failed e
+abbrev pub WritesText : List ℕ → Device → Result (Unit {0}) Stop → Type 0
+WritesText text output (Ok _) = HasWritten text output × (output.failed ≡ false)
+WritesText text output (Err why) = (front : List ℕ) × (more : List ℕ) × (text ≡ front ++ more)
+    × HasWritten front output × FailedBy output.failed why
 
--- what was read, by how it ended
-abbrev pub ReadsInput : ℕ → InputEnd → List ℕ → Bool → Option (List ℕ) → Option (List ℕ) → Type 0
-ReadsInput budget input.End read failed unread_old unread_new = Consumes unread_old unread_new read × (length read < budget) × (failed ≡ false) × IsAtEnd unread_new
-ReadsInput budget input.Budget read failed unread_old unread_new = Consumes unread_old unread_new read × (length read ≡ budget) × (failed ≡ false)
-ReadsInput budget input.Fault read failed unread_old unread_new = Consumes unread_old unread_new read × (length read < budget) × (failed ≡ true)
-ReadsInput budget input.NoMemory read failed unread_old unread_new = Consumes unread_old unread_new read × (length read < budget) × (failed ≡ false)
-
--- a bad length is told first; then how the input ended
+-- a bad length comes first; then how the input ended
 abbrev pub end_after_input : ShowEnd → InputEnd → ShowEnd
 end_after_input (end.BadLengthAt place) ended = end.BadLengthAt place
 end_after_input left input.End = left

@@ -1,7 +1,7 @@
 -- What contracts read of a watched reader or writer, and which calls fail one.
 use Rattle.std.specs.Prelude.{◌≡◌, ℕ, List, ◌++◌, Bool, Option, Result, Ok, Err, ◌==◌, ◌&&◌, nat_lt, length}
 use Rattle.std.specs.Io.KnownBytes.{Appends}
-use Rattle.ws_frame.specs.declared.watching.Watched.{Watched}
+use Rattle.ws_frame.specs.declared.devices.watching.Watched.{Watched}
 
 -- what is watched
 abbrev pub inner_of : {T : Type 0} → Watched T → T
@@ -18,4 +18,5 @@ write_fails (Err _) buf = nat_lt 0 (length buf)
 
 -- what a writer holds grew by a beginning of these bytes
 abbrev pub AppendsFront : Option (List ℕ) → Option (List ℕ) → List ℕ → Type 0
-AppendsFront held_old held_new bytes = (front : List ℕ) × (more : List ℕ) × (bytes ≡ front ++ more) × Appends held_old held_new front
+AppendsFront held_old held_new bytes =
+    (front : List ℕ) × (more : List ℕ) × (bytes ≡ front ++ more) × Appends held_old held_new front

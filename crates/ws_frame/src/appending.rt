@@ -7,31 +7,16 @@ ghost use Rattle.ws_frame.specs.Masking.{masked_payload};
 
 use crate::header::Header;
 use crate::masking::mask;
-use std::alloc::{AllocError, AllocFailed};
+use ws_base::NoMemory;
 
-/// Memory ran out: a growth was refused.
-#[derive(Clone, Copy, Debug, PartialEq, Eq)]
-pub struct NoMemory;
-
-impl From<AllocError> for NoMemory {
-    fn from(_refused: AllocError) -> NoMemory {
-        NoMemory
-    }
-}
-
-impl<T: Drop> From<AllocFailed<T>> for NoMemory {
-    fn from(_refused: AllocFailed<T>) -> NoMemory {
-        NoMemory
-    }
-}
-
-/// Puts a frame at the end of `out`: the header, then the payload, masked from its first byte on where
+/// Appends a frame to `out`: the header, then the payload, masked from its first byte on where
 /// the header has a key. The header's payload length is that of `payload`. The bytes are those of a
 /// frame as it is sent where the header has the shortest form, as `Header::shortest` gives it.
 /// `NoMemory` where `out` can't grow: then it holds what it held.
 pub fn append_frame(header: &Header, payload: &[u8], out: &mut Vec<u8>) -> Result<(), NoMemory>
     requires { header.now.len ≡ length payload.now }
-    ensures appended { OnOk result (out.new.items ≡ out.old.items ++ (header_bytes header.now ++ masked_payload header.now.key payload.now)) }
+    ensures appended { OnOk result (out.new.items
+        ≡ out.old.items ++ (header_bytes header.now ++ masked_payload header.now.key payload.now)) }
     ensures kept { OnErr result (out.new.items ≡ out.old.items) }
 {
     let start = out.len();
@@ -42,9 +27,10 @@ pub fn append_frame(header: &Header, payload: &[u8], out: &mut Vec<u8>) -> Resul
     Ok(())
 }
 
-/// Puts the frame at the end of `out` and answers true, or puts a beginning of it there.
+/// Appends the frame to `out` and answers true, or appends a beginning of it and answers false.
 fn try_append(header: &Header, payload: &[u8], out: &mut Vec<u8>) -> bool
-    ensures whole { OnTrue result (out.new.items ≡ out.old.items ++ (header_bytes header.now ++ masked_payload header.now.key payload.now)) }
+    ensures whole { OnTrue result (out.new.items
+        ≡ out.old.items ++ (header_bytes header.now ++ masked_payload header.now.key payload.now)) }
     ensures part { OnFalse result (take (vec_len out.old) out.new.items ≡ out.old.items) }
 {
     let head = header.write();

@@ -1,7 +1,7 @@
 //! A frame's header (RFC 6455 section 5.2): its fields, and the forms of its length.
 
 ghost use Rattle.std.specs.Prelude.{◌≡◌, ◌<◌, ◌^◌, MatchOption, IfSome, Some, IsTrue, ◌↔◌};
-ghost use Rattle.ws_frame.specs.Header.{CanHold, HeaderFields, IsHeader, IsKey, IsShortestForm};
+ghost use Rattle.ws_frame.specs.Header.{CanHold, HeaderFields, IsHeader, IsMaskingKey, IsShortestForm};
 ghost use Rattle.ws_frame.specs.Frame.{shortest_form, is_longer_than_needed};
 
 use std::marker::Model;
@@ -19,7 +19,7 @@ const MAX_RSV: u8 = 7;
 const MAX_OPCODE: u8 = 15;
 
 /// How the payload length is written.
-#[derive(Clone, Copy, Debug, PartialEq, Eq)]
+#[derive(Clone, Copy)]
 pub enum Form {
     /// In the seven bits beside MASK: 0 to 125.
     Short,
@@ -72,11 +72,32 @@ impl Model for Header {
 
     ghost Value = { HeaderFields };
 
-    ghost view = { λ h. record { fin = h.fin; rsv = h.rsv; opcode = h.opcode; key = h.key; len = h.len; form = h.form } };
+    ghost view = { λ h. record {
+      fin = h.fin;
+      rsv = h.rsv;
+      opcode = h.opcode;
+      key = h.key;
+      len = h.len;
+      form = h.form;
+    } };
 
-    ghost invariant = { λ h. IsHeader (record { fin = h.fin; rsv = h.rsv; opcode = h.opcode; key = h.key; len = h.len; form = h.form }) };
+    ghost invariant = { λ h. IsHeader (record {
+      fin = h.fin;
+      rsv = h.rsv;
+      opcode = h.opcode;
+      key = h.key;
+      len = h.len;
+      form = h.form;
+    }) };
 
-    ghost inverse = { λ h. record { fin = h.fin; rsv = h.rsv; opcode = h.opcode; key = h.key; len = h.len; form = h.form } };
+    ghost inverse = { λ h. record {
+      fin = h.fin;
+      rsv = h.rsv;
+      opcode = h.opcode;
+      key = h.key;
+      len = h.len;
+      form = h.form;
+    } };
 }
 
 impl Header {
@@ -90,7 +111,8 @@ impl Header {
         len: u64,
         form: Form,
     ) -> Option<Header>
-        ensures made { let header : HeaderFields = record { fin = fin; rsv = rsv; opcode = opcode; key = key; len = len; form = form }
+        ensures made { let header : HeaderFields =
+            record { fin = fin; rsv = rsv; opcode = opcode; key = key; len = len; form = form }
             in MatchOption result (¬ (IsHeader header)) (λ h. (h ≡ header) × IsHeader header) }
     {
         if rsv > MAX_RSV || opcode > MAX_OPCODE || !form.holds(len) {
@@ -118,7 +140,8 @@ impl Header {
         key: Option<[u8; 4]>,
         len: u64,
     ) -> Option<Header>
-        ensures made { let header : HeaderFields = record { fin = fin; rsv = rsv; opcode = opcode; key = key; len = len; form = shortest_form len }
+        ensures made { let header : HeaderFields =
+            record { fin = fin; rsv = rsv; opcode = opcode; key = key; len = len; form = shortest_form len }
             in MatchOption result (¬ (IsHeader header)) (λ h. (h ≡ header) × IsHeader header) }
         ensures shortest { IfSome result (λ h. IsShortestForm h.form len) }
     {
@@ -151,7 +174,7 @@ impl Header {
     /// The masking key, where MASK is set.
     pub fn key(&self) -> Option<[u8; 4]>
         ensures value { result ≡ self.now.key }
-        ensures bytes { IsKey result }
+        ensures bytes { IsMaskingKey result }
     {
         self.key
     }
@@ -185,7 +208,7 @@ impl Header {
 
 /// Sees that a key is made of bytes.
 fn are_bytes(key: &[u8; 4])
-    ensures { IsKey (Some key.now) }
+    ensures { IsMaskingKey (Some key.now) }
 {
     let _ = key[0];
     let _ = key[1];

@@ -5,7 +5,7 @@
 #![tactic(auto)]
 
 mod appending;
-mod delivering;
+pub mod devices;
 mod header;
 pub mod laws;
 mod line;
@@ -13,17 +13,13 @@ mod masking;
 mod reading;
 mod role;
 mod showing;
-#[cfg(test)]
-mod tests;
-mod watching;
 mod writing;
 
-pub use appending::{NoMemory, append_frame};
-pub use delivering::{WriteFault, write_whole};
+pub use appending::append_frame;
+pub use devices::{InputEnd, Watched, WriteFault, read_input, write_whole};
 pub use header::{Form, Header};
 pub use masking::mask;
 pub use reading::{HeaderRead, read_header};
 pub use role::Role;
 pub use showing::{ShowEnd, show};
-pub use watching::Watched;
 pub use writing::HeadBytes;

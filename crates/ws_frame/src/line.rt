@@ -1,12 +1,13 @@
 //! The line that tells of one frame (RFC 6455 section 5.2).
 
-ghost use Rattle.std.specs.Prelude.{◌≡◌, Some, ◌<◌};
-ghost use Rattle.ws_frame.specs.Lines.{hex, kind_word, bit_word, key_word, form_word, data_word, mask_mark, form_mark};
+ghost use Rattle.std.specs.Prelude.{◌≡◌, Some};
+ghost use Rattle.ws_frame.specs.Lines.{kind_word, bit_word, key_word, form_word, data_word, mask_mark, form_mark};
 ghost use Rattle.ws_frame.specs.Printing.{shown_line};
 
 use crate::header::{Form, Header};
 use crate::role::Role;
 use std::fmt;
+use ws_base::HexDigits;
 
 /// How many bytes of a payload a line shows at most.
 pub const SHOWN: usize = 16;
@@ -86,7 +87,7 @@ impl fmt::Display for Key {
     fn fmt<W: fmt::Write>(&self, f: &mut fmt::Formatter<W>) -> fmt::Result {
         match &self.0 {
             None => write!(f, "-"),
-            Some(key) => write!(f, "{}", Hex(key)),
+            Some(key) => write!(f, "{}", HexDigits(key)),
         }
     }
 }
@@ -118,22 +119,7 @@ impl fmt::Display for Data<'_> {
             return write!(f, "-");
         }
         let dots = if self.len > SHOWN as u64 { ".." } else { "" };
-        write!(f, "{}{}", Hex(self.first), dots)
-    }
-}
-
-/// Bytes in lower-case hexadecimal.
-#[derive(Drop)]
-struct Hex<'a>(&'a [u8]);
-
-impl fmt::Display for Hex<'_> {
-    ghost output = { λ bytes. Some (hex bytes.0.now) };
-
-    fn fmt<W: fmt::Write>(&self, f: &mut fmt::Formatter<W>) -> fmt::Result {
-        for byte in self.0 {
-            write!(f, "{:x}{:x}", byte / 16, byte % 16)?;
-        }
-        Ok(())
+        write!(f, "{}{}", HexDigits(self.first), dots)
     }
 }
 

@@ -1,27 +1,24 @@
 //! The lines of a stream of frames (RFC 6455 section 5.2), from a reader to a writer.
 
 ghost use Rattle.std.specs.Prelude.{◌≡◌, ◌≤◌, take, false, IfOk, string_bytes};
-ghost use Rattle.ws_frame.specs.Watching.{has_failed, inner_of};
+ghost use Rattle.ws_frame.specs.Watching.{has_failed};
+ghost use Rattle.ws_frame.specs.Devices.{watched};
 ghost use Rattle.ws_frame.specs.Masking.{masked_payload};
 ghost use Rattle.ws_frame.specs.Frame.{WireFrame, IsWireFrame};
 ghost use Rattle.ws_frame.specs.Lines.{line_of, last_line, Shows, IsFairEnd};
-ghost use Rattle.ws_frame.specs.Showing.{IsFront, IsLeft, BeginsLines, WritesFront, WritesText, ReadsInput, end_after_input, end_of_stop};
+ghost use Rattle.ws_frame.specs.Showing.{IsFront, WritesLines, WritesText, end_after_input, end_of_stop};
 
-use crate::delivering::write_whole;
+use crate::devices::{InputEnd, Watched, read_input, write_whole};
 use crate::header::Header;
 use crate::line::{FrameLine, SHOWN};
 use crate::masking::mask;
 use crate::reading::{HeaderRead, read_header};
 use crate::role::Role;
-use crate::watching::Watched;
 use std::alloc::{AllocError, Global};
 use std::io::{Read, Write};
 
-/// How many bytes one read asks for at most.
-const READ_SIZE: usize = 4096;
-
 /// How a run of `show` ended.
-#[derive(Clone, Copy, Debug, PartialEq, Eq)]
+#[derive(Clone, Copy, PartialEq, Eq)]
 pub enum ShowEnd {
     /// The reader is at its end, and all that was read are whole frames.
     Done,
@@ -36,17 +33,6 @@ pub enum ShowEnd {
     /// A write answered an error or took nothing.
     WriteFault,
     /// Memory ran out.
-    NoMemory,
-}
-
-/// How the reading of the input ended.
-#[derive(Clone, Copy)]
-enum InputEnd {
-    /// The reader is at its end, before the budget was used up.
-    End,
-    /// As many bytes as the budget allows were read.
-    Budget,
-    Fault,
     NoMemory,
 }
 
@@ -91,7 +77,7 @@ enum Front<'a> {
 /// most `budget` bytes are read; once so many are, nothing more is read and no last line is
 /// written. Nothing is judged but the masking and the form of the length.
 ///
-/// A bad length is told also where the budget is used up or a read failed, and a failed read loses no
+/// A bad length is answered also where the budget is used up or a read failed, and a failed read loses no
 /// line of a frame that was read. At `WriteFault` and at `NoMemory` a beginning of what was due is
 /// written.
 pub fn show<R: Read, W: Write>(
@@ -103,11 +89,12 @@ pub fn show<R: Read, W: Write>(
 ) -> ShowEnd
     requires reader_works { has_failed reader.old ≡ false }
     requires writer_works { has_failed writer.old ≡ false }
-    ensures lines { Shows from budget result (R.remaining (inner_of reader.old)) (R.remaining (inner_of reader.new))
-        (W.contents (inner_of writer.old)) (W.contents (inner_of writer.new)) }
-    ensures fair { IsFairEnd result (has_failed reader.new) (has_failed writer.new) (R.remaining (inner_of reader.new)) }
+    ensures lines { Shows from budget result
+        (watched R.remaining reader.old reader.new) (watched W.contents writer.old writer.new) }
+    ensures fair { IsFairEnd result
+        (watched R.remaining reader.old reader.new) (watched W.contents writer.old writer.new) }
 {
-    let (input, input_end) = read_input(alloc, reader, budget);
+    let (input, input_end) = read_input(alloc, reader, Some(budget));
     let left = match write_frame_lines(alloc, writer, from, input.as_slice()) {
         Ok(left) => left,
         Err(stop) => return stop.end(),
@@ -119,7 +106,7 @@ pub fn show<R: Read, W: Write>(
     }
 }
 
-/// How a run ends, by what is left behind the whole frames and how the input ended.
+/// How a run ends, by what is left after the whole frames and how the input ended.
 fn end_for(left: ShowEnd, input_end: InputEnd) -> ShowEnd
     ensures { result ≡ end_after_input left input_end }
 {
@@ -132,36 +119,7 @@ fn end_for(left: ShowEnd, input_end: InputEnd) -> ShowEnd
     }
 }
 
-/// Reads to the end, to a fault, to the budget, or until memory runs out.
-fn read_input<R: Read>(alloc: Global, reader: &mut Watched<R>, budget: u64) -> (Vec<u8>, InputEnd)
-    requires { has_failed reader.old ≡ false }
-    ensures { ReadsInput budget result.1 result.0.items (has_failed reader.new)
-        (R.remaining (inner_of reader.old)) (R.remaining (inner_of reader.new)) }
-{
-    let mut input = Vec::new(alloc);
-    let mut room = [0; READ_SIZE];
-    let mut left = budget;
-    while left > 0 {
-        let want = left.min(READ_SIZE as u64) as usize;
-        if input.try_reserve(want).is_err() {
-            return (input, InputEnd::NoMemory);
-        }
-        let buf = &mut room[..want];
-        match reader.read(buf) {
-            Err(_) => return (input, InputEnd::Fault),
-            Ok(0) => return (input, InputEnd::End),
-            Ok(count) => {
-                if input.extend_from_slice(&buf[..count]).is_err() {
-                    unreachable!()
-                }
-                left -= count as u64;
-            }
-        }
-    }
-    (input, InputEnd::Budget)
-}
-
-/// Writes the lines of the whole frames, and says what is left behind them as the end that it would
+/// Writes the lines of the whole frames, and says what is left after them as the end that it would
 /// be: `Done`, `CutAt` or `BadLengthAt`.
 fn write_frame_lines<W: Write>(
     alloc: Global,
@@ -170,8 +128,7 @@ fn write_frame_lines<W: Write>(
     input: &[u8],
 ) -> Result<ShowEnd, Stop>
     requires { has_failed writer.old ≡ false }
-    ensures { WritesFront (W.contents (inner_of writer.old)) (W.contents (inner_of writer.new)) (has_failed writer.new) result
-        (λ left written. IsLeft from input.now left written) (λ written. BeginsLines from input.now written) }
+    ensures { WritesLines from input.now (watched W.contents writer.old writer.new) result }
 {
     let mut at = 0;
     loop {
@@ -226,8 +183,8 @@ fn write_frame_line<W: Write>(
     payload: &[u8],
 ) -> Result<(), Stop>
     requires { has_failed writer.old ≡ false }
-    ensures { (x : WireFrame) → IsWireFrame x → x.header ≡ header → payload.now ≡ masked_payload header.key x.payload →
-        WritesText (W.contents (inner_of writer.old)) (W.contents (inner_of writer.new)) (has_failed writer.new) result (line_of from offset x) }
+    ensures { (x : WireFrame) → IsWireFrame x → x.header ≡ header → payload.now ≡ masked_payload header.key x.payload
+        → WritesText (line_of from offset x) (watched W.contents writer.old writer.new) result }
 {
     let Ok(text) = frame_text(alloc, from, offset, header, payload) else {
         return Err(Stop::NoMemory);
@@ -243,7 +200,8 @@ fn frame_text(
     header: Header,
     payload: &[u8],
 ) -> Result<String, AllocError>
-    ensures { IfOk result (λ text. (x : WireFrame) → x.header ≡ header → payload.now ≡ masked_payload header.key x.payload → string_bytes text ≡ line_of from offset x) }
+    ensures { IfOk result (λ text. (x : WireFrame) → x.header ≡ header
+        → payload.now ≡ masked_payload header.key x.payload → string_bytes text ≡ line_of from offset x) }
 {
     let (room, shown) = first_bytes(header.key(), payload);
     let line = FrameLine {
@@ -277,7 +235,7 @@ fn write_last_line<W: Write>(
     end: ShowEnd,
 ) -> Result<(), Stop>
     requires { has_failed writer.old ≡ false }
-    ensures { WritesText (W.contents (inner_of writer.old)) (W.contents (inner_of writer.new)) (has_failed writer.new) result (last_line end) }
+    ensures { WritesText (last_line end) (watched W.contents writer.old writer.new) result }
 {
     let Ok(text) = last_text(alloc, end) else {
         return Err(Stop::NoMemory);
@@ -299,7 +257,7 @@ fn last_text(alloc: Global, end: ShowEnd) -> Result<String, AllocError>
 /// Writes all of the text, or a beginning of it.
 fn write_text<W: Write>(writer: &mut Watched<W>, text: &str) -> Result<(), Stop>
     requires { has_failed writer.old ≡ false }
-    ensures { WritesText (W.contents (inner_of writer.old)) (W.contents (inner_of writer.new)) (has_failed writer.new) result text.now }
+    ensures { WritesText text.now (watched W.contents writer.old writer.new) result }
 {
     match write_whole(writer, text.as_bytes()) {
         Ok(()) => Ok(()),

@@ -1,7 +1,7 @@
 //! From a header to its bytes (RFC 6455 section 5.2).
 
 ghost use Rattle.std.specs.Prelude.{◌≡◌, ◌≤◌, ◌<◌, length, take, ◌++◌};
-ghost use Rattle.ws_frame.specs.Header.{CanHold, IsKey, header_bytes, length_bits, length_bytes, key_bytes};
+ghost use Rattle.ws_frame.specs.Header.{CanHold, IsMaskingKey, header_bytes, length_bits, length_bytes, key_bytes};
 
 use crate::header::{Form, Header};
 use byteorder::{BigEndian, ByteOrder};
@@ -47,8 +47,8 @@ impl Header {
         let mask = if self.key().is_some() { 0x80 } else { 0 };
         bytes[0] = fin + (16 * self.rsv() + self.opcode());
         bytes[1] = mask + seven_bits(self.form(), self.payload_len());
-        let at = put_length(&mut bytes, self.form(), self.payload_len());
-        let len = put_key(&mut bytes, at, &self.key());
+        let at = write_length(&mut bytes, self.form(), self.payload_len());
+        let len = write_key(&mut bytes, at, &self.key());
         HeadBytes { bytes, len }
     }
 }
@@ -66,8 +66,8 @@ fn seven_bits(form: Form, len: u64) -> u8
     }
 }
 
-/// Writes the length bytes behind the first two, and answers where they end.
-fn put_length(bytes: &mut [u8], form: Form, len: u64) -> usize
+/// Writes the length bytes after the first two, and answers where they end.
+fn write_length(bytes: &mut [u8], form: Form, len: u64) -> usize
     requires room { length bytes.old ≡ 14 }
     requires holds { CanHold form len }
     ensures end { result ≤ 10 }
@@ -87,10 +87,10 @@ fn put_length(bytes: &mut [u8], form: Form, len: u64) -> usize
 }
 
 /// Writes the masking key, if there is one, and answers where it ends.
-fn put_key(bytes: &mut [u8], at: usize, key: &Option<[u8; 4]>) -> usize
+fn write_key(bytes: &mut [u8], at: usize, key: &Option<[u8; 4]>) -> usize
     requires room { length bytes.old ≡ 14 }
     requires place { at ≤ 10 }
-    requires is_key { IsKey key.now }
+    requires is_key { IsMaskingKey key.now }
     ensures end { result ≤ 14 }
     ensures written { take result bytes.new ≡ take at bytes.old ++ key_bytes key.now }
 {

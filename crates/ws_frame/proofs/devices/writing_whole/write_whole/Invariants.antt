@@ -1,7 +1,7 @@
 use Rattle.std.proofs.Common.{length, ◌-◌, ◌≡◌, ◌≤◌, take}
 use Rattle.std.specs.Io.KnownBytes.{Appends}
 use Rattle.ws_frame.specs.Watching.{has_failed, inner_of}
-use Rattle.ws_frame.proofs.delivering.write_whole.Given as goal
+use Rattle.ws_frame.proofs.devices.writing_whole.write_whole.Given as goal
 
 -- the front of the bytes is written, and no write failed
 abbrev pub invariant-loop-at : goal.invariant-loop-at

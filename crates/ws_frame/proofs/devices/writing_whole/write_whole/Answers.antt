@@ -1,7 +1,7 @@
 use Rattle.std.proofs.Common.{rules, ◌+◌, sym, take, drop, take-append-drop}
 use Rattle.std.proofs.KnownBytes.{Appends-kept}
 use Rattle.ws_frame.proofs.Written.{wrote_more, rest_length}
-use Rattle.ws_frame.proofs.delivering.write_whole.Goals as goal
+use Rattle.ws_frame.proofs.devices.writing_whole.write_whole.Goals as goal
 
 pub returns-in-Ok-eq0-clause-begun : goal.returns-in-Ok-eq0-clause-begun
 returns-in-Ok-eq0-clause-begun g c =
