@@ -27,11 +27,19 @@ nothing_is_text = record { characters = []; scalar = All-nil IsScalarValue; spel
 
 kappa_is_text : IsText (0xce ∷ 0xba ∷ [])
 unfolding char_bytes
-kappa_is_text = record { characters = 0x3ba ∷ []; scalar = All-cons IsScalarValue 0x3ba [] (inl (lit≤ tt)) (All-nil IsScalarValue); spelled = refl }
+kappa_is_text = record {
+  characters = 0x3ba ∷ [];
+  scalar = All-cons IsScalarValue 0x3ba [] (inl (lit≤ tt)) (All-nil IsScalarValue);
+  spelled = refl;
+}
 
 noncharacter_is_text : IsText (0xef ∷ 0xbf ∷ 0xbf ∷ [])
 unfolding char_bytes
-noncharacter_is_text = record { characters = 0xffff ∷ []; scalar = All-cons IsScalarValue 0xffff [] (inr (lit≤ tt, lit≤ tt)) (All-nil IsScalarValue); spelled = refl }
+noncharacter_is_text = record {
+  characters = 0xffff ∷ [];
+  scalar = All-cons IsScalarValue 0xffff [] (inr (lit≤ tt, lit≤ tt)) (All-nil IsScalarValue);
+  spelled = refl;
+}
 
 -- a kappa without its second byte begins a text, and keeps its first
 kappa_is_unfinished : HasUnfinished (0xce ∷ []) (0xce ∷ [])

@@ -1,4 +1,4 @@
--- Inside the crate: one more byte behind an unfinished character, for contracts of private functions.
+-- Inside the crate: one more byte after an unfinished character, for contracts of private functions.
 use Rattle.std.specs.Prelude.{◌≡◌, ℕ, ◌⊎◌, List, [], ◌∷◌, ◌++◌}
 use Rattle.ws_text.specs.Text.{IsScalarValue, char_bytes, IsUnfinished}
 use Rattle.ws_text.specs.declared.unfinished.Unfinished.{Unfinished}
@@ -33,4 +33,5 @@ pub record BeginsCharacter (bytes : List ℕ) : Type 0 where
 
 -- the byte ends the character, or is one more of its bytes
 abbrev pub GoesOn : List ℕ → ℕ → List ℕ → Type 0
-GoesOn old byte new = ((new ≡ []) × ((c : ℕ) × IsCharacter c (old ++ byte ∷ []))) ⊎ ((new ≡ old ++ byte ∷ []) × IsUnfinished new)
+GoesOn old byte new = ((new ≡ []) × ((c : ℕ) × IsCharacter c (old ++ byte ∷ [])))
+    ⊎ ((new ≡ old ++ byte ∷ []) × IsUnfinished new)

@@ -1,4 +1,4 @@
--- A text that comes in pieces (RFC 6455 section 8.1: a message is judged as a whole, and a fragment
+-- A text that comes in pieces (RFC 6455 section 8.1: a message is checked as a whole, and a fragment
 -- may end inside a character).
 use Rattle.std.specs.Prelude.{◌≡◌, ℕ, ◌+◌, ◌<◌, List, ◌++◌, length, take, Option, Some, None}
 use Rattle.ws_text.specs.Text.{BeginsText, HasUnfinished}

@@ -1,10 +1,13 @@
 //! Close codes and close payloads (RFC 6455 sections 5.5.1 and 7.4).
 
-ghost use Rattle.std.specs.Prelude.{◌≡◌, ◌↔◌, ◌-◌, ◌≤◌, ℕ, ◌++◌, length, replicate, Option, IsTrue, Ok, IsErrOf};
+ghost use Rattle.std.specs.Prelude.{◌≡◌, ◌↔◌, ◌-◌, ◌≤◌, ℕ, ◌++◌, length, replicate, Option, IsTrue, Ok, Some, IsErrOf};
 ghost use Rattle.ws_text.specs.Close.{CloseValue, CodeAllowed, IsClosePayload, HasBadCode, HasBadReason};
+ghost use Rattle.ws_text.specs.Words.{close_fault_name};
 ghost use Rattle.ws_text.specs.declared.closing.TheConstants.{MAX_CONTROL_PAYLOAD, MAX_REASON};
 ghost use Rattle.ws_text.specs.declared.closing.CloseFault.TheVariants.{OneByte, BadCode, ReasonNotText};
 
+use std::error::Error;
+use std::fmt;
 use std::marker::Model;
 
 /// The most payload bytes of a control frame (section 5.5).
@@ -24,7 +27,7 @@ pub fn code_allowed(code: u16) -> bool
 
 /// What a close frame says: a code that may stand in one, and a reason of at most 123 bytes of text,
 /// kept in place.
-#[derive(Clone, Copy, Debug, PartialEq, Eq)]
+#[derive(Clone, Copy)]
 pub struct Close {
     code: u16,
     bytes: [u8; MAX_REASON],
@@ -43,7 +46,11 @@ impl Model for Close {
     ghost invariant = { λ c. CanBeSaid (record { code = c.code; reason = take c.len c.bytes })
         × IsPadded c.bytes c.len };
 
-    ghost inverse = { λ v. record { code = v.code; bytes = v.reason ++ replicate (123 - length v.reason) 0; len = length v.reason } };
+    ghost inverse = { λ v. record {
+      code = v.code;
+      bytes = v.reason ++ replicate (123 - length v.reason) 0;
+      len = length v.reason;
+    } };
 }
 
 impl Close {
@@ -85,6 +92,21 @@ pub enum CloseFault {
     ReasonNotText = 3,
 }
 
+/// The name of the cause.
+impl fmt::Display for CloseFault {
+    ghost output = { λ cause. Some (close_fault_name cause) };
+
+    fn fmt<W: fmt::Write>(&self, f: &mut fmt::Formatter<W>) -> fmt::Result {
+        match *self {
+            CloseFault::OneByte => write!(f, "OneByte"),
+            CloseFault::BadCode => write!(f, "BadCode"),
+            CloseFault::ReasonNotText => write!(f, "ReasonNotText"),
+        }
+    }
+}
+
+impl Error for CloseFault {}
+
 /// The payload of a close frame.
 pub struct ClosePayload;
 
@@ -117,7 +139,7 @@ impl ClosePayload {
     }
 }
 
-/// The bytes of a reason, and zeros behind them.
+/// The bytes of a reason, and zeros after them.
 fn padded(reason: &[u8]) -> [u8; MAX_REASON]
     requires { length reason.now ≤ MAX_REASON }
     ensures { result ≡ reason.now ++ replicate (MAX_REASON - length reason.now) 0 }
@@ -126,68 +148,4 @@ fn padded(reason: &[u8]) -> [u8; MAX_REASON]
     let (front, _) = bytes.split_at_mut(reason.len());
     front.copy_from_slice(reason);
     bytes
-}
-
-#[cfg(test)]
-mod tests {
-    use super::*;
-
-    #[test]
-    fn payloads(rt: HostRuntime) {
-        let mut longest = [0x2a; MAX_CONTROL_PAYLOAD];
-        longest[0] = 0x03;
-        longest[1] = 0xe8;
-        let cases: [(&[u8], Result<Option<(u16, &str)>, CloseFault>); 13] = [
-            (b"", Ok(None)),
-            (b"\x03", Err(CloseFault::OneByte)),
-            (b"\x03\xed", Err(CloseFault::BadCode)),
-            (b"\x03\xed\xff", Err(CloseFault::BadCode)),
-            (b"\x03\xe8\xff", Err(CloseFault::ReasonNotText)),
-            (b"\x03\xe8\xce", Err(CloseFault::ReasonNotText)),
-            (b"\x03\xe8", Ok(Some((1000, "")))),
-            (b"\x03\xe8\xce\xba", Ok(Some((1000, "κ")))),
-            (b"\x03\xf6", Ok(Some((1014, "")))),
-            (b"\x03\xf7", Err(CloseFault::BadCode)),
-            (b"\x13\x87", Ok(Some((4999, "")))),
-            (b"\x13\x88", Err(CloseFault::BadCode)),
-            (
-                &longest,
-                Ok(Some((
-                    1000,
-                    "***************************************************************************************************************************",
-                ))),
-            ),
-        ];
-        for (payload, want) in cases {
-            assert!(rt; payload.len() <= MAX_CONTROL_PAYLOAD);
-            let close = ClosePayload::read(payload);
-            let told = match &close {
-                Ok(Some(close)) => Ok(Some((close.code(), close.reason()))),
-                Ok(None) => Ok(None),
-                Err(fault) => Err(*fault),
-            };
-            assert_eq!(rt; told, want, "payload {payload:?}");
-        }
-    }
-
-    #[test]
-    fn codes(rt: HostRuntime) {
-        let first_and_last: [(u16, u16); 3] = [(1000, 1003), (1007, 1014), (3000, 4999)];
-        for (first, last) in first_and_last {
-            assert!(rt;
-                code_allowed(first) && code_allowed(last),
-                "{first} to {last}"
-            );
-            assert!(rt;
-                !code_allowed(first.wrapping_sub(1)) && !code_allowed(last.wrapping_add(1)),
-                "round {first} to {last}"
-            );
-        }
-        for code in [0, 1004, 1005, 1006, 1015, 1016, 2999, 5000, 65535] {
-            assert!(rt; !code_allowed(code), "{code}");
-        }
-        assert_eq!(rt; CloseFault::OneByte as u8, 1);
-        assert_eq!(rt; CloseFault::BadCode as u8, 2);
-        assert_eq!(rt; CloseFault::ReasonNotText as u8, 3);
-    }
 }

@@ -1,5 +1,5 @@
 //! Laws of text, each the contract of a function that does nothing (RFC 3629 section 3). Those who
-//! judge a text in parts need them.
+//! check a text in parts need them.
 
 ghost use Rattle.std.specs.Prelude.{◌≡◌, ◌↔◌, ◌≤◌, ℕ, List, [], ◌++◌, length, take, IsUtf8};
 ghost use Rattle.ws_text.specs.Text.{IsText, BeginsText, HasUnfinished};

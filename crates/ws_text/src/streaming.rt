@@ -5,15 +5,12 @@ ghost use Rattle.ws_text.specs.Text.{IsText, BeginsText};
 ghost use Rattle.ws_text.specs.Stream.{HasRead, HasFailed, BreaksTextAt};
 
 use crate::unfinished::Unfinished;
-use crate::whole::whole_front;
+use crate::whole::valid_prefix;
 use std::marker::Model;
 
-#[cfg(test)]
-mod tests;
-
-/// A judge of one text that comes in pieces. It keeps at most three bytes, those of a character that
+/// A stream of one text that comes in pieces. It keeps at most three bytes, those of a character that
 /// a piece has cut, or that it has failed. A copy goes on where the original stands.
-#[derive(Clone, Copy, Debug, PartialEq, Eq)]
+#[derive(Clone, Copy)]
 pub struct Utf8Stream {
     unfinished: Option<Unfinished>,
 }
@@ -62,7 +59,7 @@ impl Utf8Stream {
         let Some(unfinished) = self.unfinished else {
             return Err(0);
         };
-        match unfinished.after(piece) {
+        match unfinished.push(piece) {
             Ok(unfinished) => {
                 self.unfinished = Some(unfinished);
                 Ok(())

@@ -1,15 +1,16 @@
 //! The character inside which a piece of text ends (RFC 3629 section 3).
 
-ghost use Rattle.std.specs.Prelude.{◌≡◌, ◌≤◌, ◌<◌, ℕ, List, [], ◌∷◌, ◌++◌, length, take, IsTrue, ◌↔◌, ◌⊎◌, MatchOption, MatchResult, IfOk, IfErr};
+ghost use Rattle.std.specs.Prelude.{◌≡◌, ◌≤◌, ◌<◌, ℕ, List, [], ◌∷◌, ◌++◌, length, take, IsTrue, ◌↔◌, ◌⊎◌, MatchOption};
+ghost use Rattle.std.specs.Prelude.{MatchResult, IfOk, IfErr};
 ghost use Rattle.std.specs.Int.{IsInRange};
 ghost use Rattle.ws_text.specs.Text.{HasUnfinished, IsUnfinished};
 ghost use Rattle.ws_text.specs.Stream.{BreaksTextAt};
 ghost use Rattle.ws_text.specs.Step.{kept_bytes, BeginsCharacter, GoesOn};
 
-use crate::whole::whole_front;
+use crate::whole::valid_prefix;
 
 /// The first bytes of a character that is not all there, or none.
-#[derive(Clone, Copy, Debug, PartialEq, Eq)]
+#[derive(Clone, Copy)]
 pub(crate) enum Unfinished {
     Nothing,
     One(u8),
@@ -26,13 +27,13 @@ impl Unfinished {
     }
 
     /// What the next byte makes of it: `None` where no character goes on so.
-    fn fed(self, byte: u8) -> Option<Unfinished>
+    fn push_byte(self, byte: u8) -> Option<Unfinished>
         requires { IsUnfinished (kept_bytes self) }
         ensures { MatchOption result (¬ BeginsCharacter (kept_bytes self ++ byte ∷ []))
             (λ new. GoesOn (kept_bytes self) byte (kept_bytes new)) }
     {
         match self {
-            Unfinished::Nothing => begun(byte),
+            Unfinished::Nothing => after_first(byte),
             Unfinished::One(lead) => {
                 if !may_be_second(lead, byte) {
                     return None;
@@ -61,18 +62,19 @@ impl Unfinished {
     }
 
     /// Takes a piece: what is unfinished after it, or the place of the byte with which no text goes on.
-    /// A cut character is joined byte by byte, and so is one that the piece cuts; `simdutf8` judges
+    /// A cut character is joined byte by byte, and so is one that the piece cuts; `simdutf8` checks
     /// what lies between.
-    pub(crate) fn after(self, piece: &[u8]) -> Result<Unfinished, usize>
+    pub(crate) fn push(self, piece: &[u8]) -> Result<Unfinished, usize>
         requires { IsUnfinished (kept_bytes self) }
         ensures unfinished { IfOk result (λ new. IsUnfinished (kept_bytes new)) }
         ensures text { (text : List ℕ) → HasUnfinished text (kept_bytes self) →
-            MatchResult result (λ new. HasUnfinished (text ++ piece.now) (kept_bytes new)) (BreaksTextAt text piece.now) }
+            MatchResult result (λ new. HasUnfinished (text ++ piece.now) (kept_bytes new))
+            (BreaksTextAt text piece.now) }
     {
-        let (unfinished, used) = self.finished(piece)?;
+        let (unfinished, used) = self.complete(piece)?;
         let rest = &piece[used..];
-        let whole = whole_front(rest);
-        match unfinished.fed_all(&rest[whole..]) {
+        let whole = valid_prefix(rest);
+        match unfinished.push_bytes(&rest[whole..]) {
             Ok(unfinished) => Ok(unfinished),
             Err(place) => Err(used + whole + place),
         }
@@ -80,20 +82,21 @@ impl Unfinished {
 
     /// Takes bytes until no character is unfinished, or the piece ends: what is unfinished then and
     /// how many bytes it took, or the place of the byte with which no text goes on.
-    fn finished(self, piece: &[u8]) -> Result<(Unfinished, usize), usize>
+    fn complete(self, piece: &[u8]) -> Result<(Unfinished, usize), usize>
         requires { IsUnfinished (kept_bytes self) }
         ensures used { IfOk result (λ end. (end.1 ≤ length piece.now)
             × ((kept_bytes end.0 ≡ []) ⊎ (end.1 ≡ length piece.now))) }
         ensures unfinished { IfOk result (λ end. IsUnfinished (kept_bytes end.0)) }
         ensures text { (text : List ℕ) → HasUnfinished text (kept_bytes self) →
-            MatchResult result (λ end. HasUnfinished (text ++ take end.1 piece.now) (kept_bytes end.0)) (BreaksTextAt text piece.now) }
+            MatchResult result (λ end. HasUnfinished (text ++ take end.1 piece.now) (kept_bytes end.0))
+            (BreaksTextAt text piece.now) }
     {
         let mut unfinished = self;
         for (place, byte) in piece.iter().enumerate() {
             if unfinished.is_nothing() {
                 return Ok((unfinished, place));
             }
-            match unfinished.fed(*byte) {
+            match unfinished.push_byte(*byte) {
                 Some(next) => unfinished = next,
                 None => return Err(place),
             }
@@ -102,16 +105,17 @@ impl Unfinished {
     }
 
     /// Takes every byte of the piece, one by one.
-    fn fed_all(self, piece: &[u8]) -> Result<Unfinished, usize>
+    fn push_bytes(self, piece: &[u8]) -> Result<Unfinished, usize>
         requires { IsUnfinished (kept_bytes self) }
         ensures unfinished { IfOk result (λ new. IsUnfinished (kept_bytes new)) }
         ensures within { IfErr result (λ place. place < length piece.now) }
         ensures text { (text : List ℕ) → HasUnfinished text (kept_bytes self) →
-            MatchResult result (λ new. HasUnfinished (text ++ piece.now) (kept_bytes new)) (BreaksTextAt text piece.now) }
+            MatchResult result (λ new. HasUnfinished (text ++ piece.now) (kept_bytes new))
+            (BreaksTextAt text piece.now) }
     {
         let mut unfinished = self;
         for (i, byte) in piece.iter().enumerate() {
-            match unfinished.fed(*byte) {
+            match unfinished.push_byte(*byte) {
                 Some(next) => unfinished = next,
                 None => return Err(i),
             }
@@ -121,7 +125,7 @@ impl Unfinished {
 }
 
 /// What a character's first byte makes of nothing.
-fn begun(byte: u8) -> Option<Unfinished>
+fn after_first(byte: u8) -> Option<Unfinished>
     ensures { MatchOption result (¬ BeginsCharacter (byte ∷ []))
         (λ new. GoesOn [] byte (kept_bytes new)) }
 {
@@ -142,7 +146,7 @@ fn may_be_second(lead: u8, byte: u8) -> bool
     least <= byte && byte <= most
 }
 
-/// The least and the greatest byte that may be the second behind this first one: neither a longer
+/// The least and the greatest byte that may be the second after this first one: neither a longer
 /// form than is needed, nor a surrogate, nor past the last character.
 fn second_bytes(lead: u8) -> (u8, u8)
     requires { IsUnfinished (lead ∷ []) }

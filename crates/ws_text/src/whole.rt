@@ -1,10 +1,10 @@
-//! How much of a piece is whole characters: the bulk of it, judged by `simdutf8`.
+//! How much of a piece is whole characters: the bulk of it, checked by `simdutf8`.
 
 ghost use Rattle.std.specs.Prelude.{◌≤◌, length, take};
 ghost use Rattle.ws_text.specs.Text.{IsText};
 
 /// How many bytes at the front are a text: all whole characters before the first fault.
-pub(crate) fn whole_front(bytes: &[u8]) -> usize
+pub(crate) fn valid_prefix(bytes: &[u8]) -> usize
     ensures within { result ≤ length bytes.now }
     ensures text { IsText (take result bytes.now) }
 {

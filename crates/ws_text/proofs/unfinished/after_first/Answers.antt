@@ -1,6 +1,6 @@
 use Rattle.std.proofs.Common.{refl, arith, inl, inr}
 use Rattle.ws_text.proofs.Characters.{character_1, one_unfinished, not_first}
-use Rattle.ws_text.proofs.unfinished.begun.Goals as goal
+use Rattle.ws_text.proofs.unfinished.after_first.Goals as goal
 
 pub returns-in-0-to-127 : goal.returns-in-0-to-127
 returns-in-0-to-127 c = inl (refl, (c.args.byte, character_1 c.args.byte (omega arith)))

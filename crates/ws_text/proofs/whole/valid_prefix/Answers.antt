@@ -2,7 +2,7 @@ use Rattle.std.proofs.Common.{◌≡◌, ◌≤◌, ℕ, ◌∙◌, List, take, 
 use Rattle.std.proofs.lemmas.List.{length-take-le, take-take}
 use Rattle.ws_text.specs.Text.{IsText}
 use Rattle.ws_text.proofs.Texts.{text_from_utf8}
-use Rattle.ws_text.proofs.whole.whole_front.Goals as goal
+use Rattle.ws_text.proofs.whole.valid_prefix.Goals as goal
 
 pub returns-in-Ok-clause-text : goal.returns-in-Ok-clause-text
 returns-in-Ok-clause-text c =

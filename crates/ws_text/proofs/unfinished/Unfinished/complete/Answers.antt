@@ -1,5 +1,5 @@
 use Rattle.ws_text.proofs.Pieces.{piece_goes_on, piece_breaks, still_unfinished}
-use Rattle.ws_text.proofs.unfinished.Unfinished.finished.Goals as goal
+use Rattle.ws_text.proofs.unfinished.Unfinished.complete.Goals as goal
 
 pub returns-in-None-clause-text : goal.returns-in-None-clause-text
 returns-in-None-clause-text c = λ text h. piece_breaks text _ _ _ c.loop-place-test.true (c.loop-place.invariant.1 text h) c.in-None.ensures

@@ -1,5 +1,5 @@
 use Rattle.ws_text.proofs.Pieces.{piece_goes_on, piece_breaks, still_unfinished}
-use Rattle.ws_text.proofs.unfinished.Unfinished.fed_all.Goals as goal
+use Rattle.ws_text.proofs.unfinished.Unfinished.push_bytes.Goals as goal
 
 pub returns-in-None-clause-text : goal.returns-in-None-clause-text
 returns-in-None-clause-text c = λ text h. piece_breaks text _ _ _ c.loop-i-test.true (c.loop-i.invariant.1 text h) c.in-None.ensures

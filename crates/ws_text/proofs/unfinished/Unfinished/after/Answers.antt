@@ -1,8 +1,0 @@
-use Rattle.ws_text.proofs.Pieces.{parts_join, parts_break}
-use Rattle.ws_text.proofs.unfinished.Unfinished.after.Goals as goal
-
-pub returns-in-Ok-clause-text : goal.returns-in-Ok-clause-text
-returns-in-Ok-clause-text c = λ text h. parts_join text c.args.piece.now _ c.in_ok-unfinished.used c.whole_front-whole.result (c.in_ok-unfinished.ensures.text text h) c.in_ok-unfinished.ensures.used.1 c.whole_front-whole.ensures.text _ c.in-Ok.ensures.text
-
-pub returns-in-Err-clause-text : goal.returns-in-Err-clause-text
-returns-in-Err-clause-text c = λ text h. parts_break text c.args.piece.now _ c.in_ok-unfinished.used c.whole_front-whole.result (c.in_ok-unfinished.ensures.text text h) c.in_ok-unfinished.ensures.used.1 c.whole_front-whole.ensures.text c.in-Err.place c.in-Err.ensures.text
