@@ -6,7 +6,7 @@ use Rattle.base64.specs.Rfc4648.{encode_symbols, padding_len}
 use Rattle.base64.specs.GeneralPurpose.{decode_of, IsBytes, IsStrict}
 use Rattle.base64.proofs.EngineFacts.{decode_of_iff, decode_of_strict}
 use Rattle.base64.proofs.RoundTrip.{length-encode_symbols}
-use Rattle.ws_upgrade.specs.Accept.{key_of, IsKey}
+use Rattle.ws_upgrade.specs.Accept.{key_of, IsHandshakeKey}
 
 strict : IsStrict standard
 strict = (refl, refl)
@@ -24,7 +24,7 @@ value_or_nil (Ok x) = x
 value_or_nil (Err e) = []
 
 -- what doesn't decode is no key
-pub no_key-err : (key : List ℕ) → IsBytes key → IsErr (decode_of standard key) → IsKey key → ⊥
+pub no_key-err : (key : List ℕ) → IsBytes key → IsErr (decode_of standard key) → IsHandshakeKey key → ⊥
 no_key-err key bytes err is_key =
     let (nonce, nonce_bytes, len, is) = is_key in
     let wrong : false ≡ true = subst (λ r. is_err r ≡ true) (decoded key nonce bytes nonce_bytes is) err in
@@ -32,7 +32,7 @@ no_key-err key bytes err is_key =
 
 -- what decodes to n bytes is a key only at 16
 pub no_key-len : (key bytes : List ℕ) (n : ℕ) → IsBytes key → n ≤ 18 → length bytes ≡ 18 → decode_of standard key ≡ Ok (take n bytes)
-    → IsKey key → n ≡ 16
+    → IsHandshakeKey key → n ≡ 16
 unfolding value_or_nil
 no_key-len key bytes n key_bytes le len decodes is_key =
     let (nonce, nonce_bytes, sixteen, is) = is_key in

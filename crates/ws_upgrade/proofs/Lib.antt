@@ -1,4 +1,4 @@
-pub mod Judged
+pub mod HeadCheck
 pub mod Keys
 pub mod Lines
 pub mod MemberLemmas

@@ -2,7 +2,7 @@
 use Rattle.std.proofs.Common.{◌≡◌, ℕ, List, [], ◌∷◌, ◌++◌, append_assoc, append-nil}
 use Rattle.std.specs.List.{flat_map}
 
--- six lines behind nothing, each with its end, and one more end
+-- six lines after nothing, each with its end, and one more end
 pub six_lines : (end a b c d e f t0 t1 t2 t3 t4 t5 t6 t7 : List ℕ)
     → t0 ≡ [] → t1 ≡ t0 ++ (a ++ end) → t2 ≡ t1 ++ (b ++ end) → t3 ≡ t2 ++ (c ++ end) → t4 ≡ t3 ++ (d ++ end)
     → t5 ≡ t4 ++ (e ++ end) → t6 ≡ t5 ++ (f ++ end) → t7 ≡ t6 ++ end

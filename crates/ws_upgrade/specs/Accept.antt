@@ -4,7 +4,7 @@ use Rattle.sha1.specs.Sha1.{sha1}
 use Rattle.base64.specs.Engines.{standard}
 use Rattle.base64.specs.GeneralPurpose.{encode_of, IsBytes}
 
--- the text that the server puts behind the key
+-- the text that the server appends to the key
 abbrev pub accept_suffix : List ℕ
 accept_suffix = codes "258EAFA5-E914-47DA-95CA-C5AB0DC85B11"
 
@@ -17,5 +17,5 @@ abbrev pub key_of : List ℕ → List ℕ
 key_of nonce = encode_of standard nonce
 
 -- a right key: that of some 16 bytes
-abbrev pub IsKey : List ℕ → Type 0
-IsKey key = (nonce : List ℕ) × IsBytes nonce × (length nonce ≡ 16) × (key ≡ key_of nonce)
+abbrev pub IsHandshakeKey : List ℕ → Type 0
+IsHandshakeKey key = (nonce : List ℕ) × IsBytes nonce × (length nonce ≡ 16) × (key ≡ key_of nonce)

@@ -1,5 +1,5 @@
 -- Worked examples, each a theorem: first those of RFC 6455 sections 1.2 and 1.3.
-use Rattle.std.specs.Prelude.{◌≡◌, ℕ, List, [], ◌∷◌, true, false, codes, refl}
+use Rattle.std.specs.Prelude.{◌≡◌, ℕ, List, [], ◌∷◌, ◌++◌, true, false, codes, refl}
 use Rattle.std.proofs.Common.{arith, inl, inr}
 use Rattle.sha1.specs.Sha1.{sha1, digest_bytes, hash_after, compress, rounds, schedule, first_words}
 use Rattle.base64.specs.Rfc4648.{encode_symbols}
@@ -31,7 +31,8 @@ accept_value_of_sample = refl
 
 -- ---- members
 
-pub members_between_commas : members_in (codes "keep-alive,\t Upgrade ,, x y") ≡ codes "keep-alive" ∷ codes "Upgrade" ∷ codes "x y" ∷ []
+pub members_between_commas : members_in (codes "keep-alive,\t Upgrade ,, x y")
+    ≡ codes "keep-alive" ∷ codes "Upgrade" ∷ codes "x y" ∷ []
 unfolding trim_ows
 members_between_commas = refl
 
@@ -42,7 +43,8 @@ no_member = refl
 abbrev two_upgrades : HeaderPairs
 two_upgrades = (codes "upgrade", codes "h2c") ∷ (codes "Host", codes "a") ∷ (codes "UPGRADE", codes "x, WebSocket") ∷ []
 
-pub members_of_two_headers : members_of (codes "Upgrade") two_upgrades ≡ codes "h2c" ∷ codes "x" ∷ codes "WebSocket" ∷ []
+pub members_of_two_headers : members_of (codes "Upgrade") two_upgrades
+    ≡ codes "h2c" ∷ codes "x" ∷ codes "WebSocket" ∷ []
 unfolding trim_ows
 members_of_two_headers = refl
 
@@ -62,39 +64,46 @@ asked method connection more = record {
   target = codes "/chat";
   minor = 1;
   headers =
-      (codes "Host", codes "server.example.com") ∷ (codes "Upgrade", codes "websocket") ∷ (codes "Connection", connection)
-      ∷ (codes "Sec-WebSocket-Key", sample_key) ∷ (codes "Sec-WebSocket-Version", codes "12") ∷ more;
+      (codes "Host", codes "server.example.com") ∷ (codes "Upgrade", codes "websocket")
+      ∷ (codes "Connection", connection) ∷ (codes "Sec-WebSocket-Key", sample_key)
+      ∷ (codes "Sec-WebSocket-Version", codes "12") ∷ more;
 }
 
--- the method is told before the version of the protocol
+-- the method comes before the version of the protocol
 pub post_is_refused : IsRequestRefusal (asked (codes "POST") (codes "Upgrade") []) Method
 post_is_refused = inl (refl, λ same. cc)
 
-pub two_hosts_are_refused : IsRequestRefusal (asked (codes "GET") (codes "Upgrade") ((codes "hOST", codes "b") ∷ [])) Host
+pub two_hosts_are_refused :
+    IsRequestRefusal (asked (codes "GET") (codes "Upgrade") ((codes "hOST", codes "b") ∷ [])) Host
 two_hosts_are_refused = inr (refl, inr (refl, inl (refl, λ (host, only). cc)))
 
 pub keep_alive_is_refused : IsRequestRefusal (asked (codes "GET") (codes "keep-alive") []) Connection
 unfolding trim_ows
-keep_alive_is_refused = inr (refl, inr (refl, inr ((codes "server.example.com", refl), inr (refl, inl (refl, λ wrong. cc)))))
+keep_alive_is_refused =
+    inr (refl, inr (refl, inr ((codes "server.example.com", refl), inr (refl, inl (refl, λ wrong. cc)))))
 
--- the status is told first
+-- the status comes first
 pub status_200_is_refused : IsResponseRefusal sample_nonce (record { minor = 0; status = 200; headers = [] }) Status
 status_200_is_refused = inl (refl, λ same. omega arith)
 
 -- ---- texts
 
 pub request_of_sample : request_bytes (codes "server.example.com") (codes "/chat") sample_nonce
-    ≡ codes "GET /chat HTTP/1.1\r\nHost: server.example.com\r\nUpgrade: websocket\r\nConnection: Upgrade\r\nSec-WebSocket-Key: dGhlIHNhbXBsZSBub25jZQ==\r\nSec-WebSocket-Version: 13\r\n\r\n"
+    ≡ codes "GET /chat HTTP/1.1\r\nHost: server.example.com\r\nUpgrade: websocket\r\nConnection: Upgrade\r\n"
+    ++ codes "Sec-WebSocket-Key: dGhlIHNhbXBsZSBub25jZQ==\r\nSec-WebSocket-Version: 13\r\n\r\n"
 unfolding encode_symbols
 request_of_sample = refl
 
 pub response_of_sample : response_bytes sample_accept
-    ≡ codes "HTTP/1.1 101 Switching Protocols\r\nUpgrade: websocket\r\nConnection: Upgrade\r\nSec-WebSocket-Accept: s3pPLMBiTxaQ9kYGzzhZRbK+xOo=\r\n\r\n"
+    ≡ codes "HTTP/1.1 101 Switching Protocols\r\nUpgrade: websocket\r\nConnection: Upgrade\r\n"
+    ++ codes "Sec-WebSocket-Accept: s3pPLMBiTxaQ9kYGzzhZRbK+xOo=\r\n\r\n"
 response_of_sample = refl
 
 pub refusal_of_another_version : refusal_bytes WsVersion
-    ≡ codes "HTTP/1.1 426 Upgrade Required\r\nUpgrade: websocket\r\nConnection: Upgrade, close\r\nSec-WebSocket-Version: 13\r\nContent-Length: 0\r\n\r\n"
+    ≡ codes "HTTP/1.1 426 Upgrade Required\r\nUpgrade: websocket\r\nConnection: Upgrade, close\r\n"
+    ++ codes "Sec-WebSocket-Version: 13\r\nContent-Length: 0\r\n\r\n"
 refusal_of_another_version = refl
 
-pub refusal_of_no_head : refusal_bytes Head ≡ codes "HTTP/1.1 400 Bad Request\r\nConnection: close\r\nContent-Length: 0\r\n\r\n"
+pub refusal_of_no_head : refusal_bytes Head
+    ≡ codes "HTTP/1.1 400 Bad Request\r\nConnection: close\r\nContent-Length: 0\r\n\r\n"
 refusal_of_no_head = refl

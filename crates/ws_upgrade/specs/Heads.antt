@@ -2,14 +2,16 @@
 use Rattle.std.specs.Prelude.{◌≡◌, ℕ, List, [], ◌∷◌, map, codes, IsTrue, ⊤, ◌⊎◌}
 use Rattle.httparse.specs.Grammar.{RequestHead, ResponseHead, status_code}
 use Rattle.httparse.specs.Spans.{name_and_value}
-use Rattle.ws_upgrade.specs.Accept.{IsKey, key_of, accept_value_of}
+use Rattle.ws_upgrade.specs.Accept.{IsHandshakeKey, key_of, accept_value_of}
 use Rattle.ws_upgrade.specs.Members.{HeaderPairs, IsOnlyValue, members_of, has_member}
 use Rattle.ws_upgrade.specs.declared.faults.HeadFault.{HeadFault}
-use Rattle.ws_upgrade.specs.declared.faults.HeadFault.TheVariants.{Head, Method, Version, Host, Upgrade, Connection, Key, WsVersion, Status, Accept, Extension, Protocol, TooLarge}
+use Rattle.ws_upgrade.specs.declared.faults.HeadFault.TheVariants.{Head, Method, Version, Host, Upgrade, Connection}
+use Rattle.ws_upgrade.specs.declared.faults.HeadFault.TheVariants.{Key, WsVersion, Status, Accept, Extension, Protocol}
+use Rattle.ws_upgrade.specs.declared.faults.HeadFault.TheVariants.{TooLarge}
 
 -- ---- the first requirement that a head doesn't meet
 
--- the fault is told: of these requirements, in this order, it is the first that isn't met
+-- of these requirements, in this order, this is the first that isn't met
 abbrev pub IsFirstUnmet : (HeadFault → Type 0) → List HeadFault → HeadFault → Type 0
 IsFirstUnmet Meets [] fault = ⊥
 IsFirstUnmet Meets (first ∷ others) fault =
@@ -30,11 +32,16 @@ pub record RequestParts : Type 0 where
   pub headers : HeaderPairs
 
 abbrev pub request_parts : RequestHead → RequestParts
-request_parts head = record { method = head.method; target = head.target; minor = head.minor; headers = map name_and_value head.fields }
+request_parts head = record {
+  method = head.method;
+  target = head.target;
+  minor = head.minor;
+  headers = map name_and_value head.fields;
+}
 
 -- exactly one key stands in these headers, and it is a right one
 abbrev pub IsOnlyKey : HeaderPairs → List ℕ → Type 0
-IsOnlyKey headers key = IsOnlyValue (codes "Sec-WebSocket-Key") headers key × IsKey key
+IsOnlyKey headers key = IsOnlyValue (codes "Sec-WebSocket-Key") headers key × IsHandshakeKey key
 
 -- what each requirement of section 4.2.1 asks, under the refusal of a request that doesn't meet it
 abbrev pub RequestMeets : RequestParts → HeadFault → Type 0
@@ -52,7 +59,7 @@ RequestMeets request Extension = ⊤
 RequestMeets request Protocol = ⊤
 RequestMeets request TooLarge = ⊤
 
--- the order in which they are told: ours
+-- the order in which they are checked: ours
 abbrev pub request_order : List HeadFault
 request_order = Method ∷ Version ∷ Host ∷ Upgrade ∷ Connection ∷ Key ∷ WsVersion ∷ []
 
@@ -81,7 +88,8 @@ ResponseMeets nonce response Status = response.status ≡ 101
 ResponseMeets nonce response Version = response.minor ≡ 1
 ResponseMeets nonce response Upgrade = IsTrue (has_member (codes "Upgrade") (codes "websocket") response.headers)
 ResponseMeets nonce response Connection = IsTrue (has_member (codes "Connection") (codes "upgrade") response.headers)
-ResponseMeets nonce response Accept = IsOnlyValue (codes "Sec-WebSocket-Accept") response.headers (accept_value_of (key_of nonce))
+ResponseMeets nonce response Accept =
+    IsOnlyValue (codes "Sec-WebSocket-Accept") response.headers (accept_value_of (key_of nonce))
 ResponseMeets nonce response Extension = members_of (codes "Sec-WebSocket-Extensions") response.headers ≡ []
 ResponseMeets nonce response Protocol = members_of (codes "Sec-WebSocket-Protocol") response.headers ≡ []
 ResponseMeets nonce response Head = ⊤
@@ -91,7 +99,7 @@ ResponseMeets nonce response Key = ⊤
 ResponseMeets nonce response WsVersion = ⊤
 ResponseMeets nonce response TooLarge = ⊤
 
--- the order in which they are told: ours
+-- the order in which they are checked: ours
 abbrev pub response_order : List HeadFault
 response_order = Status ∷ Version ∷ Upgrade ∷ Connection ∷ Accept ∷ Extension ∷ Protocol ∷ []
 

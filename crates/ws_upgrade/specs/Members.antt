@@ -22,7 +22,8 @@ comma = 44
 
 -- the members of a value: what stands between its commas, without the spaces and tabs around it, unless that is empty
 abbrev pub members_in : List ℕ → List (List ℕ)
-members_in value = filter (λ member. not (length member == 0)) (map trim_ows (slice_split (λ byte. byte == comma) value))
+members_in value =
+    filter (λ member. not (length member == 0)) (map trim_ows (slice_split (λ byte. byte == comma) value))
 
 -- the members of all headers of this name
 abbrev pub members_of : List ℕ → HeaderPairs → List (List ℕ)

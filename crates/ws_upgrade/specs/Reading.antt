@@ -1,18 +1,23 @@
 -- What reading the front of some bytes as a head answers. What a head is is the grammar of `httparse` alone: the one
 -- of RFC 9112 sections 2 to 5.
 use Rattle.std.specs.Prelude.{◌≡◌, ℕ, ◌<◌, ◌≤◌, List, length, take, drop, codes, ◌⊎◌, ⊤}
-use Rattle.httparse.specs.Grammar.{RequestHead, ResponseHead, print_request, print_response, ReadsRequest, ReadsResponse, HasNoRequest, HasNoResponse, NeverHasRequest, NeverHasResponse, MayBecomeRequest, MayBecomeResponse}
+use Rattle.httparse.specs.Grammar.{RequestHead, ResponseHead, print_request, print_response, ReadsRequest}
+use Rattle.httparse.specs.Grammar.{ReadsResponse, HasNoRequest, HasNoResponse, NeverHasRequest, NeverHasResponse}
+use Rattle.httparse.specs.Grammar.{MayBecomeRequest, MayBecomeResponse}
 use Rattle.httparse.specs.Spans.{RequestExceeds, ResponseExceeds}
 use Rattle.ws_upgrade.specs.Accept.{accept_value_of}
 use Rattle.ws_upgrade.specs.Members.{IsOnlyValue}
-use Rattle.ws_upgrade.specs.Heads.{RequestParts, ResponseParts, request_parts, response_parts, IsOnlyKey, IsRequestRefusal, IsAcceptedRequest, IsResponseRefusal, IsAcceptedResponse}
+use Rattle.ws_upgrade.specs.Heads.{RequestParts, ResponseParts, request_parts, response_parts, IsOnlyKey}
+use Rattle.ws_upgrade.specs.Heads.{IsRequestRefusal, IsAcceptedRequest, IsResponseRefusal, IsAcceptedResponse}
 use Rattle.ws_upgrade.specs.declared.faults.HeadFault.{HeadFault}
 use Rattle.ws_upgrade.specs.declared.faults.HeadFault.TheVariants.{Head, TooLarge}
 use Rattle.ws_upgrade.specs.declared.requests.Upgrade.{Upgrade}
 use Rattle.ws_upgrade.specs.declared.requests.RequestRead.{RequestRead}
-use Rattle.ws_upgrade.specs.declared.requests.RequestRead.TheVariants.{Need as NeedRequest, Got as GotRequest, Refused as RefusedRequest}
+use Rattle.ws_upgrade.specs.declared.requests.RequestRead.TheVariants.{Need as NeedRequest, Got as GotRequest}
+use Rattle.ws_upgrade.specs.declared.requests.RequestRead.TheVariants.{Refused as RefusedRequest}
 use Rattle.ws_upgrade.specs.declared.responses.ResponseRead.{ResponseRead}
-use Rattle.ws_upgrade.specs.declared.responses.ResponseRead.TheVariants.{Need as NeedResponse, Got as GotResponse, Refused as RefusedResponse}
+use Rattle.ws_upgrade.specs.declared.responses.ResponseRead.TheVariants.{Need as NeedResponse, Got as GotResponse}
+use Rattle.ws_upgrade.specs.declared.responses.ResponseRead.TheVariants.{Refused as RefusedResponse}
 
 -- a head is looked for in so many bytes, our choice
 abbrev pub max_head : ℕ
@@ -45,7 +50,7 @@ pub record OpensRequest (request : RequestParts) (upgrade : Upgrade) : Type 0 wh
   pub accepted : IsAcceptedRequest request
   pub parts : IsUpgradeOf request upgrade
 
--- no front of these bytes is a head, and some bytes behind them could make one, or a request ends inside its target
+-- no front of these bytes is a head, and some bytes after them could make one, or a request ends inside its target
 abbrev pub IsUnfinishedRequest : List ℕ → Type 0
 IsUnfinishedRequest bytes = HasNoRequest (head_part bytes) × MayBecomeRequest (head_part bytes)
 
@@ -61,17 +66,17 @@ AnswersRequest request len (GotRequest upgrade used) = (used ≡ len) × OpensRe
 AnswersRequest request len (RefusedRequest fault) = IsRequestRefusal request fault
 
 -- the answer is about a head at the front
-abbrev pub JudgesRequest : List ℕ → RequestRead → Type 0
-JudgesRequest bytes answer =
+abbrev pub ChecksRequest : List ℕ → RequestRead → Type 0
+ChecksRequest bytes answer =
     (head : RequestHead) × (len : ℕ) × BeginsWithRequest bytes head len × AnswersRequest (request_parts head) len answer
 
 -- each head that stands at the front is accepted with its parts, or refused with the first requirement that it doesn't
 -- meet
-abbrev pub JudgesEachRequest : List ℕ → RequestRead → Type 0
-JudgesEachRequest bytes answer =
+abbrev pub ChecksEachRequest : List ℕ → RequestRead → Type 0
+ChecksEachRequest bytes answer =
     (head : RequestHead) (len : ℕ) → BeginsWithRequest bytes head len → AnswersRequest (request_parts head) len answer
 
--- the head that is told of is among the bytes
+-- the head that is answered is among the bytes
 abbrev pub HoldsRequest : List ℕ → RequestRead → Type 0
 HoldsRequest bytes NeedRequest = ⊤
 HoldsRequest bytes (GotRequest upgrade used) = used ≤ length bytes
@@ -81,12 +86,12 @@ HoldsRequest bytes (RefusedRequest fault) = ⊤
 abbrev pub RefusesRequest : List ℕ → HeadFault → Type 0
 RefusesRequest bytes Head = NeverHasRequest (head_part bytes)
 RefusesRequest bytes TooLarge = IsTooLargeRequest bytes
-RefusesRequest bytes fault = JudgesRequest bytes (RefusedRequest fault)
+RefusesRequest bytes fault = ChecksRequest bytes (RefusedRequest fault)
 
 -- what is answered to some bytes
 abbrev pub IsRequestRead : List ℕ → RequestRead → Type 0
 IsRequestRead bytes NeedRequest = (length bytes < max_head) × IsUnfinishedRequest bytes
-IsRequestRead bytes (GotRequest upgrade used) = JudgesRequest bytes (GotRequest upgrade used)
+IsRequestRead bytes (GotRequest upgrade used) = ChecksRequest bytes (GotRequest upgrade used)
 IsRequestRead bytes (RefusedRequest fault) = RefusesRequest bytes fault
 
 -- ---- responses
@@ -97,7 +102,7 @@ pub record BeginsWithResponse (bytes : List ℕ) (head : ResponseHead) (len : �
   pub whole : len ≡ length (print_response head)
   pub headers : length head.fields ≤ max_headers
 
--- no front of these bytes is a head, and some bytes behind them could make one
+-- no front of these bytes is a head, and some bytes after them could make one
 abbrev pub IsUnfinishedResponse : List ℕ → Type 0
 IsUnfinishedResponse bytes = HasNoResponse (head_part bytes) × MayBecomeResponse (head_part bytes)
 
@@ -113,16 +118,18 @@ AnswersResponse nonce response len (GotResponse used) = (used ≡ len) × IsAcce
 AnswersResponse nonce response len (RefusedResponse fault) = IsResponseRefusal nonce response fault
 
 -- the answer is about a head at the front
-abbrev pub JudgesResponse : List ℕ → List ℕ → ResponseRead → Type 0
-JudgesResponse nonce bytes answer =
-    (head : ResponseHead) × (len : ℕ) × BeginsWithResponse bytes head len × AnswersResponse nonce (response_parts head) len answer
+abbrev pub ChecksResponse : List ℕ → List ℕ → ResponseRead → Type 0
+ChecksResponse nonce bytes answer =
+    (head : ResponseHead) × (len : ℕ) × BeginsWithResponse bytes head len
+    × AnswersResponse nonce (response_parts head) len answer
 
 -- each head that stands at the front is accepted, or refused with the first requirement that it doesn't meet
-abbrev pub JudgesEachResponse : List ℕ → List ℕ → ResponseRead → Type 0
-JudgesEachResponse nonce bytes answer =
-    (head : ResponseHead) (len : ℕ) → BeginsWithResponse bytes head len → AnswersResponse nonce (response_parts head) len answer
+abbrev pub ChecksEachResponse : List ℕ → List ℕ → ResponseRead → Type 0
+ChecksEachResponse nonce bytes answer =
+    (head : ResponseHead) (len : ℕ) → BeginsWithResponse bytes head len
+    → AnswersResponse nonce (response_parts head) len answer
 
--- the head that is told of is among the bytes
+-- the head that is answered is among the bytes
 abbrev pub HoldsResponse : List ℕ → ResponseRead → Type 0
 HoldsResponse bytes NeedResponse = ⊤
 HoldsResponse bytes (GotResponse used) = used ≤ length bytes
@@ -132,10 +139,10 @@ HoldsResponse bytes (RefusedResponse fault) = ⊤
 abbrev pub RefusesResponse : List ℕ → List ℕ → HeadFault → Type 0
 RefusesResponse nonce bytes Head = NeverHasResponse (head_part bytes)
 RefusesResponse nonce bytes TooLarge = IsTooLargeResponse bytes
-RefusesResponse nonce bytes fault = JudgesResponse nonce bytes (RefusedResponse fault)
+RefusesResponse nonce bytes fault = ChecksResponse nonce bytes (RefusedResponse fault)
 
 -- what is answered to some bytes
 abbrev pub IsResponseRead : List ℕ → List ℕ → ResponseRead → Type 0
 IsResponseRead nonce bytes NeedResponse = (length bytes < max_head) × IsUnfinishedResponse bytes
-IsResponseRead nonce bytes (GotResponse used) = JudgesResponse nonce bytes (GotResponse used)
+IsResponseRead nonce bytes (GotResponse used) = ChecksResponse nonce bytes (GotResponse used)
 IsResponseRead nonce bytes (RefusedResponse fault) = RefusesResponse nonce bytes fault

@@ -1,5 +1,6 @@
 -- The heads that are written: RFC 6455 sections 4.1, 4.2.2 and 4.4.
-use Rattle.std.specs.Prelude.{◌≡◌, ℕ, ◌≤◌, List, [], ◌∷◌, ◌++◌, length, codes, Bool, ◌||◌, ◌==◌, All, IsTrue, slice_get, Some}
+use Rattle.std.specs.Prelude.{◌≡◌, ℕ, ◌≤◌, List, [], ◌∷◌, ◌++◌, length, codes, Bool, ◌||◌, ◌==◌, All, IsTrue, slice_get}
+use Rattle.std.specs.Prelude.{Some}
 use Rattle.std.specs.List.{flat_map, list_any}
 use Rattle.std.specs.Char.{is_ascii_alphanumeric}
 use Rattle.ws_upgrade.specs.Accept.{key_of}
@@ -10,7 +11,7 @@ use Rattle.ws_upgrade.specs.declared.faults.HeadFault.TheVariants.{WsVersion}
 abbrev pub line_end : List ℕ
 line_end = 13 ∷ 10 ∷ []
 
--- the bytes of a head of these lines: each with its line end, and an empty line behind them
+-- the bytes of a head of these lines: each with its line end, and an empty line after them
 abbrev pub head_bytes : List (List ℕ) → List ℕ
 head_bytes lines = flat_map (λ line. line ++ line_end) lines ++ line_end
 
@@ -65,7 +66,7 @@ response_bytes accept = head_bytes (
     ∷ header_line (codes "Sec-WebSocket-Accept") accept
     ∷ [])
 
--- the response that refuses: of another version the one that is spoken is told (section 4.4)
+-- the response that refuses: to another version it names the one that is spoken (section 4.4)
 abbrev pub refusal_bytes : HeadFault → List ℕ
 refusal_bytes WsVersion = head_bytes (
     codes "HTTP/1.1 426 Upgrade Required"

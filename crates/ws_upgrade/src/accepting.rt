@@ -3,12 +3,12 @@
 ghost use Rattle.std.specs.Prelude.{◌≡◌, ◌≤◌, length, take, IfSome, IsNone, IsErr, IsTrue, ◌↔◌};
 ghost use Rattle.base64.specs.Engines.{standard};
 ghost use Rattle.base64.specs.GeneralPurpose.{decode_of, IsBytes};
-ghost use Rattle.ws_upgrade.specs.Accept.{accept_value_of, key_of, IsKey};
+ghost use Rattle.ws_upgrade.specs.Accept.{accept_value_of, key_of, IsHandshakeKey};
 
 use base64::engine::general_purpose::STANDARD;
 use sha1::Sha1;
 
-/// The text that a server puts behind the key (section 1.3).
+/// The text that a server appends to the key (section 1.3).
 const ACCEPT_SUFFIX: &[u8] = b"258EAFA5-E914-47DA-95CA-C5AB0DC85B11";
 
 /// The length of an accept value: the base64 of the 20 bytes of a SHA-1.
@@ -45,7 +45,7 @@ pub(crate) fn key_text(nonce: &[u8; 16]) -> [u8; 24]
 
 /// Whether a key is the base64 of some 16 bytes.
 pub(crate) fn is_key(key: &[u8]) -> bool
-    ensures { IsTrue result ↔ IsKey key.now }
+    ensures { IsTrue result ↔ IsHandshakeKey key.now }
 {
     nonce_of(key).is_some()
 }
@@ -53,7 +53,7 @@ pub(crate) fn is_key(key: &[u8]) -> bool
 /// The 16 bytes whose base64 a key is. `None` where it is not that of 16 bytes.
 fn nonce_of(key: &[u8]) -> Option<[u8; 16]>
     ensures found { IfSome result (λ nonce. IsBytes nonce × (length nonce ≡ 16) × (key.now ≡ key_of nonce)) }
-    ensures none { IsNone result → ¬ (IsKey key.now) }
+    ensures none { IsNone result → ¬ (IsHandshakeKey key.now) }
 {
     if key.len() != KEY_LEN {
         return None;

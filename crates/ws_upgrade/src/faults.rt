@@ -1,49 +1,79 @@
 //! What is wrong with a head, and with what a request is asked to be made of.
 
+ghost use Rattle.std.specs.Prelude.{Some};
+ghost use Rattle.ws_upgrade.specs.Words.{head_fault_name, request_fault_name};
+
 use std::alloc::AllocError;
+use std::error::Error;
+use std::fmt;
 
 /// Why a head is refused: the first of these that applies, in the order that `read_request` and
 /// `read_response` give.
-#[derive(Clone, Copy, Debug, PartialEq, Eq, Hash)]
+#[derive(Clone, Copy, Debug, PartialEq, Eq)]
 pub enum HeadFault {
     /// The bytes begin no head, whatever follows them.
-    Head,
+    Head = 1,
     /// The method of a request is not GET.
-    Method,
+    Method = 2,
     /// The version is not HTTP/1.1.
-    Version,
+    Version = 3,
     /// A request has no `Host` header or more than one.
-    Host,
+    Host = 4,
     /// No member of the `Upgrade` headers is `websocket`.
-    Upgrade,
+    Upgrade = 5,
     /// No member of the `Connection` headers is `upgrade`.
-    Connection,
+    Connection = 6,
     /// A request has not exactly one `Sec-WebSocket-Key`, or it is not the base64 of 16 bytes.
-    Key,
+    Key = 7,
     /// A request has not exactly one `Sec-WebSocket-Version`, or it is not 13.
-    WsVersion,
+    WsVersion = 8,
     /// The status of a response is not 101.
-    Status,
+    Status = 9,
     /// A response has not exactly one `Sec-WebSocket-Accept`, or it is not the value for the nonce.
-    Accept,
+    Accept = 10,
     /// A response names an extension, and none was offered.
-    Extension,
+    Extension = 11,
     /// A response names a subprotocol, and none was offered.
-    Protocol,
+    Protocol = 12,
     /// The first 8192 bytes hold no whole head, or a head has more than 64 headers.
-    TooLarge,
+    TooLarge = 13,
 }
 
+/// The name of the cause.
+impl fmt::Display for HeadFault {
+    ghost output = { λ cause. Some (head_fault_name cause) };
+
+    fn fmt<W: fmt::Write>(&self, f: &mut fmt::Formatter<W>) -> fmt::Result {
+        match *self {
+            HeadFault::Head => write!(f, "Head"),
+            HeadFault::Method => write!(f, "Method"),
+            HeadFault::Version => write!(f, "Version"),
+            HeadFault::Host => write!(f, "Host"),
+            HeadFault::Upgrade => write!(f, "Upgrade"),
+            HeadFault::Connection => write!(f, "Connection"),
+            HeadFault::Key => write!(f, "Key"),
+            HeadFault::WsVersion => write!(f, "WsVersion"),
+            HeadFault::Status => write!(f, "Status"),
+            HeadFault::Accept => write!(f, "Accept"),
+            HeadFault::Extension => write!(f, "Extension"),
+            HeadFault::Protocol => write!(f, "Protocol"),
+            HeadFault::TooLarge => write!(f, "TooLarge"),
+        }
+    }
+}
+
+impl Error for HeadFault {}
+
 /// Why a request is not made: the first of these that applies.
-#[derive(Clone, Copy, Debug, PartialEq, Eq, Hash)]
+#[derive(Clone, Copy, Debug, PartialEq, Eq)]
 pub enum RequestFault {
     /// The host has not 1 to 255 bytes, or one of them is no visible ASCII character.
-    BadHost,
+    BadHost = 1,
     /// The path does not begin with `/`, has more than 2048 bytes, or has a byte other than
     /// letters, digits and `/-._~?=&%`.
-    BadPath,
+    BadPath = 2,
     /// Memory ran out.
-    NoMemory,
+    NoMemory = 3,
 }
 
 impl From<AllocError> for RequestFault {
@@ -56,3 +86,18 @@ impl From<AllocError> for RequestFault {
         RequestFault::NoMemory
     }
 }
+
+/// The name of the cause.
+impl fmt::Display for RequestFault {
+    ghost output = { λ cause. Some (request_fault_name cause) };
+
+    fn fmt<W: fmt::Write>(&self, f: &mut fmt::Formatter<W>) -> fmt::Result {
+        match *self {
+            RequestFault::BadHost => write!(f, "BadHost"),
+            RequestFault::BadPath => write!(f, "BadPath"),
+            RequestFault::NoMemory => write!(f, "NoMemory"),
+        }
+    }
+}
+
+impl Error for RequestFault {}

@@ -1,6 +1,7 @@
 //! The headers of a head by name (RFC 6455 section 4.2.1, RFC 9110 section 5.1).
 
-ghost use Rattle.std.specs.Prelude.{◌≡◌, ◌<◌, ◌≤◌, ◌∷◌, [], List, ℕ, length, map, drop, All, MatchOption, IfSome, IsTrue, ◌↔◌};
+ghost use Rattle.std.specs.Prelude.{◌≡◌, ◌<◌, ◌≤◌, ◌∷◌, [], List, ℕ, length, map, drop, All, MatchOption, IfSome};
+ghost use Rattle.std.specs.Prelude.{IsTrue, ◌↔◌};
 ghost use Rattle.httparse.specs.Spans.{header_bytes, IsHeaderWithin};
 ghost use Rattle.ws_upgrade.specs.Members.{IsOnlyValue, values_of, members_of, has_member};
 ghost use Rattle.ws_upgrade.specs.Walking.{members_left};
@@ -39,7 +40,8 @@ impl<'h, 'b> Headers<'h, 'b> {
 
     /// The value of the only header of this name. `None` where there is none or more than one.
     pub(crate) fn only_value(&self, name: &[u8]) -> Option<&'b [u8]>
-        ensures { MatchOption result ((value : List ℕ) → ¬ (IsOnlyValue name.now self.now value)) (λ value. IsOnlyValue name.now self.now value.now) }
+        ensures { MatchOption result ((value : List ℕ) → ¬ (IsOnlyValue name.now self.now value))
+            (λ value. IsOnlyValue name.now self.now value.now) }
     {
         let (value, next) = self.first_value(name, 0)?;
         match self.first_value(name, next) {
@@ -64,12 +66,12 @@ impl<'h, 'b> Headers<'h, 'b> {
     {
         let mut rest: &[u8] = &[];
         let mut next = 0;
-        while let Some((member, after, behind)) = self.next_member(name, rest, next) {
+        while let Some((member, after, next_after)) = self.next_member(name, rest, next) {
             if is_same_word(member, word) {
                 return true;
             }
             rest = after;
-            next = behind;
+            next = next_after;
         }
         false
     }
@@ -82,7 +84,7 @@ impl<'h, 'b> Headers<'h, 'b> {
     }
 
     /// The next member of the headers of this name, where the rest of a value and the headers from
-    /// an index on are still to be read; and what is to be read behind it.
+    /// an index on are still to be read; and what is to be read after it.
     fn next_member(
         &self,
         name: &[u8],
@@ -90,23 +92,25 @@ impl<'h, 'b> Headers<'h, 'b> {
         next: usize,
     ) -> Option<(&'b [u8], &'b [u8], usize)>
         ensures { MatchOption result (members_left name.now self.now rest.now next ≡ [])
-            (λ found. members_left name.now self.now rest.now next ≡ found.0.now ∷ members_left name.now self.now found.1.now found.2) }
+            (λ found. members_left name.now self.now rest.now next
+            ≡ found.0.now ∷ members_left name.now self.now found.1.now found.2) }
     {
         let (mut rest, mut next) = (rest, next);
         loop {
             if let Some((member, after)) = first_member(rest) {
                 return Some((member, after, next));
             }
-            let (value, behind) = self.first_value(name, next)?;
+            let (value, after) = self.first_value(name, next)?;
             rest = value;
-            next = behind;
+            next = after;
         }
     }
 
-    /// The first value of this name from the header at an index on, and the index behind it.
+    /// The first value of this name from the header at an index on, and the index after it.
     fn first_value(&self, name: &[u8], from: usize) -> Option<(&'b [u8], usize)>
         ensures value { MatchOption result (values_of name.now (drop from self.now) ≡ [])
-            (λ found. values_of name.now (drop from self.now) ≡ found.0.now ∷ values_of name.now (drop found.1 self.now)) }
+            (λ found. values_of name.now (drop from self.now)
+            ≡ found.0.now ∷ values_of name.now (drop found.1 self.now)) }
         ensures further { IfSome result (λ found. (from < found.1) × (found.1 ≤ length self.now)) }
     {
         let mut next = from;

@@ -7,8 +7,6 @@ mod headers;
 mod members;
 mod requests;
 mod responses;
-#[cfg(test)]
-mod tests;
 mod writing;
 
 pub use accepting::accept_of;

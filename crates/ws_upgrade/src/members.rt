@@ -5,9 +5,10 @@ ghost use Rattle.std.specs.Str.{str_eq_ignore_ascii_case};
 ghost use Rattle.httparse.specs.Grammar.{skip_ows, trim_ows};
 ghost use Rattle.ws_upgrade.specs.Members.{comma, members_in};
 
-/// The first member of a value, and what stands behind its comma. `None` where there is no member.
+/// The first member of a value, and what stands after its comma. `None` where there is no member.
 pub(crate) fn first_member(value: &[u8]) -> Option<(&[u8], &[u8])>
-    ensures { MatchOption result (members_in value.now ≡ []) (λ found. members_in value.now ≡ found.0.now ∷ members_in found.1.now) }
+    ensures { MatchOption result (members_in value.now ≡ [])
+        (λ found. members_in value.now ≡ found.0.now ∷ members_in found.1.now) }
 {
     let mut rest = value;
     while !rest.is_empty() {
@@ -21,7 +22,7 @@ pub(crate) fn first_member(value: &[u8]) -> Option<(&[u8], &[u8])>
     None
 }
 
-/// What stands before the first comma, and what stands behind it, which is nothing where there is
+/// What stands before the first comma, and what stands after it, which is nothing where there is
 /// no comma.
 fn cut(value: &[u8]) -> (&[u8], &[u8])
     requires { 0 < length value.now }

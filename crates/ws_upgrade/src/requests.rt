@@ -4,7 +4,8 @@ ghost use Rattle.std.specs.Prelude.{◌≡◌, ℕ, List, MatchOption, MatchResu
 ghost use Rattle.httparse.specs.Grammar.{RequestHead};
 ghost use Rattle.httparse.specs.Spans.{IsRequestAt, IsRequestWithin};
 ghost use Rattle.ws_upgrade.specs.Heads.{RequestParts, request_parts, IsOnlyKey, IsRequestRefusal};
-ghost use Rattle.ws_upgrade.specs.Reading.{head_part, OpensRequest, AnswersRequest, HoldsRequest, IsRequestRead, JudgesEachRequest};
+ghost use Rattle.ws_upgrade.specs.Reading.{head_part, OpensRequest, AnswersRequest, HoldsRequest, IsRequestRead};
+ghost use Rattle.ws_upgrade.specs.Reading.{ChecksEachRequest};
 
 use crate::accepting::{accept_of, is_key};
 use crate::faults::HeadFault;
@@ -19,7 +20,7 @@ pub const MAX_HEAD: usize = 8192;
 pub const MAX_HEADERS: usize = 64;
 
 /// What an accepted request asks for. The slices are parts of the bytes that were read.
-#[derive(Clone, Copy, Debug, PartialEq, Eq)]
+#[derive(Clone, Copy)]
 pub struct Upgrade<'a> {
     /// The value of its `Host` header.
     pub host: &'a [u8],
@@ -30,7 +31,7 @@ pub struct Upgrade<'a> {
 }
 
 /// What stands at the front of some bytes.
-#[derive(Clone, Copy, Debug, PartialEq, Eq)]
+#[derive(Clone, Copy)]
 pub enum RequestRead<'a> {
     /// Less than a whole head: read more.
     Need,
@@ -45,14 +46,14 @@ pub enum RequestRead<'a> {
 ///
 /// A head is what the grammar of `httparse` says, looked for in the first 8192 bytes, with at most
 /// 64 headers. `Need` comes where more bytes may complete one; also inside a target, where a byte
-/// that is no UTF-8 may be told only at the target's end. Refusals are told in this order: `Head`,
+/// that is no UTF-8 may be refused only at the target's end. Refusals come in this order: `Head`,
 /// `TooLarge`, `Method`, `Version`, `Host`, `Upgrade`, `Connection`, `Key`, `WsVersion`; where
-/// there are more than 64 headers, or a target doesn't end, either of the first two may be told.
+/// there are more than 64 headers, or a target doesn't end, either of the first two may come.
 /// Offers of extensions and subprotocols are ignored.
 pub fn read_request(bytes: &[u8]) -> RequestRead<'_>
     // Of each head that stands at the front: it is accepted with its parts, or refused with the
     // first requirement that it doesn't meet.
-    ensures judged { JudgesEachRequest bytes.now result }
+    ensures checked { ChecksEachRequest bytes.now result }
 
     // What each answer says of the bytes.
     ensures read { IsRequestRead bytes.now result }
@@ -95,7 +96,7 @@ fn answer<'b>(front: &'b [u8], spans: &[HeaderSpan], head: RequestSpans) -> Requ
 {
     let headers = Headers::new(front, &spans[..head.headers]);
     let (method, target) = (head.method.of(front), head.path.of(front));
-    match judge(method, target, head.version, &headers) {
+    match check(method, target, head.version, &headers) {
         Ok(upgrade) => RequestRead::Got {
             upgrade,
             used: head.len,
@@ -105,13 +106,14 @@ fn answer<'b>(front: &'b [u8], spans: &[HeaderSpan], head: RequestSpans) -> Requ
 }
 
 /// What a request asks for, or the first requirement that it doesn't meet.
-fn judge<'b>(
+fn check<'b>(
     method: &[u8],
     target: &'b [u8],
     minor: u8,
     headers: &Headers<'_, 'b>,
 ) -> Result<Upgrade<'b>, HeadFault>
-    ensures { let request : RequestParts = record { method = method.now; target = target.now; minor = minor; headers = headers.now }
+    ensures { let request : RequestParts =
+        record { method = method.now; target = target.now; minor = minor; headers = headers.now }
         in MatchResult result (λ upgrade. OpensRequest request upgrade) (λ fault. IsRequestRefusal request fault) }
 {
     if method != b"GET".as_slice() {
@@ -144,7 +146,8 @@ fn judge<'b>(
 
 /// The only key of a request, if it has one and that is right.
 fn only_key<'b>(headers: &Headers<'_, 'b>) -> Option<&'b [u8]>
-    ensures { MatchOption result ((key : List ℕ) → ¬ (IsOnlyKey headers.now key)) (λ key. IsOnlyKey headers.now key.now) }
+    ensures { MatchOption result ((key : List ℕ) → ¬ (IsOnlyKey headers.now key))
+        (λ key. IsOnlyKey headers.now key.now) }
 {
     let key = headers.only_value(b"Sec-WebSocket-Key")?;
     if is_key(key) { Some(key) } else { None }

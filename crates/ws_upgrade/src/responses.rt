@@ -4,7 +4,7 @@ ghost use Rattle.std.specs.Prelude.{MatchResult};
 ghost use Rattle.httparse.specs.Grammar.{ResponseHead};
 ghost use Rattle.httparse.specs.Spans.{IsResponseAt, IsResponseWithin};
 ghost use Rattle.ws_upgrade.specs.Heads.{ResponseParts, response_parts, IsResponseRefusal, IsAcceptedResponse};
-ghost use Rattle.ws_upgrade.specs.Reading.{AnswersResponse, HoldsResponse, IsResponseRead, JudgesEachResponse};
+ghost use Rattle.ws_upgrade.specs.Reading.{AnswersResponse, HoldsResponse, IsResponseRead, ChecksEachResponse};
 
 use crate::accepting::{accept_of, key_text};
 use crate::faults::HeadFault;
@@ -17,7 +17,7 @@ use httparse::{Error, Status};
 const SWITCHING_PROTOCOLS: u16 = 101;
 
 /// What stands at the front of some bytes.
-#[derive(Clone, Copy, Debug, PartialEq, Eq)]
+#[derive(Clone, Copy)]
 pub enum ResponseRead {
     /// Less than a whole head: read more.
     Need,
@@ -32,13 +32,13 @@ pub enum ResponseRead {
 /// matter.
 ///
 /// A head is what the grammar of `httparse` says, looked for in the first 8192 bytes, with at most
-/// 64 headers. `Need` comes where more bytes may complete one. Refusals are told in this order:
+/// 64 headers. `Need` comes where more bytes may complete one. Refusals come in this order:
 /// `Head`, `TooLarge`, `Status`, `Version`, `Upgrade`, `Connection`, `Accept`, `Extension`,
-/// `Protocol`; where there are more than 64 headers, either of the first two may be told.
+/// `Protocol`; where there are more than 64 headers, either of the first two may come.
 pub fn read_response(bytes: &[u8], nonce: [u8; 16]) -> ResponseRead
     // Of each head that stands at the front: it is accepted, or refused with the first requirement
     // that it doesn't meet.
-    ensures judged { JudgesEachResponse nonce bytes.now result }
+    ensures checked { ChecksEachResponse nonce bytes.now result }
 
     // What each answer says of the bytes.
     ensures read { IsResponseRead nonce bytes.now result }
@@ -69,21 +69,22 @@ fn answer(front: &[u8], spans: &[HeaderSpan], head: ResponseSpans, nonce: &[u8; 
         → AnswersResponse nonce.now (response_parts grammar) head.len result }
 {
     let headers = Headers::new(front, &spans[..head.headers]);
-    match judge(head.code, head.version, &headers, nonce) {
+    match check(head.code, head.version, &headers, nonce) {
         Ok(()) => ResponseRead::Got { used: head.len },
         Err(fault) => ResponseRead::Refused(fault),
     }
 }
 
 /// Whether a response accepts, or the first requirement that it doesn't meet.
-fn judge(
+fn check(
     status: u16,
     minor: u8,
     headers: &Headers<'_, '_>,
     nonce: &[u8; 16],
 ) -> Result<(), HeadFault>
     ensures { let response : ResponseParts = record { minor = minor; status = status; headers = headers.now }
-        in MatchResult result (λ _. IsAcceptedResponse nonce.now response) (λ fault. IsResponseRefusal nonce.now response fault) }
+        in MatchResult result (λ _. IsAcceptedResponse nonce.now response)
+        (λ fault. IsResponseRefusal nonce.now response fault) }
 {
     if status != SWITCHING_PROTOCOLS {
         return Err(HeadFault::Status);

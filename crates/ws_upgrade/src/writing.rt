@@ -1,11 +1,13 @@
 //! The heads that are written (RFC 6455 sections 4.1, 4.2.2 and 4.4).
 
 ghost use Rattle.std.specs.Prelude.{◌≡◌, ◌++◌, ◌↔◌, IsTrue, IfOk, OnOk, IsErrOf};
-ghost use Rattle.ws_upgrade.specs.Texts.{line_end, request_line, header_line, IsHost, is_path_byte, IsPath, request_text, request_bytes, response_bytes, refusal_bytes};
+ghost use Rattle.ws_upgrade.specs.Texts.{line_end, request_line, header_line, IsHost, is_path_byte, IsPath};
+ghost use Rattle.ws_upgrade.specs.Texts.{request_text, request_bytes, response_bytes, refusal_bytes};
 
 use crate::accepting::key_text;
 use crate::faults::{HeadFault, RequestFault};
 use std::alloc::{AllocError, Global};
+use ws_base::NoMemory;
 
 /// The most bytes that a host has: as many as a name of the domain name system.
 const MAX_HOST: usize = 255;
@@ -20,7 +22,7 @@ const UPGRADE_REQUIRED: &[u8] = b"HTTP/1.1 426 Upgrade Required\r\n\
     Sec-WebSocket-Version: 13\r\n\
     Content-Length: 0\r\n\r\n";
 
-/// What is told of every other refusal.
+/// What answers every other refusal.
 const BAD_REQUEST: &[u8] = b"HTTP/1.1 400 Bad Request\r\n\
     Connection: close\r\n\
     Content-Length: 0\r\n\r\n";
@@ -53,7 +55,7 @@ pub fn request(
 }
 
 /// The head with which a server accepts, with the accept value of the client's key.
-pub fn response(alloc: Global, accept: &[u8; 28]) -> Result<Vec<u8>, AllocError>
+pub fn response(alloc: Global, accept: &[u8; 28]) -> Result<Vec<u8>, NoMemory>
     ensures { IfOk result (λ text. text.items ≡ response_bytes accept.now) }
 {
     let mut text = Vec::new(alloc);

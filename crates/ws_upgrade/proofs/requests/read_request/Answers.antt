@@ -1,7 +1,7 @@
 use Rattle.std.proofs.Common.{rules, arith, inr}
 use Rattle.httparse.specs.Spans.{IsRequestOf}
 use Rattle.httparse.specs.Grammar.{HasNoRequest, MayBecomeRequest}
-use Rattle.ws_upgrade.proofs.Judged.{few_fields, request_held, request_read}
+use Rattle.ws_upgrade.proofs.HeadCheck.{few_fields, request_held, request_read}
 use Rattle.ws_upgrade.proofs.requests.read_request.Goals as goal
 
 pub returns-in-Ok-Complete-clause-read : goal.returns-in-Ok-Complete-clause-read

@@ -1,7 +1,7 @@
 use Rattle.std.proofs.Common.{rules, arith, inr}
 use Rattle.httparse.specs.Spans.{IsResponseOf}
 use Rattle.httparse.specs.Grammar.{HasNoResponse, MayBecomeResponse}
-use Rattle.ws_upgrade.proofs.Judged.{few_fields, response_held, response_read}
+use Rattle.ws_upgrade.proofs.HeadCheck.{few_fields, response_held, response_read}
 use Rattle.ws_upgrade.proofs.responses.read_response.Goals as goal
 
 pub returns-in-Ok-Complete-clause-read : goal.returns-in-Ok-Complete-clause-read

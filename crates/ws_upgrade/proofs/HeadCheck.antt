@@ -6,7 +6,7 @@ use Rattle.httparse.specs.Grammar.{Field, print_request, print_response}
 use Rattle.httparse.specs.Spans.{AreFieldsAt, header_bytes, name_and_value}
 use Rattle.httparse.specs.declared.spans.HeaderSpan.{HeaderSpan}
 use Rattle.ws_upgrade.specs.Heads.{RequestParts, ResponseParts, RequestMeets, ResponseMeets, request_order, response_order, request_parts, response_parts, IsFirstUnmet, IsRequestRefusal, IsResponseRefusal}
-use Rattle.ws_upgrade.specs.Reading.{head_part, HoldsRequest, HoldsResponse, JudgesRequest, RefusesRequest, IsRequestRead, JudgesResponse, RefusesResponse, IsResponseRead}
+use Rattle.ws_upgrade.specs.Reading.{head_part, HoldsRequest, HoldsResponse, ChecksRequest, RefusesRequest, IsRequestRead, ChecksResponse, RefusesResponse, IsResponseRead}
 use Rattle.ws_upgrade.specs.declared.faults.HeadFault.{HeadFault}
 use Rattle.ws_upgrade.specs.declared.faults.HeadFault.TheVariants.{Head, TooLarge}
 use Rattle.ws_upgrade.specs.declared.requests.RequestRead.{RequestRead}
@@ -45,18 +45,18 @@ too_large_request : (request : RequestParts) → IsRequestRefusal request TooLar
 unfolding Lacks
 too_large_request request = no_refusal (RequestMeets request) request_order TooLarge ((λ e. cc), ((λ e. cc), ((λ e. cc), ((λ e. cc), ((λ e. cc), ((λ e. cc), ((λ e. cc), tt)))))))
 
-refuses_request : (bytes : List ℕ) (fault : HeadFault) → JudgesRequest bytes (RefusedRequest fault) → RefusesRequest bytes fault
-refuses_request bytes Head judged = absurd (no_head_request (request_parts judged.0) judged.3)
-refuses_request bytes TooLarge judged = absurd (too_large_request (request_parts judged.0) judged.3)
-refuses_request bytes fault judged = judged
+refuses_request : (bytes : List ℕ) (fault : HeadFault) → ChecksRequest bytes (RefusedRequest fault) → RefusesRequest bytes fault
+refuses_request bytes Head checked = absurd (no_head_request (request_parts checked.0) checked.3)
+refuses_request bytes TooLarge checked = absurd (too_large_request (request_parts checked.0) checked.3)
+refuses_request bytes fault checked = checked
 
 -- the answer to a head at the front
-pub request_read : (bytes : List ℕ) (answer : RequestRead) → JudgesRequest bytes answer → IsRequestRead bytes answer
-request_read bytes NeedRequest judged = absurd judged.3
-request_read bytes (GotRequest upgrade used) judged = judged
-request_read bytes (RefusedRequest fault) judged = refuses_request bytes fault judged
+pub request_read : (bytes : List ℕ) (answer : RequestRead) → ChecksRequest bytes answer → IsRequestRead bytes answer
+request_read bytes NeedRequest checked = absurd checked.3
+request_read bytes (GotRequest upgrade used) checked = checked
+request_read bytes (RefusedRequest fault) checked = refuses_request bytes fault checked
 
--- the head that is told of is among the bytes
+-- the head that is answered is among the bytes
 pub request_held : (bytes : List ℕ) (answer : RequestRead) → IsRequestRead bytes answer → HoldsRequest bytes answer
 request_held bytes NeedRequest read = tt
 request_held bytes (GotRequest upgrade used) (head, len, begins, answers) =
@@ -72,18 +72,18 @@ too_large_response : (nonce : List ℕ) (response : ResponseParts) → IsRespons
 unfolding Lacks
 too_large_response nonce response = no_refusal (ResponseMeets nonce response) response_order TooLarge ((λ e. cc), ((λ e. cc), ((λ e. cc), ((λ e. cc), ((λ e. cc), ((λ e. cc), ((λ e. cc), tt)))))))
 
-refuses_response : (nonce bytes : List ℕ) (fault : HeadFault) → JudgesResponse nonce bytes (RefusedResponse fault) → RefusesResponse nonce bytes fault
-refuses_response nonce bytes Head judged = absurd (no_head_response nonce (response_parts judged.0) judged.3)
-refuses_response nonce bytes TooLarge judged = absurd (too_large_response nonce (response_parts judged.0) judged.3)
-refuses_response nonce bytes fault judged = judged
+refuses_response : (nonce bytes : List ℕ) (fault : HeadFault) → ChecksResponse nonce bytes (RefusedResponse fault) → RefusesResponse nonce bytes fault
+refuses_response nonce bytes Head checked = absurd (no_head_response nonce (response_parts checked.0) checked.3)
+refuses_response nonce bytes TooLarge checked = absurd (too_large_response nonce (response_parts checked.0) checked.3)
+refuses_response nonce bytes fault checked = checked
 
 -- the answer to a head at the front
-pub response_read : (nonce bytes : List ℕ) (answer : ResponseRead) → JudgesResponse nonce bytes answer → IsResponseRead nonce bytes answer
-response_read nonce bytes NeedResponse judged = absurd judged.3
-response_read nonce bytes (GotResponse used) judged = judged
-response_read nonce bytes (RefusedResponse fault) judged = refuses_response nonce bytes fault judged
+pub response_read : (nonce bytes : List ℕ) (answer : ResponseRead) → ChecksResponse nonce bytes answer → IsResponseRead nonce bytes answer
+response_read nonce bytes NeedResponse checked = absurd checked.3
+response_read nonce bytes (GotResponse used) checked = checked
+response_read nonce bytes (RefusedResponse fault) checked = refuses_response nonce bytes fault checked
 
--- the head that is told of is among the bytes
+-- the head that is answered is among the bytes
 pub response_held : (nonce bytes : List ℕ) (answer : ResponseRead) → IsResponseRead nonce bytes answer → HoldsResponse bytes answer
 response_held nonce bytes NeedResponse read = tt
 response_held nonce bytes (GotResponse used) (head, len, begins, answers) =
