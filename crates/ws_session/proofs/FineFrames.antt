@@ -7,7 +7,7 @@ use Rattle.ws_frame.specs.declared.role.Role.{Role}
 use Rattle.ws_frame.specs.declared.header.Form.TheVariants.{Short, Two, Eight}
 use Rattle.ws_frame.specs.Header.{HeaderFields, IsHeader, header_bytes, is_masked}
 use Rattle.ws_frame.specs.Masking.{masked_payload}
-use Rattle.ws_frame.specs.Frame.{KeyedFrame, CanBeSent, frame_bytes, shortest_form}
+use Rattle.ws_frame.specs.Frame.{KeyedFrame, FitsTheLayout, frame_bytes, shortest_form}
 use Rattle.ws_frame.proofs.Frames.{sent_is_wire}
 use Rattle.ws_text.specs.Text.{IsText, BeginsText}
 use Rattle.ws_session.specs.declared.message.Kind.{Kind}
@@ -87,7 +87,7 @@ text_frame_or_not opened opcode =
 
 -- ---- a valid frame has no fault
 
-module _ (role : Role) (limits : LimitsValue) (opened : Option Message) (x : KeyedFrame) (can : CanBeSent x) (key : is_masked x.key ≡ expects_key role) (v : IsValidNext limits opened x.frame) where
+module _ (role : Role) (limits : LimitsValue) (opened : Option Message) (x : KeyedFrame) (can : FitsTheLayout x) (key : is_masked x.key ≡ expects_key role) (v : IsValidNext limits opened x.frame) where
   control_is : 8 ≤ x.frame.opcode → (x.frame.fin ≡ true) × (length x.frame.payload ≤ 125)
   control_is le = v.alone.control (le-leb 8 x.frame.opcode le)
 
@@ -161,7 +161,7 @@ pub nothing_masked : (k : Option (List ℕ)) (l : List ℕ) → l ≡ masked_pay
 nothing_masked None l = refl
 nothing_masked (Some k) l = refl
 
-module _ (role : Role) (limits : LimitsValue) (opened : Option Message) (x : KeyedFrame) (can : CanBeSent x) (fine : HasNoFaultOfNext role limits opened (frame_bytes x)) where
+module _ (role : Role) (limits : LimitsValue) (opened : Option Message) (x : KeyedFrame) (can : FitsTheLayout x) (fine : HasNoFaultOfNext role limits opened (frame_bytes x)) where
   is_header : IsHeader (header_of x)
   is_header = (sent_is_wire x can).header
 

@@ -5,7 +5,7 @@ use Rattle.std.proofs.lemmas.List.{length-append, take_at, take-append-drop, len
 use Rattle.ws_frame.specs.declared.role.Role.{Role}
 use Rattle.ws_frame.specs.declared.header.Form.{Form}
 use Rattle.ws_frame.specs.declared.header.Form.TheVariants.{Short, Two, Eight}
-use Rattle.ws_frame.specs.Header.{HeaderFields, IsKey, AreBytes, header_bytes, CanHold}
+use Rattle.ws_frame.specs.Header.{HeaderFields, IsMaskingKey, AreBytes, header_bytes, CanHold}
 use Rattle.ws_frame.specs.Masking.{masked_payload}
 use Rattle.ws_frame.specs.Frame.{KeyedFrame, sent_as, shortest_form}
 use Rattle.ws_frame.proofs.Frames.{sent_is_wire}
@@ -29,11 +29,11 @@ use Rattle.ws_frame.proofs.Masks.{masked_payload_twice, masked_payload_bytes}
 use Rattle.ws_frame.proofs.Splits.{rest_bytes}
 use Rattle.ws_frame.proofs.Frames.{no_wire_of_cut_payload, no_wire_without_header}
 use Rattle.ws_session.specs.Faults.{IsControl}
-use Rattle.ws_session.specs.declared.judging.Content.{Content}
-use Rattle.ws_session.specs.declared.judging.Content.TheVariants as content
-use Rattle.ws_session.specs.declared.judging.Judged.{Judged}
-use Rattle.ws_session.specs.declared.judging.Judged.TheVariants as judged
-use Rattle.ws_session.specs.Judging.{NoneAtHeader, IsFirstAtHeader, NoneInPayload, IsFirstInPayload, frame_with, IsContentOf, FitsIn, IsWholeFrame, IsRoomFor, IsPayloadJudged, IsJudged}
+use Rattle.ws_session.specs.declared.checking.Content.{Content}
+use Rattle.ws_session.specs.declared.checking.Content.TheVariants as content
+use Rattle.ws_session.specs.declared.checking.FrameCheck.{FrameCheck}
+use Rattle.ws_session.specs.declared.checking.FrameCheck.TheVariants as check
+use Rattle.ws_session.specs.Checking.{NoneAtHeader, IsFirstAtHeader, NoneInPayload, IsFirstInPayload, frame_with, IsContentOf, FitsIn, IsWholeFrame, IsRoomFor, IsPayloadCheck, IsFrameCheck}
 use Rattle.ws_session.proofs.HeaderReasons.{at_most_ten}
 use Rattle.ws_session.proofs.Next.{length-frame_bytes}
 
@@ -57,7 +57,7 @@ shortest_by Eight n fits long =
       | inr big ↦ let more : 126 ≤ n = omega arith in rw (le-ltb n 126 more, le-ltb n 65536 big) refl
     ]
 
-key_at_most : (key : Option (List ℕ)) → IsKey key → length (key_bytes key) ≤ 4
+key_at_most : (key : Option (List ℕ)) → IsMaskingKey key → length (key_bytes key) ≤ 4
 key_at_most None is = omega arith
 key_at_most (Some key) is = omega (arith, is.0)
 
@@ -67,7 +67,7 @@ length_at_most Two n = omega arith
 length_at_most Eight n = omega arith
 
 -- a header has at most fourteen bytes
-header_at_most : (h : HeaderFields) → IsKey h.key → length (header_bytes h) ≤ 14
+header_at_most : (h : HeaderFields) → IsMaskingKey h.key → length (header_bytes h) ≤ 14
 header_at_most h is = omega (arith, length-append (length_bytes h.form h.len) (key_bytes h.key), length_at_most h.form h.len, key_at_most h.key is)
 
 make_fields : Bool → ℕ → ℕ → Option (List ℕ) → ℕ → Form → HeaderFields
@@ -165,12 +165,12 @@ module _ (role : Role) (limits : LimitsValue) (opened : Option Message) (bytes :
 
   header_first : (r : Reason) → IsFirstAtHeader role limits opened h r → (count : ℕ) (q : Reason) → Applies role limits opened h (take count p) q → IsNoLater used r (used + count) q
   header_first r first zero q (inl a) = inr (omega arith, first.first q a.1)
-  header_first r first zero q (inr a) = inr (omega arith, omega (arith, late_number q a, at_most_ten role limits opened h r first.applies))
+  header_first r first zero q (inr a) = inr (omega arith, omega (arith, late_number q a, at_most_ten role limits opened h r first.wrong))
   header_first r first (suc count) q a = inl (omega arith)
 
   pub at_header : (r : Reason) → IsFirstAtHeader role limits opened h r → IsFirstFaultOfNext role limits opened bytes used r
   at_header r first = record {
-    fault = subst (λ n. IsFaultOfNext role limits opened bytes n r) (add-zero used) (to_fault 0 r (omega arith) (inl (refl, first.applies)));
+    fault = subst (λ n. IsFaultOfNext role limits opened bytes n r) (add-zero used) (to_fault 0 r (omega arith) (inl (refl, first.wrong)));
     first = λ n q f. let at = from_fault n q f in subst (λ m. IsNoLater used r m q) (sym at.place) (header_first r first at.count q at.applies);
   }
 
@@ -208,8 +208,8 @@ module _ (role : Role) (limits : LimitsValue) (opened : Option Message) (bytes :
     clean_by fine n q f = let at = from_fault n q f in clean_at at.count q at.within fine at.applies
 
     -- the payload isn't all there
-    pub part_judged : length p < h.len → NoneInPayload opened h p → IsPartOfFrame role limits opened bytes
-    part_judged short fine = record {
+    pub part_checked : length p < h.len → NoneInPayload opened h p → IsPartOfFrame role limits opened bytes
+    part_checked short fine = record {
       clean = clean_by fine;
       none = λ x more can e. no_wire_of_cut_payload bytes h used b (omega (arith, length_p)) (sent_as x) more (sent_is_wire x can) e;
     }
@@ -231,12 +231,12 @@ module _ (role : Role) (limits : LimitsValue) (opened : Option Message) (bytes :
 
     payload_first : (n : ℕ) (r : Reason) → IsFirstInPayload opened h p n r → (count : ℕ) (q : Reason) → count ≤ length p → Applies role limits opened h (take count p) q → IsNoLater (used + n) r (used + count) q
     payload_first n r first count q le (inl a) = absurd (none q a.1)
-    payload_first n r first count q le (inr a) = shift_by n count r q (first.first count q le a)
+    payload_first n r first count q le (inr a) = shift_by n count r q (first.first count q (le, a))
 
     -- the payload breaks a rule
-    pub payload_judged : (n : ℕ) (r : Reason) → IsFirstInPayload opened h p n r → IsFirstFaultOfNext role limits opened bytes (used + n) r
-    payload_judged n r first = record {
-      fault = to_fault n r first.within (inr first.applies);
+    pub payload_checked : (n : ℕ) (r : Reason) → IsFirstInPayload opened h p n r → IsFirstFaultOfNext role limits opened bytes (used + n) r
+    payload_checked n r first = record {
+      fault = to_fault n r first.fault.0 (inr first.fault.1);
       first = λ m q f. let at = from_fault m q f in subst (λ k. IsNoLater (used + n) r k q) (sym at.place) (payload_first n r first at.count q at.within at.applies);
     }
 
@@ -260,9 +260,9 @@ module _ (role : Role) (limits : LimitsValue) (opened : Option Message) (bytes :
     content_fits (content.Pong payload) whole is_content = tt
     content_fits (content.Close close) whole is_content = tt
 
-    pub whole_judged : (end : ℕ) (content : Content) → length p ≡ h.len → end ≡ used + length p → IsContentOf opened (frame_with h p) content → NoneInPayload opened h p → IsWholeFrame role limits opened bytes end content
+    pub whole_checked : (end : ℕ) (content : Content) → length p ≡ h.len → end ≡ used + length p → IsContentOf opened (frame_with h p) content → NoneInPayload opened h p → IsWholeFrame role limits opened bytes end content
     unfolding arrived
-    whole_judged end content whole at_end is_content fine =
+    whole_checked end content whole at_end is_content fine =
         let header : header_of arrived ≡ h = arrived_header whole in
         let all : take (length p) p ≡ p = take_all (length p) p (omega arith) in
         let masked_all : masked_payload h.key p ≡ take h.len (drop used bytes) = ap (λ (l : List ℕ). masked_payload h.key l) (sym all) ∙ masked_back (length p) within_len ∙ ap (λ n. take n (drop used bytes)) whole in
@@ -278,10 +278,10 @@ module _ (role : Role) (limits : LimitsValue) (opened : Option Message) (bytes :
           fits = content_fits content whole is_content;
         }
 
-    pub judged_by : (j : Judged) → IsPayloadJudged opened h used p j → IsJudged role limits opened bytes j
-    judged_by judged.Part a = (part_judged a.0 a.1, part_room a.0)
-    judged_by (judged.Whole end content) a = whole_judged end content a.0 a.1 a.2 a.3
-    judged_by (judged.Fault reason place) a = subst (λ n. IsFirstFaultOfNext role limits opened bytes n reason) (sym a.1) (payload_judged a.0 reason a.2)
+    pub judged_by : (j : FrameCheck) → IsPayloadCheck opened h used p j → IsFrameCheck role limits opened bytes j
+    judged_by check.Need a = (part_checked a.0 a.1, part_room a.0)
+    judged_by (check.Whole end content) a = whole_checked end content a.0 a.1 a.2 a.3
+    judged_by (check.Fault reason place) a = subst (λ n. IsFirstFaultOfNext role limits opened bytes n reason) (sym a.1) (payload_checked a.0 reason a.2)
 
 -- no header has come
 pub part_of_header : (role : Role) (limits : LimitsValue) (opened : Option Message) (bytes : List ℕ) → BeginsNoHeader bytes → IsPartOfFrame role limits opened bytes

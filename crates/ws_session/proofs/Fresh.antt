@@ -9,7 +9,7 @@ use Rattle.ws_session.specs.NextFrame.{IsPartOfFrame}
 use Rattle.ws_session.specs.declared.status.Status.TheVariants as status
 use Rattle.ws_session.specs.Exchange.{SendingValue, HasExchanged}
 use Rattle.ws_session.proofs.Next.{place_is, two_bytes}
-use Rattle.ws_session.proofs.Growing.{none_in_nothing}
+use Rattle.ws_session.proofs.OneMoreFrame.{none_in_nothing}
 
 pub no_fault_in_nothing : (role : Role) (limits : LimitsValue) → HasNoFault role limits []
 no_fault_in_nothing role limits n r f = omega (arith, f.long, place_is role limits [] n r f, two_bytes f.header)
@@ -24,16 +24,16 @@ no_events role limits = record {
   are = refl;
 }
 
-pub fresh : (role : Role) (limits : LimitsValue) → HasExchanged (record { role = role; limits = limits; opened = None; rest = []; sending = None; status = status.Open }) [] [] false
+pub fresh : (role : Role) (limits : LimitsValue) → HasExchanged (record { role = role; limits = limits; opened = None; partial_frame = []; sending = None; status = status.Open }) [] [] false
 unfolding no_events
-fresh role limits = record { events = []; has_events = no_events role limits; status = refl; taking = λ going. (refl, refl); sending = tt }
+fresh role limits = record { bytes = λ i. omega arith; events = []; has_events = no_events role limits; status = refl; taking = λ going. (refl, refl); sending = tt }
 
 -- no part of a frame is no frame and no fault
 pub part_of_nothing : (role : Role) (limits : LimitsValue) (opened : Option Message) → IsPartOfFrame role limits opened []
 part_of_nothing role limits opened = record { clean = λ n r f. let e = f.parts in absurd cc; none = none_in_nothing }
 
-pub fresh_by : (role : Role) (limits : LimitsValue) (opened : Option Message) (rest : List ℕ) (sending : Option SendingValue) → opened ≡ None → rest ≡ [] → sending ≡ None → HasExchanged (record { role = role; limits = limits; opened = opened; rest = rest; sending = sending; status = status.Open }) [] [] false
+pub fresh_by : (role : Role) (limits : LimitsValue) (opened : Option Message) (rest : List ℕ) (sending : Option SendingValue) → opened ≡ None → rest ≡ [] → sending ≡ None → HasExchanged (record { role = role; limits = limits; opened = opened; partial_frame = rest; sending = sending; status = status.Open }) [] [] false
 fresh_by role limits opened rest sending a b d =
-    subst (λ (o : Option Message). HasExchanged (record { role = role; limits = limits; opened = o; rest = rest; sending = sending; status = status.Open }) [] [] false) (sym a)
-    (subst (λ (l : List ℕ). HasExchanged (record { role = role; limits = limits; opened = None; rest = l; sending = sending; status = status.Open }) [] [] false) (sym b)
-    (subst (λ (o : Option SendingValue). HasExchanged (record { role = role; limits = limits; opened = None; rest = []; sending = o; status = status.Open }) [] [] false) (sym d) (fresh role limits)))
+    subst (λ (o : Option Message). HasExchanged (record { role = role; limits = limits; opened = o; partial_frame = rest; sending = sending; status = status.Open }) [] [] false) (sym a)
+    (subst (λ (l : List ℕ). HasExchanged (record { role = role; limits = limits; opened = None; partial_frame = l; sending = sending; status = status.Open }) [] [] false) (sym b)
+    (subst (λ (o : Option SendingValue). HasExchanged (record { role = role; limits = limits; opened = None; partial_frame = []; sending = o; status = status.Open }) [] [] false) (sym d) (fresh role limits)))

@@ -7,7 +7,7 @@ use Rattle.std.proofs.lemmas.Grind.{flat_map-append}
 use Rattle.ws_frame.specs.declared.role.Role.{Role}
 use Rattle.ws_frame.specs.Header.{HeaderFields, header_bytes}
 use Rattle.ws_frame.specs.Masking.{masked, masked_payload}
-use Rattle.ws_frame.specs.Frame.{KeyedFrame, CanBeSent, frame_bytes, stream_bytes}
+use Rattle.ws_frame.specs.Frame.{KeyedFrame, FitsTheLayout, frame_bytes, stream_bytes}
 use Rattle.ws_frame.proofs.Masks.{length-masked_payload}
 use Rattle.ws_session.specs.declared.message.Message.{Message}
 use Rattle.ws_session.specs.declared.reason.Reason.{Reason}
@@ -46,7 +46,7 @@ part_within h p x part =
 
 -- a fault of the next frame lies within it
 pub within_front : (role : Role) (limits : LimitsValue) (opened : Option Message) (t : List ℕ) (n : ℕ) (r : Reason) → IsFaultOfNext role limits opened t n r
-    → (x : KeyedFrame) (more : List ℕ) → CanBeSent x → t ≡ frame_bytes x ++ more → n ≤ length (frame_bytes x)
+    → (x : KeyedFrame) (more : List ℕ) → FitsTheLayout x → t ≡ frame_bytes x ++ more → n ≤ length (frame_bytes x)
 within_front role limits opened t n r f x more can e =
     let le = part_within f.header f.payload x (part_of f.header f.payload f.rest x more f.is_header can f.within (sym f.parts ∙ e)) in
     let at = f.is_place in
@@ -96,7 +96,7 @@ next_earlier role limits opened t u n r le f =
 -- a whole frame stands at the front of what follows the frames, and the fault lies behind it
 pub record LiesBehindNext (xs : List KeyedFrame) (t : List ℕ) (n : ℕ) : Type 0 where
   pub next : KeyedFrame
-  pub can : CanBeSent next
+  pub can : FitsTheLayout next
   pub rest : List ℕ
   pub parts : t ≡ frame_bytes next ++ rest
   pub beyond : length (stream_bytes xs) + length (frame_bytes next) < n
@@ -179,7 +179,7 @@ module _ (role : Role) (limits : LimitsValue) (xs : List KeyedFrame) (t : List �
       }
 
   -- no fault in what follows, where each lies in the next frame
-  pub still_clean : HasNoFaultOfNext role limits (open_message_of (frames_of xs)) t → ((x : KeyedFrame) (more : List ℕ) → CanBeSent x → t ≡ frame_bytes x ++ more → length more ≡ 0) → HasNoFault role limits (stream_bytes xs ++ t)
+  pub still_clean : HasNoFaultOfNext role limits (open_message_of (frames_of xs)) t → ((x : KeyedFrame) (more : List ℕ) → FitsTheLayout x → t ≡ frame_bytes x ++ more → length more ≡ 0) → HasNoFault role limits (stream_bytes xs ++ t)
   still_clean none alone n r f =
       elim (cases_lt (length (stream_bytes xs)) n) [
         | inr early ↦ clean n r early f

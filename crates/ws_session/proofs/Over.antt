@@ -8,7 +8,7 @@ use Rattle.std.proofs.lemmas.Grind.{flat_map-append}
 use Rattle.ws_frame.specs.declared.role.Role.{Role}
 use Rattle.ws_frame.specs.Header.{AreBytes, header_bytes}
 use Rattle.ws_frame.specs.Masking.{masked_payload}
-use Rattle.ws_frame.specs.Frame.{Frame, KeyedFrame, CanBeSent, frame_bytes, stream_bytes}
+use Rattle.ws_frame.specs.Frame.{Frame, KeyedFrame, FitsTheLayout, frame_bytes, stream_bytes}
 use Rattle.ws_frame.specs.Stream.{SplitsInto}
 use Rattle.ws_frame.proofs.Frames.{frame_told}
 use Rattle.ws_session.specs.declared.message.Message.{Message}
@@ -24,16 +24,17 @@ use Rattle.ws_session.specs.declared.status.Status.{Status}
 use Rattle.ws_session.specs.declared.status.Status.TheVariants as status
 use Rattle.ws_session.specs.Replies.{reply_to, until_close, has_close, replies_by, replies_of}
 use Rattle.ws_session.specs.Exchange.{SessionValue, HasExchanged, is_over, last_event, status_before_close, status_after, status_of}
+use Rattle.ws_session.proofs.ByteLists.{bytes_append}
 use Rattle.ws_session.proofs.Faults.{fault_before}
-use Rattle.ws_session.proofs.Growth.{one_events}
+use Rattle.ws_session.proofs.EventsGoOn.{one_events}
 use Rattle.ws_frame.proofs.Splits.{some_split}
 use Rattle.ws_session.proofs.Faults.{first_stays}
 use Rattle.ws_session.proofs.Streams.{goes_on}
-use Rattle.ws_session.proofs.Growth.{ending_before_stays}
+use Rattle.ws_session.proofs.EventsGoOn.{ending_before_stays}
 use Rattle.ws_session.proofs.Places.{compare_frames, fault_parts}
 use Rattle.ws_session.proofs.Next.{in_frames}
 use Rattle.ws_session.proofs.Statuses.{Ends, ClosesAt, closes_or_not}
-use Rattle.ws_session.proofs.Growing.{through_close_same}
+use Rattle.ws_session.proofs.OneMoreFrame.{through_close_same}
 
 -- ---- replies in two parts
 
@@ -107,18 +108,51 @@ last_ends_not before [] h is = is
 last_ends_not before (x ∷ []) h is = event_ends_not before x.frame h.0 is
 last_ends_not before (x ∷ y ∷ xs) h is = last_ends_not (before ++ x.frame ∷ []) (y ∷ xs) h.1 is
 
-status_unless : (sent : List Frame) (o : Option Event) → (EndsLast o → ⊥) → status_after sent false o ≡ status_before_close sent false
-status_unless sent None h = refl
-status_unless sent (Some event.Part) h = refl
-status_unless sent (Some (event.Message m)) h = refl
-status_unless sent (Some (event.Ping p)) h = refl
-status_unless sent (Some (event.Pong p)) h = refl
-status_unless sent (Some (event.Close c)) h = absurd (h tt)
-status_unless sent (Some (event.Failed r)) h = absurd (h tt)
+status_unless : (sent : List Frame) (ended : Bool) (o : Option Event) → (EndsLast o → ⊥) → status_after sent ended o ≡ status_before_close sent ended
+status_unless sent ended None h = refl
+status_unless sent ended (Some event.Part) h = refl
+status_unless sent ended (Some (event.Message m)) h = refl
+status_unless sent ended (Some (event.Ping p)) h = refl
+status_unless sent ended (Some (event.Pong p)) h = refl
+status_unless sent ended (Some (event.Close c)) h = absurd (h tt)
+status_unless sent ended (Some (event.Failed r)) h = absurd (h tt)
 
-before_close_goes : (b : Bool) → is_over (cond b status.Closing status.Open) ≡ true → ⊥
-before_close_goes true e = absurd cc
-before_close_goes false e = absurd cc
+before_close_lost : (ended b : Bool) → is_over (cond ended status.Lost (cond b status.Closing status.Open)) ≡ true → cond ended status.Lost (cond b status.Closing status.Open) ≡ status.Lost
+before_close_lost true b e = refl
+before_close_lost false true e = absurd cc
+before_close_lost false false e = absurd cc
+
+-- ---- a stream that has ended, or has not
+
+not_lost_by : (b : Bool) → cond b status.Closing status.Open ≡ status.Lost → ⊥
+not_lost_by true e = absurd cc
+not_lost_by false e = absurd cc
+
+not_lost_after : (sent : List Frame) (o : Option Event) → status_after sent false o ≡ status.Lost → ⊥
+not_lost_after sent None e = not_lost_by (has_close sent) e
+not_lost_after sent (Some event.Part) e = not_lost_by (has_close sent) e
+not_lost_after sent (Some (event.Message m)) e = not_lost_by (has_close sent) e
+not_lost_after sent (Some (event.Ping p)) e = not_lost_by (has_close sent) e
+not_lost_after sent (Some (event.Pong p)) e = not_lost_by (has_close sent) e
+not_lost_after sent (Some (event.Close c)) e = absurd cc
+not_lost_after sent (Some (event.Failed r)) e = absurd cc
+
+-- a session whose stream has not ended is not lost
+pub not_lost : (v : SessionValue) (sent : List Frame) (s : List ℕ) → HasExchanged v sent s false → v.status ≡ status.Lost → ⊥
+not_lost v sent s h e = not_lost_after sent (last_event h.events) (sym h.status ∙ e)
+
+over_after : (sent : List Frame) (o : Option Event) → is_over (status_after sent true o) ≡ true
+over_after sent None = refl
+over_after sent (Some event.Part) = refl
+over_after sent (Some (event.Message m)) = refl
+over_after sent (Some (event.Ping p)) = refl
+over_after sent (Some (event.Pong p)) = refl
+over_after sent (Some (event.Close c)) = refl
+over_after sent (Some (event.Failed r)) = refl
+
+-- one whose stream has ended is over
+pub ended_is_over : (v : SessionValue) (sent : List Frame) (s : List ℕ) → HasExchanged v sent s true → is_over v.status ≡ true
+ended_is_over v sent s h = ap (λ (t : Status). is_over t) h.status ∙ over_after sent (last_event h.events)
 
 -- ---- behind a close
 
@@ -164,7 +198,7 @@ clean_behind role limits s u xs rest split c clean n r f =
 -- the events of a stream that failed stay
 failed_stays : (role : Role) (limits : LimitsValue) (s u : List ℕ) (xs : List KeyedFrame) (rest : List ℕ) (n : ℕ) (r : Reason) → AreBytes (s ++ u) → SplitsInto s xs rest → IsFirstFault role limits s n r → HasEvents role limits (s ++ u) (events_of xs (Some (n, r)))
 failed_stays role limits s u xs rest n r bytes split fault =
-    let c = some_split CanBeSent frame_bytes frame_told (s ++ u) bytes in
+    let c = some_split FitsTheLayout frame_bytes frame_told (s ++ u) bytes in
     let same : stream_bytes xs ++ (rest ++ u) ≡ stream_bytes c.frames ++ c.rest = sym (append_assoc (stream_bytes xs) rest u) ∙ ap (λ (l : List ℕ). l ++ u) (sym split.whole) ∙ c.split.whole in
     let g = goes_on xs c.frames (rest ++ u) c.rest split.each c.split.each c.split.left same in
     let le : n ≤ length (stream_bytes xs) + length rest = omega (arith, ap (λ (l : List ℕ). length l) split.whole, length-append (stream_bytes xs) rest, fault.fault.long) in
@@ -181,7 +215,7 @@ failed_stays role limits s u xs rest n r bytes split fault =
 -- and those of a stream that was closed
 closed_stays : (role : Role) (limits : LimitsValue) (s u : List ℕ) (xs : List KeyedFrame) (rest : List ℕ) → AreBytes (s ++ u) → SplitsInto s xs rest → ClosesAt xs → HasNoFault role limits s → HasEvents role limits (s ++ u) (events_of xs None)
 closed_stays role limits s u xs rest bytes split closes clean =
-    let c = some_split CanBeSent frame_bytes frame_told (s ++ u) bytes in
+    let c = some_split FitsTheLayout frame_bytes frame_told (s ++ u) bytes in
     let same : stream_bytes xs ++ (rest ++ u) ≡ stream_bytes c.frames ++ c.rest = sym (append_assoc (stream_bytes xs) rest u) ∙ ap (λ (l : List ℕ). l ++ u) (sym split.whole) ∙ c.split.whole in
     let g = goes_on xs c.frames (rest ++ u) c.rest split.each c.split.each c.split.left same in
     record {
@@ -193,28 +227,35 @@ closed_stays role limits s u xs rest bytes split closes clean =
       are = ap (λ (l : List KeyedFrame). events_after [] (frames_of l)) (sym (ap (λ (l : List KeyedFrame). through_close l) g.frames ∙ through_stays xs g.later closes));
     }
 
-stays_by : (v : SessionValue) (sent : List Frame) (s u : List ℕ) (h : HasExchanged v sent s false) → is_over v.status ≡ true → AreBytes (s ++ u) → (f : Option (ℕ × Reason)) → IsFaultOf v.role v.limits s f → h.events ≡ events_of h.has_events.frames f → HasEvents v.role v.limits (s ++ u) h.events
-stays_by v sent s u h over bytes (Some f) is are = subst (λ (es : List Event). HasEvents v.role v.limits (s ++ u) es) (sym are) (failed_stays v.role v.limits s u h.has_events.frames h.has_events.rest f.0 f.1 bytes h.has_events.split is)
-stays_by v sent s u h over bytes None is are =
-    elim (closes_or_not h.has_events.frames) [
-      | inr c ↦ subst (λ (es : List Event). HasEvents v.role v.limits (s ++ u) es) (sym are) (closed_stays v.role v.limits s u h.has_events.frames h.has_events.rest bytes h.has_events.split c is)
-      | inl none ↦
-          let events : h.events ≡ events_after [] (frames_of h.has_events.frames) = are ∙ ap (λ (l : List KeyedFrame). events_after [] (frames_of l)) (through_close_same h.has_events.frames none) in
-          let going : v.status ≡ status_before_close sent false = h.status ∙ ap (λ (es : List Event). status_of sent false es) events ∙ status_unless sent (last_event (events_after [] (frames_of h.has_events.frames))) (last_ends_not [] h.has_events.frames none) in
-          absurd (before_close_goes (has_close sent) (ap (λ (t : Status). is_over t) (sym going) ∙ over))
-    ]
+-- a session that is over by a close or a fault
+module _ (v : SessionValue) (sent : List Frame) (s u : List ℕ) (ended : Bool) (h : HasExchanged v sent s ended) (over : is_over v.status ≡ true) (lost : v.status ≡ status.Lost → ⊥) (more : AreBytes u) where
+  all_bytes : AreBytes (s ++ u)
+  all_bytes = bytes_append s u h.bytes more
 
--- the events of a session that is over are those of more bytes
-pub over_events : (v : SessionValue) (sent : List Frame) (s u : List ℕ) → HasExchanged v sent s false → is_over v.status ≡ true → AreBytes (s ++ u) → (es : List Event) → HasEvents v.role v.limits s es → HasEvents v.role v.limits (s ++ u) es
-over_events v sent s u h over bytes es has =
-    subst (λ (l : List Event). HasEvents v.role v.limits (s ++ u) l) (one_events v.role v.limits s h.events es h.has_events has) (stays_by v sent s u h over bytes h.has_events.fault h.has_events.is_fault h.has_events.are)
+  stays_by : (f : Option (ℕ × Reason)) → IsFaultOf v.role v.limits s f → h.events ≡ events_of h.has_events.frames f → HasEvents v.role v.limits (s ++ u) h.events
+  stays_by (Some f) is are = subst (λ (es : List Event). HasEvents v.role v.limits (s ++ u) es) (sym are) (failed_stays v.role v.limits s u h.has_events.frames h.has_events.rest f.0 f.1 all_bytes h.has_events.split is)
+  stays_by None is are =
+      elim (closes_or_not h.has_events.frames) [
+        | inr c ↦ subst (λ (es : List Event). HasEvents v.role v.limits (s ++ u) es) (sym are) (closed_stays v.role v.limits s u h.has_events.frames h.has_events.rest all_bytes h.has_events.split c is)
+        | inl none ↦
+            let events : h.events ≡ events_after [] (frames_of h.has_events.frames) = are ∙ ap (λ (l : List KeyedFrame). events_after [] (frames_of l)) (through_close_same h.has_events.frames none) in
+            let going : v.status ≡ status_before_close sent ended = h.status ∙ ap (λ (es : List Event). status_of sent ended es) events
+            ∙ status_unless sent ended (last_event (events_after [] (frames_of h.has_events.frames))) (last_ends_not [] h.has_events.frames none) in
+            absurd (lost (going ∙ before_close_lost ended (has_close sent) (ap (λ (t : Status). is_over t) (sym going) ∙ over)))
+      ]
 
--- and it agrees with having taken them
-pub over_agrees : (v : SessionValue) (sent : List Frame) (s u : List ℕ) → HasExchanged v sent s false → is_over v.status ≡ true → AreBytes (s ++ u) → HasExchanged v sent (s ++ u) false
-over_agrees v sent s u h over bytes = record {
-  events = h.events;
-  has_events = stays_by v sent s u h over bytes h.has_events.fault h.has_events.is_fault h.has_events.are;
-  status = h.status;
-  taking = λ going. let both : true ≡ false = sym over ∙ going in absurd cc;
-  sending = h.sending;
-}
+  -- its events are those of more bytes
+  pub over_events : (es : List Event) → HasEvents v.role v.limits s es → HasEvents v.role v.limits (s ++ u) es
+  over_events es has =
+      subst (λ (l : List Event). HasEvents v.role v.limits (s ++ u) l) (one_events v.role v.limits s h.events es h.has_events has) (stays_by h.has_events.fault h.has_events.is_fault h.has_events.are)
+
+  -- and it agrees with having taken them
+  pub over_agrees : HasExchanged v sent (s ++ u) ended
+  over_agrees = record {
+    bytes = all_bytes;
+    events = h.events;
+    has_events = stays_by h.has_events.fault h.has_events.is_fault h.has_events.are;
+    status = h.status;
+    sending = h.sending;
+    taking = λ going. let both : true ≡ false = sym over ∙ going in absurd cc;
+  }

@@ -22,7 +22,7 @@ use Rattle.ws_text.specs.declared.closing.CloseFault.TheVariants.{OneByte, BadCo
 use Rattle.ws_session.specs.Messages.{kind_of}
 use Rattle.ws_session.specs.Validity.{OfText}
 use Rattle.ws_session.specs.Assembly.{HasReadOpen, IsTextOf, message_plus}
-use Rattle.ws_session.specs.Judging.{NoneInPayload, IsFirstInPayload, reason_of_close}
+use Rattle.ws_session.specs.Checking.{NoneInPayload, IsFirstInPayload, reason_of_close}
 
 -- a front that is as long as the header says is the whole
 front_is_all : (p : List ℕ) (n len : ℕ) → n ≤ length p → length p ≤ len → length (take n p) ≡ len → (n ≡ length p) × (length p ≡ len)
@@ -99,9 +99,8 @@ module _ (opened : Option Message) (h : HeaderFields) (p : List ℕ) (opcode : h
   text_is_cut of_text fin whole begins never =
       let all : take (length p) p ≡ p = take_all (length p) p (omega arith) in
       record {
-        within = omega arith;
-        applies = subst (λ (l : List ℕ). AppliesInPayload opened h l TextCut) (sym all) (of_text, fin, whole, begins, never);
-        first = cut_first begins;
+        fault = (omega arith, subst (λ (l : List ℕ). AppliesInPayload opened h l TextCut) (sym all) (of_text, fin, whole, begins, never));
+        first = λ n q a. cut_first begins n q a.0 a.1;
       }
 
   -- the text breaks
@@ -133,7 +132,7 @@ module _ (opened : Option Message) (h : HeaderFields) (p : List ℕ) (opcode : h
   text_breaks k of_text b =
       let lt = b.within in
       let size : length (take (k + 1) p) ≡ k + 1 = length-take-le (k + 1) p (omega arith) in
-      record { within = omega arith; applies = (of_text, omega (arith, size), b.after); first = break_first k b }
+      record { fault = (omega arith, (of_text, omega (arith, size), b.after)); first = λ n q a. break_first k b n q a.0 a.1 }
 
 -- ---- the payload of a control frame
 
@@ -254,9 +253,8 @@ module _ (opened : Option Message) (h : HeaderFields) (p : List ℕ) (opcode : h
 
   pub close_fault : (f : CloseFault) → r ≡ Err f → IsFirstInPayload opened h p (length p) (reason_of_close f)
   close_fault f e = record {
-    within = omega arith;
-    applies = applies_here (reason_of_close f) (fault_applies f e);
-    first = λ n q le a. let at = only_here n q le a in inr (sym at.0, lowest f e q at.1);
+    fault = (omega arith, applies_here (reason_of_close f) (fault_applies f e));
+    first = λ n q a. let at = only_here n q a.0 a.1 in inr (sym at.0, lowest f e q at.1);
   }
 
   same_reason_bytes : (c : CloseValue) (close : Option CloseValue) → p ≡ close_payload (Some c) → IsClosePayload p close → IsText c.reason

@@ -5,7 +5,7 @@ use Rattle.std.proofs.lemmas.List.{take-append-drop, length-take}
 use Rattle.ws_frame.specs.declared.role.Role.{Role}
 use Rattle.ws_frame.specs.Header.{HeaderFields, IsHeader, header_bytes}
 use Rattle.ws_frame.specs.Masking.{masked, masked_payload}
-use Rattle.ws_frame.specs.Frame.{KeyedFrame, CanBeSent, frame_bytes, stream_bytes}
+use Rattle.ws_frame.specs.Frame.{KeyedFrame, FitsTheLayout, frame_bytes, stream_bytes}
 use Rattle.ws_frame.proofs.Frames.{no_frame_begins, sent_is_wire}
 use Rattle.ws_frame.proofs.Headers.{same_header, same_parts}
 use Rattle.ws_frame.proofs.Masks.{length-masked_payload, same_masked_payload}
@@ -22,7 +22,7 @@ pub record Before (xs ys : List KeyedFrame) (a b : List ℕ) : Type 0 where
 
 pub record Within (xs ys : List KeyedFrame) (a b : List ℕ) : Type 0 where
   pub next : KeyedFrame
-  pub is_sent : CanBeSent next
+  pub is_sent : FitsTheLayout next
   pub more : List KeyedFrame
   pub frames : xs ≡ ys ++ next ∷ more
   pub bytes : b ≡ frame_bytes next ++ (stream_bytes more ++ a)
@@ -69,7 +69,7 @@ pub record PartOf (h : HeaderFields) (p : List ℕ) (x : KeyedFrame) : Type 0 wh
   pub back : List ℕ
   pub payload : x.frame.payload ≡ p ++ back
 
-pub part_of : (h : HeaderFields) (p t : List ℕ) (x : KeyedFrame) (u : List ℕ) → IsHeader h → CanBeSent x → length p ≤ h.len → header_bytes h ++ (masked_payload h.key p ++ t) ≡ frame_bytes x ++ u → PartOf h p x
+pub part_of : (h : HeaderFields) (p t : List ℕ) (x : KeyedFrame) (u : List ℕ) → IsHeader h → FitsTheLayout x → length p ≤ h.len → header_bytes h ++ (masked_payload h.key p ++ t) ≡ frame_bytes x ++ u → PartOf h p x
 part_of h p t x u is sent le e =
     let s = same_header h (header_of x) (masked_payload h.key p ++ t) (masked_payload x.key x.frame.payload ++ u) is (sent_is_wire x sent).header (e ∙ append_assoc (header_bytes (header_of x)) (masked_payload x.key x.frame.payload) u) in
     let len : h.len ≡ length x.frame.payload = ap (λ (g : HeaderFields). g.len) s.0 in

@@ -7,8 +7,8 @@ use Rattle.std.proofs.lemmas.List.{length-append, append-nil, map-append}
 use Rattle.std.proofs.lemmas.Grind.{flat_map-append}
 use Rattle.ws_frame.specs.declared.role.Role.{Role}
 use Rattle.ws_frame.specs.declared.role.Role.TheVariants.{Client, Server}
-use Rattle.ws_frame.specs.Header.{AreBytes, IsKey, is_masked}
-use Rattle.ws_frame.specs.Frame.{Frame, KeyedFrame, CanBeSent, frame_bytes, stream_bytes}
+use Rattle.ws_frame.specs.Header.{AreBytes, IsMaskingKey, is_masked}
+use Rattle.ws_frame.specs.Frame.{Frame, KeyedFrame, FitsTheLayout, frame_bytes, stream_bytes}
 use Rattle.ws_frame.specs.Stream.{SplitsInto}
 use Rattle.ws_frame.proofs.Splits.{all-append}
 use Rattle.ws_text.specs.Close.{CodeAllowed}
@@ -30,7 +30,7 @@ use Rattle.ws_session.proofs.Valid.{NoneCloses, valid_snoc}
 use Rattle.ws_session.proofs.FineFrames.{alone_is, not_never_code}
 use Rattle.ws_session.proofs.Within.{split_all}
 use Rattle.ws_session.proofs.Decided.{code_told}
-use Rattle.ws_session.proofs.SentValid.{IsFineControl, control_next, none_closes}
+use Rattle.ws_session.proofs.SendsStayValid.{IsFineControl, control_next, none_closes}
 
 -- ---- events that are told of frames without a fault
 
@@ -66,7 +66,7 @@ before_parts n (x ∷ xs) some =
     ]
 
 module _ (role : Role) (limits : LimitsValue) where
-  sound_close : (opened : Option Message) (x : KeyedFrame) (p : List ℕ) → CanBeSent x → HasNoFaultOfNext role limits opened (frame_bytes x) → x.frame.opcode ≡ 8 → p ≡ x.frame.payload → IsSound (event.Close (close_in p))
+  sound_close : (opened : Option Message) (x : KeyedFrame) (p : List ℕ) → FitsTheLayout x → HasNoFaultOfNext role limits opened (frame_bytes x) → x.frame.opcode ≡ 8 → p ≡ x.frame.payload → IsSound (event.Close (close_in p))
   sound_close opened x [] can fine e is = tt
   sound_close opened x (a ∷ []) can fine e is = tt
   sound_close opened x (a ∷ b ∷ reason) can fine e is =
@@ -75,14 +75,14 @@ module _ (role : Role) (limits : LimitsValue) where
         | inr never ↦ absurd (not_never_code role limits opened x can fine e a b reason is never)
       ]
 
-  sound_frame : (before : List Frame) (x : KeyedFrame) → CanBeSent x → HasNoFaultOfNext role limits (open_message_of before) (frame_bytes x) → IsSound (event_of before x.frame)
+  sound_frame : (before : List Frame) (x : KeyedFrame) → FitsTheLayout x → HasNoFaultOfNext role limits (open_message_of before) (frame_bytes x) → IsSound (event_of before x.frame)
   sound_frame before x can fine =
       let opened = open_message_of before in
       sound_by (is_control x.frame) (is_close x.frame) (x.frame.opcode == 9) x.frame.fin x.frame (message_of ((groups_of (data_frames before)).unfinished ++ x.frame ∷ []))
       (λ e. ((alone_is role limits opened x can fine).control e).1) can.payload (λ e. sound_close opened x x.frame.payload can fine (eqb-true x.frame.opcode 8 e) refl)
 
   -- the next frame has no fault where the stream has none up to its end
-  fine_next : (s : List ℕ) (before : List KeyedFrame) (x : KeyedFrame) (u : List ℕ) → s ≡ stream_bytes before ++ (frame_bytes x ++ u) → AreSent before → AllByRecursion IsNoClose before → CanBeSent x
+  fine_next : (s : List ℕ) (before : List KeyedFrame) (x : KeyedFrame) (u : List ℕ) → s ≡ stream_bytes before ++ (frame_bytes x ++ u) → AreSent before → AllByRecursion IsNoClose before → FitsTheLayout x
       → ((n : ℕ) (r : Reason) → n ≤ length (stream_bytes before) + length (frame_bytes x) → IsFaultAt role limits s n r → ⊥) → HasNoFaultOfNext role limits (open_message_of (frames_of before)) (frame_bytes x)
   fine_next s before x u e each no_close can clean k r f =
       let opened = open_message_of (frames_of before) in
@@ -110,7 +110,7 @@ module _ (role : Role) (limits : LimitsValue) where
       (sound_frame (frames_of before) x sent.0 (fine_next s before x (stream_bytes xs ++ rest) parts each no_close sent.0 (λ n r le f. clean n r (omega (arith, le, len)) f)))
       (λ not_close. sound_after s (before ++ x ∷ []) xs rest
       (parts ∙ sym (append_assoc (stream_bytes before) (frame_bytes x) (stream_bytes xs ++ rest)) ∙ ap (λ (l : List ℕ). l ++ (stream_bytes xs ++ rest)) (sym more))
-      (all-append CanBeSent before (x ∷ []) each (sent.0, tt)) (all-append IsNoClose before (x ∷ []) no_close (not_close, tt)) sent.1
+      (all-append FitsTheLayout before (x ∷ []) each (sent.0, tt)) (all-append IsNoClose before (x ∷ []) no_close (not_close, tt)) sent.1
       (λ n r le f. clean n r (omega (arith, le, len, size)) f))
 
   sound_by_fault : (s : List ℕ) (frames : List KeyedFrame) (rest : List ℕ) → SplitsInto s frames rest → (fault : Option (ℕ × Reason)) → IsFaultOf role limits s fault → AllByRecursion IsSound (events_of frames fault)
@@ -119,7 +119,7 @@ module _ (role : Role) (limits : LimitsValue) where
       let some : 0 < fault.0 = omega (arith, place_is role limits s fault.0 fault.1 first.fault, two_bytes first.fault.header) in
       let b = before_parts fault.0 frames some in
       let ys = ending_before fault.0 frames in
-      let sent = split_all CanBeSent ys b.more (subst (λ (l : List KeyedFrame). AreSent l) b.parts split.each) in
+      let sent = split_all FitsTheLayout ys b.more (subst (λ (l : List KeyedFrame). AreSent l) b.parts split.each) in
       let whole : s ≡ stream_bytes ys ++ (stream_bytes b.more ++ rest) = split.whole ∙ ap (λ (l : List KeyedFrame). stream_bytes l ++ rest) b.parts ∙ ap (λ (l : List ℕ). l ++ rest) (flat_map-append frame_bytes ys b.more) ∙ append_assoc (stream_bytes ys) (stream_bytes b.more) rest in
       all-append IsSound (events_after [] (frames_of (through_close ys))) (event.Failed fault.1 ∷ [])
       (sound_after s [] ys (stream_bytes b.more ++ rest) whole tt tt sent.0 (λ n r le f. elim (first.first n r f) [ inl late ↦ omega (arith, late, le, b.size) | inr at ↦ omega (arith, at.0, le, b.size) ]))
@@ -231,15 +231,15 @@ stays_valid role limits most s events later sent h v = valid_by (has_close sent)
 
 -- ---- on the wire
 
-reply_can : (own : Role) (key : List ℕ) (f : Frame) → IsKey (key_for own key) → IsReply f → CanBeSent (under_key own key f)
+reply_can : (own : Role) (key : List ℕ) (f : Frame) → IsMaskingKey (key_for own key) → IsReply f → FitsTheLayout (under_key own key f)
 reply_can own key f is h = record { rsv = omega (arith, h.0.rsv); opcode = omega (arith, h.0.most); key = is; payload = h.1; len = omega (arith, h.0.short) }
 
-all_can : (own : Role) (key : List ℕ) (fs : List Frame) → IsKey (key_for own key) → AllByRecursion IsReply fs → AllByRecursion CanBeSent (map (under_key own key) fs)
+all_can : (own : Role) (key : List ℕ) (fs : List Frame) → IsMaskingKey (key_for own key) → AllByRecursion IsReply fs → AllByRecursion FitsTheLayout (map (under_key own key) fs)
 all_can own key [] is h = tt
 all_can own key (f ∷ fs) is h = (reply_can own key f is h.0, all_can own key fs is h.1)
 
-pub replies_can : (role own : Role) (limits : LimitsValue) (s key : List ℕ) (events later : List Event) (sent : List Frame) → HasEvents role limits s (events ++ later) → IsKey (key_for own key)
-    → AllByRecursion CanBeSent (map (under_key own key) (replies_of sent later))
+pub replies_can : (role own : Role) (limits : LimitsValue) (s key : List ℕ) (events later : List Event) (sent : List Frame) → HasEvents role limits s (events ++ later) → IsMaskingKey (key_for own key)
+    → AllByRecursion FitsTheLayout (map (under_key own key) (replies_of sent later))
 replies_can role own limits s key events later sent h is = all_can own key (replies_of sent later) is (are_replies sent later (sound_later role limits s events later h))
 
 key_fits : (own other : Role) (key : List ℕ) → own ≢ other → is_masked (key_for own key) ≡ expects_key other

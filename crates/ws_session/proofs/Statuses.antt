@@ -3,6 +3,7 @@ use Rattle.std.proofs.Common.{◌≡◌, ℕ, ◌⊎◌, Bool, true, false, cond
 use Rattle.std.specs.Prelude.{◌==◌}
 use Rattle.std.specs.List.{AllByRecursion, flat_map}
 use Rattle.std.proofs.lemmas.List.{append-nil, map-append}
+use Rattle.ws_frame.specs.Header.{AreBytes}
 use Rattle.ws_frame.specs.Frame.{Frame, KeyedFrame, stream_bytes}
 use Rattle.ws_session.specs.declared.reason.Reason.{Reason}
 use Rattle.ws_session.specs.declared.event.Event.{Event}
@@ -10,7 +11,7 @@ use Rattle.ws_session.specs.declared.event.Event.TheVariants as event
 use Rattle.ws_session.specs.Messages.{is_control, is_close, data_frames, groups_of, message_of, open_message_of}
 use Rattle.ws_session.specs.Faults.{frames_of, IsNoClose, HasNoFault}
 use Rattle.ws_session.specs.Events.{event_of, events_after, through_close, ending_before, events_of, IsFaultOf, close_in}
-use Rattle.ws_session.specs.NextFrame.{AreSent, BeginsNoFrame, message_with, status_with, owed_at}
+use Rattle.ws_session.specs.NextFrame.{AreSent, BeginsNoFrame, message_with, status_with, due_at}
 use Rattle.std.specs.Prelude.{◌||◌, nat_le}
 use Rattle.std.proofs.Common.{eqb-true}
 use Rattle.ws_session.specs.declared.status.Status.{Status}
@@ -23,7 +24,7 @@ use Rattle.ws_session.specs.declared.session.Answering.TheVariants.{Plain, Echoi
 use Rattle.ws_session.specs.Replies.{control_frame, message_frame, until_close, has_close, replies_by}
 use Rattle.ws_session.specs.Inside.{reply_to_message, reply_by, CanAnswer}
 use Rattle.ws_session.specs.Exchange.{SessionValue, SendingValue, HasExchanged, IsSendingOf, is_over, last_event, status_before_close, status_after, status_of}
-use Rattle.ws_session.proofs.Growth.{events_after-append}
+use Rattle.ws_session.proofs.EventsGoOn.{events_after-append}
 use Rattle.ws_session.proofs.OpenMessage.{open_snoc}
 
 pub last_snoc : (es : List Event) (e : Event) → last_event (es ++ e ∷ []) ≡ Some e
@@ -128,12 +129,12 @@ one_reply a (event.Close None) = refl
 one_reply a (event.Close (Some c)) = refl
 one_reply a (event.Failed r) = refl
 
-replies_when : (b : Bool) (a : Answering) (sent : List Frame) (s : Status) (e : Event) → has_close sent ≡ b → s ≡ cond b status.Closing status.Open → replies_by (reply_by a) sent (e ∷ []) ≡ owed_at s (reply_by a e)
-replies_when true a sent s e c is = ap (λ d. cond d [] (until_close (flat_map (reply_by a) (e ∷ [])))) c ∙ ap (λ (t : Status). owed_at t (reply_by a e)) (sym is)
-replies_when false a sent s e c is = ap (λ d. cond d [] (until_close (flat_map (reply_by a) (e ∷ [])))) c ∙ one_reply a e ∙ ap (λ (t : Status). owed_at t (reply_by a e)) (sym is)
+replies_when : (b : Bool) (a : Answering) (sent : List Frame) (s : Status) (e : Event) → has_close sent ≡ b → s ≡ cond b status.Closing status.Open → replies_by (reply_by a) sent (e ∷ []) ≡ due_at s (reply_by a e)
+replies_when true a sent s e c is = ap (λ d. cond d [] (until_close (flat_map (reply_by a) (e ∷ [])))) c ∙ ap (λ (t : Status). due_at t (reply_by a e)) (sym is)
+replies_when false a sent s e c is = ap (λ d. cond d [] (until_close (flat_map (reply_by a) (e ∷ [])))) c ∙ one_reply a e ∙ ap (λ (t : Status). due_at t (reply_by a e)) (sym is)
 
 -- what a session owes for one event goes by its status
-pub replies_at : (a : Answering) (sent : List Frame) (s : Status) (e : Event) → s ≡ status_before_close sent false → replies_by (reply_by a) sent (e ∷ []) ≡ owed_at s (reply_by a e)
+pub replies_at : (a : Answering) (sent : List Frame) (s : Status) (e : Event) → s ≡ status_before_close sent false → replies_by (reply_by a) sent (e ∷ []) ≡ due_at s (reply_by a e)
 replies_at a sent s e is = replies_when (has_close sent) a sent s e refl is
 
 nothing_either : (b : Bool) (none : List Frame) → cond b none none ≡ none
@@ -154,7 +155,7 @@ open_control fs (g ∷ gs) h =
     ap (λ (l : List Frame). open_message_of l) (sym (append_assoc fs (g ∷ []) gs)) ∙ open_control (fs ++ g ∷ []) gs h.1 ∙ open_snoc fs g
     ∙ ap (λ b. cond b (open_message_of fs) (cond g.fin None (Some (message_with (open_message_of fs) g)))) h.0
 
-at_status : (P : List Frame → Type 0) (s : Status) (fs : List Frame) → P [] → P fs → P (owed_at s fs)
+at_status : (P : List Frame → Type 0) (s : Status) (fs : List Frame) → P [] → P fs → P (due_at s fs)
 at_status P status.Open fs none some = some
 at_status P status.Closing fs none some = none
 at_status P (status.Clean c) fs none some = some
@@ -162,13 +163,13 @@ at_status P (status.Failed r) fs none some = some
 at_status P status.Lost fs none some = some
 
 -- with frames of which none is a close, no close is sent
-leaves_close : (sent : List Frame) (s : Status) (f : Frame) → is_close f ≡ false → has_close (sent ++ owed_at s (f ∷ [])) ≡ has_close sent
+leaves_close : (sent : List Frame) (s : Status) (f : Frame) → is_close f ≡ false → has_close (sent ++ due_at s (f ∷ [])) ≡ has_close sent
 leaves_close sent s f e = at_status (λ (fs : List Frame). has_close (sent ++ fs) ≡ has_close sent) s (f ∷ []) (ap (λ (l : List Frame). has_close l) (append-nil sent)) (has_close_snoc sent f e)
 
-nothing_owed : (sent : List Frame) (s : Status) → has_close (sent ++ owed_at s []) ≡ has_close sent
+nothing_owed : (sent : List Frame) (s : Status) → has_close (sent ++ due_at s []) ≡ has_close sent
 nothing_owed sent s = at_status (λ (fs : List Frame). has_close (sent ++ fs) ≡ has_close sent) s [] (ap (λ (l : List Frame). has_close l) (append-nil sent)) (ap (λ (l : List Frame). has_close l) (append-nil sent))
 
-message_leaves : (a : Answering) (sent : List Frame) (s : Status) (m : Message) → has_close (sent ++ owed_at s (reply_to_message a m)) ≡ has_close sent
+message_leaves : (a : Answering) (sent : List Frame) (s : Status) (m : Message) → has_close (sent ++ due_at s (reply_to_message a m)) ≡ has_close sent
 message_leaves Plain sent s m = nothing_owed sent s
 message_leaves Echoing sent s m = leaves_close sent s (message_frame m) (not_a_close m.kind m.payload)
 
@@ -176,11 +177,11 @@ still : (sent more : List Frame) (s : Status) → s ≡ status_before_close sent
 still sent more s is same = ap (λ b. cond b status.Closing status.Open) same ∙ sym is
 
 -- the status after an event, of what was sent before and what is owed for it
-pub status_after_event : (a : Answering) (sent : List Frame) (s : Status) (e : Event) → s ≡ status_before_close sent false → status_after (sent ++ owed_at s (reply_by a e)) false (Some e) ≡ status_with s e
-status_after_event a sent s event.Part is = still sent (sent ++ owed_at s []) s is (nothing_owed sent s)
-status_after_event a sent s (event.Message m) is = still sent (sent ++ owed_at s (reply_to_message a m)) s is (message_leaves a sent s m)
-status_after_event a sent s (event.Pong p) is = still sent (sent ++ owed_at s []) s is (nothing_owed sent s)
-status_after_event a sent s (event.Ping p) is = still sent (sent ++ owed_at s (control_frame 10 p ∷ [])) s is (leaves_close sent s (control_frame 10 p) refl)
+pub status_after_event : (a : Answering) (sent : List Frame) (s : Status) (e : Event) → s ≡ status_before_close sent false → status_after (sent ++ due_at s (reply_by a e)) false (Some e) ≡ status_with s e
+status_after_event a sent s event.Part is = still sent (sent ++ due_at s []) s is (nothing_owed sent s)
+status_after_event a sent s (event.Message m) is = still sent (sent ++ due_at s (reply_to_message a m)) s is (message_leaves a sent s m)
+status_after_event a sent s (event.Pong p) is = still sent (sent ++ due_at s []) s is (nothing_owed sent s)
+status_after_event a sent s (event.Ping p) is = still sent (sent ++ due_at s (control_frame 10 p ∷ [])) s is (leaves_close sent s (control_frame 10 p) refl)
 status_after_event a sent s (event.Close c) is = refl
 status_after_event a sent s (event.Failed r) is = refl
 
@@ -214,7 +215,7 @@ reply_keeps a (event.Close (Some c)) sent sending can is = control_keeps sent se
 reply_keeps a (event.Failed r) sent sending can is = control_keeps sent sending _ (refl, tt) is
 
 -- replies leave what is kept of the open message
-pub owed_keeps : (a : Answering) (s : Status) (e : Event) (sent : List Frame) (sending : Option SendingValue) → CanAnswer a sending → IsSendingOf (open_message_of sent) sending → IsSendingAfter sent sending (owed_at s (reply_by a e))
+pub owed_keeps : (a : Answering) (s : Status) (e : Event) (sent : List Frame) (sending : Option SendingValue) → CanAnswer a sending → IsSendingOf (open_message_of sent) sending → IsSendingAfter sent sending (due_at s (reply_by a e))
 owed_keeps a s e sent sending can is = at_status (IsSendingAfter sent sending) s (reply_by a e) (control_keeps sent sending [] tt is) (reply_keeps a e sent sending can is)
 
 -- ---- the frames of a session that isn't over
@@ -249,11 +250,12 @@ closing_events xs c =
 
 -- what a session that isn't over has taken: frames without a close and a rest, in which there is no fault
 pub record IsGoingOn (v : SessionValue) (sent : List Frame) (s : List ℕ) (ended : Bool) : Type 0 where
+  pub bytes : AreBytes s
   pub frames : List KeyedFrame
   pub each : AreSent frames
   pub no_close : AllByRecursion IsNoClose frames
-  pub whole : s ≡ stream_bytes frames ++ v.rest
-  pub left : BeginsNoFrame v.rest
+  pub whole : s ≡ stream_bytes frames ++ v.partial_frame
+  pub left : BeginsNoFrame v.partial_frame
   pub clean : HasNoFault v.role v.limits s
   pub opened : v.opened ≡ open_message_of (frames_of frames)
   pub status : v.status ≡ status_before_close sent false
@@ -276,6 +278,7 @@ is_going_on v sent s ended h going =
     let taken = h.taking going in
     let fs = going_frames v sent s ended h here h.has_events.fault h.has_events.is_fault h.has_events.are in
     record {
+      bytes = h.bytes;
       frames = h.has_events.frames;
       each = h.has_events.split.each;
       no_close = fs.0;

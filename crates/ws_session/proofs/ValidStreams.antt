@@ -6,7 +6,7 @@ use Rattle.std.proofs.lemmas.List.{length-append, append-nil, map-append}
 use Rattle.std.proofs.lemmas.Grind.{flat_map-append}
 use Rattle.ws_frame.specs.declared.role.Role.{Role}
 use Rattle.ws_frame.specs.Header.{is_masked}
-use Rattle.ws_frame.specs.Frame.{Frame, KeyedFrame, CanBeSent, frame_bytes, stream_bytes}
+use Rattle.ws_frame.specs.Frame.{Frame, KeyedFrame, FitsTheLayout, frame_bytes, stream_bytes}
 use Rattle.ws_frame.proofs.Frames.{no_frame_begins}
 use Rattle.ws_text.specs.Text.{BeginsText}
 use Rattle.ws_session.specs.declared.message.Message.{Message}
@@ -56,7 +56,7 @@ nothing_after (x ∷ fs) f h =
     let never : is_close x ≡ false = false_of (is_close x) (λ e. not_empty fs f (h.0 e)) in
     ((never, t.0), (λ e. absurd (no_both (is_close x) e never), t.1))
 
-last_alone : (x y : KeyedFrame) (more : List ℕ) → CanBeSent x → CanBeSent y → frame_bytes x ≡ frame_bytes y ++ more → length more ≡ 0
+last_alone : (x y : KeyedFrame) (more : List ℕ) → FitsTheLayout x → FitsTheLayout y → frame_bytes x ≡ frame_bytes y ++ more → length more ≡ 0
 last_alone x y more can sends e = ap (λ (l : List ℕ). length l) (sym (no_frame_begins x y [] more can sends (append-nil (frame_bytes x) ∙ e)).1)
 
 -- ---- the events
@@ -97,7 +97,7 @@ module _ (role : Role) (limits : LimitsValue) where
       elim (snoc_of xs) [
         | inl e ↦ subst (λ (l : List KeyedFrame). HasNoFault role limits (stream_bytes l)) (sym e) (no_fault_in_nothing role limits)
         | inr s ↦
-            let sent = all_before CanBeSent s.front s.last (subst (λ (l : List KeyedFrame). AreSent l) s.parts each) in
+            let sent = all_before FitsTheLayout s.front s.last (subst (λ (l : List KeyedFrame). AreSent l) s.parts each) in
             let fit = all_before (λ (y : KeyedFrame). is_masked y.key ≡ expects_key role) s.front s.last (subst (λ (l : List KeyedFrame). KeysFit role l) s.parts keys) in
             let valid = valid_front limits (frames_of s.front) s.last.frame (subst (λ (l : List Frame). AreValidFrames limits l) (ap (λ (l : List KeyedFrame). frames_of l) s.parts ∙ frames_snoc s.front s.last) v) in
             let shorter : length s.front ≤ n = omega (arith, ap (λ (l : List KeyedFrame). length l) s.parts, length-append s.front (s.last ∷ [])) in
@@ -121,7 +121,7 @@ module _ (role : Role) (limits : LimitsValue) where
       elim (snoc_of xs) [
         | inl e ↦ h (subst (λ (l : List KeyedFrame). AreValidFrames limits (frames_of l)) (sym e) (valid_nothing limits))
         | inr s ↦
-            let sent = all_before CanBeSent s.front s.last (subst (λ (l : List KeyedFrame). AreSent l) s.parts each) in
+            let sent = all_before FitsTheLayout s.front s.last (subst (λ (l : List KeyedFrame). AreSent l) s.parts each) in
             let fit = all_before (λ (y : KeyedFrame). is_masked y.key ≡ expects_key role) s.front s.last (subst (λ (l : List KeyedFrame). KeysFit role l) s.parts keys) in
             let frames = ap (λ (l : List KeyedFrame). frames_of l) s.parts ∙ frames_snoc s.front s.last in
             let last = nothing_after (frames_of s.front) s.last.frame (subst (λ (l : List Frame). NothingAfterClose l) frames after) in

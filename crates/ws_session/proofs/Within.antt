@@ -6,7 +6,7 @@ use Rattle.std.proofs.lemmas.List.{length-append, take_all, take-append-drop, le
 use Rattle.std.proofs.Math.Seq.{take-append-add}
 use Rattle.std.specs.List.{AllByRecursion}
 use Rattle.ws_frame.specs.Header.{header_bytes}
-use Rattle.ws_frame.specs.Frame.{Frame, KeyedFrame, CanBeSent, frame_bytes, stream_bytes}
+use Rattle.ws_frame.specs.Frame.{Frame, KeyedFrame, FitsTheLayout, frame_bytes, stream_bytes}
 use Rattle.ws_frame.specs.Stream.{SplitsInto}
 use Rattle.ws_frame.proofs.Frames.{no_frame_begins}
 use Rattle.ws_session.specs.Limits.{LimitsValue}
@@ -17,7 +17,7 @@ use Rattle.ws_session.specs.Replies.{has_close}
 use Rattle.ws_session.specs.NextFrame.{AreSent, header_of}
 use Rattle.ws_session.specs.Reach.{passes_limit, fitting_after, fitting, first_passing_after, first_passing, ending_within, frames_within, is_header_within, is_too_big}
 use Rattle.ws_session.proofs.Next.{length-frame_bytes, two_bytes}
-use Rattle.ws_session.proofs.Growing.{none_in_nothing}
+use Rattle.ws_session.proofs.OneMoreFrame.{none_in_nothing}
 
 plain_sum : (k a b c : ℕ) → c ≡ a + b → k + c ≡ (k + a) + b
 plain_sum k a b c e = omega (arith, e)
@@ -189,7 +189,7 @@ pub record FrontSplit (n : ℕ) (xs : List KeyedFrame) : Type 0 where
   pub rest : List ℕ
   pub split : SplitsInto (take n (stream_bytes xs)) (ending_within n xs) rest
 
-cut_begins_none : (n : ℕ) (x y : KeyedFrame) (s more : List ℕ) → CanBeSent x → n < length (frame_bytes x) → CanBeSent y → take n (frame_bytes x ++ s) ≡ frame_bytes y ++ more → ⊥
+cut_begins_none : (n : ℕ) (x y : KeyedFrame) (s more : List ℕ) → FitsTheLayout x → n < length (frame_bytes x) → FitsTheLayout y → take n (frame_bytes x ++ s) ≡ frame_bytes y ++ more → ⊥
 cut_begins_none n x y s more can lt sends e =
     let all = frame_bytes x ++ s in
     let whole : frame_bytes y ++ (more ++ drop n all) ≡ all = sym (append_assoc (frame_bytes y) more (drop n all)) ∙ ap (λ (l : List ℕ). l ++ drop n all) (sym e) ∙ take-append-drop n all in

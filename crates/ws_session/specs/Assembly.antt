@@ -11,12 +11,12 @@ abbrev pub message_so_far : Option Fragments → Option Message
 message_so_far None = None
 message_so_far (Some fragments) = Some (record { kind = fragments.kind; payload = fragments.payload.items })
 
--- the judge of its text has read it
+-- the stream of its text has read it
 abbrev pub IsReadSoFar : Option Fragments → Type 0
 IsReadSoFar None = Unit {0}
 IsReadSoFar (Some fragments) = OfText fragments.kind (HasRead fragments.text fragments.payload.items)
 
--- the message so far, and a payload behind it; one of this kind where none was open
+-- the message so far, and a payload after it; one of this kind where none was open
 abbrev pub message_plus : Option Message → Kind → List ℕ → Message
 message_plus None kind payload = record { kind = kind; payload = payload }
 message_plus (Some message) kind payload = record { kind = message.kind; payload = message.payload ++ payload }

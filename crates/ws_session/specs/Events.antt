@@ -1,5 +1,6 @@
 -- What a session tells of the bytes that it takes: RFC 6455 sections 5.4, 5.5 and 6.2.
-use Rattle.std.specs.Prelude.{◌≡◌, ℕ, ◌+◌, ◌-◌, ◌*◌, nat_lt, ◌==◌, if◌then◌else◌, List, [], ◌∷◌, ◌++◌, length, Option, Some, None}
+use Rattle.std.specs.Prelude.{◌≡◌, ℕ, ◌+◌, ◌-◌, ◌*◌, nat_lt, ◌==◌, if◌then◌else◌, List, [], ◌∷◌, ◌++◌, length, Option}
+use Rattle.std.specs.Prelude.{Some, None}
 use Rattle.std.specs.List.{flat_map}
 use Rattle.ws_frame.specs.declared.role.Role.{Role}
 use Rattle.ws_frame.specs.Frame.{Frame, KeyedFrame, frame_bytes}
@@ -24,13 +25,14 @@ event_of_control frame =
     if frame.opcode == 8 then event.Close (close_in frame.payload)
     else (if frame.opcode == 9 then event.Ping frame.payload else event.Pong frame.payload)
 
--- the one event of a whole frame behind others: a data frame with FIN gives the message that it finishes
+-- the one event of a whole frame after others: a data frame with FIN gives the message that it finishes
 abbrev pub event_of : List Frame → Frame → Event
 event_of before frame =
     if is_control frame then event_of_control frame
-    else (if frame.fin then event.Message (message_of ((groups_of (data_frames before)).unfinished ++ frame ∷ [])) else event.Part)
+    else (if frame.fin then event.Message (message_of ((groups_of (data_frames before)).unfinished ++ frame ∷ []))
+    else event.Part)
 
--- the events of frames one after the other, behind others
+-- the events of frames one after the other, after others
 abbrev pub events_after : List Frame → List Frame → List Event
 events_after before [] = []
 events_after before (frame ∷ frames) = event_of before frame ∷ events_after (before ++ frame ∷ []) frames
@@ -43,12 +45,15 @@ through_close (x ∷ xs) = if is_close x.frame then x ∷ [] else x ∷ through_
 -- the frames that end before a place
 abbrev pub ending_before : ℕ → List KeyedFrame → List KeyedFrame
 ending_before place [] = []
-ending_before place (x ∷ xs) = if nat_lt (length (frame_bytes x)) place then x ∷ ending_before (place - length (frame_bytes x)) xs else []
+ending_before place (x ∷ xs) =
+    if nat_lt (length (frame_bytes x)) place then x ∷ ending_before (place - length (frame_bytes x)) xs else []
 
--- the events of the frames up to the first close; where there is a fault, of those that end before its place, and then it
+-- the events of the frames up to the first close; where there is a fault, of those that end before its place, and then
+-- it
 abbrev pub events_of : List KeyedFrame → Option (ℕ × Reason) → List Event
 events_of xs None = events_after [] (frames_of (through_close xs))
-events_of xs (Some fault) = events_after [] (frames_of (through_close (ending_before fault.0 xs))) ++ event.Failed fault.1 ∷ []
+events_of xs (Some fault) = events_after [] (frames_of (through_close (ending_before fault.0 xs)))
+    ++ event.Failed fault.1 ∷ []
 
 -- the first fault of the bytes, by place and reason, or that there is none
 abbrev pub IsFaultOf : Role → LimitsValue → List ℕ → Option (ℕ × Reason) → Type 0

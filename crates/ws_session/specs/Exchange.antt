@@ -1,10 +1,11 @@
 -- What a session shows of the frames that it sent and the bytes that it took: RFC 6455 sections 4.1, 5.4 and 7.1.
-use Rattle.std.specs.Prelude.{◌≡◌, ℕ, Bool, true, false, if◌then◌else◌, ◌<◌, ◌≤◌, List, [], ◌∷◌, ◌++◌, length, take, map, Option, Some, None, option_to_list}
+use Rattle.std.specs.Prelude.{◌≡◌, ℕ, Bool, true, false, if◌then◌else◌, List, [], ◌∷◌, length, Option, Some, None}
 use Rattle.std.specs.declared.alloc.Global.{Global}
 use Rattle.std.specs.declared.vec.Vec.{Vec}
 use Rattle.std.specs.List.{flat_map}
 use Rattle.ws_frame.specs.declared.role.Role.{Role}
-use Rattle.ws_frame.specs.Frame.{Frame, stream_bytes}
+use Rattle.ws_frame.specs.Header.{AreBytes}
+use Rattle.ws_frame.specs.Frame.{Frame}
 use Rattle.ws_text.specs.Text.{HasUnfinished}
 use Rattle.ws_text.specs.Close.{CloseValue}
 use Rattle.ws_session.specs.declared.message.Kind.{Kind}
@@ -14,12 +15,11 @@ use Rattle.ws_session.specs.declared.event.Event.{Event}
 use Rattle.ws_session.specs.declared.event.Event.TheVariants as event
 use Rattle.ws_session.specs.declared.status.Status.{Status}
 use Rattle.ws_session.specs.declared.status.Status.TheVariants.{Open, Closing, Clean, Failed, Lost}
-use Rattle.ws_session.specs.declared.event.Taken.{Taken}
 use Rattle.ws_session.specs.Limits.{LimitsValue}
 use Rattle.ws_session.specs.Messages.{open_message_of}
 use Rattle.ws_session.specs.Faults.{frames_of}
 use Rattle.ws_session.specs.Events.{HasEvents}
-use Rattle.ws_session.specs.Replies.{has_close, replies_by, under_key}
+use Rattle.ws_session.specs.Replies.{has_close}
 
 -- ---- status
 
@@ -59,13 +59,13 @@ pub record SendingValue : Type 0 where
   pub size : ℕ
   pub unfinished : List ℕ
 
--- a session as contracts see it: the open message that it takes and the bytes of the unfinished frame behind it, the
+-- a session as contracts see it: the open message that it takes and the bytes of the unfinished frame after it, the
 -- open message that it sends, and its status
 pub record SessionValue : Type 0 where
   pub role : Role
   pub limits : LimitsValue
   pub opened : Option Message
-  pub rest : List ℕ
+  pub partial_frame : List ℕ
   pub sending : Option SendingValue
   pub status : Status
 
@@ -79,42 +79,29 @@ abbrev pub IsSendingOf : Option Message → Option SendingValue → Type 0
 IsSendingOf None None = Unit {0}
 IsSendingOf None (Some _) = ⊥
 IsSendingOf (Some message) None = ⊥
-IsSendingOf (Some message) (Some x) = (x.kind ≡ message.kind) × (x.size ≡ length message.payload) × IsUnfinishedOf message.kind message.payload x.unfinished
+IsSendingOf (Some message) (Some x) = (x.kind ≡ message.kind) × (x.size ≡ length message.payload)
+    × IsUnfinishedOf message.kind message.payload x.unfinished
 
--- The session agrees with having sent these frames and taken these bytes, at whose end the stream has ended or not: its
--- status and what it sends are theirs, and while it isn't over so are the message that it takes and the bytes behind it.
--- The session keeps none of these lists.
+-- what one end of a connection has exchanged: the frames that it sent, the bytes that it took, and whether the stream
+-- of these has ended
+pub record Exchange : Type 0 where
+  pub sent : List Frame
+  pub taken : List ℕ
+  pub ended : Bool
+
+-- The session agrees with having sent these frames and taken these bytes, at whose end the stream has ended or not:
+-- (1) its status is that of the frames sent, of the events that the bytes have, and of whether the stream has ended;
+-- (2) the open message that it shows on its sending side is the one that the frames sent leave open;
+-- (3) until it is over, the message that it takes and the unfinished frame after it are those that the bytes leave.
+-- It keeps none of these lists, so it may agree with several.
 pub record HasExchanged (session : SessionValue) (sent : List Frame) (taken : List ℕ) (ended : Bool) : Type 0 where
+  pub bytes : AreBytes taken
   pub events : List Event
   pub has_events : HasEvents session.role session.limits taken events
   pub status : session.status ≡ status_of sent ended events
-  pub taking : is_over session.status ≡ false → (session.opened ≡ open_message_of (frames_of has_events.frames)) × (session.rest ≡ has_events.rest)
   pub sending : IsSendingOf (open_message_of sent) session.sending
-
--- ---- taking a piece
-
--- A call took the front of a piece, of a session that isn't over, has sent these frames and taken these bytes, and so
--- replies to events
-pub record Takes (reply : Event → List Frame) (old new : SessionValue) (sent : List Frame) (bytes piece : List ℕ) (ended : Bool) (key put_before put_after : List ℕ) (taken : Taken) : Type 0 where
-  pub used : taken.used ≤ length piece
-  -- afterwards the session has also sent the frames owed for the event, and taken the bytes used
-  pub agrees : HasExchanged new (sent ++ replies_by reply sent (option_to_list taken.event)) (bytes ++ take taken.used piece) ended
-  -- the event is the one that the bytes used add
-  pub event : (events : List Event) → HasEvents old.role old.limits bytes events → HasEvents old.role old.limits (bytes ++ take taken.used piece) (events ++ option_to_list taken.event)
-  -- fewer bytes add none
-  pub least : (n : ℕ) (events : List Event) → n < taken.used → HasEvents old.role old.limits bytes events → HasEvents old.role old.limits (bytes ++ take n piece) events
-  -- where the piece adds none it is used whole
-  pub whole : taken.event ≡ None → taken.used ≡ length piece
-  -- the frames owed are put behind what was there, under the key that was handed in if this is a client
-  pub put : put_after ≡ put_before ++ stream_bytes (map (under_key old.role key) (replies_by reply sent (option_to_list taken.event)))
-  pub same : (new.role ≡ old.role) × (new.limits ≡ old.limits)
-
--- A call of a session that is over: the piece is used whole, nothing is told, put or changed
-pub record TakesNothing (old new : SessionValue) (piece put_before put_after : List ℕ) (taken : Taken) : Type 0 where
-  pub used : taken.used ≡ length piece
-  pub event : taken.event ≡ None
-  pub unchanged : new ≡ old
-  pub put : put_after ≡ put_before
+  pub taking : is_over session.status ≡ false → (session.opened ≡ open_message_of (frames_of has_events.frames))
+      × (session.partial_frame ≡ has_events.rest)
 
 -- the bytes of some pieces, one after the other
 abbrev pub joined_pieces : List (Vec ℕ Global) → List ℕ

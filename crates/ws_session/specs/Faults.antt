@@ -1,18 +1,22 @@
 -- Where a stream breaks the rules, and which rule it breaks there: RFC 6455 sections 5.1 to 5.5, 7.4 and 8.1.
-use Rattle.std.specs.Prelude.{◌≡◌, ◌≢◌, ℕ, ◌+◌, ◌^◌, ◌≤◌, ◌<◌, ◌⊎◌, Bool, true, false, List, [], ◌++◌, length, take, map, Option, Some, None}
+use Rattle.std.specs.Prelude.{◌≡◌, ◌≢◌, ℕ, ◌+◌, ◌^◌, ◌≤◌, ◌<◌, ◌⊎◌, Bool, true, false, List, [], ◌++◌, length, take}
+use Rattle.std.specs.Prelude.{map, Option, Some, None}
 use Rattle.std.specs.List.{AllByRecursion}
 use Rattle.ws_frame.specs.declared.role.Role.{Role}
 use Rattle.ws_frame.specs.declared.role.Role.TheVariants.{Client, Server}
 use Rattle.ws_frame.specs.declared.header.Form.TheVariants.{Two, Eight}
 use Rattle.ws_frame.specs.Header.{HeaderFields, IsHeader, AreBytes, header_bytes, is_masked}
 use Rattle.ws_frame.specs.Masking.{masked_payload}
-use Rattle.ws_frame.specs.Frame.{Frame, KeyedFrame, CanBeSent, stream_bytes}
+use Rattle.ws_frame.specs.Frame.{Frame, KeyedFrame, FitsTheLayout, stream_bytes}
 use Rattle.ws_text.specs.Text.{IsText, BeginsText}
 use Rattle.ws_text.specs.Close.{CloseValue, HoldsCode, HasBadCode}
 use Rattle.ws_session.specs.declared.message.Kind.TheVariants.{Text}
 use Rattle.ws_session.specs.declared.message.Message.{Message}
 use Rattle.ws_session.specs.declared.reason.Reason.{Reason}
-use Rattle.ws_session.specs.declared.reason.Reason.TheVariants.{ReservedBits, Opcode, MaskWrong, NotShortest, BadLength, ControlCut, ControlLong, NothingToContinue, MessageOpen, TooBig, NotText, TextCut, CloseOneByte, CloseCode, CloseReason}
+use Rattle.ws_session.specs.declared.reason.Reason.TheVariants.{ReservedBits, Opcode, MaskWrong, NotShortest, BadLength}
+use Rattle.ws_session.specs.declared.reason.Reason.TheVariants.{ControlCut, ControlLong, NothingToContinue, MessageOpen}
+use Rattle.ws_session.specs.declared.reason.Reason.TheVariants.{TooBig, NotText, TextCut, CloseOneByte, CloseCode}
+use Rattle.ws_session.specs.declared.reason.Reason.TheVariants.{CloseReason}
 use Rattle.ws_session.specs.Limits.{LimitsValue}
 use Rattle.ws_session.specs.Messages.{open_message_of, is_close}
 
@@ -38,7 +42,12 @@ number_of CloseOneByte = 13
 number_of CloseCode = 14
 number_of CloseReason = 15
 
--- ---- one frame behind an open message
+-- it applies, and of all that apply its number is the lowest
+pub record IsLowest (F : Type 0) (number : F → ℕ) (Applies : F → Type 0) (fault : F) : Type 0 where
+  pub wrong : Applies fault
+  pub first : (other : F) → Applies other → number fault ≤ number other
+
+-- ---- one frame after an open message
 
 -- a server's peer masks each frame and a client's none (section 5.1)
 abbrev pub expects_key : Role → Bool
@@ -70,23 +79,29 @@ abbrev pub AppliesAtHeader : Role → LimitsValue → Option Message → HeaderF
 AppliesAtHeader role limits opened header ReservedBits = header.rsv ≢ 0
 AppliesAtHeader role limits opened header Opcode = ((3 ≤ header.opcode) × (header.opcode ≤ 7)) ⊎ (11 ≤ header.opcode)
 AppliesAtHeader role limits opened header MaskWrong = is_masked header.key ≢ expects_key role
-AppliesAtHeader role limits opened header NotShortest = ((header.form ≡ Two) × (header.len < 126)) ⊎ ((header.form ≡ Eight) × (header.len < 65536))
+AppliesAtHeader role limits opened header NotShortest = ((header.form ≡ Two) × (header.len < 126))
+    ⊎ ((header.form ≡ Eight) × (header.len < 65536))
 AppliesAtHeader role limits opened header BadLength = 2 ^ 63 ≤ header.len
 AppliesAtHeader role limits opened header ControlCut = IsControl header × (header.fin ≡ false)
 AppliesAtHeader role limits opened header ControlLong = IsControl header × (125 < header.len)
 AppliesAtHeader role limits opened header NothingToContinue = (header.opcode ≡ 0) × (opened ≡ None)
 AppliesAtHeader role limits opened header MessageOpen = ((header.opcode ≡ 1) ⊎ (header.opcode ≡ 2)) × (opened ≢ None)
-AppliesAtHeader role limits opened header TooBig = (header.opcode ≤ 2) × (limits.max_message < length (open_payload opened) + header.len)
+AppliesAtHeader role limits opened header TooBig = (header.opcode ≤ 2)
+    × (limits.max_message < length (open_payload opened) + header.len)
 AppliesAtHeader role limits opened header _ = ⊥
 
 -- the reason is one of the payload, told where these bytes of it have come: with a text the first byte after which
 -- nothing completes it, else the last
 abbrev pub AppliesInPayload : Option Message → HeaderFields → List ℕ → Reason → Type 0
-AppliesInPayload opened header payload NotText = IsOfText opened header × (0 < length payload) × (BeginsText (open_payload opened ++ payload) → ⊥)
-AppliesInPayload opened header payload TextCut = IsOfText opened header × (header.fin ≡ true) × (length payload ≡ header.len)
+AppliesInPayload opened header payload NotText = IsOfText opened header × (0 < length payload)
+    × (BeginsText (open_payload opened ++ payload) → ⊥)
+AppliesInPayload opened header payload TextCut = IsOfText opened header × (header.fin ≡ true)
+    × (length payload ≡ header.len)
     × BeginsText (open_payload opened ++ payload) × (IsText (open_payload opened ++ payload) → ⊥)
-AppliesInPayload opened header payload CloseOneByte = (header.opcode ≡ 8) × (length payload ≡ header.len) × (length payload ≡ 1)
-AppliesInPayload opened header payload CloseCode = (header.opcode ≡ 8) × (length payload ≡ header.len) × HasBadCode payload
+AppliesInPayload opened header payload CloseOneByte = (header.opcode ≡ 8) × (length payload ≡ header.len)
+    × (length payload ≡ 1)
+AppliesInPayload opened header payload CloseCode = (header.opcode ≡ 8) × (length payload ≡ header.len)
+    × HasBadCode payload
 AppliesInPayload opened header payload CloseReason = (header.opcode ≡ 8) × (length payload ≡ header.len)
     × ((close : CloseValue) × HoldsCode payload close × (IsText close.reason → ⊥))
 AppliesInPayload opened header payload _ = ⊥
@@ -101,11 +116,12 @@ Applies role limits opened header payload reason =
 abbrev pub IsNoClose : KeyedFrame → Type 0
 IsNoClose x = is_close x.frame ≡ false
 
--- the first bytes up to the place are whole frames without a close, and one more frame up to there, to which the reason
--- applies behind them. That frame may have any form, and its payload may be cut
+-- `bytes[..place]` is whole frames, none a close, then the complete header of one more frame, in any form, and some of
+-- its payload; the reason applies to that frame, given the message that the frames leave open. Nothing is asked of the
+-- frames before: a rule broken there is a fault at a smaller place
 pub record IsFaultAt (role : Role) (limits : LimitsValue) (bytes : List ℕ) (place : ℕ) (reason : Reason) : Type 0 where
   pub before : List KeyedFrame
-  pub sent : AllByRecursion CanBeSent before
+  pub sent : AllByRecursion FitsTheLayout before
   pub no_close : AllByRecursion IsNoClose before
   pub header : HeaderFields
   pub is_header : IsHeader header
@@ -118,12 +134,16 @@ pub record IsFaultAt (role : Role) (limits : LimitsValue) (bytes : List ℕ) (pl
 
 -- a place and a reason come before others, or are those
 abbrev pub IsNoLater : ℕ → Reason → ℕ → Reason → Type 0
-IsNoLater place reason other_place other = (place < other_place) ⊎ ((place ≡ other_place) × (number_of reason ≤ number_of other))
+IsNoLater place reason other_place other = (place < other_place)
+    ⊎ ((place ≡ other_place) × (number_of reason ≤ number_of other))
 
 -- the fault at the least place, and there the one with the lowest number
-pub record IsFirstFault (role : Role) (limits : LimitsValue) (bytes : List ℕ) (place : ℕ) (reason : Reason) : Type 0 where
-  pub fault : IsFaultAt role limits bytes place reason
-  pub first : (other_place : ℕ) (other : Reason) → IsFaultAt role limits bytes other_place other → IsNoLater place reason other_place other
+pub record IsFirstPlaced (IsFault : ℕ → Reason → Type 0) (place : ℕ) (reason : Reason) : Type 0 where
+  pub fault : IsFault place reason
+  pub first : (other_place : ℕ) (other : Reason) → IsFault other_place other → IsNoLater place reason other_place other
+
+abbrev pub IsFirstFault : Role → LimitsValue → List ℕ → ℕ → Reason → Type 0
+IsFirstFault role limits bytes place reason = IsFirstPlaced (IsFaultAt role limits bytes) place reason
 
 abbrev pub HasNoFault : Role → LimitsValue → List ℕ → Type 0
 HasNoFault role limits bytes = (place : ℕ) (reason : Reason) → IsFaultAt role limits bytes place reason → ⊥

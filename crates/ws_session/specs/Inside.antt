@@ -1,25 +1,27 @@
 -- Inside the crate: what holds of every session, for its invariant. A reader may skip this file.
-use Rattle.std.specs.Prelude.{◌≡◌, ℕ, ◌+◌, ◌≤◌, ◌<◌, true, List, [], ◌∷◌, ◌++◌, length, Option, None, map}
+use Rattle.std.specs.Prelude.{◌≡◌, ℕ, ◌+◌, ◌≤◌, ◌<◌, true, List, [], ◌∷◌, ◌++◌, length, Option, Some, None, map}
 use Rattle.ws_frame.specs.Frame.{Frame, stream_bytes}
 use Rattle.ws_session.specs.declared.message.Message.{Message}
 use Rattle.ws_session.specs.declared.event.Event.{Event}
 use Rattle.ws_session.specs.declared.event.Event.TheVariants as event
-use Rattle.ws_session.specs.declared.judging.Judged.{Judged}
-use Rattle.ws_session.specs.declared.judging.Judged.TheVariants as judged
+use Rattle.ws_session.specs.declared.checking.FrameCheck.{FrameCheck}
+use Rattle.ws_session.specs.declared.checking.FrameCheck.TheVariants as check
 use Rattle.ws_session.specs.Faults.{open_payload}
 use Rattle.ws_session.specs.Replies.{reply_to, message_frame, under_key}
 use Rattle.ws_session.specs.Exchange.{SendingValue, SessionValue, is_over}
+use Rattle.ws_session.specs.Taking.{TakeCall, HasTaken}
+use Rattle.ws_session.specs.declared.event.PlacedEvent.{PlacedEvent}
 use Rattle.ws_session.specs.declared.session.Answering.{Answering}
 use Rattle.ws_session.specs.declared.session.Answering.TheVariants.{Plain, Echoing}
-use Rattle.ws_session.specs.NextFrame.{IsPartOfFrame, owed_at, IsAfter}
+use Rattle.ws_session.specs.NextFrame.{IsPartOfFrame, due_at, IsAfter}
 
 -- what is kept is a part of one frame and a message within the limits, and nothing once all is over
 pub record IsSound (v : SessionValue) : Type 0 where
-  pub part : IsPartOfFrame v.role v.limits v.opened v.rest
+  pub part : IsPartOfFrame v.role v.limits v.opened v.partial_frame
   pub limit : v.limits.max_message ≤ 16777216
   pub size : length (open_payload v.opened) ≤ v.limits.max_message
-  pub held : length (open_payload v.opened) + length v.rest ≤ v.limits.max_message + 139
-  pub over : is_over v.status ≡ true → length (open_payload v.opened) + length v.rest ≡ 0
+  pub held : length (open_payload v.opened) + length v.partial_frame ≤ v.limits.max_message + 139
+  pub over : is_over v.status ≡ true → length (open_payload v.opened) + length v.partial_frame ≡ 0
 
 -- ---- replies
 
@@ -40,15 +42,31 @@ CanAnswer Echoing sending = sending ≡ None
 
 -- the bytes of frames that are owed
 abbrev pub put_for : SessionValue → List ℕ → List Frame → List ℕ
-put_for v key frames = stream_bytes (map (under_key v.role key) (owed_at v.status frames))
+put_for v key frames = stream_bytes (map (under_key v.role key) (due_at v.status frames))
 
 -- what came of an event, and of what was put for it
-pub record HasActed (answering : Answering) (old new : SessionValue) (key before after : List ℕ) (e : Event) (opened : Option Message) : Type 0 where
+pub record HasActed (answering : Answering) (old new : SessionValue) (key before after : List ℕ) (e : Event)
+    (opened : Option Message) : Type 0 where
   pub is_after : IsAfter old new e opened
   pub put : after ≡ before ++ put_for old key (reply_by answering e)
 
--- what is judged ends behind the bytes that were kept, and within all of them
-abbrev pub EndsBetween : ℕ → ℕ → Judged → Type 0
-EndsBetween kept all judged.Part = Unit {0}
-EndsBetween kept all (judged.Whole used content) = (kept < used) × (used ≤ all)
-EndsBetween kept all (judged.Fault reason place) = (kept < place) × (place ≤ all)
+-- what is checked ends after the bytes that were kept, and within all of them
+abbrev pub EndsBetween : ℕ → ℕ → FrameCheck → Type 0
+EndsBetween kept all check.Need = Unit {0}
+EndsBetween kept all (check.Whole used content) = (kept < used) × (used ≤ all)
+EndsBetween kept all (check.Fault reason place) = (kept < place) × (place ≤ all)
+
+-- ---- a piece, front by front
+
+-- the event, if there is one, at this place
+abbrev pub placed_at : ℕ → Option Event → List PlacedEvent
+placed_at end None = []
+placed_at end (Some e) = record { event = e; end = end } ∷ []
+
+-- A call used so many bytes of what is left of a piece, of which some were taken before, and told of them
+pub record HasTakenFront (reply : Event → List Frame) (old new : SessionValue) (call : TakeCall) (before used : ℕ)
+    (told_before told_after : List PlacedEvent) : Type 0 where
+  pub event : Option Event
+  pub added : told_after ≡ told_before ++ placed_at (before + used) event
+  pub same : (new.role ≡ old.role) × (new.limits ≡ old.limits)
+  pub takes : HasTaken reply old new call (record { used = used; event = event })

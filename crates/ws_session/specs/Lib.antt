@@ -5,12 +5,13 @@ pub mod Faults
 pub mod Events
 pub mod Replies
 pub mod Exchange
+pub mod Taking
 pub mod Sends
 pub mod Reach
+pub mod Words
 pub mod NextFrame
 pub mod Assembly
-pub mod Judging
+pub mod Checking
 pub mod Inside
-pub mod Sending
-pub mod Feeding
+pub mod Outgoing
 pub mod Examples

@@ -64,6 +64,6 @@ abbrev pub message_if_any : List Frame → Option Message
 message_if_any [] = None
 message_if_any (frame ∷ frames) = Some (message_of (frame ∷ frames))
 
--- the message that is open behind some frames, as far as it has come
+-- the message that is open after some frames, as far as it has come
 abbrev pub open_message_of : List Frame → Option Message
 open_message_of frames = message_if_any (groups_of (data_frames frames)).unfinished

@@ -1,20 +1,22 @@
 -- What an endpoint may send, and the frame that a send makes: RFC 6455 sections 5.4 to 5.6, 7.1, 7.4 and 8.1.
-use Rattle.std.specs.Prelude.{◌≡◌, ◌≢◌, ℕ, ◌+◌, ◌≤◌, ◌<◌, ◌⊎◌, Bool, true, List, [], ◌∷◌, ◌++◌, length, Option, Some, None}
+use Rattle.std.specs.Prelude.{◌≡◌, ◌≢◌, ℕ, ◌+◌, ◌<◌, ◌⊎◌, Bool, true, List, [], ◌∷◌, ◌++◌, length, Option, Some}
+use Rattle.std.specs.Prelude.{None}
 use Rattle.std.specs.Borrow.{Bor}
-use Rattle.ws_frame.specs.Frame.{Frame, CanBeSent, frame_bytes}
+use Rattle.ws_frame.specs.Frame.{Frame, FitsTheLayout, frame_bytes}
 use Rattle.ws_text.specs.Text.{IsText, BeginsText}
 use Rattle.ws_text.specs.Close.{CloseValue, CodeAllowed, close_payload}
 use Rattle.ws_session.specs.declared.message.Kind.{Kind}
 use Rattle.ws_session.specs.declared.message.Kind.TheVariants.{Text}
 use Rattle.ws_session.specs.declared.message.Message.{Message}
 use Rattle.ws_session.specs.declared.send_fault.SendFault.{SendFault}
-use Rattle.ws_session.specs.declared.send_fault.SendFault.TheVariants.{Over, Busy, NothingOpen, NotText, TooLong, BadCode, NoMemory}
+use Rattle.ws_session.specs.declared.send_fault.SendFault.TheVariants.{Over, Busy, NothingOpen, NotText, TooLong}
+use Rattle.ws_session.specs.declared.send_fault.SendFault.TheVariants.{BadCode, NoMemory}
 use Rattle.ws_session.specs.declared.status.Status.{Status}
 use Rattle.ws_session.specs.Limits.{LimitsValue}
 use Rattle.ws_session.specs.Messages.{opcode_of, open_message_of}
-use Rattle.ws_session.specs.Faults.{IsOpenText, open_payload}
+use Rattle.ws_session.specs.Faults.{IsOpenText, open_payload, IsLowest}
 use Rattle.ws_session.specs.Replies.{has_close, control_frame, under_key}
-use Rattle.ws_session.specs.Exchange.{SessionValue, HasExchanged, is_over}
+use Rattle.ws_session.specs.Exchange.{SessionValue, Exchange, HasExchanged, is_over}
 
 -- a frame that an endpoint is asked to send: the first of a message, the next of it, or a control frame
 pub data Send : Type 0 where
@@ -55,7 +57,7 @@ most_limits = record { max_message = most_sent; max_frame = most_sent }
 abbrev pub IsNoText : Bool → List ℕ → Type 0
 IsNoText fin bytes = (¬ BeginsText bytes) ⊎ ((fin ≡ true) × (¬ IsText bytes))
 
--- what the send itself is refused for, behind an open message
+-- what the send itself is refused for, after an open message
 abbrev pub IsWrongWith : Option Message → Send → SendFault → Type 0
 IsWrongWith opened (Begin kind payload fin) Busy = opened ≢ None
 IsWrongWith opened (More payload fin) NothingOpen = opened ≡ None
@@ -89,9 +91,8 @@ number_of_fault TooLong = 5
 number_of_fault BadCode = 6
 number_of_fault NoMemory = 7
 
-pub record IsFirstWrong (sent : List Frame) (status : Status) (send : Send) (fault : SendFault) : Type 0 where
-  pub wrong : IsWrong sent status send fault
-  pub first : (other : SendFault) → IsWrong sent status send other → number_of_fault fault ≤ number_of_fault other
+abbrev pub IsFirstWrong : List Frame → Status → Send → SendFault → Type 0
+IsFirstWrong sent status send fault = IsLowest SendFault number_of_fault (IsWrong sent status send) fault
 
 -- the refusal that is told: want of memory only where nothing else is wrong
 abbrev pub IsRefusal : List Frame → Status → Send → SendFault → Type 0
@@ -100,11 +101,22 @@ IsRefusal sent status send fault = IsFirstWrong sent status send fault
 
 -- ---- a send that is done
 
--- A session that has sent these frames and taken these bytes sends one more: nothing was wrong with it, it can be sent,
--- afterwards it was sent too, and it is put behind what was there, under the key that was handed in if this is a client
-pub record Sends (old new : SessionValue) (sent : List Frame) (bytes : List ℕ) (ended : Bool) (send : Send) (key put_before put_after : List ℕ) : Type 0 where
-  pub may : MaySend sent old.status send
-  pub can : CanBeSent (under_key old.role key (frame_of send))
-  pub agrees : HasExchanged new (sent ++ frame_of send ∷ []) bytes ended
-  pub put : put_after ≡ put_before ++ frame_bytes (under_key old.role key (frame_of send))
+-- A session that has exchanged this sends one more frame: nothing was wrong with it, it can be sent, afterwards it was
+-- sent too, and it is put after what was there, under the key that was handed in if this is a client
+pub record Sends (old new : SessionValue) (exchange : Exchange) (send : Send) (key before after : List ℕ) : Type 0 where
+  pub may : MaySend exchange.sent old.status send
+  pub can : FitsTheLayout (under_key old.role key (frame_of send))
+  pub agrees : HasExchanged new (exchange.sent ++ frame_of send ∷ []) exchange.taken exchange.ended
+  pub put : after ≡ before ++ frame_bytes (under_key old.role key (frame_of send))
   pub same : (new.role ≡ old.role) × (new.limits ≡ old.limits)
+
+-- it does so whatever it has exchanged
+abbrev pub HasSent : SessionValue → SessionValue → Send → List ℕ → List ℕ → List ℕ → Type 0
+HasSent old new send key before after = (exchange : Exchange)
+    → HasExchanged old exchange.sent exchange.taken exchange.ended → Sends old new exchange send key before after
+
+-- whatever the session has exchanged, this is what the send is refused for
+abbrev pub IsRefusedBy : SessionValue → Send → SendFault → Type 0
+IsRefusedBy session send fault = (exchange : Exchange)
+    → HasExchanged session exchange.sent exchange.taken exchange.ended
+    → IsRefusal exchange.sent session.status send fault

@@ -7,7 +7,8 @@ use Rattle.ws_text.specs.Close.{CloseValue, IsClosePayload}
 use Rattle.ws_session.specs.declared.message.Kind.{Kind}
 use Rattle.ws_session.specs.declared.message.Kind.TheVariants.{Text, Binary}
 use Rattle.ws_session.specs.Limits.{LimitsValue}
-use Rattle.ws_session.specs.Messages.{is_control, is_close, data_frames, groups_of, kind_of, first_opcode, joined_payload}
+use Rattle.ws_session.specs.Messages.{is_control, is_close, data_frames, groups_of, kind_of, first_opcode}
+use Rattle.ws_session.specs.Messages.{joined_payload}
 
 -- no reserved bit is set and no opcode is reserved; a control frame has FIN and at most 125 bytes (sections 5.2, 5.5)
 pub record IsValidAlone (frame : Frame) : Type 0 where
@@ -16,10 +17,12 @@ pub record IsValidAlone (frame : Frame) : Type 0 where
   pub control : is_control frame ≡ true → (frame.fin ≡ true) × (length frame.payload ≤ 125)
 
 -- nothing follows a close frame, and its payload is a close payload (section 5.5.1)
--- our choice: the RFC forbids data frames behind it, and we forbid every frame
+-- our choice: the RFC forbids data frames after it, and we forbid every frame
 abbrev pub CloseIsLast : List Frame → Type 0
 CloseIsLast [] = Unit {0}
-CloseIsLast (frame ∷ frames) = (is_close frame ≡ true → (frames ≡ []) × ((close : Option CloseValue) × IsClosePayload frame.payload close)) × CloseIsLast frames
+CloseIsLast (frame ∷ frames) =
+    (is_close frame ≡ true → (frames ≡ []) × ((close : Option CloseValue) × IsClosePayload frame.payload close))
+    × CloseIsLast frames
 
 abbrev pub IsContinuation : Frame → Type 0
 IsContinuation frame = frame.opcode ≡ 0

@@ -4,10 +4,10 @@ ghost use Rattle.std.specs.Prelude.{◌≡◌, ◌↔◌, ◌++◌, length, is_s
 ghost use Rattle.ws_session.specs.Faults.{open_payload, IsOpenText};
 ghost use Rattle.ws_session.specs.Assembly.{message_plus, IsTextOf, HasReadOpen};
 
-use crate::message::{Bytes, Kind, Message};
+use crate::message::{Kind, Message};
 use std::alloc::Global;
 use std::marker::Model;
-use ws_frame::NoMemory;
+use ws_base::{NoMemory, Payload};
 use ws_text::Utf8Stream;
 
 /// The fragments of a message so far.
@@ -75,7 +75,7 @@ impl Assembly {
         }
     }
 
-    /// A judge that goes on with the open text, or begins a text where no message is open.
+    /// A stream that goes on with the open text, or begins a text where no message is open.
     pub(crate) fn text(&self) -> Utf8Stream
         ensures { HasReadOpen self.now result }
     {
@@ -85,7 +85,7 @@ impl Assembly {
         }
     }
 
-    /// Puts a fragment's payload behind the open message, or opens one of this kind. `text` has read
+    /// Puts a fragment's payload after the open message, or opens one of this kind. `text` has read
     /// all of it, where it is text. `NoMemory` leaves what was open.
     pub(crate) fn add(
         &mut self,
@@ -125,14 +125,14 @@ impl Assembly {
         let Some(fragments) = &self.open else {
             return Ok(Message {
                 kind,
-                payload: Bytes::from_vec(payload),
+                payload: Payload::from_vec(payload),
             });
         };
         let mut joined = Vec::from_slice(alloc, &fragments.payload)?;
         joined.extend_from_slice(&payload)?;
         Ok(Message {
             kind: fragments.kind,
-            payload: Bytes::from_vec(joined),
+            payload: Payload::from_vec(joined),
         })
     }
 }

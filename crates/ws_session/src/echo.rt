@@ -1,18 +1,21 @@
 //! An endpoint that sends each message back (RFC 6455 section 5.6).
 
-ghost use Rattle.std.specs.Prelude.{◌≡◌, ◌≤◌, ◌<◌, ℕ, List, [], length, Bool, true, false, IfOk, OnErr};
+ghost use Rattle.std.specs.Prelude.{◌≡◌, ◌≤◌, ◌<◌, ℕ, List, [], length, None, Bool, true, false, IsOk, IfOk, IfErr};
+ghost use Rattle.std.specs.Prelude.{IsOkAnd, OnErr};
 ghost use Rattle.ws_frame.specs.Frame.{Frame};
 ghost use Rattle.ws_session.specs.declared.status.Status.TheVariants.{Lost};
 ghost use Rattle.ws_session.specs.Replies.{echo_reply_to};
-ghost use Rattle.ws_session.specs.Exchange.{HasExchanged, Takes, TakesNothing, is_over};
+ghost use Rattle.ws_session.specs.Exchange.{HasExchanged, is_over};
+ghost use Rattle.ws_session.specs.Taking.{HasTaken, TakesNothing, HasTakenAll, front_taken};
 
-use crate::event::Taken;
+use crate::event::{PlacedEvent, TakeStop, Taken};
 use crate::limits::Limits;
 use crate::session::{Answering, Session};
 use crate::status::Status;
 use std::alloc::Global;
 use std::marker::Model;
-use ws_frame::{NoMemory, Role};
+use ws_base::NoMemory;
+use ws_frame::Role;
 
 /// A session that sends each message back in one frame as soon as it is whole, unless its close was sent. It sends
 /// nothing else of its own accord, so no message is ever open on its sending side.
@@ -51,12 +54,13 @@ impl Echo {
         self.session.status()
     }
 
-    /// The stream has ended: a session that waits for the other's close is lost. One that is over stays
-    /// as it is.
+    /// The stream has ended: a session that waits for the other's close is lost, and keeps neither its open message nor
+    /// the unfinished frame. One that is over stays as it is.
     pub fn end(&mut self)
         ensures exchanged { (sent : List Frame) (bytes : List ℕ) (ended : Bool) →
             HasExchanged self.old sent bytes ended → HasExchanged self.new sent bytes true }
         ensures lost { is_over self.old.status ≡ false → self.new.status ≡ Lost }
+        ensures forgets { is_over self.old.status ≡ false → (self.new.opened ≡ None) × (self.new.partial_frame ≡ []) }
         ensures over { is_over self.old.status ≡ true → self.new ≡ self.old }
         ensures role { self.new.role ≡ self.old.role }
         ensures limits { self.new.limits ≡ self.old.limits }
@@ -67,16 +71,45 @@ impl Echo {
     /// Takes bytes as `Session::take` does, and puts each whole message back at the end of `out` beside
     /// what else is owed. `NoMemory` where a growth was refused: then nothing is taken and nothing changed.
     pub fn take(&mut self, piece: &[u8], key: [u8; 4], out: &mut Vec<u8>) -> Result<Taken, NoMemory>
-        ensures taken { is_over self.old.status ≡ false → (sent : List Frame) (bytes : List ℕ) (ended : Bool) → HasExchanged self.old sent bytes ended →
-            IfOk result (λ taken. Takes echo_reply_to self.old self.new sent bytes piece.now ended key out.old.items out.new.items taken) }
-        ensures over { is_over self.old.status ≡ true →
-            IfOk result (λ taken. TakesNothing self.old self.new piece.now out.old.items out.new.items taken) }
+        ensures taken { IfOk result (λ taken. HasTaken echo_reply_to self.old self.new
+            (record { piece = piece.now; key = key; before = out.old.items; after = out.new.items }) taken) }
+        ensures over { is_over self.old.status ≡ true → IsOkAnd result (λ taken. TakesNothing self.old self.new
+            (record { piece = piece.now; key = key; before = out.old.items; after = out.new.items }) taken) }
 
         // At least one byte is used where there is one, and want of memory leaves all as it was.
-        ensures used { IfOk result (λ taken. (0 < length piece.now → 0 < taken.used) × (taken.used ≤ length piece.now)) }
+        ensures used { IfOk result (λ taken. (0 < length piece.now → 0 < taken.used)
+            × (taken.used ≤ length piece.now)) }
+        ensures role { self.new.role ≡ self.old.role }
+        ensures limits { self.new.limits ≡ self.old.limits }
         ensures kept { OnErr result ((self.new ≡ self.old) × (out.new.items ≡ out.old.items)) }
     {
         let taken = self.session.take_by(Answering::Echoing, piece, key, out)?;
         Ok(taken)
+    }
+
+    /// Takes a whole piece as `Session::take_all` does, and puts each whole message back at the end of `out` beside
+    /// what else is owed. `TakeStop` where a growth was refused: the bytes that it counts were taken, with their events
+    /// and replies.
+    pub fn take_all(
+        &mut self,
+        piece: &[u8],
+        key: [u8; 4],
+        out: &mut Vec<u8>,
+        events: &mut Vec<PlacedEvent>,
+    ) -> Result<(), TakeStop>
+        ensures taken { HasTakenAll echo_reply_to self.old self.new
+            (record { piece = front_taken piece.now result; key = key; before = out.old.items; after = out.new.items })
+            events.old.items events.new.items }
+        ensures over { is_over self.old.status ≡ true → IsOk result × (self.new ≡ self.old)
+            × (out.new.items ≡ out.old.items) × (events.new.items ≡ events.old.items) }
+
+        // Where memory ran out some bytes are left.
+        ensures used { IfErr result (λ stop. stop.used < length piece.now) }
+        ensures role { self.new.role ≡ self.old.role }
+        ensures limits { self.new.limits ≡ self.old.limits }
+    {
+        self.session
+            .take_all_by(Answering::Echoing, piece, key, out, events)?;
+        Ok(())
     }
 }

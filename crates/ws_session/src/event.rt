@@ -1,12 +1,13 @@
 //! What a session tells.
 
+use crate::control_payload::Small;
 use crate::message::Message;
 use crate::reason::Reason;
-use crate::small::Small;
+use ws_base::NoMemory;
 use ws_text::Close;
 
 /// What the bytes of one frame gave.
-#[derive(Drop, Debug, PartialEq)]
+#[derive(Drop)]
 pub enum Event {
     /// A data frame without FIN: the message goes on.
     Part,
@@ -21,10 +22,31 @@ pub enum Event {
 }
 
 /// What one call took of a piece.
-#[derive(Drop, Debug, PartialEq)]
+#[derive(Drop)]
 pub struct Taken {
     /// How many bytes of the piece, from its front.
     pub used: usize,
     /// What the last of them completed. Where nothing is completed the piece is used whole.
     pub event: Option<Event>,
+}
+
+/// An event of a piece that was taken whole.
+#[derive(Drop)]
+pub struct PlacedEvent {
+    pub event: Event,
+    /// How many bytes of the piece there are up to the last one of the event, counted from 1.
+    pub end: usize,
+}
+
+/// Memory ran out inside a piece.
+#[derive(Clone, Copy)]
+pub struct TakeStop {
+    /// How many bytes of the piece were taken, from its front.
+    pub used: usize,
+}
+
+impl From<TakeStop> for NoMemory {
+    fn from(_stop: TakeStop) -> NoMemory {
+        NoMemory
+    }
 }

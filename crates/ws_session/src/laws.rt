@@ -1,14 +1,16 @@
 //! Laws over the definitions, each the contract of a function that does nothing.
 
-ghost use Rattle.std.specs.Prelude.{◌≡◌, ◌≢◌, ◌≤◌, ◌↔◌, ℕ, List, [], ◌∷◌, ◌++◌, length, take, map, Bool, true, false, Some, None};
+ghost use Rattle.std.specs.Prelude.{◌≡◌, ◌≢◌, ◌≤◌, ◌↔◌, ℕ, List, [], ◌∷◌, ◌++◌, length, take, map, Bool, true, false};
+ghost use Rattle.std.specs.Prelude.{Some, None};
 ghost use Rattle.std.specs.List.{AllByRecursion};
 ghost use Rattle.ws_frame.specs.declared.role.Role.{Role};
-ghost use Rattle.ws_frame.specs.Header.{AreBytes, IsKey};
-ghost use Rattle.ws_frame.specs.Frame.{Frame, KeyedFrame, CanBeSent, stream_bytes};
+ghost use Rattle.ws_frame.specs.Header.{AreBytes, IsMaskingKey};
+ghost use Rattle.ws_frame.specs.Frame.{Frame, KeyedFrame, FitsTheLayout, stream_bytes};
 ghost use Rattle.ws_session.specs.declared.reason.Reason.{Reason};
 ghost use Rattle.ws_session.specs.declared.event.Event.{Event};
 ghost use Rattle.ws_session.specs.declared.event.Event.TheVariants as event;
 ghost use Rattle.ws_session.specs.declared.status.Status.{Status};
+ghost use Rattle.ws_session.specs.declared.status.Status.TheVariants.{Lost};
 ghost use Rattle.ws_session.specs.Limits.{LimitsValue};
 ghost use Rattle.ws_session.specs.Validity.{AreValidFrames, NothingAfterClose};
 ghost use Rattle.ws_session.specs.Faults.{frames_of, KeysFit, IsFirstFault, HasNoFault};
@@ -34,20 +36,30 @@ pub fn first_fault_stays()
 /// More bytes leave the events before them.
 pub fn events_go_on()
     ensures { (role : Role) (limits : LimitsValue) (bytes more : List ℕ) (events all : List Event) →
-        HasEvents role limits bytes events → HasEvents role limits (bytes ++ more) all → (later : List Event) × (all ≡ events ++ later) }
+        HasEvents role limits bytes events → HasEvents role limits (bytes ++ more) all → (later : List Event)
+        × (all ≡ events ++ later) }
 {}
 
-/// Bytes behind the peer's close or behind a fault say nothing: a session that is over agrees with them as it is.
+/// Bytes after the peer's close or after a fault say nothing: a session that is over by these, and not lost, agrees
+/// with them as it is, whether its stream has ended or not.
 pub fn bytes_after_the_end()
-    ensures { (session : SessionValue) (sent : List Frame) (bytes more : List ℕ) → HasExchanged session sent bytes false → is_over session.status ≡ true →
-        AreBytes (bytes ++ more) → HasExchanged session sent (bytes ++ more) false }
+    ensures { (session : SessionValue) (sent : List Frame) (bytes more : List ℕ) (ended : Bool) →
+        HasExchanged session sent bytes ended → is_over session.status ≡ true → session.status ≢ Lost →
+        AreBytes more → HasExchanged session sent (bytes ++ more) ended }
+{}
+
+/// A session whose stream has ended is over.
+pub fn ended_streams_are_over()
+    ensures { (session : SessionValue) (sent : List Frame) (bytes : List ℕ) →
+        HasExchanged session sent bytes true → is_over session.status ≡ true }
 {}
 
 /// Replies to more events are those to the first, and then, with these sent, those to the others: whatever is replied
 /// to an event, by a session as `reply_to` says or by an echo.
 pub fn replies_go_on()
     ensures { (reply : Event → List Frame) (sent : List Frame) (events later : List Event) →
-        replies_by reply sent (events ++ later) ≡ replies_by reply sent events ++ replies_by reply (sent ++ replies_by reply sent events) later }
+        replies_by reply sent (events ++ later) ≡ replies_by reply sent events
+        ++ replies_by reply (sent ++ replies_by reply sent events) later }
 {}
 
 /// The messages among the events of some frames are those that the frames finish.
@@ -58,26 +70,32 @@ pub fn messages_are_told()
 /// The frames within the first bytes are the longest front of all that takes no more bytes and in which none passes the
 /// limit.
 pub fn longest_front_within()
-    ensures is { (limits : LimitsValue) (n : ℕ) (xs : List KeyedFrame) → IsWithin limits n xs (frames_within limits n xs) }
-    ensures longest { (limits : LimitsValue) (n : ℕ) (xs front : List KeyedFrame) → IsWithin limits n xs front → length front ≤ length (frames_within limits n xs) }
+    ensures is { (limits : LimitsValue) (n : ℕ) (xs : List KeyedFrame) →
+        IsWithin limits n xs (frames_within limits n xs) }
+    ensures longest { (limits : LimitsValue) (n : ℕ) (xs front : List KeyedFrame) → IsWithin limits n xs front →
+        length front ≤ length (frames_within limits n xs) }
 {}
 
 /// Frames that are sent later leave what the first bytes hold.
 pub fn appended_frames_are_not_within()
-    ensures frames { (limits : LimitsValue) (n : ℕ) (xs more : List KeyedFrame) → n ≤ length (stream_bytes xs) → frames_within limits n (xs ++ more) ≡ frames_within limits n xs }
-    ensures too_big { (limits : LimitsValue) (n : ℕ) (xs more : List KeyedFrame) → n ≤ length (stream_bytes xs) → is_too_big limits n (xs ++ more) ≡ is_too_big limits n xs }
+    ensures frames { (limits : LimitsValue) (n : ℕ) (xs more : List KeyedFrame) → n ≤ length (stream_bytes xs) →
+        frames_within limits n (xs ++ more) ≡ frames_within limits n xs }
+    ensures too_big { (limits : LimitsValue) (n : ℕ) (xs more : List KeyedFrame) → n ≤ length (stream_bytes xs) →
+        is_too_big limits n (xs ++ more) ≡ is_too_big limits n xs }
 {}
 
 /// What a valid sender can do to a receiver, under whatever limits each has: of the first bytes the receiver tells the
 /// frames in them that fit its limit, and then that one is too big. So no other fault comes of valid frames.
 pub fn valid_frames_are_told()
-    ensures { (role : Role) (limits most : LimitsValue) (n : ℕ) (xs : List KeyedFrame) → AllByRecursion CanBeSent xs → KeysFit role xs → AreValidFrames most (frames_of xs) →
+    ensures { (role : Role) (limits most : LimitsValue) (n : ℕ) (xs : List KeyedFrame) →
+        AllByRecursion FitsTheLayout xs → KeysFit role xs → AreValidFrames most (frames_of xs) →
         HasEvents role limits (take n (stream_bytes xs)) (events_within limits n xs) }
 {}
 
 /// Of frames that keep to a limit none passes a greater one: all of them fit.
 pub fn greater_limits_pass_none()
-    ensures { (limits most : LimitsValue) (xs : List KeyedFrame) → AreValidFrames most (frames_of xs) → most.max_message ≤ limits.max_message →
+    ensures { (limits most : LimitsValue) (xs : List KeyedFrame) → AreValidFrames most (frames_of xs) →
+        most.max_message ≤ limits.max_message →
         (fitting limits xs ≡ xs) × (first_passing limits xs ≡ None) }
 {}
 
@@ -87,41 +105,51 @@ pub fn more_bytes_after_the_last()
         (frames_within limits m xs ≡ frames_within limits n xs) × (is_too_big limits m xs ≡ true) }
 
     // A close is the last of valid frames, so all of them have come.
-    ensures close { (limits most : LimitsValue) (n m : ℕ) (xs : List KeyedFrame) → n ≤ m → AreValidFrames most (frames_of xs) → has_close (frames_of (frames_within limits n xs)) ≡ true →
+    ensures close { (limits most : LimitsValue) (n m : ℕ) (xs : List KeyedFrame) → n ≤ m →
+        AreValidFrames most (frames_of xs) → has_close (frames_of (frames_within limits n xs)) ≡ true →
         (frames_within limits m xs ≡ xs) × (is_too_big limits m xs ≡ false) }
 {}
 
 /// Frames under fitting keys, of which none follows a close, have a fault exactly where they aren't valid.
 pub fn faults_are_of_invalid_frames()
-    ensures valid { (role : Role) (limits : LimitsValue) (xs : List KeyedFrame) → AllByRecursion CanBeSent xs → KeysFit role xs →
+    ensures valid { (role : Role) (limits : LimitsValue) (xs : List KeyedFrame) → AllByRecursion FitsTheLayout xs →
+        KeysFit role xs →
         AreValidFrames limits (frames_of xs) → HasNoFault role limits (stream_bytes xs) }
-    ensures invalid { (role : Role) (limits : LimitsValue) (xs : List KeyedFrame) → AllByRecursion CanBeSent xs → KeysFit role xs → NothingAfterClose (frames_of xs) →
+    ensures invalid { (role : Role) (limits : LimitsValue) (xs : List KeyedFrame) → AllByRecursion FitsTheLayout xs →
+        KeysFit role xs → NothingAfterClose (frames_of xs) →
         ¬ (AreValidFrames limits (frames_of xs)) → ¬ (HasNoFault role limits (stream_bytes xs)) }
 
     // So a session fails exactly then.
-    ensures failed { (role : Role) (limits : LimitsValue) (xs : List KeyedFrame) (events : List Event) → AllByRecursion CanBeSent xs → KeysFit role xs → NothingAfterClose (frames_of xs) →
-        HasEvents role limits (stream_bytes xs) events → (¬ (AreValidFrames limits (frames_of xs))) ↔ ((reason : Reason) × (last_event events ≡ Some (event.Failed reason))) }
+    ensures failed { (role : Role) (limits : LimitsValue) (xs : List KeyedFrame) (events : List Event) →
+        AllByRecursion FitsTheLayout xs → KeysFit role xs → NothingAfterClose (frames_of xs) →
+        HasEvents role limits (stream_bytes xs) events →
+        (¬ (AreValidFrames limits (frames_of xs))) ↔
+        ((reason : Reason) × (last_event events ≡ Some (event.Failed reason))) }
 {}
 
-/// What may be sent behind valid frames leaves them valid.
+/// What may be sent after valid frames leaves them valid.
 pub fn sends_stay_valid()
-    ensures { (sent : List Frame) (status : Status) (send : Send) → AreValidFrames most_limits sent → HasTextReason send → MaySend sent status send →
+    ensures { (sent : List Frame) (status : Status) (send : Send) → AreValidFrames most_limits sent →
+        HasTextReason send → MaySend sent status send →
         AreValidFrames most_limits (sent ++ frame_of send ∷ []) }
 {}
 
-/// What is owed for what comes, behind whatever came before, leaves valid frames valid.
+/// What is owed for what comes, after whatever came before, leaves valid frames valid.
 pub fn replies_stay_valid()
-    ensures { (role : Role) (limits most : LimitsValue) (bytes : List ℕ) (events later : List Event) (sent : List Frame) → HasEvents role limits bytes (events ++ later) → AreValidFrames most sent →
+    ensures { (role : Role) (limits most : LimitsValue) (bytes : List ℕ) (events later : List Event)
+        (sent : List Frame) → HasEvents role limits bytes (events ++ later) → AreValidFrames most sent →
         AreValidFrames most (sent ++ replies_of sent later) }
 {}
 
 /// What is owed for what comes can be sent, under whatever key an endpoint of any role is handed.
 pub fn replies_can_be_sent()
-    ensures { (role own : Role) (limits : LimitsValue) (bytes key : List ℕ) (events later : List Event) (sent : List Frame) → HasEvents role limits bytes (events ++ later) → IsKey (key_for own key) →
-        AllByRecursion CanBeSent (map (under_key own key) (replies_of sent later)) }
+    ensures { (role own : Role) (limits : LimitsValue) (bytes key : List ℕ) (events later : List Event)
+        (sent : List Frame) → HasEvents role limits bytes (events ++ later) → IsMaskingKey (key_for own key) →
+        AllByRecursion FitsTheLayout (map (under_key own key) (replies_of sent later)) }
 {}
 
 /// The keys of what one role sends fit the other.
 pub fn keys_fit_the_other_role()
-    ensures { (own other : Role) (key : List ℕ) (frames : List Frame) → own ≢ other → KeysFit other (map (under_key own key) frames) }
+    ensures { (own other : Role) (key : List ℕ) (frames : List Frame) → own ≢ other →
+        KeysFit other (map (under_key own key) frames) }
 {}

@@ -9,7 +9,7 @@ use std::marker::Model;
 const MOST: u32 = 16_777_216;
 
 /// What a session takes at most: the payload bytes of one message.
-#[derive(Clone, Copy, Debug, PartialEq, Eq)]
+#[derive(Clone, Copy)]
 pub struct Limits {
     max_message: u32,
     max_frame: u32,

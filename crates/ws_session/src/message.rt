@@ -1,12 +1,14 @@
 //! Messages (RFC 6455 section 5.6).
 
-ghost use Rattle.std.specs.Prelude.{◌≡◌, ◌≤◌};
+ghost use Rattle.std.specs.Prelude.{◌≡◌, ◌≤◌, Some};
 ghost use Rattle.ws_session.specs.Messages.{opcode_of};
+ghost use Rattle.ws_session.specs.Words.{kind_word};
 
-use std::marker::Model;
+use std::fmt;
+use ws_base::Payload;
 
 /// The kind of a message.
-#[derive(Clone, Copy, Debug, PartialEq, Eq)]
+#[derive(Clone, Copy, Debug)]
 pub enum Kind {
     /// The payload is text, in UTF-8.
     Text,
@@ -27,61 +29,21 @@ impl Kind {
     }
 }
 
-/// Bytes on the heap, which contracts see as their list. Made from a `Vec` and made one again without taking memory.
-#[derive(Drop, Debug)]
-pub struct Bytes {
-    bytes: Vec<u8>,
-}
+impl fmt::Display for Kind {
+    ghost output = { λ kind. Some (kind_word kind) };
 
-impl Model for Bytes {
-    ghost use Rattle.std.specs.Prelude.{List, ℕ};
-
-    ghost Value = { List ℕ };
-
-    ghost view = { λ b. b.bytes.items };
-}
-
-impl Bytes {
-    /// The bytes as a slice.
-    pub fn as_slice(&self) -> &[u8]
-        ensures { result.now ≡ self.now }
-    {
-        self.bytes.as_slice()
-    }
-
-    /// The same bytes as a `Vec`.
-    pub fn into_vec(self) -> Vec<u8>
-        ensures { result.items ≡ self }
-    {
-        self.bytes
-    }
-
-    /// These bytes.
-    pub fn from_vec(bytes: Vec<u8>) -> Bytes
-        ensures { result ≡ bytes.items }
-    {
-        Bytes { bytes }
-    }
-}
-
-impl PartialEq for Bytes {
-    ghost use Rattle.std.specs.Prelude.{bytes_eq};
-    ghost use Rattle.std.specs.Cmp.{partial_equiv_from_equiv};
-    ghost use Rattle.std.specs.Cmp.Lexicographic.{nat_list_eq_equiv};
-
-    ghost eq = { bytes_eq };
-
-    ghost laws = { partial_equiv_from_equiv nat_list_eq_equiv };
-
-    fn eq(&self, other: &Bytes) -> bool {
-        self.as_slice() == other.as_slice()
+    fn fmt<W: fmt::Write>(&self, f: &mut fmt::Formatter<W>) -> fmt::Result {
+        match *self {
+            Kind::Text => write!(f, "text"),
+            Kind::Binary => write!(f, "binary"),
+        }
     }
 }
 
 /// A whole message.
-#[derive(Drop, Debug, PartialEq)]
+#[derive(Drop)]
 pub struct Message {
     pub kind: Kind,
     /// The joined payloads of its frames, unmasked.
-    pub payload: Bytes,
+    pub payload: Payload,
 }

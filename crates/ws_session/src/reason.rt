@@ -1,7 +1,10 @@
 //! Why a session fails its connection (RFC 6455 sections 7.1.7 and 7.4.1).
 
-ghost use Rattle.std.specs.Prelude.{◌≡◌};
+ghost use Rattle.std.specs.Prelude.{◌≡◌, Some};
 ghost use Rattle.ws_session.specs.Replies.{close_code_of};
+ghost use Rattle.ws_session.specs.Words.{reason_name};
+
+use std::fmt;
 
 /// Why a session failed: what the peer's bytes did. Of several at one place the one with the lowest number is told.
 #[derive(Clone, Copy, Debug, PartialEq, Eq)]
@@ -57,6 +60,31 @@ impl Reason {
             | Reason::CloseCode => 1002,
             Reason::NotText | Reason::TextCut | Reason::CloseReason => 1007,
             Reason::TooBig => 1009,
+        }
+    }
+}
+
+/// The name of the cause.
+impl fmt::Display for Reason {
+    ghost output = { λ cause. Some (reason_name cause) };
+
+    fn fmt<W: fmt::Write>(&self, f: &mut fmt::Formatter<W>) -> fmt::Result {
+        match *self {
+            Reason::ReservedBits => write!(f, "ReservedBits"),
+            Reason::Opcode => write!(f, "Opcode"),
+            Reason::MaskWrong => write!(f, "MaskWrong"),
+            Reason::NotShortest => write!(f, "NotShortest"),
+            Reason::BadLength => write!(f, "BadLength"),
+            Reason::ControlCut => write!(f, "ControlCut"),
+            Reason::ControlLong => write!(f, "ControlLong"),
+            Reason::NothingToContinue => write!(f, "NothingToContinue"),
+            Reason::MessageOpen => write!(f, "MessageOpen"),
+            Reason::TooBig => write!(f, "TooBig"),
+            Reason::NotText => write!(f, "NotText"),
+            Reason::TextCut => write!(f, "TextCut"),
+            Reason::CloseOneByte => write!(f, "CloseOneByte"),
+            Reason::CloseCode => write!(f, "CloseCode"),
+            Reason::CloseReason => write!(f, "CloseReason"),
         }
     }
 }

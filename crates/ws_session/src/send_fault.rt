@@ -1,5 +1,11 @@
 //! Why a frame was not sent.
 
+ghost use Rattle.std.specs.Prelude.{Some};
+ghost use Rattle.ws_session.specs.Words.{fault_name};
+
+use std::error::Error;
+use std::fmt;
+
 /// Why a frame was not sent: the first of these that applies. Nothing was put, and the session is as it was.
 #[derive(Clone, Copy, Debug, PartialEq, Eq)]
 pub enum SendFault {
@@ -11,11 +17,30 @@ pub enum SendFault {
     NothingOpen,
     /// The message is text, and with this payload nothing makes it UTF-8, or it ends here and isn't (section 8.1).
     NotText,
-    /// The payload of a control frame is above 125 bytes or a close reason above 123 (section 5.5), or the message above
-    /// 16,777,216.
+    /// The payload of a control frame is above 125 bytes or a close reason above 123 (section 5.5), or the message
+    /// above 16,777,216.
     TooLong,
     /// The code may not stand in a close frame (section 7.4).
     BadCode,
     /// A growth was refused.
     NoMemory,
 }
+
+/// The name of the cause.
+impl fmt::Display for SendFault {
+    ghost output = { λ cause. Some (fault_name cause) };
+
+    fn fmt<W: fmt::Write>(&self, f: &mut fmt::Formatter<W>) -> fmt::Result {
+        match *self {
+            SendFault::Over => write!(f, "Over"),
+            SendFault::Busy => write!(f, "Busy"),
+            SendFault::NothingOpen => write!(f, "NothingOpen"),
+            SendFault::NotText => write!(f, "NotText"),
+            SendFault::TooLong => write!(f, "TooLong"),
+            SendFault::BadCode => write!(f, "BadCode"),
+            SendFault::NoMemory => write!(f, "NoMemory"),
+        }
+    }
+}
+
+impl Error for SendFault {}

@@ -1,27 +1,31 @@
 //! One endpoint: the bytes that it takes, and the frames that it sends (RFC 6455 sections 5 to 7).
 
-ghost use Rattle.std.specs.Prelude.{◌≡◌, ◌+◌, ◌≤◌, ◌<◌, ℕ, List, [], ◌++◌, length, Bool, true, false, IfOk, OnOk, OnErr};
+ghost use Rattle.std.specs.Prelude.{◌≡◌, ◌+◌, ◌≤◌, ◌<◌, ℕ, List, [], ◌++◌, length, None, Bool, true, false, IfOk};
+ghost use Rattle.std.specs.Prelude.{IsOkAnd, OnOk, OnErr};
 ghost use Rattle.ws_frame.specs.Header.{AreBytes};
 ghost use Rattle.ws_frame.specs.Frame.{Frame};
 ghost use Rattle.ws_session.specs.declared.status.Status.TheVariants.{Lost};
 ghost use Rattle.ws_session.specs.Faults.{open_payload};
 ghost use Rattle.ws_session.specs.Replies.{reply_to};
-ghost use Rattle.ws_session.specs.Exchange.{HasExchanged, Takes, TakesNothing, is_over};
-ghost use Rattle.ws_session.specs.Judging.{IsJudged};
+ghost use Rattle.ws_session.specs.Exchange.{HasExchanged, is_over};
+ghost use Rattle.ws_session.specs.Taking.{HasTaken, TakesNothing};
+ghost use Rattle.ws_session.specs.Checking.{IsFrameCheck};
 ghost use Rattle.ws_session.specs.Inside.{EndsBetween, CanAnswer, reply_by};
 
 mod replies;
 mod sends;
+mod whole_piece;
 
 use crate::assembly::Assembly;
+use crate::checking::{FrameCheck, check};
 use crate::event::Taken;
-use crate::judging::{Judged, judge};
 use crate::limits::Limits;
-use crate::sending::Sending;
+use crate::outgoing::Outgoing;
 use crate::status::Status;
 use std::alloc::Global;
 use std::marker::Model;
-use ws_frame::{NoMemory, Role};
+use ws_base::NoMemory;
+use ws_frame::Role;
 
 /// One endpoint of a connection: it takes bytes and gives events and bytes. No stream, clock or
 /// random source is its own.
@@ -31,13 +35,13 @@ pub struct Session {
     role: Role,
     limits: Limits,
     assembly: Assembly,
-    rest: Vec<u8>,
-    sending: Sending,
+    partial_frame: Vec<u8>,
+    sending: Outgoing,
     status: Status,
 }
 
 /// Whether messages are sent back.
-#[derive(Clone, Copy, Debug, PartialEq, Eq)]
+#[derive(Clone, Copy, PartialEq, Eq)]
 pub(crate) enum Answering {
     Plain,
     Echoing,
@@ -51,9 +55,24 @@ impl Model for Session {
 
     ghost use Rattle.ws_session.specs.Inside.{IsSound};
 
-    ghost view = { λ s. record { role = s.role; limits = s.limits; opened = s.assembly; rest = s.rest.items; sending = s.sending; status = s.status } };
+    ghost view = { λ s. record {
+      role = s.role;
+      limits = s.limits;
+      opened = s.assembly;
+      partial_frame = s.partial_frame.items;
+      sending = s.sending;
+      status = s.status;
+    } };
 
-    ghost invariant = { λ s. IsSound (record { role = s.role; limits = s.limits; opened = s.assembly; rest = s.rest.items; sending = s.sending; status = s.status }) };
+    ghost invariant = { λ s. IsSound
+        (record {
+          role = s.role;
+          limits = s.limits;
+          opened = s.assembly;
+          partial_frame = s.partial_frame.items;
+          sending = s.sending;
+          status = s.status;
+        }) };
 }
 
 impl Session {
@@ -70,8 +89,8 @@ impl Session {
             role,
             limits,
             assembly: Assembly::new(),
-            rest: Vec::new(alloc),
-            sending: Sending::new(),
+            partial_frame: Vec::new(alloc),
+            sending: Outgoing::new(),
             status: Status::Open,
         }
     }
@@ -86,26 +105,27 @@ impl Session {
     /// The number of input bytes that are kept: those of the open message and of the unfinished frame,
     /// at most 139 more than the limit of a message, and none once the session is over.
     pub fn held(&self) -> usize
-        ensures held { result ≡ length (open_payload self.now.opened) + length self.now.rest }
+        ensures held { result ≡ length (open_payload self.now.opened) + length self.now.partial_frame }
         ensures bound { result ≤ self.now.limits.max_message + 139 }
         ensures over { is_over self.now.status ≡ true → result ≡ 0 }
     {
-        self.assembly.len() + self.rest.len()
+        self.assembly.len() + self.partial_frame.len()
     }
 
-    /// The stream has ended: a session that waits for the other's close is lost. One that is over stays
-    /// as it is.
+    /// The stream has ended: a session that waits for the other's close is lost, and keeps neither its open message nor
+    /// the unfinished frame. One that is over stays as it is.
     pub fn end(&mut self)
         ensures exchanged { (sent : List Frame) (bytes : List ℕ) (ended : Bool) →
             HasExchanged self.old sent bytes ended → HasExchanged self.new sent bytes true }
         ensures lost { is_over self.old.status ≡ false → self.new.status ≡ Lost }
+        ensures forgets { is_over self.old.status ≡ false → (self.new.opened ≡ None) × (self.new.partial_frame ≡ []) }
         ensures over { is_over self.old.status ≡ true → self.new ≡ self.old }
         ensures role { self.new.role ≡ self.old.role }
         ensures limits { self.new.limits ≡ self.old.limits }
         ensures sending { self.new.sending ≡ self.old.sending }
     {
         if !self.status.is_over() {
-            self.over(Status::Lost);
+            self.end_with(Status::Lost);
         }
     }
 
@@ -114,13 +134,16 @@ impl Session {
     /// rest of the piece. Once the session is over a piece is used whole and says nothing.
     /// `NoMemory` where a growth was refused: then nothing is taken and nothing changed.
     pub fn take(&mut self, piece: &[u8], key: [u8; 4], out: &mut Vec<u8>) -> Result<Taken, NoMemory>
-        ensures taken { is_over self.old.status ≡ false → (sent : List Frame) (bytes : List ℕ) (ended : Bool) → HasExchanged self.old sent bytes ended →
-            IfOk result (λ taken. Takes reply_to self.old self.new sent bytes piece.now ended key out.old.items out.new.items taken) }
-        ensures over { is_over self.old.status ≡ true →
-            IfOk result (λ taken. TakesNothing self.old self.new piece.now out.old.items out.new.items taken) }
+        ensures taken { IfOk result (λ taken. HasTaken reply_to self.old self.new
+            (record { piece = piece.now; key = key; before = out.old.items; after = out.new.items }) taken) }
+        ensures over { is_over self.old.status ≡ true → IsOkAnd result (λ taken. TakesNothing self.old self.new
+            (record { piece = piece.now; key = key; before = out.old.items; after = out.new.items }) taken) }
 
         // At least one byte is used where there is one, and want of memory leaves all as it was.
-        ensures used { IfOk result (λ taken. (0 < length piece.now → 0 < taken.used) × (taken.used ≤ length piece.now)) }
+        ensures used { IfOk result (λ taken. (0 < length piece.now → 0 < taken.used)
+            × (taken.used ≤ length piece.now)) }
+        ensures role { self.new.role ≡ self.old.role }
+        ensures limits { self.new.limits ≡ self.old.limits }
         ensures kept { OnErr result ((self.new ≡ self.old) × (out.new.items ≡ out.old.items)) }
     {
         let taken = self.take_by(Answering::Plain, piece, key, out)?;
@@ -136,11 +159,14 @@ impl Session {
         out: &mut Vec<u8>,
     ) -> Result<Taken, NoMemory>
         requires { CanAnswer answering self.old.sending }
-        ensures taken { is_over self.old.status ≡ false → (sent : List Frame) (bytes : List ℕ) (ended : Bool) → HasExchanged self.old sent bytes ended →
-            IfOk result (λ taken. Takes (reply_by answering) self.old self.new sent bytes piece.now ended key out.old.items out.new.items taken) }
-        ensures over { is_over self.old.status ≡ true →
-            IfOk result (λ taken. TakesNothing self.old self.new piece.now out.old.items out.new.items taken) }
-        ensures used { IfOk result (λ taken. (0 < length piece.now → 0 < taken.used) × (taken.used ≤ length piece.now)) }
+        ensures taken { IfOk result (λ taken. HasTaken (reply_by answering) self.old self.new
+            (record { piece = piece.now; key = key; before = out.old.items; after = out.new.items }) taken) }
+        ensures over { is_over self.old.status ≡ true → IsOkAnd result (λ taken. TakesNothing self.old self.new
+            (record { piece = piece.now; key = key; before = out.old.items; after = out.new.items }) taken) }
+        ensures role { self.new.role ≡ self.old.role }
+        ensures limits { self.new.limits ≡ self.old.limits }
+        ensures used { IfOk result (λ taken. (0 < length piece.now → 0 < taken.used)
+            × (taken.used ≤ length piece.now)) }
         ensures sending { self.new.sending ≡ self.old.sending }
         ensures kept { OnErr result ((self.new ≡ self.old) × (out.new.items ≡ out.old.items)) }
     {
@@ -150,24 +176,24 @@ impl Session {
                 event: None,
             });
         }
-        match self.judge(piece)? {
-            Judged::Part => {
-                self.rest.extend_from_slice(piece)?;
+        match self.check(piece)? {
+            FrameCheck::Need => {
+                self.partial_frame.extend_from_slice(piece)?;
                 Ok(Taken {
                     used: piece.len(),
                     event: None,
                 })
             }
-            Judged::Whole { used, content } => {
-                let used = used - self.rest.len();
+            FrameCheck::Whole { used, content } => {
+                let used = used - self.partial_frame.len();
                 let event = self.on_content(answering, content, key, out)?;
                 Ok(Taken {
                     used,
                     event: Some(event),
                 })
             }
-            Judged::Fault { reason, place } => {
-                let used = place - self.rest.len();
+            FrameCheck::Fault { reason, place } => {
+                let used = place - self.partial_frame.len();
                 let event = self.on_fault(reason, key, out)?;
                 Ok(Taken {
                     used,
@@ -177,15 +203,17 @@ impl Session {
         }
     }
 
-    /// Judges the unfinished frame with the piece behind it.
-    fn judge(&self, piece: &[u8]) -> Result<Judged, NoMemory>
-        ensures judged { IfOk result (λ judged. IsJudged self.now.role self.now.limits self.now.opened (self.now.rest ++ piece.now) judged) }
-        ensures ends { IfOk result (λ judged. EndsBetween (length self.now.rest) (length self.now.rest + length piece.now) judged) }
-        ensures bytes { OnOk result (AreBytes (self.now.rest ++ piece.now)) }
+    /// Checks the unfinished frame with the piece after it.
+    fn check(&self, piece: &[u8]) -> Result<FrameCheck, NoMemory>
+        ensures checked { IfOk result (λ check. IsFrameCheck self.now.role self.now.limits self.now.opened
+            (self.now.partial_frame ++ piece.now) check) }
+        ensures ends { IfOk result (λ check. EndsBetween (length self.now.partial_frame)
+            (length self.now.partial_frame + length piece.now) check) }
+        ensures bytes { OnOk result (AreBytes (self.now.partial_frame ++ piece.now)) }
     {
-        let mut bytes = Vec::from_slice(self.alloc, &self.rest)?;
+        let mut bytes = Vec::from_slice(self.alloc, &self.partial_frame)?;
         bytes.extend_from_slice(piece)?;
-        let judged = judge(self.alloc, self.role, self.limits, &self.assembly, &bytes)?;
-        Ok(judged)
+        let check = check(self.alloc, self.role, self.limits, &self.assembly, &bytes)?;
+        Ok(check)
     }
 }

@@ -1,26 +1,28 @@
 //! What a session does with a whole frame or a fault, and what it puts for it (RFC 6455 sections 5.4, 5.5 and 7.1).
 //! Growth comes first: where it is refused nothing has changed.
 
-ghost use Rattle.std.specs.Prelude.{◌≡◌, ◌+◌, ◌≤◌, ◌<◌, [], ◌∷◌, ◌++◌, length, true, false, if◌then◌else◌, IfOk, OnOk, OnErr, Some, None};
-ghost use Rattle.ws_frame.specs.Frame.{Frame, CanBeSent, frame_bytes};
+ghost use Rattle.std.specs.Prelude.{◌≡◌, ◌+◌, ◌≤◌, ◌<◌, [], ◌∷◌, ◌++◌, length, true, false, if◌then◌else◌, IfOk, OnOk};
+ghost use Rattle.std.specs.Prelude.{OnErr, Some, None};
+ghost use Rattle.ws_frame.specs.Frame.{Frame, FitsTheLayout, frame_bytes};
 ghost use Rattle.ws_session.specs.declared.session.Answering.{Answering};
 ghost use Rattle.ws_session.specs.declared.event.Event.TheVariants as Event;
 ghost use Rattle.ws_session.specs.Faults.{open_payload};
 ghost use Rattle.ws_session.specs.Replies.{control_frame, under_key};
 ghost use Rattle.ws_session.specs.Exchange.{is_over};
 ghost use Rattle.ws_session.specs.Assembly.{message_plus, IsTextOf};
-ghost use Rattle.ws_session.specs.Judging.{FitsIn, IsContentRead, event_of_content, opened_after};
+ghost use Rattle.ws_session.specs.Checking.{FitsIn, IsContentRead, event_of_content, opened_after};
 ghost use Rattle.ws_session.specs.Inside.{HasActed, put_for, reply_by, reply_to_message};
 
 use crate::assembly::Assembly;
+use crate::checking::Content;
+use crate::control_payload::Small;
 use crate::event::Event;
-use crate::judging::Content;
 use crate::message::{Kind, Message};
 use crate::reason::Reason;
 use crate::session::{Answering, Session};
-use crate::small::Small;
 use crate::status::Status;
-use ws_frame::{Header, NoMemory, Role, append_frame};
+use ws_base::NoMemory;
+use ws_frame::{Header, Role, append_frame};
 use ws_text::{Close, Utf8Stream};
 
 /// The opcodes of the control frames that are put as replies (section 5.5).
@@ -41,7 +43,8 @@ impl Session {
         requires read { IsContentRead self.old.opened content }
         requires fits { FitsIn self.old.limits self.old.opened content }
         ensures event { IfOk result (λ event. event ≡ event_of_content self.old.opened content) }
-        ensures acted { IfOk result (λ event. HasActed answering self.old self.new key out.old.items out.new.items event (opened_after self.old.opened content)) }
+        ensures acted { IfOk result (λ event. HasActed answering self.old self.new key out.old.items out.new.items event
+            (opened_after self.old.opened content)) }
         ensures kept { OnErr result ((self.new ≡ self.old) × (out.new.items ≡ out.old.items)) }
     {
         match content {
@@ -83,20 +86,26 @@ impl Session {
         requires going { is_over self.old.status ≡ false }
         requires read { IsTextOf (message_plus self.old.opened kind payload.items) text }
         requires fits { length (open_payload self.old.opened) + length payload.items ≤ self.old.limits.max_message }
-        ensures event { IfOk result (λ event. event ≡ (if fin then Event.Message (message_plus self.old.opened kind payload.items) else Event.Part)) }
-        ensures after { OnOk result (self.new ≡ record self.old { opened = (if fin then None else Some (message_plus self.old.opened kind payload.items)); rest = [] }) }
-        ensures put { IfOk result (λ event. out.new.items ≡ out.old.items ++ put_for self.old key (reply_by answering event)) }
+        ensures event { IfOk result (λ event. event
+            ≡ (if fin then Event.Message (message_plus self.old.opened kind payload.items) else Event.Part)) }
+        ensures after { OnOk result (self.new
+            ≡ record self.old {
+              opened = (if fin then None else Some (message_plus self.old.opened kind payload.items));
+              partial_frame = [];
+            }) }
+        ensures put { IfOk result (λ event. out.new.items ≡ out.old.items
+            ++ put_for self.old key (reply_by answering event)) }
         ensures kept { OnErr result ((self.new ≡ self.old) × (out.new.items ≡ out.old.items)) }
     {
         if !fin {
             self.assembly.add(kind, payload, text)?;
-            self.rest.clear();
+            self.partial_frame.clear();
             return Ok(Event::Part);
         }
         let message = self.assembly.finished(self.alloc, kind, payload)?;
         self.reply_to_message(answering, &message, key, out)?;
         self.assembly = Assembly::new();
-        self.rest.clear();
+        self.partial_frame.clear();
         Ok(Event::Message(message))
     }
 
@@ -109,7 +118,8 @@ impl Session {
         out: &mut Vec<u8>,
     ) -> Result<(), NoMemory>
         requires { length message.now.payload ≤ 16777216 }
-        ensures put { OnOk result (out.new.items ≡ out.old.items ++ put_for self.now key (reply_to_message answering message.now)) }
+        ensures put { OnOk result (out.new.items ≡ out.old.items
+            ++ put_for self.now key (reply_to_message answering message.now)) }
         ensures kept { OnErr result (out.new.items ≡ out.old.items) }
     {
         if answering == Answering::Plain {
@@ -128,7 +138,8 @@ impl Session {
     ) -> Result<Event, NoMemory>
         requires going { is_over self.old.status ≡ false }
         ensures event { IfOk result (λ event. event ≡ Event.Ping payload) }
-        ensures acted { (answering : Answering) → IfOk result (λ event. HasActed answering self.old self.new key out.old.items out.new.items event self.old.opened) }
+        ensures acted { (answering : Answering) → IfOk result (λ event.
+            HasActed answering self.old self.new key out.old.items out.new.items event self.old.opened) }
         ensures kept { OnErr result ((self.new ≡ self.old) × (out.new.items ≡ out.old.items)) }
     {
         self.reply(PONG, payload.as_slice(), key, out)?;
@@ -145,18 +156,19 @@ impl Session {
     ) -> Result<Event, NoMemory>
         requires going { is_over self.old.status ≡ false }
         ensures event { IfOk result (λ event. event ≡ Event.Close close) }
-        ensures acted { (answering : Answering) → IfOk result (λ event. HasActed answering self.old self.new key out.old.items out.new.items event self.old.opened) }
+        ensures acted { (answering : Answering) → IfOk result (λ event.
+            HasActed answering self.old self.new key out.old.items out.new.items event self.old.opened) }
         ensures kept { OnErr result ((self.new ≡ self.old) × (out.new.items ≡ out.old.items)) }
     {
         match &close {
             None => {
                 self.reply(CLOSE, &[], key, out)?;
-                self.over(Status::Clean(None));
+                self.end_with(Status::Clean(None));
             }
             Some(given) => {
                 let code = given.code();
                 self.reply(CLOSE, &code.to_be_bytes(), key, out)?;
-                self.over(Status::Clean(Some(code)));
+                self.end_with(Status::Clean(Some(code)));
             }
         }
         Ok(Event::Close(close))
@@ -171,11 +183,12 @@ impl Session {
     ) -> Result<Event, NoMemory>
         requires going { is_over self.old.status ≡ false }
         ensures event { IfOk result (λ event. event ≡ Event.Failed reason) }
-        ensures acted { (answering : Answering) → IfOk result (λ event. HasActed answering self.old self.new key out.old.items out.new.items event None) }
+        ensures acted { (answering : Answering) →
+            IfOk result (λ event. HasActed answering self.old self.new key out.old.items out.new.items event None) }
         ensures kept { OnErr result ((self.new ≡ self.old) × (out.new.items ≡ out.old.items)) }
     {
         self.reply(CLOSE, &reason.close_code().to_be_bytes(), key, out)?;
-        self.over(Status::Failed(reason));
+        self.end_with(Status::Failed(reason));
         Ok(Event::Failed(reason))
     }
 
@@ -189,7 +202,8 @@ impl Session {
     ) -> Result<(), NoMemory>
         requires opcode { opcode < 16 }
         requires short { length payload.now ≤ 16777216 }
-        ensures put { OnOk result (out.new.items ≡ out.old.items ++ put_for self.now key (control_frame opcode payload.now ∷ [])) }
+        ensures put { OnOk result (out.new.items ≡ out.old.items
+            ++ put_for self.now key (control_frame opcode payload.now ∷ [])) }
         ensures kept { OnErr result (out.new.items ≡ out.old.items) }
     {
         if self.status == Status::Closing {
@@ -211,7 +225,8 @@ impl Session {
         requires opcode { opcode < 16 }
         requires short { length payload.now ≤ 16777216 }
         ensures put { let frame : Frame = record { fin = fin; rsv = 0; opcode = opcode; payload = payload.now }
-            in OnOk result ((out.new.items ≡ out.old.items ++ frame_bytes (under_key self.now.role key frame)) × CanBeSent (under_key self.now.role key frame)) }
+            in OnOk result ((out.new.items ≡ out.old.items ++ frame_bytes (under_key self.now.role key frame))
+            × FitsTheLayout (under_key self.now.role key frame)) }
         ensures kept { OnErr result (out.new.items ≡ out.old.items) }
     {
         let key = match self.role {
@@ -227,18 +242,18 @@ impl Session {
 
     /// A control frame has ended: nothing is left of it.
     fn frame_ends(&mut self)
-        ensures { self.new ≡ record self.old { rest = [] } }
+        ensures { self.new ≡ record self.old { partial_frame = [] } }
     {
-        self.rest.clear();
+        self.partial_frame.clear();
     }
 
     /// All is over: nothing is kept any more.
-    pub(super) fn over(&mut self, status: Status)
+    pub(super) fn end_with(&mut self, status: Status)
         requires { is_over status ≡ true }
-        ensures { self.new ≡ record self.old { opened = None; rest = []; status = status } }
+        ensures { self.new ≡ record self.old { opened = None; partial_frame = []; status = status } }
     {
         self.assembly = Assembly::new();
-        self.rest = Vec::new(self.alloc);
+        self.partial_frame = Vec::new(self.alloc);
         self.status = status;
     }
 }

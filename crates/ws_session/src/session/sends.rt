@@ -1,24 +1,24 @@
 //! The frames that an endpoint sends of its own accord (RFC 6455 sections 5.4, 5.5 and 7.1).
 //!
-//! Each call judges first, in the order of `SendFault`, and takes no memory for that. Then it puts the frame at the end of
-//! `out`, and last it changes the session.
+//! Each call checks first, in the order of `SendFault`, and takes no memory for that. Then it puts the frame at the end
+//! of `out`, and last it changes the session.
 
-ghost use Rattle.std.specs.Prelude.{◌≡◌, ◌≢◌, ◌≤◌, ◌<◌, ℕ, List, length, Bool, Option, IfSome, IfErr, OnOk, OnErr, MatchResult, Some, ◌++◌};
-ghost use Rattle.ws_frame.specs.Frame.{Frame, CanBeSent, frame_bytes};
+ghost use Rattle.std.specs.Prelude.{◌≡◌, ◌≢◌, ◌≤◌, ◌<◌, length, Option, IfSome, IfErr, OnOk, OnErr, MatchResult, Some};
+ghost use Rattle.std.specs.Prelude.{◌++◌};
+ghost use Rattle.ws_frame.specs.Frame.{Frame, FitsTheLayout, frame_bytes};
 ghost use Rattle.ws_text.specs.Text.{IsText};
 ghost use Rattle.ws_text.specs.Close.{CloseValue};
 ghost use Rattle.ws_session.specs.declared.send_fault.SendFault.TheVariants as SendFault;
 ghost use Rattle.ws_session.specs.declared.status.Status.TheVariants as Status;
-ghost use Rattle.ws_session.specs.Exchange.{HasExchanged};
-ghost use Rattle.ws_session.specs.Sends.{Begin, More, Ping, Pong, Close, close_given, IsRefusal, Sends};
-ghost use Rattle.ws_session.specs.Sending.{IsFineWith, IsFirstWrongWith};
+ghost use Rattle.ws_session.specs.Sends.{Begin, More, Ping, Pong, Close, close_given, IsRefusedBy, HasSent};
+ghost use Rattle.ws_session.specs.Outgoing.{IsFineWith, IsFirstWrongWith};
 ghost use Rattle.ws_session.specs.Replies.{under_key};
 ghost use Rattle.ws_session.specs.declared.message.Message.{Message};
 
+use crate::control_payload::Small;
 use crate::message::Kind;
 use crate::send_fault::SendFault;
 use crate::session::Session;
-use crate::small::Small;
 use crate::status::Status;
 use ws_text::laws::str_is_text;
 use ws_text::{MAX_REASON, code_allowed};
@@ -45,14 +45,13 @@ impl Session {
         key: [u8; 4],
         out: &mut Vec<u8>,
     ) -> Result<(), SendFault>
-        ensures sent { (sent : List Frame) (bytes : List ℕ) (ended : Bool) → HasExchanged self.old sent bytes ended →
-            OnOk result (Sends self.old self.new sent bytes ended (Begin kind payload.now fin) key out.old.items out.new.items) }
-        ensures refused { (sent : List Frame) (bytes : List ℕ) (ended : Bool) → HasExchanged self.old sent bytes ended →
-            IfErr result (λ fault. IsRefusal sent self.old.status (Begin kind payload.now fin) fault) }
+        ensures sent { OnOk result (HasSent self.old self.new
+            (Begin kind payload.now fin) key out.old.items out.new.items) }
+        ensures refused { IfErr result (IsRefusedBy self.old (Begin kind payload.now fin)) }
         ensures kept { OnErr result ((self.new ≡ self.old) × (out.new.items ≡ out.old.items)) }
     {
         self.may_send()?;
-        let sending = self.sending.begun(kind, payload, fin)?;
+        let sending = self.sending.after_first(kind, payload, fin)?;
         self.send(fin, kind.opcode(), payload, key, out)?;
         self.sending = sending;
         Ok(())
@@ -66,14 +65,12 @@ impl Session {
         key: [u8; 4],
         out: &mut Vec<u8>,
     ) -> Result<(), SendFault>
-        ensures sent { (sent : List Frame) (bytes : List ℕ) (ended : Bool) → HasExchanged self.old sent bytes ended →
-            OnOk result (Sends self.old self.new sent bytes ended (More payload.now fin) key out.old.items out.new.items) }
-        ensures refused { (sent : List Frame) (bytes : List ℕ) (ended : Bool) → HasExchanged self.old sent bytes ended →
-            IfErr result (λ fault. IsRefusal sent self.old.status (More payload.now fin) fault) }
+        ensures sent { OnOk result (HasSent self.old self.new (More payload.now fin) key out.old.items out.new.items) }
+        ensures refused { IfErr result (IsRefusedBy self.old (More payload.now fin)) }
         ensures kept { OnErr result ((self.new ≡ self.old) × (out.new.items ≡ out.old.items)) }
     {
         self.may_send()?;
-        let sending = self.sending.gone_on(payload, fin)?;
+        let sending = self.sending.after_next(payload, fin)?;
         self.send(fin, CONTINUATION, payload, key, out)?;
         self.sending = sending;
         Ok(())
@@ -81,10 +78,8 @@ impl Session {
 
     /// Sends a ping of at most 125 bytes at the end of `out`.
     pub fn ping(&mut self, payload: &[u8], key: [u8; 4], out: &mut Vec<u8>) -> Result<(), SendFault>
-        ensures sent { (sent : List Frame) (bytes : List ℕ) (ended : Bool) → HasExchanged self.old sent bytes ended →
-            OnOk result (Sends self.old self.new sent bytes ended (Ping payload.now) key out.old.items out.new.items) }
-        ensures refused { (sent : List Frame) (bytes : List ℕ) (ended : Bool) → HasExchanged self.old sent bytes ended →
-            IfErr result (λ fault. IsRefusal sent self.old.status (Ping payload.now) fault) }
+        ensures sent { OnOk result (HasSent self.old self.new (Ping payload.now) key out.old.items out.new.items) }
+        ensures refused { IfErr result (IsRefusedBy self.old (Ping payload.now)) }
         ensures kept { OnErr result ((self.new ≡ self.old) × (out.new.items ≡ out.old.items)) }
     {
         self.may_send()?;
@@ -95,10 +90,8 @@ impl Session {
 
     /// Sends a pong of at most 125 bytes at the end of `out`, which no ping asked for. Pings are answered by `take`.
     pub fn pong(&mut self, payload: &[u8], key: [u8; 4], out: &mut Vec<u8>) -> Result<(), SendFault>
-        ensures sent { (sent : List Frame) (bytes : List ℕ) (ended : Bool) → HasExchanged self.old sent bytes ended →
-            OnOk result (Sends self.old self.new sent bytes ended (Pong payload.now) key out.old.items out.new.items) }
-        ensures refused { (sent : List Frame) (bytes : List ℕ) (ended : Bool) → HasExchanged self.old sent bytes ended →
-            IfErr result (λ fault. IsRefusal sent self.old.status (Pong payload.now) fault) }
+        ensures sent { OnOk result (HasSent self.old self.new (Pong payload.now) key out.old.items out.new.items) }
+        ensures refused { IfErr result (IsRefusedBy self.old (Pong payload.now)) }
         ensures kept { OnErr result ((self.new ≡ self.old) × (out.new.items ≡ out.old.items)) }
     {
         self.may_send()?;
@@ -115,10 +108,9 @@ impl Session {
         key: [u8; 4],
         out: &mut Vec<u8>,
     ) -> Result<(), SendFault>
-        ensures sent { (sent : List Frame) (bytes : List ℕ) (ended : Bool) → HasExchanged self.old sent bytes ended →
-            OnOk result (Sends self.old self.new sent bytes ended (Close (close_given given.entry)) key out.old.items out.new.items) }
-        ensures refused { (sent : List Frame) (bytes : List ℕ) (ended : Bool) → HasExchanged self.old sent bytes ended →
-            IfErr result (λ fault. IsRefusal sent self.old.status (Close (close_given given.entry)) fault) }
+        ensures sent { OnOk result (HasSent self.old self.new
+            (Close (close_given given.entry)) key out.old.items out.new.items) }
+        ensures refused { IfErr result (IsRefusedBy self.old (Close (close_given given.entry))) }
         ensures kept { OnErr result ((self.new ≡ self.old) × (out.new.items ≡ out.old.items)) }
 
         // A `str` holds a text.
@@ -140,7 +132,8 @@ impl Session {
 
     /// Whether a frame may be sent at all.
     fn may_send(&self) -> Result<(), SendFault>
-        ensures { MatchResult result (λ done. self.now.status ≡ Status.Open) (λ fault. (fault ≡ SendFault.Over) × (self.now.status ≢ Status.Open)) }
+        ensures { MatchResult result (λ done. self.now.status ≡ Status.Open)
+            (λ fault. (fault ≡ SendFault.Over) × (self.now.status ≢ Status.Open)) }
     {
         if self.status != Status::Open {
             return Err(SendFault::Over);
@@ -160,7 +153,8 @@ impl Session {
         requires opcode { opcode < 16 }
         requires short { length payload.now ≤ 16777216 }
         ensures put { let frame : Frame = record { fin = fin; rsv = 0; opcode = opcode; payload = payload.now }
-            in OnOk result ((out.new.items ≡ out.old.items ++ frame_bytes (under_key self.now.role key frame)) × CanBeSent (under_key self.now.role key frame)) }
+            in OnOk result ((out.new.items ≡ out.old.items ++ frame_bytes (under_key self.now.role key frame))
+            × FitsTheLayout (under_key self.now.role key frame)) }
         ensures kept { IfErr result (λ fault. (fault ≡ SendFault.NoMemory) × (out.new.items ≡ out.old.items)) }
     {
         if self.put(fin, opcode, payload, key, out).is_err() {
@@ -172,7 +166,8 @@ impl Session {
 
 /// Whether a control frame can hold the payload.
 fn fits_control(payload: &[u8]) -> Result<(), SendFault>
-    ensures { MatchResult result (λ done. length payload.now ≤ 125) (λ fault. (fault ≡ SendFault.TooLong) × (125 < length payload.now)) }
+    ensures { MatchResult result (λ done. length payload.now ≤ 125)
+        (λ fault. (fault ≡ SendFault.TooLong) × (125 < length payload.now)) }
 {
     if payload.len() > MAX_CONTROL_PAYLOAD {
         return Err(SendFault::TooLong);
@@ -183,7 +178,9 @@ fn fits_control(payload: &[u8]) -> Result<(), SendFault>
 /// Whether a close frame may say this.
 fn fits_close(code: u16, reason: &str) -> Result<(), SendFault>
     ensures { let close : CloseValue = record { code = code; reason = reason.now }
-        in (opened : Option Message) → MatchResult result (λ done. IsFineWith opened (Close (Some close)) × (length reason.now ≤ 123) × (code < 65536)) (λ fault. IsFirstWrongWith opened (Close (Some close)) fault) }
+        in (opened : Option Message) →
+        MatchResult result (λ done. IsFineWith opened (Close (Some close)) × (length reason.now ≤ 123)
+        × (code < 65536)) (λ fault. IsFirstWrongWith opened (Close (Some close)) fault) }
 {
     if reason.len() > MAX_REASON {
         return Err(SendFault::TooLong);

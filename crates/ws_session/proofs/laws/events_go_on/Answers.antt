@@ -1,4 +1,4 @@
-use Rattle.ws_session.proofs.Growth.{events_front}
+use Rattle.ws_session.proofs.EventsGoOn.{events_front}
 use Rattle.ws_session.proofs.laws.events_go_on.Goals as goal
 
 pub returns : goal.returns

@@ -1,4 +1,4 @@
-use Rattle.ws_session.proofs.ToldMessages.{messages_told}
+use Rattle.ws_session.proofs.FinishedMessages.{messages_told}
 use Rattle.ws_session.proofs.laws.messages_are_told.Goals as goal
 
 pub returns : goal.returns

@@ -1,4 +1,4 @@
-use Rattle.ws_session.proofs.Growth.{one_events}
+use Rattle.ws_session.proofs.EventsGoOn.{one_events}
 use Rattle.ws_session.proofs.laws.one_list_of_events.Goals as goal
 
 pub returns : goal.returns

@@ -1,4 +1,4 @@
-use Rattle.ws_session.proofs.SentValid.{send_stays_valid}
+use Rattle.ws_session.proofs.SendsStayValid.{send_stays_valid}
 use Rattle.ws_session.proofs.laws.sends_stay_valid.Goals as goal
 
 pub returns : goal.returns

@@ -1,4 +1,4 @@
-use Rattle.ws_session.proofs.Told.{told_events}
+use Rattle.ws_session.proofs.ValidTold.{told_events}
 use Rattle.ws_session.proofs.laws.valid_frames_are_told.Goals as goal
 
 pub returns : goal.returns

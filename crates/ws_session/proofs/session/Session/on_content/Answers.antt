@@ -1,6 +1,6 @@
 use Rattle.std.proofs.Common.{sym, subst}
-use Rattle.ws_session.specs.declared.judging.Content.{Content}
-use Rattle.ws_session.specs.Judging.{opened_after}
+use Rattle.ws_session.specs.declared.checking.Content.{Content}
+use Rattle.ws_session.specs.Checking.{opened_after}
 use Rattle.ws_session.specs.Inside.{HasActed}
 use Rattle.ws_session.proofs.session.Session.on_content.Goals as goal
 

@@ -1,0 +1,11 @@
+use Rattle.std.proofs.Common.{rules, ◌≡◌, Some}
+use Rattle.ws_session.specs.declared.outgoing.SentSoFar.TheVariants as so_far
+use Rattle.ws_session.specs.Outgoing.{sending_of, HasReadSome}
+use Rattle.ws_session.proofs.SendCalls.{text_checked}
+use Rattle.ws_session.proofs.outgoing.Outgoing.after_next.Goals as goal
+
+pub returns-in-Some-Text-clause-checked : goal.returns-in-Some-Text-clause-checked
+returns-in-Some-Text-clause-checked c = λ opened is.
+    let view : sending_of (Some (so_far.Text c.in-Some-Text.size c.in-Some-Text.text)) ≡ c.args.self.now = search rules in
+    let some : HasReadSome c.in-Some-Text.text = search rules in
+    text_checked _ c.in-Some-Text.size c.in-Some-Text.text c.args.payload.now c.args.fin c.args.self.now opened view is some c.after_text.ensures.checked

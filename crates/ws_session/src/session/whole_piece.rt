@@ -1,0 +1,99 @@
+//! A piece that is taken whole, whatever number of frames it holds (RFC 6455 section 5.4).
+
+ghost use Rattle.std.specs.Prelude.{◌≡◌, ◌+◌, ◌^◌, ◌≤◌, ◌<◌, length, true, IsOk, IfOk, IfErr, OnErr};
+ghost use Rattle.ws_session.specs.Replies.{reply_to};
+ghost use Rattle.ws_session.specs.Exchange.{is_over};
+ghost use Rattle.ws_session.specs.Taking.{HasTakenAll, front_taken};
+ghost use Rattle.ws_session.specs.Inside.{CanAnswer, HasTakenFront, reply_by};
+
+use crate::event::{PlacedEvent, TakeStop, Taken};
+use crate::session::{Answering, Session};
+use ws_base::NoMemory;
+
+impl Session {
+    /// Takes a whole piece: puts each event that it gives at the end of `events`, with the number of the piece's bytes
+    /// up to there, and what is owed at the end of `out`. `key` masks what a client puts. Bytes after the peer's close
+    /// or a fault say nothing. Once the session is over nothing happens.
+    /// `TakeStop` where a growth was refused: the bytes that it counts were taken, with their events and replies.
+    pub fn take_all(
+        &mut self,
+        piece: &[u8],
+        key: [u8; 4],
+        out: &mut Vec<u8>,
+        events: &mut Vec<PlacedEvent>,
+    ) -> Result<(), TakeStop>
+        ensures taken { HasTakenAll reply_to self.old self.new
+            (record { piece = front_taken piece.now result; key = key; before = out.old.items; after = out.new.items })
+            events.old.items events.new.items }
+        ensures over { is_over self.old.status ≡ true → IsOk result × (self.new ≡ self.old)
+            × (out.new.items ≡ out.old.items) × (events.new.items ≡ events.old.items) }
+
+        // Where memory ran out some bytes are left.
+        ensures used { IfErr result (λ stop. stop.used < length piece.now) }
+        ensures role { self.new.role ≡ self.old.role }
+        ensures limits { self.new.limits ≡ self.old.limits }
+    {
+        self.take_all_by(Answering::Plain, piece, key, out, events)?;
+        Ok(())
+    }
+
+    /// Takes a whole piece as `take_all` does, and where it is echoing sends each message back.
+    pub(crate) fn take_all_by(
+        &mut self,
+        answering: Answering,
+        piece: &[u8],
+        key: [u8; 4],
+        out: &mut Vec<u8>,
+        events: &mut Vec<PlacedEvent>,
+    ) -> Result<(), TakeStop>
+        requires { CanAnswer answering self.old.sending }
+        ensures taken { HasTakenAll (reply_by answering) self.old self.new
+            (record { piece = front_taken piece.now result; key = key; before = out.old.items; after = out.new.items })
+            events.old.items events.new.items }
+        ensures over { is_over self.old.status ≡ true → IsOk result × (self.new ≡ self.old)
+            × (out.new.items ≡ out.old.items) × (events.new.items ≡ events.old.items) }
+        ensures used { IfErr result (λ stop. stop.used < length piece.now) }
+        ensures sending { self.new.sending ≡ self.old.sending }
+    {
+        let mut used = 0;
+        while used < piece.len() && !self.status.is_over() {
+            match self.take_front(answering, &piece[used..], used, key, out, events) {
+                Ok(more) => used += more,
+                Err(_) => return Err(TakeStop { used }),
+            }
+        }
+        Ok(())
+    }
+
+    /// Takes the front of what is left of a piece, of which so many bytes were taken before, as much as one call takes:
+    /// how much that is. `NoMemory` leaves all as it was.
+    fn take_front(
+        &mut self,
+        answering: Answering,
+        piece: &[u8],
+        before: usize,
+        key: [u8; 4],
+        out: &mut Vec<u8>,
+        events: &mut Vec<PlacedEvent>,
+    ) -> Result<usize, NoMemory>
+        requires answering { CanAnswer answering self.old.sending }
+        requires room { before + length piece.now < 2 ^ 64 }
+        ensures used { IfOk result (λ used. (0 < length piece.now → 0 < used) × (used ≤ length piece.now)) }
+        ensures taken { IfOk result (λ used. HasTakenFront (reply_by answering) self.old self.new
+            (record { piece = piece.now; key = key; before = out.old.items; after = out.new.items })
+            before used events.old.items events.new.items) }
+        ensures sending { self.new.sending ≡ self.old.sending }
+        ensures kept { OnErr result ((self.new ≡ self.old) × (out.new.items ≡ out.old.items)
+            × (events.new.items ≡ events.old.items)) }
+    {
+        events.reserve(1)?;
+        let Taken { used, event } = self.take_by(answering, piece, key, out)?;
+        if let Some(event) = event {
+            events.push_reserved(PlacedEvent {
+                event,
+                end: before + used,
+            });
+        }
+        Ok(used)
+    }
+}
