@@ -14,9 +14,9 @@ use Rattle.ws_session.specs.declared.send_fault.SendFault.{SendFault}
 use Rattle.ws_session.specs.declared.send_fault.SendFault.TheVariants as fault
 use Rattle.ws_session.specs.Faults.{frames_of}
 use Rattle.ws_session.specs.Replies.{replies_of, under_key}
-use Rattle.ws_session.specs.Sends.{Send, frame_of, HasTextReason, MaySend, IsFirstWrong, IsRefusal, Sends}
+use Rattle.ws_session.specs.Sends.{Send, frame_of, HasTextReason, MaySend, IsFirstWrong, HasSent, IsRefusedBy}
 use Rattle.ws_session.specs.Sends as send
-use Rattle.ws_session.specs.Exchange.{HasExchanged}
+use Rattle.ws_session.specs.Exchange.{Exchange}
 use Rattle.ws_pair.specs.declared.moves.End.{End}
 use Rattle.ws_pair.specs.declared.moves.End.TheVariants.{Client, Server}
 use Rattle.ws_pair.specs.declared.moves.Move.{Move}
@@ -25,8 +25,8 @@ use Rattle.ws_pair.specs.declared.report.Answer.{Answer}
 use Rattle.ws_pair.specs.declared.report.Answer.TheVariants as outcome
 use Rattle.ws_pair.specs.declared.endpoint.Endpoint.{Endpoint}
 use Rattle.ws_pair.specs.Link.{LinkEnd, Link, BothLimits, other, role_of, end_of, limits_of, with_end, status_at}
-use Rattle.ws_pair.specs.Moves.{with_sent, IsSendAnswered, newly_told, count_arriving, with_cut, close_given}
-use Rattle.ws_pair.specs.Playing.{side_of, IsToldOf, peer, AreSentBy, IsEnd, grown, Stands, HasMoved, SessionLaws}
+use Rattle.ws_pair.specs.Moves.{side_of, with_sent, IsSendAnswered, newly_told, count_arriving, with_cut, close_given}
+use Rattle.ws_pair.specs.Playing.{IsToldOf, peer, AreSentBy, IsEnd, grown, Stands, HasMoved, SessionLaws}
 use Rattle.ws_pair.proofs.Ends.{status_is, sent_by, unchanged}
 
 same_link : (link : Link) (side : End) → with_end link side (end_of link side) ≡ link
@@ -59,8 +59,8 @@ after_call v session put = record { session = session; put = put; reached = v.re
 
 -- what the calls of a session say of a send, by which the endpoint changed
 pub record HasCalled {X : Type 0} (v w : Endpoint) (what : Send) (key : List ℕ) (sent : Result X SendFault) : Type 0 where
-  pub done : (frames : List Frame) (bytes : List ℕ) (ended : Bool) → HasExchanged v.session frames bytes ended → OnOk sent (Sends v.session w.session frames bytes ended what key v.put.items w.put.items)
-  pub refused : (frames : List Frame) (bytes : List ℕ) (ended : Bool) → HasExchanged v.session frames bytes ended → IfErr sent (λ why. IsRefusal frames v.session.status what why)
+  pub done : OnOk sent (HasSent v.session w.session what key v.put.items w.put.items)
+  pub refused : IfErr sent (IsRefusedBy v.session what)
   pub kept : OnErr sent ((w.session ≡ v.session) × (w.put.items ≡ v.put.items))
   pub text : OnOk sent (HasTextReason what)
   pub reached : w.reached ≡ v.reached
@@ -68,6 +68,13 @@ pub record HasCalled {X : Type 0} (v w : Endpoint) (what : Send) (key : List ℕ
   pub is_cut : w.is_cut ≡ v.is_cut
 
 module _ (laws : SessionLaws) (limits : BothLimits) (link : Link) (side : End) (what : Send) (key : List ℕ) (v w : Endpoint) (is : Stands limits link side v) (peers : AreSentBy (peer (role_of side)) (end_of link (other side)).sent) where
+  abbrev here : Exchange
+  here = record {
+    sent = frames_of (end_of link side).sent;
+    taken = take (end_of link side).reached (stream_bytes (end_of link (other side)).sent);
+    ended = (end_of link side).is_cut;
+  }
+
   status_here : v.session.status ≡ status_at limits link side
   status_here = status_is laws (role_of side) (limits_of limits side) (end_of link (other side)).sent peers (end_of link side) v is
 
@@ -75,7 +82,7 @@ module _ (laws : SessionLaws) (limits : BothLimits) (link : Link) (side : End) (
   is_done done h =
       let x : LinkEnd = end_of link side in
       let one : List KeyedFrame = under_key (role_of side) key (frame_of what) ∷ [] in
-      let t = h.done (frames_of x.sent) (take x.reached (stream_bytes (end_of link (other side)).sent)) x.is_cut is.exchanged in
+      let t = h.done here is.exchanged in
       record {
         end = with_sent x one;
         answered = (subst (λ (s : Status). MaySend (frames_of x.sent) s what) status_here t.may, refl);
@@ -102,12 +109,12 @@ module _ (laws : SessionLaws) (limits : BothLimits) (link : Link) (side : End) (
   send_moved : {X : Type 0} (sent : Result X SendFault) (answer : Answer) → HasCalled v w what key sent → IsToldOf sent answer → HasSentMove limits link side what key answer w
   send_moved (Ok done) answer h e = at_answer outcome.Did answer e (is_done done h)
   send_moved (Err fault.NoMemory) answer h e = absurd e
-  send_moved (Err fault.Over) answer h e = at_answer (outcome.Refused fault.Over) answer e (is_refused fault.Over h (h.refused _ _ _ is.exchanged))
-  send_moved (Err fault.Busy) answer h e = at_answer (outcome.Refused fault.Busy) answer e (is_refused fault.Busy h (h.refused _ _ _ is.exchanged))
-  send_moved (Err fault.NothingOpen) answer h e = at_answer (outcome.Refused fault.NothingOpen) answer e (is_refused fault.NothingOpen h (h.refused _ _ _ is.exchanged))
-  send_moved (Err fault.NotText) answer h e = at_answer (outcome.Refused fault.NotText) answer e (is_refused fault.NotText h (h.refused _ _ _ is.exchanged))
-  send_moved (Err fault.TooLong) answer h e = at_answer (outcome.Refused fault.TooLong) answer e (is_refused fault.TooLong h (h.refused _ _ _ is.exchanged))
-  send_moved (Err fault.BadCode) answer h e = at_answer (outcome.Refused fault.BadCode) answer e (is_refused fault.BadCode h (h.refused _ _ _ is.exchanged))
+  send_moved (Err fault.Over) answer h e = at_answer (outcome.Refused fault.Over) answer e (is_refused fault.Over h (h.refused here is.exchanged))
+  send_moved (Err fault.Busy) answer h e = at_answer (outcome.Refused fault.Busy) answer e (is_refused fault.Busy h (h.refused here is.exchanged))
+  send_moved (Err fault.NothingOpen) answer h e = at_answer (outcome.Refused fault.NothingOpen) answer e (is_refused fault.NothingOpen h (h.refused here is.exchanged))
+  send_moved (Err fault.NotText) answer h e = at_answer (outcome.Refused fault.NotText) answer e (is_refused fault.NotText h (h.refused here is.exchanged))
+  send_moved (Err fault.TooLong) answer h e = at_answer (outcome.Refused fault.TooLong) answer e (is_refused fault.TooLong h (h.refused here is.exchanged))
+  send_moved (Err fault.BadCode) answer h e = at_answer (outcome.Refused fault.BadCode) answer e (is_refused fault.BadCode h (h.refused here is.exchanged))
 
 -- ---- by the kind of send
 

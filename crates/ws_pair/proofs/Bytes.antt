@@ -22,18 +22,6 @@ pub front_of_next : (stream piece : List ℕ) (n u : ℕ) → IsNextIn stream n 
 front_of_next stream piece n u is le =
     ap (λ (l : List ℕ). take n stream ++ take u l) (sym is.is) ∙ ap (λ (l : List ℕ). take n stream ++ l) (take-take u (length piece) (drop n stream) le) ∙ take_plus n u stream
 
--- the rest of a piece stands next behind its front
-pub rest_is_next : (stream piece : List ℕ) (n u : ℕ) → IsNextIn stream n piece → u ≤ length piece → IsNextIn stream (n + u) (drop u piece)
-rest_is_next stream piece n u is le =
-    let len : length (drop u piece) ≡ length piece - u = length-drop u piece in
-    let all : u + (length piece - u) ≡ length piece = omega arith in
-    record {
-      bytes = is.bytes;
-      fits = omega (arith, is.fits);
-      is = ap (λ k. take k (drop (n + u) stream)) len ∙ ap (λ (l : List ℕ). take (length piece - u) l) (sym (drop-drop u n stream)) ∙ sym (drop-take u (length piece - u) (drop n stream))
-          ∙ ap (λ k. drop u (take k (drop n stream))) all ∙ ap (λ (l : List ℕ). drop u l) is.is;
-    }
-
 pub frames_append : (xs ys : List KeyedFrame) → frames_of (xs ++ ys) ≡ frames_of xs ++ frames_of ys
 frames_append xs ys = map-append (λ (x : KeyedFrame). x.frame) xs ys
 

@@ -1,14 +1,14 @@
 -- An endpoint that stands as an end: what it is told, and each step of it.
-use Rattle.std.proofs.Common.{◌≡◌, ℕ, ◌+◌, ◌≤◌, Bool, true, false, List, [], ◌∷◌, ◌++◌, length, take, drop, Option, Some, refl, sym, ap, ◌∙◌, arith, subst}
-use Rattle.std.specs.Prelude.{map, option_to_list}
-use Rattle.std.proofs.lemmas.List.{append-nil, length-append, drop_at}
+use Rattle.std.proofs.Common.{◌≡◌, ℕ, ◌+◌, ◌≤◌, ◌<◌, Bool, true, false, List, [], ◌∷◌, ◌++◌, length, take, drop, Option, Some, refl, sym, ap, ◌∙◌, arith, subst}
+use Rattle.std.specs.Prelude.{map}
+use Rattle.std.proofs.lemmas.List.{append-nil, length-append, drop_at, take_all}
 use Rattle.ws_frame.specs.declared.role.Role.{Role}
 use Rattle.ws_frame.specs.declared.role.Role.TheVariants as role
-use Rattle.ws_frame.specs.Header.{AreBytes, IsKey, is_masked}
-use Rattle.ws_frame.specs.Frame.{Frame, KeyedFrame, CanBeSent, frame_bytes, stream_bytes}
+use Rattle.ws_frame.specs.Header.{AreBytes, IsMaskingKey, is_masked}
+use Rattle.ws_frame.specs.Frame.{Frame, KeyedFrame, FitsTheLayout, frame_bytes, stream_bytes}
 use Rattle.ws_session.specs.declared.message.Message.{Message}
 use Rattle.ws_session.specs.declared.event.Event.{Event}
-use Rattle.ws_session.specs.declared.event.Taken.{Taken}
+use Rattle.ws_session.specs.declared.event.PlacedEvent.{PlacedEvent}
 use Rattle.ws_session.specs.declared.status.Status.{Status}
 use Rattle.ws_session.specs.Limits.{LimitsValue}
 use Rattle.ws_session.specs.Messages.{messages_of}
@@ -17,14 +17,15 @@ use Rattle.ws_session.specs.Faults.{frames_of, KeysFit, expects_key}
 use Rattle.ws_session.specs.Events.{HasEvents, messages_in}
 use Rattle.ws_session.specs.Replies.{reply_to, has_close, replies_of, key_for, under_key}
 use Rattle.ws_session.specs.Sends.{Send, frame_of, most_limits, HasTextReason, Sends}
-use Rattle.ws_session.specs.Exchange.{SessionValue, HasExchanged, Takes, TakesNothing, is_over, status_of}
+use Rattle.ws_session.specs.Exchange.{SessionValue, Exchange, HasExchanged, is_over, status_of}
+use Rattle.ws_session.specs.Taking.{HasTakenAll, TakeCall, TakesAll, events_in}
 use Rattle.ws_session.specs.Reach.{events_within}
 use Rattle.ws_pair.specs.declared.endpoint.Endpoint.{Endpoint}
 use Rattle.ws_pair.specs.Link.{LinkEnd}
 use Rattle.ws_pair.specs.Moves.{with_sent, newly_told}
 use Rattle.ws_pair.specs.Playing.{peer, AreSentBy, IsEnd, grown, SessionLaws, IsNextIn}
-use Rattle.ws_pair.proofs.Bytes.{front_of_next, take_plus, frames_append, frames_under, stream_append, all_append, front_stays, front_bytes}
-use Rattle.ws_pair.proofs.Told.{nothing_owed, status_by, status_told, nothing_more, messages-append, messages_within}
+use Rattle.ws_pair.proofs.Bytes.{front_of_next, frames_append, frames_under, stream_append, all_append, front_stays}
+use Rattle.ws_pair.proofs.Told.{nothing_owed, status_by, status_told, messages-append, messages_within}
 
 back : (role : Role) → peer (peer role) ≡ role
 back role.Client = refl
@@ -34,7 +35,7 @@ pub fitting_key : (role : Role) (key : List ℕ) (f : Frame) → is_masked (unde
 fitting_key role.Client key f = refl
 fitting_key role.Server key f = refl
 
-sending_key : (role : Role) (key : List ℕ) → IsKey (Some key) → IsKey (key_for role key)
+sending_key : (role : Role) (key : List ℕ) → IsMaskingKey (Some key) → IsMaskingKey (key_for role key)
 sending_key role.Client key h = h
 sending_key role.Server key h = tt
 
@@ -47,13 +48,6 @@ fitting_keys role key (f ∷ fs) = (fitting_key role key f, fitting_keys role ke
 module _ (laws : SessionLaws) (role : Role) (limits : LimitsValue) (ys : List KeyedFrame) (peers : AreSentBy (peer role) ys) where
   pub told_at : (n : ℕ) → n ≤ length (stream_bytes ys) → HasEvents role limits (take n (stream_bytes ys)) (events_within limits n ys)
   told_at n le = laws.told role limits most_limits n ys peers.can (subst (λ (r : Role). KeysFit r ys) (back role) peers.keys) peers.valid
-
-  -- more bytes add to what is told
-  pub told_more : (n k : ℕ) → n + k ≤ length (stream_bytes ys) → (later : List Event) × (events_within limits (n + k) ys ≡ events_within limits n ys ++ later)
-  told_more n k le =
-      let less : n ≤ length (stream_bytes ys) = omega arith in
-      laws.go_on role limits (take n (stream_bytes ys)) (take k (drop n (stream_bytes ys))) (events_within limits n ys) (events_within limits (n + k) ys) (told_at n less)
-      (subst (λ (l : List ℕ). HasEvents role limits l (events_within limits (n + k) ys)) (sym (take_plus n k (stream_bytes ys))) (told_at (n + k) le))
 
 -- ---- the status
 
@@ -73,75 +67,57 @@ module _ (laws : SessionLaws) (role : Role) (limits : LimitsValue) (ys : List Ke
       (told_at laws role limits ys peers x.reached is.within))
       ∙ status_told laws limits ys peers.valid x
 
-  -- ---- one call that takes the front of a piece
+  -- ---- a piece that is taken whole
 
-  -- what came of it, where this event was told
-  record Took (key : List ℕ) (u : ℕ) (event : Option Event) (w : Endpoint) : Type 0 where
-    pub told : events_within limits (x.reached + u) ys ≡ events_within limits x.reached ys ++ option_to_list event
-    pub agrees : HasExchanged w.session (frames_of x.sent ++ replies_of (frames_of x.sent) (option_to_list event)) (take (x.reached + u) (stream_bytes ys)) x.is_cut
-    pub put : w.put.items ≡ v.put.items ++ stream_bytes (map (under_key role key) (replies_of (frames_of x.sent) (option_to_list event)))
+  -- what came of it, where these events were told
+  record Took (key : List ℕ) (u : ℕ) (events : List Event) (w : Endpoint) : Type 0 where
+    pub told : events_within limits (x.reached + u) ys ≡ events_within limits x.reached ys ++ events
+    pub agrees : HasExchanged w.session (frames_of x.sent ++ replies_of (frames_of x.sent) events) (take (x.reached + u) (stream_bytes ys)) x.is_cut
+    pub put : w.put.items ≡ v.put.items ++ stream_bytes (map (under_key role key) (replies_of (frames_of x.sent) events))
     pub same : (w.session.role ≡ v.session.role) × (w.session.limits ≡ v.session.limits)
 
-  module _ (key piece : List ℕ) (next : IsNextIn (stream_bytes ys) x.reached piece) (going : x.is_cut ≡ false) (taken : Taken) (le : taken.used ≤ length piece) (w : Endpoint) where
-    fits : x.reached + taken.used ≤ length (stream_bytes ys)
-    fits = omega (arith, next.fits)
+  module _ (key piece : List ℕ) (next : IsNextIn (stream_bytes ys) x.reached piece) (placed : List PlacedEvent) (w : Endpoint) where
+    fits : x.reached + length piece ≤ length (stream_bytes ys)
+    fits = next.fits
 
-    took_going : Takes reply_to v.session w.session (frames_of x.sent) (take x.reached (stream_bytes ys)) piece x.is_cut key v.put.items w.put.items taken → Took key taken.used taken.event w
-    took_going t =
+    abbrev exchange : Exchange
+    exchange = record { sent = frames_of x.sent; taken = take x.reached (stream_bytes ys); ended = x.is_cut }
+
+    abbrev call : TakeCall
+    call = record { piece = piece; key = key; before = v.put.items; after = w.put.items }
+
+    took : TakesAll reply_to v.session w.session exchange call placed → (w.session.role ≡ v.session.role) × (w.session.limits ≡ v.session.limits) → Took key (length piece) (events_in placed) w
+    took t same =
         let n = x.reached in
-        let bytes : take n (stream_bytes ys) ++ take taken.used piece ≡ take (n + taken.used) (stream_bytes ys) = front_of_next (stream_bytes ys) piece n taken.used next le in
+        let u = length piece in
+        let event : List Event = events_in placed in
+        let all : take u piece ≡ piece = take_all u piece (omega arith) in
+        let bytes : take n (stream_bytes ys) ++ piece ≡ take (n + u) (stream_bytes ys) = ap (λ (l : List ℕ). take n (stream_bytes ys) ++ l) (sym all) ∙ front_of_next (stream_bytes ys) piece n u next (omega arith) in
         let before : HasEvents v.session.role v.session.limits (take n (stream_bytes ys)) (events_within limits n ys) = at_own role limits v.session (take n (stream_bytes ys)) (events_within limits n ys) is.role_kept is.limits_kept (told_at laws role limits ys peers n is.within) in
-        let after : HasEvents role limits (take n (stream_bytes ys) ++ take taken.used piece) (events_within limits n ys ++ option_to_list taken.event) =
-        at_role role limits v.session (take n (stream_bytes ys) ++ take taken.used piece) (events_within limits n ys ++ option_to_list taken.event) is.role_kept is.limits_kept (t.event (events_within limits n ys) before) in
+        let after : HasEvents role limits (take n (stream_bytes ys) ++ piece) (events_within limits n ys ++ event) =
+        at_role role limits v.session (take n (stream_bytes ys) ++ piece) (events_within limits n ys ++ event) is.role_kept is.limits_kept (t.events (events_within limits n ys) before) in
         record {
-          told = laws.one_list role limits (take (n + taken.used) (stream_bytes ys)) (events_within limits (n + taken.used) ys) (events_within limits n ys ++ option_to_list taken.event) (told_at laws role limits ys peers (n + taken.used) fits)
-              (subst (λ (l : List ℕ). HasEvents role limits l (events_within limits n ys ++ option_to_list taken.event)) bytes after);
-          agrees = subst (λ (l : List ℕ). HasExchanged w.session (frames_of x.sent ++ replies_of (frames_of x.sent) (option_to_list taken.event)) l x.is_cut) bytes t.agrees;
-          put = t.put ∙ ap (λ (r : Role). v.put.items ++ stream_bytes (map (under_key r key) (replies_of (frames_of x.sent) (option_to_list taken.event)))) is.role_kept;
-          same = t.same;
+          told = laws.one_list role limits (take (n + u) (stream_bytes ys)) (events_within limits (n + u) ys) (events_within limits n ys ++ event) (told_at laws role limits ys peers (n + u) fits)
+              (subst (λ (l : List ℕ). HasEvents role limits l (events_within limits n ys ++ event)) bytes after);
+          agrees = subst (λ (l : List ℕ). HasExchanged w.session (frames_of x.sent ++ replies_of (frames_of x.sent) event) l x.is_cut) bytes t.agrees;
+          put = t.put ∙ ap (λ (r : Role). v.put.items ++ stream_bytes (map (under_key r key) (replies_of (frames_of x.sent) event))) is.role_kept;
+          same = same;
         }
 
-    took_over : is_over v.session.status ≡ true → TakesNothing v.session w.session piece v.put.items w.put.items taken → Took key taken.used taken.event w
-    took_over over t =
-        let n = x.reached in
-        let sent : List Frame = frames_of x.sent in
-        let bytes : take n (stream_bytes ys) ++ take taken.used piece ≡ take (n + taken.used) (stream_bytes ys) = front_of_next (stream_bytes ys) piece n taken.used next le in
-        let none : option_to_list taken.event ≡ [] = ap (λ (o : Option Event). option_to_list o) t.event in
-        let owed : replies_of sent (option_to_list taken.event) ≡ [] = ap (λ (l : List Event). replies_of sent l) none ∙ nothing_owed (has_close sent) sent refl in
-        let later : n ≤ n + taken.used = omega arith in
-        let are : AreBytes (take n (stream_bytes ys) ++ take taken.used piece) = subst (λ (l : List ℕ). AreBytes l) (sym bytes) (front_bytes (n + taken.used) (stream_bytes ys) next.bytes) in
-        let open_end : HasExchanged v.session sent (take n (stream_bytes ys)) false = subst (λ b. HasExchanged v.session sent (take n (stream_bytes ys)) b) going is.exchanged in
-        let behind : HasExchanged v.session sent (take n (stream_bytes ys) ++ take taken.used piece) false = laws.behind v.session sent (take n (stream_bytes ys)) (take taken.used piece) open_end over are in
-        let moved : HasExchanged w.session sent (take (n + taken.used) (stream_bytes ys)) x.is_cut =
-        subst (λ (s : SessionValue). HasExchanged s sent (take (n + taken.used) (stream_bytes ys)) x.is_cut) (sym t.unchanged)
-        (subst (λ b. HasExchanged v.session sent (take (n + taken.used) (stream_bytes ys)) b) (sym going) (subst (λ (l : List ℕ). HasExchanged v.session sent l false) bytes behind)) in
-        record {
-          told = nothing_more laws limits ys peers.valid x (n + taken.used) going later (ap (λ (s : Status). is_over s) (sym status_is) ∙ over) ∙ sym (append-nil (events_within limits n ys)) ∙ ap (λ (l : List Event). events_within limits n ys ++ l) (sym none);
-          agrees = subst (λ (l : List Frame). HasExchanged w.session l (take (n + taken.used) (stream_bytes ys)) x.is_cut) (sym (ap (λ (l : List Frame). sent ++ l) owed ∙ append-nil sent)) moved;
-          put = t.put ∙ sym (ap (λ (l : List Frame). v.put.items ++ stream_bytes (map (under_key role key) l)) owed ∙ append-nil v.put.items);
-          same = (ap (λ (s : SessionValue). s.role) t.unchanged, ap (λ (s : SessionValue). s.limits) t.unchanged);
-        }
-
-    took_by : (b : Bool) → is_over v.session.status ≡ b
-        → (is_over v.session.status ≡ false → (sent : List Frame) (bytes : List ℕ) (ended : Bool) → HasExchanged v.session sent bytes ended → Takes reply_to v.session w.session sent bytes piece ended key v.put.items w.put.items taken)
-        → (is_over v.session.status ≡ true → TakesNothing v.session w.session piece v.put.items w.put.items taken) → Took key taken.used taken.event w
-    took_by true e some none = took_over e (none e)
-    took_by false e some none = took_going (some e (frames_of x.sent) (take x.reached (stream_bytes ys)) x.is_cut is.exchanged)
-
-    newly : (u : ℕ) (event : Option Event) → Took key u event w → newly_told limits ys x.reached (x.reached + u) ≡ option_to_list event
-    newly u event t =
-        ap (λ (l : List Event). drop (length (events_within limits x.reached ys)) l) t.told ∙ drop_at (events_within limits x.reached ys) (option_to_list event) (length (events_within limits x.reached ys)) refl
+    newly : Took key (length piece) (events_in placed) w → newly_told limits ys x.reached (x.reached + length piece) ≡ events_in placed
+    newly t =
+        ap (λ (l : List Event). drop (length (events_within limits x.reached ys)) l) t.told ∙ drop_at (events_within limits x.reached ys) (events_in placed) (length (events_within limits x.reached ys)) refl
 
     -- the endpoint stands as the end to which so many more bytes have come
-    grown_by : Took key taken.used taken.event w → w.reached ≡ v.reached + taken.used → w.delivered.items ≡ v.delivered.items ++ messages_in (option_to_list taken.event) → w.is_cut ≡ v.is_cut
-        → IsKey (Some key) → IsEnd role limits (grown role limits x ys taken.used key) ys w
+    grown_by : Took key (length piece) (events_in placed) w → w.reached ≡ v.reached + length piece → w.delivered.items ≡ v.delivered.items ++ messages_in (events_in placed) → w.is_cut ≡ v.is_cut
+        → IsMaskingKey (Some key) → IsEnd role limits (grown role limits x ys (length piece) key) ys w
     grown_by t reached delivered cut is_key =
-        let u = taken.used in
+        let u = length piece in
         let n = x.reached in
-        let event : List Event = option_to_list taken.event in
+        let event : List Event = events_in placed in
         let sent : List Frame = frames_of x.sent in
         let owed : List KeyedFrame = map (under_key role key) (replies_of sent event) in
-        let is_sent : (grown role limits x ys u key).sent ≡ x.sent ++ owed = ap (λ (l : List Event). x.sent ++ map (under_key role key) (replies_of sent l)) (newly u taken.event t) in
+        let is_sent : (grown role limits x ys u key).sent ≡ x.sent ++ owed = ap (λ (l : List Event). x.sent ++ map (under_key role key) (replies_of sent l)) (newly t) in
         let frames : frames_of (x.sent ++ owed) ≡ sent ++ replies_of sent event = frames_append x.sent owed ∙ ap (λ (l : List Frame). sent ++ l) (frames_under role key (replies_of sent event)) in
         let put : w.put.items ≡ stream_bytes (x.sent ++ owed) = t.put ∙ ap (λ (l : List ℕ). l ++ stream_bytes owed) is.put ∙ sym (stream_append x.sent owed) in
         let told : HasEvents role limits (take (n + u) (stream_bytes ys)) (events_within limits n ys ++ event) = subst (λ (l : List Event). HasEvents role limits (take (n + u) (stream_bytes ys)) l) t.told (told_at laws role limits ys peers (n + u) fits) in
@@ -156,24 +132,17 @@ module _ (laws : SessionLaws) (role : Role) (limits : LimitsValue) (ys : List Ke
           is_cut = cut ∙ is.is_cut;
           exchanged = subst (λ (l : List Frame). HasExchanged w.session l (take (n + u) (stream_bytes ys)) x.is_cut) (sym (ap (λ (l : List KeyedFrame). frames_of l) is_sent ∙ frames)) t.agrees;
           sent = subst (λ (l : List KeyedFrame). AreSentBy role l) (sym is_sent) (record {
-            can = all_append CanBeSent x.sent owed is.sent.can (laws.replies_can role role limits (take (n + u) (stream_bytes ys)) key (events_within limits n ys) event sent told (sending_key role key is_key));
+            can = all_append FitsTheLayout x.sent owed is.sent.can (laws.replies_can role role limits (take (n + u) (stream_bytes ys)) key (events_within limits n ys) event sent told (sending_key role key is_key));
             keys = all_append (λ (y : KeyedFrame). is_masked y.key ≡ expects_key (peer role)) x.sent owed is.sent.keys (fitting_keys role key (replies_of sent event));
             valid = subst (λ (l : List Frame). AreValidFrames most_limits l) (sym frames) (laws.replies_stay role limits most_limits (take (n + u) (stream_bytes ys)) (events_within limits n ys) event sent told is.sent.valid);
           });
         }
 
-    -- one call takes the front of a piece
-    pub taken_by : (is_over v.session.status ≡ false → (sent : List Frame) (bytes : List ℕ) (ended : Bool) → HasExchanged v.session sent bytes ended → Takes reply_to v.session w.session sent bytes piece ended key v.put.items w.put.items taken)
-        → (is_over v.session.status ≡ true → TakesNothing v.session w.session piece v.put.items w.put.items taken)
-        → w.reached ≡ v.reached + taken.used → w.delivered.items ≡ v.delivered.items ++ messages_in (option_to_list taken.event) → w.is_cut ≡ v.is_cut
-        → IsKey (Some key) → IsEnd role limits (grown role limits x ys taken.used key) ys w
-    taken_by some none reached delivered cut is_key = grown_by (took_by (is_over v.session.status) refl some none) reached delivered cut is_key
-
   -- ---- a send
 
   module _ (what : Send) (key : List ℕ) (w : Endpoint) where
     -- the endpoint stands as the end that has sent one more frame
-    pub sent_by : Sends v.session w.session (frames_of x.sent) (take x.reached (stream_bytes ys)) x.is_cut what key v.put.items w.put.items → HasTextReason what
+    pub sent_by : Sends v.session w.session (record { sent = frames_of x.sent; taken = take x.reached (stream_bytes ys); ended = x.is_cut }) what key v.put.items w.put.items → HasTextReason what
         → w.reached ≡ v.reached → w.delivered.items ≡ v.delivered.items → w.is_cut ≡ v.is_cut → IsEnd role limits (with_sent x (under_key role key (frame_of what) ∷ [])) ys w
     sent_by t text reached delivered cut =
         let one : List KeyedFrame = under_key role key (frame_of what) ∷ [] in
@@ -191,7 +160,7 @@ module _ (laws : SessionLaws) (role : Role) (limits : LimitsValue) (ys : List Ke
           is_cut = cut ∙ is.is_cut;
           exchanged = subst (λ (l : List Frame). HasExchanged w.session l (take x.reached (stream_bytes ys)) x.is_cut) (sym frames) t.agrees;
           sent = record {
-            can = all_append CanBeSent x.sent one is.sent.can (subst (λ (r : Role). CanBeSent (under_key r key (frame_of what))) is.role_kept t.can, tt);
+            can = all_append FitsTheLayout x.sent one is.sent.can (subst (λ (r : Role). FitsTheLayout (under_key r key (frame_of what))) is.role_kept t.can, tt);
             keys = all_append (λ (y : KeyedFrame). is_masked y.key ≡ expects_key (peer role)) x.sent one is.sent.keys (fitting_key role key (frame_of what), tt);
             valid = subst (λ (l : List Frame). AreValidFrames most_limits l) (sym frames) (laws.sends_stay (frames_of x.sent) v.session.status what is.sent.valid text t.may);
           };
@@ -229,3 +198,60 @@ unchanged role limits x ys v w is session put reached delivered cut = record {
   exchanged = subst (λ (s : SessionValue). HasExchanged s (frames_of x.sent) (take x.reached (stream_bytes ys)) x.is_cut) (sym session) is.exchanged;
   sent = is.sent;
 }
+
+-- ---- nothing comes
+
+abbrev make : Bool → List KeyedFrame → ℕ → LinkEnd
+make cut sent reached = record { sent = sent; reached = reached; is_cut = cut }
+
+same_end : (cut : Bool) (a b : List KeyedFrame) (n m : ℕ) → a ≡ b → n ≡ m → make cut a n ≡ make cut b m
+same_end cut a b n m e f = ap (λ (l : List KeyedFrame). make cut l n) e ∙ ap (λ k. make cut b k) f
+
+-- what follows in a longer list
+rest_of : (front later all : List Event) → all ≡ front ++ later → drop (length front) all ≡ later
+rest_of front later all e = ap (λ (l : List Event). drop (length front) l) e ∙ drop_at front later (length front) refl
+
+-- nothing comes
+grown_nothing : (role : Role) (limits : LimitsValue) (x : LinkEnd) (ys : List KeyedFrame) (key : List ℕ) → grown role limits x ys 0 key ≡ x
+grown_nothing role limits x ys key =
+    let n = x.reached in
+    let sent : List Frame = frames_of x.sent in
+    let same : n + 0 ≡ n = omega arith in
+    let none : newly_told limits ys n (n + 0) ≡ [] = ap (λ k. drop (length (events_within limits n ys)) (events_within limits k ys)) same ∙ rest_of (events_within limits n ys) [] (events_within limits n ys) (sym (append-nil (events_within limits n ys))) in
+    let owed : replies_of sent (newly_told limits ys n (n + 0)) ≡ [] = ap (λ (l : List Event). replies_of sent l) none ∙ nothing_owed (has_close sent) sent refl in
+    same_end x.is_cut (x.sent ++ map (under_key role key) (replies_of sent (newly_told limits ys n (n + 0)))) x.sent (n + 0) n
+    (ap (λ (l : List Frame). x.sent ++ map (under_key role key) l) owed ∙ append-nil x.sent) same
+
+-- ---- a whole piece
+
+no_piece : (piece : List ℕ) (cut : Bool) → cut ≡ true → (0 < length piece → cut ≡ false) → length piece ≡ 0
+no_piece [] cut e going = refl
+no_piece (b ∷ piece) cut e going =
+    let both : true ≡ false = sym e ∙ going (omega arith) in
+    absurd cc
+
+-- the endpoint stands as the end to which the piece has come
+pub delivered_by : (laws : SessionLaws) (role : Role) (limits : LimitsValue) (ys : List KeyedFrame) (peers : AreSentBy (peer role) ys) (x : LinkEnd) (v : Endpoint) (is : IsEnd role limits x ys v)
+    (key piece : List ℕ) (next : IsNextIn (stream_bytes ys) x.reached piece) (placed : List PlacedEvent) (w : Endpoint)
+    → HasTakenAll reply_to v.session w.session (record { piece = piece; key = key; before = v.put.items; after = w.put.items }) [] placed
+    → (is_over v.session.status ≡ true → (w.session ≡ v.session) × (w.put.items ≡ v.put.items) × (placed ≡ []))
+    → (0 < length piece → x.is_cut ≡ false) → w.reached ≡ v.reached + length piece → w.delivered.items ≡ v.delivered.items ++ messages_in (events_in placed) → w.is_cut ≡ v.is_cut
+    → IsMaskingKey (Some key) → IsEnd role limits (grown role limits x ys (length piece) key) ys w
+delivered_by laws role limits ys peers x v is key piece next placed w h over going reached delivered cut is_key = either x.is_cut refl
+  where
+    either : (b : Bool) → x.is_cut ≡ b → IsEnd role limits (grown role limits x ys (length piece) key) ys w
+    either false e =
+        let t = h.takes (record { sent = frames_of x.sent; taken = take x.reached (stream_bytes ys); ended = x.is_cut }) e is.exchanged in
+        let told : h.told ≡ placed = sym h.added in
+        grown_by laws role limits ys peers x v is key piece next placed w
+        (took laws role limits ys peers x v is key piece next placed w
+        (subst (λ (l : List PlacedEvent). TakesAll reply_to v.session w.session (record { sent = frames_of x.sent; taken = take x.reached (stream_bytes ys); ended = x.is_cut })
+        (record { piece = piece; key = key; before = v.put.items; after = w.put.items }) l) told t) h.same)
+        reached delivered cut is_key
+    either true e =
+        let none : length piece ≡ 0 = no_piece piece x.is_cut e going in
+        let ended : is_over v.session.status ≡ true = laws.over_at_end v.session (frames_of x.sent) (take x.reached (stream_bytes ys)) (subst (λ b. HasExchanged v.session (frames_of x.sent) (take x.reached (stream_bytes ys)) b) e is.exchanged) in
+        let same = over ended in
+        subst (λ (y : LinkEnd). IsEnd role limits y ys w) (sym (ap (λ k. grown role limits x ys k key) none ∙ grown_nothing role limits x ys key))
+        (unchanged role limits x ys v w is same.0 same.1 (omega (arith, reached, none))
+        (delivered ∙ ap (λ (l : List PlacedEvent). v.delivered.items ++ messages_in (events_in l)) same.2 ∙ append-nil v.delivered.items) cut)

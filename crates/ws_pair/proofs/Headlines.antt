@@ -1,7 +1,7 @@
 -- From two ends of a link to what is claimed of them.
 use Rattle.std.proofs.Common.{◌≡◌, ℕ, ◌<◌, List, [], ◌∷◌, ◌++◌, length, take, sym, ap, ◌∙◌, arith, subst}
 use Rattle.std.proofs.lemmas.List.{append-nil, length-append}
-use Rattle.ws_frame.specs.Frame.{Frame, KeyedFrame, CanBeSent, frame_bytes, stream_bytes}
+use Rattle.ws_frame.specs.Frame.{Frame, KeyedFrame, FitsTheLayout, frame_bytes, stream_bytes}
 use Rattle.ws_session.specs.Messages.{messages_of}
 use Rattle.ws_session.specs.Validity.{CloseIsLast, NothingAfterClose}
 use Rattle.ws_session.specs.Faults.{frames_of}
@@ -64,7 +64,7 @@ nothing_after (f ∷ fs) h = (λ e. (h.0 e).0, nothing_after fs h.1)
 some_bytes : (x : KeyedFrame) → 0 < length (frame_bytes x)
 some_bytes x = grind arith
 
-nothing_begins : (x : KeyedFrame) (more : List ℕ) → CanBeSent x → [] ≡ frame_bytes x ++ more → ⊥
+nothing_begins : (x : KeyedFrame) (more : List ℕ) → FitsTheLayout x → [] ≡ frame_bytes x ++ more → ⊥
 nothing_begins x more can e = absurd (omega (arith, some_bytes x, length-append (frame_bytes x) more, ap (λ (l : List ℕ). length l) e))
 
 pub has_nothing_after_close : (limits : BothLimits) (link : Link) (side : End) (v : Endpoint) (report : EndReport) → IsReportOf v report → Stands limits link side v → HasNothingAfterClose report.put.items

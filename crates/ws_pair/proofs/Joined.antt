@@ -8,8 +8,8 @@ use Rattle.ws_pair.specs.declared.moves.Move.{Move}
 use Rattle.ws_pair.specs.declared.report.Answer.{Answer}
 use Rattle.ws_pair.specs.declared.endpoint.Endpoint.{Endpoint}
 use Rattle.ws_pair.specs.Link.{Link, BothLimits, other, role_of, end_of, with_end}
-use Rattle.ws_pair.specs.Moves.{IsAnswered}
-use Rattle.ws_pair.specs.Playing.{side_of, peer, AreSentBy, IsEnd, Stands, HasMoved, AreJoined, SessionLaws}
+use Rattle.ws_pair.specs.Moves.{side_of, IsAnswered}
+use Rattle.ws_pair.specs.Playing.{peer, AreSentBy, IsEnd, Stands, HasMoved, AreJoined, SessionLaws}
 use Rattle.ws_pair.proofs.Ends.{beside}
 use Rattle.ws_pair.proofs.Acting.{Acts}
 

@@ -1,8 +1,8 @@
+mod PassedUp
 mod OnePlay
 mod Told
 mod Bytes
 mod Ends
-mod Growing
 mod Acting
 mod Joined
 mod Headlines

@@ -6,13 +6,14 @@ use Rattle.ws_session.specs.declared.status.Status.{Status}
 use Rattle.ws_session.specs.declared.send_fault.SendFault.{SendFault}
 use Rattle.ws_session.specs.declared.send_fault.SendFault.TheVariants.{Over, Busy, NothingOpen, NotText, TooLong, BadCode, NoMemory}
 use Rattle.ws_session.specs.Sends.{Send, IsFirstWrong, number_of_fault}
+use Rattle.ws_session.specs.Faults.{frames_of}
 use Rattle.ws_session.specs.Sends as send
 use Rattle.ws_pair.specs.declared.moves.End.{End}
 use Rattle.ws_pair.specs.declared.moves.Move.{Move}
 use Rattle.ws_pair.specs.declared.moves.Move.TheVariants.{Begin, More, Ping, Pong, Close, Arrive, Cut}
 use Rattle.ws_pair.specs.declared.report.Answer.{Answer}
 use Rattle.ws_pair.specs.declared.report.Answer.TheVariants as outcome
-use Rattle.ws_pair.specs.Link.{Link, BothLimits, status_at}
+use Rattle.ws_pair.specs.Link.{end_of, Link, BothLimits, status_at}
 use Rattle.ws_pair.specs.Moves.{IsSendAnswered, close_given, IsAnswered, Plays}
 
 -- ---- one refusal
@@ -49,7 +50,7 @@ module _ (limits : BothLimits) (link : Link) where
   one_send side what key outcome.Did outcome.Cut x y p q = absurd q
   one_send side what key (outcome.Refused fault) outcome.Did x y p q = absurd (q.0 fault p.0.wrong)
   one_send side what key (outcome.Refused fault) (outcome.Refused other) x y p q =
-      (ap (λ (f : SendFault). outcome.Refused f) (one_refusal _ (status_at limits link side) what fault other p.0 q.0), p.1 ∙ sym q.1)
+      (ap (λ (f : SendFault). outcome.Refused f) (one_refusal (frames_of (end_of link side).sent) (status_at limits link side) what fault other p.0 q.0), p.1 ∙ sym q.1)
   one_send side what key (outcome.Refused fault) (outcome.Arrived n) x y p q = absurd q
   one_send side what key (outcome.Refused fault) outcome.Cut x y p q = absurd q
   one_send side what key (outcome.Arrived n) b x y p q = absurd p

@@ -100,14 +100,6 @@ pub code_closes : (fs : List Frame) (code : Option ℕ) → close_code_in fs ≡
 code_closes [] code e = absurd cc
 code_closes (f ∷ fs) code e = code_or (is_close f) f fs code (code_closes fs code) e
 
-open_or_closing : (b : Bool) → is_over (cond b status.Closing status.Open) ≡ false
-open_or_closing true = refl
-open_or_closing false = refl
-
-over_by_close : (o : Option (Option ℕ)) (fs sent : List Frame) → close_code_in fs ≡ o → is_over (status_by_close o sent false) ≡ true → has_close fs ≡ true
-over_by_close None fs sent is e = absurd (no_both (is_over (cond (has_close sent) status.Closing status.Open)) e (open_or_closing (has_close sent)))
-over_by_close (Some code) fs sent is e = code_closes fs code is
-
 -- the code of a clean status
 abbrev code_of : Option ℕ → Status → Option ℕ
 code_of other (status.Clean code) = code
@@ -143,28 +135,6 @@ module _ (laws : SessionLaws) (limits : LimitsValue) (xs : List KeyedFrame) (val
 
   pub status_told : (x : LinkEnd) → status_of (frames_of x.sent) x.is_cut (events_within limits x.reached xs) ≡ status_by limits x xs
   status_told x = by_size x.reached (frames_of x.sent) x.is_cut (is_too_big limits x.reached xs)
-
-  -- ---- an end that is over is told nothing more
-
-  same_told : (n m : ℕ) (b : Bool) → frames_within limits m xs ≡ frames_within limits n xs → is_too_big limits m xs ≡ b → is_too_big limits n xs ≡ b → events_within limits m xs ≡ events_within limits n xs
-  same_told n m b frames e f =
-      ap (λ (l : List KeyedFrame). events_after [] (frames_of l) ++ cond (is_too_big limits m xs) (event.Failed TooBig ∷ []) []) frames
-      ∙ ap (λ c. events_after [] (frames_of (frames_within limits n xs)) ++ cond c (event.Failed TooBig ∷ []) []) (e ∙ sym f)
-
-  by_big : (big : Bool) (n m : ℕ) (sent : List Frame) → n ≤ m → is_too_big limits n xs ≡ big
-      → is_over (cond big (status.Failed TooBig) (status_by_close (close_code_in (frames_of (frames_within limits n xs))) sent false)) ≡ true → events_within limits m xs ≡ events_within limits n xs
-  by_big true n m sent le is e = let later = laws.after_too_big limits n m xs le is in same_told n m true later.0 later.1 is
-  by_big false n m sent le is e =
-      let closes = over_by_close (close_code_in (frames_of (frames_within limits n xs))) (frames_of (frames_within limits n xs)) sent refl e in
-      let same : n ≤ n = omega arith in
-      let later = laws.after_close limits most_limits n m xs le valid closes in
-      let now = laws.after_close limits most_limits n n xs same valid closes in
-      same_told n m false (later.0 ∙ sym now.0) later.1 now.1
-
-  pub nothing_more : (x : LinkEnd) (m : ℕ) → x.is_cut ≡ false → x.reached ≤ m → is_over (status_by limits x xs) ≡ true → events_within limits m xs ≡ events_within limits x.reached xs
-  nothing_more x m cut le e =
-      by_big (is_too_big limits x.reached xs) x.reached m (frames_of x.sent) le refl
-      (ap (λ b. is_over (cond (is_too_big limits x.reached xs) (status.Failed TooBig) (status_by_close (close_code_in (frames_of (frames_within limits x.reached xs))) (frames_of x.sent) b))) (sym cut) ∙ e)
 
   -- ---- a clean close
 

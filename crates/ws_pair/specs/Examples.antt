@@ -16,7 +16,10 @@ key = 0 ∷ 0 ∷ 0 ∷ 0 ∷ []
 
 -- the server takes at most two bytes in a message
 abbrev limits : BothLimits
-limits = record { client = record { max_message = 1000; max_frame = 1000 }; server = record { max_message = 2; max_frame = 2 } }
+limits = record {
+  client = record { max_message = 1000; max_frame = 1000 };
+  server = record { max_message = 2; max_frame = 2 };
+}
 
 abbrev binary : List ℕ → KeyedFrame
 binary payload = record { frame = record { fin = true; rsv = 0; opcode = 2; payload = payload }; key = Some key }
@@ -60,13 +63,15 @@ too_big = record {
   server = record { sent = []; reached = 14; is_cut = false };
 }
 
-the_first_is_delivered : messages_of (frames_of (frames_reached limits too_big Server)) ≡ record { kind = Binary; payload = 1 ∷ 2 ∷ [] } ∷ []
+the_first_is_delivered : messages_of (frames_of (frames_reached limits too_big Server))
+    ≡ record { kind = Binary; payload = 1 ∷ 2 ∷ [] } ∷ []
 the_first_is_delivered = refl
 
 the_second_fails_at_its_header : status_at limits too_big Server ≡ Failed TooBig
 the_second_fails_at_its_header = refl
 
-one_byte_less_of_it : has_size_fault limits (record { client = too_big.client; server = record { sent = []; reached = 13; is_cut = false } }) Server ≡ false
+one_byte_less_of_it : has_size_fault limits
+    (record { client = too_big.client; server = record { sent = []; reached = 13; is_cut = false } }) Server ≡ false
 one_byte_less_of_it = refl
 
 -- ---- a cut
@@ -81,7 +86,8 @@ nothing_comes_behind_a_cut : count_arriving cut Server 5 ≡ 0
 nothing_comes_behind_a_cut = refl
 
 -- what had come before it was delivered
-delivered_before_the_cut : messages_of (frames_of (frames_reached limits cut Server)) ≡ record { kind = Binary; payload = 1 ∷ 2 ∷ [] } ∷ []
+delivered_before_the_cut : messages_of (frames_of (frames_reached limits cut Server))
+    ≡ record { kind = Binary; payload = 1 ∷ 2 ∷ [] } ∷ []
 delivered_before_the_cut = refl
 
 -- ---- a ping
@@ -90,10 +96,15 @@ delivered_before_the_cut = refl
 abbrev pinged : Link
 pinged = record {
   client = record { sent = []; reached = 0; is_cut = false };
-  server = record { sent = under_key (role_of Server) key (control_frame 9 (7 ∷ [])) ∷ []; reached = 0; is_cut = false };
+  server = record {
+    sent = under_key (role_of Server) key (control_frame 9 (7 ∷ [])) ∷ [];
+    reached = 0;
+    is_cut = false;
+  };
 }
 
-answered_on_the_way : (with_arrived limits pinged Client 3 key).sent ≡ under_key (role_of Client) key (control_frame 10 (7 ∷ [])) ∷ []
+answered_on_the_way : (with_arrived limits pinged Client 3 key).sent
+    ≡ under_key (role_of Client) key (control_frame 10 (7 ∷ [])) ∷ []
 answered_on_the_way = refl
 
 not_answered_before_it_is_whole : (with_arrived limits pinged Client 2 key).sent ≡ []

@@ -1,4 +1,5 @@
--- The headline: what two joined sessions deliver, what a clean close means, and what they put. RFC 6455 sections 5 to 7.
+-- The headline: what two joined sessions deliver, what a clean close means, and what they put. RFC 6455 sections 5 to
+-- 7.
 use Rattle.std.specs.Prelude.{◌≡◌, ℕ, List, [], take, Option, Some}
 use Rattle.ws_frame.specs.Frame.{KeyedFrame, stream_bytes}
 use Rattle.ws_frame.specs.Stream.{SplitsInto}
@@ -13,7 +14,8 @@ use Rattle.ws_pair.specs.declared.moves.End.TheVariants.{Client, Server}
 use Rattle.ws_pair.specs.declared.moves.Move.{Move}
 use Rattle.ws_pair.specs.declared.report.EndReport.{EndReport}
 use Rattle.ws_pair.specs.declared.report.Report.{Report}
-use Rattle.ws_pair.specs.Link.{Link, BothLimits, new_link, other, role_of, end_of, limits_of, frames_reached, close_code_in, status_at}
+use Rattle.ws_pair.specs.Link.{Link, BothLimits, new_link, other, role_of, end_of, limits_of, frames_reached}
+use Rattle.ws_pair.specs.Link.{close_code_in, status_at}
 use Rattle.ws_pair.specs.Moves.{Plays}
 
 abbrev pub both_limits : LimitsValue → LimitsValue → BothLimits
@@ -23,7 +25,8 @@ both_limits client server = record { client = client; server = server }
 
 -- delivered are, in order, exactly the other's messages whose last byte has reached it before a size fault
 abbrev pub HasDelivered : BothLimits → Link → End → EndReport → Type 0
-HasDelivered limits link side report = report.delivered.items ≡ messages_of (frames_of (frames_reached limits link side))
+HasDelivered limits link side report =
+    report.delivered.items ≡ messages_of (frames_of (frames_reached limits link side))
 
 -- an end that reports a clean close has delivered every message that the other sent, and reports the code of its close
 abbrev pub IsWholeWhereClean : BothLimits → Link → End → EndReport → Type 0
@@ -63,3 +66,16 @@ pub record HasNothingAfterClose (put : List ℕ) : Type 0 where
   pub frames : List KeyedFrame
   pub split : SplitsInto put frames []
   pub last : NothingAfterClose (frames_of frames)
+
+-- ---- all of it
+
+-- the report of these moves: what `run_pair` claims of it
+pub record IsReportOf (client server : LimitsValue) (moves : List Move) (report : Report) : Type 0 where
+  pub answers : (link : Link) × Plays (both_limits client server) new_link moves report.answers.items link
+  pub delivered : AtEachEnd HasDelivered (both_limits client server) moves report
+  pub clean : AtEachEnd IsWholeWhereClean (both_limits client server) moves report
+  pub nothing_after_close : HasNothingAfterClose report.client.put.items × HasNothingAfterClose report.server.put.items
+  pub put : AtEachEnd HasPut (both_limits client server) moves report
+  pub reached : AtEachEnd HasReached (both_limits client server) moves report
+  pub status : AtEachEnd HasStatus (both_limits client server) moves report
+  pub session : AtEachEnd HasSession (both_limits client server) moves report

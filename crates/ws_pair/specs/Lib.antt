@@ -1,5 +1,9 @@
 pub mod Link
 pub mod Moves
 pub mod Headline
-pub mod Playing
+pub mod Script
+pub mod ReportLines
 pub mod Examples
+pub mod ScriptExamples
+pub mod Playing
+pub mod Printing

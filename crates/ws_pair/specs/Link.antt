@@ -1,5 +1,5 @@
--- Two endpoints joined by two ordered streams of bytes, seen from outside: RFC 6455 sections 5 to 7. An end is a list of
--- frames, a count and a mark: no part of a frame, masking phase, unfinished character or buffer.
+-- Two endpoints joined by two ordered streams of bytes, seen from outside: RFC 6455 sections 5 to 7. An end is a list
+-- of frames, a count and a mark: no part of a frame, masking phase, unfinished character or buffer.
 use Rattle.std.specs.Prelude.{ℕ, Bool, false, if◌then◌else◌, List, [], ◌∷◌, Option, Some, None}
 use Rattle.ws_frame.specs.declared.role.Role.{Role}
 use Rattle.ws_frame.specs.declared.role.Role.TheVariants as role
@@ -16,7 +16,8 @@ use Rattle.ws_session.specs.Reach.{frames_within, is_too_big}
 use Rattle.ws_pair.specs.declared.moves.End.{End}
 use Rattle.ws_pair.specs.declared.moves.End.TheVariants.{Client, Server}
 
--- one end: the frames that it has sent, how many of the other's bytes have reached it, and whether the stream to it was cut
+-- one end: the frames that it has sent, how many of the other's bytes have reached it, and whether the stream to it was
+-- cut
 pub record LinkEnd : Type 0 where
   pub sent : List KeyedFrame
   pub reached : ℕ
@@ -63,25 +64,29 @@ with_end link Server x = record { client = link.client; server = x }
 
 -- the other's frames that have reached an end, none of which passes its limit
 abbrev pub frames_reached : BothLimits → Link → End → List KeyedFrame
-frames_reached limits link side = frames_within (limits_of limits side) (end_of link side).reached (end_of link (other side)).sent
+frames_reached limits link side =
+    frames_within (limits_of limits side) (end_of link side).reached (end_of link (other side)).sent
 
 -- so much has come that the end tells a frame too big: it takes its message above the end's limit
 abbrev pub has_size_fault : BothLimits → Link → End → Bool
-has_size_fault limits link side = is_too_big (limits_of limits side) (end_of link side).reached (end_of link (other side)).sent
+has_size_fault limits link side =
+    is_too_big (limits_of limits side) (end_of link side).reached (end_of link (other side)).sent
 
 -- what the first close frame says, if there is one: its code, or none where it is empty
 abbrev pub close_code_in : List Frame → Option (Option ℕ)
 close_code_in [] = None
-close_code_in (frame ∷ frames) = if is_close frame then Some (code_if_any (close_in frame.payload)) else close_code_in frames
+close_code_in (frame ∷ frames) =
+    if is_close frame then Some (code_if_any (close_in frame.payload)) else close_code_in frames
 
 -- clean with the code of a close that has come, else by the stream's end and this end's own close
 abbrev pub status_by_close : Option (Option ℕ) → List Frame → Bool → Status
 status_by_close (Some code) sent is_cut = Clean code
 status_by_close None sent is_cut = status_before_close sent is_cut
 
--- the status of an end: failed by a size fault, else clean by the other's close, else lost by a cut, else closing by its
--- own close, else open
+-- the status of an end: failed by a size fault, else clean by the other's close, else lost by a cut, else closing by
+-- its own close, else open
 abbrev pub status_at : BothLimits → Link → End → Status
 status_at limits link side =
     if has_size_fault limits link side then Failed TooBig
-    else status_by_close (close_code_in (frames_of (frames_reached limits link side))) (frames_of (end_of link side).sent) (end_of link side).is_cut
+    else status_by_close (close_code_in (frames_of (frames_reached limits link side)))
+    (frames_of (end_of link side).sent) (end_of link side).is_cut

@@ -1,5 +1,6 @@
 -- What each move does to two joined endpoints, and what is answered: RFC 6455 sections 5 to 7.
-use Rattle.std.specs.Prelude.{◌≡◌, ℕ, ◌+◌, ◌-◌, min, true, if◌then◌else◌, List, [], ◌∷◌, ◌++◌, length, drop, map, Option, Some, None, String, string_bytes}
+use Rattle.std.specs.Prelude.{◌≡◌, ℕ, ◌+◌, ◌-◌, min, true, if◌then◌else◌, List, [], ◌∷◌, ◌++◌, length, drop, map}
+use Rattle.std.specs.Prelude.{Option, Some, None, String, string_bytes}
 use Rattle.std.specs.declared.alloc.Global.{Global}
 use Rattle.ws_frame.specs.Frame.{KeyedFrame, stream_bytes}
 use Rattle.ws_text.specs.Close.{CloseValue}
@@ -47,13 +48,28 @@ newly_told limits xs before after = drop (length (events_within limits before xs
 abbrev pub with_arrived : BothLimits → Link → End → ℕ → List ℕ → LinkEnd
 with_arrived limits link side count key =
     let x : LinkEnd = end_of link side
-    in let told : List Event = newly_told (limits_of limits side) (end_of link (other side)).sent x.reached (x.reached + count)
-    in record { sent = x.sent ++ map (under_key (role_of side) key) (replies_of (frames_of x.sent) told); reached = x.reached + count; is_cut = x.is_cut }
+    in let told : List Event =
+    newly_told (limits_of limits side) (end_of link (other side)).sent x.reached (x.reached + count)
+    in record {
+      sent = x.sent ++ map (under_key (role_of side) key) (replies_of (frames_of x.sent) told);
+      reached = x.reached + count;
+      is_cut = x.is_cut;
+    }
 
 abbrev pub with_cut : LinkEnd → LinkEnd
 with_cut x = record x { is_cut = true }
 
 -- ---- all moves
+
+-- the end at which a move happens
+abbrev pub side_of : Move → End
+side_of (Begin side kind payload fin key) = side
+side_of (More side payload fin key) = side
+side_of (Ping side payload key) = side
+side_of (Pong side payload key) = side
+side_of (Close side given key) = side
+side_of (Arrive side bytes key) = side
+side_of (Cut side) = side
 
 -- the code and the reason's bytes of a close, if any
 abbrev pub close_given : Option (ℕ × String Global) → Option CloseValue
@@ -61,17 +77,25 @@ close_given None = None
 close_given (Some given) = Some (record { code = given.0; reason = string_bytes given.1 })
 
 abbrev pub IsAnswered : BothLimits → Link → Move → Answer → Link → Type 0
-IsAnswered limits link (Begin side kind payload fin key) answer after = IsSendAnswered limits link side (send.Begin kind payload fin) key answer after
-IsAnswered limits link (More side payload fin key) answer after = IsSendAnswered limits link side (send.More payload fin) key answer after
-IsAnswered limits link (Ping side payload key) answer after = IsSendAnswered limits link side (send.Ping payload) key answer after
-IsAnswered limits link (Pong side payload key) answer after = IsSendAnswered limits link side (send.Pong payload) key answer after
-IsAnswered limits link (Close side given key) answer after = IsSendAnswered limits link side (send.Close (close_given given)) key answer after
+IsAnswered limits link (Begin side kind payload fin key) answer after =
+    IsSendAnswered limits link side (send.Begin kind payload fin) key answer after
+IsAnswered limits link (More side payload fin key) answer after =
+    IsSendAnswered limits link side (send.More payload fin) key answer after
+IsAnswered limits link (Ping side payload key) answer after =
+    IsSendAnswered limits link side (send.Ping payload) key answer after
+IsAnswered limits link (Pong side payload key) answer after =
+    IsSendAnswered limits link side (send.Pong payload) key answer after
+IsAnswered limits link (Close side given key) answer after =
+    IsSendAnswered limits link side (send.Close (close_given given)) key answer after
 IsAnswered limits link (Arrive side bytes key) answer after =
-    (answer ≡ outcome.Arrived (count_arriving link side bytes)) × (after ≡ with_end link side (with_arrived limits link side (count_arriving link side bytes) key))
-IsAnswered limits link (Cut side) answer after = (answer ≡ outcome.Cut) × (after ≡ with_end link side (with_cut (end_of link side)))
+    (answer ≡ outcome.Arrived (count_arriving link side bytes))
+    × (after ≡ with_end link side (with_arrived limits link side (count_arriving link side bytes) key))
+IsAnswered limits link (Cut side) answer after =
+    (answer ≡ outcome.Cut) × (after ≡ with_end link side (with_cut (end_of link side)))
 
 -- one move after the other
 abbrev pub Plays : BothLimits → Link → List Move → List Answer → Link → Type 0
 Plays limits link [] answers after = (answers ≡ []) × (after ≡ link)
 Plays limits link (move ∷ moves) [] after = ⊥
-Plays limits link (move ∷ moves) (answer ∷ answers) after = (next : Link) × IsAnswered limits link move answer next × Plays limits next moves answers after
+Plays limits link (move ∷ moves) (answer ∷ answers) after =
+    (next : Link) × IsAnswered limits link move answer next × Plays limits next moves answers after

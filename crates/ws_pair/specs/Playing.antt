@@ -1,10 +1,11 @@
 -- Inside the crate: an endpoint as an end of a link, for contracts of private functions. A reader may skip this file.
-use Rattle.std.specs.Prelude.{◌≡◌, ℕ, ◌+◌, ◌≤◌, true, false, List, [], ◌∷◌, ◌++◌, length, take, drop, map, Result, Ok, Err}
+use Rattle.std.specs.Prelude.{◌≡◌, ℕ, ◌+◌, ◌≤◌, true, false, List, [], ◌∷◌, ◌++◌, length, take, drop, map, Result, Ok}
+use Rattle.std.specs.Prelude.{Err}
 use Rattle.std.specs.List.{AllByRecursion}
 use Rattle.ws_frame.specs.declared.role.Role.{Role}
 use Rattle.ws_frame.specs.declared.role.Role.TheVariants as role
-use Rattle.ws_frame.specs.Header.{AreBytes, IsKey}
-use Rattle.ws_frame.specs.Frame.{Frame, KeyedFrame, CanBeSent, stream_bytes}
+use Rattle.ws_frame.specs.Header.{AreBytes, IsMaskingKey}
+use Rattle.ws_frame.specs.Frame.{Frame, KeyedFrame, FitsTheLayout, stream_bytes}
 use Rattle.ws_session.specs.declared.event.Event.{Event}
 use Rattle.ws_session.specs.declared.send_fault.SendFault.{SendFault}
 use Rattle.ws_session.specs.declared.send_fault.SendFault.TheVariants as fault
@@ -26,18 +27,9 @@ use Rattle.ws_pair.specs.declared.report.Answer.{Answer}
 use Rattle.ws_pair.specs.declared.report.Answer.TheVariants as outcome
 use Rattle.ws_pair.specs.declared.endpoint.Endpoint.{Endpoint}
 use Rattle.ws_pair.specs.Link.{LinkEnd, Link, BothLimits, other, role_of, end_of, limits_of, with_end}
-use Rattle.ws_pair.specs.Moves.{newly_told, IsAnswered}
+use Rattle.ws_pair.specs.Moves.{newly_told, side_of, IsAnswered}
 
--- ---- moves
-
-abbrev pub side_of : Move → End
-side_of (Begin side kind payload fin key) = side
-side_of (More side payload fin key) = side
-side_of (Ping side payload key) = side
-side_of (Pong side payload key) = side
-side_of (Close side given key) = side
-side_of (Arrive side bytes key) = side
-side_of (Cut side) = side
+-- ---- sends
 
 -- what a send that is done or refused is answered with; want of memory ends the run
 abbrev pub IsToldOf : {X : Type 0} → Result X SendFault → Answer → Type 0
@@ -53,12 +45,13 @@ peer role.Server = role.Client
 
 -- what an end of this role can have sent
 pub record AreSentBy (role : Role) (xs : List KeyedFrame) : Type 0 where
-  pub can : AllByRecursion CanBeSent xs
+  pub can : AllByRecursion FitsTheLayout xs
   pub keys : KeysFit (peer role) xs
   pub valid : AreValidFrames most_limits (frames_of xs)
 
 -- the endpoint stands as this end, whose peer has sent these frames
-pub record IsEnd (role : Role) (limits : LimitsValue) (x : LinkEnd) (others : List KeyedFrame) (v : Endpoint) : Type 0 where
+pub record IsEnd (role : Role) (limits : LimitsValue) (x : LinkEnd) (others : List KeyedFrame) (v : Endpoint)
+    : Type 0 where
   pub role_kept : v.session.role ≡ role
   pub limits_kept : v.session.limits ≡ limits
   pub put : v.put.items ≡ stream_bytes x.sent
@@ -72,14 +65,16 @@ pub record IsEnd (role : Role) (limits : LimitsValue) (x : LinkEnd) (others : Li
 -- the end once so many more bytes have come, each frame answered under this key
 abbrev pub grown : Role → LimitsValue → LinkEnd → List KeyedFrame → ℕ → List ℕ → LinkEnd
 grown role limits x others count key = record {
-  sent = x.sent ++ map (under_key role key) (replies_of (frames_of x.sent) (newly_told limits others x.reached (x.reached + count)));
+  sent = x.sent ++ map (under_key role key)
+      (replies_of (frames_of x.sent) (newly_told limits others x.reached (x.reached + count)));
   reached = x.reached + count;
   is_cut = x.is_cut;
 }
 
 -- the endpoint stands as the end on this side of a link
 abbrev pub Stands : BothLimits → Link → End → Endpoint → Type 0
-Stands limits link side v = IsEnd (role_of side) (limits_of limits side) (end_of link side) (end_of link (other side)).sent v
+Stands limits link side v =
+    IsEnd (role_of side) (limits_of limits side) (end_of link side) (end_of link (other side)).sent v
 
 -- the endpoint stands as the end after a move on its side, and nothing that was sent is taken back
 pub record HasMoved (limits : BothLimits) (link : Link) (move : Move) (answer : Answer) (v : Endpoint) : Type 0 where
@@ -98,18 +93,30 @@ pub record AreJoined (limits : BothLimits) (link : Link) (client server : Endpoi
 
 -- the laws of the layer below, as far as they serve here
 pub record SessionLaws : Type 0 where
-  pub one_list : (role : Role) (limits : LimitsValue) (bytes : List ℕ) (events others : List Event) → HasEvents role limits bytes events → HasEvents role limits bytes others → events ≡ others
-  pub go_on : (role : Role) (limits : LimitsValue) (bytes more : List ℕ) (events all : List Event) → HasEvents role limits bytes events → HasEvents role limits (bytes ++ more) all → (later : List Event) × (all ≡ events ++ later)
-  pub behind : (session : SessionValue) (sent : List Frame) (bytes more : List ℕ) → HasExchanged session sent bytes false → is_over session.status ≡ true → AreBytes (bytes ++ more) → HasExchanged session sent (bytes ++ more) false
-  pub replies : (sent : List Frame) (events later : List Event) → replies_of sent (events ++ later) ≡ replies_of sent events ++ replies_of (sent ++ replies_of sent events) later
-  pub frames_stay : (limits : LimitsValue) (n : ℕ) (xs more : List KeyedFrame) → n ≤ length (stream_bytes xs) → frames_within limits n (xs ++ more) ≡ frames_within limits n xs
-  pub after_too_big : (limits : LimitsValue) (n m : ℕ) (xs : List KeyedFrame) → n ≤ m → is_too_big limits n xs ≡ true → (frames_within limits m xs ≡ frames_within limits n xs) × (is_too_big limits m xs ≡ true)
-  pub after_close : (limits most : LimitsValue) (n m : ℕ) (xs : List KeyedFrame) → n ≤ m → AreValidFrames most (frames_of xs) → has_close (frames_of (frames_within limits n xs)) ≡ true → (frames_within limits m xs ≡ xs) × (is_too_big limits m xs ≡ false)
-  pub told : (role : Role) (limits most : LimitsValue) (n : ℕ) (xs : List KeyedFrame) → AllByRecursion CanBeSent xs → KeysFit role xs → AreValidFrames most (frames_of xs) → HasEvents role limits (take n (stream_bytes xs)) (events_within limits n xs)
+  pub one_list : (role : Role) (limits : LimitsValue) (bytes : List ℕ) (events others : List Event)
+      → HasEvents role limits bytes events → HasEvents role limits bytes others → events ≡ others
+  pub over_at_end : (session : SessionValue) (sent : List Frame) (bytes : List ℕ)
+      → HasExchanged session sent bytes true → is_over session.status ≡ true
+  pub replies : (sent : List Frame) (events later : List Event)
+      → replies_of sent (events ++ later) ≡ replies_of sent events ++ replies_of (sent ++ replies_of sent events) later
+  pub frames_stay : (limits : LimitsValue) (n : ℕ) (xs more : List KeyedFrame)
+      → n ≤ length (stream_bytes xs) → frames_within limits n (xs ++ more) ≡ frames_within limits n xs
+  pub after_close : (limits most : LimitsValue) (n m : ℕ) (xs : List KeyedFrame)
+      → n ≤ m → AreValidFrames most (frames_of xs) → has_close (frames_of (frames_within limits n xs)) ≡ true
+      → (frames_within limits m xs ≡ xs) × (is_too_big limits m xs ≡ false)
+  pub told : (role : Role) (limits most : LimitsValue) (n : ℕ) (xs : List KeyedFrame)
+      → AllByRecursion FitsTheLayout xs → KeysFit role xs → AreValidFrames most (frames_of xs)
+      → HasEvents role limits (take n (stream_bytes xs)) (events_within limits n xs)
   pub messages : (frames : List Frame) → messages_in (events_after [] frames) ≡ messages_of frames
-  pub sends_stay : (sent : List Frame) (status : Status) (what : Send) → AreValidFrames most_limits sent → HasTextReason what → MaySend sent status what → AreValidFrames most_limits (sent ++ frame_of what ∷ [])
-  pub replies_stay : (role : Role) (limits most : LimitsValue) (bytes : List ℕ) (events later : List Event) (sent : List Frame) → HasEvents role limits bytes (events ++ later) → AreValidFrames most sent → AreValidFrames most (sent ++ replies_of sent later)
-  pub replies_can : (role own : Role) (limits : LimitsValue) (bytes key : List ℕ) (events later : List Event) (sent : List Frame) → HasEvents role limits bytes (events ++ later) → IsKey (key_for own key) → AllByRecursion CanBeSent (map (under_key own key) (replies_of sent later))
+  pub sends_stay : (sent : List Frame) (status : Status) (what : Send)
+      → AreValidFrames most_limits sent → HasTextReason what → MaySend sent status what
+      → AreValidFrames most_limits (sent ++ frame_of what ∷ [])
+  pub replies_stay : (role : Role) (limits most : LimitsValue) (bytes : List ℕ) (events later : List Event)
+      (sent : List Frame) → HasEvents role limits bytes (events ++ later) → AreValidFrames most sent
+      → AreValidFrames most (sent ++ replies_of sent later)
+  pub replies_can : (role own : Role) (limits : LimitsValue) (bytes key : List ℕ) (events later : List Event)
+      (sent : List Frame) → HasEvents role limits bytes (events ++ later) → IsMaskingKey (key_for own key)
+      → AllByRecursion FitsTheLayout (map (under_key own key) (replies_of sent later))
 
 -- ---- bytes that come
 

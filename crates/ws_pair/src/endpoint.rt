@@ -1,21 +1,24 @@
 //! One end of two joined sessions: its session, and what it has put and delivered so far.
 
-ghost use Rattle.std.specs.Prelude.{◌≡◌, ◌+◌, ◌-◌, ◌≤◌, ◌<◌, ◌^◌, ℕ, List, [], length, take, drop, min, if◌then◌else◌, false, IfOk, OnOk, option_to_list};
+ghost use Rattle.std.specs.Prelude.{◌≡◌, ◌+◌, ◌-◌, ◌≤◌, ◌<◌, ◌^◌, ℕ, List, [], ◌++◌, length, min, if◌then◌else◌, false};
+ghost use Rattle.std.specs.Prelude.{IfOk, OnOk};
 ghost use Rattle.ws_frame.specs.declared.role.Role.{Role};
 ghost use Rattle.ws_frame.specs.Frame.{KeyedFrame, stream_bytes};
 ghost use Rattle.ws_session.specs.Limits.{LimitsValue};
 ghost use Rattle.ws_session.specs.Events.{messages_in};
+ghost use Rattle.ws_session.specs.Taking.{events_in};
 ghost use Rattle.ws_pair.specs.Link.{LinkEnd, Link, BothLimits, new_end, end_of, other, role_of};
-ghost use Rattle.ws_pair.specs.Playing.{AreSentBy, IsEnd, IsNextIn, Stands, HasMoved, IsToldOf, grown, peer, side_of};
+ghost use Rattle.ws_pair.specs.Playing.{AreSentBy, IsEnd, IsNextIn, Stands, HasMoved, IsToldOf, grown, peer};
 ghost use Rattle.ws_session.specs.Sends as sends;
-ghost use Rattle.ws_pair.specs.Moves.{with_cut, close_given};
+ghost use Rattle.ws_pair.specs.Moves.{with_cut, close_given, side_of};
 
-use crate::known::{has_key_bytes, session_laws};
+use crate::lemmas::{has_key_bytes, session_laws};
 use crate::moves::Move;
 use crate::report::{Answer, EndReport};
 use std::alloc::Global;
-use ws_frame::{NoMemory, Role};
-use ws_session::{Event, Limits, Message, SendFault, Session, Taken};
+use ws_base::NoMemory;
+use ws_frame::Role;
+use ws_session::{Event, Limits, Message, PlacedEvent, SendFault, Session};
 
 /// One end of two joined sessions.
 #[derive(Drop)]
@@ -62,14 +65,20 @@ impl Endpoint {
     }
 
     /// One move at this end. `others` is all that the other end has put.
-    pub(crate) fn act(&mut self, others: &[u8], step: &Move) -> Result<Answer, NoMemory>
+    pub(crate) fn act(
+        &mut self,
+        alloc: Global,
+        others: &[u8],
+        next: &Move,
+    ) -> Result<Answer, NoMemory>
         requires reached { self.old.reached ≤ length others.now }
-        ensures moved { (limits : BothLimits) (link : Link) → Stands limits link (side_of step.now) self.old →
-            AreSentBy (peer (role_of (side_of step.now))) (end_of link (other (side_of step.now))).sent → others.now ≡ stream_bytes (end_of link (other (side_of step.now))).sent →
-            IfOk result (λ answer. HasMoved limits link step.now answer self.new) }
+        ensures moved { (limits : BothLimits) (link : Link) → Stands limits link (side_of next.now) self.old →
+            AreSentBy (peer (role_of (side_of next.now))) (end_of link (other (side_of next.now))).sent →
+            others.now ≡ stream_bytes (end_of link (other (side_of next.now))).sent →
+            IfOk result (λ answer. HasMoved limits link next.now answer self.new) }
     {
         session_laws();
-        match step {
+        match next {
             Move::Begin {
                 kind,
                 payload,
@@ -80,7 +89,7 @@ impl Endpoint {
                 let sent = self
                     .session
                     .begin(*kind, payload.as_slice(), *fin, *key, &mut self.put);
-                let answer = told(sent)?;
+                let answer = send_answer(sent)?;
                 Ok(answer)
             }
             Move::More {
@@ -92,26 +101,26 @@ impl Endpoint {
                 let sent = self
                     .session
                     .more(payload.as_slice(), *fin, *key, &mut self.put);
-                let answer = told(sent)?;
+                let answer = send_answer(sent)?;
                 Ok(answer)
             }
             Move::Ping { payload, key, .. } => {
                 let sent = self.session.ping(payload.as_slice(), *key, &mut self.put);
-                let answer = told(sent)?;
+                let answer = send_answer(sent)?;
                 Ok(answer)
             }
             Move::Pong { payload, key, .. } => {
                 let sent = self.session.pong(payload.as_slice(), *key, &mut self.put);
-                let answer = told(sent)?;
+                let answer = send_answer(sent)?;
                 Ok(answer)
             }
             Move::Close { given, key, .. } => {
-                let sent = self.session.close(lent(given), *key, &mut self.put);
-                let answer = told(sent)?;
+                let sent = self.session.close(borrowed(given), *key, &mut self.put);
+                let answer = send_answer(sent)?;
                 Ok(answer)
             }
             Move::Arrive { bytes, key, .. } => {
-                let count = self.arrive(others, *bytes, *key)?;
+                let count = self.arrive(alloc, others, *bytes, *key)?;
                 Ok(Answer::Arrived(count))
             }
             Move::Cut { .. } => {
@@ -122,16 +131,24 @@ impl Endpoint {
     }
 
     /// The next bytes come, at most so many: how many do.
-    fn arrive(&mut self, others: &[u8], bytes: u32, key: [u8; 4]) -> Result<u32, NoMemory>
+    fn arrive(
+        &mut self,
+        alloc: Global,
+        others: &[u8],
+        bytes: u32,
+        key: [u8; 4],
+    ) -> Result<u32, NoMemory>
         requires reached { self.old.reached ≤ length others.now }
-        ensures count { IfOk result (λ count. count ≡ (if self.old.is_cut then 0 else min bytes (length others.now - self.old.reached))) }
-        ensures arrived { (role : Role) (limits : LimitsValue) (x : LinkEnd) (xs : List KeyedFrame) → IsEnd role limits x xs self.old → AreSentBy (peer role) xs → others.now ≡ stream_bytes xs →
+        ensures count { IfOk result (λ count.
+            count ≡ (if self.old.is_cut then 0 else min bytes (length others.now - self.old.reached))) }
+        ensures arrived { (role : Role) (limits : LimitsValue) (x : LinkEnd) (xs : List KeyedFrame) →
+            IsEnd role limits x xs self.old → AreSentBy (peer role) xs → others.now ≡ stream_bytes xs →
             IfOk result (λ count. IsEnd role limits (grown role limits x xs count key) xs self.new) }
     {
         session_laws();
         let count = self.arriving(others.len(), bytes);
         let end = self.reached + count as usize;
-        self.deliver(&others[self.reached..end], key)?;
+        self.deliver(alloc, &others[self.reached..end], key)?;
         Ok(count)
     }
 
@@ -150,43 +167,28 @@ impl Endpoint {
         }
     }
 
-    /// Takes a piece of what the other end has put, until it is used whole.
-    fn deliver(&mut self, piece: &[u8], key: [u8; 4]) -> Result<(), NoMemory>
+    /// Takes a piece of what the other end has put, whole.
+    fn deliver(&mut self, alloc: Global, piece: &[u8], key: [u8; 4]) -> Result<(), NoMemory>
         requires room { self.old.reached + length piece.now < 2 ^ 64 }
-        ensures { (role : Role) (limits : LimitsValue) (x : LinkEnd) (xs : List KeyedFrame) → IsEnd role limits x xs self.old → AreSentBy (peer role) xs →
+        ensures { (role : Role) (limits : LimitsValue) (x : LinkEnd) (xs : List KeyedFrame) →
+            IsEnd role limits x xs self.old → AreSentBy (peer role) xs →
             IsNextIn (stream_bytes xs) x.reached piece.now → (0 < length piece.now → x.is_cut ≡ false) →
             OnOk result (IsEnd role limits (grown role limits x xs (length piece.now) key) xs self.new) }
     {
         session_laws();
-        let mut used = 0;
-        while used < piece.len() {
-            used += self.deliver_front(&piece[used..], key)?;
-        }
-        Ok(())
-    }
-
-    /// Takes the front of a piece, as much as one call takes, and answers how much that is.
-    fn deliver_front(&mut self, piece: &[u8], key: [u8; 4]) -> Result<usize, NoMemory>
-        requires room { self.old.reached + length piece.now < 2 ^ 64 }
-        ensures used { IfOk result (λ used. (0 < length piece.now → 0 < used) × (used ≤ length piece.now)) }
-        ensures reached { IfOk result (λ used. self.new.reached ≡ self.old.reached + used) }
-        ensures taken { (role : Role) (limits : LimitsValue) (x : LinkEnd) (xs : List KeyedFrame) → IsEnd role limits x xs self.old → AreSentBy (peer role) xs →
-            IsNextIn (stream_bytes xs) x.reached piece.now → x.is_cut ≡ false →
-            IfOk result (λ used. IsEnd role limits (grown role limits x xs used key) xs self.new) }
-    {
-        session_laws();
-        let Taken { used, event } = self.session.take(piece, key, &mut self.put)?;
         has_key_bytes(key);
-        self.reached += used;
-        if let Some(message) = message_in(event) {
-            self.delivered.push(message)?;
-        }
-        Ok(used)
+        let mut events = Vec::new(alloc);
+        self.session
+            .take_all(piece, key, &mut self.put, &mut events)?;
+        self.reached += piece.len();
+        keep_messages(events, &mut self.delivered)?;
+        Ok(())
     }
 
     /// The stream to this end ends.
     fn cut(&mut self)
-        ensures { (role : Role) (limits : LimitsValue) (x : LinkEnd) (xs : List KeyedFrame) → IsEnd role limits x xs self.old → IsEnd role limits (with_cut x) xs self.new }
+        ensures { (role : Role) (limits : LimitsValue) (x : LinkEnd) (xs : List KeyedFrame) →
+            IsEnd role limits x xs self.old → IsEnd role limits (with_cut x) xs self.new }
     {
         self.session.end();
         self.is_cut = true;
@@ -194,7 +196,7 @@ impl Endpoint {
 }
 
 /// What a send is answered with. Want of memory ends the run.
-fn told(sent: Result<(), SendFault>) -> Result<Answer, NoMemory>
+fn send_answer(sent: Result<(), SendFault>) -> Result<Answer, NoMemory>
     ensures { IfOk result (IsToldOf sent) }
 {
     match sent {
@@ -204,8 +206,8 @@ fn told(sent: Result<(), SendFault>) -> Result<Answer, NoMemory>
     }
 }
 
-/// The code and the reason of a close, lent.
-fn lent(given: &Option<(u16, String)>) -> Option<(u16, &str)>
+/// The code and the reason of a close, borrowed.
+fn borrowed(given: &Option<(u16, String)>) -> Option<(u16, &str)>
     ensures { sends.close_given result ≡ close_given given.now }
 {
     match given {
@@ -214,16 +216,14 @@ fn lent(given: &Option<(u16, String)>) -> Option<(u16, &str)>
     }
 }
 
-/// The message that was told, if there is one.
-fn message_in(event: Option<Event>) -> Option<Message>
-    ensures { option_to_list result ≡ messages_in (option_to_list event) }
+/// Puts the messages that these events tell behind those that were delivered before.
+fn keep_messages(events: Vec<PlacedEvent>, delivered: &mut Vec<Message>) -> Result<(), NoMemory>
+    ensures { OnOk result (delivered.new.items ≡ delivered.old.items ++ messages_in (events_in events.items)) }
 {
-    match event {
-        None => None,
-        Some(event) => match event {
-            Event::Message(message) => Some(message),
-            Event::Part | Event::Ping(_) | Event::Pong(_) | Event::Close(_) | Event::Failed(_) =>
-                None,
-        },
+    for PlacedEvent { event, .. } in events {
+        if let Event::Message(message) = event {
+            delivered.push(message)?;
+        }
     }
+    Ok(())
 }

@@ -8,6 +8,7 @@ ghost use Rattle.ws_pair.specs.Moves.{Plays};
 
 /// The same moves are answered in one way, and lead to one link.
 pub fn one_play()
-    ensures { (limits : BothLimits) (link : Link) (moves : List Move) (answers others : List Answer) (after after_others : Link) →
-        Plays limits link moves answers after → Plays limits link moves others after_others → (answers ≡ others) × (after ≡ after_others) }
+    ensures { (limits : BothLimits) (link : Link) (moves : List Move) (answers others : List Answer)
+        (after after_others : Link) → Plays limits link moves answers after →
+        Plays limits link moves others after_others → (answers ≡ others) × (after ≡ after_others) }
 {}

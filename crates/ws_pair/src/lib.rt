@@ -1,19 +1,21 @@
-//! Two WebSocket sessions, a client's and a server's, joined by two ordered streams of bytes (RFC 6455 sections 5 to 7):
-//! what each end delivers, whatever is sent and however the bytes are cut.
+//! Two WebSocket sessions, a client's and a server's, joined by two ordered streams of bytes (RFC 6455 sections 5 to
+//! 7): what each end delivers, whatever is sent and however the bytes are cut.
 //!
-//! The layers above use one contract, that of `run_pair`: each end delivers exactly the other's messages whose last byte
-//! has reached it before a message was too big.
+//! The layers above use one contract, that of `run_pair`: each end delivers exactly the other's messages whose last
+//! byte has reached it before a message was too big.
 #![tactic(auto)]
 
 mod endpoint;
-mod known;
 pub mod laws;
+mod lemmas;
 mod moves;
 mod report;
+mod report_lines;
 mod running;
-#[cfg(test)]
-mod tests;
+mod script;
 
 pub use moves::{End, Move};
 pub use report::{Answer, EndReport, Report};
+pub use report_lines::write_report;
 pub use running::run_pair;
+pub use script::read_moves;

@@ -1,43 +1,44 @@
 //! What happens at two joined sessions.
 
 ghost use Rattle.std.specs.Prelude.{◌≡◌};
-ghost use Rattle.ws_pair.specs.Playing.{side_of};
+ghost use Rattle.ws_pair.specs.Moves.{side_of};
 
-use ws_session::{Bytes, Kind};
+use ws_base::Payload;
+use ws_session::Kind;
 
 /// One of the two ends.
-#[derive(Clone, Copy, Debug, PartialEq, Eq)]
+#[derive(Clone, Copy)]
 pub enum End {
     Client,
     Server,
 }
 
 /// One thing that happens at an end. `key` masks what the client sends, and a server uses none (RFC 6455 section 5.3).
-#[derive(Drop, Debug)]
+#[derive(Drop)]
 pub enum Move {
     /// The first frame of a message is sent, the only one where `fin` is set.
     Begin {
         side: End,
         kind: Kind,
-        payload: Bytes,
+        payload: Payload,
         fin: bool,
         key: [u8; 4],
     },
     /// The next frame of the open message is sent, the last one where `fin` is set.
     More {
         side: End,
-        payload: Bytes,
+        payload: Payload,
         fin: bool,
         key: [u8; 4],
     },
     Ping {
         side: End,
-        payload: Bytes,
+        payload: Payload,
         key: [u8; 4],
     },
     Pong {
         side: End,
-        payload: Bytes,
+        payload: Payload,
         key: [u8; 4],
     },
     /// A close frame is sent, with a code and a reason or empty.

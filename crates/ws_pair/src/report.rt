@@ -3,7 +3,7 @@
 use ws_session::{Message, SendFault, Session, Status};
 
 /// What came of one move.
-#[derive(Clone, Copy, Debug, PartialEq, Eq)]
+#[derive(Clone, Copy)]
 pub enum Answer {
     /// The frame was sent.
     Did,

@@ -6,5 +6,5 @@ use Rattle.ws_pair.specs.Playing.{AreJoined}
 use Rattle.ws_pair.proofs.running.run_pair.Given as goal
 
 -- the moves so far lead to a link as whose ends the two endpoints stand
-abbrev pub invariant-loop-step : goal.invariant-loop-step
-invariant-loop-step l = (link : Link) × Plays (both_limits l.fn.client l.fn.server) new_link (take l.step-index l.moves) l.answers.items link × AreJoined (both_limits l.fn.client l.fn.server) link l.client l.server
+abbrev pub invariant-loop-next : goal.invariant-loop-next
+invariant-loop-next l = (link : Link) × Plays (both_limits l.fn.client l.fn.server) new_link (take l.next-index l.moves) l.answers.items link × AreJoined (both_limits l.fn.client l.fn.server) link l.client l.server

@@ -43,8 +43,8 @@ pub returns-in_ok-answer-in-Close : goal.returns-in_ok-answer-in-Close
 returns-in_ok-answer-in-Close c = record {
   moved = subst (λ (m : Move). Acts c.args.self.now (after_call c.args.self.now c.close-sent.new.self c.close-sent.new.out) c.args.others.now c.in_ok-answer-in-Close.answer m) (sym c.in-Close.is)
       (close_acts c.session_laws.ensures c.args.self.now (after_call c.args.self.now c.close-sent.new.self c.close-sent.new.out) c.args.others.now c.in_ok-answer-in-Close.answer c.in-Close.key c.close-sent.result c.in_ok-answer-in-Close.ensures c.in-Close.side c.in-Close.given
-      (subst (λ (o : Option CloseValue). HasCalled c.args.self.now (after_call c.args.self.now c.close-sent.new.self c.close-sent.new.out) (send.Close o) c.in-Close.key c.close-sent.result) c.lent.ensures
-      (record { done = c.close-sent.ensures.sent; refused = c.close-sent.ensures.refused; kept = c.close-sent.ensures.kept; text = close_text c.close-sent.result (send.close_given c.lent.result) c.close-sent.ensures.text; reached = refl; delivered = refl; is_cut = refl })));
+      (subst (λ (o : Option CloseValue). HasCalled c.args.self.now (after_call c.args.self.now c.close-sent.new.self c.close-sent.new.out) (send.Close o) c.in-Close.key c.close-sent.result) c.borrowed.ensures
+      (record { done = c.close-sent.ensures.sent; refused = c.close-sent.ensures.refused; kept = c.close-sent.ensures.kept; text = close_text c.close-sent.result (send.close_given c.borrowed.result) c.close-sent.ensures.text; reached = refl; delivered = refl; is_cut = refl })));
 }
 
 pub returns-in_ok-count-in-Arrive : goal.returns-in_ok-count-in-Arrive

@@ -1,14 +1,12 @@
 use Rattle.ws_session.specs.Replies.{reply_to}
-use Rattle.ws_pair.proofs.known.session_laws.Goals as goal
+use Rattle.ws_pair.proofs.lemmas.session_laws.Goals as goal
 
 pub returns : goal.returns
 returns c = record {
   one_list = c.one_list_of_events.ensures;
-  go_on = c.events_go_on.ensures;
-  behind = c.bytes_after_the_end.ensures;
+  over_at_end = c.ended_streams_are_over.ensures;
   replies = c.replies_go_on.ensures reply_to;
   frames_stay = c.appended_frames_are_not_within.ensures.frames;
-  after_too_big = c.more_bytes_after_the_last.ensures.too_big;
   after_close = c.more_bytes_after_the_last.ensures.close;
   told = c.valid_frames_are_told.ensures;
   messages = c.messages_are_told.ensures;

@@ -1,14 +1,14 @@
 //! What the layer below and the types say, called where a proof stands on it. Nothing runs here.
 
 ghost use Rattle.std.specs.Prelude.{Some};
-ghost use Rattle.ws_frame.specs.Header.{IsKey};
+ghost use Rattle.ws_frame.specs.Header.{IsMaskingKey};
 ghost use Rattle.ws_pair.specs.Playing.{SessionLaws};
 
 use ws_session::laws;
 
 /// A key is four bytes, as its type says.
 pub(crate) fn has_key_bytes(key: [u8; 4])
-    ensures { IsKey (Some key) }
+    ensures { IsMaskingKey (Some key) }
 {}
 
 /// The laws of the layer below that serve here.
@@ -16,8 +16,7 @@ pub(crate) fn session_laws()
     ensures { SessionLaws }
 {
     laws::one_list_of_events();
-    laws::events_go_on();
-    laws::bytes_after_the_end();
+    laws::ended_streams_are_over();
     laws::replies_go_on();
     laws::appended_frames_are_not_within();
     laws::more_bytes_after_the_last();
