@@ -1,0 +1,5 @@
+mod PassedUp
+mod Placed
+mod Sending
+mod Answering
+mod Pieces

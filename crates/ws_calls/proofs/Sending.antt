@@ -1,0 +1,76 @@
+-- What a send at a session answers.
+use Rattle.std.proofs.Common.{◌≡◌, ◌∙◌, ℕ, List, [], ◌∷◌, ◌++◌, ap, sym, refl, subst, OnOk, OnErr, IfErr, Result, Ok, Err}
+use Rattle.ws_frame.specs.Frame.{Frame}
+use Rattle.ws_session.specs.declared.event.Event.{Event}
+use Rattle.ws_session.specs.declared.send_fault.SendFault.{SendFault}
+use Rattle.ws_session.specs.declared.send_fault.SendFault.TheVariants as fault
+use Rattle.ws_session.specs.Exchange.{Exchange, SessionValue, HasExchanged}
+use Rattle.ws_session.specs.Sends.{Send, frame_of, HasSent, IsRefusedBy, IsFirstWrong}
+use Rattle.ws_calls.specs.declared.calls.Call.{Call}
+use Rattle.ws_calls.specs.declared.report.CallAnswer.{CallAnswer}
+use Rattle.ws_calls.specs.declared.report.CallAnswer.TheVariants.{Sent, Refused}
+use Rattle.ws_calls.specs.Calls.{Endpoint, HasStatus, IsAnswered, IsSendAnswered, with_sent}
+use Rattle.ws_calls.specs.Steps.{Agrees, HasAnswered, IsOutcome}
+
+-- a session as an endpoint that replies so
+abbrev pub endpoint_of : (Event → List Frame) → SessionValue → Endpoint
+endpoint_of reply v = record { role = v.role; limits = v.limits; reply = reply }
+
+-- the status of what a session has exchanged
+pub status_there : (reply : Event → List Frame) (exchange : Exchange) (taken : ℕ) (v : SessionValue) → Agrees exchange taken v → HasStatus (endpoint_of reply v) exchange v.status
+status_there reply exchange taken v is = (is.exchanged.events, is.exchanged.has_events, is.exchanged.status)
+
+module _ (reply : Event → List Frame) (exchange : Exchange) (taken : ℕ) (old new : SessionValue) (what : Send) (key put : List ℕ) (is : Agrees exchange taken old) where
+  abbrev SendAnswered : CallAnswer → Type 0
+  SendAnswered answer = (after : Exchange) × IsSendAnswered (endpoint_of reply old) exchange what key answer after × Agrees after taken new
+      × ((new.role ≡ old.role) × (new.limits ≡ old.limits))
+
+  is_done : HasSent old new what key [] put → SendAnswered (Sent put)
+  is_done h =
+      let t = h exchange is.exchanged in (
+        with_sent exchange (frame_of what ∷ []),
+        (old.status, status_there reply exchange taken old is, t.may, t.put, refl),
+        record { exchanged = t.agrees; count = is.count },
+        t.same,
+      )
+
+  is_refused : (why : SendFault) → new ≡ old → IsFirstWrong exchange.sent old.status what why → SendAnswered (Refused why)
+  is_refused why same first = (
+    exchange,
+    (old.status, status_there reply exchange taken old is, first, refl),
+    record { exchanged = subst (λ (v : SessionValue). HasExchanged v exchange.sent exchange.taken exchange.ended) (sym same) is.exchanged; count = is.count },
+    (ap (λ (v : SessionValue). v.role) same, ap (λ (v : SessionValue). v.limits) same),
+  )
+
+  at_answer : (a b : CallAnswer) → b ≡ a → SendAnswered a → SendAnswered b
+  at_answer a b e h = subst (λ (c : CallAnswer). SendAnswered c) (sym e) h
+
+  -- whichever it is
+  pub send_answered : {X : Type 0} (sent : Result X SendFault) (answer : CallAnswer) → OnOk sent (HasSent old new what key [] put) → IfErr sent (IsRefusedBy old what)
+      → OnErr sent (new ≡ old) → IsOutcome sent put answer → SendAnswered answer
+  send_answered (Ok done) answer h r k e = at_answer (Sent put) answer e (is_done h)
+  send_answered (Err fault.NoMemory) answer h r k e = absurd e
+  send_answered (Err fault.Over) answer h r k e = at_answer (Refused fault.Over) answer e (is_refused fault.Over k (r exchange is.exchanged))
+  send_answered (Err fault.Busy) answer h r k e = at_answer (Refused fault.Busy) answer e (is_refused fault.Busy k (r exchange is.exchanged))
+  send_answered (Err fault.NothingOpen) answer h r k e = at_answer (Refused fault.NothingOpen) answer e (is_refused fault.NothingOpen k (r exchange is.exchanged))
+  send_answered (Err fault.NotText) answer h r k e = at_answer (Refused fault.NotText) answer e (is_refused fault.NotText k (r exchange is.exchanged))
+  send_answered (Err fault.TooLong) answer h r k e = at_answer (Refused fault.TooLong) answer e (is_refused fault.TooLong k (r exchange is.exchanged))
+  send_answered (Err fault.BadCode) answer h r k e = at_answer (Refused fault.BadCode) answer e (is_refused fault.BadCode k (r exchange is.exchanged))
+
+-- what a call of a session says of a send
+pub record HasCalled {X : Type 0} (old new : SessionValue) (what : Send) (key before put : List ℕ) (sent : Result X SendFault) : Type 0 where
+  pub done : OnOk sent (HasSent old new what key before put)
+  pub refused : IfErr sent (IsRefusedBy old what)
+  pub kept : OnErr sent ((new ≡ old) × (put ≡ before))
+
+unchanged : {X : Type 0} (P Q : Type 0) (sent : Result X SendFault) → OnErr sent (P × Q) → OnErr sent P
+unchanged P Q (Ok done) h = tt
+unchanged P Q (Err why) h = h.0
+
+-- a call that sends this
+pub send_call : {X : Type 0} (reply : Event → List Frame) (exchange : Exchange) (taken : ℕ) (old new : SessionValue) (call : Call) (what : Send) (key before put : List ℕ) (sent : Result X SendFault) (answer : CallAnswer)
+    → ((a : CallAnswer) (after : Exchange) → IsSendAnswered (endpoint_of reply old) exchange what key a after → IsAnswered (endpoint_of reply old) exchange call a after)
+    → before ≡ [] → HasCalled old new what key before put sent → IsOutcome sent put answer → Agrees exchange taken old → HasAnswered (endpoint_of reply old) exchange call answer taken new
+send_call reply exchange taken old new call what key before put sent answer same empty h outcome is =
+    let g = send_answered reply exchange taken old new what key put is sent answer (subst (λ (l : List ℕ). OnOk sent (HasSent old new what key l put)) empty h.done) h.refused (unchanged (new ≡ old) (put ≡ before) sent h.kept) outcome in
+    record { after = g.0; answered = same answer g.0 g.1; agrees = g.2; same = g.3 }
