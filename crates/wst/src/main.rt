@@ -1,34 +1,31 @@
-//! `wst`, the frame-level WebSocket tester: words, files and exit statuses. No rule of the protocol stands here.
+//! `wst`, the frame-level WebSocket tester: the words of the command line, watched devices and the exit status.
 #![tactic(auto)]
 
-mod reading_head;
-mod reading_whole;
-mod report_lines;
-mod run;
-mod script;
-mod words;
-
-use run::{run, words_are_no_text};
 use std::io::ErrorKind;
 use std::process::ExitCode;
 use std::{env, io};
 use ws_frame::Watched;
+use wst_commands::{run, words_are_no_text};
 
 fn main(rt: HostRuntime) -> ExitCode {
     let mut input = Watched::new(rt.stdin());
     let mut output = Watched::new(rt.stdout());
     let mut faults = Watched::new(rt.stderr());
-    let status = match arguments(&rt) {
+    let alloc = rt.alloc();
+    let exit = match arguments(&rt) {
         Ok(words) => run(
-            rt.alloc(),
+            alloc,
             words.as_slice(),
             &mut input,
             &mut output,
             &mut faults,
         ),
-        Err(error) => words_are_no_text(error.kind() == ErrorKind::OutOfMemory, &mut faults),
+        Err(error) => {
+            let no_memory = error.kind() == ErrorKind::OutOfMemory;
+            words_are_no_text(alloc, no_memory, &mut faults)
+        }
     };
-    ExitCode::from(status)
+    ExitCode::from(exit.status())
 }
 
 /// The words of the command line, the program's name first. An error where one is no UTF-8 or

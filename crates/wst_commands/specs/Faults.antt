@@ -1,0 +1,33 @@
+-- What is told on the fault output in place of an answer, and the exit that it stands for.
+use Rattle.std.specs.Prelude.{◌≡◌, ℕ, ◌⊎◌, List, [], ◌∷◌, codes}
+use Rattle.std.specs.List.{concat}
+use Rattle.std.specs.Fmt.{decimal}
+use Rattle.ws_frame.specs.Devices.{Device}
+use Rattle.wst_commands.specs.Devices.{Tells}
+use Rattle.wst_commands.specs.declared.exit.Exit.{Exit}
+use Rattle.wst_commands.specs.declared.exit.Exit.TheVariants.{Damaged, WrongWords, Failed}
+use Rattle.wst_commands.specs.declared.fault.Fault.{Fault}
+use Rattle.wst_commands.specs.declared.fault.Fault.TheVariants.{BadLimits, HeadIsCut, NotACall, NotAMove}
+use Rattle.wst_commands.specs.declared.fault.Fault.TheVariants.{NoText, NoTask, NoMemory}
+
+-- memory ran out, and that is told
+abbrev pub LacksMemory : Exit → Device → Type 0
+LacksMemory exit faults = (exit ≡ Failed) × Tells (codes "no memory\n") faults
+
+-- the line that tells which line of a script is damaged, and what it is not
+abbrev pub damage_line : ℕ → List ℕ → List ℕ
+damage_line number what = concat (codes "line " ∷ decimal number ∷ codes ": " ∷ what ∷ codes "\n" ∷ [])
+
+-- the line is told, or memory ran out for it
+abbrev pub TellsLine : ℕ → List ℕ → Exit → Device → Type 0
+TellsLine number what exit faults =
+    ((exit ≡ Damaged) × Tells (damage_line number what) faults) ⊎ LacksMemory exit faults
+
+abbrev pub TellsFault : Fault → Exit → Device → Type 0
+TellsFault BadLimits exit faults = (exit ≡ WrongWords) × Tells (codes "bad limits\n") faults
+TellsFault HeadIsCut exit faults = (exit ≡ Damaged) × Tells (codes "head is cut\n") faults
+TellsFault (NotAMove number) exit faults = TellsLine number (codes "not a move") exit faults
+TellsFault (NotACall number) exit faults = TellsLine number (codes "not a call") exit faults
+TellsFault NoText exit faults = (exit ≡ WrongWords) × Tells (codes "error: the words are not UTF-8\n") faults
+TellsFault NoTask exit faults = (exit ≡ WrongWords) × Tells (codes "error: the words ask for nothing\n") faults
+TellsFault NoMemory exit faults = LacksMemory exit faults

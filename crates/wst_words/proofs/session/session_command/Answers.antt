@@ -1,0 +1,14 @@
+use Rattle.std.proofs.Common.{◌≡◌, ◌∙◌, ap, ap₂, codes}
+use Rattle.std.proofs.lemmas.Result.{IfOk-weaker}
+use Rattle.clap.specs.Words.{app_of, new_app, with_rule}
+use Rattle.clap.specs.Simple.{app_of_fields}
+use Rattle.wst_words.specs.Options.{end_rule}
+use Rattle.wst_words.proofs.session.session_command.Goals as goal
+
+pub returns-clause-app : goal.returns-clause-app
+returns-clause-app c =
+    let texts : app_of c.after_help.result ≡ new_app (codes "session") = ap app_of_fields c.after_help.ensures ∙ ap app_of_fields c.long_about.ensures ∙ ap app_of_fields c.about.ensures ∙ c.new.ensures.app in
+    let role = c.end_option.ensures.rule in
+    let one : app_of c.in_ok-arg.field-0 ≡ with_rule (new_app (codes "session")) (end_rule (codes "role") role.0) = c.in_ok-arg.ensures.shape c.end_option.ensures.local ∙ ap₂ with_rule texts role.1 in
+    let two = c.in_ok-arg-2.ensures.shape c.number_option.ensures.local ∙ ap₂ with_rule one c.number_option.ensures.rule in
+    IfOk-weaker c.arg-3.result _ _ (λ r h. (role.0, h.shape c.flag_option.ensures.local ∙ ap₂ with_rule two c.flag_option.ensures.rule)) c.arg-3.ensures

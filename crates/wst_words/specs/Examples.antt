@@ -1,0 +1,187 @@
+-- Worked examples of words and what they ask for, each a theorem, wherever the names of the ends lie in memory.
+use Rattle.std.specs.Prelude.{◌≡◌, ⊤, true, false, List, [], ◌∷◌, Some, map, codes, refl}
+use Rattle.std.specs.Char.{encode_utf8}
+use Rattle.std.specs.Str.{chars}
+use Rattle.std.specs.Str.Parse.{digits_value, without_leading_plus}
+use Rattle.clap.proofs.ValueTestLemmas.{accepts-Accepts}
+use Rattle.clap.specs.Words.{Row, Text, fault_of, one_of, takes}
+use Rattle.clap.specs.ValueTests.{accepts}
+use Rattle.clap.specs.Walk.{bundle_met, walked}
+use Rattle.clap.specs.Takes.{flags_pass, walk_passes}
+use Rattle.clap.specs.Faults.{defaults_fault, flags_fault, walk_fault}
+use Rattle.clap.specs.declared.error.kind.ErrorKind.TheVariants.{DisplayHelp, DisplayVersion, InvalidSubcommand}
+use Rattle.clap.specs.declared.error.kind.ErrorKind.TheVariants.{InvalidValue, MissingSubcommand, UnknownArgument}
+use Rattle.clap.specs.declared.error.kind.ErrorKind.TheVariants.{ValueValidation}
+use Rattle.clap.specs.declared.builder.value_parser.ValueParser.TheVariants.{Unsigned}
+use Rattle.ws_frame.specs.declared.role.Role.TheVariants.{Client, Server}
+use Rattle.wst_words.specs.Options.{GivesNumber}
+use Rattle.wst_words.specs.Words.{AsksFor, Places, wst_app}
+use Rattle.wst_words.specs.declared.words.Task.TheVariants.{Head, Pair, Session, Show}
+
+-- what is computed at words that are written out
+unfoldable on_words : ⊤
+unfolding walked bundle_met chars encode_utf8 flags_pass walk_passes flags_fault walk_fault defaults_fault
+on_words = tt
+
+-- the words with the program's name before them
+abbrev words : List Text → List Text
+words others = codes "wst" ∷ others
+
+-- an option that has a numeral of 64 bits gives its number
+numbered : (rows : List Row) (name word : Text) → one_of name rows ≡ Some word
+    → accepts false (Unsigned 0 18446744073709551615) word ≡ true
+    → GivesNumber rows name (digits_value 10 (without_leading_plus word))
+numbered rows name word there passes =
+    let number = accepts-Accepts false (Unsigned 0 18446744073709551615) word passes in
+    record { word = word; has_word = there; numeral = number.0; value = refl; fits = number.1 }
+
+-- ---- words that ask for a task
+
+-- `wst show` reads what a server sent, up to 1 GiB
+abbrev plain_words : List Text
+plain_words = words (codes "show" ∷ [])
+
+pub plain_show : (places : Places)
+    → AsksFor (wst_app places) plain_words (Show (record { from = Server; budget = 1073741824 }))
+unfolding on_words
+plain_show places = (
+  refl,
+  (
+    refl,
+    (record { word = codes "server"; has_word = refl; value = refl }, numbered _ _ (codes "1073741824") refl refl),
+  ),
+)
+
+-- `wst show --from client --budget 7` reads at most 7 bytes that a client sent
+abbrev client_words : List Text
+client_words = words (codes "show" ∷ codes "--from" ∷ codes "client" ∷ codes "--budget" ∷ codes "7" ∷ [])
+
+pub client_show : (places : Places)
+    → AsksFor (wst_app places) client_words (Show (record { from = Client; budget = 7 }))
+unfolding on_words
+client_show places = (
+  refl,
+  (refl, (record { word = codes "client"; has_word = refl; value = refl }, numbered _ _ (codes "7") refl refl)),
+)
+
+-- the same with the options the other way round, each as one word
+abbrev joined_words : List Text
+joined_words = words (codes "show" ∷ codes "--budget=7" ∷ codes "--from=client" ∷ [])
+
+pub joined_show : (places : Places)
+    → AsksFor (wst_app places) joined_words (Show (record { from = Client; budget = 7 }))
+unfolding on_words
+joined_show places = (
+  refl,
+  (refl, (record { word = codes "client"; has_word = refl; value = refl }, numbered _ _ (codes "7") refl refl)),
+)
+
+-- `wst head` answers the head of a request
+abbrev head_words : List Text
+head_words = words (codes "head" ∷ [])
+
+pub plain_head : (places : Places) → AsksFor (wst_app places) head_words Head
+unfolding on_words
+plain_head places = (refl, refl)
+
+-- `wst pair` joins ends that take messages of 1 MiB, unless told another limit
+pub plain_pair : (places : Places)
+    → AsksFor (wst_app places) (words (codes "pair" ∷ codes "--limit-server" ∷ codes "10" ∷ []))
+    (Pair (record { limit_client = 1048576; limit_server = 10 }))
+unfolding on_words
+plain_pair places = (
+  refl,
+  (refl, (numbered _ _ (codes "1048576") refl refl, numbered _ _ (codes "10") refl refl)),
+)
+
+-- `wst session` makes its calls at a server that takes messages of 1 MiB, and that is no echo
+abbrev session_words : List Text
+session_words = words (codes "session" ∷ [])
+
+pub plain_session : (places : Places)
+    → AsksFor (wst_app places) session_words (Session (record { role = Server; limit = 1048576; echo = false }))
+unfolding on_words
+plain_session places = (
+  refl,
+  (
+    refl,
+    (record { word = codes "server"; has_word = refl; value = refl }, numbered _ _ (codes "1048576") refl refl, refl),
+  ),
+)
+
+-- `wst session --echo` at an echo
+abbrev echo_words : List Text
+echo_words = words (codes "session" ∷ codes "--echo" ∷ [])
+
+pub plain_echo : (places : Places)
+    → AsksFor (wst_app places) echo_words (Session (record { role = Server; limit = 1048576; echo = true }))
+unfolding on_words
+plain_echo places = (
+  refl,
+  (
+    refl,
+    (record { word = codes "server"; has_word = refl; value = refl }, numbered _ _ (codes "1048576") refl refl, refl),
+  ),
+)
+
+-- such words can fail for want of memory alone
+pub asking_words_are_taken : (places : Places)
+    → map (takes (wst_app places)) (plain_words ∷ client_words ∷ head_words ∷ session_words ∷ echo_words ∷ [])
+    ≡ true ∷ true ∷ true ∷ true ∷ true ∷ []
+unfolding on_words
+asking_words_are_taken places = refl
+
+-- ---- words that ask for none
+
+-- `wst` alone
+pub no_command : (places : Places) → fault_of (wst_app places) (words []) ≡ MissingSubcommand ∷ []
+unfolding on_words
+no_command places = refl
+
+-- `wst judge`: no such command
+pub unknown_command : (places : Places)
+    → fault_of (wst_app places) (words (codes "judge" ∷ [])) ≡ UnknownArgument ∷ InvalidSubcommand ∷ []
+unfolding on_words
+unknown_command places = refl
+
+-- `wst show --budget x`: no number
+abbrev no_number : List Text
+no_number = words (codes "show" ∷ codes "--budget" ∷ codes "x" ∷ [])
+
+pub budget_no_number : (places : Places) → fault_of (wst_app places) no_number ≡ ValueValidation ∷ []
+unfolding on_words
+budget_no_number places = refl
+
+-- `wst show --from nobody`: no end
+pub from_nobody : (places : Places)
+    → fault_of (wst_app places) (words (codes "show" ∷ codes "--from" ∷ codes "nobody" ∷ [])) ≡ InvalidValue ∷ []
+unfolding on_words
+from_nobody places = refl
+
+-- `wst head --from client`: no such option
+pub head_with_an_option : (places : Places)
+    → fault_of (wst_app places) (words (codes "head" ∷ codes "--from" ∷ codes "client" ∷ [])) ≡ UnknownArgument ∷ []
+unfolding on_words
+head_with_an_option places = refl
+
+-- `wst show --help` is answered with help
+pub show_help : (places : Places)
+    → fault_of (wst_app places) (words (codes "show" ∷ codes "--help" ∷ [])) ≡ DisplayHelp ∷ []
+unfolding on_words
+show_help places = refl
+
+-- `wst --version` is answered with the version, and no command has one of its own
+pub version : (places : Places) → fault_of (wst_app places) (words (codes "--version" ∷ [])) ≡ DisplayVersion ∷ []
+unfolding on_words
+version places = refl
+
+pub show_version : (places : Places)
+    → fault_of (wst_app places) (words (codes "show" ∷ codes "--version" ∷ [])) ≡ UnknownArgument ∷ []
+unfolding on_words
+show_version places = refl
+
+-- and none of them is taken
+pub faulty_words_are_not_taken : (places : Places)
+    → map (takes (wst_app places)) (words [] ∷ words (codes "judge" ∷ []) ∷ no_number ∷ []) ≡ false ∷ false ∷ false ∷ []
+unfolding on_words
+faulty_words_are_not_taken places = refl

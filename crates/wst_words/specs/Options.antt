@@ -1,0 +1,88 @@
+-- Options that commands have, as clap's data, and what the words give them.
+use Rattle.std.specs.Prelude.{◌≡◌, ℕ, ◌^◌, ◌<◌, if◌then◌else◌, Bool, true, false, List, [], ◌∷◌, Some, codes}
+use Rattle.std.specs.Borrow.{Bor}
+use Rattle.std.specs.Str.{bytes_eq}
+use Rattle.std.specs.Str.Parse.{IsNumeral, digits_value, without_leading_plus}
+use Rattle.clap.specs.Words.{Row, Rule, Text, first_of, new_rule, one_of}
+use Rattle.clap.specs.declared.builder.action.ArgAction.TheVariants.{Set, SetTrue}
+use Rattle.clap.specs.declared.builder.value_parser.ValueParser.TheVariants.{Names, Unsigned}
+use Rattle.ws_frame.specs.declared.role.Role.{Role}
+use Rattle.ws_frame.specs.declared.role.Role.TheVariants.{Client, Server}
+
+-- ---- an end of the connection
+
+-- where the names of the two ends lie in memory, which clap's data of a list of names holds beside the names
+pub record EndPlaces : Type 0 where
+  pub list : ℕ × ℕ
+  pub client : ℕ × ℕ
+  pub server : ℕ × ℕ
+
+-- the names of the ends
+abbrev pub end_names : EndPlaces → Bor (List (Bor Text))
+end_names places = record {
+  ref_ptr = places.list;
+  now = record { ref_ptr = places.client; now = codes "client" }
+      ∷ record { ref_ptr = places.server; now = codes "server" } ∷ [];
+}
+
+-- an option that takes the name of an end, and `server` where it is left out
+abbrev pub end_rule : Text → EndPlaces → Rule
+end_rule name places = record (new_rule name) {
+  long = Some name;
+  action = Some Set;
+  value_names = 1;
+  defaults = codes "server" ∷ [];
+  parser = Some (Names (end_names places));
+}
+
+-- the end that a word names
+abbrev pub role_named : Text → Role
+role_named word = if bytes_eq word (codes "client") then Client else Server
+
+-- the option of this name gives this end
+pub record GivesEnd (rows : List Row) (name : Text) (role : Role) : Type 0 where
+  pub word : Text
+  pub has_word : first_of name rows ≡ Some word
+  pub value : role ≡ role_named word
+
+-- and it gives none
+abbrev pub GivesNoEnd : List Row → Text → Type 0
+GivesNoEnd rows name = (role : Role) → GivesEnd rows name role → ⊥
+
+-- ---- a number
+
+-- an option that takes a number of 64 bits, and this one where it is left out
+abbrev pub number_rule : Text → Text → Rule
+number_rule name default = record (new_rule name) {
+  long = Some name;
+  action = Some Set;
+  value_names = 1;
+  defaults = default ∷ [];
+  parser = Some (Unsigned 0 18446744073709551615);
+}
+
+-- the option of this name gives this number
+pub record GivesNumber (rows : List Row) (name : Text) (number : ℕ) : Type 0 where
+  pub word : Text
+  pub has_word : one_of name rows ≡ Some word
+  pub numeral : IsNumeral 10 (without_leading_plus word)
+  pub value : number ≡ digits_value 10 (without_leading_plus word)
+  pub fits : number < 2 ^ 64
+
+-- and it gives none
+abbrev pub GivesNoNumber : List Row → Text → Type 0
+GivesNoNumber rows name = (number : ℕ) → GivesNumber rows name number → ⊥
+
+-- ---- a flag
+
+abbrev pub flag_rule : Text → Rule
+flag_rule name = record (new_rule name) { long = Some name; action = Some SetTrue }
+
+-- the flag of this name is set, or it isn't
+abbrev pub GivesFlag : List Row → Text → Bool → Type 0
+GivesFlag rows name true = one_of name rows ≡ Some (codes "true")
+GivesFlag rows name false = one_of name rows ≡ Some (codes "false")
+
+-- and it is neither
+abbrev pub GivesNoFlag : List Row → Text → Type 0
+GivesNoFlag rows name = (set : Bool) → GivesFlag rows name set → ⊥

@@ -1,0 +1,70 @@
+-- What the words of a command line ask for: the program's commands as clap's data, and clap's own reading of the words
+-- by them.
+use Rattle.std.specs.Prelude.{◌≡◌, true, List, [], Option, Some, None, Result, MatchResult, codes}
+use Rattle.clap.specs.Words.{App, HasKind, Row, Text, fault_of, new_app, subcommand_of, with_subcommand}
+use Rattle.clap.specs.Simple.{on_top}
+use Rattle.clap.specs.declared.error.Error.{Error}
+use Rattle.wst_words.specs.Options.{EndPlaces}
+use Rattle.wst_words.specs.Pair.{AsksToPair, pair_app}
+use Rattle.wst_words.specs.Session.{AsksForSession, session_app}
+use Rattle.wst_words.specs.Show.{AsksToShow, show_app}
+use Rattle.wst_words.specs.declared.words.Task.{Task}
+use Rattle.wst_words.specs.declared.words.Task.TheVariants.{Head, Pair, Session, Show}
+use Rattle.wst_words.specs.declared.words.WordsFault.{WordsFault}
+use Rattle.wst_words.specs.declared.words.WordsFault.TheVariants.{Clap, NoTask}
+
+-- ---- the commands
+
+-- where the names of the ends lie in memory, for each option that takes one
+pub record Places : Type 0 where
+  pub from : EndPlaces
+  pub role : EndPlaces
+
+abbrev pub head_app : App
+head_app = new_app (codes "head")
+
+-- `wst` itself: a command may not be left out, and there is a version
+abbrev pub bare_app : App
+bare_app = on_top (λ s. record s { subcommand_required = true; has_version = true }) (new_app (codes "wst"))
+
+-- `wst` with its commands
+abbrev pub wst_app : Places → App
+wst_app places =
+    with_subcommand (with_subcommand (with_subcommand (with_subcommand bare_app
+    (show_app places.from).top) head_app.top) pair_app.top) (session_app places.role).top
+
+-- ---- what the words ask for
+
+-- the command and its options ask for this task
+abbrev pub CommandAsks : Option (Text × List Row) → Task → Type 0
+CommandAsks None task = ⊥
+CommandAsks (Some (name, rows)) (Show options) = (name ≡ codes "show") × AsksToShow rows options
+CommandAsks (Some (name, rows)) (Pair options) = (name ≡ codes "pair") × AsksToPair rows options
+CommandAsks (Some (name, rows)) Head = name ≡ codes "head"
+CommandAsks (Some (name, rows)) (Session options) = (name ≡ codes "session") × AsksForSession rows options
+
+-- and they ask for none
+abbrev pub CommandAsksNothing : Option (Text × List Row) → Type 0
+CommandAsksNothing command = (task : Task) → CommandAsks command task → ⊥
+
+-- the words are without fault and ask for this task
+abbrev pub AsksFor : App → List Text → Task → Type 0
+AsksFor app words task = (fault_of app words ≡ []) × CommandAsks (subcommand_of app words) task
+
+-- the words are without fault and ask for no task
+abbrev pub AsksForNothing : App → List Text → Type 0
+AsksForNothing app words = (fault_of app words ≡ []) × CommandAsksNothing (subcommand_of app words)
+
+-- the fault is clap's error, of which this holds
+abbrev pub IsOfClap : (Error → Type 0) → WordsFault → Type 0
+IsOfClap P (Clap error) = P error
+IsOfClap P NoTask = ⊥
+
+-- why there is no task: an error of a kind that clap's reading gives, or want of memory; or the words ask for nothing
+abbrev pub RefusesWords : App → List Text → WordsFault → Type 0
+RefusesWords app words (Clap error) = HasKind (fault_of app words) error
+RefusesWords app words NoTask = AsksForNothing app words
+
+-- the task that the words ask for, or why there is none
+abbrev pub IsRead : App → List Text → Result Task WordsFault → Type 0
+IsRead app words r = MatchResult r (AsksFor app words) (RefusesWords app words)

@@ -1,0 +1,85 @@
+//! Options that commands have: an end of the connection, a number, a flag.
+
+ghost use Rattle.std.specs.Prelude.{◌≡◌, MatchOption, codes, false};
+ghost use Rattle.clap.specs.Words.{found_of, rows_of, rule_of};
+ghost use Rattle.wst_words.specs.Options.{EndPlaces, GivesEnd, GivesFlag, GivesNumber};
+ghost use Rattle.wst_words.specs.Options.{GivesNoEnd, GivesNoFlag, GivesNoNumber};
+ghost use Rattle.wst_words.specs.Options.{end_rule, flag_rule, number_rule, role_named};
+
+use clap::{Arg, ArgAction, ArgMatches};
+use std::alloc::Global;
+use ws_frame::Role;
+
+/// The option of this name for an end of the connection, the server where it is left out.
+pub fn end_option<'a>(alloc: Global, name: &'a str, help: &'a str) -> Arg<'a>
+    ensures rule { (places : EndPlaces) × (rule_of result ≡ end_rule name.entry.now places) }
+    ensures local { result.global ≡ false }
+{
+    Arg::new(alloc, name)
+        .long(name)
+        .value_name("END")
+        .help(help)
+        .action(ArgAction::Set)
+        .value_parser(["client", "server"].as_slice())
+        .default_value("server")
+}
+
+/// The option of this name for a number of 64 bits, and the number where it is left out.
+pub fn number_option<'a>(alloc: Global, name: &'a str, help: &'a str, default: &'a str) -> Arg<'a>
+    ensures rule { rule_of result ≡ number_rule name.entry.now default.entry.now }
+    ensures local { result.global ≡ false }
+{
+    Arg::new(alloc, name)
+        .long(name)
+        .value_name("N")
+        .help(help)
+        .action(ArgAction::Set)
+        .value_parser(clap::value_parser!(u64))
+        .default_value(default)
+}
+
+/// The flag of this name.
+pub fn flag_option<'a>(alloc: Global, name: &'a str, help: &'a str) -> Arg<'a>
+    ensures rule { rule_of result ≡ flag_rule name.entry.now }
+    ensures local { result.global ≡ false }
+{
+    Arg::new(alloc, name)
+        .long(name)
+        .help(help)
+        .action(ArgAction::SetTrue)
+}
+
+/// The end that the option of this name gives. `None` where it gives none.
+pub fn end_of(options: &ArgMatches<'_>, name: &str) -> Option<Role>
+    ensures { MatchOption result (GivesNoEnd (rows_of (found_of options.now)) name.now)
+        (GivesEnd (rows_of (found_of options.now)) name.now) }
+{
+    let word = options.get_str(name)?;
+    Some(role_of(word))
+}
+
+/// The number that the option of this name gives. `None` where it gives none.
+pub fn number_of(options: &ArgMatches<'_>, name: &str) -> Option<u64>
+    ensures { MatchOption result (GivesNoNumber (rows_of (found_of options.now)) name.now)
+        (GivesNumber (rows_of (found_of options.now)) name.now) }
+{
+    options.get_one::<u64>(name)
+}
+
+/// Whether the flag of this name is set. `None` where it has no value.
+pub fn flag_of(options: &ArgMatches<'_>, name: &str) -> Option<bool>
+    ensures { MatchOption result (GivesNoFlag (rows_of (found_of options.now)) name.now)
+        (GivesFlag (rows_of (found_of options.now)) name.now) }
+{
+    options.get_one::<bool>(name)
+}
+
+/// The end that a word names.
+fn role_of(word: &str) -> Role
+    ensures { result ≡ role_named word.now }
+{
+    match word {
+        "client" => Role::Client,
+        _ => Role::Server,
+    }
+}

@@ -1,0 +1,95 @@
+//! The words of the command `pair`.
+
+ghost use Rattle.std.specs.Prelude.{◌≡◌, IfOk, MatchOption, false};
+ghost use Rattle.clap.specs.Words.{app_of, found_of, rows_of};
+ghost use Rattle.clap.specs.declared.builder.command.Command.TheViews.{out-Command as fields_of};
+ghost use Rattle.wst_words.specs.Pair.{AsksToPair, AsksToPairNothing, pair_app};
+
+use crate::options::{number_of, number_option};
+use clap::{ArgMatches, Command};
+use std::alloc::{AllocError, Global};
+
+/// The options of `pair`.
+#[derive(Clone, Copy)]
+pub struct PairOptions {
+    /// The client takes messages of at most so many bytes.
+    pub limit_client: u64,
+    /// The server takes messages of at most so many bytes.
+    pub limit_server: u64,
+}
+
+/// `pair` and its options.
+pub fn pair_command<'a>(alloc: Global) -> Result<Command<'a>, AllocError>
+    ensures app { IfOk result (λ command. app_of command ≡ pair_app) }
+    ensures local { IfOk result (λ command. (fields_of command).has_globals ≡ false) }
+{
+    Command::new(alloc, "pair")
+        .about(
+            "Plays moves at a client and a server that are joined, and reports what came of them",
+        )
+        .long_about(LONG_ABOUT)
+        .after_help(AFTER_HELP)
+        .arg(number_option(alloc, "limit-client", LIMIT_CLIENT, "1048576"))?
+        .arg(number_option(alloc, "limit-server", LIMIT_SERVER, "1048576"))
+}
+
+/// The options that were met. `None` where one has no value.
+pub fn pair_options(options: &ArgMatches<'_>) -> Option<PairOptions>
+    ensures { MatchOption result (AsksToPairNothing (rows_of (found_of options.now)))
+        (AsksToPair (rows_of (found_of options.now))) }
+{
+    let limit_client = number_of(options, "limit-client")?;
+    let limit_server = number_of(options, "limit-server")?;
+    Some(PairOptions {
+        limit_client,
+        limit_server,
+    })
+}
+
+const LIMIT_CLIENT: &str = "Most bytes of a message to the client, 1 to 16777216";
+
+const LIMIT_SERVER: &str = "Most bytes of a message to the server, 1 to 16777216";
+
+/// What `pair` is for.
+const LONG_ABOUT: &str =
+    "Reads a script of moves, plays them at a client and a server that are joined by two streams of
+bytes, and writes what came of them. A line of the script is one of these:
+
+  begin END text|binary fin|part HEX KEY   END sends the first frame of a message
+  more END fin|part HEX KEY                END sends the next frame of its open message
+  ping END HEX KEY                         END sends a ping
+  pong END HEX KEY                         END sends a pong
+  close END CODE|none HEX KEY              END sends a close frame, with its reason
+  arrive END N KEY                         at most N of the bytes that are on the way come to END
+  cut END                                  the stream to END ends
+
+  END   `client` or `server`
+  fin   the frame is the last of its message; `part`: others follow
+  HEX   bytes as lower-case pairs of hexadecimal digits, or `-` for none
+  KEY   the masking key of what a client sends, eight hexadecimal digits, or `-` for zeros
+  CODE  0 to 65535
+  N     0 to 4294967295
+
+Words are parted by one space, and each line ends in LF. The output has a line for each move, `ok`,
+`refused NAME`, `arrived N` or `cut`, and then for each end: `END put HEX`, all bytes that it wrote;
+`END reached N`, how many bytes came to it; `END got text|binary HEX`, a line for each message that
+it delivered; and `END status STATUS`, one of `open`, `closing`, `clean CODE`, `clean none`,
+`failed NAME` and `lost`.
+
+Exit status: 0 all played, 1 a line is no move, and nothing is played, 2 wrong words or limits, 3 a
+device failed or memory ran out.";
+
+/// What stands at the end of the help of `pair`.
+const AFTER_HELP: &str = "Example:
+  printf 'begin client text fin 48656c6c6f 37fa213d\\narrive server 100 -\\n' | wst pair
+prints
+  ok
+  arrived 11
+  client put 818537fa213d7f9f4d5158
+  client reached 0
+  client status open
+  server put -
+  server reached 11
+  server got text 48656c6c6f
+  server status open
+The client sent `Hello` in one masked frame of eleven bytes, and the server delivered it.";
