@@ -1,0 +1,71 @@
+//! `ws_rows`: answers rows of calls, for what no command of `wst` reaches. Each line of the standard input is a row:
+//! the name of a call and its arguments, parted by one space. Each row is answered by one line. The rows stand in the
+//! folder `rows`, and its `run` compares the answers with those that are wanted.
+#![tactic(auto)]
+
+mod echoes;
+mod frames;
+mod printing;
+mod row_fault;
+mod sessions;
+mod streams;
+mod takes;
+mod texts;
+mod upgrades;
+mod words;
+
+use row_fault::RowFault;
+use std::alloc::Global;
+use std::io;
+use std::process::ExitCode;
+
+fn main(rt: HostRuntime) -> io::Result<ExitCode> {
+    let rows = io::read_to_string(rt.alloc(), rt.stdin())?;
+    for (place, row) in rows.as_str().lines().enumerate() {
+        match answer_to(rt.alloc(), row) {
+            Ok(answer) => println!(rt; "{answer}")?,
+            Err(fault) => {
+                println!(rt; "row {}: {fault}", place.saturating_add(1))?;
+                return Ok(ExitCode::FAILURE);
+            }
+        }
+    }
+    Ok(ExitCode::SUCCESS)
+}
+
+/// The answer to a row.
+fn answer_to(alloc: Global, row: &str) -> Result<String, RowFault> {
+    let words: Vec<&str> = row.split(' ').collect(alloc)?;
+    let [call, words @ ..] = words.as_slice() else {
+        return Err(RowFault::NotARow);
+    };
+    let mut out = String::new(alloc);
+    match *call {
+        "header" => frames::make_header(words, &mut out)?,
+        "shortest" => frames::make_shortest(words, &mut out)?,
+        "read_header" => frames::read(alloc, words, &mut out)?,
+        "mask" => frames::mask_part(alloc, words, &mut out)?,
+        "append_frame" => frames::append(alloc, words, &mut out)?,
+        "text" => texts::judge_pieces(alloc, words, &mut out)?,
+        "push" => texts::push_pieces(alloc, words, &mut out)?,
+        "copy" => texts::push_to_copy(alloc, words, &mut out)?,
+        "code_allowed" => texts::allow_code(words, &mut out)?,
+        "close_payload" => texts::read_close(alloc, words, &mut out)?,
+        "accept_of" => upgrades::accept(alloc, words, &mut out)?,
+        "request" => upgrades::make_request(alloc, words, &mut out)?,
+        "response" => upgrades::make_response(alloc, words, &mut out)?,
+        "refusal" => upgrades::refuse(words, &mut out)?,
+        "read_request" => upgrades::read_a_request(alloc, words, &mut out)?,
+        "upgrade" => upgrades::tell_upgrade(alloc, words, &mut out)?,
+        "read_response" => upgrades::read_a_response(alloc, words, &mut out)?,
+        "limits" => streams::make_limits(words, &mut out)?,
+        "feed_all" => streams::feed(alloc, words, &mut out)?,
+        "take_all" => streams::take_pieces(alloc, words, &mut out)?,
+        "take" => takes::take_frames(alloc, words, &mut out)?,
+        "echo" => echoes::take_frames(alloc, words, &mut out)?,
+        "echo_all" => echoes::take_pieces(alloc, words, &mut out)?,
+        "session" => sessions::play(alloc, words, &mut out)?,
+        _ => return Err(RowFault::NotARow),
+    }
+    Ok(out)
+}

@@ -1,0 +1,128 @@
+"""Tests of the test command `check`: which programs it trusts."""
+
+from clone import PROGRAM, ROWS_PROGRAM, ROWS_SOURCE, SOURCE
+
+CHECK = ("./check",)
+PLANTED = "#!/bin/sh\necho planted\n"
+
+
+def last_line(text):
+    return text.splitlines()[-1] if text else ""
+
+
+def rows_fail(clone, name):
+    """The rows must fail for this program."""
+    status, out, faults = clone.run("rows", how=CHECK)
+    told = f"check: {name} was not built from the sources as they stand; './check build' builds it\n"
+    assert (status, out, faults) == (1, "rows: 0 passed, 1 failed\n", told), (status, out, faults)
+
+
+def rows_pass(clone):
+    assert clone.run("rows", how=CHECK) == (0, "rows: 2 passed, 0 failed\n", "")
+
+
+def plant(clone):
+    """Programs that other sources gave, with stamps for the sources as they stand."""
+    for name, program in (("wst", PROGRAM), ("ws_rows", ROWS_PROGRAM)):
+        clone.program(program, PLANTED)
+        assert clone.shell(f'mark_built {name} "$(sources_sum)" && echo marked') == "marked"
+
+
+def rows_of_no_programs_fail(clone):
+    clone.add_check()
+    rows_fail(clone, "wst")
+    clone.run()
+    rows_fail(clone, "ws_rows")
+
+
+def rows_of_built_programs_pass(clone):
+    clone.add_check()
+    assert clone.run("build", how=CHECK)[0] == 0
+    rows_pass(clone)
+    assert clone.builds.read_text().split(": ")[1:] == [f"run -- --help\n{clone.top}/crates/ws_rows", "run\n"]
+
+
+def rows_of_older_sources_fail(clone):
+    clone.add_check()
+    for path in (SOURCE, ROWS_SOURCE, "crates/low/src/a.rt", "crates.txt"):
+        clone.run("build", how=CHECK)
+        rows_pass(clone)
+        clone.write(path, "second\n")
+        rows_fail(clone, "wst")
+
+
+def rows_of_another_program_fail(clone):
+    clone.add_check()
+    for name, program in (("wst", PROGRAM), ("ws_rows", ROWS_PROGRAM)):
+        clone.run("build", how=CHECK)
+        clone.program(program, PLANTED)
+        rows_fail(clone, name)
+
+
+def a_build_that_fails_is_not_marked(clone):
+    clone.add_check()
+    for source, name in ((SOURCE, "wst"), (ROWS_SOURCE, "wst")):
+        for word in ("broken", "changing"):
+            clone.write(source, f"{word}\n")
+            assert clone.run("build", how=CHECK)[0] != 0, (source, word)
+            rows_fail(clone, name)
+        clone.write(source, "first\n")
+
+
+def all_parts_are_counted(clone):
+    clone.add_check()
+    status, out, faults = clone.run(how=CHECK)
+    assert (status, last_line(out)) == (0, "12 passed, 0 failed"), (status, out, faults)
+    rows_pass(clone)
+    assert clone.run("show") == (3, "first show\n", "")
+
+
+def what_stood_before_is_removed(clone):
+    clone.add_check()
+    plant(clone)
+    status, out, faults = clone.run(how=CHECK)
+    assert (status, last_line(out)) == (0, "12 passed, 0 failed"), (status, out, faults)
+    assert "left" not in clone.builds.read_text(), clone.builds.read_text()
+    assert "planted" not in (clone.top / PROGRAM).read_text() + (clone.top / ROWS_PROGRAM).read_text()
+
+
+def what_no_run_built_is_not_trusted(clone):
+    clone.add_check()
+    for source, name in ((SOURCE, "wst"), (ROWS_SOURCE, "ws_rows")):
+        clone.write(source, "lazy\n")
+        plant(clone)
+        status, out, faults = clone.run(how=CHECK)
+        assert status == 1 and "sources: 0 passed, 1 failed\n" in out, (status, out, faults)
+        assert not (clone.top / f"crates/{name}/out/{name}").exists(), name
+        assert not (clone.top / f"out/{name}.built").exists(), name
+        clone.write(source, "first\n")
+
+
+def sources_that_change_while_it_runs_fail(clone):
+    clone.add_check()
+    clone.write(ROWS_SOURCE, "changing\n")
+    status, out, _ = clone.run(how=CHECK)
+    assert status == 1 and "sources: 0 passed, 1 failed\n" in out, (status, out)
+    rows_fail(clone, "wst")
+
+
+def wrong_words_run_nothing(clone):
+    clone.add_check()
+    for words in (("row",), ("rows", "rows"), ("build", "all")):
+        status, out, faults = clone.run(*words, how=CHECK)
+        assert (status, out) == (2, "") and faults.startswith("check: wrong words: "), (words, status, out, faults)
+    assert clone.count() == 0
+
+
+TESTS = [
+    rows_of_no_programs_fail,
+    rows_of_built_programs_pass,
+    rows_of_older_sources_fail,
+    rows_of_another_program_fail,
+    a_build_that_fails_is_not_marked,
+    all_parts_are_counted,
+    what_stood_before_is_removed,
+    what_no_run_built_is_not_trusted,
+    sources_that_change_while_it_runs_fail,
+    wrong_words_run_nothing,
+]

@@ -1,0 +1,101 @@
+"""A copy of the launcher and of the test command, with small sources and stand-ins for what they call."""
+
+import os
+import shutil
+import subprocess
+from pathlib import Path
+
+ROOT = Path(__file__).resolve().parent.parent.parent
+SOURCE = "crates/wst/src/main.rt"
+PROGRAM = "crates/wst/out/wst"
+ROWS_SOURCE = "crates/ws_rows/src/main.rt"
+ROWS_PROGRAM = "crates/ws_rows/out/ws_rows"
+
+# The stand-in for rt notes each call, takes a while, fails or builds nothing where a source says so, and changes a
+# source where it says so. `ci` notes the programs that it finds.
+STAND_IN = r"""#!/bin/sh
+echo "$PWD: $*" >>"$BUILDS"
+sleep "${BUILD_SECONDS:-0}"
+
+build() {
+    read -r word <src/main.rt
+    case $word in
+    broken) echo "error: broken"; exit 1 ;;
+    lazy) return ;;
+    changing) echo "calm" >src/main.rt ;;
+    esac
+    mkdir -p out
+    printf '#!/bin/sh\n[ "$*" = --version ] && echo "wst 0.1.0 (stand-in)" && exit\n' >"out/$1.new"
+    printf 'echo "%s $*"; cat; exit 3\n' "$word" >>"out/$1.new"
+    chmod +x "out/$1.new"
+    mv "out/$1.new" "out/$1"
+}
+
+case $1 in
+version) echo "stand-in" ;;
+run) build "${PWD##*/}" ;;
+ci)
+    for name in wst ws_rows; do
+        cd "$(dirname "$0")/../a clone/crates/$name" || exit 1
+        [ ! -e "out/$name" ] || echo "left from before: $name" >>"$BUILDS"
+        build "$name"
+    done
+    echo "5 passed, 0 failed"
+    ;;
+esac
+"""
+
+# The stand-in for the rows and for the tests of the launcher.
+COUNTED = """#!/bin/sh
+echo "rows: 2 passed, 0 failed"
+"""
+
+
+class Clone:
+    """A copy of the launcher with a small source, in a folder of its own."""
+
+    def __init__(self, folder):
+        self.folder = Path(folder)
+        self.builds = self.folder / "builds"
+        self.top = self.folder / "a clone"
+        self.top.mkdir()
+        shutil.copy(ROOT / "wst", self.top)
+        shutil.copytree(ROOT / "tools", self.top / "tools")
+        self.write("crates.txt", "wst:\n")
+        self.write("HANDLES", "Handles allowed: none.\n")
+        self.write(SOURCE, "first\n")
+        self.program("../bin/rt", STAND_IN)
+
+    def add_check(self):
+        """Adds the test command, with the source of `ws_rows`, and stand-ins for what it runs."""
+        shutil.copy(ROOT / "check", self.top)
+        self.write(ROWS_SOURCE, "calls\n")
+        self.program("rows/run", COUNTED)
+        self.program("rows/launcher/test", COUNTED)
+        self.write("examples/show/hello.frames", "frames\n")
+        self.write("examples/show/hello.out", "first show\nframes\n")
+
+    def write(self, path, text):
+        (self.top / path).parent.mkdir(parents=True, exist_ok=True)
+        (self.top / path).write_text(text)
+
+    def program(self, path, text):
+        self.write(path, text)
+        (self.top / path).chmod(0o755)
+
+    def run(self, *words, how=("./wst",), path=None, seconds="0", text=""):
+        """Runs the launcher, or another command, and gives its status, output and fault output."""
+        path = f"{self.folder}/bin:{os.environ['PATH']}" if path is None else path
+        env = {**os.environ, "PATH": path, "BUILDS": str(self.builds), "BUILD_SECONDS": seconds}
+        given = {"cwd": self.top, "env": env, "input": text, "capture_output": True, "text": True, "timeout": 60}
+        ran = subprocess.run([*how, *words], **given)
+        return ran.returncode, ran.stdout, ran.stderr
+
+    def shell(self, script):
+        """Runs a script with the functions of tools/built.sh, and gives its output."""
+        script = f'root={self.top.as_posix()!r}; . "$root/tools/built.sh"; {script}'
+        return subprocess.run(["sh", "-c", script], capture_output=True, text=True, timeout=60).stdout.strip()
+
+    def count(self):
+        """How often the stand-in was called."""
+        return len(self.builds.read_text().splitlines()) if self.builds.exists() else 0

@@ -1,0 +1,136 @@
+"""Rows of calls, answered by the program `ws_rows`: all those of a file in one run."""
+
+import re
+import shlex
+import subprocess
+from dataclasses import dataclass
+
+from runner.results import LONG, Failure
+from runner.row_files import BadFile
+
+QUOTED = r'"(?:[^"\\]|\\.)*"'
+BYTES = re.compile(rf'\[((?:{QUOTED}|[^\]"])*)\]|({QUOTED})')
+STREAM = re.compile(rf'\{{((?:{QUOTED}|[^}}"|])*)(?:\|([0-9 ]+))?\}}')
+FRONTS = re.compile(rf'<((?:{QUOTED}|[^>"])*)>')
+SECONDS = 120
+
+
+@dataclass
+class Call:
+    """A row: its lines for `ws_rows`, one for each cut, and the answer that each of them wants."""
+
+    where: str
+    name: str
+    lines: list
+    wanted: str
+
+
+def calls_of(entry):
+    """The rows of an entry: each line of `calls`, or a `session` as a whole."""
+    if not entry.lines:
+        raise BadFile(f"{entry.file}:{entry.line}: no calls")
+    if entry.kind == "calls":
+        return [call_of(entry, number, text) for number, text in entry.lines]
+    return [session_of(entry)]
+
+
+def call_of(entry, number, text):
+    call, wanted = parted(entry, number, text)
+    return Call(f"{entry.file}:{number}", f"{entry.name}: {call}", cuts_of(entry, call), in_hex(entry, wanted))
+
+
+def session_of(entry):
+    """The calls of one session, in one line."""
+    if len(entry.lines) < 2 or not entry.lines[0][1].startswith("new "):
+        raise BadFile(f"{entry.file}:{entry.line}: a session is a line 'new ROLE LIMIT' and calls")
+    calls = [parted(entry, number, text) for number, text in entry.lines[1:]]
+    line = " ; ".join([f"session {entry.lines[0][1][4:]}", *(in_hex(entry, call) for call, _ in calls)])
+    wanted = " ; ".join(in_hex(entry, answer) for _, answer in calls)
+    return Call(f"{entry.file}:{entry.line}", entry.name, [line], wanted)
+
+
+def parted(entry, number, text):
+    """A call and the answer that it wants."""
+    call, mark, wanted = text.partition(" -> ")
+    if not mark:
+        raise BadFile(f"{entry.file}:{number}: no ' -> ' before the answer that is wanted")
+    return call.strip(), wanted.strip()
+
+
+def in_hex(entry, text):
+    """The text with bytes in brackets or quotation marks as one word of digits, `-` where there are none."""
+    return BYTES.sub(lambda found: word(entry.bytes_of(found[2] or found[1])), text)
+
+
+def cuts_of(entry, call):
+    """The lines of a call: at every cut of a stream in braces, with every front of bytes in angle brackets, or one."""
+    found = STREAM.search(call)
+    if found:
+        stream = entry.bytes_of(found[1])
+        pieces = sized(stream, found[2].split()) if found[2] else every_cut(stream)
+        return [in_hex(entry, put_in(call, found, " ".join(map(word, cut)))) for cut in pieces]
+    found = FRONTS.search(call)
+    if found:
+        whole = entry.bytes_of(found[1])
+        if not whole:
+            raise BadFile(f"{entry.file}:{entry.line}: no bytes have no fronts: {call}")
+        return [in_hex(entry, put_in(call, found, word(whole[:size]))) for size in range(len(whole))]
+    return [in_hex(entry, call)]
+
+
+def put_in(call, found, words):
+    return call[: found.start()] + words + call[found.end() :]
+
+
+def every_cut(stream):
+    """The stream whole, in two pieces at each place, one of them empty at its ends, and one byte at a time."""
+    halves = [[stream[:at], stream[at:]] for at in range(len(stream) + 1)]
+    return [[stream], *halves, [stream[at : at + 1] for at in range(len(stream))] or [b""]]
+
+
+def sized(stream, sizes):
+    """The stream in pieces of each of these sizes, the last one shorter."""
+    return [[stream[at : at + int(size)] for at in range(0, len(stream), int(size))] for size in sizes]
+
+
+def word(value):
+    return value.hex() or "-"
+
+
+def run_calls(program, calls):
+    """The failures of these rows."""
+    answers = answers_to(program, [line for call in calls for line in call.lines])
+    failures, at = [], 0
+    for call in calls:
+        got = answers[at : at + len(call.lines)]
+        at += len(call.lines)
+        bad = next((i for i, answer in enumerate(got) if answer != call.wanted), None)
+        if bad is not None:
+            failures.append(failure(program, call, bad, got[bad]))
+    return failures
+
+
+def failure(program, call, number, answer):
+    line = call.lines[number]
+    words = f"printf '%s\\n' {shlex.quote(line)}" if len(line) < LONG else f"rows/run --input {call.where}/{number}"
+    return Failure(call.where, call.name, f"{words} | {program}", [("answer", call.wanted, answer)])
+
+
+def answers_to(program, lines):
+    """An answer for each line. A line that the program stops at is answered by what it says of it. Lines beyond those
+    that were asked for are told with the last answer, which then is none that is wanted."""
+    answers = []
+    while len(answers) < len(lines):
+        rest = "".join(f"{line}\n" for line in lines[len(answers) :])
+        try:
+            ran = subprocess.run([program], input=rest.encode(), stdout=subprocess.PIPE, timeout=SECONDS)
+        except (OSError, subprocess.TimeoutExpired) as error:
+            return answers + [f"nothing: {error}"] * (len(lines) - len(answers))
+        got = ran.stdout.decode(errors="replace").split("\n")[:-1]
+        answers += got
+        if ran.returncode == 0 or not got:
+            answers += [f"nothing: status {ran.returncode}"] * (len(lines) - len(answers))
+    answers, beyond = answers[: len(lines)], answers[len(lines) :]
+    if beyond:
+        answers[-1] += f" and {len(beyond)} lines beyond, the first: {beyond[0]}"
+    return answers
