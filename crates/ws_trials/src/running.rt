@@ -1,0 +1,177 @@
+//! Runs of commands of one word over devices that fail, and what they leave.
+
+ghost use Rattle.std.specs.Prelude.{◌≡◌, false};
+ghost use Rattle.ws_frame.specs.Watching.{has_failed};
+
+use crate::comparing::{same_bytes, same_number};
+use std::alloc::Global;
+use std::io::{Read, Write};
+use std::process::Abort;
+use std::test::Fail;
+use ws_frame::Watched;
+use ws_frame::devices::{ByteReader, ByteWriter, Counting, Failing, FullWriter};
+use wst_commands::run;
+
+/// Runs a command of one word, and answers the exit status.
+pub fn run_word<R: Read, W: Write, F: Write>(
+    alloc: Global,
+    word: &str,
+    reader: &mut Watched<R>,
+    writer: &mut Watched<W>,
+    faults: &mut Watched<F>,
+) -> Result<u8, Fail>
+    requires reader_works { has_failed reader.old ≡ false }
+    requires writer_works { has_failed writer.old ≡ false }
+{
+    let words = [
+        String::from_str(alloc, "wst")?,
+        String::from_str(alloc, word)?,
+    ];
+    Ok(run(alloc, &words, reader, writer, faults).status())
+}
+
+/// What a run leaves: its status, what was written to the output and to the fault output, and how often the device
+/// that may fail was asked.
+#[derive(Drop)]
+pub struct After {
+    pub status: u8,
+    pub written: Vec<u8>,
+    pub faults: Vec<u8>,
+    pub calls: u64,
+}
+
+/// Runs a command over a reader that gives a byte a call.
+pub fn after_reads(
+    alloc: Global,
+    word: &str,
+    input: &[u8],
+    failing: Failing,
+) -> Result<After, Fail> {
+    let mut reader = Watched::new(ByteReader::new(input, failing));
+    let mut writer = Watched::new(Vec::new(alloc));
+    let mut faults = Watched::new(Vec::new(alloc));
+    let status = run_word(alloc, word, &mut reader, &mut writer, &mut faults)?;
+    Ok(After {
+        status,
+        written: writer.into_inner(),
+        faults: faults.into_inner(),
+        calls: reader.into_inner().calls,
+    })
+}
+
+/// Runs a command over a writer that takes a byte a call.
+pub fn after_writes(
+    alloc: Global,
+    word: &str,
+    input: &[u8],
+    failing: Failing,
+) -> Result<After, Fail> {
+    let mut reader = Watched::new(input);
+    let mut writer = Watched::new(ByteWriter::new(alloc, failing));
+    let mut faults = Watched::new(Vec::new(alloc));
+    let status = run_word(alloc, word, &mut reader, &mut writer, &mut faults)?;
+    let device = writer.into_inner();
+    Ok(After {
+        status,
+        written: device.taken,
+        faults: faults.into_inner(),
+        calls: device.calls,
+    })
+}
+
+/// Runs a command over a writer that takes so many bytes, one a call, and then none.
+fn after_full(alloc: Global, word: &str, input: &[u8], room: usize) -> Result<After, Fail> {
+    let mut reader = Watched::new(input);
+    let full = FullWriter::new(alloc, room);
+    let mut writer = Watched::new(Counting::new(alloc, full));
+    let mut faults = Watched::new(Vec::new(alloc));
+    let status = run_word(alloc, word, &mut reader, &mut writer, &mut faults)?;
+    let device = writer.into_inner();
+    Ok(After {
+        status,
+        calls: device.lengths.len() as u64,
+        written: device.inner.taken,
+        faults: faults.into_inner(),
+    })
+}
+
+/// The run has this status after so many calls, wrote this, and told nothing.
+pub fn check(rt: &impl Abort, after: &After, status: u8, calls: u64, written: &[u8]) {
+    same_number(rt, calls, u64::from(after.status), u64::from(status));
+    same_number(rt, calls, after.calls, calls);
+    same_bytes(rt, calls, after.written.as_slice(), written);
+    same_bytes(rt, calls, after.faults.as_slice(), b"");
+}
+
+/// A read fails, once and for good: nothing is written, and nothing is read behind it.
+fn check_failed_read(
+    rt: &impl Abort,
+    alloc: Global,
+    word: &str,
+    input: &[u8],
+    place: u64,
+) -> Result<(), Fail> {
+    let once = after_reads(alloc, word, input, Failing::Once(place))?;
+    check(rt, &once, 3, place, b"");
+    let for_good = after_reads(alloc, word, input, Failing::From(place))?;
+    check(rt, &for_good, 3, place, b"");
+    Ok(())
+}
+
+/// The write behind these bytes fails, once and for good: they are written, and nothing is written behind them.
+fn check_failed_write(
+    rt: &impl Abort,
+    alloc: Global,
+    word: &str,
+    input: &[u8],
+    written: &[u8],
+) -> Result<(), Fail> {
+    let place = written.len() as u64 + 1;
+    let once = after_writes(alloc, word, input, Failing::Once(place))?;
+    check(rt, &once, 3, place, written);
+    let for_good = after_writes(alloc, word, input, Failing::From(place))?;
+    check(rt, &for_good, 3, place, written);
+    Ok(())
+}
+
+/// The write behind these bytes takes nothing: they are written, and nothing is written behind them.
+fn check_full(
+    rt: &impl Abort,
+    alloc: Global,
+    word: &str,
+    input: &[u8],
+    written: &[u8],
+) -> Result<(), Fail> {
+    let after = after_full(alloc, word, input, written.len())?;
+    check(rt, &after, 3, written.len() as u64 + 1, written);
+    Ok(())
+}
+
+/// Each read of an input fails, the last of which tells its end.
+pub fn check_each_read(
+    rt: &impl Abort,
+    alloc: Global,
+    word: &str,
+    input: &[u8],
+) -> Result<(), Fail> {
+    let last = input.len() as u64 + 1;
+    for place in 1..=last {
+        check_failed_read(rt, alloc, word, input, place)?;
+    }
+    Ok(())
+}
+
+/// Each write of an output fails, or takes nothing.
+pub fn check_each_write(
+    rt: &impl Abort,
+    alloc: Global,
+    word: &str,
+    input: &[u8],
+    output: &[u8],
+) -> Result<(), Fail> {
+    for written in 0..output.len() {
+        check_failed_write(rt, alloc, word, input, &output[..written])?;
+        check_full(rt, alloc, word, input, &output[..written])?;
+    }
+    Ok(())
+}
