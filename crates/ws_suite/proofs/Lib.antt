@@ -1,0 +1,8 @@
+mod TurnLemmas
+mod LineLemmas
+pub mod CaptureTurns
+mod CaptureLemmas
+mod CaptureTexts
+mod EvidenceLemmas
+mod TurnsCollected
+mod JudgeLemmas

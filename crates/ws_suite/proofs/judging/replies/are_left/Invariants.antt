@@ -1,0 +1,10 @@
+use Rattle.std.proofs.Common.{drop}
+use Rattle.ws_suite.specs.Verdicts.{IsWithSomeLeftOut, bare}
+use Rattle.ws_suite.proofs.judging.replies.are_left.Given as goal
+
+-- what is left decides
+abbrev pub invariant-loop-reply : goal.invariant-loop-reply
+invariant-loop-reply l = record {
+  back : IsWithSomeLeftOut (bare l.left) (drop l.reply-index (bare l.all)) → IsWithSomeLeftOut (bare l.some) (bare l.all);
+  on : IsWithSomeLeftOut (bare l.some) (bare l.all) → IsWithSomeLeftOut (bare l.left) (drop l.reply-index (bare l.all));
+}

@@ -1,0 +1,20 @@
+use Rattle.std.proofs.Common.{◌≡◌, ◌∙◌, ◌↔◌, ◌∷◌, ap, sym, subst, List, drop, rules, arith}
+use Rattle.std.proofs.lemmas.List.{take_rest}
+use Rattle.std.specs.List.{drop-map}
+use Rattle.ws_suite.specs.declared.evidence.InTurn.{InTurn}
+use Rattle.ws_suite.specs.declared.evidence.Reply.{Reply}
+use Rattle.ws_suite.specs.Verdicts.{IsWithSomeLeftOut, bare}
+use Rattle.ws_suite.proofs.JudgeLemmas.{left_same, reply_at}
+use Rattle.ws_suite.proofs.judging.replies.without.Goals as goal
+
+pub returns-then-are_same : goal.returns-then-are_same
+returns-then-are_same c =
+    let left = c.args.left.now in
+    let first = c.first-item.result in
+    let same : first.what ≡ c.args.reply.now.what = search rules in
+    let parts = reply_at left 0 first (omega (arith, c.in-len1-up.len_at_least)) c.first-item.is in
+    let rest = drop-map (λ (x : InTurn Reply). x.what) 1 left ∙ ap (λ (l : List (InTurn Reply)). bare l) (sym (take_rest left 1)) in
+    λ all.
+    subst (λ (l : List Reply). IsWithSomeLeftOut (bare left) (c.args.reply.now.what ∷ all) ↔ IsWithSomeLeftOut l all) rest
+    (subst (λ (l : List Reply). IsWithSomeLeftOut l (c.args.reply.now.what ∷ all) ↔ IsWithSomeLeftOut (drop 1 (bare left)) all) (sym parts)
+    (left_same first.what c.args.reply.now.what (drop 1 (bare left)) all same))

@@ -1,0 +1,9 @@
+pub mod Scripts
+pub mod Evidence
+pub mod Collecting
+pub mod Verdicts
+pub mod Captures
+pub mod Capturing
+pub mod Judging
+pub mod Cases
+pub mod Words

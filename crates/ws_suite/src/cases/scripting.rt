@@ -1,0 +1,283 @@
+//! From a row of the table to a script.
+
+ghost use Rattle.std.specs.Prelude.{◌≡◌, ◌<◌, length, IfOk, IfSome, OnOk, string_bytes, true};
+ghost use Rattle.std.specs.List.{AllByRecursion};
+ghost use Rattle.ws_suite.specs.Cases.{act_fits, row_fits, section_count, section_fits};
+ghost use Rattle.ws_suite.specs.Scripts.{CanBeRun, CutsOff, FitsAHeader};
+
+use crate::cases::row::{Act, Data, Finish, Row, Section};
+use crate::script::{Case, Chop, Step};
+use std::alloc::Global;
+use ws_base::{NoMemory, Payload, Sequence, read_u32};
+
+/// A close payload of code 1000 alone.
+const NORMAL_CLOSURE: &[u8] = b"\x03\xe8";
+
+/// How many characters of each plane are its last two.
+const LAST_CHARACTERS: usize = 34;
+
+/// How many cases a section has.
+pub(crate) fn count_of(section: Section) -> usize
+    ensures { result ≡ section_count section }
+{
+    match section {
+        Section::Rows(rows) => rows.len(),
+        Section::Texts(_, texts) => texts.len(),
+        Section::Joined(_, _) => 1,
+        Section::Fronts(_, text) => text.len(),
+        Section::NonCharacters(_) => LAST_CHARACTERS,
+        Section::Codes(_, codes) => codes.len(),
+    }
+}
+
+/// The name of the case at this place of a section.
+pub(crate) fn name_of(alloc: Global, section: Section, place: usize) -> Result<String, NoMemory>
+    requires { place < section_count section }
+{
+    let name = match section {
+        Section::Rows(rows) => String::from_str(alloc, rows[place].0)?,
+        Section::Texts(front, _)
+        | Section::Joined(front, _)
+        | Section::Fronts(front, _)
+        | Section::NonCharacters(front)
+        | Section::Codes(front, _) => format!(in alloc; "{front}.{}", place + 1)?,
+    };
+    Ok(name)
+}
+
+/// At which place of a section the case with this name stands.
+pub(crate) fn place_of(section: Section, id: &str) -> Option<usize>
+    ensures { IfSome result (λ place. place < section_count section) }
+{
+    match section {
+        Section::Rows(rows) => row_of(rows, id),
+        Section::Texts(front, _)
+        | Section::Joined(front, _)
+        | Section::Fronts(front, _)
+        | Section::NonCharacters(front)
+        | Section::Codes(front, _) => place_by_number(front, count_of(section), id),
+    }
+}
+
+/// At which place the row with this name stands.
+fn row_of(rows: &[Row], id: &str) -> Option<usize>
+    ensures { IfSome result (λ place. place < length rows.now) }
+{
+    for (place, row) in rows.iter().enumerate() {
+        if row.0 == id {
+            return Some(place);
+        }
+    }
+    None
+}
+
+/// The place that a name of this front, a dot and a number from 1 to `count` tells.
+fn place_by_number(front: &str, count: usize, id: &str) -> Option<usize>
+    ensures { IfSome result (λ place. place < count) }
+{
+    let number = id.strip_prefix(front)?.strip_prefix('.')?;
+    let number = read_u32(number.as_bytes())? as usize;
+    if number == 0 || number > count {
+        return None;
+    }
+    Some(number - 1)
+}
+
+/// The script of the case at this place of a section.
+pub(crate) fn script_of(
+    alloc: Global,
+    section: Section,
+    place: usize,
+    id: &str,
+) -> Result<Case, NoMemory>
+    requires place { place < section_count section }
+    requires fits { section_fits section ≡ true }
+    ensures run { IfOk result (λ case. CanBeRun case) }
+    ensures name { IfOk result (λ case. string_bytes case.id ≡ id.now) }
+{
+    let steps = steps_of(alloc, section, place)?;
+    let id = String::from_str(alloc, id)?;
+    Ok(Case {
+        id,
+        steps: Sequence::from_vec(steps),
+        chop: chop_of(section, place),
+    })
+}
+
+/// How the bytes of the case are cut.
+fn chop_of(section: Section, place: usize) -> Chop
+    requires place { place < section_count section }
+    requires fits { section_fits section ≡ true }
+    ensures { CutsOff result }
+{
+    match section {
+        Section::Rows(rows) => rows[place].1,
+        _ => Chop::Whole,
+    }
+}
+
+/// The steps of the case.
+fn steps_of(alloc: Global, section: Section, place: usize) -> Result<Vec<Step>, NoMemory>
+    requires place { place < section_count section }
+    requires fits { section_fits section ≡ true }
+    ensures { IfOk result (λ steps. AllByRecursion FitsAHeader steps.items) }
+{
+    match section {
+        Section::Rows(rows) => row_steps(alloc, &rows[place]),
+        Section::Texts(_, texts) => text_steps(alloc, texts[place].to_vec(alloc)?),
+        Section::Joined(_, texts) => text_steps(alloc, joined(alloc, texts)?),
+        Section::Fronts(_, text) => text_steps(alloc, text[..place + 1].to_vec(alloc)?),
+        Section::NonCharacters(_) => text_steps(alloc, last_character(alloc, place)?),
+        Section::Codes(_, codes) => close_steps(alloc, codes[place]),
+    }
+}
+
+/// The steps of a row.
+fn row_steps(alloc: Global, row: &Row) -> Result<Vec<Step>, NoMemory>
+    requires { row_fits row.now ≡ true }
+    ensures { IfOk result (λ steps. AllByRecursion FitsAHeader steps.items) }
+{
+    let mut steps = Vec::new(alloc);
+    for act in row.3 {
+        push_act(alloc, *act, &mut steps)?;
+    }
+    match row.2 {
+        Finish::Plain => {}
+        Finish::Closed => push_close(alloc, &mut steps)?,
+    }
+    Ok(steps)
+}
+
+/// A text message of this payload. Where it is UTF-8, a close in a turn of its own follows.
+fn text_steps(alloc: Global, payload: Vec<u8>) -> Result<Vec<Step>, NoMemory>
+    ensures { IfOk result (λ steps. AllByRecursion FitsAHeader steps.items) }
+{
+    let is_text = std::str::from_utf8(&payload).is_ok();
+    let mut steps = Vec::new(alloc);
+    push_frame(true, 0, 1, payload, &mut steps)?;
+    if is_text {
+        push_close(alloc, &mut steps)?;
+    }
+    Ok(steps)
+}
+
+/// A close with this code and without a reason.
+fn close_steps(alloc: Global, code: u16) -> Result<Vec<Step>, NoMemory>
+    ensures { IfOk result (λ steps. AllByRecursion FitsAHeader steps.items) }
+{
+    let mut steps = Vec::new(alloc);
+    push_frame(true, 0, 8, code.to_be_bytes().to_vec(alloc)?, &mut steps)?;
+    Ok(steps)
+}
+
+/// Puts what a row sends at the end of the steps.
+fn push_act(alloc: Global, act: Act, steps: &mut Vec<Step>) -> Result<(), NoMemory>
+    requires { act_fits act ≡ true }
+    ensures { AllByRecursion FitsAHeader steps.old.items → OnOk result (AllByRecursion FitsAHeader steps.new.items) }
+{
+    match act {
+        Act::Fin(opcode, data) => push_frame(true, 0, opcode, bytes_of(alloc, data)?, steps),
+        Act::Part(opcode, data) => push_frame(false, 0, opcode, bytes_of(alloc, data)?, steps),
+        Act::Reserved(rsv, opcode, data) => push_frame(
+            true,
+            rsv,
+            opcode,
+            bytes_of(alloc, data)?,
+            steps,
+        ),
+        Act::ByteByByte(bytes) => push_fragments(alloc, bytes, steps),
+        Act::Pause => push_wait(steps),
+    }
+}
+
+/// Puts a close with code 1000 at the end of the steps, in a turn of its own.
+fn push_close(alloc: Global, steps: &mut Vec<Step>) -> Result<(), NoMemory>
+    ensures { AllByRecursion FitsAHeader steps.old.items → OnOk result (AllByRecursion FitsAHeader steps.new.items) }
+{
+    push_wait(steps)?;
+    push_frame(true, 0, 8, NORMAL_CLOSURE.to_vec(alloc)?, steps)?;
+    Ok(())
+}
+
+/// Puts a text message at the end of the steps, each byte in a frame of its own.
+fn push_fragments(alloc: Global, bytes: &[u8], steps: &mut Vec<Step>) -> Result<(), NoMemory>
+    ensures { AllByRecursion FitsAHeader steps.old.items → OnOk result (AllByRecursion FitsAHeader steps.new.items) }
+{
+    for place in 0..bytes.len() {
+        let opcode = if place == 0 { 1 } else { 0 };
+        let fin = place + 1 == bytes.len();
+        push_frame(
+            fin,
+            0,
+            opcode,
+            bytes[place..place + 1].to_vec(alloc)?,
+            steps,
+        )?;
+    }
+    Ok(())
+}
+
+/// Puts a frame at the end of the steps.
+fn push_frame(
+    fin: bool,
+    rsv: u8,
+    opcode: u8,
+    payload: Vec<u8>,
+    steps: &mut Vec<Step>,
+) -> Result<(), NoMemory>
+    requires rsv { rsv < 8 }
+    requires opcode { opcode < 16 }
+    ensures { AllByRecursion FitsAHeader steps.old.items → OnOk result (AllByRecursion FitsAHeader steps.new.items) }
+{
+    steps.push(Step::Frame {
+        fin,
+        rsv,
+        opcode,
+        payload: Payload::from_vec(payload),
+    })?;
+    Ok(())
+}
+
+/// Ends the turn.
+fn push_wait(steps: &mut Vec<Step>) -> Result<(), NoMemory>
+    ensures { AllByRecursion FitsAHeader steps.old.items → OnOk result (AllByRecursion FitsAHeader steps.new.items) }
+{
+    steps.push(Step::Wait)?;
+    Ok(())
+}
+
+/// The payload that a row tells.
+fn bytes_of(alloc: Global, data: Data) -> Result<Vec<u8>, NoMemory> {
+    let (front, byte, count) = match data {
+        Data::Bytes(bytes) => (bytes, 0, 0),
+        Data::Run(byte, count) => (b"".as_slice(), byte, count),
+        Data::BytesAndRun(bytes, byte, count) => (bytes, byte, count),
+    };
+    let mut bytes = front.to_vec(alloc)?;
+    for _ in 0..count {
+        bytes.push(byte)?;
+    }
+    Ok(bytes)
+}
+
+/// The payloads one after the other.
+fn joined(alloc: Global, texts: &[&[u8]]) -> Result<Vec<u8>, NoMemory> {
+    let mut bytes = Vec::new(alloc);
+    for text in texts {
+        bytes.extend_from_slice(text)?;
+    }
+    Ok(bytes)
+}
+
+/// The character at this place among the last two of each plane: U+FFFE, U+FFFF, U+1FFFE, and so on.
+fn last_character(alloc: Global, place: usize) -> Result<Vec<u8>, NoMemory>
+    requires { place < 34 }
+{
+    let code = (place / 2) as u32 * 0x10000 + 0xfffe + (place % 2) as u32;
+    let Some(character) = char::from_u32(code) else {
+        unreachable!()
+    };
+    let mut text = String::new(alloc);
+    text.push(character)?;
+    Ok(text.into_bytes())
+}

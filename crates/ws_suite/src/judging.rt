@@ -1,0 +1,42 @@
+//! The judge: which rules a server broke, by what a transcript shows.
+
+mod fails;
+mod looses;
+mod pongs;
+mod replies;
+
+ghost use Rattle.std.specs.Prelude.{IfOk};
+ghost use Rattle.ws_suite.specs.Verdicts.{IsVerdictOf, IsVerdictOn};
+
+use crate::evidence::{Evidence, evidence_of};
+use crate::judging::fails::first_fail;
+use crate::judging::looses::first_loose;
+use crate::judging::replies::lists_of;
+use crate::transcript::Transcript;
+use crate::verdict::Verdict;
+use std::alloc::Global;
+use ws_base::NoMemory;
+
+/// Whether a server kept the rules, by all that went over a connection: the lowest `Fail` that applies, else the lowest
+/// `Loose`, else `Pass`. What is due is what an echo sends back (RFC 6455 sections 5.4 to 5.5.3).
+pub fn judge(alloc: Global, transcript: &Transcript) -> Result<Verdict, NoMemory>
+    ensures { IfOk result (λ verdict. IsVerdictOf transcript.now verdict) }
+{
+    let evidence = evidence_of(alloc, transcript)?;
+    let verdict = verdict_on(alloc, &evidence)?;
+    Ok(verdict)
+}
+
+/// The verdict on the evidence.
+fn verdict_on(alloc: Global, evidence: &Evidence) -> Result<Verdict, NoMemory>
+    ensures { IfOk result (λ verdict. IsVerdictOn evidence.now verdict) }
+{
+    let lists = lists_of(alloc, evidence)?;
+    if let Some(why) = first_fail(evidence, &lists) {
+        return Ok(Verdict::Fail(why));
+    }
+    match first_loose(evidence, &lists) {
+        Some(why) => Ok(Verdict::Loose(why)),
+        None => Ok(Verdict::Pass),
+    }
+}

@@ -1,0 +1,137 @@
+//! The six Fails, in their order.
+
+ghost use Rattle.std.specs.Prelude.{◌≡◌, ◌↔◌, IsTrue};
+ghost use Rattle.ws_suite.specs.Judging.{AreListsOf, IsFirstFail};
+ghost use Rattle.ws_suite.specs.Verdicts.{HasOtherClose, HasOtherEnd, HasOtherMessages, HasOtherPongs, IsEarly, IsEarlyClose, IsNotFrames, has_close, has_fault, is_close};
+
+use crate::evidence::{Ending, Evidence, InTurn};
+use crate::judging::pongs::{has_last_pong, match_pongs};
+use crate::judging::replies::{Lists, any_before, begins};
+use crate::transcript::Ended;
+use crate::verdict::FailWhy;
+
+/// The lowest Fail that applies.
+pub(super) fn first_fail(x: &Evidence, lists: &Lists<'_>) -> Option<FailWhy>
+    requires { AreListsOf x.now lists.now }
+    ensures { IsFirstFail x.now result }
+{
+    if is_not_frames(x) {
+        return Some(FailWhy::NotFrames);
+    }
+    if is_early(x, lists) {
+        return Some(FailWhy::Early);
+    }
+    if has_other_messages(x, lists) {
+        return Some(FailWhy::Messages);
+    }
+    if has_other_pongs(x, lists) {
+        return Some(FailWhy::Pongs);
+    }
+    if has_other_close(x) {
+        return Some(FailWhy::Close);
+    }
+    if has_other_end(x) {
+        return Some(FailWhy::End);
+    }
+    None
+}
+
+/// Whether what was got is not whole frames.
+fn is_not_frames(x: &Evidence) -> bool
+    ensures { IsTrue result ↔ IsNotFrames x.now }
+{
+    has_fault(&x.got.ending)
+        || (x.got.has_rest && (has_close(&x.got.ending) || x.ended != Ended::Broken))
+}
+
+/// Whether a message, a pong or the close was got before what it answers was sent.
+fn is_early(x: &Evidence, lists: &Lists<'_>) -> bool
+    requires { AreListsOf x.now lists.now }
+    ensures { IsTrue result ↔ IsEarly x.now }
+{
+    any_before(&lists.got_messages, &lists.due_messages)
+        || match_pongs(&lists.due_pongs, &lists.got_pongs).is_early
+        || is_early_close(&x.got.ending, &x.due.ending)
+}
+
+/// Whether a close was got before the close or the fault was sent.
+fn is_early_close(got: &Option<InTurn<Ending>>, due: &Option<InTurn<Ending>>) -> bool
+    ensures { IsTrue result ↔ IsEarlyClose got.now due.now }
+{
+    match (got, due) {
+        (Some(got), Some(due)) => is_close(&got.what) && got.turn < due.turn,
+        _ => false,
+    }
+}
+
+/// Whether the messages that were got aren't those that are due, or after a fault aren't a beginning of them.
+fn has_other_messages(x: &Evidence, lists: &Lists<'_>) -> bool
+    requires { AreListsOf x.now lists.now }
+    ensures { IsTrue result ↔ HasOtherMessages x.now }
+{
+    if !begins(&lists.got_messages, &lists.due_messages) {
+        return true;
+    }
+    !has_fault(&x.due.ending) && lists.got_messages.len() < lists.due_messages.len()
+}
+
+/// Whether a pong that was got has no match, or the last pong that is due isn't there.
+fn has_other_pongs(x: &Evidence, lists: &Lists<'_>) -> bool
+    requires { AreListsOf x.now lists.now }
+    ensures { IsTrue result ↔ HasOtherPongs x.now }
+{
+    if match_pongs(&lists.due_pongs, &lists.got_pongs).is_unmatched {
+        return true;
+    }
+    !has_fault(&x.due.ending)
+        && !lists.due_pongs.is_empty()
+        && !has_last_pong(&lists.due_pongs, &lists.got_pongs)
+}
+
+/// Whether a close is due and none was got, or one was got without a cause.
+fn has_other_close(x: &Evidence) -> bool
+    ensures { IsTrue result ↔ HasOtherClose x.now }
+{
+    if has_close(&x.due.ending) {
+        !has_close(&x.got.ending)
+    } else {
+        x.due.ending.is_none() && has_close(&x.got.ending)
+    }
+}
+
+/// Whether the connection ended otherwise than the close or the fault, or the want of both, asks.
+fn has_other_end(x: &Evidence) -> bool
+    ensures { IsTrue result ↔ HasOtherEnd x.now }
+{
+    x.due.ending.is_some() == (x.ended == Ended::Tester)
+}
+
+/// Whether the events end with a fault.
+pub(super) fn has_fault(ending: &Option<InTurn<Ending>>) -> bool
+    ensures { result ≡ has_fault ending.now }
+{
+    match ending {
+        Some(ending) => !is_close(&ending.what),
+        None => false,
+    }
+}
+
+/// Whether they end with a close.
+fn has_close(ending: &Option<InTurn<Ending>>) -> bool
+    ensures { result ≡ has_close ending.now }
+{
+    match ending {
+        Some(ending) => is_close(&ending.what),
+        None => false,
+    }
+}
+
+/// Whether it is a close.
+pub(super) fn is_close(ending: &Ending) -> bool
+    ensures { result ≡ is_close ending.now }
+{
+    match ending {
+        Ending::Closed(_) => true,
+        Ending::Failed(_) => false,
+    }
+}

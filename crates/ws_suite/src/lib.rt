@@ -1,0 +1,23 @@
+//! Scripts that test a WebSocket server, and the judgement of what it answered (RFC 6455 sections 4 to 8): what to send,
+//! in which turns and pieces, what a right answer is, and a capture of both as text.
+//!
+//! The layers above use two contracts: `turns` cuts a script as its definition says, and `judge` gives the one verdict
+//! that the definition has for a transcript.
+#![tactic(auto)]
+
+mod capture;
+mod cases;
+mod cutting;
+mod evidence;
+mod judging;
+mod script;
+mod transcript;
+mod verdict;
+
+pub use capture::{CaptureFault, read_capture, write_capture};
+pub use cases::{case, ids};
+pub use cutting::turns;
+pub use judging::judge;
+pub use script::{Case, Chop, Step};
+pub use transcript::{Ended, Transcript, Turn};
+pub use verdict::{FailWhy, LooseWhy, Verdict};
