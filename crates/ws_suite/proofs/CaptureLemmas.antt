@@ -12,7 +12,7 @@ use Rattle.ws_suite.specs.declared.capture.Line.{Line}
 use Rattle.ws_suite.specs.declared.capture.Line.TheVariants.{Sent, Got}
 use Rattle.ws_suite.specs.declared.capture.CaptureLine.{CaptureLine}
 use Rattle.ws_suite.specs.declared.capture.CaptureLine.TheVariants.{Data, End}
-use Rattle.ws_suite.specs.Captures.{HasLineBytes, IsCaptureOf, TellsLine, capture_lines, end_words, first_words, line_words, turns_in}
+use Rattle.ws_suite.specs.Captures.{HasLineBytes, IsCaptureOf, AreWordsOf, capture_lines, end_words, first_words, line_words, turns_in}
 use Rattle.ws_suite.proofs.TurnLemmas.{all_taken}
 use Rattle.ws_suite.proofs.LineLemmas.{ended_first, front_of_lines, hex_no_feed, line_after, line_of, no_feeds_by}
 
@@ -76,7 +76,7 @@ mark_differs (Got bytes) Broken e = heads_differ 60 101 (32 ∷ hex bytes) (code
 
 -- after the first lines of a capture stands a line with bytes, or the last
 next_tells : (lines others : List Line) (end : Ended) (x : List ℕ) (left : List (List ℕ)) → end ≢ Broken → AllByRecursion HasLineBytes others
-    → map line_words others ++ end_words end ∷ [] ≡ map line_words lines ++ x ∷ left → (told : CaptureLine) × TellsLine told x
+    → map line_words others ++ end_words end ∷ [] ≡ map line_words lines ++ x ∷ left → (told : CaptureLine) × AreWordsOf told x
 next_tells [] [] end x left not h e =
     let same : end_words end ≡ x = cc in
     (End end, (not, sym same))
@@ -185,7 +185,7 @@ damaged_first text wrong =
 
 -- the line after these is neither one with bytes nor the last
 pub damaged_line : (lines : List Line) (rest text : List ℕ) (n : ℕ) → AllByRecursion HasLineBytes lines → text ≡ ended (front_lines lines) ++ rest → n ≡ length lines + 2
-    → ((x after : List ℕ) (told : CaptureLine) → rest ≡ x ++ 10 ∷ after → IsLine x → TellsLine told x → ⊥) → IsDamagedAt IsCaptureOf n text
+    → ((x after : List ℕ) (told : CaptureLine) → rest ≡ x ++ 10 ∷ after → IsLine x → AreWordsOf told x → ⊥) → IsDamagedAt IsCaptureOf n text
 damaged_line lines rest text n h split number wrong =
     damaged_after (front_lines lines) rest text n (transcript_of lines Peer) (end_words Peer ++ 10 ∷ []) (front_are_lines lines h) split
     (number ∙ omega (arith, length-map lines line_words)) (is_capture lines Peer _ h peer_not_broken refl)

@@ -14,7 +14,7 @@ use Rattle.ws_suite.specs.declared.capture.Line.{Line}
 use Rattle.ws_suite.specs.declared.capture.Line.TheVariants.{Sent, Got}
 use Rattle.ws_suite.specs.declared.capture.CaptureLine.{CaptureLine}
 use Rattle.ws_suite.specs.declared.capture.CaptureLine.TheVariants.{Data, End}
-use Rattle.ws_suite.specs.Captures.{AreLineBytes, TellsLine, bytes_of, end_words, line_if_any, line_words, lines_of_turn, mark_of, written_capture}
+use Rattle.ws_suite.specs.Captures.{AreLineBytes, AreWordsOf, bytes_of, end_words, line_if_any, line_words, lines_of_turn, mark_of, written_capture}
 use Rattle.ws_suite.specs.Capturing.{capture_text, got_text, last_text, sent_text, turn_text}
 
 -- ---- writing
@@ -76,17 +76,17 @@ dash_is_none [] [] word len h g = let some : 0 < 0 = g.some in omega arith
 dash_is_none [] (b ∷ bytes) word len h g = omega (arith, ap (λ (l : List ℕ). length l) (sym h.1 ∙ g.spelled), hex_two b bytes g.are_bytes)
 
 -- a line with bytes is its mark, a space and the digits
-pub data_shape : (line : Line) (words : List ℕ) → TellsLine (Data line) words → words ≡ mark_of line ∷ 32 ∷ hex (bytes_of line)
+pub data_shape : (line : Line) (words : List ℕ) → AreWordsOf (Data line) words → words ≡ mark_of line ∷ 32 ∷ hex (bytes_of line)
 data_shape (Sent bytes) words h = h.1
 data_shape (Got bytes) words h = h.1
 
-pub data_bytes : (line : Line) (words word : List ℕ) (mark space : ℕ) → words ≡ mark ∷ space ∷ word → TellsLine (Data line) words → AreLineBytes (bytes_of line) word
+pub data_bytes : (line : Line) (words word : List ℕ) (mark space : ℕ) → words ≡ mark ∷ space ∷ word → AreWordsOf (Data line) words → AreLineBytes (bytes_of line) word
 data_bytes line words word mark space e h =
     let shape = data_shape line words h in
     let same : word ≡ hex (bytes_of line) = cc in
     record { some = h.0.0; are_bytes = h.0.1; spelled = same }
 
-pub data_marks : (line : Line) (words word : List ℕ) (mark space : ℕ) → words ≡ mark ∷ space ∷ word → TellsLine (Data line) words → ((mark ≡ 62) ⊎ (mark ≡ 60)) × (space ≡ 32)
+pub data_marks : (line : Line) (words word : List ℕ) (mark space : ℕ) → words ≡ mark ∷ space ∷ word → AreWordsOf (Data line) words → ((mark ≡ 62) ⊎ (mark ≡ 60)) × (space ≡ 32)
 data_marks (Sent bytes) words word mark space e h =
     let shape : words ≡ 62 ∷ 32 ∷ hex bytes = h.1 in
     let first : mark ≡ 62 = cc in
@@ -98,10 +98,10 @@ data_marks (Got bytes) words word mark space e h =
     let second : space ≡ 32 = cc in
     (inr first, second)
 
-pub data_long : (line : Line) (words : List ℕ) → TellsLine (Data line) words → 2 ≤ length words
+pub data_long : (line : Line) (words : List ℕ) → AreWordsOf (Data line) words → 2 ≤ length words
 data_long line words h = omega (arith, ap (λ (l : List ℕ). length l) (data_shape line words h))
 
-pub tells_data : (line : Line) (words word bytes : List ℕ) → words ≡ mark_of line ∷ 32 ∷ word → bytes_of line ≡ bytes → AreLineBytes bytes word → TellsLine (Data line) words
+pub tells_data : (line : Line) (words word bytes : List ℕ) → words ≡ mark_of line ∷ 32 ∷ word → bytes_of line ≡ bytes → AreLineBytes bytes word → AreWordsOf (Data line) words
 tells_data (Sent own) words word bytes e same h =
     let spelled : word ≡ hex own = h.spelled ∙ ap (λ (l : List ℕ). hex l) (sym same) in
     ((omega (arith, h.some, ap (λ (l : List ℕ). length l) same), subst (λ (l : List ℕ). AreBytes l) (sym same) h.are_bytes), e ∙ ap (λ (l : List ℕ). 62 ∷ 32 ∷ l) spelled)
@@ -110,7 +110,7 @@ tells_data (Got own) words word bytes e same h =
     ((omega (arith, h.some, ap (λ (l : List ℕ). length l) same), subst (λ (l : List ℕ). AreBytes l) (sym same) h.are_bytes), e ∙ ap (λ (l : List ℕ). 60 ∷ 32 ∷ l) spelled)
 
 -- what is neither a last line nor one with bytes tells nothing
-pub tells_none : (words : List ℕ) → words ≢ codes "end peer" → words ≢ codes "end tester" → ((line : Line) → TellsLine (Data line) words → ⊥) → (told : CaptureLine) → TellsLine told words → ⊥
+pub tells_none : (words : List ℕ) → words ≢ codes "end peer" → words ≢ codes "end tester" → ((line : Line) → AreWordsOf (Data line) words → ⊥) → (told : CaptureLine) → AreWordsOf told words → ⊥
 tells_none words a b none (Data line) h = none line h
 tells_none words a b none (End Tester) h = b h.1
 tells_none words a b none (End Peer) h = a h.1

@@ -4,7 +4,8 @@ use Rattle.std.specs.List.{AllByRecursion}
 use Rattle.ws_suite.specs.declared.transcript.Turn.{Turn}
 use Rattle.ws_suite.specs.declared.capture.Line.{Line}
 use Rattle.ws_suite.specs.declared.capture.Line.TheVariants.{Sent, Got}
-use Rattle.ws_suite.specs.Captures.{HasLineBytes, got_first, got_last, has_any, sent_first, sent_last, turns_in, with_line}
+use Rattle.ws_suite.specs.Captures.{HasLineBytes, got_first, got_last, sent_first, sent_last, turns_in, with_line}
+use Rattle.ws_suite.specs.Scripts.{has_any}
 
 abbrev turn_with : List ℕ → List ℕ → Turn
 turn_with sent got = record { sent = sent; got = got }

@@ -36,11 +36,8 @@ last_joined {X} o (x ∷ xs) ys = last_joined (Some x) xs ys
 
 -- ---- events of one turn
 
-collected_none : (way : Way) (turn : ℕ) (c : Collected) → AreCollected way turn [] c c
-collected_none way turn c = record { replies = sym (append-nil c.replies.items); ending = refl; has_rest = refl }
-
 pub nothing_collected : (way : Way) (turn : ℕ) (c : Collected) → AreCollected way turn [] c c
-nothing_collected way turn c = collected_none way turn c
+nothing_collected way turn c = record { replies = sym (append-nil c.replies.items); ending = refl; has_rest = refl }
 
 pub collected_joined : (way : Way) (turn : ℕ) (a b : List Event) (old mid new : Collected) → AreCollected way turn a old mid → AreCollected way turn b mid new → AreCollected way turn (a ++ b) old new
 collected_joined way turn a b old mid new p q = record {

@@ -1,5 +1,5 @@
 -- Captures: a transcript as lines of text, in format 1. Every line ends with LF.
-use Rattle.std.specs.Prelude.{◌≡◌, ◌≢◌, ℕ, ◌<◌, Bool, true, false, if◌then◌else◌, ⊤, List, [], ◌∷◌, ◌++◌, length, map, flat_map, codes}
+use Rattle.std.specs.Prelude.{◌≡◌, ◌≢◌, ℕ, ◌<◌, if◌then◌else◌, ⊤, List, [], ◌∷◌, ◌++◌, length, map, flat_map, codes}
 use Rattle.std.specs.List.{AllByRecursion}
 use Rattle.ws_base.specs.Words.{AreBytes, hex}
 use Rattle.ws_base.specs.Lines.{IsDamagedAt, ended}
@@ -13,6 +13,7 @@ use Rattle.ws_suite.specs.declared.capture.Line.{Line}
 use Rattle.ws_suite.specs.declared.capture.Line.TheVariants.{Sent, Got}
 use Rattle.ws_suite.specs.declared.capture.CaptureLine.{CaptureLine}
 use Rattle.ws_suite.specs.declared.capture.CaptureLine.TheVariants.{Data, End}
+use Rattle.ws_suite.specs.Scripts.{has_any}
 
 -- ---- lines
 
@@ -58,10 +59,6 @@ written_capture transcript = ended (capture_lines (flat_map lines_of_turn transc
 
 -- ---- reading
 
-abbrev pub has_any : List ℕ → Bool
-has_any [] = false
-has_any (byte ∷ bytes) = true
-
 -- a line of what was sent stands before these turns: it belongs to the first
 abbrev pub sent_first : List ℕ → List Turn → List Turn
 sent_first bytes [] = record { sent = bytes; got = [] } ∷ []
@@ -89,17 +86,17 @@ pub record IsCaptureOf (transcript : Transcript) (text : List ℕ) : Type 0 wher
   pub not_broken : transcript.ended ≢ Broken
   pub are_turns : transcript.turns ≡ turns_in lines
 
--- what a fault tells of a text
+-- what a fault says of a text
 abbrev pub Damages : CaptureFault → List ℕ → Type 0
 Damages (fault.Damaged n) text = IsDamagedAt IsCaptureOf n text
 Damages fault.NoMemory text = ⊤
 
 -- ---- steps of reading: a reader may skip what follows
 
--- what a line tells that isn't the first
-abbrev pub TellsLine : CaptureLine → List ℕ → Type 0
-TellsLine (Data line) words = HasLineBytes line × (words ≡ line_words line)
-TellsLine (End end) words = (end ≢ Broken) × (words ≡ end_words end)
+-- the words of a line that isn't the first
+abbrev pub AreWordsOf : CaptureLine → List ℕ → Type 0
+AreWordsOf (Data line) words = HasLineBytes line × (words ≡ line_words line)
+AreWordsOf (End end) words = (end ≢ Broken) × (words ≡ end_words end)
 
 -- the bytes that a line has after its mark
 pub record AreLineBytes (bytes word : List ℕ) : Type 0 where

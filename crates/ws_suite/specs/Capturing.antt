@@ -24,4 +24,5 @@ last_text Peer = codes "end peer\n"
 last_text Broken = codes "end peer\n"
 
 abbrev pub capture_text : Transcript → List ℕ
-capture_text transcript = concat (codes "wst-capture 1\n" ∷ flat_map turn_text transcript.turns ∷ last_text transcript.ended ∷ [])
+capture_text transcript =
+    concat (codes "wst-capture 1\n" ∷ flat_map turn_text transcript.turns ∷ last_text transcript.ended ∷ [])

@@ -44,7 +44,8 @@ last_end [] = 0
 last_end (x ∷ xs) = max x.end (last_end xs)
 
 -- the turns so far have these events; the session has taken them, and what is collected is what they say
-pub record HasCollected (way : Way) (turns : List (List ℕ)) (events : List (List Event)) (session : SessionValue) (collected : Collected) : Type 0 where
+pub record HasCollected (way : Way) (turns : List (List ℕ)) (events : List (List Event)) (session : SessionValue)
+    (collected : Collected) : Type 0 where
   pub are_events : AreEventsByTurn (role_of way) turns events
   pub sent : List Frame
   pub exchanged : HasExchanged session sent (concat turns) false
@@ -65,4 +66,5 @@ pub record SessionLaws : Type 0 where
   pub one_list : (role : Role) (limits : LimitsValue) (bytes : List ℕ) (events others : List Event)
       → HasEvents role limits bytes events → HasEvents role limits bytes others → events ≡ others
   pub go_on : (role : Role) (limits : LimitsValue) (bytes more : List ℕ) (events all : List Event)
-      → HasEvents role limits bytes events → HasEvents role limits (bytes ++ more) all → (later : List Event) × (all ≡ events ++ later)
+      → HasEvents role limits bytes events → HasEvents role limits (bytes ++ more) all
+      → (later : List Event) × (all ≡ events ++ later)

@@ -21,16 +21,17 @@ use Rattle.ws_suite.specs.declared.evidence.Evidence.{Evidence}
 -- ---- events and their turns
 
 abbrev pub joined_events : List (List Event) → List Event
-joined_events events = flat_map (λ (told : List Event). told) events
+joined_events turns = flat_map (λ (events : List Event). events) turns
 
--- What an endpoint of this role tells of bytes that come in turns, one list of events a turn: of the bytes of the first
--- turns, however many, it tells the events of those turns. An event is told with its last byte, and a fault with the
--- byte of its place: so each stands in the turn that holds this byte. The endpoint takes the largest messages.
+-- The events of bytes that come in turns, one list of events a turn, at an endpoint of this role that takes the largest
+-- messages: the bytes of the first turns, however many, have the events of those turns. An event comes with its last
+-- byte, and a fault with the byte of its place: so each stands in the turn that holds this byte.
 pub record AreEventsByTurn (role : Role) (turns : List (List ℕ)) (events : List (List Event)) : Type 0 where
   pub each : length events ≡ length turns
-  pub so_far : (n : ℕ) → n ≤ length turns → HasEvents role most_limits (concat (take n turns)) (joined_events (take n events))
+  pub so_far : (n : ℕ) → n ≤ length turns →
+      HasEvents role most_limits (concat (take n turns)) (joined_events (take n events))
 
--- fewer bytes tell the same events: so bytes stand after the last of them, or there are bytes and no events
+-- fewer bytes have the same events: so bytes stand after the last of them, or there are bytes and no events
 pub record HasRest (role : Role) (bytes : List ℕ) (events : List Event) : Type 0 where
   pub n : ℕ
   pub fewer : n < length bytes
@@ -47,7 +48,7 @@ due_for (event.Pong payload) = []
 due_for (event.Close close) = []
 due_for (event.Failed reason) = []
 
--- what was got: parts of messages and pings are passed over
+-- what was got: Part and Ping are passed over
 abbrev pub got_in : Event → List Reply
 got_in event.Part = []
 got_in (event.Message message) = reply.Message message ∷ []
@@ -56,7 +57,7 @@ got_in (event.Pong payload) = reply.Pong payload ∷ []
 got_in (event.Close close) = []
 got_in (event.Failed reason) = []
 
--- a close, with its code if it has one, or a fault: after it nothing is told
+-- a close, with its code if it has one, or a fault: no event follows it
 abbrev pub ending_in : Event → List Ending
 ending_in event.Part = []
 ending_in (event.Message message) = []
@@ -68,12 +69,15 @@ ending_in (event.Failed reason) = Failed reason ∷ []
 -- what is found in events, each with the turn of its event, where the first turn has this number
 abbrev pub by_turn : {X : Type 0} → (Event → List X) → ℕ → List (List Event) → List (InTurn X)
 by_turn found turn [] = []
-by_turn found turn (events ∷ later) = map (λ x. record { turn = turn; what = x }) (flat_map found events) ++ by_turn found (turn + 1) later
+by_turn found turn (events ∷ later) =
+    map (λ x. record { turn = turn; what = x }) (flat_map found events) ++ by_turn found (turn + 1) later
 
 -- ---- the evidence of a transcript
 
--- the replies in what one end sent, turn by turn, the close or fault at its end, and whether bytes stand after that
-pub record IsDirectionOf (role : Role) (found : Event → List Reply) (turns : List (List ℕ)) (direction : Direction) : Type 0 where
+-- What is found in bytes that came turn by turn to an endpoint of this role: the replies, the close or fault at the
+-- end, and whether bytes stand after the last event.
+pub record IsDirectionOf (role : Role) (found : Event → List Reply) (turns : List (List ℕ))
+    (direction : Direction) : Type 0 where
   pub events : List (List Event)
   pub are_events : AreEventsByTurn role turns events
   pub replies : direction.replies ≡ by_turn found 0 events
@@ -86,7 +90,7 @@ sent_turns turns = map (λ (turn : Turn). turn.sent) turns
 abbrev pub got_turns : List Turn → List (List ℕ)
 got_turns turns = map (λ (turn : Turn). turn.got) turns
 
--- what a server is told of all that was sent, and a client of all that was got
+-- what all that was sent says to a server, and all that was got to a client
 pub record IsEvidenceOf (transcript : Transcript) (evidence : Evidence) : Type 0 where
   pub due : IsDirectionOf Server due_for (sent_turns transcript.turns) evidence.due
   pub got : IsDirectionOf Client got_in (got_turns transcript.turns) evidence.got

@@ -1,5 +1,5 @@
 -- Inside the crate: lists of replies as the judge's functions see them. A reader may skip this file.
-use Rattle.std.specs.Prelude.{◌≡◌, ◌<◌, Bool, true, List, [], ◌∷◌, map, Option, None, Some}
+use Rattle.std.specs.Prelude.{◌≡◌, Bool, true, List, [], ◌∷◌, map, Option, None, Some}
 use Rattle.std.specs.Borrow.{Bor}
 use Rattle.ws_suite.specs.declared.verdict.FailWhy.{FailWhy}
 use Rattle.ws_suite.specs.declared.verdict.LooseWhy.{LooseWhy}
@@ -7,7 +7,8 @@ use Rattle.ws_suite.specs.declared.evidence.InTurn.{InTurn}
 use Rattle.ws_suite.specs.declared.evidence.Reply.{Reply}
 use Rattle.ws_suite.specs.declared.evidence.Evidence.{Evidence}
 use Rattle.ws_suite.specs.declared.judging.replies.Lists.{Lists}
-use Rattle.ws_suite.specs.Verdicts.{Fails, FailsNowhere, IsLoose, fail_number, loose_number, messages_of, pongs_of}
+use Rattle.ws_suite.specs.Verdicts.{FailsNowhere, IsLowestFail, IsLowestLoose, IsNowhereLoose}
+use Rattle.ws_suite.specs.Verdicts.{due_messages, due_pongs, got_messages, got_pongs}
 
 -- what references to replies point to
 abbrev pub targets : List (Bor (InTurn Reply)) → List (InTurn Reply)
@@ -15,20 +16,20 @@ targets replies = map (λ (r : Bor (InTurn Reply)). r.now) replies
 
 -- the messages and the pongs of both directions
 pub record AreListsOf (x : Evidence) (lists : Lists) : Type 0 where
-  pub due_messages : targets lists.due_messages.items ≡ messages_of x.due.replies
-  pub got_messages : targets lists.got_messages.items ≡ messages_of x.got.replies
-  pub due_pongs : targets lists.due_pongs.items ≡ pongs_of x.due.replies
-  pub got_pongs : targets lists.got_pongs.items ≡ pongs_of x.got.replies
+  pub due_messages : targets lists.due_messages.items ≡ due_messages x
+  pub got_messages : targets lists.got_messages.items ≡ got_messages x
+  pub due_pongs : targets lists.due_pongs.items ≡ due_pongs x
+  pub got_pongs : targets lists.got_pongs.items ≡ got_pongs x
 
 -- the lowest Fail that applies, or there is none
 abbrev pub IsFirstFail : Evidence → Option FailWhy → Type 0
 IsFirstFail x None = FailsNowhere x
-IsFirstFail x (Some why) = Fails x why × ((lower : FailWhy) → fail_number lower < fail_number why → ¬ (Fails x lower))
+IsFirstFail x (Some why) = IsLowestFail x why
 
 -- the lowest Loose that applies, or there is none
 abbrev pub IsFirstLoose : Evidence → Option LooseWhy → Type 0
-IsFirstLoose x None = (why : LooseWhy) → ¬ (IsLoose x why)
-IsFirstLoose x (Some why) = IsLoose x why × ((lower : LooseWhy) → loose_number lower < loose_number why → ¬ (IsLoose x lower))
+IsFirstLoose x None = IsNowhereLoose x
+IsFirstLoose x (Some why) = IsLowestLoose x why
 
 -- the first of the replies passes the test
 abbrev pub IsAtFront : (InTurn Reply → Bool) → List (InTurn Reply) → Type 0

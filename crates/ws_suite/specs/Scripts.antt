@@ -1,5 +1,6 @@
 -- Scripts: their steps, cut into turns, and the bytes of a turn, cut into pieces.
-use Rattle.std.specs.Prelude.{◌≡◌, ℕ, ◌<◌, ◌≤◌, ⊤, Bool, true, false, List, [], ◌∷◌, length, map, filter, flat_map, Some}
+use Rattle.std.specs.Prelude.{◌≡◌, ℕ, ◌<◌, ◌≤◌, ⊤, Bool, true, false, List, [], ◌∷◌, length, map, filter, flat_map}
+use Rattle.std.specs.Prelude.{Some}
 use Rattle.std.specs.List.{concat, onto_first, AllZip, AllByRecursion}
 use Rattle.ws_frame.specs.Frame.{frame_bytes}
 use Rattle.ws_suite.specs.declared.script.Step.{Step}

@@ -1,6 +1,7 @@
 -- Verdicts: which rules a server broke, and where it answered otherwise than an echo that is fed turn by turn. Each of
 -- the six Fails and the six Looses is a definition of its own, over the replies that are due and those that were got.
-use Rattle.std.specs.Prelude.{◌≡◌, ◌≢◌, ℕ, ◌+◌, ◌<◌, ◌≤◌, ◌⊎◌, ⊤, nat_lt, Bool, true, false, MatchBool, if◌then◌else◌, List, [], ◌∷◌, ◌++◌, length, map, filter, find, is_some, bytes_eq, Option, Some, None}
+use Rattle.std.specs.Prelude.{◌≡◌, ◌≢◌, ℕ, ◌+◌, ◌<◌, ◌≤◌, ◌⊎◌, ⊤, nat_lt, Bool, true, false, MatchBool, if◌then◌else◌}
+use Rattle.std.specs.Prelude.{List, [], ◌∷◌, ◌++◌, length, map, filter, find, is_some, bytes_eq, Option, Some, None}
 use Rattle.std.specs.List.{list_any, zip, last_or}
 use Rattle.ws_session.specs.Replies.{close_code_of}
 use Rattle.ws_suite.specs.declared.transcript.Ended.TheVariants.{Tester, Broken}
@@ -38,6 +39,25 @@ messages_of replies = filter (λ x. is_message x.what) replies
 
 abbrev pub pongs_of : List (InTurn Reply) → List (InTurn Reply)
 pongs_of replies = filter (λ x. is_pong x.what) replies
+
+-- what is due, and what was got
+abbrev pub due_messages : Evidence → List (InTurn Reply)
+due_messages x = messages_of x.due.replies
+
+abbrev pub got_messages : Evidence → List (InTurn Reply)
+got_messages x = messages_of x.got.replies
+
+abbrev pub due_pongs : Evidence → List (InTurn Reply)
+due_pongs x = pongs_of x.due.replies
+
+abbrev pub got_pongs : Evidence → List (InTurn Reply)
+got_pongs x = pongs_of x.got.replies
+
+abbrev pub IsShortOfMessages : Evidence → Type 0
+IsShortOfMessages x = length (got_messages x) < length (due_messages x)
+
+abbrev pub IsShortOfPongs : Evidence → Type 0
+IsShortOfPongs x = length (got_pongs x) < length (due_pongs x)
 
 -- without their turns
 abbrev pub bare : List (InTurn Reply) → List Reply
@@ -91,7 +111,8 @@ abbrev pub matches_of : List (InTurn Reply) → List (InTurn Reply) → List (In
 matches_of due [] = []
 matches_of due (pong ∷ pongs) = (pong, find (has_payload_of pong) due) ∷ matches_of (due_after pong due) pongs
 
--- the last due pong is there: the last pong that was got has its payload, and stands in no earlier turn than its ping
+-- The last due pong is there: the last pong that was got has its payload, and stands in no earlier turn than its ping.
+-- Nothing is asked of the pongs before it.
 pub record IsLastPong (dues gots : List (InTurn Reply)) : Type 0 where
   pub due : InTurn Reply
   pub is_due : last_or None dues ≡ Some due
@@ -101,14 +122,16 @@ pub record IsLastPong (dues gots : List (InTurn Reply)) : Type 0 where
   pub turn : due.turn ≤ got.turn
 
 abbrev pub HasLastPong : Evidence → Type 0
-HasLastPong x = IsLastPong (pongs_of x.due.replies) (pongs_of x.got.replies)
+HasLastPong x = IsLastPong (due_pongs x) (got_pongs x)
 
-abbrev pub IsShortOfPongs : Evidence → Type 0
-IsShortOfPongs x = length (pongs_of x.got.replies) < length (pongs_of x.due.replies)
+-- the pongs that were got, each with its match
+abbrev pub matches : Evidence → List (InTurn Reply × Option (InTurn Reply))
+matches x = matches_of (due_pongs x) (got_pongs x)
 
 -- ---- Fails
 
--- what was got holds a fault; or bytes follow the close that was got; or it ends inside a frame and the end isn't Broken
+-- What was got holds a fault; or bytes follow the close that was got; or the bytes end inside a frame and the end isn't
+-- Broken.
 abbrev pub IsNotFrames : Evidence → Type 0
 IsNotFrames x = (has_fault x.got.ending ≡ true)
     ⊎ (((has_close x.got.ending ≡ true) × (x.got.has_rest ≡ true))
@@ -126,18 +149,19 @@ IsEarlyClose None due = ⊥
 IsEarlyClose (Some got) None = ⊥
 IsEarlyClose (Some got) (Some due) = (is_close got.what ≡ true) × (got.turn < due.turn)
 
--- some message that was got stands in an earlier turn than the message due in its place; or a matched pong in an earlier
--- turn than its ping; or a close in an earlier turn than the close or fault that was sent
+-- A message that was got stands in an earlier turn than the message due in its place; or a matched pong in an earlier
+-- turn than its ping; or a close in an earlier turn than the close or fault that was sent. Nothing is asked of a
+-- message in whose place none is due.
 abbrev pub IsEarly : Evidence → Type 0
-IsEarly x = (list_any is_before (zip (messages_of x.got.replies) (messages_of x.due.replies)) ≡ true)
-    ⊎ ((list_any is_before_match (matches_of (pongs_of x.due.replies) (pongs_of x.got.replies)) ≡ true)
+IsEarly x = (list_any is_before (zip (got_messages x) (due_messages x)) ≡ true)
+    ⊎ ((list_any is_before_match (matches x) ≡ true)
     ⊎ IsEarlyClose x.got.ending x.due.ending)
 
 -- without a fault, the messages that were got aren't those due; with a fault, they aren't a beginning of them
 abbrev pub HasOtherMessages : Evidence → Type 0
 HasOtherMessages x = MatchBool (has_fault x.due.ending)
-    (¬ (IsBeginningOf (bare (messages_of x.got.replies)) (bare (messages_of x.due.replies))))
-    (bare (messages_of x.got.replies) ≢ bare (messages_of x.due.replies))
+    (¬ (IsBeginningOf (bare (got_messages x)) (bare (due_messages x))))
+    (bare (got_messages x) ≢ bare (due_messages x))
 
 abbrev pub is_unmatched : InTurn Reply × Option (InTurn Reply) → Bool
 is_unmatched (got, None) = true
@@ -145,8 +169,8 @@ is_unmatched (got, Some due) = false
 
 -- a pong that was got has no match; or, without a fault, pongs are due and the last of them isn't there
 abbrev pub HasOtherPongs : Evidence → Type 0
-HasOtherPongs x = (list_any is_unmatched (matches_of (pongs_of x.due.replies) (pongs_of x.got.replies)) ≡ true)
-    ⊎ ((has_fault x.due.ending ≡ false) × (0 < length (pongs_of x.due.replies)) × ¬ (HasLastPong x))
+HasOtherPongs x = (list_any is_unmatched (matches x) ≡ true)
+    ⊎ ((has_fault x.due.ending ≡ false) × (0 < length (due_pongs x)) × ¬ (HasLastPong x))
 
 -- a close is due and none was got; or neither close nor fault was sent and a close was got
 abbrev pub HasOtherClose : Evidence → Type 0
@@ -171,7 +195,7 @@ Fails x fail.End = HasOtherEnd x
 abbrev pub SkipsPongs : Evidence → Type 0
 SkipsPongs x = IsShortOfPongs x × HasLastPong x
 
--- the messages and pongs that were got, in their order, aren't those due with some left out
+-- the messages and pongs that were got, in their common order, aren't those due with some left out
 abbrev pub HasPongElsewhere : Evidence → Type 0
 HasPongElsewhere x = ¬ (IsWithSomeLeftOut (bare x.got.replies) (bare x.due.replies))
 
@@ -184,10 +208,10 @@ HasOtherCode x = (got : InTurn Ending) × (due : InTurn Ending) × (code : Optio
 abbrev pub EndsLate : Evidence → Type 0
 EndsLate x = (due : InTurn Ending) × (x.due.ending ≡ Some due) × (due.turn + 1 < x.turns)
 
--- with a fault, fewer messages than due; or fewer pongs, and the last due pong isn't there
+-- With a fault, fewer messages than due; or fewer pongs than due, and the last due pong isn't there. Without a fault
+-- each of the two is a Fail.
 abbrev pub EchoesShort : Evidence → Type 0
-EchoesShort x = (has_fault x.due.ending ≡ true)
-    × ((length (messages_of x.got.replies) < length (messages_of x.due.replies)) ⊎ (IsShortOfPongs x × ¬ (HasLastPong x)))
+EchoesShort x = (has_fault x.due.ending ≡ true) × (IsShortOfMessages x ⊎ (IsShortOfPongs x × ¬ (HasLastPong x)))
 
 -- the end is Broken
 abbrev pub IsBroken : Evidence → Type 0
@@ -219,14 +243,23 @@ loose_number loose.LateEnd = 4
 loose_number loose.EchoShort = 5
 loose_number loose.BrokenEnd = 6
 
+abbrev pub IsLowestFail : Evidence → FailWhy → Type 0
+IsLowestFail x why = Fails x why × ((lower : FailWhy) → fail_number lower < fail_number why → ¬ (Fails x lower))
+
+abbrev pub IsLowestLoose : Evidence → LooseWhy → Type 0
+IsLowestLoose x why = IsLoose x why × ((lower : LooseWhy) → loose_number lower < loose_number why → ¬ (IsLoose x lower))
+
 abbrev pub FailsNowhere : Evidence → Type 0
 FailsNowhere x = (why : FailWhy) → ¬ (Fails x why)
 
+abbrev pub IsNowhereLoose : Evidence → Type 0
+IsNowhereLoose x = (why : LooseWhy) → ¬ (IsLoose x why)
+
 -- the lowest Fail that applies; else the lowest Loose; else Pass
 abbrev pub IsVerdictOn : Evidence → Verdict → Type 0
-IsVerdictOn x (Fail why) = Fails x why × ((lower : FailWhy) → fail_number lower < fail_number why → ¬ (Fails x lower))
-IsVerdictOn x (Loose why) = FailsNowhere x × IsLoose x why × ((lower : LooseWhy) → loose_number lower < loose_number why → ¬ (IsLoose x lower))
-IsVerdictOn x Pass = FailsNowhere x × ((why : LooseWhy) → ¬ (IsLoose x why))
+IsVerdictOn x (Fail why) = IsLowestFail x why
+IsVerdictOn x (Loose why) = FailsNowhere x × IsLowestLoose x why
+IsVerdictOn x Pass = FailsNowhere x × IsNowhereLoose x
 
 -- the verdict on the evidence of a transcript
 pub record IsVerdictOf (transcript : Transcript) (verdict : Verdict) : Type 0 where

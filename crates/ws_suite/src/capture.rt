@@ -21,7 +21,7 @@ pub enum CaptureFault {
     NoMemory,
 }
 
-/// What a line with bytes tells.
+/// A line with bytes.
 #[derive(Drop)]
 pub(crate) enum Line {
     /// These bytes were sent.
@@ -30,7 +30,7 @@ pub(crate) enum Line {
     Got(Payload),
 }
 
-/// What a line after the first tells.
+/// A line after the first.
 #[derive(Drop)]
 pub(crate) enum CaptureLine {
     Data(Line),

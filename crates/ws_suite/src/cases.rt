@@ -1,5 +1,5 @@
-//! The cases: 240 scripts in seven groups, each a module with rows as they stand in the table of cases. `case` and `ids`
-//! read the same rows.
+//! The cases: 240 scripts in seven groups, each a module with rows as they stand in the table of cases. `case` and
+//! `ids` read the same rows.
 
 mod closes;
 mod fragments;

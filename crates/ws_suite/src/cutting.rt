@@ -2,7 +2,8 @@
 
 ghost use Rattle.std.specs.Prelude.{◌≡◌, ◌+◌, ◌<◌, ◌≤◌, ◌++◌, [], ◌∷◌, IfOk, OnOk, length, take, drop};
 ghost use Rattle.std.specs.List.{AllByRecursion};
-ghost use Rattle.ws_suite.specs.Scripts.{ArePieces, AreTurns, CanBeRun, CutsOff, FitsAHeader, IsAct, is_wait, step_bytes, turn_bytes, turns_of, without_empty};
+ghost use Rattle.ws_suite.specs.Scripts.{ArePieces, AreTurns, CanBeRun, CutsOff, FitsAHeader, IsAct};
+ghost use Rattle.ws_suite.specs.Scripts.{is_wait, step_bytes, turn_bytes, turns_of, without_empty};
 ghost use Rattle.ws_frame.specs.Frame.{Frame, frame_bytes};
 ghost use Rattle.ws_suite.specs.declared.script.Chop.TheVariants.{Octets, PerFrame, Whole};
 ghost use Rattle.ws_suite.specs.declared.script.Step.TheVariants.{Wait};
@@ -12,8 +13,8 @@ use std::alloc::Global;
 use ws_base::{NoMemory, Payload, Sequence};
 use ws_frame::{Header, append_frame};
 
-/// What is sent for a script whose frames are masked with `key`: the pieces of each turn, in order. A turn without bytes
-/// has no pieces.
+/// What is sent for a script whose frames are masked with `key`: the pieces of each turn, in order. A turn without
+/// bytes has no pieces.
 pub fn turns(
     alloc: Global,
     case: &Case,
@@ -38,7 +39,8 @@ fn first_turn(steps: &[Step]) -> (&[Step], &[Step])
     requires { 0 < length steps.now }
     ensures turns { turns_of steps.now ≡ result.0.now ∷ turns_of result.1.now }
     ensures fewer { length result.1.now < length steps.now }
-    ensures fit { AllByRecursion FitsAHeader steps.now → AllByRecursion FitsAHeader result.0.now × AllByRecursion FitsAHeader result.1.now }
+    ensures fit { AllByRecursion FitsAHeader steps.now →
+        AllByRecursion FitsAHeader result.0.now × AllByRecursion FitsAHeader result.1.now }
 {
     let at = first_wait(steps);
     if at < steps.len() {
@@ -100,7 +102,7 @@ fn one_piece(alloc: Global, key: [u8; 4], steps: &[Step]) -> Result<Sequence<Pay
     Ok(Sequence::from_vec(pieces))
 }
 
-/// Puts the bytes behind the pieces where there are any.
+/// Puts the bytes after the pieces where there are any.
 fn push_if_any(bytes: Vec<u8>, pieces: &mut Vec<Payload>) -> Result<(), NoMemory>
     ensures { OnOk result (pieces.new.items ≡ pieces.old.items ++ without_empty (bytes.items ∷ [])) }
 {

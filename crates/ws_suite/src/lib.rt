@@ -1,4 +1,4 @@
-//! Scripts that test a WebSocket server, and the judgement of what it answered (RFC 6455 sections 4 to 8): what to send,
+//! Scripts that test a WebSocket server, and the verdict on what it answered (RFC 6455 sections 5 to 8): what to send,
 //! in which turns and pieces, what a right answer is, and a capture of both as text.
 //!
 //! The layers above use two contracts: `turns` cuts a script as its definition says, and `judge` gives the one verdict

@@ -1,4 +1,4 @@
-//! What is said of a server by a transcript.
+//! The verdict on a server.
 
 ghost use Rattle.std.specs.Prelude.{Some};
 ghost use Rattle.ws_suite.specs.Words.{fail_name, loose_name, verdict_words};
@@ -16,10 +16,11 @@ pub enum Verdict {
     Fail(FailWhy),
 }
 
-/// Which rule was broken: of several the one with the lowest number is told.
+/// Which rule was broken: of several, the one with the lowest number.
 #[derive(Clone, Copy)]
 pub enum FailWhy {
-    /// What was got breaks the rules of frames (RFC 6455 section 5), goes on after a close frame, or ends inside a frame.
+    /// What was got breaks the rules of frames (RFC 6455 section 5), goes on after a close frame, or ends inside a
+    /// frame.
     NotFrames = 1,
     /// A message, a pong or a close was got before what it answers was sent.
     Early = 2,
@@ -33,7 +34,7 @@ pub enum FailWhy {
     End = 6,
 }
 
-/// What was otherwise: of several the one with the lowest number is told.
+/// What was otherwise: of several, the one with the lowest number.
 #[derive(Clone, Copy)]
 pub enum LooseWhy {
     /// Not every ping was answered, but the last one was.

@@ -3,7 +3,8 @@
 ghost use Rattle.std.specs.Prelude.{◌≡◌, ◌⊎◌, ◌++◌, MatchResult, IfOk, OnOk};
 ghost use Rattle.ws_suite.specs.declared.capture.CaptureLine.TheVariants.{Data};
 ghost use Rattle.ws_base.specs.Reading.{Reads};
-ghost use Rattle.ws_suite.specs.Captures.{AreLineBytes, Damages, IsCaptureOf, TellsLine, bytes_of, got_last, mark_of, sent_last, with_line};
+ghost use Rattle.ws_suite.specs.Captures.{AreLineBytes, AreWordsOf, Damages, IsCaptureOf, bytes_of, got_last};
+ghost use Rattle.ws_suite.specs.Captures.{mark_of, sent_last, with_line};
 
 use crate::capture::{CaptureFault, CaptureLine, Line};
 use crate::transcript::{Ended, Transcript, Turn};
@@ -51,9 +52,9 @@ pub fn read_capture(alloc: Global, text: &[u8]) -> Result<Transcript, CaptureFau
     Err(CaptureFault::Damaged(number))
 }
 
-/// What a line after the first tells.
+/// A line after the first.
 fn read_line(alloc: Global, line: &[u8]) -> Result<CaptureLine, LineFault>
-    ensures { Reads result (λ told. TellsLine told line.now) }
+    ensures { Reads result (λ read. AreWordsOf read line.now) }
 {
     if line == b"end peer".as_slice() {
         return Ok(CaptureLine::End(Ended::Peer));
@@ -67,9 +68,9 @@ fn read_line(alloc: Global, line: &[u8]) -> Result<CaptureLine, LineFault>
     }
 }
 
-/// What a line with bytes tells.
+/// A line with bytes.
 fn read_data(alloc: Global, line: &[u8]) -> Result<Line, LineFault>
-    ensures { Reads result (λ told. TellsLine (Data told) line.now) }
+    ensures { Reads result (λ read. AreWordsOf (Data read) line.now) }
 {
     let [mark, space, word @ ..] = line else {
         return Err(LineFault::Damaged);
@@ -111,7 +112,7 @@ fn read_bytes(alloc: Global, word: &[u8]) -> Result<Payload, LineFault>
     }
 }
 
-/// Puts what a line tells at the end of the turns.
+/// Puts the bytes of a line at the end of the turns.
 fn add_line(alloc: Global, line: Line, turns: &mut Vec<Turn>) -> Result<(), NoMemory>
     ensures { OnOk result (turns.new.items ≡ with_line turns.old.items line) }
 {

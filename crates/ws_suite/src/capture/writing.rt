@@ -9,7 +9,7 @@ use std::alloc::Global;
 use std::fmt;
 use ws_base::{HexDigits, NoMemory};
 
-/// The lines of a transcript, in format 1. A turn in which nothing was got is not told from the next one by them, nor a
+/// The lines of a transcript, in format 1. They don't part a turn in which nothing was got from the next one, nor a
 /// connection that broke from one that the peer ended.
 pub fn write_capture(alloc: Global, transcript: &Transcript) -> Result<Vec<u8>, NoMemory>
     ensures { IfOk result (λ text. text.items ≡ written_capture transcript.now) }

@@ -45,8 +45,8 @@ pub(crate) struct Row(pub &'static str, pub Chop, pub Finish, pub &'static [Act]
 pub(crate) enum Section {
     /// Each as its row says.
     Rows(&'static [Row]),
-    /// A text message of each of these payloads. The names have this front, a dot, and the number in the list, from 1. One
-    /// whose payload is UTF-8 ends with a close frame.
+    /// A text message of each of these payloads. The names have this front, a dot, and the number in the list, from 1.
+    /// One whose payload is UTF-8 ends with a close frame.
     Texts(&'static str, &'static [&'static [u8]]),
     /// So one of these payloads joined.
     Joined(&'static str, &'static [&'static [u8]]),

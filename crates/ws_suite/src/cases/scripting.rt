@@ -71,7 +71,7 @@ fn row_of(rows: &[Row], id: &str) -> Option<usize>
     None
 }
 
-/// The place that a name of this front, a dot and a number from 1 to `count` tells.
+/// The place of a name that is this front, a dot and a number from 1 to `count`.
 fn place_by_number(front: &str, count: usize, id: &str) -> Option<usize>
     ensures { IfSome result (λ place. place < count) }
 {
@@ -246,7 +246,7 @@ fn push_wait(steps: &mut Vec<Step>) -> Result<(), NoMemory>
     Ok(())
 }
 
-/// The payload that a row tells.
+/// The payload of a frame.
 fn bytes_of(alloc: Global, data: Data) -> Result<Vec<u8>, NoMemory> {
     let (front, byte, count) = match data {
         Data::Bytes(bytes) => (bytes, 0, 0),

@@ -4,7 +4,8 @@ ghost use Rattle.std.specs.Prelude.{◌≡◌, ℕ, List, [], ◌∷◌, ◌++�
 ghost use Rattle.ws_session.specs.declared.event.Event.{Event};
 ghost use Rattle.ws_session.specs.Taking.{events_in};
 ghost use Rattle.ws_suite.specs.Evidence.{IsDirectionOf, IsEvidenceOf, ending_in};
-ghost use Rattle.ws_suite.specs.Collecting.{AreCollected, HasCollected, SessionLaws, found_by, last_end, role_of, turn_by, turns_by};
+ghost use Rattle.ws_suite.specs.Collecting.{AreCollected, HasCollected, SessionLaws, found_by, last_end};
+ghost use Rattle.ws_suite.specs.Collecting.{role_of, turn_by, turns_by};
 
 use crate::evidence::{Direction, Ending, Evidence, InTurn, Reply};
 use crate::transcript::{Transcript, Turn};
@@ -109,8 +110,10 @@ fn collect_turn(
     session: &mut Session,
     collected: &mut Collected,
 ) -> Result<(), NoMemory>
-    ensures { (turns : List (List ℕ)) (events : List (List Event)) → number ≡ length turns → HasCollected way turns events session.old collected.old →
-        OnOk result ((told : List Event) × HasCollected way (turns ++ bytes.now ∷ []) (events ++ told ∷ []) session.new collected.new) }
+    ensures { (turns : List (List ℕ)) (events : List (List Event)) → number ≡ length turns →
+        HasCollected way turns events session.old collected.old →
+        OnOk result ((added : List Event)
+        × HasCollected way (turns ++ bytes.now ∷ []) (events ++ added ∷ []) session.new collected.new) }
 {
     session_laws();
     if bytes.is_empty() {

@@ -2,7 +2,8 @@
 
 ghost use Rattle.std.specs.Prelude.{◌≡◌, ◌↔◌, IsTrue};
 ghost use Rattle.ws_suite.specs.Judging.{AreListsOf, IsFirstFail};
-ghost use Rattle.ws_suite.specs.Verdicts.{HasOtherClose, HasOtherEnd, HasOtherMessages, HasOtherPongs, IsEarly, IsEarlyClose, IsNotFrames, has_close, has_fault, is_close};
+ghost use Rattle.ws_suite.specs.Verdicts.{HasOtherClose, HasOtherEnd, HasOtherMessages, HasOtherPongs, IsEarly};
+ghost use Rattle.ws_suite.specs.Verdicts.{IsEarlyClose, IsNotFrames, has_close, has_fault, is_close};
 
 use crate::evidence::{Ending, Evidence, InTurn};
 use crate::judging::pongs::{has_last_pong, match_pongs};

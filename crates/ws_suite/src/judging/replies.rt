@@ -4,7 +4,8 @@ ghost use Rattle.std.specs.Prelude.{◌≡◌, ◌↔◌, ◌∷◌, List, IfOk,
 ghost use Rattle.ws_suite.specs.declared.evidence.Reply.{Reply};
 ghost use Rattle.ws_suite.specs.Judging.{AreListsOf, targets};
 ghost use Rattle.std.specs.List.{list_any, zip};
-ghost use Rattle.ws_suite.specs.Verdicts.{IsBeginningOf, IsWithSomeLeftOut, bare, is_before, is_message, messages_of, pongs_of};
+ghost use Rattle.ws_suite.specs.Verdicts.{IsBeginningOf, IsWithSomeLeftOut, bare, is_before, is_message};
+ghost use Rattle.ws_suite.specs.Verdicts.{messages_of, pongs_of};
 
 use crate::evidence::{Evidence, InTurn, Reply};
 use std::alloc::Global;
@@ -120,7 +121,8 @@ pub(super) fn are_left(some: &[InTurn<Reply>], all: &[InTurn<Reply>]) -> bool
 
 /// The replies without the first, where that is this one.
 fn without<'a>(left: &'a [InTurn<Reply>], reply: &InTurn<Reply>) -> &'a [InTurn<Reply>]
-    ensures { (all : List Reply) → IsWithSomeLeftOut (bare left.entry.now) (reply.now.what ∷ all) ↔ IsWithSomeLeftOut (bare result.now) all }
+    ensures { (all : List Reply) →
+        IsWithSomeLeftOut (bare left.entry.now) (reply.now.what ∷ all) ↔ IsWithSomeLeftOut (bare result.now) all }
 {
     if let [first, others @ ..] = left {
         if are_same(&first.what, &reply.what) {

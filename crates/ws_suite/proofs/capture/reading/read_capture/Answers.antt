@@ -2,7 +2,7 @@ use Rattle.std.proofs.Common.{◌≡◌, ◌≢◌, ◌∙◌, ◌+◌, ◌<◌,
 use Rattle.std.proofs.lemmas.List.{length-append}
 use Rattle.ws_base.specs.Lines.{IsLine, ended}
 use Rattle.ws_suite.specs.declared.transcript.Turn.{Turn}
-use Rattle.ws_suite.specs.Captures.{HasLineBytes, TellsLine, first_words, with_line}
+use Rattle.ws_suite.specs.Captures.{HasLineBytes, AreWordsOf, first_words, with_line}
 use Rattle.ws_suite.proofs.TurnLemmas.{all_added}
 use Rattle.ws_suite.proofs.LineLemmas.{no_feed_in_line, one_line}
 use Rattle.ws_suite.proofs.CaptureTurns.{line_added}
@@ -34,7 +34,7 @@ returns-in-Err-Damaged c =
     damaged_line i.0 c.loop-line.rest.now c.args.text.now c.loop-line.number i.1 i.2 i.4
     (λ x after told e is tells.
     let same = one_line x line after c.in-Some-cut_line.after.now is c.in-Some-cut_line.ensures.1 (sym e ∙ c.in-Some-cut_line.ensures.0) in
-    c.in-Err-Damaged.ensures c.in-Err-Damaged.field-0-is told (subst (λ (l : List ℕ). TellsLine told l) same.0 tells))
+    c.in-Err-Damaged.ensures c.in-Err-Damaged.field-0-is told (subst (λ (l : List ℕ). AreWordsOf told l) same.0 tells))
 
 pub returns : goal.returns
 returns c =
