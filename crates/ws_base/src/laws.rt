@@ -27,3 +27,8 @@ pub fn damaged_letters()
 pub fn hexadecimal_is_no_shorter()
     ensures { (bytes word : List ℕ) → IsHexWord bytes word → length bytes ≤ length word }
 {}
+
+/// A word spells one list of bytes.
+pub fn a_word_spells_one_list_of_bytes()
+    ensures { (bytes others word : List ℕ) → IsHexWord bytes word → IsHexWord others word → bytes ≡ others }
+{}

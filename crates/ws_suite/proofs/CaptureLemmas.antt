@@ -55,18 +55,18 @@ all_after : (xs ys : List (List ℕ)) → AllByRecursion IsLine (xs ++ ys) → A
 all_after [] ys h = h
 all_after (x ∷ xs) ys h = all_after xs ys h.1
 
-capture_are_lines : (lines : List Line) (end : Ended) → AllByRecursion HasLineBytes lines → AllByRecursion IsLine (capture_lines lines end)
+pub capture_are_lines : (lines : List Line) (end : Ended) → AllByRecursion HasLineBytes lines → AllByRecursion IsLine (capture_lines lines end)
 capture_are_lines lines end h = all_more (front_lines lines) (end_words end ∷ []) (front_are_lines lines h) (end_is_line end, tt)
 
 -- ---- what a line of a capture can be
 
-heads_differ : (a b : ℕ) (xs ys : List ℕ) → a < b → a ∷ xs ≡ b ∷ ys → ⊥
+pub heads_differ : (a b : ℕ) (xs ys : List ℕ) → a < b → a ∷ xs ≡ b ∷ ys → ⊥
 heads_differ a b xs ys less e =
     let same : a ≡ b = cc in
     omega arith
 
 -- a line with bytes is no last line
-mark_differs : (line : Line) (end : Ended) → line_words line ≡ end_words end → ⊥
+pub mark_differs : (line : Line) (end : Ended) → line_words line ≡ end_words end → ⊥
 mark_differs (Sent bytes) Tester e = heads_differ 62 101 (32 ∷ hex bytes) (codes "nd tester") (omega arith) e
 mark_differs (Sent bytes) Peer e = heads_differ 62 101 (32 ∷ hex bytes) (codes "nd peer") (omega arith) e
 mark_differs (Sent bytes) Broken e = heads_differ 62 101 (32 ∷ hex bytes) (codes "nd peer") (omega arith) e

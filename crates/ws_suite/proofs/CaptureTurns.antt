@@ -94,7 +94,7 @@ sent_at_end [] turn b = refl
 sent_at_end (first ∷ []) turn b = refl
 sent_at_end (first ∷ next ∷ front) turn b = ap (λ (l : List Turn). first ∷ l) (sent_at_end (next ∷ front) turn b)
 
-has_any_there : (l : List ℕ) → 0 < length l → has_any l ≡ true
+pub has_any_there : (l : List ℕ) → 0 < length l → has_any l ≡ true
 has_any_there [] some = absurd (omega arith)
 has_any_there (b ∷ l) some = refl
 

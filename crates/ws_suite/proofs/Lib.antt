@@ -6,3 +6,6 @@ mod CaptureTexts
 mod EvidenceLemmas
 mod TurnsCollected
 mod JudgeLemmas
+mod LastBytes
+mod OneVerdict
+mod OneCapture

@@ -1,5 +1,6 @@
 -- Captures: a transcript as lines of text, in format 1. Every line ends with LF.
-use Rattle.std.specs.Prelude.{◌≡◌, ◌≢◌, ℕ, ◌<◌, if◌then◌else◌, ⊤, List, [], ◌∷◌, ◌++◌, length, map, flat_map, codes}
+use Rattle.std.specs.Prelude.{◌≡◌, ◌≢◌, ℕ, ◌<◌, ◌&&◌, if◌then◌else◌, ⊤, List, [], ◌∷◌, ◌++◌, length, map, flat_map}
+use Rattle.std.specs.Prelude.{codes}
 use Rattle.std.specs.List.{AllByRecursion}
 use Rattle.ws_base.specs.Words.{AreBytes, hex}
 use Rattle.ws_base.specs.Lines.{IsDamagedAt, ended}
@@ -90,6 +91,39 @@ pub record IsCaptureOf (transcript : Transcript) (text : List ℕ) : Type 0 wher
 abbrev pub Damages : CaptureFault → List ℕ → Type 0
 Damages (fault.Damaged n) text = IsDamagedAt IsCaptureOf n text
 Damages fault.NoMemory text = ⊤
+
+-- ---- what is read of what was written
+
+-- the bytes of the turn are bytes
+abbrev pub AreOfBytes : Turn → Type 0
+AreOfBytes turn = AreBytes turn.sent × AreBytes turn.got
+
+-- a turn before others: one with the first of them where nothing was got in it, or nothing sent in that one
+abbrev pub run_into : Turn → List Turn → List Turn
+run_into turn [] = if has_any (turn.sent ++ turn.got) then turn ∷ [] else []
+run_into turn (next ∷ turns) =
+    if has_any turn.got && has_any next.sent then turn ∷ next ∷ turns
+    else record { sent = turn.sent ++ next.sent; got = turn.got ++ next.got } ∷ turns
+
+abbrev pub run_together : List Turn → List Turn
+run_together [] = []
+run_together (turn ∷ turns) = run_into turn (run_together turns)
+
+-- a connection that broke reads as one that the peer ended
+abbrev pub end_as_read : Ended → Ended
+end_as_read Tester = Tester
+end_as_read Peer = Peer
+end_as_read Broken = Peer
+
+-- the transcript that is read of a written one
+abbrev pub as_read : Transcript → Transcript
+as_read transcript = record { turns = run_together transcript.turns; ended = end_as_read transcript.ended }
+
+-- something was sent or got in each turn: got in each but the last, and sent in each but the first
+abbrev pub AreParted : List Turn → Type 0
+AreParted [] = ⊤
+AreParted (turn ∷ []) = 0 < length (turn.sent ++ turn.got)
+AreParted (turn ∷ next ∷ turns) = (0 < length turn.got) × (0 < length next.sent) × AreParted (next ∷ turns)
 
 -- ---- steps of reading: a reader may skip what follows
 

@@ -37,6 +37,26 @@ pub record HasRest (role : Role) (bytes : List ℕ) (events : List Event) : Type
   pub fewer : n < length bytes
   pub same : HasEvents role most_limits (take n bytes) events
 
+-- ---- the last byte of an event
+
+-- The event at this place of all of them, counted from 0, ends with the n-th byte, counted from 1: the first n bytes
+-- have it, and no fewer do.
+pub record EndsWithByte (role : Role) (bytes : List ℕ) (place n : ℕ) : Type 0 where
+  pub events : List Event
+  pub are_events : HasEvents role most_limits (take n bytes) events
+  pub there : place < length events
+  pub no_fewer : (m : ℕ) (others : List Event) → m < n → HasEvents role most_limits (take m bytes) others
+      → length others ≤ place
+
+-- the event at this place of all of them is one of this turn
+abbrev pub StandsInTurn : List (List Event) → ℕ → ℕ → Type 0
+StandsInTurn events turn place = (length (joined_events (take turn events)) ≤ place)
+    × (place < length (joined_events (take (turn + 1) events)))
+
+-- the n-th byte of all of them is one of this turn
+abbrev pub HoldsByte : List (List ℕ) → ℕ → ℕ → Type 0
+HoldsByte turns turn n = (length (concat (take turn turns)) < n) × (n ≤ length (concat (take (turn + 1) turns)))
+
 -- ---- what is due and what was got
 
 -- what is due for what was sent: the message again, and for a ping a pong with its payload

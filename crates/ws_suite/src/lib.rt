@@ -10,6 +10,8 @@ mod cases;
 mod cutting;
 mod evidence;
 mod judging;
+pub mod laws;
+mod lemmas;
 mod script;
 mod transcript;
 mod verdict;

@@ -4,15 +4,16 @@ ghost use Rattle.std.specs.Prelude.{◌≡◌, ℕ, List, [], ◌∷◌, ◌++�
 ghost use Rattle.ws_session.specs.declared.event.Event.{Event};
 ghost use Rattle.ws_session.specs.Taking.{events_in};
 ghost use Rattle.ws_suite.specs.Evidence.{IsDirectionOf, IsEvidenceOf, ending_in};
-ghost use Rattle.ws_suite.specs.Collecting.{AreCollected, HasCollected, SessionLaws, found_by, last_end};
+ghost use Rattle.ws_suite.specs.Collecting.{AreCollected, HasCollected, found_by, last_end};
 ghost use Rattle.ws_suite.specs.Collecting.{role_of, turn_by, turns_by};
 
 use crate::evidence::{Direction, Ending, Evidence, InTurn, Reply};
+use crate::lemmas::session_laws;
 use crate::transcript::{Transcript, Turn};
 use std::alloc::Global;
 use ws_base::{NoMemory, Sequence};
 use ws_frame::Role;
-use ws_session::{Event, Limits, PlacedEvent, Session, laws};
+use ws_session::{Event, Limits, PlacedEvent, Session};
 
 /// The most payload bytes of a message: what a session can take at most.
 const MAX_MESSAGE: u32 = 16_777_216;
@@ -125,14 +126,6 @@ fn collect_turn(
     collected.has_rest = last_end(&events) < bytes.len();
     collect_events(way, number, events, collected)?;
     Ok(())
-}
-
-/// The laws of the layer below that serve here. Nothing runs.
-fn session_laws()
-    ensures { SessionLaws }
-{
-    laws::one_list_of_events();
-    laws::events_go_on();
 }
 
 /// The greatest place at which an event ends, or 0.

@@ -57,7 +57,7 @@ struct First {
 /// Matches one pong with the first due pong that has its payload.
 fn match_first(pong: &InTurn<Reply>, due: &[&InTurn<Reply>]) -> First
     ensures early { result.is_early ≡ is_before_match (pong.now, find (has_payload_of pong.now) (targets due.now)) }
-    ensures unmatched { result.is_unmatched ≡ is_unmatched (pong.now, find (has_payload_of pong.now) (targets due.now)) }
+    ensures no_match { result.is_unmatched ≡ is_unmatched (pong.now, find (has_payload_of pong.now) (targets due.now)) }
     ensures within { result.passed ≤ length due.now }
     ensures left { targets (drop result.passed due.now) ≡ due_after pong.now (targets due.now) }
 {

@@ -13,8 +13,8 @@ returns-then-place-due-clause-early c =
     ap (λ (x : Bor (InTurn Reply)). nat_lt c.args.pong.now.turn x.now.turn) (sym c.index-due-place.is)
     ∙ ap (λ (o : Option (InTurn Reply)). is_before_match (c.args.pong.now, o)) (sym facts.0)
 
-pub returns-then-place-due-clause-unmatched : goal.returns-then-place-due-clause-unmatched
-returns-then-place-due-clause-unmatched c =
+pub returns-then-place-due-clause-no_match : goal.returns-then-place-due-clause-no_match
+returns-then-place-due-clause-no_match c =
     let e = c.first_with-place.ensures in
     let facts = match_facts c.args.pong.now c.args.due.now c.first_with-place.result c.index-due-place.result c.if-place-due.true c.index-due-place.is e.passed (e.there c.if-place-due.true) in
     ap (λ (o : Option (InTurn Reply)). is_unmatched (c.args.pong.now, o)) (sym facts.0)

@@ -18,7 +18,7 @@ loop-pong-preserved c =
     let here = drop next due in
     let laters = target_at c.args.got.now i pong c.loop-pong-test.true c.pong-item.is in
     let early = subst (λ (l : List (Bor (InTurn Reply))). first.is_early ≡ is_before_match (pong.now, find (has_payload_of pong.now) (targets l))) rest c.match_first-first.ensures.early in
-    let unmatched = subst (λ (l : List (Bor (InTurn Reply))). first.is_unmatched ≡ is_unmatched (pong.now, find (has_payload_of pong.now) (targets l))) rest c.match_first-first.ensures.unmatched in
+    let unmatched = subst (λ (l : List (Bor (InTurn Reply))). first.is_unmatched ≡ is_unmatched (pong.now, find (has_payload_of pong.now) (targets l))) rest c.match_first-first.ensures.no_match in
     let after = subst (λ (l : List (Bor (InTurn Reply))). targets (drop first.passed l) ≡ due_after pong.now (targets l)) rest c.match_first-first.ensures.left in
     let left = ap (λ (l : List (Bor (InTurn Reply))). targets l) (sym (drop-drop first.passed next due)) ∙ after in
     record {
