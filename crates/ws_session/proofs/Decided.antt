@@ -14,31 +14,39 @@ use Rattle.ws_text.proofs.Texts.{text_from_utf8, utf8_from_text, begins_of_unfin
 abbrev pub Told : Type 0 → Type 0
 Told P = P ⊎ (P → ⊥)
 
-both_told : (P Q : Type 0) → Told P → Told Q → Told (P × Q)
+pub both_told : (P Q : Type 0) → Told P → Told Q → Told (P × Q)
 both_told P Q (inl p) (inl q) = inl (p, q)
 both_told P Q (inl p) (inr never) = inr (λ h. never h.1)
 both_told P Q (inr never) q = inr (λ h. never h.0)
 
-either_told : (P Q : Type 0) → Told P → Told Q → Told (P ⊎ Q)
+pub either_told : (P Q : Type 0) → Told P → Told Q → Told (P ⊎ Q)
 either_told P Q (inl p) q = inl (inl p)
 either_told P Q (inr never) (inl q) = inl (inr q)
 either_told P Q (inr never) (inr nor) = inr (λ h. elim h [ inl p ↦ never p | inr q ↦ nor q ])
 
-less_told : (a b : ℕ) → Told (a < b)
+pub less_told : (a b : ℕ) → Told (a < b)
 less_told a b = elim (cases_lt a b) [ inl lt ↦ inl lt | inr le ↦ inr (λ lt. omega (arith, lt, le)) ]
 
-most_told : (a b : ℕ) → Told (a ≤ b)
+pub most_told : (a b : ℕ) → Told (a ≤ b)
 most_told a b = elim (cases_lt b a) [ inl lt ↦ inr (λ le. omega (arith, lt, le)) | inr le ↦ inl le ]
 
--- what can be told of each number can be told of those below a bound
-below_told : (P : ℕ → Type 0) → ((i : ℕ) → Told (P i)) → (n : ℕ) → ((i : ℕ) × P i) ⊎ ((i : ℕ) → i < n → P i → ⊥)
-below_told P tell zero = inr (λ i lt p. omega (arith, lt))
-below_told P tell (suc n) =
-    elim (tell n) [
-      | inl p ↦ inl (n, p)
-      | inr never ↦ elim (below_told P tell n) [
-        | inl found ↦ inl found
-        | inr none ↦ inr (λ i lt p. elim (cases_lt i n) [ inl l ↦ none i l p | inr ge ↦ let same : i ≡ n = omega arith in never (subst P same p) ])
+pub not_told : (P : Type 0) → Told P → Told (P → ⊥)
+not_told P (inl p) = inr (λ never. never p)
+not_told P (inr never) = inl never
+
+pub told_by : (P Q : Type 0) → (P → Q) → (Q → P) → Told P → Told Q
+told_by P Q to from (inl p) = inl (to p)
+told_by P Q to from (inr never) = inr (λ q. never (from q))
+
+-- the least of the numbers of which something holds, or none below a bound, where it can be told of each
+pub least_told : (P : ℕ → Type 0) → ((i : ℕ) → Told (P i)) → (n : ℕ) → ((i : ℕ) × P i × ((j : ℕ) → P j → i ≤ j)) ⊎ ((i : ℕ) → i < n → P i → ⊥)
+least_told P tell zero = inr (λ i lt p. omega (arith, lt))
+least_told P tell (suc n) =
+    elim (least_told P tell n) [
+      | inl found ↦ inl found
+      | inr none ↦ elim (tell n) [
+        | inl p ↦ inl (n, p, λ j q. elim (cases_lt j n) [ inl lt ↦ absurd (none j lt q) | inr ge ↦ ge ])
+        | inr never ↦ inr (λ i lt p. elim (cases_lt i n) [ inl l ↦ none i l p | inr ge ↦ let same : i ≡ n = omega arith in never (subst P same p) ])
       ]
     ]
 
@@ -100,15 +108,15 @@ none_begins top bytes below never none tail u =
 
 some_cut_told : (top : ℕ) (bytes : List ℕ) (count : ℕ) → ((c : ℕ) → IsScalarValue c → c < top) → Told ((c : ℕ) × IsCutAt bytes count c)
 some_cut_told top bytes count below =
-    elim (below_told (IsCutAt bytes count) (λ c. both_told (IsText (take count bytes)) (IsScalarValue c × IsCut (drop count bytes) (char_bytes c)) (text_told (take count bytes)) (both_told (IsScalarValue c) (IsCut (drop count bytes) (char_bytes c)) (scalar_told c) (cut_told (drop count bytes) (char_bytes c)))) top) [
-      | inl found ↦ inl found
+    elim (least_told (IsCutAt bytes count) (λ c. both_told (IsText (take count bytes)) (IsScalarValue c × IsCut (drop count bytes) (char_bytes c)) (text_told (take count bytes)) (both_told (IsScalarValue c) (IsCut (drop count bytes) (char_bytes c)) (scalar_told c) (cut_told (drop count bytes) (char_bytes c)))) top) [
+      | inl found ↦ inl (found.0, found.1)
       | inr none ↦ inr (λ h. none h.0 (below h.0 h.1.1.0) h.1)
     ]
 
 begins_by : (top : ℕ) (bytes : List ℕ) → ((c : ℕ) → IsScalarValue c → c < top) → Told (IsText bytes) → Told (BeginsText bytes)
 begins_by top bytes below (inl t) = inl (record { more = []; is_text = subst (λ (l : List ℕ). IsText l) (sym (append-nil bytes)) t })
 begins_by top bytes below (inr never) =
-    elim (below_told (λ (count : ℕ). (c : ℕ) × IsCutAt bytes count c) (λ count. some_cut_told top bytes count below) (suc (length bytes))) [
+    elim (least_told (λ (count : ℕ). (c : ℕ) × IsCutAt bytes count c) (λ count. some_cut_told top bytes count below) (suc (length bytes))) [
       | inl found ↦ inl (begins_at bytes found.0 found.1.0 found.1.1)
       | inr none ↦ inr (λ b. let u = some_unfinished bytes b in none_begins top bytes below never none u.0 u.1)
     ]

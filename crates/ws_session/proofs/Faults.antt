@@ -10,10 +10,10 @@ use Rattle.ws_session.specs.Limits.{LimitsValue}
 use Rattle.ws_session.specs.Faults.{number_of, IsFaultAt, IsNoLater, IsFirstFault, HasNoFault}
 
 -- the reason with this number
-reason_at : ℕ → Reason
+pub reason_at : ℕ → Reason
 reason_at n = cond (n == 1) ReservedBits (cond (n == 2) Opcode (cond (n == 3) MaskWrong (cond (n == 4) NotShortest (cond (n == 5) BadLength (cond (n == 6) ControlCut (cond (n == 7) ControlLong (cond (n == 8) NothingToContinue (cond (n == 9) MessageOpen (cond (n == 10) TooBig (cond (n == 11) NotText (cond (n == 12) TextCut (cond (n == 13) CloseOneByte (cond (n == 14) CloseCode (CloseReason))))))))))))))
 
-reason_again : (r : Reason) → reason_at (number_of r) ≡ r
+pub reason_again : (r : Reason) → reason_at (number_of r) ≡ r
 unfolding reason_at
 reason_again ReservedBits = refl
 reason_again Opcode = refl

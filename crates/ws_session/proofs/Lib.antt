@@ -26,6 +26,8 @@ pub mod Fitting
 pub mod ValidTold
 pub mod Longest
 pub mod Decided
+pub mod DecidedReasons
+pub mod FirstFault
 pub mod SendsStayValid
 pub mod Replied
 pub mod SendCalls

@@ -1,7 +1,7 @@
 //! Laws over the definitions, each the contract of a function that does nothing.
 
 ghost use Rattle.std.specs.Prelude.{◌≡◌, ◌≢◌, ◌≤◌, ◌↔◌, ℕ, List, [], ◌∷◌, ◌++◌, length, take, map, Bool, true, false};
-ghost use Rattle.std.specs.Prelude.{Some, None};
+ghost use Rattle.std.specs.Prelude.{Option, Some, None};
 ghost use Rattle.std.specs.List.{AllByRecursion};
 ghost use Rattle.ws_frame.specs.declared.role.Role.{Role};
 ghost use Rattle.ws_frame.specs.Header.{AreBytes, IsMaskingKey};
@@ -15,7 +15,7 @@ ghost use Rattle.ws_session.specs.Limits.{LimitsValue};
 ghost use Rattle.ws_session.specs.Validity.{AreValidFrames, NothingAfterClose};
 ghost use Rattle.ws_session.specs.Faults.{frames_of, KeysFit, IsFirstFault, HasNoFault};
 ghost use Rattle.ws_session.specs.Messages.{messages_of};
-ghost use Rattle.ws_session.specs.Events.{HasEvents, events_after, messages_in};
+ghost use Rattle.ws_session.specs.Events.{HasEvents, IsFaultOf, events_after, messages_in};
 ghost use Rattle.ws_session.specs.Replies.{has_close, replies_by, replies_of, key_for, under_key};
 ghost use Rattle.ws_session.specs.Reach.{fitting, first_passing, IsWithin, frames_within, is_too_big, events_within};
 ghost use Rattle.ws_session.specs.Sends.{Send, frame_of, most_limits, HasTextReason, MaySend};
@@ -25,6 +25,14 @@ ghost use Rattle.ws_session.specs.Exchange.{SessionValue, HasExchanged, is_over,
 pub fn one_list_of_events()
     ensures { (role : Role) (limits : LimitsValue) (bytes : List ℕ) (events others : List Event) →
         HasEvents role limits bytes events → HasEvents role limits bytes others → events ≡ others }
+{}
+
+/// Every stream has a first fault or none, and events.
+pub fn every_stream_has_events()
+    ensures fault { (role : Role) (limits : LimitsValue) (bytes : List ℕ) → AreBytes bytes →
+        (fault : Option (ℕ × Reason)) × IsFaultOf role limits bytes fault }
+    ensures events { (role : Role) (limits : LimitsValue) (bytes : List ℕ) → AreBytes bytes →
+        (events : List Event) × HasEvents role limits bytes events }
 {}
 
 /// More bytes leave the first fault.
