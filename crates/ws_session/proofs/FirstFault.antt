@@ -149,16 +149,16 @@ module _ (role : Role) (limits : LimitsValue) (r : Reason) where
         elim (cases_lt h.len (length rest)) [
           | inl long ↦ inr (λ f. omega (arith, long, here_fits h rest is e f))
           | inr fits ↦ told_by (Applies role limits (open_message_of (frames_of came)) h (masked_payload h.key rest) r) (FaultHere came t)
-          (λ a. record {
-            header = h;
-            is_header = is;
-            payload = masked_payload h.key rest;
-            are_bytes = bytes;
-            within = omega (arith, fits, length-masked_payload h.key rest);
-            parts = e ∙ ap (λ (l : List ℕ). header_bytes h ++ l) (sym (masked_payload_twice h.key rest));
-            applies = a;
-          })
-          (here_applies h rest is e) (applies_told role limits (open_message_of (frames_of came)) h (masked_payload h.key rest) bytes r)
+              (λ a. record {
+                header = h;
+                is_header = is;
+                payload = masked_payload h.key rest;
+                are_bytes = bytes;
+                within = omega (arith, fits, length-masked_payload h.key rest);
+                parts = e ∙ ap (λ (l : List ℕ). header_bytes h ++ l) (sym (masked_payload_twice h.key rest));
+                applies = a;
+              })
+              (here_applies h rest is e) (applies_told role limits (open_message_of (frames_of came)) h (masked_payload h.key rest) bytes r)
         ]
 
     here_told : AreBytes t → Told (FaultHere came t)
@@ -178,7 +178,7 @@ module _ (role : Role) (limits : LimitsValue) (r : Reason) where
         elim (bool_told (is_close x.frame) false) [
           | inr close ↦ inr (λ f. close (subst IsNoClose (later_is x more can e f).0 f.unclosed))
           | inl unclosed ↦ told_by (FaultBehind (came ++ x ∷ []) more) (FaultLater came t) (λ f. record { first = x; can = can; unclosed = unclosed; more = more; parts = e; fault = f })
-          (λ f.
+              (λ f.
               let s = later_is x more can e f in
               subst (λ (l : List ℕ). FaultBehind (came ++ x ∷ []) l) s.1 (subst (λ (y : KeyedFrame). FaultBehind (came ++ y ∷ []) f.more) s.0 f.fault)) told
         ]
@@ -202,9 +202,9 @@ module _ (role : Role) (limits : LimitsValue) (r : Reason) where
       elim (cases_lt (length bytes) place) [
         | inl beyond ↦ inr (λ f. omega (arith, beyond, f.long))
         | inr long ↦ told_by (FaultBehind [] (take place bytes)) (IsFaultAt role limits bytes place r)
-        (λ f. record { before = f.before; sent = f.sent; no_close = f.no_close; header = f.header; is_header = f.is_header; payload = f.payload; are_bytes = f.are_bytes; within = f.within; long = long; parts = f.parts; applies = f.applies })
-        (λ f. record { before = f.before; sent = f.sent; no_close = f.no_close; header = f.header; is_header = f.is_header; payload = f.payload; are_bytes = f.are_bytes; within = f.within; parts = f.parts; applies = f.applies })
-        (behind_told (suc (length (take place bytes))) [] (take place bytes) (omega arith) (front_bytes place bytes are))
+            (λ f. record { before = f.before; sent = f.sent; no_close = f.no_close; header = f.header; is_header = f.is_header; payload = f.payload; are_bytes = f.are_bytes; within = f.within; long = long; parts = f.parts; applies = f.applies })
+            (λ f. record { before = f.before; sent = f.sent; no_close = f.no_close; header = f.header; is_header = f.is_header; payload = f.payload; are_bytes = f.are_bytes; within = f.within; parts = f.parts; applies = f.applies })
+            (behind_told (suc (length (take place bytes))) [] (take place bytes) (omega arith) (front_bytes place bytes are))
       ]
 
 -- ---- the first fault
@@ -223,15 +223,18 @@ module _ (role : Role) (limits : LimitsValue) (bytes : List ℕ) (are : AreBytes
   first_at place some least =
       elim (at_place place) [
         | inr none ↦ absurd (none some.0 some.1)
-        | inl found ↦ (found.0, record {
-          fault = found.1;
-          first = λ other q f. elim (cases_lt place other) as (λ _. IsNoLater place found.0 other q) [
-            | inl lt ↦ inl lt
-            | inr ge ↦
-                let same : place ≡ other = omega (arith, ge, least other (q, f)) in
-                inr (same, found.2 q (subst (λ n. IsFault n q) (sym same) f))
-          ];
-        })
+        | inl found ↦ (
+          found.0,
+          record {
+            fault = found.1;
+            first = λ other q f. elim (cases_lt place other) as (λ _. IsNoLater place found.0 other q) [
+              | inl lt ↦ inl lt
+              | inr ge ↦
+                  let same : place ≡ other = omega (arith, ge, least other (q, f)) in
+                  inr (same, found.2 q (subst (λ n. IsFault n q) (sym same) f))
+            ];
+          },
+        )
       ]
 
   pub some_first_fault : (fault : Option (ℕ × Reason)) × IsFaultOf role limits bytes fault

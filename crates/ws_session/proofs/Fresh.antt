@@ -1,5 +1,5 @@
 -- A session that has sent and taken nothing.
-use Rattle.std.proofs.Common.{◌≡◌, ℕ, false, List, [], Option, None, refl, sym, arith, subst}
+use Rattle.std.proofs.Common.{false, [], Option, None, refl, arith}
 use Rattle.ws_frame.specs.declared.role.Role.{Role}
 use Rattle.ws_session.specs.declared.message.Message.{Message}
 use Rattle.ws_session.specs.Limits.{LimitsValue}
@@ -7,7 +7,7 @@ use Rattle.ws_session.specs.Faults.{HasNoFault}
 use Rattle.ws_session.specs.Events.{HasEvents}
 use Rattle.ws_session.specs.NextFrame.{IsPartOfFrame}
 use Rattle.ws_session.specs.declared.status.Status.TheVariants as status
-use Rattle.ws_session.specs.Exchange.{SendingValue, HasExchanged}
+use Rattle.ws_session.specs.Exchange.{HasExchanged}
 use Rattle.ws_session.proofs.Next.{place_is, two_bytes}
 use Rattle.ws_session.proofs.OneMoreFrame.{none_in_nothing}
 
@@ -31,9 +31,3 @@ fresh role limits = record { bytes = λ i. omega arith; events = []; has_events 
 -- no part of a frame is no frame and no fault
 pub part_of_nothing : (role : Role) (limits : LimitsValue) (opened : Option Message) → IsPartOfFrame role limits opened []
 part_of_nothing role limits opened = record { clean = λ n r f. let e = f.parts in absurd cc; none = none_in_nothing }
-
-pub fresh_by : (role : Role) (limits : LimitsValue) (opened : Option Message) (rest : List ℕ) (sending : Option SendingValue) → opened ≡ None → rest ≡ [] → sending ≡ None → HasExchanged (record { role = role; limits = limits; opened = opened; partial_frame = rest; sending = sending; status = status.Open }) [] [] false
-fresh_by role limits opened rest sending a b d =
-    subst (λ (o : Option Message). HasExchanged (record { role = role; limits = limits; opened = o; partial_frame = rest; sending = sending; status = status.Open }) [] [] false) (sym a)
-    (subst (λ (l : List ℕ). HasExchanged (record { role = role; limits = limits; opened = None; partial_frame = l; sending = sending; status = status.Open }) [] [] false) (sym b)
-    (subst (λ (o : Option SendingValue). HasExchanged (record { role = role; limits = limits; opened = None; partial_frame = []; sending = o; status = status.Open }) [] [] false) (sym d) (fresh role limits)))

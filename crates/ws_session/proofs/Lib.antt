@@ -15,6 +15,7 @@ pub mod Payloads
 pub mod Frames
 pub mod Views
 pub mod Over
+pub mod SomeExchange
 pub mod TakenPieces
 pub mod FedPieces
 pub mod Valid

@@ -103,6 +103,10 @@ pub record HasExchanged (session : SessionValue) (sent : List Frame) (taken : Li
   pub taking : is_over session.status ≡ false → (session.opened ≡ open_message_of (frames_of has_events.frames))
       × (session.partial_frame ≡ has_events.rest)
 
+-- there are frames sent and bytes taken with which the session agrees
+abbrev pub HasSomeExchange : SessionValue → Type 0
+HasSomeExchange session = (exchange : Exchange) × HasExchanged session exchange.sent exchange.taken exchange.ended
+
 -- the bytes of some pieces, one after the other
 abbrev pub joined_pieces : List (Vec ℕ Global) → List ℕ
 joined_pieces pieces = flat_map (λ (piece : Vec ℕ Global). piece.items) pieces

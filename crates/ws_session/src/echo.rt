@@ -5,7 +5,7 @@ ghost use Rattle.std.specs.Prelude.{IsOkAnd, OnErr};
 ghost use Rattle.ws_frame.specs.Frame.{Frame};
 ghost use Rattle.ws_session.specs.declared.status.Status.TheVariants.{Lost};
 ghost use Rattle.ws_session.specs.Replies.{echo_reply_to};
-ghost use Rattle.ws_session.specs.Exchange.{HasExchanged, is_over};
+ghost use Rattle.ws_session.specs.Exchange.{HasExchanged, HasSomeExchange, is_over};
 ghost use Rattle.ws_session.specs.Taking.{HasTaken, TakesNothing, HasTakenAll, front_taken};
 
 use crate::event::{PlacedEvent, TakeStop, Taken};
@@ -52,6 +52,13 @@ impl Echo {
         ensures { result ≡ self.now.status }
     {
         self.session.status()
+    }
+
+    /// Does nothing: every echo agrees with some frames sent and some bytes taken.
+    pub fn agrees(&self)
+        ensures { HasSomeExchange self.now }
+    {
+        self.session.agrees();
     }
 
     /// The stream has ended: a session that waits for the other's close is lost, and keeps neither its open message nor

@@ -1,26 +1,22 @@
 //! One endpoint: the bytes that it takes, and the frames that it sends (RFC 6455 sections 5 to 7).
 
-ghost use Rattle.std.specs.Prelude.{◌≡◌, ◌+◌, ◌≤◌, ◌<◌, ℕ, List, [], ◌++◌, length, None, Bool, true, false, IfOk};
-ghost use Rattle.std.specs.Prelude.{IsOkAnd, OnOk, OnErr};
-ghost use Rattle.ws_frame.specs.Header.{AreBytes};
+ghost use Rattle.std.specs.Prelude.{◌≡◌, ◌+◌, ◌≤◌, ◌<◌, ℕ, List, [], length, None, Bool, true, false, IfOk};
+ghost use Rattle.std.specs.Prelude.{IsOkAnd, OnErr};
 ghost use Rattle.ws_frame.specs.Frame.{Frame};
 ghost use Rattle.ws_session.specs.declared.status.Status.TheVariants.{Lost};
 ghost use Rattle.ws_session.specs.Faults.{open_payload};
 ghost use Rattle.ws_session.specs.Replies.{reply_to};
-ghost use Rattle.ws_session.specs.Exchange.{HasExchanged, is_over};
+ghost use Rattle.ws_session.specs.Exchange.{HasExchanged, HasSomeExchange, is_over};
 ghost use Rattle.ws_session.specs.Taking.{HasTaken, TakesNothing};
-ghost use Rattle.ws_session.specs.Checking.{IsFrameCheck};
-ghost use Rattle.ws_session.specs.Inside.{EndsBetween, CanAnswer, reply_by};
+ghost use Rattle.ws_session.specs.Inside.{CanAnswer, reply_by};
 
-mod replies;
 mod sends;
+mod state;
 mod whole_piece;
 
-use crate::assembly::Assembly;
-use crate::checking::{FrameCheck, check};
 use crate::event::Taken;
 use crate::limits::Limits;
-use crate::outgoing::Outgoing;
+use crate::session::state::State;
 use crate::status::Status;
 use std::alloc::Global;
 use std::marker::Model;
@@ -31,13 +27,7 @@ use ws_frame::Role;
 /// random source is its own.
 #[derive(Drop)]
 pub struct Session {
-    alloc: Global,
-    role: Role,
-    limits: Limits,
-    assembly: Assembly,
-    partial_frame: Vec<u8>,
-    sending: Outgoing,
-    status: Status,
+    state: State,
 }
 
 /// Whether messages are sent back.
@@ -48,31 +38,13 @@ pub(crate) enum Answering {
 }
 
 impl Model for Session {
-    ghost use Rattle.std.specs.Prelude.{None};
-    ghost use Rattle.ws_session.specs.Exchange.{SessionValue};
+    ghost use Rattle.ws_session.specs.Exchange.{SessionValue, HasSomeExchange};
 
     ghost Value = { SessionValue };
 
-    ghost use Rattle.ws_session.specs.Inside.{IsSound};
+    ghost view = { λ s. s.state };
 
-    ghost view = { λ s. record {
-      role = s.role;
-      limits = s.limits;
-      opened = s.assembly;
-      partial_frame = s.partial_frame.items;
-      sending = s.sending;
-      status = s.status;
-    } };
-
-    ghost invariant = { λ s. IsSound
-        (record {
-          role = s.role;
-          limits = s.limits;
-          opened = s.assembly;
-          partial_frame = s.partial_frame.items;
-          sending = s.sending;
-          status = s.status;
-        }) };
+    ghost invariant = { λ s. HasSomeExchange s.state };
 }
 
 impl Session {
@@ -82,16 +54,8 @@ impl Session {
         ensures limits { result.limits ≡ limits }
         ensures exchanged { HasExchanged result [] [] false }
     {
-        // Sees that the limit is in its range, on which the bound of `held` rests.
-        let _ = limits.max_message();
         Session {
-            alloc,
-            role,
-            limits,
-            assembly: Assembly::new(),
-            partial_frame: Vec::new(alloc),
-            sending: Outgoing::new(),
-            status: Status::Open,
+            state: State::new(alloc, role, limits),
         }
     }
 
@@ -99,7 +63,14 @@ impl Session {
     pub fn status(&self) -> Status
         ensures { result ≡ self.now.status }
     {
-        self.status
+        self.state.status()
+    }
+
+    /// Does nothing: every session agrees with some frames sent and some bytes taken.
+    pub fn agrees(&self)
+        ensures { HasSomeExchange self.now }
+    {
+        let _ = &self.state;
     }
 
     /// The number of input bytes that are kept: those of the open message and of the unfinished frame,
@@ -109,7 +80,7 @@ impl Session {
         ensures bound { result ≤ self.now.limits.max_message + 139 }
         ensures over { is_over self.now.status ≡ true → result ≡ 0 }
     {
-        self.assembly.len() + self.partial_frame.len()
+        self.state.held()
     }
 
     /// The stream has ended: a session that waits for the other's close is lost, and keeps neither its open message nor
@@ -124,8 +95,8 @@ impl Session {
         ensures limits { self.new.limits ≡ self.old.limits }
         ensures sending { self.new.sending ≡ self.old.sending }
     {
-        if !self.status.is_over() {
-            self.end_with(Status::Lost);
+        if !self.state.status().is_over() {
+            self.state.end_with(Status::Lost);
         }
     }
 
@@ -170,50 +141,7 @@ impl Session {
         ensures sending { self.new.sending ≡ self.old.sending }
         ensures kept { OnErr result ((self.new ≡ self.old) × (out.new.items ≡ out.old.items)) }
     {
-        if self.status.is_over() {
-            return Ok(Taken {
-                used: piece.len(),
-                event: None,
-            });
-        }
-        match self.check(piece)? {
-            FrameCheck::Need => {
-                self.partial_frame.extend_from_slice(piece)?;
-                Ok(Taken {
-                    used: piece.len(),
-                    event: None,
-                })
-            }
-            FrameCheck::Whole { used, content } => {
-                let used = used - self.partial_frame.len();
-                let event = self.on_content(answering, content, key, out)?;
-                Ok(Taken {
-                    used,
-                    event: Some(event),
-                })
-            }
-            FrameCheck::Fault { reason, place } => {
-                let used = place - self.partial_frame.len();
-                let event = self.on_fault(reason, key, out)?;
-                Ok(Taken {
-                    used,
-                    event: Some(event),
-                })
-            }
-        }
-    }
-
-    /// Checks the unfinished frame with the piece after it.
-    fn check(&self, piece: &[u8]) -> Result<FrameCheck, NoMemory>
-        ensures checked { IfOk result (λ check. IsFrameCheck self.now.role self.now.limits self.now.opened
-            (self.now.partial_frame ++ piece.now) check) }
-        ensures ends { IfOk result (λ check. EndsBetween (length self.now.partial_frame)
-            (length self.now.partial_frame + length piece.now) check) }
-        ensures bytes { OnOk result (AreBytes (self.now.partial_frame ++ piece.now)) }
-    {
-        let mut bytes = Vec::from_slice(self.alloc, &self.partial_frame)?;
-        bytes.extend_from_slice(piece)?;
-        let check = check(self.alloc, self.role, self.limits, &self.assembly, &bytes)?;
-        Ok(check)
+        let taken = self.state.take_by(answering, piece, key, out)?;
+        Ok(taken)
     }
 }

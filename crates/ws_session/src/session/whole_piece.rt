@@ -56,7 +56,7 @@ impl Session {
         ensures sending { self.new.sending ≡ self.old.sending }
     {
         let mut used = 0;
-        while used < piece.len() && !self.status.is_over() {
+        while used < piece.len() && !self.status().is_over() {
             match self.take_front(answering, &piece[used..], used, key, out, events) {
                 Ok(more) => used += more,
                 Err(_) => return Err(TakeStop { used }),

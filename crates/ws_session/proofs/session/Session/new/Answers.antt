@@ -1,5 +1,10 @@
-use Rattle.ws_session.proofs.Fresh.{fresh_by}
+use Rattle.std.proofs.Common.{false, [], sym, subst}
+use Rattle.ws_session.specs.Exchange.{SessionValue, HasExchanged}
+use Rattle.ws_session.proofs.Fresh.{fresh}
 use Rattle.ws_session.proofs.session.Session.new.Goals as goal
 
+pub invariant_of-result : goal.invariant_of-result
+invariant_of-result c = (record { sent = []; taken = []; ended = false }, subst (λ (v : SessionValue). HasExchanged v [] [] false) (sym c.new.ensures) (fresh c.args.role c.args.limits))
+
 pub returns-clause-exchanged : goal.returns-clause-exchanged
-returns-clause-exchanged c = fresh_by c.args.role c.args.limits _ _ _ c.new.ensures c.new-2.ensures.items c.new-3.ensures
+returns-clause-exchanged c = subst (λ (v : SessionValue). HasExchanged v [] [] false) (sym c.new.ensures) (fresh c.args.role c.args.limits)

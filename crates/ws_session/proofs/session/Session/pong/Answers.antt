@@ -1,5 +1,11 @@
-use Rattle.ws_session.proofs.SendCalls.{pong_sent}
+use Rattle.std.proofs.Common.{subst}
+use Rattle.ws_session.specs.Exchange.{SessionValue}
+use Rattle.ws_session.specs.Sends.{Pong, HasSent}
+use Rattle.ws_session.proofs.SomeExchange.{after_send}
 use Rattle.ws_session.proofs.session.Session.pong.Goals as goal
 
+pub invariant_of-self-2 : goal.invariant_of-self-2
+invariant_of-self-2 c = after_send c.self.inside.state c.pong.new.self (Pong c.args.payload.now) c.args.key c.args.out.now.items c.pong.new.out.items c.self.invariant c.in_ok-pong.ensures.sent
+
 pub returns-clause-sent : goal.returns-clause-sent
-returns-clause-sent c = λ exchange h. pong_sent c.args.self.now exchange.sent exchange.taken exchange.ended c.args.payload.now c.args.key c.args.out.now.items c.send.new.out.items h c.in_ok-may_send.ensures c.in_ok-fits_control.ensures c.in_ok-send.ensures.put
+returns-clause-sent c = subst (λ (v : SessionValue). HasSent v c.pong.new.self (Pong c.args.payload.now) c.args.key c.args.out.now.items c.pong.new.out.items) c.self.view_is c.in_ok-pong.ensures.sent

@@ -19,7 +19,8 @@ use crate::control_payload::Small;
 use crate::event::Event;
 use crate::message::{Kind, Message};
 use crate::reason::Reason;
-use crate::session::{Answering, Session};
+use crate::session::Answering;
+use crate::session::state::State;
 use crate::status::Status;
 use ws_base::NoMemory;
 use ws_frame::{Header, Role, append_frame};
@@ -30,7 +31,7 @@ const CLOSE: u8 = 8;
 
 const PONG: u8 = 10;
 
-impl Session {
+impl State {
     /// A whole frame has come.
     pub(super) fn on_content(
         &mut self,
@@ -248,7 +249,7 @@ impl Session {
     }
 
     /// All is over: nothing is kept any more.
-    pub(super) fn end_with(&mut self, status: Status)
+    pub(crate) fn end_with(&mut self, status: Status)
         requires { is_over status ≡ true }
         ensures { self.new ≡ record self.old { opened = None; partial_frame = []; status = status } }
     {

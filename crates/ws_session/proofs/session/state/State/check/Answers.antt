@@ -1,6 +1,6 @@
 use Rattle.std.proofs.Common.{◌≡◌, ◌∙◌, ◌++◌, List, ℕ, ap}
 use Rattle.ws_session.proofs.Views.{checked_at, ends_at, bytes_at}
-use Rattle.ws_session.proofs.session.Session.check.Goals as goal
+use Rattle.ws_session.proofs.session.state.State.check.Goals as goal
 
 pub returns : goal.returns
 returns c =

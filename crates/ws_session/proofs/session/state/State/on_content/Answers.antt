@@ -2,7 +2,7 @@ use Rattle.std.proofs.Common.{sym, subst}
 use Rattle.ws_session.specs.declared.checking.Content.{Content}
 use Rattle.ws_session.specs.Checking.{opened_after}
 use Rattle.ws_session.specs.Inside.{HasActed}
-use Rattle.ws_session.proofs.session.Session.on_content.Goals as goal
+use Rattle.ws_session.proofs.session.state.State.on_content.Goals as goal
 
 pub returns-in_ok-event-in-Ping-clause-acted : goal.returns-in_ok-event-in-Ping-clause-acted
 returns-in_ok-event-in-Ping-clause-acted c =

@@ -1,0 +1,193 @@
+//! What is sent, as a session keeps it (RFC 6455 sections 5.4, 5.5 and 7.1).
+
+ghost use Rattle.std.specs.Prelude.{◌≡◌, ◌≢◌, ◌≤◌, ◌<◌, length, Option, IfSome, IfErr, OnOk, OnErr, MatchResult, Some};
+ghost use Rattle.std.specs.Prelude.{◌++◌};
+ghost use Rattle.ws_frame.specs.Frame.{Frame, FitsTheLayout, frame_bytes};
+ghost use Rattle.ws_text.specs.Text.{IsText};
+ghost use Rattle.ws_text.specs.Close.{CloseValue};
+ghost use Rattle.ws_session.specs.declared.send_fault.SendFault.TheVariants as SendFault;
+ghost use Rattle.ws_session.specs.declared.status.Status.TheVariants as Status;
+ghost use Rattle.ws_session.specs.Sends.{Begin, More, Ping, Pong, Close, close_given, IsRefusedBy, HasSent};
+ghost use Rattle.ws_session.specs.Outgoing.{IsFineWith, IsFirstWrongWith};
+ghost use Rattle.ws_session.specs.Replies.{under_key};
+ghost use Rattle.ws_session.specs.declared.message.Message.{Message};
+
+use crate::control_payload::Small;
+use crate::message::Kind;
+use crate::send_fault::SendFault;
+use crate::session::state::State;
+use crate::status::Status;
+use ws_text::laws::str_is_text;
+use ws_text::{MAX_REASON, code_allowed};
+
+/// The opcodes of the frames that are sent beside the first of a message (sections 5.4 and 5.5).
+const CONTINUATION: u8 = 0;
+
+const CLOSE: u8 = 8;
+
+const PING: u8 = 9;
+
+const PONG: u8 = 10;
+
+/// The most payload bytes of a control frame (section 5.5).
+const MAX_CONTROL_PAYLOAD: usize = 125;
+
+impl State {
+    pub(crate) fn begin(
+        &mut self,
+        kind: Kind,
+        payload: &[u8],
+        fin: bool,
+        key: [u8; 4],
+        out: &mut Vec<u8>,
+    ) -> Result<(), SendFault>
+        ensures sent { OnOk result (HasSent self.old self.new
+            (Begin kind payload.now fin) key out.old.items out.new.items) }
+        ensures refused { IfErr result (IsRefusedBy self.old (Begin kind payload.now fin)) }
+        ensures kept { OnErr result ((self.new ≡ self.old) × (out.new.items ≡ out.old.items)) }
+    {
+        self.may_send()?;
+        let sending = self.sending.after_first(kind, payload, fin)?;
+        self.send(fin, kind.opcode(), payload, key, out)?;
+        self.sending = sending;
+        Ok(())
+    }
+
+    pub(crate) fn more(
+        &mut self,
+        payload: &[u8],
+        fin: bool,
+        key: [u8; 4],
+        out: &mut Vec<u8>,
+    ) -> Result<(), SendFault>
+        ensures sent { OnOk result (HasSent self.old self.new (More payload.now fin) key out.old.items out.new.items) }
+        ensures refused { IfErr result (IsRefusedBy self.old (More payload.now fin)) }
+        ensures kept { OnErr result ((self.new ≡ self.old) × (out.new.items ≡ out.old.items)) }
+    {
+        self.may_send()?;
+        let sending = self.sending.after_next(payload, fin)?;
+        self.send(fin, CONTINUATION, payload, key, out)?;
+        self.sending = sending;
+        Ok(())
+    }
+
+    pub(crate) fn ping(
+        &mut self,
+        payload: &[u8],
+        key: [u8; 4],
+        out: &mut Vec<u8>,
+    ) -> Result<(), SendFault>
+        ensures sent { OnOk result (HasSent self.old self.new (Ping payload.now) key out.old.items out.new.items) }
+        ensures refused { IfErr result (IsRefusedBy self.old (Ping payload.now)) }
+        ensures kept { OnErr result ((self.new ≡ self.old) × (out.new.items ≡ out.old.items)) }
+    {
+        self.may_send()?;
+        fits_control(payload)?;
+        self.send(true, PING, payload, key, out)?;
+        Ok(())
+    }
+
+    pub(crate) fn pong(
+        &mut self,
+        payload: &[u8],
+        key: [u8; 4],
+        out: &mut Vec<u8>,
+    ) -> Result<(), SendFault>
+        ensures sent { OnOk result (HasSent self.old self.new (Pong payload.now) key out.old.items out.new.items) }
+        ensures refused { IfErr result (IsRefusedBy self.old (Pong payload.now)) }
+        ensures kept { OnErr result ((self.new ≡ self.old) × (out.new.items ≡ out.old.items)) }
+    {
+        self.may_send()?;
+        fits_control(payload)?;
+        self.send(true, PONG, payload, key, out)?;
+        Ok(())
+    }
+
+    pub(crate) fn close(
+        &mut self,
+        given: Option<(u16, &str)>,
+        key: [u8; 4],
+        out: &mut Vec<u8>,
+    ) -> Result<(), SendFault>
+        ensures sent { OnOk result (HasSent self.old self.new
+            (Close (close_given given.entry)) key out.old.items out.new.items) }
+        ensures refused { IfErr result (IsRefusedBy self.old (Close (close_given given.entry))) }
+        ensures kept { OnErr result ((self.new ≡ self.old) × (out.new.items ≡ out.old.items)) }
+
+        // A `str` holds a text.
+        ensures text { OnOk result (IfSome (close_given given.entry) (λ close. IsText close.reason)) }
+    {
+        self.may_send()?;
+        match given {
+            None => self.send(true, CLOSE, &[], key, out)?,
+            Some((code, reason)) => {
+                fits_close(code, reason)?;
+                str_is_text(reason);
+                let payload = Small::joined(&code.to_be_bytes(), reason.as_bytes());
+                self.send(true, CLOSE, payload.as_slice(), key, out)?;
+            }
+        }
+        self.status = Status::Closing;
+        Ok(())
+    }
+
+    /// Whether a frame may be sent at all.
+    fn may_send(&self) -> Result<(), SendFault>
+        ensures { MatchResult result (λ done. self.now.status ≡ Status.Open)
+            (λ fault. (fault ≡ SendFault.Over) × (self.now.status ≢ Status.Open)) }
+    {
+        if self.status != Status::Open {
+            return Err(SendFault::Over);
+        }
+        Ok(())
+    }
+
+    /// Puts a frame at the end of `out`.
+    fn send(
+        &self,
+        fin: bool,
+        opcode: u8,
+        payload: &[u8],
+        key: [u8; 4],
+        out: &mut Vec<u8>,
+    ) -> Result<(), SendFault>
+        requires opcode { opcode < 16 }
+        requires short { length payload.now ≤ 16777216 }
+        ensures put { let frame : Frame = record { fin = fin; rsv = 0; opcode = opcode; payload = payload.now }
+            in OnOk result ((out.new.items ≡ out.old.items ++ frame_bytes (under_key self.now.role key frame))
+            × FitsTheLayout (under_key self.now.role key frame)) }
+        ensures kept { IfErr result (λ fault. (fault ≡ SendFault.NoMemory) × (out.new.items ≡ out.old.items)) }
+    {
+        if self.put(fin, opcode, payload, key, out).is_err() {
+            return Err(SendFault::NoMemory);
+        }
+        Ok(())
+    }
+}
+
+/// Whether a control frame can hold the payload.
+fn fits_control(payload: &[u8]) -> Result<(), SendFault>
+    ensures { MatchResult result (λ done. length payload.now ≤ 125)
+        (λ fault. (fault ≡ SendFault.TooLong) × (125 < length payload.now)) }
+{
+    if payload.len() > MAX_CONTROL_PAYLOAD {
+        return Err(SendFault::TooLong);
+    }
+    Ok(())
+}
+
+/// Whether a close frame may say this.
+fn fits_close(code: u16, reason: &str) -> Result<(), SendFault>
+    ensures { let close : CloseValue = record { code = code; reason = reason.now }
+        in (opened : Option Message) →
+        MatchResult result (λ done. IsFineWith opened (Close (Some close)) × (length reason.now ≤ 123)
+        × (code < 65536)) (λ fault. IsFirstWrongWith opened (Close (Some close)) fault) }
+{
+    if reason.len() > MAX_REASON {
+        return Err(SendFault::TooLong);
+    }
+    if !code_allowed(code) {
+        return Err(SendFault::BadCode);
+    }
+    Ok(())
+}
