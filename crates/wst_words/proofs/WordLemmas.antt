@@ -17,7 +17,7 @@ use Rattle.wst_words.specs.Session.{AsksForNoSession}
 use Rattle.wst_words.specs.Show.{AsksToShowNothing}
 use Rattle.wst_words.specs.Words.{AsksFor, AsksForNothing, CommandAsks, CommandAsksNothing, IsOfClap, IsRead, RefusesWords}
 use Rattle.wst_words.specs.declared.words.Task.{Task}
-use Rattle.wst_words.specs.declared.words.Task.TheVariants.{Head, Pair, Session, Show}
+use Rattle.wst_words.specs.declared.words.Task.TheVariants.{Cases, Head, Judge, Pair, Session, Show}
 use Rattle.wst_words.specs.declared.words.WordsFault.{WordsFault}
 use Rattle.wst_words.specs.declared.words.WordsFault.TheVariants.{Clap, NoTask}
 
@@ -109,6 +109,12 @@ no_show name rows is none = refuses
     refuses (Session options) asks =
         let bad : ◌≡◌ {A = ℕ} 104 101 = ap (λ (l : List ℕ). slice_index l 1) (sym is ∙ asks.0) in
         absurd (omega arith)
+    refuses Judge asks =
+        let bad : ◌≡◌ {A = ℕ} 115 106 = ap (λ (l : List ℕ). slice_index l 0) (sym is ∙ asks) in
+        absurd (omega arith)
+    refuses Cases asks =
+        let bad : ◌≡◌ {A = ℕ} 115 99 = ap (λ (l : List ℕ). slice_index l 0) (sym is ∙ asks) in
+        absurd (omega arith)
 
 pub no_pair : (name : Text) (rows : List Row) → name ≡ codes "pair" → AsksToPairNothing rows → CommandAsksNothing (Some (name, rows))
 no_pair name rows is none = refuses
@@ -124,6 +130,12 @@ no_pair name rows is none = refuses
     refuses (Session options) asks =
         let bad : ◌≡◌ {A = ℕ} 112 115 = ap (λ (l : List ℕ). slice_index l 0) (sym is ∙ asks.0) in
         absurd (omega arith)
+    refuses Judge asks =
+        let bad : ◌≡◌ {A = ℕ} 112 106 = ap (λ (l : List ℕ). slice_index l 0) (sym is ∙ asks) in
+        absurd (omega arith)
+    refuses Cases asks =
+        let bad : ◌≡◌ {A = ℕ} 112 99 = ap (λ (l : List ℕ). slice_index l 0) (sym is ∙ asks) in
+        absurd (omega arith)
 
 pub no_session : (name : Text) (rows : List Row) → name ≡ codes "session" → AsksForNoSession rows → CommandAsksNothing (Some (name, rows))
 no_session name rows is none = refuses
@@ -138,6 +150,12 @@ no_session name rows is none = refuses
         absurd (omega arith)
     refuses Head asks =
         let bad : ◌≡◌ {A = ℕ} 115 104 = ap (λ (l : List ℕ). slice_index l 0) (sym is ∙ asks) in
+        absurd (omega arith)
+    refuses Judge asks =
+        let bad : ◌≡◌ {A = ℕ} 115 106 = ap (λ (l : List ℕ). slice_index l 0) (sym is ∙ asks) in
+        absurd (omega arith)
+    refuses Cases asks =
+        let bad : ◌≡◌ {A = ℕ} 115 99 = ap (λ (l : List ℕ). slice_index l 0) (sym is ∙ asks) in
         absurd (omega arith)
 
 -- want of memory is an error of any words

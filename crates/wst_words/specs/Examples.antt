@@ -16,7 +16,7 @@ use Rattle.clap.specs.declared.builder.value_parser.ValueParser.TheVariants.{Uns
 use Rattle.ws_frame.specs.declared.role.Role.TheVariants.{Client, Server}
 use Rattle.wst_words.specs.Options.{GivesNumber}
 use Rattle.wst_words.specs.Words.{AsksFor, Places, wst_app}
-use Rattle.wst_words.specs.declared.words.Task.TheVariants.{Head, Pair, Session, Show}
+use Rattle.wst_words.specs.declared.words.Task.TheVariants.{Cases, Head, Judge, Pair, Session, Show}
 
 -- what is computed at words that are written out
 unfoldable on_words : ⊤
@@ -124,10 +124,26 @@ plain_echo places = (
   ),
 )
 
+-- `wst judge` judges a capture
+abbrev judge_words : List Text
+judge_words = words (codes "judge" ∷ [])
+
+pub plain_judge : (places : Places) → AsksFor (wst_app places) judge_words Judge
+unfolding on_words
+plain_judge places = (refl, refl)
+
+-- `wst cases` lists the cases
+abbrev cases_words : List Text
+cases_words = words (codes "cases" ∷ [])
+
+pub plain_cases : (places : Places) → AsksFor (wst_app places) cases_words Cases
+unfolding on_words
+plain_cases places = (refl, refl)
+
 -- such words can fail for want of memory alone
 pub asking_words_are_taken : (places : Places)
-    → map (takes (wst_app places)) (plain_words ∷ client_words ∷ head_words ∷ session_words ∷ echo_words ∷ [])
-    ≡ true ∷ true ∷ true ∷ true ∷ true ∷ []
+    → map (takes (wst_app places)) (plain_words ∷ client_words ∷ head_words ∷ session_words ∷ echo_words ∷ judge_words
+    ∷ cases_words ∷ []) ≡ true ∷ true ∷ true ∷ true ∷ true ∷ true ∷ true ∷ []
 unfolding on_words
 asking_words_are_taken places = refl
 
@@ -138,9 +154,9 @@ pub no_command : (places : Places) → fault_of (wst_app places) (words []) ≡ 
 unfolding on_words
 no_command places = refl
 
--- `wst judge`: no such command
+-- `wst frames`: no such command
 pub unknown_command : (places : Places)
-    → fault_of (wst_app places) (words (codes "judge" ∷ [])) ≡ UnknownArgument ∷ InvalidSubcommand ∷ []
+    → fault_of (wst_app places) (words (codes "frames" ∷ [])) ≡ UnknownArgument ∷ InvalidSubcommand ∷ []
 unfolding on_words
 unknown_command places = refl
 
@@ -164,6 +180,12 @@ pub head_with_an_option : (places : Places)
 unfolding on_words
 head_with_an_option places = refl
 
+-- `wst judge capture`: no such argument, since a capture comes by the standard input
+pub judge_with_a_file : (places : Places)
+    → fault_of (wst_app places) (words (codes "judge" ∷ codes "capture" ∷ [])) ≡ UnknownArgument ∷ []
+unfolding on_words
+judge_with_a_file places = refl
+
 -- `wst show --help` is answered with help
 pub show_help : (places : Places)
     → fault_of (wst_app places) (words (codes "show" ∷ codes "--help" ∷ [])) ≡ DisplayHelp ∷ []
@@ -182,6 +204,6 @@ show_version places = refl
 
 -- and none of them is taken
 pub faulty_words_are_not_taken : (places : Places)
-    → map (takes (wst_app places)) (words [] ∷ words (codes "judge" ∷ []) ∷ no_number ∷ []) ≡ false ∷ false ∷ false ∷ []
+    → map (takes (wst_app places)) (words [] ∷ words (codes "frames" ∷ []) ∷ no_number ∷ []) ≡ false ∷ false ∷ false ∷ []
 unfolding on_words
 faulty_words_are_not_taken places = refl

@@ -9,7 +9,7 @@ use Rattle.wst_words.specs.Pair.{AsksToPair, pair_app}
 use Rattle.wst_words.specs.Session.{AsksForSession, session_app}
 use Rattle.wst_words.specs.Show.{AsksToShow, show_app}
 use Rattle.wst_words.specs.declared.words.Task.{Task}
-use Rattle.wst_words.specs.declared.words.Task.TheVariants.{Head, Pair, Session, Show}
+use Rattle.wst_words.specs.declared.words.Task.TheVariants.{Cases, Head, Judge, Pair, Session, Show}
 use Rattle.wst_words.specs.declared.words.WordsFault.{WordsFault}
 use Rattle.wst_words.specs.declared.words.WordsFault.TheVariants.{Clap, NoTask}
 
@@ -20,8 +20,15 @@ pub record Places : Type 0 where
   pub from : EndPlaces
   pub role : EndPlaces
 
+-- the commands without options
 abbrev pub head_app : App
 head_app = new_app (codes "head")
+
+abbrev pub judge_app : App
+judge_app = new_app (codes "judge")
+
+abbrev pub cases_app : App
+cases_app = new_app (codes "cases")
 
 -- `wst` itself: a command may not be left out, and there is a version
 abbrev pub bare_app : App
@@ -30,8 +37,8 @@ bare_app = on_top (λ s. record s { subcommand_required = true; has_version = tr
 -- `wst` with its commands
 abbrev pub wst_app : Places → App
 wst_app places =
-    with_subcommand (with_subcommand (with_subcommand (with_subcommand bare_app
-    (show_app places.from).top) head_app.top) pair_app.top) (session_app places.role).top
+    with_subcommand (with_subcommand (with_subcommand (with_subcommand (with_subcommand (with_subcommand bare_app
+    (show_app places.from).top) head_app.top) pair_app.top) (session_app places.role).top) judge_app.top) cases_app.top
 
 -- ---- what the words ask for
 
@@ -42,6 +49,8 @@ CommandAsks (Some (name, rows)) (Show options) = (name ≡ codes "show") × Asks
 CommandAsks (Some (name, rows)) (Pair options) = (name ≡ codes "pair") × AsksToPair rows options
 CommandAsks (Some (name, rows)) Head = name ≡ codes "head"
 CommandAsks (Some (name, rows)) (Session options) = (name ≡ codes "session") × AsksForSession rows options
+CommandAsks (Some (name, rows)) Judge = name ≡ codes "judge"
+CommandAsks (Some (name, rows)) Cases = name ≡ codes "cases"
 
 -- and they ask for none
 abbrev pub CommandAsksNothing : Option (Text × List Row) → Type 0

@@ -3,7 +3,9 @@
 //! The layer above uses `read_words` alone: the task that the words ask for, or why there is none.
 #![tactic(auto)]
 
+mod cases;
 mod head;
+mod judge;
 mod options;
 mod pair;
 mod session;

@@ -65,8 +65,10 @@ bytes, and writes what came of them. A line of the script is one of these:
 
   END   `client` or `server`
   fin   the frame is the last of its message; `part`: others follow
-  HEX   bytes as lower-case pairs of hexadecimal digits, or `-` for none
-  KEY   the masking key of what a client sends, eight hexadecimal digits, or `-` for zeros
+  HEX   bytes as lower-case pairs of hexadecimal digits, or `-` for none; with `close END none` it
+        is `-`, since only a code has a reason
+  KEY   the masking key of what a client sends, eight lower-case hexadecimal digits, or `-` for
+        zeros; what a server sends has one too, well formed, though it uses none
   CODE  0 to 65535
   N     0 to 4294967295
 
@@ -75,6 +77,10 @@ Words are parted by one space, and each line ends in LF. The output has a line f
 `END reached N`, how many bytes came to it; `END got text|binary HEX`, a line for each message that
 it delivered; and `END status STATUS`, one of `open`, `closing`, `clean CODE`, `clean none`,
 `failed NAME` and `lost`.
+
+The NAME of a refusal is Over, Busy, NothingOpen, NotText, TooLong or BadCode. The NAME of a failure
+is ReservedBits, Opcode, MaskWrong, NotShortest, BadLength, ControlCut, ControlLong,
+NothingToContinue, MessageOpen, TooBig, NotText, TextCut, CloseOneByte, CloseCode or CloseReason.
 
 Exit status: 0 all played, 1 a line is no move, and nothing is played, 2 wrong words or limits, 3 a
 device failed or memory ran out.";

@@ -64,8 +64,10 @@ why they are at fault. A line of the script is one of these:
   end                                  the stream to it ends
 
   fin   the frame is the last of its message; `part`: others follow
-  HEX   bytes as lower-case pairs of hexadecimal digits, or `-` for none
-  KEY   the masking key of what a client puts, eight hexadecimal digits, or `-` for zeros
+  HEX   bytes as lower-case pairs of hexadecimal digits, or `-` for none; with `close none` it is
+        `-`, since only a code has a reason
+  KEY   the masking key of what a client puts, eight lower-case hexadecimal digits, or `-` for
+        zeros; a server's calls have one too, well formed, though it uses none
   CODE  0 to 65535
 
 Words are parted by one space, and each line ends in LF. With --echo only `take` and `end` are
@@ -85,6 +87,9 @@ calls. The output has lines for each call, and two at the end:
                         `failed NAME` or `lost`
 
 PLACE counts the bytes that were taken since the start, up to and with the last of the event.
+The NAME of a refusal is Over, Busy, NothingOpen, NotText, TooLong or BadCode. The NAME of a failure
+is ReservedBits, Opcode, MaskWrong, NotShortest, BadLength, ControlCut, ControlLong,
+NothingToContinue, MessageOpen, TooBig, NotText, TextCut, CloseOneByte, CloseCode or CloseReason.
 
 Exit status: 0 all calls made, 1 a line is no call, and none is made, 2 wrong words or limits, 3 a
 device failed or memory ran out.";

@@ -6,7 +6,9 @@ ghost use Rattle.clap.specs.declared.error.kind.ErrorKind.TheVariants.{OutOfMemo
 ghost use Rattle.wst_words.specs.declared.words.WordsFault.TheVariants.{Clap};
 ghost use Rattle.wst_words.specs.Words.{CommandAsks, CommandAsksNothing, IsOfClap, IsRead, Places, wst_app};
 
+use crate::cases::cases_command;
 use crate::head::head_command;
+use crate::judge::judge_command;
 use crate::pair::{PairOptions, pair_command, pair_options};
 use crate::session::{SessionOptions, session_command, session_options};
 use crate::show::{ShowOptions, show_command, show_options};
@@ -28,6 +30,10 @@ pub enum Task {
     Head,
     /// The answers of one endpoint to the calls that come in.
     Session(SessionOptions),
+    /// The verdict on the capture that comes in.
+    Judge,
+    /// The list of the cases.
+    Cases,
 }
 
 /// Why the words give no task.
@@ -80,6 +86,8 @@ fn task_of(matches: &ArgMatches<'_>) -> Option<Task>
         "pair" => Some(Task::Pair(pair_options(options)?)),
         "head" => Some(Task::Head),
         "session" => Some(Task::Session(session_options(options)?)),
+        "judge" => Some(Task::Judge),
+        "cases" => Some(Task::Cases),
         _ => None,
     }
 }
@@ -96,16 +104,19 @@ fn command<'a>(alloc: Global) -> Result<Command<'a>, AllocError>
         .subcommand(show_command(alloc)?)?
         .subcommand(head_command(alloc)?)?
         .subcommand(pair_command(alloc)?)?
-        .subcommand(session_command(alloc)?)
+        .subcommand(session_command(alloc)?)?
+        .subcommand(judge_command(alloc)?)?
+        .subcommand(cases_command(alloc)?)
 }
 
 /// What stands at the end of the help.
 const AFTER_HELP: &str =
-    "Each command reads its standard input. `wst COMMAND --help` says what it reads and writes, with an
-example. In all of them HEX is bytes as lower-case pairs of hexadecimal digits, or `-` for none.
+    "Each command but `cases` reads its standard input. `wst COMMAND --help` says what it reads and
+writes, with an example. In scripts HEX is bytes as lower-case pairs of hexadecimal digits, or `-`
+for none.
 
-Exit status: 0 done, 1 the input is damaged or refused, 2 wrong words, 3 the input, the output, the
-budget or memory failed.
+Exit status: 0 done, 1 the input is damaged or refused or its verdict is FAIL, 2 wrong words, 3 the
+input, the output, the budget or memory failed.
 
 Example:
   printf '\\201\\005Hello' | wst show

@@ -4,7 +4,8 @@ use Rattle.clap.specs.Words.{App, app_of, new_app, with_subcommand}
 use Rattle.clap.specs.Simple.{app_of_fields, on_top}
 use Rattle.wst_words.specs.Show.{show_app}
 use Rattle.wst_words.specs.Pair.{pair_app}
-use Rattle.wst_words.specs.Words.{bare_app, head_app}
+use Rattle.wst_words.specs.Session.{session_app}
+use Rattle.wst_words.specs.Words.{bare_app, head_app, judge_app}
 use Rattle.wst_words.proofs.words.command.Goals as goal
 
 abbrev versioned : App
@@ -20,4 +21,7 @@ returns c =
     let headed : app_of c.in_ok-subcommand-2.field-0 ≡ with_subcommand (with_subcommand bare_app (show_app show.0).top) head_app.top = c.in_ok-subcommand-2.ensures.shape c.in_ok-head_command.ensures.local ∙ ap₂ with_subcommand shown (ap (λ (a : App). a.top) c.in_ok-head_command.ensures.app) in
     let paired : app_of c.in_ok-subcommand-3.field-0 ≡ with_subcommand (with_subcommand (with_subcommand bare_app (show_app show.0).top) head_app.top) pair_app.top = c.in_ok-subcommand-3.ensures.shape c.in_ok-pair_command.ensures.local ∙ ap₂ with_subcommand headed (ap (λ (a : App). a.top) c.in_ok-pair_command.ensures.app) in
     let session = c.in_ok-session_command.ensures.app in
-    IfOk-weaker c.subcommand-4.result _ _ (λ r h. (record { from = show.0; role = session.0 }, h.shape c.in_ok-session_command.ensures.local ∙ ap₂ with_subcommand paired (ap (λ (a : App). a.top) session.1))) c.subcommand-4.ensures
+    let four = with_subcommand (with_subcommand (with_subcommand (with_subcommand bare_app (show_app show.0).top) head_app.top) pair_app.top) (session_app session.0).top in
+    let talked : app_of c.in_ok-subcommand-4.field-0 ≡ four = c.in_ok-subcommand-4.ensures.shape c.in_ok-session_command.ensures.local ∙ ap₂ with_subcommand paired (ap (λ (a : App). a.top) session.1) in
+    let judged : app_of c.in_ok-subcommand-5.field-0 ≡ with_subcommand four judge_app.top = c.in_ok-subcommand-5.ensures.shape c.in_ok-judge_command.ensures.local ∙ ap₂ with_subcommand talked (ap (λ (a : App). a.top) c.in_ok-judge_command.ensures.app) in
+    IfOk-weaker c.subcommand-6.result _ _ (λ r h. (record { from = show.0; role = session.0 }, h.shape c.in_ok-cases_command.ensures.local ∙ ap₂ with_subcommand judged (ap (λ (a : App). a.top) c.in_ok-cases_command.ensures.app))) c.subcommand-6.ensures
