@@ -1,1 +1,3 @@
 pub mod HeadLemmas
+pub mod CaseLemmas
+pub mod Delivering

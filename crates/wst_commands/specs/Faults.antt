@@ -5,16 +5,16 @@ use Rattle.std.specs.Fmt.{decimal}
 use Rattle.ws_frame.specs.Devices.{Device}
 use Rattle.wst_commands.specs.Devices.{Tells}
 use Rattle.wst_commands.specs.declared.exit.Exit.{Exit}
-use Rattle.wst_commands.specs.declared.exit.Exit.TheVariants.{Damaged, WrongWords, Failed}
+use Rattle.wst_commands.specs.declared.exit.Exit.TheVariants.{Damaged, Failed, WrongWords}
 use Rattle.wst_commands.specs.declared.fault.Fault.{Fault}
-use Rattle.wst_commands.specs.declared.fault.Fault.TheVariants.{BadLimits, HeadIsCut, NotACall, NotAMove}
-use Rattle.wst_commands.specs.declared.fault.Fault.TheVariants.{NoText, NoTask, NoMemory}
+use Rattle.wst_commands.specs.declared.fault.Fault.TheVariants.{BadLimits, HeadIsCut, NotACall, NotACapture, NotAMove}
+use Rattle.wst_commands.specs.declared.fault.Fault.TheVariants.{NoCase, NoText, NoTask, NoMemory}
 
 -- memory ran out, and that is told
 abbrev pub LacksMemory : Exit → Device → Type 0
 LacksMemory exit faults = (exit ≡ Failed) × Tells (codes "no memory\n") faults
 
--- the line that tells which line of a script is damaged, and what it is not
+-- the line that tells which line of a script or a capture is damaged, and what it is not
 abbrev pub damage_line : ℕ → List ℕ → List ℕ
 damage_line number what = concat (codes "line " ∷ decimal number ∷ codes ": " ∷ what ∷ codes "\n" ∷ [])
 
@@ -28,6 +28,8 @@ TellsFault BadLimits exit faults = (exit ≡ WrongWords) × Tells (codes "bad li
 TellsFault HeadIsCut exit faults = (exit ≡ Damaged) × Tells (codes "head is cut\n") faults
 TellsFault (NotAMove number) exit faults = TellsLine number (codes "not a move") exit faults
 TellsFault (NotACall number) exit faults = TellsLine number (codes "not a call") exit faults
+TellsFault (NotACapture number) exit faults = TellsLine number (codes "not a capture") exit faults
+TellsFault NoCase exit faults = (exit ≡ Failed) × Tells (codes "error: a case is missing\n") faults
 TellsFault NoText exit faults = (exit ≡ WrongWords) × Tells (codes "error: the words are not UTF-8\n") faults
 TellsFault NoTask exit faults = (exit ≡ WrongWords) × Tells (codes "error: the words ask for nothing\n") faults
 TellsFault NoMemory exit faults = LacksMemory exit faults

@@ -9,4 +9,6 @@ pub mod Show
 pub mod Head
 pub mod Pairs
 pub mod Session
+pub mod Judge
+pub mod Cases
 pub mod Run

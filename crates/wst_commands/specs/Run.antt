@@ -6,11 +6,13 @@ use Rattle.clap.specs.declared.error.kind.ErrorKind.TheVariants.{DisplayHelp, Di
 use Rattle.ws_frame.specs.Devices.{Device, IsUntouched}
 use Rattle.wst_words.specs.Words.{AsksFor, RefusesWords}
 use Rattle.wst_words.specs.declared.words.Task.{Task}
-use Rattle.wst_words.specs.declared.words.Task.TheVariants.{Head, Pair, Session, Show}
+use Rattle.wst_words.specs.declared.words.Task.TheVariants.{Cases, Head, Judge, Pair, Session, Show}
 use Rattle.wst_words.specs.declared.words.WordsFault.{WordsFault}
 use Rattle.wst_words.specs.declared.words.WordsFault.TheVariants as words
+use Rattle.wst_commands.specs.Cases.{ListsCases}
 use Rattle.wst_commands.specs.Faults.{TellsFault}
 use Rattle.wst_commands.specs.Head.{RunsHead}
+use Rattle.wst_commands.specs.Judge.{RunsJudge}
 use Rattle.wst_commands.specs.Pairs.{RunsPair}
 use Rattle.wst_commands.specs.Session.{RunsSession}
 use Rattle.wst_commands.specs.Show.{RunsShow}
@@ -25,6 +27,8 @@ RunsTask (Show options) ended input output = RunsShow options ended input output
 RunsTask (Pair options) ended input output = RunsPair options ended input output
 RunsTask Head ended input output = RunsHead ended input output
 RunsTask (Session options) ended input output = RunsSession options ended input output
+RunsTask Judge ended input output = RunsJudge ended input output
+RunsTask Cases ended input output = IsUntouched input × ListsCases ended output
 
 -- what is told of how a run ended, and the exit: nothing, or its fault
 abbrev pub Ends : Result Exit Fault → Exit → Device → Type 0

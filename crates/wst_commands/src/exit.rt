@@ -8,7 +8,7 @@ ghost use Rattle.wst_commands.specs.Exits.{status_of};
 pub enum Exit {
     /// All was done.
     Done,
-    /// The input is damaged or refused.
+    /// The input is damaged or refused, or it shows a rule that was broken.
     Damaged,
     /// The words are wrong.
     WrongWords,

@@ -1,12 +1,15 @@
 //! What is told on the fault output in place of an answer.
 
+ghost use Rattle.std.specs.Prelude.{◌≡◌};
 ghost use Rattle.wst_commands.specs.Faults.{LacksMemory, TellsFault, TellsLine};
+ghost use Rattle.wst_commands.specs.declared.fault.Fault.TheVariants as variant;
 ghost use Rattle.ws_frame.specs.Devices.{watched};
 
 use crate::exit::Exit;
 use crate::telling::tell;
-use std::alloc::Global;
+use std::alloc::{AllocError, Global};
 use std::io::Write;
+use ws_base::NoMemory;
 use ws_frame::Watched;
 
 /// What a run tells on the fault output in place of an answer, in a line of ours.
@@ -20,12 +23,33 @@ pub enum Fault {
     NotAMove(u64),
     /// The first line that is damaged in a script of calls, counted from 1.
     NotACall(u64),
+    /// The first line that is damaged in a capture, counted from 1.
+    NotACapture(u64),
+    /// A name in the list of cases has no case. The two are read from the same rows, so this never comes; that is
+    /// tested, and not proved.
+    NoCase,
     /// The words of the command line are no text.
     NoText,
     /// The words of the command line ask for nothing.
     NoTask,
     /// Memory ran out.
     NoMemory,
+}
+
+impl From<NoMemory> for Fault {
+    ghost from_gives = { λ _ fault. fault ≡ variant.NoMemory };
+
+    fn from(_refused: NoMemory) -> Fault {
+        Fault::NoMemory
+    }
+}
+
+impl From<AllocError> for Fault {
+    ghost from_gives = { λ _ fault. fault ≡ variant.NoMemory };
+
+    fn from(_refused: AllocError) -> Fault {
+        Fault::NoMemory
+    }
 }
 
 /// Tells a fault in its line, where the fault output takes it, and answers the exit that it stands for.
@@ -44,6 +68,11 @@ pub fn tell_fault<F: Write>(alloc: Global, fault: Fault, faults: &mut Watched<F>
         }
         Fault::NotAMove(line) => tell_line(alloc, line, "not a move", faults),
         Fault::NotACall(line) => tell_line(alloc, line, "not a call", faults),
+        Fault::NotACapture(line) => tell_line(alloc, line, "not a capture", faults),
+        Fault::NoCase => {
+            tell(b"error: a case is missing\n", faults);
+            Exit::Failed
+        }
         Fault::NoText => {
             tell(b"error: the words are not UTF-8\n", faults);
             Exit::WrongWords

@@ -3,9 +3,11 @@
 //! The layer above uses `run` alone: what the words ask for is done, and what came of it is one of four exits.
 #![tactic(auto)]
 
+mod cases;
 mod exit;
 mod fault;
 mod head;
+mod judge;
 mod limits;
 mod pair;
 mod reading_head;

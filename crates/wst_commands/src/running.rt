@@ -9,9 +9,11 @@ ghost use Rattle.wst_commands.specs.Devices.{Tells};
 ghost use Rattle.wst_commands.specs.Exits.{status_of};
 ghost use Rattle.wst_commands.specs.Run.{AnswersWords, Ends, Runs, RunsTask, TellsOf};
 
+use crate::cases::run_cases;
 use crate::exit::Exit;
 use crate::fault::{Fault, tell_fault};
 use crate::head::run_head;
+use crate::judge::run_judge;
 use crate::pair::run_moves;
 use crate::session::run_session;
 use crate::show::run_show;
@@ -23,7 +25,7 @@ use ws_frame::Watched;
 use wst_words::{Task, WordsFault, read_words};
 
 /// Runs what the words ask for, the program's name first, and answers how that ended: status 0 done, 1 a
-/// damaged or refused input, 2 wrong words, 3 where input, output, the budget or memory failed. Help
+/// damaged or refused input or a rule that was broken, 2 wrong words, 3 where input, output, the budget or memory failed. Help
 /// and the version go to the writer with status 0. What is wrong with the words goes to `faults`, and
 /// then nothing is read or written. Want of memory is told there as `no memory`.
 pub fn run<R: Read, W: Write, F: Write>(
@@ -67,6 +69,8 @@ fn run_task<R: Read, W: Write>(
         Task::Pair(options) => run_moves(alloc, options, reader, writer),
         Task::Head => run_head(alloc, reader, writer),
         Task::Session(options) => run_session(alloc, options, reader, writer),
+        Task::Judge => run_judge(alloc, reader, writer),
+        Task::Cases => run_cases(alloc, writer),
     }
 }
 
