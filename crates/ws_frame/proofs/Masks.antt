@@ -1,12 +1,17 @@
 -- Masking, one byte after the other.
-use Rattle.std.proofs.Common.{◌≡◌, ℕ, zero, suc, Option, Some, None, ◌+◌, ◌%◌, ◌<◌, ◌≤◌, List, [], ◌∷◌, ◌++◌, length, get_or, set, take, drop, refl, sym, ap, ◌∙◌, append_assoc, arith, add-zero}
+use Rattle.std.proofs.Common.{◌≡◌, ℕ, zero, suc, Option, Some, None, inl, inr, ◌+◌, ◌-◌, ◌*◌, ◌%◌, ◌<◌, ◌≤◌, List, [], ◌∷◌, ◌++◌, length, get_or, set, take, drop, refl, sym, ap, ◌∙◌, append_assoc, arith, add-zero}
 use Rattle.std.specs.Prelude.{bit_xor, slice_index}
-use Rattle.std.proofs.lemmas.List.{take_more_set, drop-set-lt, drop_more, take_all, append-nil, drop_all}
+use Rattle.std.proofs.lemmas.Bool.{cases_lt}
+use Rattle.std.proofs.lemmas.List.{take_more_set, drop-set-lt, drop_more, take_all, append-nil, drop_all, length-drop, length-take-le, take-append-drop, drop-drop, get_or_append_left, get_or-append_right}
+use Rattle.std.proofs.lemmas.Simd.{length-zip2, get_or-zip2, put_chunk_whole}
+use Rattle.std.proofs.lemmas.Slice.{take-put_mid, drop-put_mid}
+use borrow.Rule.Slice.PartMut.{put_mid}
+use lib.Lanes.{zip2, put_chunk}
 use Rattle.std.specs.Int.Bits.{xor_assoc, xor_self, xor_zero_r}
 use Rattle.std.proofs.lemmas.Nat.{xor_of_8}
 use Rattle.std.proofs.lemmas.Grind.{same_number_lists}
 use Rattle.ws_frame.specs.Header.{AreBytes, IsMaskingKey}
-use Rattle.ws_frame.specs.Masking.{masked, masked_payload, IsMasked}
+use Rattle.ws_frame.specs.Masking.{masked, masked_payload, IsMasked, AreKeyLanes}
 
 pub length-masked : (key : List ℕ) (phase : ℕ) (p : List ℕ) → length (masked key phase p) ≡ length p
 length-masked key phase [] = refl
@@ -97,3 +102,92 @@ pub masked_done : (key : List ℕ) (phase i : ℕ) (p all : List ℕ) → length
 masked_done key phase i p all le e =
     let whole : take i p ++ masked key (phase + i) (drop i p) ≡ p = ap (λ (t : List ℕ). take i p ++ masked key (phase + i) t) (drop_all i p le) ∙ append-nil (take i p) ∙ take_all i p le in
     sym whole ∙ e
+
+-- ---- by lanes
+
+-- the places of a payload go round every four bytes
+pub masked_round : (key : List ℕ) (phase n : ℕ) (p : List ℕ) → masked key (phase + 4 * n) p ≡ masked key phase p
+masked_round key phase n [] = refl
+masked_round key phase n (b ∷ p) =
+    let place : (phase + 4 * n) % 4 ≡ phase % 4 = omega arith in
+    let next : (phase + 4 * n) + 1 ≡ (phase + 1) + 4 * n = omega arith in
+    ap (λ k. bit_xor b (slice_index key k) ∷ masked key ((phase + 4 * n) + 1) p) place
+    ∙ ap (λ k. bit_xor b (slice_index key (phase % 4)) ∷ masked key k p) next
+    ∙ ap (λ (t : List ℕ). bit_xor b (slice_index key (phase % 4)) ∷ t) (masked_round key (phase + 1) n p)
+
+-- some lists of four, one after the other
+repeated : ℕ → List ℕ → List ℕ
+repeated zero t = []
+repeated (suc n) t = t ++ repeated n t
+
+at_repeated : (n : ℕ) (t : List ℕ) → length t ≡ 4 → (i : ℕ) → i < 4 * n → slice_index (repeated n t) i ≡ slice_index t (i % 4)
+unfolding repeated
+at_repeated zero t four i lt = absurd (omega arith)
+at_repeated (suc n) t four i lt =
+    elim (cases_lt i 4) [
+      | inl first ↦
+          let same : i % 4 ≡ i = omega arith in
+          get_or_append_left t (repeated n t) 0 i (omega arith) ∙ ap (λ k. slice_index t k) (sym same)
+      | inr later ↦
+          let round : (i - 4) % 4 ≡ i % 4 = omega arith in
+          get_or-append_right t (repeated n t) 4 i 0 four later ∙ at_repeated n t four (i - 4) (omega arith) ∙ ap (λ k. slice_index t k) round
+    ]
+
+four_lanes : (key : List ℕ) (phase a b c d : ℕ) → phase ≤ 3 → a ≡ slice_index key phase → b ≡ slice_index key ((phase + 1) % 4) → c ≡ slice_index key ((phase + 2) % 4) → d ≡ slice_index key ((phase + 3) % 4)
+    → (i : ℕ) → i < 4 → slice_index (a ∷ b ∷ c ∷ d ∷ []) i ≡ slice_index key ((phase + i) % 4)
+four_lanes key phase a b c d le ea eb ec ed zero lt = let same : phase ≡ (phase + 0) % 4 = omega arith in ea ∙ ap (λ k. slice_index key k) same
+four_lanes key phase a b c d le ea eb ec ed (suc zero) lt = eb
+four_lanes key phase a b c d le ea eb ec ed (suc (suc zero)) lt = ec
+four_lanes key phase a b c d le ea eb ec ed (suc (suc (suc zero))) lt = ed
+four_lanes key phase a b c d le ea eb ec ed (suc (suc (suc (suc i)))) lt = absurd (omega arith)
+
+-- the four bytes of the key from the phase on, eight times over
+pub eight_times : (key : List ℕ) (phase a b c d : ℕ) → phase ≤ 3 → a ≡ slice_index key phase → b ≡ slice_index key ((phase + 1) % 4) → c ≡ slice_index key ((phase + 2) % 4) → d ≡ slice_index key ((phase + 3) % 4)
+    → AreKeyLanes key phase (a ∷ b ∷ c ∷ d ∷ a ∷ b ∷ c ∷ d ∷ a ∷ b ∷ c ∷ d ∷ a ∷ b ∷ c ∷ d ∷ a ∷ b ∷ c ∷ d ∷ a ∷ b ∷ c ∷ d ∷ a ∷ b ∷ c ∷ d ∷ a ∷ b ∷ c ∷ d ∷ [])
+unfolding repeated
+eight_times key phase a b c d le ea eb ec ed i lt =
+    let round : (phase + i % 4) % 4 ≡ (phase + i) % 4 = omega arith in
+    at_repeated 8 (a ∷ b ∷ c ∷ d ∷ []) refl i lt ∙ four_lanes key phase a b c d le ea eb ec ed (i % 4) (omega arith) ∙ ap (λ k. slice_index key k) round
+
+-- bytes that are xored with the lanes
+pub xored_lanes : (key : List ℕ) (phase : ℕ) (lanes p : List ℕ) → length lanes ≡ length p → AreKeyLanes key phase lanes → zip2 bit_xor p lanes ≡ masked key phase p
+xored_lanes key phase lanes p same are =
+    let len : length (zip2 bit_xor p lanes) ≡ length p = length-zip2 bit_xor p lanes (sym same) in
+    rule_is_masked key phase p (zip2 bit_xor p lanes) (record {
+      len = len;
+      bytes = λ i lt. get_or-zip2 bit_xor p lanes i 0 0 0 lt (omega arith) ∙ ap (λ k. bit_xor (slice_index p i) k) (are i (omega arith));
+    })
+
+-- a vector's worth of bytes, loaded, xored with the lanes and stored
+pub stored_lanes : (key : List ℕ) (phase : ℕ) (lanes p : List ℕ) → length lanes ≡ 32 → length p ≡ 32 → AreKeyLanes key phase lanes → put_chunk 0 p (zip2 bit_xor (take 32 p) lanes) ≡ masked key phase p
+stored_lanes key phase lanes p of_lanes of_p are =
+    let all : take 32 p ≡ p = take_all 32 p (omega arith) in
+    let same : zip2 bit_xor (take 32 p) lanes ≡ masked key phase p = ap (λ (t : List ℕ). zip2 bit_xor t lanes) all ∙ xored_lanes key phase lanes p (omega arith) are in
+    ap (λ (t : List ℕ). put_chunk 0 p t) same ∙ put_chunk_whole p (masked key phase p) (sym (length-masked key phase p))
+
+-- the loop's step over a vector
+pub lanes_more : (key : List ℕ) (phase at k : ℕ) (p new : List ℕ) → at + 32 ≤ length p → k ≡ 32 → new ≡ masked key phase (take k (drop at p))
+    → take (at + 32) (put_mid at k p new) ++ masked key phase (drop (at + 32) (put_mid at k p new)) ≡ take at p ++ masked key phase (drop at p)
+lanes_more key phase at k p new room size is =
+    let front : length (take k (drop at p)) ≡ 32 = length-take-le k (drop at p) (omega (arith, length-drop at p)) ∙ size in
+    let lanes : length new ≡ 32 = ap (λ (t : List ℕ). length t) is ∙ length-masked key phase (take k (drop at p)) ∙ front in
+    let parts : drop at p ≡ take k (drop at p) ++ drop (at + 32) p =
+    sym (take-append-drop k (drop at p)) ∙ ap (λ (t : List ℕ). take k (drop at p) ++ t) (drop-drop k at p ∙ ap (λ n. drop (at + n) p) size) in
+    let rest : new ++ masked key phase (drop (at + 32) p) ≡ masked key phase (drop at p) =
+    ap (λ (t : List ℕ). t ++ masked key phase (drop (at + 32) p)) is
+    ∙ ap (λ (t : List ℕ). masked key phase (take k (drop at p)) ++ t) (sym (masked_round key phase 8 (drop (at + 32) p)))
+    ∙ ap (λ n. masked key phase (take k (drop at p)) ++ masked key (phase + n) (drop (at + 32) p)) (sym front)
+    ∙ sym (masked-append key phase (take k (drop at p)) (drop (at + 32) p))
+    ∙ ap (λ (t : List ℕ). masked key phase t) (sym parts) in
+    ap (λ (t : List ℕ). t ++ masked key phase (drop (at + 32) (put_mid at k p new))) (take-put_mid at k p new (at + 32) (omega arith) (omega arith))
+    ∙ ap (λ (t : List ℕ). (take at p ++ new) ++ masked key phase t) (drop-put_mid at k p new (at + 32) (omega arith) (omega arith) (omega arith))
+    ∙ append_assoc (take at p) new (masked key phase (drop (at + 32) p))
+    ∙ ap (λ (t : List ℕ). take at p ++ t) rest
+
+-- the rest, masked behind the vectors
+pub lanes_done : (key : List ℕ) (phase at k : ℕ) (p new all : List ℕ) → at ≤ length p → k ≡ length p - at → new ≡ masked key phase (take k (drop at p)) → take at p ++ masked key phase (drop at p) ≡ all
+    → put_mid at k p new ≡ all
+lanes_done key phase at k p new all within size is so =
+    let whole : take k (drop at p) ≡ drop at p = take_all k (drop at p) (omega (arith, length-drop at p)) in
+    let none : drop k (drop at p) ≡ [] = drop_all k (drop at p) (omega (arith, length-drop at p)) in
+    ap (λ (t : List ℕ). take at p ++ (new ++ t)) none ∙ ap (λ (t : List ℕ). take at p ++ t) (append-nil new ∙ is ∙ ap (λ (t : List ℕ). masked key phase t) whole) ∙ so

@@ -16,3 +16,10 @@ masked key phase (b ∷ bytes) = bit_xor b (slice_index key (phase % 4)) ∷ mas
 abbrev pub masked_payload : Option (List ℕ) → List ℕ → List ℕ
 masked_payload None payload = payload
 masked_payload (Some key) payload = masked key 0 payload
+
+-- ---- by lanes
+
+-- the key's bytes over the lanes of a vector, the first at this phase
+abbrev pub AreKeyLanes : List ℕ → ℕ → List ℕ → Type 0
+AreKeyLanes key phase lanes =
+    (i : ℕ) → i < length lanes → slice_index lanes i ≡ slice_index key ((phase + i) % 4)

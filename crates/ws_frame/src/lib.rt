@@ -18,7 +18,7 @@ mod writing;
 pub use appending::append_frame;
 pub use devices::{InputEnd, Watched, WriteFault, read_input, write_whole};
 pub use header::{Form, Header};
-pub use masking::mask;
+pub use masking::{mask, mask_plainly};
 pub use reading::{HeaderRead, read_header};
 pub use role::Role;
 pub use showing::{ShowEnd, show};

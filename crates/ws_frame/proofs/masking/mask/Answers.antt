@@ -1,9 +1,21 @@
-use Rattle.std.proofs.Common.{◌≡◌, List, ℕ, sym, subst, arith}
+use Rattle.std.proofs.Common.{◌≡◌, ◌-◌, ◌∙◌, List, ℕ, sym, subst, arith, length}
 use Rattle.ws_frame.specs.Masking.{masked, IsMasked}
-use Rattle.ws_frame.proofs.Masks.{masked_is_rule, masked_done}
+use Rattle.ws_frame.proofs.Masks.{masked_is_rule, lanes_more, lanes_done}
 use Rattle.ws_frame.proofs.masking.mask.Goals as goal
+use borrow.Rule.Slice.PartMut.{put_mid}
+
+pub loop-bytes-preserved : goal.loop-bytes-preserved
+loop-bytes-preserved c = (
+  omega arith,
+  lanes_more c.args.key c.args.phase c.loop-bytes.at _ c.loop-bytes.bytes c.mask_lanes.new.bytes (omega arith) (omega arith) (c.mask_lanes.ensures c.args.key c.args.phase c.key_lanes-lanes.ensures.lanes)
+      ∙ c.loop-bytes.invariant.1,
+)
+
+pub returns-clause-bytes : goal.returns-clause-bytes
+returns-clause-bytes c =
+    lanes_done c.args.key c.args.phase c.loop-bytes.at _ c.loop-bytes.bytes c.mask_plainly.new.bytes _ c.loop-bytes.invariant.0 (omega arith) c.mask_plainly.ensures.bytes c.loop-bytes.invariant.1
 
 pub returns-clause-rule : goal.returns-clause-rule
 returns-clause-rule c =
-    let all : c.loop-i.bytes ≡ masked c.args.key c.args.phase c.args.bytes.now = masked_done _ _ _ _ _ (omega arith) c.loop-i.invariant in
+    let all = returns-clause-bytes c in
     subst (λ (t : List ℕ). IsMasked c.args.key c.args.phase c.args.bytes.now t) (sym all) (masked_is_rule c.args.key c.args.phase c.args.bytes.now)
