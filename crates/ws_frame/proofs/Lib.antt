@@ -1,9 +1,12 @@
 pub mod Numbers
 pub mod Masks
 pub mod Headers
+pub mod HeaderSize
 pub mod Splits
 pub mod Frames
 pub mod Written
 pub mod Fronts
-pub mod Ends
+pub mod LineLemmas
+pub mod Partials
+pub mod Runs
 pub mod TestDeviceLemmas

@@ -135,6 +135,21 @@ pub record BeginsDueLines (from : Role) (budget : ℕ) (unread : Option (List �
 
 -- ---- a run of `show`
 
+-- one read asks for at most so many bytes
+abbrev pub read_size : ℕ
+read_size = 65536
+
+-- the lines of the frames that all but the last read completed are written, before anything more
+pub record HasEarlierLines (from : Role) (read written : List ℕ) : Type 0 where
+  pub before : List ℕ
+  pub last : List ℕ
+  pub parts : read ≡ before ++ last
+  pub one_read : length last ≤ read_size
+  pub lines : List ℕ
+  pub are : AreFrameLinesOf from before lines
+  pub more : List ℕ
+  pub begins : written ≡ lines ++ more
+
 -- what was written for what was read, by how the run ended
 abbrev pub IsShownAt : Role → ℕ → ShowEnd → Option (List ℕ) → List ℕ → List ℕ → Type 0
 IsShownAt from budget Done unread read written = AreLinesOf from read Done written × (length read < budget)
@@ -143,8 +158,9 @@ IsShownAt from budget (CutAt place) unread read written =
 IsShownAt from budget (BadLengthAt place) unread read written = AreLinesOf from read (BadLengthAt place) written
 IsShownAt from budget Budget unread read written = AreFrameLinesOf from read written × (length read ≡ budget)
 IsShownAt from budget ReadFault unread read written = AreFrameLinesOf from read written × (length read < budget)
-IsShownAt from budget WriteFault unread read written = BeginsDueLines from budget unread read written
-IsShownAt from budget NoMemory unread read written = BeginsDueLines from budget unread read written
+IsShownAt from budget WriteFault unread read written =
+    BeginsDueLines from budget unread read written × HasEarlierLines from read written
+IsShownAt from budget NoMemory unread read written = ⊥
 
 -- a run of `show` over a reader and a writer: some bytes were read, at most as many as the budget, and what is due for
 -- them was written
@@ -161,4 +177,4 @@ IsFairEnd (BadLengthAt _) input output = output.failed ≡ false
 IsFairEnd Budget input output = (input.failed ≡ false) × (output.failed ≡ false)
 IsFairEnd ReadFault input output = (input.failed ≡ true) × (output.failed ≡ false)
 IsFairEnd WriteFault input output = output.failed ≡ true
-IsFairEnd NoMemory input output = output.failed ≡ false
+IsFairEnd NoMemory input output = ⊥

@@ -1,7 +1,18 @@
--- What the printed types of `line.rt` print. A reader may skip this file: no public contract speaks of it.
-use Rattle.std.specs.Prelude.{ℕ, List}
-use Rattle.ws_frame.specs.declared.line.FrameLine.{FrameLine}
-use Rattle.ws_frame.specs.Lines.{line_with}
+-- The parts of a line, as `line.rt` makes them. A reader may skip this file: no public contract speaks of it.
+use Rattle.std.specs.Prelude.{ℕ, List, [], ◌∷◌, codes}
+use Rattle.std.specs.List.{concat}
+use Rattle.std.specs.Fmt.{decimal}
+use Rattle.ws_frame.specs.Header.{HeaderFields}
+use Rattle.ws_frame.specs.Lines.{kind_word, bit_word, key_word, form_word}
 
-abbrev pub shown_line : FrameLine → List ℕ
-shown_line line = line_with line.from line.offset line.header line.first.now
+-- where a frame begins, and what its first byte says
+abbrev pub bits_words : ℕ → HeaderFields → List ℕ
+bits_words offset header = concat (
+    decimal offset ∷ codes " " ∷ kind_word header.opcode
+    ∷ codes " fin=" ∷ bit_word header.fin ∷ codes " rsv=" ∷ decimal header.rsv ∷ [])
+
+-- the masking key, and the payload length with its form
+abbrev pub layout_words : HeaderFields → List ℕ
+layout_words header = concat (
+    codes " key=" ∷ key_word header.key ∷ codes " len=" ∷ decimal header.len
+    ∷ codes " " ∷ form_word header.form ∷ codes " " ∷ [])

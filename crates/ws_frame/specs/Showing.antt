@@ -1,37 +1,99 @@
 -- The steps of `show`, for the contracts of its private functions. A reader may skip this file: no public contract
 -- speaks of it.
-use Rattle.std.specs.Prelude.{◌⊎◌, ◌≡◌, ℕ, ◌≤◌, ◌<◌, Bool, true, false, List, [], ◌++◌, length, take, Result, Ok, Err}
-use Rattle.std.specs.List.{flat_map}
+use Rattle.std.specs.Prelude.{◌⊎◌, ◌≡◌, ℕ, ◌+◌, ◌^◌, ◌≤◌, ◌<◌, Bool, true, false, ⊤}
+use Rattle.std.specs.Prelude.{List, [], ◌++◌, length, take, Option, Some, None, Result, Ok, Err}
+use Rattle.std.specs.List.{flat_map, AllByRecursion}
 use Rattle.ws_frame.specs.declared.role.Role.{Role}
 use Rattle.ws_frame.specs.declared.showing.ShowEnd.{ShowEnd}
 use Rattle.ws_frame.specs.declared.showing.ShowEnd.TheVariants as end
-use Rattle.ws_frame.specs.declared.devices.reading_input.InputEnd.{InputEnd}
-use Rattle.ws_frame.specs.declared.devices.reading_input.InputEnd.TheVariants as input
-use Rattle.ws_frame.specs.declared.showing.Stop.{Stop}
-use Rattle.ws_frame.specs.declared.showing.Stop.TheVariants as stop
-use Rattle.ws_frame.specs.declared.showing.Front.{Front}
-use Rattle.ws_frame.specs.declared.showing.Front.TheVariants.{Nothing, Part, BadLength, Whole}
+use Rattle.ws_frame.specs.declared.showing.PieceEnd.{PieceEnd}
+use Rattle.ws_frame.specs.declared.showing.PieceEnd.TheVariants as piece_end
+use Rattle.ws_frame.specs.declared.showing.Run.{Run}
+use Rattle.ws_frame.specs.declared.partial.Partial.{Partial}
+use Rattle.ws_frame.specs.declared.partial.Taken.{Taken}
+use Rattle.ws_frame.specs.declared.partial.Taken.TheVariants.{Part, Whole, BadLength}
+use Rattle.ws_frame.specs.declared.devices.writing_whole.WriteFault.{WriteFault}
+use Rattle.ws_frame.specs.Header.{AreBytes, HeaderFields, IsHeader, header_bytes}
 use Rattle.ws_frame.specs.Masking.{masked_payload}
 use Rattle.ws_frame.specs.Frame.{WireFrame, IsWireFrame, wire_bytes}
-use Rattle.ws_frame.specs.Stream.{BeginsNone, SplitsIntoAnyForm}
-use Rattle.ws_frame.specs.Reading.{BeginsBadLength}
+use Rattle.ws_frame.specs.Stream.{SplitsIntoAnyForm}
+use Rattle.ws_frame.specs.Reading.{BeginsNoHeader, BeginsBadLength}
 use Rattle.ws_frame.specs.Devices.{Device, HasWritten}
-use Rattle.ws_frame.specs.Lines.{Leaves, frame_lines, AreLinesOf, AreFrameLinesOf}
+use Rattle.ws_frame.specs.Lines.{Leaves, frame_lines, last_line, AreLinesOf, AreFrameLinesOf}
 
--- a frame stands at the front, with this header and these payload bytes on the wire
-pub record IsWhole (bytes : List ℕ) (x : WireFrame) (payload : List ℕ) (used : ℕ) : Type 0 where
-  pub is_wire : IsWireFrame x
-  pub masks : payload ≡ masked_payload x.header.key x.payload
-  pub len : used ≡ length (wire_bytes x)
-  pub within : used ≤ length bytes
-  pub front : take used bytes ≡ wire_bytes x
+-- ---- the frame under way
 
--- what stands at the front
-abbrev pub IsFront : List ℕ → Front → Type 0
-IsFront bytes Nothing = bytes ≡ []
-IsFront bytes Part = (0 < length bytes) × (BeginsBadLength bytes → ⊥) × BeginsNone IsWireFrame wire_bytes bytes
-IsFront bytes BadLength = BeginsBadLength bytes × BeginsNone IsWireFrame wire_bytes bytes
-IsFront bytes (Whole header payload used) = (x : WireFrame) × (x.header ≡ header) × IsWhole bytes x payload.now used
+-- a header, and part of the payload on the wire, of which the first sixteen bytes are kept
+pub record IsPartOfPayload (rest : List ℕ) (header : HeaderFields) (first : List ℕ) (to_come : ℕ) : Type 0 where
+  pub fields : IsHeader header
+  pub small : header.len < 2 ^ 63
+  pub payload : List ℕ
+  pub parts : rest ≡ header_bytes header ++ payload
+  pub kept : first ≡ take 16 payload
+  pub count : length payload + to_come ≡ header.len
+  pub some : 0 < to_come
+
+-- these bytes, less than a frame, are kept: less than a header as they are, or a header and part of a payload
+abbrev pub IsKeptAs : List ℕ → Option HeaderFields → List ℕ → ℕ → Type 0
+IsKeptAs rest None first to_come = (rest ≡ first) × BeginsNoHeader first
+IsKeptAs rest (Some header) first to_come = IsPartOfPayload rest header first to_come
+
+abbrev pub IsKept : List ℕ → Partial → Type 0
+IsKept rest partial = IsKeptAs rest partial.header partial.first partial.to_come
+
+-- some bytes are
+abbrev pub IsUnderWay : Partial → Type 0
+IsUnderWay partial = (rest : List ℕ) × AreBytes rest × IsKept rest partial
+
+-- the bytes are a frame's, with this header and these first bytes of the payload on the wire
+pub record IsWhole (bytes : List ℕ) (header : HeaderFields) (first : List ℕ) : Type 0 where
+  pub frame : WireFrame
+  pub is_wire : IsWireFrame frame
+  pub header_is : frame.header ≡ header
+  pub bytes_are : bytes ≡ wire_bytes frame
+  pub first_are : first ≡ take 16 (masked_payload header.key frame.payload)
+
+-- at least one byte of the piece was used, and no more than there are
+abbrev pub UsesSome : List ℕ → Taken → Type 0
+UsesSome piece (Part used) = (0 < used) × (used ≤ length piece)
+UsesSome piece (Whole header first used) = (0 < used) × (used ≤ length piece)
+UsesSome piece BadLength = ⊤
+
+-- what came of a piece behind the bytes that were kept
+abbrev pub IsTaken : List ℕ → List ℕ → Partial → Taken → Type 0
+IsTaken rest piece new (Part used) = IsKept (rest ++ take used piece) new
+IsTaken rest piece new (Whole header first used) = IsWhole (rest ++ take used piece) header first × IsKept [] new
+IsTaken rest piece new BadLength = BeginsBadLength (rest ++ piece)
+
+-- a header is whole, and with it a frame without a payload
+abbrev pub BeginsPayload : HeaderFields → ℕ → Partial → Taken → Type 0
+BeginsPayload header used new (Part count) = (count ≡ used) × (new.header ≡ Some header) × (new.first ≡ [])
+    × (new.to_come ≡ header.len) × (0 < header.len)
+BeginsPayload header used new (Whole of first count) = (count ≡ used) × (of ≡ header) × (first ≡ [])
+    × (header.len ≡ 0) × IsKept [] new
+BeginsPayload header used new BadLength = ⊥
+
+-- ---- a run
+
+-- what was read are whole frames, whose lines these are, and less than a frame, which is kept and begins at this place
+pub record Stands (from : Role) (read : List ℕ) (offset : ℕ) (partial : Partial) (lines : List ℕ) : Type 0 where
+  pub are_bytes : AreBytes read
+  pub frames : List WireFrame
+  pub rest : List ℕ
+  pub each : AllByRecursion IsWireFrame frames
+  pub parts : read ≡ flat_map wire_bytes frames ++ rest
+  pub place : offset ≡ length (flat_map wire_bytes frames)
+  pub are_lines : lines ≡ frame_lines from 0 frames
+  pub is_kept : IsKept rest partial
+
+-- a run that has taken these bytes: their lines were written or wait
+pub record HasTold (run : Run) (taken written : List ℕ) : Type 0 where
+  pub count : run.taken ≡ length taken
+  pub stands : Stands run.from taken run.offset run.partial (written ++ run.lines)
+
+-- some bytes were taken so
+abbrev pub CanGoOn : Run → Type 0
+CanGoOn run = (taken : List ℕ) × (written : List ℕ) × HasTold run taken written
 
 -- these lines of the whole frames were written, and this is left
 pub record IsLeft (from : Role) (bytes : List ℕ) (left : ShowEnd) (written : List ℕ) : Type 0 where
@@ -48,32 +110,44 @@ pub record BeginsLines (from : Role) (bytes front : List ℕ) : Type 0 where
   pub are : AreFrameLinesOf from bytes lines ⊎ ((place : ℕ) × AreLinesOf from bytes (end.BadLengthAt place) lines)
   pub begins : lines ≡ front ++ more
 
--- whether a writer has failed by what a function over it answers
-abbrev pub FailedBy : Bool → Stop → Type 0
-FailedBy failed stop.WriteFault = failed ≡ true
-FailedBy failed stop.NoMemory = failed ≡ false
+-- what came of the next part of a piece: so many bytes were taken; or a bad length stands there; or a beginning of the
+-- lines was written
+abbrev pub IsNext : Run → List ℕ → List ℕ → List ℕ → Bool → Result (Option ℕ) WriteFault → Type 0
+IsNext new taken piece written failed (Ok (Some used)) =
+    (failed ≡ false) × HasTold new (taken ++ take used piece) written
+IsNext new taken piece written failed (Ok None) =
+    (failed ≡ false) × IsLeft new.from (taken ++ piece) (end.BadLengthAt new.offset) (written ++ new.lines)
+IsNext new taken piece written failed (Err _) = (failed ≡ true) × BeginsLines new.from (taken ++ piece) written
 
--- the lines of the whole frames were written, and what is left is answered; or a beginning of the lines was written
-abbrev pub WritesLines : Role → List ℕ → Device → Result ShowEnd Stop → Type 0
-WritesLines from bytes output (Ok left) =
-    (written : List ℕ) × HasWritten written output × (output.failed ≡ false) × IsLeft from bytes left written
-WritesLines from bytes output (Err why) =
-    (written : List ℕ) × HasWritten written output × FailedBy output.failed why × BeginsLines from bytes written
+abbrev pub ShowsNext : Run → Run → List ℕ → Device → Result (Option ℕ) WriteFault → Type 0
+ShowsNext old new piece output result = (taken : List ℕ) (written : List ℕ) → HasTold old taken written
+    → (more : List ℕ) × HasWritten more output × IsNext new taken piece (written ++ more) output.failed result
 
--- the text was written, or a beginning of it
-abbrev pub WritesText : List ℕ → Device → Result (Unit {0}) Stop → Type 0
-WritesText text output (Ok _) = HasWritten text output × (output.failed ≡ false)
-WritesText text output (Err why) = (front : List ℕ) × (more : List ℕ) × (text ≡ front ++ more)
-    × HasWritten front output × FailedBy output.failed why
+-- what came of a piece: all its lines were written, and the run goes on or stops at a bad length; or a beginning of
+-- them was
+abbrev pub IsShown : Run → List ℕ → List ℕ → Bool → Result PieceEnd WriteFault → Type 0
+IsShown new taken written failed (Ok piece_end.Inside) =
+    (failed ≡ false) × (new.lines ≡ []) × HasTold new taken written
+IsShown new taken written failed (Ok piece_end.BadLength) =
+    (failed ≡ false) × (new.lines ≡ []) × IsLeft new.from taken (end.BadLengthAt new.offset) written
+IsShown new taken written failed (Err _) = (failed ≡ true) × BeginsLines new.from taken written
 
--- a bad length comes first; then how the input ended
-abbrev pub end_after_input : ShowEnd → InputEnd → ShowEnd
-end_after_input (end.BadLengthAt place) ended = end.BadLengthAt place
-end_after_input left input.End = left
-end_after_input left input.Budget = end.Budget
-end_after_input left input.Fault = end.ReadFault
-end_after_input left input.NoMemory = end.NoMemory
+abbrev pub ShowsPiece : Run → Run → List ℕ → Device → Result PieceEnd WriteFault → Type 0
+ShowsPiece old new piece output result = (taken : List ℕ) (written : List ℕ) → HasTold old taken written
+    → (more : List ℕ) × HasWritten more output × IsShown new (taken ++ piece) (written ++ more) output.failed result
 
-abbrev pub end_of_stop : Stop → ShowEnd
-end_of_stop stop.WriteFault = end.WriteFault
-end_of_stop stop.NoMemory = end.NoMemory
+-- ---- writing
+
+-- of the bytes that are due some were written and these wait; or a beginning was written
+abbrev pub WritesSome : List ℕ → List ℕ → Device → Result (Unit {0}) WriteFault → Type 0
+WritesSome due waiting output (Ok _) =
+    (written : List ℕ) × HasWritten written output × (output.failed ≡ false) × (due ≡ written ++ waiting)
+WritesSome due waiting output (Err _) =
+    (front : List ℕ) × (more : List ℕ) × HasWritten front output × (output.failed ≡ true) × (due ≡ front ++ more)
+
+-- the line for this end was written; or a beginning of it
+abbrev pub EndsWith : ShowEnd → Device → ShowEnd → Type 0
+EndsWith last output result =
+    ((result ≡ last) × HasWritten (last_line last) output × (output.failed ≡ false))
+    ⊎ ((result ≡ end.WriteFault) × (output.failed ≡ true)
+    × ((front : List ℕ) × (more : List ℕ) × HasWritten front output × (last_line last ≡ front ++ more)))

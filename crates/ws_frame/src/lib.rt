@@ -6,12 +6,15 @@
 
 mod appending;
 pub mod devices;
+mod first_bytes;
 mod header;
 pub mod laws;
 mod line;
 mod masking;
+mod partial;
 mod reading;
 mod role;
+mod room;
 mod showing;
 mod writing;
 

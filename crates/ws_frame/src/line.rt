@@ -1,94 +1,130 @@
 //! The line that tells of one frame (RFC 6455 section 5.2).
 
-ghost use Rattle.std.specs.Prelude.{◌≡◌, Some};
+ghost use Rattle.std.specs.Prelude.{◌≡◌, ◌≤◌, ◌+◌, Some, ◌++◌, length};
 ghost use Rattle.ws_frame.specs.Lines.{kind_word, bit_word, key_word, form_word, data_word, mask_mark, form_mark};
-ghost use Rattle.ws_frame.specs.Printing.{shown_line};
+ghost use Rattle.ws_frame.specs.Lines.{line_with};
+ghost use Rattle.ws_frame.specs.Printing.{bits_words, layout_words};
 
+use crate::first_bytes::SHOWN;
 use crate::header::{Form, Header};
 use crate::role::Role;
+use crate::room::Room;
 use std::fmt;
-use ws_base::HexDigits;
 
-/// How many bytes of a payload a line shows at most.
-pub const SHOWN: usize = 16;
+/// No line has more bytes than this.
+pub const MAX_LINE: usize = 200;
 
-/// One frame, to be printed as a line that ends with LF.
-#[derive(Drop)]
-pub struct FrameLine<'a> {
-    /// Which end sent the frame.
-    pub from: Role,
-    /// Where in the stream it begins.
-    pub offset: u64,
-    pub header: Header,
-    /// The first bytes of the payload, unmasked: as many as there are, at most `SHOWN`.
-    pub first: &'a [u8],
+/// Puts the line of a frame that begins at `offset` into the room, ended by LF. `first` are the first bytes of the
+/// payload, unmasked: as many as there are, at most `SHOWN`.
+pub fn push_line(room: &mut Room, from: Role, offset: u64, header: &Header, first: &[u8])
+    requires room { length room.old + 200 ≤ 65536 }
+    requires few { length first.now ≤ 16 }
+    ensures { room.new ≡ room.old ++ line_with from offset header.now first.now }
+{
+    push_bits(room, offset, header);
+    push_layout(room, header);
+    push_data(room, header.payload_len(), first);
+    room.push(mask_mark_of(from, header).as_bytes());
+    room.push(form_mark_of(header).as_bytes());
+    room.push(b"\n");
 }
 
-impl fmt::Display for FrameLine<'_> {
-    ghost output = { λ line. Some (shown_line line) };
-
-    fn fmt<W: fmt::Write>(&self, f: &mut fmt::Formatter<W>) -> fmt::Result {
-        let header = &self.header;
-        let kind = Kind(header.opcode());
-        let fin = bit_of(header.fin());
-        let key = Key(header.key());
-        let data = Data {
-            len: header.payload_len(),
-            first: self.first,
-        };
-        let mask = mask_mark_of(self.from, header);
-        let form = form_mark_of(header);
-        write!(
-            f,
-            "{} {} fin={} rsv={}",
-            self.offset,
-            kind,
-            fin,
-            header.rsv()
-        )?;
-        write!(
-            f,
-            " key={} len={} {} ",
-            key,
-            header.payload_len(),
-            header.form()
-        )?;
-        writeln!(f, "{}{}{}", data, mask, form)
-    }
+/// Puts where a frame begins, and what its first byte says.
+fn push_bits(room: &mut Room, offset: u64, header: &Header)
+    requires { length room.old + 80 ≤ 65536 }
+    ensures pushed { room.new ≡ room.old ++ bits_words offset header.now }
+    ensures len { length room.new ≤ length room.old + 80 }
+{
+    room.push_decimal(offset);
+    room.push(b" ");
+    push_kind(room, header.opcode());
+    room.push(b" fin=");
+    room.push(bit_of(header.fin()).as_bytes());
+    room.push(b" rsv=");
+    room.push_decimal(u64::from(header.rsv()));
 }
 
-/// The name of an opcode.
-#[derive(Drop)]
-struct Kind(u8);
+/// Puts the masking key, and the payload length with its form.
+fn push_layout(room: &mut Room, header: &Header)
+    requires { length room.old + 50 ≤ 65536 }
+    ensures pushed { room.new ≡ room.old ++ layout_words header.now }
+    ensures len { length room.new ≤ length room.old + 50 }
+{
+    room.push(b" key=");
+    push_key(room, header.key());
+    room.push(b" len=");
+    room.push_decimal(header.payload_len());
+    room.push(b" ");
+    room.push(form_of(header.form()).as_bytes());
+    room.push(b" ");
+}
 
-impl fmt::Display for Kind {
-    ghost output = { λ kind. Some (kind_word kind.0) };
-
-    fn fmt<W: fmt::Write>(&self, f: &mut fmt::Formatter<W>) -> fmt::Result {
-        match self.0 {
-            0 => write!(f, "cont"),
-            1 => write!(f, "text"),
-            2 => write!(f, "binary"),
-            8 => write!(f, "close"),
-            9 => write!(f, "ping"),
-            10 => write!(f, "pong"),
-            other => write!(f, "op{other}"),
+/// Puts the name of an opcode.
+fn push_kind(room: &mut Room, opcode: u8)
+    requires { length room.old + 22 ≤ 65536 }
+    ensures pushed { room.new ≡ room.old ++ kind_word opcode }
+    ensures len { length room.new ≤ length room.old + 22 }
+{
+    match opcode {
+        0 => room.push(b"cont"),
+        1 => room.push(b"text"),
+        2 => room.push(b"binary"),
+        8 => room.push(b"close"),
+        9 => room.push(b"ping"),
+        10 => room.push(b"pong"),
+        other => {
+            room.push(b"op");
+            room.push_decimal(u64::from(other));
         }
     }
 }
 
-/// A masking key in hexadecimal, or a dash.
-#[derive(Drop)]
-struct Key(Option<[u8; 4]>);
+/// Puts a masking key in hexadecimal, or a dash.
+fn push_key(room: &mut Room, key: Option<[u8; 4]>)
+    requires { length room.old + 8 ≤ 65536 }
+    ensures pushed { room.new ≡ room.old ++ key_word key }
+    ensures len { length room.new ≤ length room.old + 8 }
+{
+    match key {
+        None => room.push(b"-"),
+        Some(key) => room.push_hex(&key),
+    }
+}
 
-impl fmt::Display for Key {
-    ghost output = { λ key. Some (key_word key.0) };
+/// Puts the first bytes of a payload of some length.
+fn push_data(room: &mut Room, len: u64, first: &[u8])
+    requires room { length room.old + 34 ≤ 65536 }
+    requires few { length first.now ≤ 16 }
+    ensures pushed { room.new ≡ room.old ++ data_word len first.now }
+    ensures len { length room.new ≤ length room.old + 34 }
+{
+    if len == 0 {
+        room.push(b"-");
+        return;
+    }
+    room.push_hex(first);
+    if len > SHOWN as u64 {
+        room.push(b"..");
+    }
+}
 
-    fn fmt<W: fmt::Write>(&self, f: &mut fmt::Formatter<W>) -> fmt::Result {
-        match &self.0 {
-            None => write!(f, "-"),
-            Some(key) => write!(f, "{}", HexDigits(key)),
-        }
+/// A bit as a digit.
+fn bit_of(bit: bool) -> &'static str
+    ensures word { result.now ≡ bit_word bit }
+    ensures short { length result.now ≤ 1 }
+{
+    if bit { "1" } else { "0" }
+}
+
+/// The word for a form.
+fn form_of(form: Form) -> &'static str
+    ensures word { result.now ≡ form_word form }
+    ensures short { length result.now ≤ 5 }
+{
+    match form {
+        Form::Short => "short",
+        Form::Two => "two",
+        Form::Eight => "eight",
     }
 }
 
@@ -96,43 +132,14 @@ impl fmt::Display for Form {
     ghost output = { λ form. Some (form_word form) };
 
     fn fmt<W: fmt::Write>(&self, f: &mut fmt::Formatter<W>) -> fmt::Result {
-        match self {
-            Form::Short => write!(f, "short"),
-            Form::Two => write!(f, "two"),
-            Form::Eight => write!(f, "eight"),
-        }
+        write!(f, "{}", form_of(*self))
     }
-}
-
-/// The first bytes of a payload of some length.
-#[derive(Drop)]
-struct Data<'a> {
-    len: u64,
-    first: &'a [u8],
-}
-
-impl fmt::Display for Data<'_> {
-    ghost output = { λ data'. Some (data_word data'.len data'.first.now) };
-
-    fn fmt<W: fmt::Write>(&self, f: &mut fmt::Formatter<W>) -> fmt::Result {
-        if self.len == 0 {
-            return write!(f, "-");
-        }
-        let dots = if self.len > SHOWN as u64 { ".." } else { "" };
-        write!(f, "{}{}", HexDigits(self.first), dots)
-    }
-}
-
-/// A bit as a digit.
-fn bit_of(bit: bool) -> &'static str
-    ensures { result.now ≡ bit_word bit }
-{
-    if bit { "1" } else { "0" }
 }
 
 /// What a line adds where the frame is masked and should not be, or the other way round.
 fn mask_mark_of(from: Role, header: &Header) -> &'static str
-    ensures { result.now ≡ mask_mark from header.now.key }
+    ensures mark { result.now ≡ mask_mark from header.now.key }
+    ensures short { length result.now ≤ 6 }
 {
     match (from, header.key()) {
         (Role::Client, None) => " !mask",
@@ -144,7 +151,8 @@ fn mask_mark_of(from: Role, header: &Header) -> &'static str
 
 /// What a line adds where the header's form is longer than needed.
 fn form_mark_of(header: &Header) -> &'static str
-    ensures { result.now ≡ form_mark header.now.form header.now.len }
+    ensures mark { result.now ≡ form_mark header.now.form header.now.len }
+    ensures short { length result.now ≤ 6 }
 {
     if header.is_longer_than_needed() {
         " !form"

@@ -1,21 +1,24 @@
 //! The lines of a stream of frames (RFC 6455 section 5.2), from a reader to a writer.
 
-ghost use Rattle.std.specs.Prelude.{◌≡◌, ◌≤◌, take, false, IfOk, string_bytes};
+ghost use Rattle.std.specs.Prelude.{◌≡◌, ◌<◌, ◌≤◌, ◌+◌, ◌^◌, ℕ, List, [], ◌++◌, length, false, OnOk, IfOk, IfSome};
 ghost use Rattle.ws_frame.specs.Watching.{has_failed};
 ghost use Rattle.ws_frame.specs.Devices.{watched};
 ghost use Rattle.ws_frame.specs.Masking.{masked_payload};
-ghost use Rattle.ws_frame.specs.Frame.{WireFrame, IsWireFrame};
-ghost use Rattle.ws_frame.specs.Lines.{line_of, last_line, Shows, IsFairEnd};
-ghost use Rattle.ws_frame.specs.Showing.{IsFront, WritesLines, WritesText, end_after_input, end_of_stop};
+ghost use Rattle.ws_frame.specs.Lines.{line_with, last_line, Leaves, Shows, IsFairEnd};
+ghost use Rattle.ws_frame.specs.Showing.{CanGoOn, HasTold, ShowsPiece, ShowsNext, WritesSome, EndsWith, IsKept};
+ghost use Rattle.ws_frame.specs.declared.showing.ShowEnd.TheVariants.{NoMemory};
 
-use crate::devices::{InputEnd, Watched, read_input, write_whole};
+use crate::devices::{Watched, WriteFault, write_whole};
+use crate::first_bytes::FirstBytes;
 use crate::header::Header;
-use crate::line::{FrameLine, SHOWN};
-use crate::masking::mask;
-use crate::reading::{HeaderRead, read_header};
+use crate::line::{MAX_LINE, push_line};
+use crate::partial::{Partial, Taken};
 use crate::role::Role;
-use std::alloc::{AllocError, Global};
+use crate::room::{ROOM, Room};
 use std::io::{Read, Write};
+
+/// How many bytes one read asks for at most.
+const READ_SIZE: usize = 65536;
 
 /// How a run of `show` ended.
 #[derive(Clone, Copy, PartialEq, Eq)]
@@ -32,43 +35,8 @@ pub enum ShowEnd {
     ReadFault,
     /// A write answered an error or took nothing.
     WriteFault,
-    /// Memory ran out.
+    /// Memory ran out: `show` takes none, and never answers this.
     NoMemory,
-}
-
-/// Why nothing more can be written.
-#[derive(Clone, Copy)]
-enum Stop {
-    WriteFault,
-    NoMemory,
-}
-
-impl Stop {
-    /// How the run ends for it.
-    fn end(self) -> ShowEnd
-        ensures { result ≡ end_of_stop self }
-    {
-        match self {
-            Stop::WriteFault => ShowEnd::WriteFault,
-            Stop::NoMemory => ShowEnd::NoMemory,
-        }
-    }
-}
-
-/// What stands at the front of a stream.
-#[derive(Clone, Copy)]
-enum Front<'a> {
-    Nothing,
-    /// Part of a frame.
-    Part,
-    /// A header whose length has the top bit set.
-    BadLength,
-    /// A frame: its header, its payload as it stands on the wire, and how many bytes it takes.
-    Whole {
-        header: Header,
-        payload: &'a [u8],
-        used: usize,
-    },
 }
 
 /// Writes a line for each whole frame that the reader gives, in any form of header, and a last one
@@ -77,11 +45,10 @@ enum Front<'a> {
 /// most `budget` bytes are read; once so many are, nothing more is read and no last line is
 /// written. Nothing is judged but the masking and the form of the length.
 ///
-/// A bad length is answered also where the budget is used up or a read failed, and a failed read loses no
-/// line of a frame that was read. At `WriteFault` and at `NoMemory` a beginning of what was due is
-/// written.
+/// The lines of the frames that a read completes are written before the next read. A bad length ends
+/// the run at once, also where the budget is used up. At `WriteFault` a beginning of what was due is
+/// written, which has the lines of all but the last read. No memory is taken.
 pub fn show<R: Read, W: Write>(
-    alloc: Global,
     reader: &mut Watched<R>,
     writer: &mut Watched<W>,
     from: Role,
@@ -93,174 +60,230 @@ pub fn show<R: Read, W: Write>(
         (watched R.remaining reader.old reader.new) (watched W.contents writer.old writer.new) }
     ensures fair { IsFairEnd result
         (watched R.remaining reader.old reader.new) (watched W.contents writer.old writer.new) }
+    ensures memory { result ≡ NoMemory → ⊥ }
 {
-    let (input, input_end) = read_input(alloc, reader, Some(budget));
-    let left = match write_frame_lines(alloc, writer, from, input.as_slice()) {
-        Ok(left) => left,
-        Err(stop) => return stop.end(),
-    };
-    let end = end_for(left, input_end);
-    match write_last_line(alloc, writer, end) {
-        Ok(()) => end,
-        Err(stop) => stop.end(),
+    let mut room = [0; READ_SIZE];
+    let mut run = Run::new(from);
+    while run.taken < budget {
+        let want = (budget - run.taken).min(READ_SIZE as u64) as usize;
+        let buf = &mut room[..want];
+        let count = match reader.read(buf) {
+            Err(_) => return ShowEnd::ReadFault,
+            Ok(0) => {
+                let end = run.end_of_input();
+                return end_with(&mut run.lines, writer, end);
+            }
+            Ok(count) => count,
+        };
+        match run.show_piece(writer, &buf[..count]) {
+            Err(_) => return ShowEnd::WriteFault,
+            Ok(PieceEnd::BadLength) => {
+                let end = ShowEnd::BadLengthAt(run.offset);
+                return end_with(&mut run.lines, writer, end);
+            }
+            Ok(PieceEnd::Inside) => {}
+        }
     }
+    ShowEnd::Budget
 }
 
-/// How a run ends, by what is left after the whole frames and how the input ended.
-fn end_for(left: ShowEnd, input_end: InputEnd) -> ShowEnd
-    ensures { result ≡ end_after_input left input_end }
-{
-    match (left, input_end) {
-        (ShowEnd::BadLengthAt(place), _) => ShowEnd::BadLengthAt(place),
-        (left, InputEnd::End) => left,
-        (_, InputEnd::Budget) => ShowEnd::Budget,
-        (_, InputEnd::Fault) => ShowEnd::ReadFault,
-        (_, InputEnd::NoMemory) => ShowEnd::NoMemory,
-    }
+/// How a piece of the stream ended.
+#[derive(Clone, Copy)]
+enum PieceEnd {
+    /// Between two frames, or inside one.
+    Inside,
+    /// A header stands there whose length has the top bit set.
+    BadLength,
 }
 
-/// Writes the lines of the whole frames, and says what is left after them as the end that it would
-/// be: `Done`, `CutAt` or `BadLengthAt`.
-fn write_frame_lines<W: Write>(
-    alloc: Global,
-    writer: &mut Watched<W>,
+/// A run of `show`.
+#[derive(Drop)]
+struct Run {
     from: Role,
-    input: &[u8],
-) -> Result<ShowEnd, Stop>
-    requires { has_failed writer.old ≡ false }
-    ensures { WritesLines from input.now (watched W.contents writer.old writer.new) result }
-{
-    let mut at = 0;
-    loop {
-        match front_of(&input[at..]) {
-            Front::Nothing => return Ok(ShowEnd::Done),
-            Front::Part => return Ok(ShowEnd::CutAt(at as u64)),
-            Front::BadLength => return Ok(ShowEnd::BadLengthAt(at as u64)),
-            Front::Whole {
+    /// How many bytes of the stream were taken.
+    taken: u64,
+    /// The place of the frame under way.
+    offset: u64,
+    partial: Partial,
+    /// Lines that wait to be written.
+    lines: Room,
+}
+
+impl Run {
+    /// Nothing was taken.
+    fn new(from: Role) -> Run
+        ensures from { result.from ≡ from }
+        ensures begun { HasTold result [] [] }
+        ensures empty { result.lines ≡ [] }
+    {
+        Run {
+            from,
+            taken: 0,
+            offset: 0,
+            partial: Partial::new(),
+            lines: Room::new(),
+        }
+    }
+
+    /// Takes a piece of the stream, and writes the lines of the frames that it completes.
+    fn show_piece<W: Write>(
+        &mut self,
+        writer: &mut Watched<W>,
+        piece: &[u8],
+    ) -> Result<PieceEnd, WriteFault>
+        requires writer_works { has_failed writer.old ≡ false }
+        requires going { CanGoOn self.old }
+        requires count { self.old.taken + length piece.now < 2 ^ 64 }
+        ensures from { self.new.from ≡ self.old.from }
+        ensures shown { ShowsPiece self.old self.new piece.now (watched W.contents writer.old writer.new) result }
+    {
+        let mut at = 0;
+        while at < piece.len() {
+            let next = self.show_next(writer, &piece[at..])?;
+            match next {
+                None => {
+                    flush(&mut self.lines, writer)?;
+                    return Ok(PieceEnd::BadLength);
+                }
+                Some(used) => at += used,
+            }
+        }
+        flush(&mut self.lines, writer)?;
+        Ok(PieceEnd::Inside)
+    }
+
+    /// Takes at most the rest of one frame, and puts its line once it is whole. Answers how many bytes were taken, or
+    /// `None` at a bad length.
+    fn show_next<W: Write>(
+        &mut self,
+        writer: &mut Watched<W>,
+        piece: &[u8],
+    ) -> Result<Option<usize>, WriteFault>
+        requires writer_works { has_failed writer.old ≡ false }
+        requires going { CanGoOn self.old }
+        requires some { 0 < length piece.now }
+        requires count { self.old.taken + length piece.now < 2 ^ 64 }
+        ensures from { self.new.from ≡ self.old.from }
+        ensures used { IfOk result (λ found. IfSome found (λ used. (0 < used) × (used ≤ length piece.now)
+            × (self.new.taken ≡ self.old.taken + used))) }
+        ensures shown { ShowsNext self.old self.new piece.now (watched W.contents writer.old writer.new) result }
+    {
+        match self.partial.take(piece) {
+            Taken::Part(used) => {
+                self.taken += used as u64;
+                Ok(Some(used))
+            }
+            Taken::Whole {
                 header,
-                payload,
+                first,
                 used,
             } => {
-                write_frame_line(alloc, writer, from, at as u64, header, payload)?;
-                at += used;
+                put_line(
+                    &mut self.lines,
+                    writer,
+                    self.from,
+                    self.offset,
+                    header,
+                    first,
+                )?;
+                self.taken += used as u64;
+                self.offset = self.taken;
+                Ok(Some(used))
             }
+            Taken::BadLength => Ok(None),
+        }
+    }
+
+    /// How the run ends at the end of the input.
+    fn end_of_input(&self) -> ShowEnd
+        ensures { (rest : List ℕ) → IsKept rest self.now.partial → Leaves result self.now.offset rest }
+    {
+        if self.partial.is_empty() {
+            ShowEnd::Done
+        } else {
+            ShowEnd::CutAt(self.offset)
         }
     }
 }
 
-/// What stands at the front of the bytes.
-fn front_of(bytes: &[u8]) -> Front<'_>
-    ensures { IsFront bytes.now result }
-{
-    if bytes.is_empty() {
-        return Front::Nothing;
-    }
-    match read_header(bytes) {
-        HeaderRead::Need => Front::Part,
-        HeaderRead::BadLength { .. } => Front::BadLength,
-        HeaderRead::Got { header, used } => {
-            let rest = &bytes[used..];
-            if (rest.len() as u64) < header.payload_len() {
-                return Front::Part;
-            }
-            let len = header.payload_len() as usize;
-            Front::Whole {
-                header,
-                payload: &rest[..len],
-                used: used + len,
-            }
-        }
-    }
-}
-
-/// Writes the line of a frame that begins at `offset`. `payload` is as it stands on the wire.
-fn write_frame_line<W: Write>(
-    alloc: Global,
+/// Puts the line of a frame behind those that wait, which are written first where there is no room for one more.
+/// `first` are the first bytes of the payload as they stand on the wire.
+fn put_line<W: Write>(
+    lines: &mut Room,
     writer: &mut Watched<W>,
     from: Role,
     offset: u64,
     header: Header,
-    payload: &[u8],
-) -> Result<(), Stop>
+    first: FirstBytes,
+) -> Result<(), WriteFault>
     requires { has_failed writer.old ≡ false }
-    ensures { (x : WireFrame) → IsWireFrame x → x.header ≡ header → payload.now ≡ masked_payload header.key x.payload
-        → WritesText (line_of from offset x) (watched W.contents writer.old writer.new) result }
+    ensures { WritesSome (lines.old ++ line_with from offset header (masked_payload header.key first)) lines.new
+        (watched W.contents writer.old writer.new) result }
 {
-    let Ok(text) = frame_text(alloc, from, offset, header, payload) else {
-        return Err(Stop::NoMemory);
-    };
-    write_text(writer, text.as_str())
+    make_room(lines, writer)?;
+    let shown = unmasked(header.key(), first);
+    push_line(lines, from, offset, &header, shown.as_slice());
+    Ok(())
 }
 
-/// The line of a frame that begins at `offset`. `payload` is as it stands on the wire.
-fn frame_text(
-    alloc: Global,
-    from: Role,
-    offset: u64,
-    header: Header,
-    payload: &[u8],
-) -> Result<String, AllocError>
-    ensures { IfOk result (λ text. (x : WireFrame) → x.header ≡ header
-        → payload.now ≡ masked_payload header.key x.payload → string_bytes text ≡ line_of from offset x) }
+/// Makes room for one more line: those that wait are written where there is none.
+fn make_room<W: Write>(lines: &mut Room, writer: &mut Watched<W>) -> Result<(), WriteFault>
+    requires { has_failed writer.old ≡ false }
+    ensures written { WritesSome lines.old lines.new (watched W.contents writer.old writer.new) result }
+    ensures room { OnOk result (length lines.new + 200 ≤ 65536) }
 {
-    let (room, shown) = first_bytes(header.key(), payload);
-    let line = FrameLine {
-        from,
-        offset,
-        header,
-        first: &room[..shown],
-    };
-    format!(in alloc; "{line}")
+    if ROOM - lines.len() < MAX_LINE {
+        return flush(lines, writer);
+    }
+    Ok(())
 }
 
-/// The first bytes of a payload, unmasked, and how many they are.
-fn first_bytes(key: Option<[u8; 4]>, payload: &[u8]) -> ([u8; SHOWN], usize)
-    ensures bound { result.1 ≤ 16 }
-    ensures bytes { take result.1 result.0 ≡ masked_payload key (take 16 payload.now) }
+/// The first bytes of a payload, unmasked.
+fn unmasked(key: Option<[u8; 4]>, first: FirstBytes) -> FirstBytes
+    ensures { result ≡ masked_payload key first }
 {
-    let mut room = [0; SHOWN];
-    let shown = payload.len().min(SHOWN);
-    let first = &mut room[..shown];
-    first.copy_from_slice(&payload[..shown]);
+    let mut shown = first;
     if let Some(key) = key {
-        mask(key, 0, first);
+        shown.unmask(key);
     }
-    (room, shown)
+    shown
 }
 
-/// Writes the line for what is left, where this end has one.
-fn write_last_line<W: Write>(
-    alloc: Global,
-    writer: &mut Watched<W>,
-    end: ShowEnd,
-) -> Result<(), Stop>
+/// Writes the lines that wait.
+fn flush<W: Write>(lines: &mut Room, writer: &mut Watched<W>) -> Result<(), WriteFault>
     requires { has_failed writer.old ≡ false }
-    ensures { WritesText (last_line end) (watched W.contents writer.old writer.new) result }
+    ensures written { WritesSome lines.old lines.new (watched W.contents writer.old writer.new) result }
+    ensures empty { OnOk result (lines.new ≡ []) }
 {
-    let Ok(text) = last_text(alloc, end) else {
-        return Err(Stop::NoMemory);
+    write_whole(writer, lines.as_slice())?;
+    lines.clear();
+    Ok(())
+}
+
+/// Writes the line for this end, if it has one, and answers how the run ended.
+fn end_with<W: Write>(lines: &mut Room, writer: &mut Watched<W>, end: ShowEnd) -> ShowEnd
+    requires works { has_failed writer.old ≡ false }
+    requires empty { lines.old ≡ [] }
+    ensures { EndsWith end (watched W.contents writer.old writer.new) result }
+{
+    push_last_line(lines, end);
+    match flush(lines, writer) {
+        Ok(()) => end,
+        Err(_) => ShowEnd::WriteFault,
+    }
+}
+
+/// Puts the line for this end, if it has one.
+fn push_last_line(lines: &mut Room, end: ShowEnd)
+    requires { lines.old ≡ [] }
+    ensures { lines.new ≡ last_line end }
+{
+    let (words, place) = match end {
+        ShowEnd::CutAt(place) => (b"cut at ".as_slice(), place),
+        ShowEnd::BadLengthAt(place) => (b"bad length at ".as_slice(), place),
+        _ => return,
     };
-    write_text(writer, text.as_str())
-}
-
-/// The line for what is left, or nothing where this end has none.
-fn last_text(alloc: Global, end: ShowEnd) -> Result<String, AllocError>
-    ensures { IfOk result (λ text. string_bytes text ≡ last_line end) }
-{
-    match end {
-        ShowEnd::CutAt(place) => format!(in alloc; "cut at {place}\n"),
-        ShowEnd::BadLengthAt(place) => format!(in alloc; "bad length at {place}\n"),
-        _ => Ok(String::new(alloc)),
-    }
-}
-
-/// Writes all of the text, or a beginning of it.
-fn write_text<W: Write>(writer: &mut Watched<W>, text: &str) -> Result<(), Stop>
-    requires { has_failed writer.old ≡ false }
-    ensures { WritesText text.now (watched W.contents writer.old writer.new) result }
-{
-    match write_whole(writer, text.as_bytes()) {
-        Ok(()) => Ok(()),
-        Err(_) => Err(Stop::WriteFault),
-    }
+    lines.push(words);
+    lines.push_decimal(place);
+    lines.push(b"\n");
 }

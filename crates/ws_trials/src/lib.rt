@@ -9,6 +9,8 @@ mod heads;
 #[cfg(test)]
 mod inputs;
 #[cfg(test)]
+mod masks;
+#[cfg(test)]
 mod running;
 #[cfg(test)]
 mod runs;

@@ -1,7 +1,8 @@
 //! `show` over devices that fail: what was written, how it ended, and how often it asked.
 
-use crate::comparing::{same_answer, same_bytes, same_number};
+use crate::comparing::{same_answer, same_bytes, same_lengths, same_number};
 use std::alloc::Global;
+use std::io::Read;
 use std::process::Abort;
 use ws_frame::devices::{ByteReader, ByteWriter, Counting, Failing, FullWriter};
 use ws_frame::{Role, ShowEnd, Watched, show};
@@ -38,7 +39,7 @@ struct AfterReads {
 fn after_reads(alloc: Global, failing: Failing) -> AfterReads {
     let mut reader = Watched::new(ByteReader::new(FRAMES, failing));
     let mut writer = Watched::new(Vec::new(alloc));
-    let end = show(alloc, &mut reader, &mut writer, Role::Server, BUDGET);
+    let end = show(&mut reader, &mut writer, Role::Server, BUDGET);
     let failed = reader.failed();
     AfterReads {
         end,
@@ -103,7 +104,7 @@ struct AfterWrites {
 fn after_writes(alloc: Global, failing: Failing) -> AfterWrites {
     let mut reader = Watched::new(CUT_FRAMES);
     let mut writer = Watched::new(ByteWriter::new(alloc, failing));
-    let end = show(alloc, &mut reader, &mut writer, Role::Server, BUDGET);
+    let end = show(&mut reader, &mut writer, Role::Server, BUDGET);
     let failed = writer.failed();
     let device = writer.into_inner();
     AfterWrites {
@@ -156,7 +157,7 @@ fn after_full(alloc: Global, room: usize) -> AfterWrites {
     let mut reader = Watched::new(CUT_FRAMES);
     let full = FullWriter::new(alloc, room);
     let mut writer = Watched::new(Counting::new(alloc, full));
-    let end = show(alloc, &mut reader, &mut writer, Role::Server, BUDGET);
+    let end = show(&mut reader, &mut writer, Role::Server, BUDGET);
     let failed = writer.failed();
     let device = writer.into_inner();
     AfterWrites {
@@ -183,4 +184,27 @@ fn room_for_the_lines(rt: HostRuntime) {
     same_answer(&rt, 0, after.end == ShowEnd::CutAt(7), true);
     same_answer(&rt, 0, after.failed, false);
     same_bytes(&rt, 0, after.written.as_slice(), CUT_LINES);
+}
+
+/// The lengths of the writes of a run, one a call.
+fn writes_of<R: Read>(alloc: Global, reader: R) -> Vec<usize> {
+    let mut reader = Watched::new(reader);
+    let mut writer = Watched::new(Counting::new(alloc, Vec::new(alloc)));
+    show(&mut reader, &mut writer, Role::Server, BUDGET);
+    writer.into_inner().lengths
+}
+
+/// The lines of the frames that one read brings share a write.
+#[test]
+fn lines_share_a_write(rt: HostRuntime) {
+    let writes = writes_of(rt.alloc(), FRAMES);
+    same_lengths(&rt, 0, writes.as_slice(), &[BOTH_LINES.len()]);
+}
+
+/// The line of a frame is written before the next read.
+#[test]
+fn lines_do_not_wait(rt: HostRuntime) {
+    let writes = writes_of(rt.alloc(), ByteReader::new(FRAMES, Failing::Never));
+    let second = BOTH_LINES.len() - FIRST_LINE.len();
+    same_lengths(&rt, 0, writes.as_slice(), &[FIRST_LINE.len(), second]);
 }

@@ -65,7 +65,7 @@ fn run_task<R: Read, W: Write>(
         (watched W.contents writer.old writer.new) }
 {
     match task {
-        Task::Show(options) => run_show(alloc, options, reader, writer),
+        Task::Show(options) => run_show(options, reader, writer),
         Task::Pair(options) => run_moves(alloc, options, reader, writer),
         Task::Head => run_head(alloc, reader, writer),
         Task::Session(options) => run_session(alloc, options, reader, writer),

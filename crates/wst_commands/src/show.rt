@@ -7,14 +7,12 @@ ghost use Rattle.wst_commands.specs.Show.{RunsShow, shown};
 
 use crate::exit::Exit;
 use crate::fault::Fault;
-use std::alloc::Global;
 use std::io::{Read, Write};
 use ws_frame::{ShowEnd, Watched, show};
 use wst_words::ShowOptions;
 
 /// Shows the frames that the reader gives.
 pub fn run_show<R: Read, W: Write>(
-    alloc: Global,
     options: ShowOptions,
     reader: &mut Watched<R>,
     writer: &mut Watched<W>,
@@ -24,7 +22,7 @@ pub fn run_show<R: Read, W: Write>(
     ensures { RunsShow options result (watched R.remaining reader.old reader.new)
         (watched W.contents writer.old writer.new) }
 {
-    let end = show(alloc, reader, writer, options.from, options.budget);
+    let end = show(reader, writer, options.from, options.budget);
     exit_of(end)
 }
 

@@ -1,8 +1,7 @@
-use Rattle.std.proofs.Common.{◌≡◌, ◌-◌, ◌∙◌, List, ℕ, sym, subst, arith, length}
-use Rattle.ws_frame.specs.Masking.{masked, IsMasked}
+use Rattle.std.proofs.Common.{◌∙◌, List, ℕ, sym, subst, arith}
+use Rattle.ws_frame.specs.Masking.{IsMasked}
 use Rattle.ws_frame.proofs.Masks.{masked_is_rule, lanes_more, lanes_done}
 use Rattle.ws_frame.proofs.masking.mask.Goals as goal
-use borrow.Rule.Slice.PartMut.{put_mid}
 
 pub loop-bytes-preserved : goal.loop-bytes-preserved
 loop-bytes-preserved c = (

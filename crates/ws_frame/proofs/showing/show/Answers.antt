@@ -1,45 +1,136 @@
-use Rattle.std.proofs.Common.{◌++◌, List, ℕ, subst}
-use Rattle.std.proofs.KnownBytes.{Appends-trans}
-use Rattle.ws_frame.specs.Lines.{last_line}
+use Rattle.std.proofs.Common.{rules, arith, ◌≡◌, ◌∙◌, ◌<◌, ◌++◌, Bool, length, take, ap, subst}
+use Rattle.std.specs.Prelude.{◌||◌, false}
+use Rattle.std.proofs.KnownBytes.{Appends-trans, Consumes-kept, Consumes-trans}
+use Rattle.ws_frame.specs.declared.role.Role.{Role}
+use Rattle.ws_frame.specs.declared.showing.ShowEnd.TheVariants.{BadLengthAt}
+use Rattle.ws_frame.specs.declared.showing.PieceEnd.TheVariants as piece_end
+use Rattle.ws_frame.specs.Devices.{watched}
 use Rattle.ws_frame.specs.Showing.{IsLeft, BeginsLines}
-use Rattle.ws_frame.proofs.Ends.{reads_within, stopped, ends, last_line_begun}
+use Rattle.ws_frame.proofs.Runs.{piece_is, stands_written, lines_of_frames, left_at_end, read_nothing, piece_within, may_end, earlier_all, earlier_lines, due_on, ended}
 use Rattle.ws_frame.proofs.showing.show.Goals as goal
 
 pub returns-in-Err-clause-lines : goal.returns-in-Err-clause-lines
 returns-in-Err-clause-lines g c =
-    let read = c.read_input-input.result.0.items in
-    let r = reads_within c.args.budget c.read_input-input.result.1 read _ c.read_input-input.ensures in
-    let (written, appended, why, begins) = c.in-Err.ensures in
-    let of_read : BeginsLines c.args.from read written = subst (λ (t : List ℕ). BeginsLines c.args.from t written) c.as_slice.ensures.value begins in
-    (read, written, r.0, appended, r.1, stopped c.args.from c.args.budget c.in-Err.stop c.end.result _ read written c.end.ensures of_read)
+    let run = c.loop-run.run in
+    let (read, written, consumed, appended, t) = c.loop-run.invariant.told in
+    let s = stands_written run.from c.args.from read run.offset run.partial written run.lines t.stands c.loop-run.invariant.none_wait c.loop-run.invariant.from in
+    let below : length read < c.args.budget = omega (arith, t.count, c.loop-run-test.true) in
+    (read, written, Consumes-kept _ _ _ _ consumed c.in-Err.ensures.bytes, appended, omega (arith, below), (lines_of_frames c.args.from read run.offset run.partial written s, below))
 
-pub returns-in-Ok-write_last_line-clause-lines : goal.returns-in-Ok-write_last_line-clause-lines
-returns-in-Ok-write_last_line-clause-lines g c =
-    let read = c.read_input-input.result.0.items in
-    let r = reads_within c.args.budget c.read_input-input.result.1 read _ c.read_input-input.ensures in
-    let (written, appended, still, left) = c.in-Ok.ensures in
-    let of_read : IsLeft c.args.from read c.in-Ok.left written = subst (λ (t : List ℕ). IsLeft c.args.from t c.in-Ok.left written) c.as_slice.ensures.value left in
-    let last = c.in-Ok-write_last_line.ensures.0 in (
-      read,
-      written ++ last_line c.end_for-end.result,
-      r.0,
-      Appends-trans _ _ _ _ _ appended last,
-      r.1,
-      ends c.args.from c.args.budget c.in-Ok.left c.read_input-input.result.1 c.end_for-end.result read written _ c.end_for-end.ensures c.read_input-input.ensures of_read,
+pub returns-in-Ok-eq0-clause-lines : goal.returns-in-Ok-eq0-clause-lines
+returns-in-Ok-eq0-clause-lines g c =
+    let run = c.loop-run.run in
+    let (read, written, consumed, appended, t) = c.loop-run.invariant.told in
+    let s = stands_written run.from c.args.from read run.offset run.partial written run.lines t.stands c.loop-run.invariant.none_wait c.loop-run.invariant.from in
+    let below : length read < c.args.budget = omega (arith, t.count, c.loop-run-test.true) in
+    let input = watched g.R.Read.remaining c.args.reader.now c.read.new.self in
+    let output = watched g.W.Write.contents c.loop-run.writer c.end_with.new.writer in
+    let leaves = c.end_of_input-end.ensures s.rest s.is_kept in
+    let may = may_end c.end_of_input-end.result run.offset c.args.budget read s.rest input leaves below (c.in-Ok-eq0.ensures.failed ∙ ap (λ (b : Bool). b || false) c.loop-run.invariant.reads)
+    (c.in-Ok-eq0.ensures.bytes.1 (search rules) (search rules)) in
+    let left = left_at_end c.args.from read run.offset run.partial written c.end_of_input-end.result s leaves in
+    let earlier = earlier_all c.args.from read written (lines_of_frames c.args.from read run.offset run.partial written s) in
+    let e = ended c.args.from c.args.budget c.end_of_input-end.result c.end_with.result read written input output may left earlier c.end_with.ensures in
+    (read, written ++ e.last, read_nothing _ _ _ read c.read.new.buf _ (search rules) consumed c.in-Ok-eq0.ensures.bytes.0, Appends-trans _ _ _ _ _ appended e.was_written, omega (arith, below), e.shown)
+
+pub returns-in-Err-show_piece-clause-lines : goal.returns-in-Err-show_piece-clause-lines
+returns-in-Err-show_piece-clause-lines g c =
+    let run = c.loop-run.run in
+    let (read, written, consumed, appended, t) = c.loop-run.invariant.told in
+    let s = stands_written run.from c.args.from read run.offset run.partial written run.lines t.stands c.loop-run.invariant.none_wait c.loop-run.invariant.from in
+    let piece = take c.in-Ok.count c.read.new.buf in
+    let (more, wrote, (failed, begins)) = c.in-Err-show_piece.ensures.shown read written t in
+    let from : c.show_piece.new.self.from ≡ c.args.from = c.show_piece.ensures.from ∙ c.loop-run.invariant.from in
+    let begun = subst (λ (r : Role). BeginsLines r (read ++ piece) (written ++ more)) from begins in
+    let w = piece_within run.taken c.args.budget c.in-Ok.count c.min-want.result read c.read.new.buf t.count c.in-Ok.ensures.bound.0 (search rules) c.min-want.ensures c.loop-run-test.true in (
+      read ++ piece,
+      written ++ more,
+      Consumes-trans _ _ _ _ _ consumed c.in-Ok.ensures.bytes.0,
+      Appends-trans _ _ _ _ _ appended wrote,
+      w.0,
+      (due_on c.args.from c.args.budget _ (read ++ piece) (written ++ more) begun, earlier_lines c.args.from read piece written more w.1 (lines_of_frames c.args.from read run.offset run.partial written s)),
     )
+
+pub returns-in-Err-show_piece-clause-fair : goal.returns-in-Err-show_piece-clause-fair
+returns-in-Err-show_piece-clause-fair g c =
+    let (read, written, consumed, appended, t) = c.loop-run.invariant.told in
+    let (more, wrote, (failed, begins)) = c.in-Err-show_piece.ensures.shown read written t in
+    failed
+
+pub end_with-requires-in-Ok-BadLength-clause-works : goal.end_with-requires-in-Ok-BadLength-clause-works
+end_with-requires-in-Ok-BadLength-clause-works g c =
+    let (read, written, consumed, appended, t) = c.loop-run.invariant.told in
+    let output = watched g.W.Write.contents c.loop-run.writer c.show_piece.new.writer in
+    let shown = piece_is c.loop-run.run c.show_piece.new.self (take c.in-Ok.count c.read.new.buf) output c.in-Ok-BadLength.field-0 piece_end.BadLength c.in-Ok-BadLength.field-0-is c.in-Ok-BadLength.ensures.shown in
+    let (more, wrote, (works, none, left)) = shown read written t in
+    works
+
+pub end_with-requires-in-Ok-BadLength-clause-empty : goal.end_with-requires-in-Ok-BadLength-clause-empty
+end_with-requires-in-Ok-BadLength-clause-empty g c =
+    let (read, written, consumed, appended, t) = c.loop-run.invariant.told in
+    let output = watched g.W.Write.contents c.loop-run.writer c.show_piece.new.writer in
+    let shown = piece_is c.loop-run.run c.show_piece.new.self (take c.in-Ok.count c.read.new.buf) output c.in-Ok-BadLength.field-0 piece_end.BadLength c.in-Ok-BadLength.field-0-is c.in-Ok-BadLength.ensures.shown in
+    let (more, wrote, (works, none, left)) = shown read written t in
+    none
+
+pub returns-in-Ok-BadLength-clause-lines : goal.returns-in-Ok-BadLength-clause-lines
+returns-in-Ok-BadLength-clause-lines g c =
+    let run = c.loop-run.run in
+    let new = c.show_piece.new.self in
+    let (read, written, consumed, appended, t) = c.loop-run.invariant.told in
+    let s = stands_written run.from c.args.from read run.offset run.partial written run.lines t.stands c.loop-run.invariant.none_wait c.loop-run.invariant.from in
+    let piece = take c.in-Ok.count c.read.new.buf in
+    let output = watched g.W.Write.contents c.loop-run.writer c.show_piece.new.writer in
+    let shown = piece_is run new piece output c.in-Ok-BadLength.field-0 piece_end.BadLength c.in-Ok-BadLength.field-0-is c.in-Ok-BadLength.ensures.shown in
+    let (more, wrote, (works, none, left)) = shown read written t in
+    let from : new.from ≡ c.args.from = c.show_piece.ensures.from ∙ c.loop-run.invariant.from in
+    let is_left = subst (λ (r : Role). IsLeft r (read ++ piece) (BadLengthAt new.offset) (written ++ more)) from left in
+    let w = piece_within run.taken c.args.budget c.in-Ok.count c.min-want.result read c.read.new.buf t.count c.in-Ok.ensures.bound.0 (search rules) c.min-want.ensures c.loop-run-test.true in
+    let earlier = earlier_lines c.args.from read piece written more w.1 (lines_of_frames c.args.from read run.offset run.partial written s) in
+    let input = watched g.R.Read.remaining c.args.reader.now c.read.new.self in
+    let last = watched g.W.Write.contents c.show_piece.new.writer c.end_with-in-Ok-BadLength.new.writer in
+    let e = ended c.args.from c.args.budget (BadLengthAt new.offset) c.end_with-in-Ok-BadLength.result (read ++ piece) (written ++ more) input last tt is_left earlier c.end_with-in-Ok-BadLength.ensures in (
+      read ++ piece,
+      (written ++ more) ++ e.last,
+      Consumes-trans _ _ _ _ _ consumed c.in-Ok.ensures.bytes.0,
+      Appends-trans _ _ _ _ _ (Appends-trans _ _ _ _ _ appended wrote) e.was_written,
+      w.0,
+      e.shown,
+    )
+
+pub loop-run-smaller : goal.loop-run-smaller
+loop-run-smaller g c =
+    let run = c.loop-run.run in
+    let (read, written, consumed, appended, t) = c.loop-run.invariant.told in
+    let piece = take c.in-Ok.count c.read.new.buf in
+    let output = watched g.W.Write.contents c.loop-run.writer c.show_piece.new.writer in
+    let shown = piece_is run c.show_piece.new.self piece output c.in-Ok-Inside.field-0 piece_end.Inside c.in-Ok-Inside.field-0-is c.in-Ok-Inside.ensures.shown in
+    let (more, wrote, (works, none, after)) = shown read written t in
+    let w = piece_within run.taken c.args.budget c.in-Ok.count c.min-want.result read c.read.new.buf t.count c.in-Ok.ensures.bound.0 (search rules) c.min-want.ensures c.loop-run-test.true in
+    omega (arith, after.count, w.2, c.in-Ok.count-test, c.loop-run-test.true)
+
+pub loop-run-preserved : goal.loop-run-preserved
+loop-run-preserved g c =
+    let run = c.loop-run.run in
+    let (read, written, consumed, appended, t) = c.loop-run.invariant.told in
+    let piece = take c.in-Ok.count c.read.new.buf in
+    let output = watched g.W.Write.contents c.loop-run.writer c.show_piece.new.writer in
+    let shown = piece_is run c.show_piece.new.self piece output c.in-Ok-Inside.field-0 piece_end.Inside c.in-Ok-Inside.field-0-is c.in-Ok-Inside.ensures.shown in
+    let (more, wrote, (works, none, after)) = shown read written t in
+    let w = piece_within run.taken c.args.budget c.in-Ok.count c.min-want.result read c.read.new.buf t.count c.in-Ok.ensures.bound.0 (search rules) c.min-want.ensures c.loop-run-test.true in
+    record {
+      reads = c.in-Ok.ensures.failed ∙ ap (λ (b : Bool). b || false) c.loop-run.invariant.reads;
+      writes = works;
+      from = c.show_piece.ensures.from ∙ c.loop-run.invariant.from;
+      within = omega (arith, after.count, w.0);
+      none_wait = none;
+      told = (read ++ piece, written ++ more, Consumes-trans _ _ _ _ _ consumed c.in-Ok.ensures.bytes.0, Appends-trans _ _ _ _ _ appended wrote, after);
+    }
 
 pub returns-clause-lines : goal.returns-clause-lines
 returns-clause-lines g c =
-    let read = c.read_input-input.result.0.items in
-    let r = reads_within c.args.budget c.read_input-input.result.1 read _ c.read_input-input.ensures in
-    let (written, appended, still, left) = c.in-Ok.ensures in
-    let of_read : IsLeft c.args.from read c.in-Ok.left written = subst (λ (t : List ℕ). IsLeft c.args.from t c.in-Ok.left written) c.as_slice.ensures.value left in
-    let (front, more, parts, last, why) = c.in-Err-write_last_line.ensures in (
-      read,
-      written ++ front,
-      r.0,
-      Appends-trans _ _ _ _ _ appended last,
-      r.1,
-      last_line_begun c.args.from c.args.budget c.in-Ok.left c.read_input-input.result.1 c.in-Err-write_last_line.stop c.end-in-Err-write_last_line.result c.end_for-end.result read written front more _
-          c.end_for-end.ensures c.read_input-input.ensures of_read parts c.end-in-Err-write_last_line.ensures,
-    )
+    let run = c.loop-run.run in
+    let (read, written, consumed, appended, t) = c.loop-run.invariant.told in
+    let s = stands_written run.from c.args.from read run.offset run.partial written run.lines t.stands c.loop-run.invariant.none_wait c.loop-run.invariant.from in
+    let spent : length read ≡ c.args.budget = omega (arith, t.count, c.loop-run.invariant.within, c.loop-run-test.false) in
+    (read, written, consumed, appended, omega (arith, spent), (lines_of_frames c.args.from read run.offset run.partial written s, spent))

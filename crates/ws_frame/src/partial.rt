@@ -1,0 +1,129 @@
+//! The frame under way: what is kept of one that is not whole (RFC 6455 section 5.2).
+
+ghost use Rattle.std.specs.Prelude.{◌≡◌, ◌<◌, [], List, ℕ, length, IsTrue, ◌↔◌, Some, None};
+ghost use Rattle.ws_frame.specs.Header.{AreBytes};
+ghost use Rattle.ws_frame.specs.Showing.{IsKept, IsUnderWay, UsesSome, IsTaken, BeginsPayload};
+
+use crate::first_bytes::FirstBytes;
+use crate::header::Header;
+use crate::reading::{HeaderRead, read_header};
+use std::mem;
+
+/// What is kept of a frame that is not whole. Between two frames nothing is.
+#[derive(Drop)]
+pub struct Partial {
+    /// The header, once it is whole.
+    pub header: Option<Header>,
+    /// The bytes of the header until it is whole, and then the first bytes of the payload as they stand on the wire.
+    pub first: FirstBytes,
+    /// How many bytes of the payload are still to come.
+    pub to_come: u64,
+}
+
+/// What came of taking bytes.
+#[derive(Drop)]
+pub enum Taken {
+    /// So many were used, and no frame is whole.
+    Part(usize),
+    /// So many were used, and a frame is whole: its header, and the first bytes of its payload on the wire.
+    Whole {
+        header: Header,
+        first: FirstBytes,
+        used: usize,
+    },
+    /// A header stands there whose length has the top bit set.
+    BadLength,
+}
+
+impl Partial {
+    /// Nothing of a frame.
+    pub fn new() -> Partial
+        ensures { IsKept [] result }
+    {
+        Partial {
+            header: None,
+            first: FirstBytes::new(),
+            to_come: 0,
+        }
+    }
+
+    /// Whether nothing of a frame is kept: the stream stands between two frames.
+    pub fn is_empty(&self) -> bool
+        ensures { (rest : List ℕ) → IsKept rest self.now → (IsTrue result ↔ (rest ≡ [])) }
+    {
+        self.header.is_none() && self.first.as_slice().is_empty()
+    }
+
+    /// Takes at most the rest of one frame: of a header, or of a payload, which is skipped.
+    pub fn take(&mut self, piece: &[u8]) -> Taken
+        requires under_way { IsUnderWay self.old }
+        requires some { 0 < length piece.now }
+        ensures used { UsesSome piece.now result }
+        ensures taken { (rest : List ℕ) → AreBytes rest → IsKept rest self.old → IsTaken rest piece.now self.new result }
+    {
+        match self.header {
+            None => self.take_header(piece),
+            Some(header) => self.take_payload(header, piece),
+        }
+    }
+
+    /// Takes bytes of the header.
+    fn take_header(&mut self, piece: &[u8]) -> Taken
+        requires header { self.old.header ≡ None }
+        requires under_way { IsUnderWay self.old }
+        requires some { 0 < length piece.now }
+        ensures used { UsesSome piece.now result }
+        ensures taken { (rest : List ℕ) → AreBytes rest → IsKept rest self.old → IsTaken rest piece.now self.new result }
+    {
+        let before = self.first.as_slice().len();
+        self.first.push(piece);
+        match read_header(self.first.as_slice()) {
+            HeaderRead::Need => Taken::Part(piece.len()),
+            HeaderRead::BadLength { .. } => Taken::BadLength,
+            HeaderRead::Got { header, used } => self.begin_payload(header, used - before),
+        }
+    }
+
+    /// The header is whole.
+    fn begin_payload(&mut self, header: Header, used: usize) -> Taken
+        ensures { BeginsPayload header used self.new result }
+    {
+        if header.payload_len() == 0 {
+            *self = Partial::new();
+            return Taken::Whole {
+                header,
+                first: FirstBytes::new(),
+                used,
+            };
+        }
+        *self = Partial {
+            header: Some(header),
+            first: FirstBytes::new(),
+            to_come: header.payload_len(),
+        };
+        Taken::Part(used)
+    }
+
+    /// Takes bytes of the payload.
+    fn take_payload(&mut self, header: Header, piece: &[u8]) -> Taken
+        requires header { self.old.header ≡ Some header }
+        requires under_way { IsUnderWay self.old }
+        requires some { 0 < length piece.now }
+        ensures used { UsesSome piece.now result }
+        ensures taken { (rest : List ℕ) → AreBytes rest → IsKept rest self.old → IsTaken rest piece.now self.new result }
+    {
+        let used = self.to_come.min(piece.len() as u64) as usize;
+        self.first.push(&piece[..used]);
+        self.to_come -= used as u64;
+        if self.to_come > 0 {
+            return Taken::Part(used);
+        }
+        let first = mem::replace(&mut self.first, FirstBytes::new());
+        self.header = None;
+        Taken::Whole {
+            header,
+            first,
+            used,
+        }
+    }
+}

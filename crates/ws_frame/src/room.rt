@@ -1,0 +1,106 @@
+//! A fixed room for lines that wait to be written.
+
+ghost use Rattle.std.specs.Prelude.{◌≡◌, ◌≤◌, ◌<◌, ◌+◌, ◌*◌, [], ◌++◌, length, false, decimal};
+ghost use Rattle.std.specs.Fmt.{digit_glyph};
+ghost use Rattle.ws_frame.specs.Lines.{hex};
+
+use itoa::Buffer;
+use std::marker::Model;
+
+/// How many bytes a room holds.
+pub const ROOM: usize = 65536;
+
+/// Bytes in a fixed room: contracts see the list of them.
+#[derive(Drop)]
+pub struct Room {
+    bytes: [u8; ROOM],
+    len: usize,
+}
+
+impl Model for Room {
+    ghost use Rattle.std.specs.Prelude.{List, ℕ, take, ◌≤◌};
+
+    ghost Value = { List ℕ };
+
+    ghost view = { λ room. take room.len room.bytes };
+
+    ghost invariant = { λ room. room.len ≤ 65536 };
+}
+
+impl Room {
+    /// An empty room.
+    pub fn new() -> Room
+        ensures { result ≡ [] }
+    {
+        Room {
+            bytes: [0; ROOM],
+            len: 0,
+        }
+    }
+
+    /// How many bytes stand in it.
+    pub fn len(&self) -> usize
+        ensures count { result ≡ length self.now }
+        ensures bound { result ≤ 65536 }
+    {
+        self.len
+    }
+
+    /// The bytes that stand in it.
+    pub fn as_slice(&self) -> &[u8]
+        ensures { result.now ≡ self.now }
+    {
+        &self.bytes[..self.len]
+    }
+
+    /// Takes everything out of it.
+    pub fn clear(&mut self)
+        ensures { self.new ≡ [] }
+    {
+        self.len = 0;
+    }
+
+    /// Puts bytes behind those that stand in it.
+    pub fn push(&mut self, bytes: &[u8])
+        requires { length self.old + length bytes.now ≤ 65536 }
+        ensures pushed { self.new ≡ self.old ++ bytes.now }
+        ensures len { length self.new ≡ length self.old + length bytes.now }
+    {
+        let end = self.len + bytes.len();
+        self.bytes[self.len..end].copy_from_slice(bytes);
+        self.len = end;
+    }
+
+    /// Puts a number behind them, in decimal digits.
+    pub fn push_decimal(&mut self, number: u64)
+        requires { length self.old + 20 ≤ 65536 }
+        ensures pushed { self.new ≡ self.old ++ decimal number }
+        ensures len { length self.new ≤ length self.old + 20 }
+    {
+        let mut digits = Buffer::new();
+        self.push(digits.format(number).as_bytes());
+    }
+
+    /// Puts the digits of bytes behind them, two a byte.
+    pub fn push_hex(&mut self, bytes: &[u8])
+        requires { length self.old + 2 * length bytes.now ≤ 65536 }
+        ensures pushed { self.new ≡ self.old ++ hex bytes.now }
+        ensures len { length self.new ≡ length self.old + 2 * length bytes.now }
+    {
+        for byte in bytes {
+            self.push(&[digit_of(byte / 16), digit_of(byte % 16)]);
+        }
+    }
+}
+
+/// The digit of half a byte.
+fn digit_of(half: u8) -> u8
+    requires { half < 16 }
+    ensures { result ≡ digit_glyph false half }
+{
+    if half < 10 {
+        b'0' + half
+    } else {
+        b'a' - 10 + half
+    }
+}
