@@ -3,6 +3,8 @@
 //! folder `rows`, and its `run` compares the answers with those that are wanted.
 #![tactic(auto)]
 
+mod captures;
+mod cases;
 mod echoes;
 mod frames;
 mod printing;
@@ -64,6 +66,11 @@ fn answer_to(alloc: Global, row: &str) -> Result<String, RowFault> {
         "take" => takes::take_frames(alloc, words, &mut out)?,
         "echo" => echoes::take_frames(alloc, words, &mut out)?,
         "echo_all" => echoes::take_pieces(alloc, words, &mut out)?,
+        "cases" => cases::count_group(alloc, words, &mut out)?,
+        "case" => cases::tell_case(alloc, words, &mut out)?,
+        "capture" => captures::write_again(alloc, words, &mut out)?,
+        "capture_fault" => captures::tell_no_memory(words, &mut out)?,
+        "judge" => captures::judge_turns(alloc, words, &mut out)?,
         "session" => sessions::play(alloc, words, &mut out)?,
         _ => return Err(RowFault::NotARow),
     }
