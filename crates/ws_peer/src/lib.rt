@@ -1,0 +1,9 @@
+//! Peers at work: what a tester says to a server and what it answers, as a talk, and the run of a script over a peer
+//! (RFC 6455 sections 4 to 8).
+//!
+//! The layers above use the contract of `run_case`: the transcript is that of a talk which the peer has had.
+#![tactic(auto)]
+
+mod peer;
+
+pub use peer::{Going, Peer};
