@@ -1,1 +1,5 @@
 pub mod Talks
+pub mod Echoes
+pub mod EchoLaws
+pub mod Driving
+pub mod Steps

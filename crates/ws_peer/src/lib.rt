@@ -4,6 +4,9 @@
 //! The layers above use the contract of `run_case`: the transcript is that of a talk which the peer has had.
 #![tactic(auto)]
 
+mod driving;
+mod lemmas;
 mod peer;
 
+pub use driving::{DriveEnd, drive};
 pub use peer::{Going, Peer};

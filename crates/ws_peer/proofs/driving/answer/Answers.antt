@@ -1,0 +1,42 @@
+use Rattle.std.proofs.Common.{rules, ◌≡◌, List, ℕ, [], ◌++◌, sym, refl, subst, take, drop, take-append-drop}
+use Rattle.std.proofs.KnownBytes.{Appends-nil}
+use Rattle.ws_peer.specs.Driving.{DriveCall}
+use Rattle.ws_peer.specs.Steps.{Stands}
+use Rattle.ws_peer.proofs.Echoing.{piece_answered}
+use Rattle.ws_peer.proofs.driving.answer.Goals as goal
+
+pub returns-in-Err : goal.returns-in-Err
+returns-in-Err g c call bytes put e is =
+    let piece = c.args.piece.now in
+    let used = c.in-Err.field-0.used in
+    let after = c.take_all.new.out.items in (
+      c.requires,
+      Appends-nil _,
+      take used piece,
+      drop used piece,
+      after,
+      sym (take-append-drop used piece),
+      piece_answered c.echo_laws.ensures call.role call.limits call.key c.args.key c.args.echo.now c.take_all.new.self bytes put (take used piece) c.new-replies.result.items after after _ _ e is c.in-Err.ensures.taken c.new-replies.ensures.items refl,
+    )
+
+pub returns-in-Ok-write_whole : goal.returns-in-Ok-write_whole
+returns-in-Ok-write_whole g c call bytes put e is = (
+  search rules,
+  c.as_slice.result.now,
+  c.in-Ok-write_whole.ensures.written,
+  piece_answered c.echo_laws.ensures call.role call.limits call.key c.args.key c.args.echo.now c.take_all.new.self bytes put c.args.piece.now c.new-replies.result.items c.take_all.new.out.items c.as_slice.result.now _ _ e is
+      c.in-Ok.ensures.taken c.new-replies.ensures.items c.as_slice.ensures.value,
+)
+
+pub returns : goal.returns
+returns g c call bytes put e is =
+    let (front, more, parts, begun) = c.in-Err-write_whole.ensures.begun in
+    let stands : Stands call (bytes ++ c.args.piece.now) (put ++ c.as_slice.result.now) c.take_all.new.self =
+    piece_answered c.echo_laws.ensures call.role call.limits call.key c.args.key c.args.echo.now c.take_all.new.self bytes put c.args.piece.now c.new-replies.result.items c.take_all.new.out.items c.as_slice.result.now _ _ e is
+    c.in-Ok.ensures.taken c.new-replies.ensures.items c.as_slice.ensures.value in (
+      search rules,
+      front,
+      more,
+      begun,
+      subst (λ (l : List ℕ). Stands call (bytes ++ c.args.piece.now) (put ++ l) c.take_all.new.self) parts stands,
+    )

@@ -1,0 +1,15 @@
+//! What the layer below says, called where a proof stands on it. Nothing runs here.
+
+ghost use Rattle.ws_peer.specs.EchoLaws.{EchoLaws};
+
+use ws_session::laws;
+
+/// The laws of the layer below on what an echo makes of bytes.
+pub(crate) fn echo_laws()
+    ensures { EchoLaws }
+{
+    laws::one_list_of_events();
+    laws::events_go_on();
+    laws::replies_go_on();
+    laws::valid_frames_are_told();
+}
