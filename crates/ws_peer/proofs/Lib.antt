@@ -1,2 +1,5 @@
 pub mod Echoing
 pub mod Driven
+pub mod Talking
+pub mod RunLemmas
+pub mod EchoTalkLemmas

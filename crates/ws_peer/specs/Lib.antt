@@ -1,5 +1,8 @@
 pub mod Talks
 pub mod Echoes
-pub mod EchoLaws
+pub mod EchoTalks
+pub mod Runs
 pub mod Driving
+pub mod EchoLaws
+pub mod TurnRuns
 pub mod Steps

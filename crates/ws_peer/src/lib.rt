@@ -5,8 +5,14 @@
 #![tactic(auto)]
 
 mod driving;
+mod echo_peer;
 mod lemmas;
 mod peer;
+mod running;
+mod tung_peer;
 
 pub use driving::{DriveEnd, drive};
+pub use echo_peer::EchoPeer;
 pub use peer::{Going, Peer};
+pub use running::run_case;
+pub use tung_peer::TungPeer;

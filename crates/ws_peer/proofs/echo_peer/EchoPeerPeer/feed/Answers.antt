@@ -1,0 +1,16 @@
+use Rattle.std.proofs.Common.{ap, subst, sym}
+use Rattle.ws_session.specs.Exchange.{SessionValue}
+use Rattle.ws_peer.specs.EchoTalks.{EchoPeerValue, MayHaveHad}
+use Rattle.ws_peer.proofs.EchoTalkLemmas.{put_after, says_fed, taken_more}
+use Rattle.ws_peer.proofs.echo_peer.EchoPeerPeer.feed.Goals as goal
+
+pub invariant_of-self : goal.invariant_of-self
+invariant_of-self c = taken_more c.self.inside.echo c.take_all.new.self c.args.piece.now _ c.args.out.now.items c.take_all.new.out.items _ _ c.self.invariant c.in-Ok.ensures.taken
+
+pub invariant_of-self-in-Err : goal.invariant_of-self-in-Err
+invariant_of-self-in-Err c = taken_more c.self.inside.echo c.take_all.new.self _ _ c.args.out.now.items c.take_all.new.out.items _ _ c.self.invariant c.in-Err.ensures.taken
+
+pub returns-in-Ok-clause-said : goal.returns-in-Ok-clause-said
+returns-in-Ok-clause-said c =
+    let says = says_fed c.echo_laws.ensures c.self.inside.echo c.take_all.new.self c.args.piece.now _ c.args.out.now.items c.take_all.new.out.items _ _ _ c.self.invariant c.in-Ok.ensures.taken c.going_after-going.ensures in
+    record { appended = says.appended; grown = says.grown; leads = λ talk had. says.leads talk (subst (λ (s : SessionValue). MayHaveHad s talk) (sym (ap (λ (v : EchoPeerValue). v.session) c.self.view_is)) had) }

@@ -1,0 +1,99 @@
+//! A script run over a peer (RFC 6455 sections 4 to 8): its pieces are fed turn by turn, and what was really fed and what
+//! came for it is recorded.
+
+ghost use Rattle.std.specs.Prelude.{◌≡◌, ℕ, List, [], ◌∷◌, IfOk, OnOk};
+ghost use Rattle.ws_suite.specs.Scripts.{AreTurns, CanBeRun};
+ghost use Rattle.ws_peer.specs.Talks.{Entry, Finished};
+ghost use Rattle.ws_peer.specs.Runs.{IsRunOf, Talked, with_finish};
+ghost use Rattle.ws_peer.specs.TurnRuns.{IsTurnRun};
+
+use crate::peer::{Going, Peer};
+use std::alloc::Global;
+use ws_base::{NoMemory, Payload, Sequence};
+use ws_suite::{Case, Ended, Transcript, Turn, turns};
+
+/// Runs a script over a peer, its frames masked with `key`: feeds the pieces of each turn in their order until the peer
+/// ends, and finishes it where it doesn't.
+pub fn run_case<P: Peer>(
+    alloc: Global,
+    case: &Case,
+    peer: &mut P,
+    key: [u8; 4],
+) -> Result<Transcript, NoMemory>
+    requires { CanBeRun case.now }
+    ensures { IfOk result (λ transcript. (turns : List (List (List ℕ))) × AreTurns case.now key turns
+        × (talk : List Entry) × IsRunOf turns talk transcript × Talked P.agrees peer.old peer.new talk) }
+{
+    let script = turns(alloc, case, key)?;
+    let pieces_by_turn = script.as_slice();
+    let mut recorded = Vec::new(alloc);
+    for pieces in pieces_by_turn {
+        let (turn, going) = run_turn(alloc, pieces.as_slice(), peer)?;
+        recorded.push(turn)?;
+        if going == Going::Ended {
+            return Ok(Transcript {
+                turns: Sequence::from_vec(recorded),
+                ended: Ended::Peer,
+            });
+        }
+    }
+    finish(alloc, peer, &mut recorded)?;
+    Ok(Transcript {
+        turns: Sequence::from_vec(recorded),
+        ended: Ended::Tester,
+    })
+}
+
+/// Feeds the pieces of a turn until the peer ends: what is recorded of the turn, and whether the peer goes on.
+fn run_turn<P: Peer>(
+    alloc: Global,
+    pieces: &[Payload],
+    peer: &mut P,
+) -> Result<(Turn, Going), NoMemory>
+    ensures { IfOk result (λ run. (part : List Entry) × IsTurnRun pieces.now part run.0 run.1
+        × Talked P.agrees peer.old peer.new part) }
+{
+    let mut sent = Vec::new(alloc);
+    let mut got = Vec::new(alloc);
+    for piece in pieces {
+        let going = peer.feed(piece.as_slice(), &mut got)?;
+        sent.extend_from_slice(piece.as_slice())?;
+        if going == Going::Ended {
+            return Ok((turn_of(sent, got), Going::Ended));
+        }
+    }
+    Ok((turn_of(sent, got), Going::More))
+}
+
+/// What was sent and got in a turn.
+fn turn_of(sent: Vec<u8>, got: Vec<u8>) -> Turn
+    ensures sent { result.sent ≡ sent.items }
+    ensures got { result.got ≡ got.items }
+{
+    Turn {
+        sent: Payload::from_vec(sent),
+        got: Payload::from_vec(got),
+    }
+}
+
+/// Finishes the peer. What it puts counts to the last turn; where there is none, it is a turn of its own.
+fn finish<P: Peer>(alloc: Global, peer: &mut P, turns: &mut Vec<Turn>) -> Result<(), NoMemory>
+    ensures { OnOk result ((left : List ℕ) × (turns.new.items ≡ with_finish turns.old.items left)
+        × Talked P.agrees peer.old peer.new (Finished left ∷ [])) }
+{
+    match turns.pop() {
+        Some(last) => {
+            let mut got = last.got.into_vec();
+            peer.finish(&mut got)?;
+            turns.push(turn_of(last.sent.into_vec(), got))?;
+        }
+        None => {
+            let mut got = Vec::new(alloc);
+            peer.finish(&mut got)?;
+            if !got.is_empty() {
+                turns.push(turn_of(Vec::new(alloc), got))?;
+            }
+        }
+    }
+    Ok(())
+}
