@@ -1,3 +1,4 @@
 pub mod HeadLemmas
 pub mod CaseLemmas
 pub mod Delivering
+pub mod ServingLemmas

@@ -11,4 +11,5 @@ pub mod Pairs
 pub mod Session
 pub mod Judge
 pub mod Cases
+pub mod Serving
 pub mod Run

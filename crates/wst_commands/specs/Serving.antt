@@ -1,0 +1,128 @@
+-- One connection of a server: the opening handshake (RFC 6455 section 4.2), and then an echo over what comes after the
+-- head.
+use Rattle.std.specs.Prelude.{◌≡◌, ℕ, ◌≤◌, ◌⊎◌, ⊤, true, false, List, [], ◌∷◌, ◌++◌, length, drop}
+use Rattle.ws_frame.specs.declared.role.Role.TheVariants.{Server}
+use Rattle.ws_frame.specs.Devices.{Device, HasBegun, HasRead, HasWritten, IsUntouched}
+use Rattle.ws_session.specs.Limits.{LimitsValue}
+use Rattle.ws_upgrade.specs.Texts.{refusal_bytes, response_bytes}
+use Rattle.ws_upgrade.specs.declared.faults.HeadFault.{HeadFault}
+use Rattle.ws_peer.specs.Driving.{DriveCall, ReadsInTurn, IsDrivenTo, IsFairDriveEnd}
+use Rattle.ws_peer.specs.declared.driving.DriveEnd.{DriveEnd}
+use Rattle.ws_peer.specs.declared.driving.DriveEnd.TheVariants as end
+use Rattle.wst_commands.specs.ReadingHeads.{ReadsHead, ReadsNoFurther}
+use Rattle.wst_commands.specs.Requests.{DecidesRequest, NeedsRequest}
+use Rattle.wst_commands.specs.declared.reading_head.HeadEnd.TheVariants.{Decided, Cut, ReadFault}
+use Rattle.wst_commands.specs.declared.request_head.RequestDecision.{RequestDecision}
+use Rattle.wst_commands.specs.declared.request_head.RequestDecision.TheVariants.{Accepted, Refused as RefusedHead}
+use Rattle.wst_commands.specs.declared.serving.Served.{Served}
+use Rattle.wst_commands.specs.declared.serving.Served.TheVariants.{Ended, Refused, Stopped}
+
+-- the echo of a connection: a server's under these limits, which masks nothing, is fed first what came behind the head,
+-- and may read so many bytes more
+abbrev pub connection : LimitsValue → ℕ → List ℕ → DriveCall
+connection limits budget first =
+    record { role = Server; limits = limits; key = 0 ∷ 0 ∷ 0 ∷ 0 ∷ []; first = first; budget = budget }
+
+-- these bytes were read for the head, and decide so: at most 8192, and at most 1024 behind bytes that need more
+pub record ReadsRequest (head : List ℕ) (decision : RequestDecision) : Type 0 where
+  pub decides : DecidesRequest head decision
+  pub bound : length head ≤ 8192
+  pub no_further : ReadsNoFurther NeedsRequest head
+
+-- a head was read and accepted; the response was written, and the echo driven over what came after the head
+pub record ServesAccepted (limits : LimitsValue) (budget : ℕ) (end : DriveEnd) (input output : Device) : Type 0 where
+  pub head : List ℕ
+  pub accept : List ℕ
+  pub used : ℕ
+  pub is_head : ReadsRequest head (Accepted accept used)
+  pub read : List ℕ
+  pub has_read : HasRead (head ++ read) input
+  pub within : length read ≤ budget
+  pub written : List ℕ
+  pub has_written : HasWritten (response_bytes accept ++ written) output
+  pub in_turn : ReadsInTurn (connection limits budget (drop used head)) read written
+  pub driven : IsDrivenTo (connection limits budget (drop used head)) end input.new read written
+  pub fair : IsFairDriveEnd end input output
+
+-- a head was read and refused, and the refusal was written
+pub record ServesRefused (fault : HeadFault) (input output : Device) : Type 0 where
+  pub head : List ℕ
+  pub is_head : ReadsRequest head (RefusedHead fault)
+  pub has_read : HasRead head input
+  pub has_written : HasWritten (refusal_bytes fault) output
+  pub fair : (input.failed ≡ false) × (output.failed ≡ false)
+
+-- the reader was at its end inside a head, or a read failed, and nothing was written
+abbrev pub StopsInHead : Device → Device → Type 0
+StopsInHead input output = (head : List ℕ) × IsUntouched output
+    × (ReadsHead NeedsRequest DecidesRequest Cut head input
+    ⊎ ReadsHead NeedsRequest DecidesRequest ReadFault head input)
+
+-- a head was read and decided, and of the answer to it a beginning was written: a write failed, or, for a response,
+-- memory ran out and nothing was written
+abbrev pub BeginsAnswer : RequestDecision → Device → Type 0
+BeginsAnswer (Accepted accept used) output =
+    ((output.failed ≡ true) × HasBegun (response_bytes accept) output) ⊎ IsUntouched output
+BeginsAnswer (RefusedHead fault) output = (output.failed ≡ true) × HasBegun (refusal_bytes fault) output
+
+abbrev pub StopsAnswering : Device → Device → Type 0
+StopsAnswering input output = (head : List ℕ) × (decision : RequestDecision) × ReadsRequest head decision
+    × HasRead head input × (input.failed ≡ false) × BeginsAnswer decision output
+
+-- the run of the echo was stopped by a read, a write, the budget or memory
+abbrev pub IsStop : DriveEnd → Type 0
+IsStop (end.Done status) = ⊥
+IsStop end.ReadFault = ⊤
+IsStop end.WriteFault = ⊤
+IsStop end.Budget = ⊤
+IsStop end.NoMemory = ⊤
+
+-- a connection that was served, by how it ended
+abbrev pub Serves : LimitsValue → ℕ → Served → Device → Device → Type 0
+Serves limits budget (Ended status) input output = ServesAccepted limits budget (end.Done status) input output
+Serves limits budget (Refused fault) input output = ServesRefused fault input output
+Serves limits budget Stopped input output = StopsInHead input output ⊎ (StopsAnswering input output
+    ⊎ ((ended : DriveEnd) × IsStop ended × ServesAccepted limits budget ended input output))
+
+-- ---- inside the crate: what answers a head that was read, for the contracts of private functions
+
+-- the response was written, and the echo driven
+pub record DrivesAfter (limits : LimitsValue) (budget : ℕ) (accept first : List ℕ) (end : DriveEnd)
+    (input output : Device) : Type 0 where
+  pub read : List ℕ
+  pub has_read : HasRead read input
+  pub within : length read ≤ budget
+  pub written : List ℕ
+  pub has_written : HasWritten (response_bytes accept ++ written) output
+  pub in_turn : ReadsInTurn (connection limits budget first) read written
+  pub driven : IsDrivenTo (connection limits budget first) end input.new read written
+  pub fair : IsFairDriveEnd end input output
+
+abbrev pub AnswersAccepted : LimitsValue → ℕ → List ℕ → List ℕ → Served → Device → Device → Type 0
+AnswersAccepted limits budget accept first (Ended status) input output =
+    DrivesAfter limits budget accept first (end.Done status) input output
+AnswersAccepted limits budget accept first (Refused fault) input output = ⊥
+AnswersAccepted limits budget accept first Stopped input output =
+    (IsUntouched input × (input.failed ≡ false)
+    × (((output.failed ≡ true) × HasBegun (response_bytes accept) output) ⊎ IsUntouched output))
+    ⊎ ((ended : DriveEnd) × IsStop ended × DrivesAfter limits budget accept first ended input output)
+
+-- how a connection ended whose echo was driven to this end
+abbrev pub served_by : DriveEnd → Served
+served_by (end.Done status) = Ended status
+served_by end.ReadFault = Stopped
+served_by end.WriteFault = Stopped
+served_by end.Budget = Stopped
+served_by end.NoMemory = Stopped
+
+abbrev pub AnswersRefused : HeadFault → Served → Device → Type 0
+AnswersRefused fault (Ended status) output = ⊥
+AnswersRefused fault (Refused other) output =
+    (other ≡ fault) × (output.failed ≡ false) × HasWritten (refusal_bytes fault) output
+AnswersRefused fault Stopped output = (output.failed ≡ true) × HasBegun (refusal_bytes fault) output
+
+abbrev pub AnswersHead : LimitsValue → ℕ → RequestDecision → List ℕ → Served → Device → Device → Type 0
+AnswersHead limits budget (Accepted accept used) head served input output =
+    AnswersAccepted limits budget accept (drop used head) served input output
+AnswersHead limits budget (RefusedHead fault) head served input output =
+    AnswersRefused fault served output × IsUntouched input × (input.failed ≡ false)

@@ -1,0 +1,143 @@
+//! One connection of a server: the opening handshake, and then an echo (RFC 6455 sections 4.2 and 5 to 7).
+
+ghost use Rattle.std.specs.Prelude.{◌≡◌, false};
+ghost use Rattle.ws_frame.specs.Devices.{watched};
+ghost use Rattle.ws_frame.specs.Watching.{has_failed};
+ghost use Rattle.wst_commands.specs.Requests.{DecidesRequest};
+ghost use Rattle.wst_commands.specs.Serving.{AnswersAccepted, AnswersHead, AnswersRefused, Serves, served_by};
+
+use crate::reading_head::{HeadEnd, HeadRoom, read_head};
+use crate::request_head::{RequestDecision, RequestHead};
+use std::alloc::Global;
+use std::io::{Read, Write};
+use ws_frame::{Role, Watched, write_whole};
+use ws_peer::{DriveEnd, drive};
+use ws_session::{Echo, Limits, Status};
+use ws_upgrade::{HeadFault, refusal, response};
+
+/// A server masks nothing, whatever key it is handed (RFC 6455 section 5.1).
+const NO_KEY: [u8; 4] = [0; 4];
+
+/// How a connection that was served ended.
+#[derive(Clone, Copy, PartialEq, Eq)]
+pub enum Served {
+    /// The head was accepted, and the session ended so.
+    Ended(Status),
+    /// The head was refused.
+    Refused(HeadFault),
+    /// Reading, writing, the budget or memory ended it, or the stream did inside the head.
+    Stopped,
+}
+
+/// Serves a connection: reads the head of a request, at most 8192 bytes, and writes the response, or the refusal and no
+/// more. After a response each message is sent back, until the session is over or the reader is at its end. At most
+/// `budget` bytes are read then; neither the head nor what came with it is counted.
+pub fn serve_one<R: Read, W: Write>(
+    alloc: Global,
+    reader: &mut Watched<R>,
+    writer: &mut Watched<W>,
+    limits: Limits,
+    budget: u64,
+) -> Served
+    requires reader_works { has_failed reader.old ≡ false }
+    requires writer_works { has_failed writer.old ≡ false }
+    ensures { Serves limits budget result
+        (watched R.remaining reader.old reader.new) (watched W.contents writer.old writer.new) }
+{
+    let mut room = HeadRoom::new();
+    match read_head(reader, &mut room, &RequestHead) {
+        HeadEnd::Decided(decision) => answer(
+            alloc,
+            decision,
+            room.as_slice(),
+            reader,
+            writer,
+            limits,
+            budget,
+        ),
+        HeadEnd::Cut | HeadEnd::ReadFault => Served::Stopped,
+    }
+}
+
+/// Answers the head at the front of what was read. What came behind a head that is accepted is fed to the echo first.
+fn answer<R: Read, W: Write>(
+    alloc: Global,
+    decision: RequestDecision,
+    head: &[u8],
+    reader: &mut Watched<R>,
+    writer: &mut Watched<W>,
+    limits: Limits,
+    budget: u64,
+) -> Served
+    requires reader_works { has_failed reader.old ≡ false }
+    requires writer_works { has_failed writer.old ≡ false }
+    requires decides { DecidesRequest head.now decision }
+    ensures { AnswersHead limits budget decision head.now result
+        (watched R.remaining reader.old reader.new) (watched W.contents writer.old writer.new) }
+{
+    match decision {
+        RequestDecision::Accepted { accept, used } => {
+            answer_accepted(
+                alloc,
+                &accept,
+                &head[used..],
+                reader,
+                writer,
+                limits,
+                budget,
+            )
+        }
+        RequestDecision::Refused(fault) => answer_refused(fault, writer),
+    }
+}
+
+/// Writes the response with this accept value, and drives an echo, which is fed some bytes first.
+fn answer_accepted<R: Read, W: Write>(
+    alloc: Global,
+    accept: &[u8; 28],
+    first: &[u8],
+    reader: &mut Watched<R>,
+    writer: &mut Watched<W>,
+    limits: Limits,
+    budget: u64,
+) -> Served
+    requires reader_works { has_failed reader.old ≡ false }
+    requires writer_works { has_failed writer.old ≡ false }
+    ensures { AnswersAccepted limits budget accept.now first.now result
+        (watched R.remaining reader.old reader.new) (watched W.contents writer.old writer.new) }
+{
+    let Ok(head) = response(alloc, accept) else {
+        return Served::Stopped;
+    };
+    match write_whole(writer, head.as_slice()) {
+        Ok(()) => {
+            let mut echo = Echo::new(alloc, limits, Role::Server);
+            let end = drive(alloc, first, reader, writer, &mut echo, NO_KEY, budget);
+            served_by(end)
+        }
+        Err(_) => Served::Stopped,
+    }
+}
+
+/// How a connection ended whose echo was driven to this end.
+fn served_by(end: DriveEnd) -> Served
+    ensures { result ≡ served_by end }
+{
+    match end {
+        DriveEnd::Done(status) => Served::Ended(status),
+        DriveEnd::ReadFault | DriveEnd::WriteFault | DriveEnd::Budget | DriveEnd::NoMemory => {
+            Served::Stopped
+        }
+    }
+}
+
+/// Writes the refusal of a head.
+fn answer_refused<W: Write>(fault: HeadFault, writer: &mut Watched<W>) -> Served
+    requires { has_failed writer.old ≡ false }
+    ensures { AnswersRefused fault result (watched W.contents writer.old writer.new) }
+{
+    match write_whole(writer, refusal(fault)) {
+        Ok(()) => Served::Refused(fault),
+        Err(_) => Served::Stopped,
+    }
+}
