@@ -5,6 +5,8 @@
 #[cfg(test)]
 mod comparing;
 #[cfg(test)]
+mod drives;
+#[cfg(test)]
 mod heads;
 #[cfg(test)]
 mod inputs;
@@ -14,6 +16,8 @@ mod masks;
 mod running;
 #[cfg(test)]
 mod runs;
+#[cfg(test)]
+mod serves;
 #[cfg(test)]
 mod shown;
 #[cfg(test)]
