@@ -1,5 +1,5 @@
 -- A text is a capture of one transcript, and what writing gives is a capture.
-use Rattle.std.proofs.Common.{◌≡◌, ◌≢◌, ◌∙◌, ℕ, ◌<◌, Bool, true, false, ◌&&◌, if◌then◌else◌, List, [], ◌∷◌, ◌++◌, length, map, flat_map, ap, ap₂, sym, refl, subst, arith, append_assoc, append-nil, codes}
+use Rattle.std.proofs.Common.{◌≡◌, ◌≢◌, ◌∙◌, ℕ, ◌<◌, Bool, ◌&&◌, if◌then◌else◌, List, [], ◌∷◌, ◌++◌, length, map, flat_map, ap, ap₂, sym, refl, subst, arith, append_assoc, append-nil, codes}
 use Rattle.std.proofs.lemmas.List.{append_cancel_left}
 use Rattle.std.specs.List.{AllByRecursion}
 use Rattle.ws_base.specs.Words.{AreBytes, IsHexWord, hex, hex_word}
@@ -10,7 +10,6 @@ use Rattle.ws_suite.specs.declared.transcript.Ended.TheVariants.{Tester, Peer, B
 use Rattle.ws_suite.specs.declared.transcript.Transcript.{Transcript}
 use Rattle.ws_suite.specs.declared.capture.Line.{Line}
 use Rattle.ws_suite.specs.declared.capture.Line.TheVariants.{Sent, Got}
-use Rattle.ws_suite.specs.Scripts.{has_any}
 use Rattle.ws_suite.specs.Captures.{AreOfBytes, AreParted, HasLineBytes, IsCaptureOf, as_read, capture_lines, end_as_read, end_words, got_first}
 use Rattle.ws_suite.specs.Captures.{line_if_any, line_words, lines_of_turn, run_into, run_together, sent_first, turns_in, written_capture}
 use Rattle.ws_suite.proofs.CaptureLemmas.{capture_are_lines, front_lines, heads_differ, mark_differs}
