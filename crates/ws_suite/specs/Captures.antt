@@ -98,7 +98,8 @@ Damages fault.NoMemory text = ⊤
 abbrev pub AreOfBytes : Turn → Type 0
 AreOfBytes turn = AreBytes turn.sent × AreBytes turn.got
 
--- a turn before others: one with the first of them where nothing was got in it, or nothing sent in that one
+-- a turn before others: one with the first of them where nothing was got in it, or nothing sent in that one; a last
+-- turn without bytes is none
 abbrev pub run_into : Turn → List Turn → List Turn
 run_into turn [] = if has_any (turn.sent ++ turn.got) then turn ∷ [] else []
 run_into turn (next ∷ turns) =
