@@ -1,4 +1,5 @@
 pub mod Words
 pub mod Lines
+pub mod FaultWords
 pub mod Examples
 pub mod Reading

@@ -1,14 +1,17 @@
 //! Texts of lines, each of which ends with LF.
 
-ghost use Rattle.std.specs.Prelude.{List, ℕ, MatchResult};
+ghost use Rattle.std.specs.Prelude.{List, ℕ, MatchResult, Some};
+ghost use Rattle.ws_base.specs.FaultWords.{line_fault_words, text_fault_words};
 ghost use Rattle.ws_base.specs.Lines.{Damages, HasLineForEach};
 ghost use Rattle.ws_base.specs.Reading.{CutsLine, Reads};
 
 use crate::sequence::Sequence;
 use std::alloc::{AllocError, Global};
+use std::error::Error;
+use std::fmt;
 
 /// Why a line, or a word, tells no value.
-#[derive(Clone, Copy)]
+#[derive(Clone, Copy, Debug)]
 pub enum LineFault {
     /// It isn't spelled as one.
     Damaged,
@@ -27,8 +30,21 @@ impl From<AllocError> for LineFault {
     }
 }
 
+impl fmt::Display for LineFault {
+    ghost output = { λ fault. Some (line_fault_words fault) };
+
+    fn fmt<W: fmt::Write>(&self, f: &mut fmt::Formatter<W>) -> fmt::Result {
+        match *self {
+            LineFault::Damaged => write!(f, "damaged"),
+            LineFault::NoMemory => write!(f, "no memory"),
+        }
+    }
+}
+
+impl Error for LineFault {}
+
 /// Why a text tells no value.
-#[derive(Clone, Copy)]
+#[derive(Clone, Copy, Debug)]
 pub enum TextFault {
     /// The lines up to this one, counted from 1, begin no text of the format, and those before it do. A last line
     /// without LF counts.
@@ -36,6 +52,19 @@ pub enum TextFault {
     /// Memory ran out.
     NoMemory,
 }
+
+impl fmt::Display for TextFault {
+    ghost output = { λ fault. Some (text_fault_words fault) };
+
+    fn fmt<W: fmt::Write>(&self, f: &mut fmt::Formatter<W>) -> fmt::Result {
+        match *self {
+            TextFault::Damaged(line) => write!(f, "line {line}: damaged"),
+            TextFault::NoMemory => write!(f, "no memory"),
+        }
+    }
+}
+
+impl Error for TextFault {}
 
 /// A value that one line of a text tells.
 pub trait Line: Sized + Drop {

@@ -1,6 +1,7 @@
 //! Want of memory, as each layer tells it.
 
 use std::alloc::{AllocError, AllocFailed};
+use std::error::Error;
 use std::fmt;
 
 /// Memory ran out: a growth was refused.
@@ -28,3 +29,5 @@ impl fmt::Display for NoMemory {
         write!(f, "no memory")
     }
 }
+
+impl Error for NoMemory {}

@@ -3,7 +3,6 @@
 ghost use Rattle.std.specs.Prelude.{◌≡◌, ◌≤◌, length, map, IfOk, MatchResult};
 ghost use Rattle.ws_base.specs.Lines.{Damages};
 ghost use Rattle.ws_base.specs.Reading.{Finds, Reads};
-ghost use Rattle.ws_session.specs.Words.{kind_word};
 ghost use Rattle.ws_calls.specs.Script.{AreCallLines, AreWords, IsCallLine, IsCallOf, name_word};
 ghost use Rattle.ws_calls.specs.Calls.{count_taken};
 ghost use Rattle.ws_calls.specs.declared.script.Name.TheVariants.{Begin, More, Ping, Pong, Close, Take, End};
@@ -105,7 +104,7 @@ fn read_begin(alloc: Global, fields: &[&[u8]]) -> Result<Call, LineFault>
     let [kind, fin, payload, key] = fields else {
         return Err(LineFault::Damaged);
     };
-    let Some(kind) = read_kind(kind) else {
+    let Some(kind) = Kind::from_word(kind) else {
         return Err(LineFault::Damaged);
     };
     let Some(fin) = read_fin(fin) else {
@@ -121,17 +120,6 @@ fn read_begin(alloc: Global, fields: &[&[u8]]) -> Result<Call, LineFault>
         fin,
         key,
     })
-}
-
-/// The kind of message that a word names.
-fn read_kind(word: &[u8]) -> Option<Kind>
-    ensures { Finds result (λ kind. word.now ≡ kind_word kind) }
-{
-    match word {
-        b"text" => Some(Kind::Text),
-        b"binary" => Some(Kind::Binary),
-        _ => None,
-    }
 }
 
 fn read_more(alloc: Global, fields: &[&[u8]]) -> Result<Call, LineFault>

@@ -3,7 +3,6 @@
 ghost use Rattle.std.specs.Prelude.{◌≡◌, map, MatchResult};
 ghost use Rattle.ws_base.specs.Lines.{Damages};
 ghost use Rattle.ws_base.specs.Reading.{Finds, Reads};
-ghost use Rattle.ws_session.specs.Words.{kind_word};
 ghost use Rattle.ws_pair.specs.Script.{AreMoveLines, AreWords, IsMoveLine, IsMoveOf, end_word, name_word};
 ghost use Rattle.ws_pair.specs.declared.script.Name.TheVariants.{Begin, More, Ping, Pong, Close, Arrive, Cut};
 
@@ -117,7 +116,7 @@ fn read_begin(alloc: Global, side: End, fields: &[&[u8]]) -> Result<Move, LineFa
     let [kind, fin, payload, key] = fields else {
         return Err(LineFault::Damaged);
     };
-    let Some(kind) = read_kind(kind) else {
+    let Some(kind) = Kind::from_word(kind) else {
         return Err(LineFault::Damaged);
     };
     let Some(fin) = read_fin(fin) else {
@@ -134,17 +133,6 @@ fn read_begin(alloc: Global, side: End, fields: &[&[u8]]) -> Result<Move, LineFa
         fin,
         key,
     })
-}
-
-/// The kind of message that a word names.
-fn read_kind(word: &[u8]) -> Option<Kind>
-    ensures { Finds result (λ kind. word.now ≡ kind_word kind) }
-{
-    match word {
-        b"text" => Some(Kind::Text),
-        b"binary" => Some(Kind::Binary),
-        _ => None,
-    }
 }
 
 fn read_more(alloc: Global, side: End, fields: &[&[u8]]) -> Result<Move, LineFault>

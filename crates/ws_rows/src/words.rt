@@ -48,11 +48,7 @@ pub fn role_of(word: &str) -> Result<Role, RowFault> {
 
 /// `text` or `binary`.
 pub fn kind_of(word: &str) -> Result<Kind, RowFault> {
-    match word {
-        "text" => Ok(Kind::Text),
-        "binary" => Ok(Kind::Binary),
-        _ => Err(RowFault::NotARow),
-    }
+    Kind::from_word(word.as_bytes()).ok_or(RowFault::NotARow)
 }
 
 /// Whether FIN is set: `fin` or `part`.

@@ -1,4 +1,4 @@
--- The words for a status, a reason, a refusal and a kind: what a report or a script calls them.
+-- The words for a status, a reason, a refusal, a kind and a stop: what a report or a script calls them.
 use Rattle.std.specs.Prelude.{ℕ, List, ◌++◌, Some, None, codes}
 use Rattle.std.specs.Fmt.{decimal}
 use Rattle.ws_session.specs.declared.message.Kind.{Kind}
@@ -50,3 +50,7 @@ status_words (Clean (Some code)) = codes "clean " ++ decimal code
 status_words (Clean None) = codes "clean none"
 status_words (Failed reason) = codes "failed " ++ reason_name reason
 status_words Lost = codes "lost"
+
+-- want of memory inside a piece, of which so many bytes were taken
+abbrev pub stop_words : ℕ → List ℕ
+stop_words used = codes "no memory after " ++ (decimal used ++ codes " bytes")

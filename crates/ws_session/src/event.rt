@@ -1,8 +1,13 @@
 //! What a session tells.
 
+ghost use Rattle.std.specs.Prelude.{Some};
+ghost use Rattle.ws_session.specs.Words.{stop_words};
+
 use crate::control_payload::Small;
 use crate::message::Message;
 use crate::reason::Reason;
+use std::error::Error;
+use std::fmt;
 use ws_base::NoMemory;
 use ws_text::Close;
 
@@ -39,7 +44,7 @@ pub struct PlacedEvent {
 }
 
 /// Memory ran out inside a piece.
-#[derive(Clone, Copy)]
+#[derive(Clone, Copy, Debug)]
 pub struct TakeStop {
     /// How many bytes of the piece were taken, from its front.
     pub used: usize,
@@ -50,3 +55,13 @@ impl From<TakeStop> for NoMemory {
         NoMemory
     }
 }
+
+impl fmt::Display for TakeStop {
+    ghost output = { λ stop. Some (stop_words stop.used) };
+
+    fn fmt<W: fmt::Write>(&self, f: &mut fmt::Formatter<W>) -> fmt::Result {
+        write!(f, "no memory after {} bytes", self.used)
+    }
+}
+
+impl Error for TakeStop {}

@@ -1,6 +1,7 @@
 //! Messages (RFC 6455 section 5.6).
 
 ghost use Rattle.std.specs.Prelude.{◌≡◌, ◌≤◌, Some};
+ghost use Rattle.ws_base.specs.Reading.{Finds};
 ghost use Rattle.ws_session.specs.Messages.{opcode_of};
 ghost use Rattle.ws_session.specs.Words.{kind_word};
 
@@ -17,6 +18,17 @@ pub enum Kind {
 }
 
 impl Kind {
+    /// The kind that a word names, as `Display` writes it.
+    pub fn from_word(word: &[u8]) -> Option<Kind>
+        ensures { Finds result (λ kind. word.now ≡ kind_word kind) }
+    {
+        match word {
+            b"text" => Some(Kind::Text),
+            b"binary" => Some(Kind::Binary),
+            _ => None,
+        }
+    }
+
     /// The opcode that begins such a message.
     pub(crate) fn opcode(self) -> u8
         ensures value { result ≡ opcode_of self }

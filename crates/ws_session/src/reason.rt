@@ -4,6 +4,7 @@ ghost use Rattle.std.specs.Prelude.{◌≡◌, Some};
 ghost use Rattle.ws_session.specs.Replies.{close_code_of};
 ghost use Rattle.ws_session.specs.Words.{reason_name};
 
+use std::error::Error;
 use std::fmt;
 
 /// Why a session failed: what the peer's bytes did. Of several at one place the one with the lowest number is told.
@@ -88,3 +89,5 @@ impl fmt::Display for Reason {
         }
     }
 }
+
+impl Error for Reason {}
