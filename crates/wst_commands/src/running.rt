@@ -25,9 +25,9 @@ use ws_frame::Watched;
 use wst_words::{Task, WordsFault, read_words};
 
 /// Runs what the words ask for, the program's name first, and answers how that ended: status 0 done, 1 a
-/// damaged or refused input or a rule that was broken, 2 wrong words, 3 where input, output, the budget or memory failed. Help
-/// and the version go to the writer with status 0. What is wrong with the words goes to `faults`, and
-/// then nothing is read or written. Want of memory is told there as `no memory`.
+/// damaged or refused input or a rule that was broken, 2 wrong words, 3 where input, output, the budget or
+/// memory failed. Help and the version go to the writer with status 0. What is wrong with the words goes to
+/// `faults`, and then nothing is read or written. Want of memory is told there as `no memory`.
 pub fn run<R: Read, W: Write, F: Write>(
     alloc: Global,
     words: &[String],

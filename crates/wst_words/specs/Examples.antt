@@ -204,6 +204,7 @@ show_version places = refl
 
 -- and none of them is taken
 pub faulty_words_are_not_taken : (places : Places)
-    → map (takes (wst_app places)) (words [] ∷ words (codes "frames" ∷ []) ∷ no_number ∷ []) ≡ false ∷ false ∷ false ∷ []
+    → map (takes (wst_app places)) (words [] ∷ words (codes "frames" ∷ []) ∷ no_number ∷ [])
+    ≡ false ∷ false ∷ false ∷ []
 unfolding on_words
 faulty_words_are_not_taken places = refl
