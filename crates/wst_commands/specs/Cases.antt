@@ -1,5 +1,6 @@
 -- A run of `cases`: the names of the cases and their numbers of turns are written, a line each.
-use Rattle.std.specs.Prelude.{◌≡◌, ◌⊎◌, ℕ, List, [], ◌∷◌, length, map, flat_map, Result, MatchResult, codes, string_bytes}
+use Rattle.std.specs.Prelude.{◌≡◌, ◌⊎◌, ℕ, List, [], ◌∷◌, Result, MatchResult}
+use Rattle.std.specs.Prelude.{codes, flat_map, length, map, string_bytes}
 use Rattle.std.specs.List.{AllByRecursion, concat}
 use Rattle.std.specs.Fmt.{decimal}
 use Rattle.ws_frame.specs.Devices.{Device, IsUntouched}
