@@ -1,5 +1,5 @@
 -- The talks that an echo may have had, call after call.
-use Rattle.std.proofs.Common.{◌≡◌, ℕ, ◌+◌, ◌<◌, ◌≤◌, ◌↔◌, Bool, true, false, List, [], ◌∷◌, ◌++◌, length, take, drop, refl, sym, ap, ◌∙◌, subst, append-nil, arith, length-append, inl, inr}
+use Rattle.std.proofs.Common.{◌≡◌, ℕ, ◌+◌, ◌↔◌, true, false, List, [], ◌∷◌, ◌++◌, length, take, drop, refl, sym, ap, ◌∙◌, subst, append-nil, arith, length-append, inl, inr}
 use Rattle.std.specs.Prelude.{Option, Some, None}
 use Rattle.std.specs.List.{last_or}
 use Rattle.std.specs.Io.{StartsWith}
@@ -11,13 +11,13 @@ use Rattle.ws_session.specs.declared.event.PlacedEvent.{PlacedEvent}
 use Rattle.ws_session.specs.Replies.{echo_reply_to}
 use Rattle.ws_session.specs.Exchange.{SessionValue, HasExchanged, is_over}
 use Rattle.ws_session.specs.Sends.{most_limits}
-use Rattle.ws_session.specs.Taking.{TakeCall, TakesAll, HasTakenAll}
+use Rattle.ws_session.specs.Taking.{TakesAll, HasTakenAll}
 use Rattle.ws_peer.specs.declared.peer.Going.{Going}
-use Rattle.ws_peer.specs.declared.peer.Going.TheVariants.{More, Ended}
+use Rattle.ws_peer.specs.declared.peer.Going.TheVariants.{Ended}
 use Rattle.ws_peer.specs.Talks.{Entry, Fed, Finished, Says, fed_in, appended_in}
 use Rattle.ws_peer.specs.Echoes.{IsEchoAfter}
 use Rattle.ws_peer.specs.EchoLaws.{EchoLaws}
-use Rattle.ws_peer.specs.EchoTalks.{HasEchoedTalk, HasTakenSomething, IsAnsweredBy, IsEchoTalk, MayHaveHad, last_call}
+use Rattle.ws_peer.specs.EchoTalks.{HasEchoedTalk, HasTakenSomething, IsAnsweredBy, IsEchoTalk, MayHaveHad}
 use Rattle.ws_peer.proofs.Talking.{fed_in-more, appended_in-more}
 use Rattle.ws_peer.proofs.Echoing.{Grown, call_of, echo_more, echo_new, has_echoed}
 
@@ -80,8 +80,8 @@ talk_more : (talk : List Entry) (entry : Entry) → IsEchoTalk talk → HasEchoe
 talk_more talk entry so_far now n less =
     let len : length (talk ++ entry ∷ []) ≡ length talk + 1 = length-append talk (entry ∷ []) in
     elim (cases_lt (length talk) n) [
-      inl more ↦ subst (λ (t : List Entry). HasEchoedTalk t) (sym (take_all n (talk ++ entry ∷ []) (omega (arith, len, more)))) now
-    | inr within ↦ subst (λ (t : List Entry). HasEchoedTalk t) (sym (take-append-le n talk (entry ∷ []) within)) (so_far n within)
+      | inl more ↦ subst (λ (t : List Entry). HasEchoedTalk t) (sym (take_all n (talk ++ entry ∷ []) (omega (arith, len, more)))) now
+      | inr within ↦ subst (λ (t : List Entry). HasEchoedTalk t) (sym (take-append-le n talk (entry ∷ []) within)) (so_far n within)
     ]
 
 had_more : EchoLaws → (session : SessionValue) (talk : List Entry) (entry : Entry) → IsEchoTalk talk → IsEchoAfter Server most_limits [] (fed_in (talk ++ entry ∷ [])) false (appended_in (talk ++ entry ∷ [])) session

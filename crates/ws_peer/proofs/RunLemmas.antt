@@ -1,7 +1,7 @@
 -- The run of a turn, piece after piece, and that of a script, turn after turn.
 use Rattle.std.proofs.Common.{◌≡◌, ℕ, List, [], ◌∷◌, ◌++◌, refl, sym, ap, ◌∙◌, subst, append_assoc, append-nil, inl, inr}
 use Rattle.std.specs.Prelude.{map}
-use Rattle.std.specs.List.{AllByRecursion, flat_map}
+use Rattle.std.specs.List.{AllByRecursion}
 use Rattle.std.proofs.lemmas.List.{map-append}
 use Rattle.std.proofs.lemmas.Grind.{flat_map-append}
 use Rattle.ws_suite.specs.declared.transcript.Turn.{Turn}
@@ -10,8 +10,8 @@ use Rattle.ws_suite.specs.declared.transcript.Ended.TheVariants.{Tester, Peer}
 use Rattle.ws_peer.specs.declared.peer.Going.{Going}
 use Rattle.ws_peer.specs.declared.peer.Going.TheVariants.{More, Ended}
 use Rattle.ws_peer.specs.Talks.{Entry, Fed, Finished, Says, fed_in, appended_in}
-use Rattle.ws_peer.specs.Runs.{GoesOn, Talked, EndsByTester, EndsByPeer, AreFirstPieces, IsRunOf, joined_talk, pieces_in, pieces_by_turn, turn_of, with_finish}
-use Rattle.ws_peer.specs.TurnRuns.{GoesOnAfter, EndsWithin, IsTurnRun}
+use Rattle.ws_peer.specs.Runs.{GoesOn, Talked, IsRunOf, joined_talk, pieces_in, pieces_by_turn, turn_of, with_finish}
+use Rattle.ws_peer.specs.TurnRuns.{IsTurnRun}
 use Rattle.ws_peer.proofs.Talking.{fed_in-more, appended_in-more, pieces_in-more, talked_nothing, talked_more, said, goes_on_more, goes_on_both}
 
 -- ---- a turn

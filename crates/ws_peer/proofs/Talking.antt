@@ -1,8 +1,8 @@
 -- One call more in a talk.
-use Rattle.std.proofs.Common.{◌≡◌, ℕ, List, [], ◌∷◌, ◌++◌, refl, sym, ap, ◌∙◌, subst, append_assoc, append-nil}
+use Rattle.std.proofs.Common.{◌≡◌, ℕ, List, [], ◌∷◌, ◌++◌, sym, ap, ◌∙◌, subst, append_assoc, append-nil}
 use Rattle.std.specs.List.{AllByRecursion, flat_map}
 use Rattle.std.proofs.lemmas.Grind.{flat_map-append}
-use Rattle.ws_peer.specs.Talks.{Entry, Fed, Finished, Says, fed_by, appended_by, fed_in, appended_in}
+use Rattle.ws_peer.specs.Talks.{Entry, Says, fed_by, appended_by, fed_in, appended_in}
 use Rattle.ws_peer.specs.Runs.{GoesOn, Talked, piece_of, pieces_in}
 
 one_more : {A : Type 0} (f : Entry → List A) (talk : List Entry) (entry : Entry) → flat_map f (talk ++ entry ∷ []) ≡ flat_map f talk ++ f entry

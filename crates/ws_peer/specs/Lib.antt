@@ -2,6 +2,7 @@ pub mod Talks
 pub mod Echoes
 pub mod EchoTalks
 pub mod Runs
+pub mod EchoRuns
 pub mod Driving
 pub mod EchoLaws
 pub mod TurnRuns

@@ -1,11 +1,13 @@
 //! Peers at work: what a tester says to a server and what it answers, as a talk, and the run of a script over a peer
 //! (RFC 6455 sections 4 to 8).
 //!
-//! The layers above use the contract of `run_case`: the transcript is that of a talk which the peer has had.
+//! The layers above use two contracts: that of `run_case`, by which the transcript is that of a talk which the peer has
+//! had, and that of `run_over_echo`, by which over a new echo this talk is an echo's.
 #![tactic(auto)]
 
 mod driving;
 mod echo_peer;
+mod echo_run;
 mod lemmas;
 mod peer;
 mod running;
@@ -13,6 +15,7 @@ mod tung_peer;
 
 pub use driving::{DriveEnd, drive};
 pub use echo_peer::EchoPeer;
+pub use echo_run::run_over_echo;
 pub use peer::{Going, Peer};
 pub use running::run_case;
 pub use tung_peer::TungPeer;

@@ -1,5 +1,5 @@
-//! A script run over a peer (RFC 6455 sections 4 to 8): its pieces are fed turn by turn, and what was really fed and what
-//! came for it is recorded.
+//! A script run over a peer (RFC 6455 sections 4 to 8): its pieces are fed turn by turn, and what was really fed and
+//! what came for it is recorded.
 
 ghost use Rattle.std.specs.Prelude.{◌≡◌, ℕ, List, [], ◌∷◌, IfOk, OnOk};
 ghost use Rattle.ws_suite.specs.Scripts.{AreTurns, CanBeRun};

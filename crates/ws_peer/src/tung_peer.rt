@@ -1,5 +1,5 @@
-//! The ported `tungstenite` as a peer: a server socket of that crate, which reads and writes two buffers in memory. What
-//! it says is the crate's own affair: nothing is claimed of it here.
+//! The ported `tungstenite` as a peer: a server socket of that crate, which reads and writes two buffers in memory.
+//! What it says is the crate's own affair: nothing is claimed of it here.
 
 ghost use Rattle.std.specs.Prelude.{◌≡◌, ◌++◌, IfOk, OnOk, false};
 ghost use Rattle.std.specs.Io.{StartsWith};

@@ -1,6 +1,4 @@
-use Rattle.std.proofs.Common.{◌≡◌, List, [], refl}
-use Rattle.ws_frame.specs.declared.role.Role.{Role}
-use Rattle.ws_session.specs.Limits.{LimitsValue}
+use Rattle.std.proofs.Common.{[]}
 use Rattle.ws_session.specs.Replies.{echo_reply_to}
 use Rattle.ws_session.specs.Sends.{most_limits}
 use Rattle.ws_peer.proofs.Echoing.{nothing_is_valid}

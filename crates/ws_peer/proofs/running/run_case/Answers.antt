@@ -1,6 +1,5 @@
-use Rattle.std.proofs.Common.{◌≡◌, ℕ, ◌+◌, List, ◌∷◌, [], ◌++◌, ◌∙◌, ap, arith, drop, length, refl, rules, take, take_all, take-append-drop, sym, subst, append_assoc}
+use Rattle.std.proofs.Common.{◌≡◌, ℕ, ◌+◌, List, ◌∷◌, [], ◌++◌, ◌∙◌, ap, arith, drop, refl, rules, take, take_all, take-append-drop, sym, subst, append_assoc}
 use Rattle.std.proofs.lemmas.List.{take_more}
-use Rattle.ws_suite.specs.declared.transcript.Turn.{Turn}
 use Rattle.ws_peer.specs.declared.peer.Going.TheVariants.{More, Ended}
 use Rattle.ws_peer.proofs.RunLemmas.{HasRunTurn, HasRunTurns, run_ended, run_finished, run_more}
 use Rattle.ws_peer.proofs.running.run_case.Goals as goal

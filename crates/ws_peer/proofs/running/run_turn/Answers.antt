@@ -1,8 +1,7 @@
-use Rattle.std.proofs.Common.{◌≡◌, ℕ, ◌+◌, List, ◌∷◌, [], ◌++◌, ◌∙◌, ap, arith, drop, length, rules, take, take_all, take-append-drop, sym, subst}
+use Rattle.std.proofs.Common.{◌≡◌, ℕ, ◌+◌, List, ◌∷◌, [], ◌++◌, ◌∙◌, ap, drop, rules, take, take-append-drop, sym, subst}
 use Rattle.std.proofs.lemmas.List.{take_more}
-use Rattle.ws_suite.specs.declared.transcript.Turn.{Turn}
 use Rattle.ws_peer.specs.declared.peer.Going.TheVariants.{More, Ended}
-use Rattle.ws_peer.proofs.RunLemmas.{HasFedPieces, fed_more, turn_ended, turn_run}
+use Rattle.ws_peer.proofs.RunLemmas.{HasFedPieces, fed_more, turn_ended}
 use Rattle.ws_peer.proofs.running.run_turn.Goals as goal
 
 pub returns-then-eq : goal.returns-then-eq

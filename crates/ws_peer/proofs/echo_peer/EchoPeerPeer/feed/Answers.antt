@@ -1,7 +1,7 @@
 use Rattle.std.proofs.Common.{ap, subst, sym}
 use Rattle.ws_session.specs.Exchange.{SessionValue}
 use Rattle.ws_peer.specs.EchoTalks.{EchoPeerValue, MayHaveHad}
-use Rattle.ws_peer.proofs.EchoTalkLemmas.{put_after, says_fed, taken_more}
+use Rattle.ws_peer.proofs.EchoTalkLemmas.{says_fed, taken_more}
 use Rattle.ws_peer.proofs.echo_peer.EchoPeerPeer.feed.Goals as goal
 
 pub invariant_of-self : goal.invariant_of-self

@@ -1,0 +1,21 @@
+//! A script run over a new echo (RFC 6455 sections 5.4 to 5.6).
+
+ghost use Rattle.std.specs.Prelude.{IfOk};
+ghost use Rattle.ws_suite.specs.Scripts.{CanBeRun};
+ghost use Rattle.ws_peer.specs.EchoRuns.{IsEchoRun};
+
+use crate::echo_peer::EchoPeer;
+use crate::running::run_case;
+use std::alloc::Global;
+use ws_base::NoMemory;
+use ws_suite::{Case, Transcript};
+
+/// Runs a script over a new echo, its frames masked with `key`.
+pub fn run_over_echo(alloc: Global, case: &Case, key: [u8; 4]) -> Result<Transcript, NoMemory>
+    requires { CanBeRun case.now }
+    ensures { IfOk result (λ transcript. IsEchoRun case.now key transcript) }
+{
+    let mut peer = EchoPeer::new(alloc);
+    let transcript = run_case(alloc, case, &mut peer, key)?;
+    Ok(transcript)
+}
