@@ -65,6 +65,11 @@ IsTaken rest piece new (Part used) = IsKept (rest ++ take used piece) new
 IsTaken rest piece new (Whole header first used) = IsWhole (rest ++ take used piece) header first × IsKept [] new
 IsTaken rest piece new BadLength = BeginsBadLength (rest ++ piece)
 
+-- what a call does with a piece, whatever bytes are kept
+abbrev pub TakesPart : Partial → Partial → List ℕ → Taken → Type 0
+TakesPart old new piece result =
+    (rest : List ℕ) → AreBytes rest → IsKept rest old → IsTaken rest piece new result
+
 -- a header is whole, and with it a frame without a payload
 abbrev pub BeginsPayload : HeaderFields → ℕ → Partial → Taken → Type 0
 BeginsPayload header used new (Part count) = (count ≡ used) × (new.header ≡ Some header) × (new.first ≡ [])

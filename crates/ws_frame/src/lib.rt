@@ -17,6 +17,7 @@ mod role;
 mod room;
 mod showing;
 mod writing;
+mod writing_lines;
 
 pub use appending::append_frame;
 pub use devices::{InputEnd, Watched, WriteFault, read_input, write_whole};

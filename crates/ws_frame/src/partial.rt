@@ -1,8 +1,7 @@
 //! The frame under way: what is kept of one that is not whole (RFC 6455 section 5.2).
 
 ghost use Rattle.std.specs.Prelude.{◌≡◌, ◌<◌, [], List, ℕ, length, IsTrue, ◌↔◌, Some, None};
-ghost use Rattle.ws_frame.specs.Header.{AreBytes};
-ghost use Rattle.ws_frame.specs.Showing.{IsKept, IsUnderWay, UsesSome, IsTaken, BeginsPayload};
+ghost use Rattle.ws_frame.specs.Showing.{IsKept, IsUnderWay, UsesSome, TakesPart, BeginsPayload};
 
 use crate::first_bytes::FirstBytes;
 use crate::header::Header;
@@ -59,7 +58,7 @@ impl Partial {
         requires under_way { IsUnderWay self.old }
         requires some { 0 < length piece.now }
         ensures used { UsesSome piece.now result }
-        ensures taken { (rest : List ℕ) → AreBytes rest → IsKept rest self.old → IsTaken rest piece.now self.new result }
+        ensures taken { TakesPart self.old self.new piece.now result }
     {
         match self.header {
             None => self.take_header(piece),
@@ -73,7 +72,7 @@ impl Partial {
         requires under_way { IsUnderWay self.old }
         requires some { 0 < length piece.now }
         ensures used { UsesSome piece.now result }
-        ensures taken { (rest : List ℕ) → AreBytes rest → IsKept rest self.old → IsTaken rest piece.now self.new result }
+        ensures taken { TakesPart self.old self.new piece.now result }
     {
         let before = self.first.as_slice().len();
         self.first.push(piece);
@@ -110,7 +109,7 @@ impl Partial {
         requires under_way { IsUnderWay self.old }
         requires some { 0 < length piece.now }
         ensures used { UsesSome piece.now result }
-        ensures taken { (rest : List ℕ) → AreBytes rest → IsKept rest self.old → IsTaken rest piece.now self.new result }
+        ensures taken { TakesPart self.old self.new piece.now result }
     {
         let used = self.to_come.min(piece.len() as u64) as usize;
         self.first.push(&piece[..used]);

@@ -1,20 +1,17 @@
 //! The lines of a stream of frames (RFC 6455 section 5.2), from a reader to a writer.
 
-ghost use Rattle.std.specs.Prelude.{◌≡◌, ◌<◌, ◌≤◌, ◌+◌, ◌^◌, ℕ, List, [], ◌++◌, length, false, OnOk, IfOk, IfSome};
+ghost use Rattle.std.specs.Prelude.{◌≡◌, ◌<◌, ◌≤◌, ◌+◌, ◌^◌, ℕ, List, [], length, false, IfOk, IfSome};
 ghost use Rattle.ws_frame.specs.Watching.{has_failed};
 ghost use Rattle.ws_frame.specs.Devices.{watched};
-ghost use Rattle.ws_frame.specs.Masking.{masked_payload};
-ghost use Rattle.ws_frame.specs.Lines.{line_with, last_line, Leaves, Shows, IsFairEnd};
-ghost use Rattle.ws_frame.specs.Showing.{CanGoOn, HasTold, ShowsPiece, ShowsNext, WritesSome, EndsWith, IsKept};
+ghost use Rattle.ws_frame.specs.Lines.{Leaves, Shows, IsFairEnd};
+ghost use Rattle.ws_frame.specs.Showing.{CanGoOn, HasTold, ShowsPiece, ShowsNext, IsKept};
 ghost use Rattle.ws_frame.specs.declared.showing.ShowEnd.TheVariants.{NoMemory};
 
-use crate::devices::{Watched, WriteFault, write_whole};
-use crate::first_bytes::FirstBytes;
-use crate::header::Header;
-use crate::line::{MAX_LINE, push_line};
+use crate::devices::{Watched, WriteFault};
 use crate::partial::{Partial, Taken};
 use crate::role::Role;
-use crate::room::{ROOM, Room};
+use crate::room::Room;
+use crate::writing_lines::{end_with, flush, put_line};
 use std::io::{Read, Write};
 
 /// How many bytes one read asks for at most.
@@ -204,86 +201,4 @@ impl Run {
             ShowEnd::CutAt(self.offset)
         }
     }
-}
-
-/// Puts the line of a frame behind those that wait, which are written first where there is no room for one more.
-/// `first` are the first bytes of the payload as they stand on the wire.
-fn put_line<W: Write>(
-    lines: &mut Room,
-    writer: &mut Watched<W>,
-    from: Role,
-    offset: u64,
-    header: Header,
-    first: FirstBytes,
-) -> Result<(), WriteFault>
-    requires { has_failed writer.old ≡ false }
-    ensures { WritesSome (lines.old ++ line_with from offset header (masked_payload header.key first)) lines.new
-        (watched W.contents writer.old writer.new) result }
-{
-    make_room(lines, writer)?;
-    let shown = unmasked(header.key(), first);
-    push_line(lines, from, offset, &header, shown.as_slice());
-    Ok(())
-}
-
-/// Makes room for one more line: those that wait are written where there is none.
-fn make_room<W: Write>(lines: &mut Room, writer: &mut Watched<W>) -> Result<(), WriteFault>
-    requires { has_failed writer.old ≡ false }
-    ensures written { WritesSome lines.old lines.new (watched W.contents writer.old writer.new) result }
-    ensures room { OnOk result (length lines.new + 200 ≤ 65536) }
-{
-    if ROOM - lines.len() < MAX_LINE {
-        return flush(lines, writer);
-    }
-    Ok(())
-}
-
-/// The first bytes of a payload, unmasked.
-fn unmasked(key: Option<[u8; 4]>, first: FirstBytes) -> FirstBytes
-    ensures { result ≡ masked_payload key first }
-{
-    let mut shown = first;
-    if let Some(key) = key {
-        shown.unmask(key);
-    }
-    shown
-}
-
-/// Writes the lines that wait.
-fn flush<W: Write>(lines: &mut Room, writer: &mut Watched<W>) -> Result<(), WriteFault>
-    requires { has_failed writer.old ≡ false }
-    ensures written { WritesSome lines.old lines.new (watched W.contents writer.old writer.new) result }
-    ensures empty { OnOk result (lines.new ≡ []) }
-{
-    write_whole(writer, lines.as_slice())?;
-    lines.clear();
-    Ok(())
-}
-
-/// Writes the line for this end, if it has one, and answers how the run ended.
-fn end_with<W: Write>(lines: &mut Room, writer: &mut Watched<W>, end: ShowEnd) -> ShowEnd
-    requires works { has_failed writer.old ≡ false }
-    requires empty { lines.old ≡ [] }
-    ensures { EndsWith end (watched W.contents writer.old writer.new) result }
-{
-    push_last_line(lines, end);
-    match flush(lines, writer) {
-        Ok(()) => end,
-        Err(_) => ShowEnd::WriteFault,
-    }
-}
-
-/// Puts the line for this end, if it has one.
-fn push_last_line(lines: &mut Room, end: ShowEnd)
-    requires { lines.old ≡ [] }
-    ensures { lines.new ≡ last_line end }
-{
-    let (words, place) = match end {
-        ShowEnd::CutAt(place) => (b"cut at ".as_slice(), place),
-        ShowEnd::BadLengthAt(place) => (b"bad length at ".as_slice(), place),
-        _ => return,
-    };
-    lines.push(words);
-    lines.push_decimal(place);
-    lines.push(b"\n");
 }

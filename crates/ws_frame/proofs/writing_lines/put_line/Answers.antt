@@ -2,7 +2,7 @@ use Rattle.std.proofs.Common.{◌++◌, ◌∙◌, List, ℕ, ap, append_assoc}
 use Rattle.std.proofs.lemmas.Result.{err_from_is_err_and}
 use Rattle.ws_frame.specs.Masking.{masked_payload}
 use Rattle.ws_frame.specs.Lines.{line_with}
-use Rattle.ws_frame.proofs.showing.put_line.Goals as goal
+use Rattle.ws_frame.proofs.writing_lines.put_line.Goals as goal
 
 pub returns-in_err-make_room : goal.returns-in_err-make_room
 returns-in_err-make_room g c =
