@@ -7,3 +7,4 @@ pub mod Capturing
 pub mod Judging
 pub mod Cases
 pub mod Words
+pub mod Examples
