@@ -187,7 +187,7 @@ fn room_for_the_lines(rt: HostRuntime) {
 }
 
 /// The lengths of the writes of a run, one a call.
-fn writes_of<R: Read>(alloc: Global, reader: R) -> Vec<usize> {
+fn writes_of<R: Read + Drop>(alloc: Global, reader: R) -> Vec<usize> {
     let mut reader = Watched::new(reader);
     let mut writer = Watched::new(Counting::new(alloc, Vec::new(alloc)));
     show(&mut reader, &mut writer, Role::Server, BUDGET);
