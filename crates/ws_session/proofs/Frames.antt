@@ -7,7 +7,7 @@ use Rattle.ws_frame.specs.declared.header.Form.{Form}
 use Rattle.ws_frame.specs.declared.header.Form.TheVariants.{Short, Two, Eight}
 use Rattle.ws_frame.specs.Header.{HeaderFields, IsMaskingKey, AreBytes, header_bytes, CanHold}
 use Rattle.ws_frame.specs.Masking.{masked_payload}
-use Rattle.ws_frame.specs.Frame.{KeyedFrame, sent_as, shortest_form}
+use Rattle.ws_frame.specs.Frame.{KeyedFrame, FitsTheLayout, sent_as, frame_bytes, shortest_form}
 use Rattle.ws_frame.proofs.Frames.{sent_is_wire}
 use Rattle.ws_frame.proofs.Headers.{same_header}
 use Rattle.ws_frame.proofs.Masks.{length-masked_payload, same_masked_payload, take-masked_payload}
@@ -29,11 +29,7 @@ use Rattle.ws_frame.proofs.Masks.{masked_payload_twice, masked_payload_bytes}
 use Rattle.ws_frame.proofs.Splits.{rest_bytes}
 use Rattle.ws_frame.proofs.Frames.{no_wire_of_cut_payload, no_wire_without_header}
 use Rattle.ws_session.specs.Faults.{IsControl}
-use Rattle.ws_session.specs.declared.checking.Content.{Content}
-use Rattle.ws_session.specs.declared.checking.Content.TheVariants as content
-use Rattle.ws_session.specs.declared.checking.FrameCheck.{FrameCheck}
-use Rattle.ws_session.specs.declared.checking.FrameCheck.TheVariants as check
-use Rattle.ws_session.specs.Checking.{NoneAtHeader, IsFirstAtHeader, NoneInPayload, IsFirstInPayload, frame_with, IsContentOf, FitsIn, IsWholeFrame, IsRoomFor, IsPayloadCheck, IsFrameCheck}
+use Rattle.ws_session.specs.Checking.{NoneAtHeader, IsFirstAtHeader, NoneInPayload, IsFirstInPayload, frame_with, IsRoomFor}
 use Rattle.ws_session.proofs.HeaderReasons.{at_most_ten}
 use Rattle.ws_session.proofs.Next.{length-frame_bytes}
 
@@ -75,13 +71,13 @@ make_fields fin rsv opcode key len form = record { fin = fin; rsv = rsv; opcode 
 
 -- the header h stands at the front of some bytes, and p is the payload behind it as far as it has come
 module _ (role : Role) (limits : LimitsValue) (opened : Option Message) (bytes : List ℕ) (h : HeaderFields) (used : ℕ) (b : Begins h used bytes) (p : List ℕ) (is : p ≡ masked_payload h.key (take h.len (drop used bytes))) (are : AreBytes bytes) where
-  parts : bytes ≡ header_bytes h ++ drop used bytes
+  pub parts : bytes ≡ header_bytes h ++ drop used bytes
   parts = header_parts h used bytes b
 
-  size : used ≡ length (header_bytes h)
+  pub size : used ≡ length (header_bytes h)
   size = sym (length-take-le used bytes b.within) ∙ ap (λ (l : List ℕ). length l) b.front.layout
 
-  length_p : length p ≡ min h.len (length (drop used bytes))
+  pub length_p : length p ≡ min h.len (length (drop used bytes))
   length_p = ap (λ (l : List ℕ). length l) is ∙ length-masked_payload h.key (take h.len (drop used bytes)) ∙ length-take h.len (drop used bytes)
 
   pub within_len : length p ≤ h.len
@@ -94,7 +90,7 @@ module _ (role : Role) (limits : LimitsValue) (opened : Option Message) (bytes :
   within_bytes = omega (arith, total, length_p)
 
   -- a front of the payload, masked, is a front of what follows the header
-  masked_back : (n : ℕ) → n ≤ h.len → masked_payload h.key (take n p) ≡ take n (drop used bytes)
+  pub masked_back : (n : ℕ) → n ≤ h.len → masked_payload h.key (take n p) ≡ take n (drop used bytes)
   masked_back n le =
       sym (take-masked_payload h.key n p) ∙ ap (λ (l : List ℕ). take n (masked_payload h.key l)) is ∙ ap (λ (l : List ℕ). take n l) (masked_payload_twice h.key (take h.len (drop used bytes))) ∙ take-take n h.len (drop used bytes) le
 
@@ -191,7 +187,7 @@ module _ (role : Role) (limits : LimitsValue) (opened : Option Message) (bytes :
     pub goes_on_some : h.opcode ≡ 0 → opened ≡ None → ⊥
     goes_on_some e is_none = none NothingToContinue (e, is_none)
 
-    data_fits : h.opcode ≤ 2 → length (open_payload opened) + h.len ≤ limits.max_message
+    pub data_fits : h.opcode ≤ 2 → length (open_payload opened) + h.len ≤ limits.max_message
     data_fits le = elim (cases_lt limits.max_message (length (open_payload opened) + h.len)) [ inl big ↦ absurd (none TooBig (le, big)) | inr fits ↦ fits ]
 
     small_len : h.len < 2 ^ 63
@@ -204,7 +200,7 @@ module _ (role : Role) (limits : LimitsValue) (opened : Option Message) (bytes :
     clean_at count q le fine (inl a) = none q a.1
     clean_at count q le fine (inr a) = fine count q le a
 
-    clean_by : NoneInPayload opened h p → HasNoFaultOfNext role limits opened bytes
+    pub clean_by : NoneInPayload opened h p → HasNoFaultOfNext role limits opened bytes
     clean_by fine n q f = let at = from_fault n q f in clean_at at.count q at.within fine at.applies
 
     -- the payload isn't all there
@@ -251,37 +247,24 @@ module _ (role : Role) (limits : LimitsValue) (opened : Option Message) (bytes :
         let same : make_fields h.fin h.rsv h.opcode h.key (length p) (shortest_form (length p)) ≡ make_fields h.fin h.rsv h.opcode h.key h.len h.form = cc in
         same
 
-    content_fits : (content : Content) → length p ≡ h.len → IsContentOf opened (frame_with h p) content → FitsIn limits opened content
-    content_fits (content.Data fin kind payload text) whole is_content =
-        let small : h.opcode < 8 = leb-false 8 h.opcode is_content.0 in
-        let same : length payload.items ≡ length p = ap (λ (l : List ℕ). length l) is_content.3 in
-        omega (arith, data_fits (is_data small))
-    content_fits (content.Ping payload) whole is_content = tt
-    content_fits (content.Pong payload) whole is_content = tt
-    content_fits (content.Close close) whole is_content = tt
+    -- the bytes as this frame's
+    pub whole_can : length p ≡ h.len → FitsTheLayout (record { frame = frame_with h p; key = h.key })
+    whole_can whole = record { rsv = b.front.fields.rsv; opcode = b.front.fields.opcode; key = b.front.fields.key; payload = bytes_p; len = omega (arith, small_len) }
 
-    pub whole_checked : (end : ℕ) (content : Content) → length p ≡ h.len → end ≡ used + length p → IsContentOf opened (frame_with h p) content → NoneInPayload opened h p → IsWholeFrame role limits opened bytes end content
+    pub whole_front : length p ≡ h.len → bytes ≡ frame_bytes (record { frame = frame_with h p; key = h.key }) ++ drop h.len (drop used bytes)
     unfolding arrived
-    whole_checked end content whole at_end is_content fine =
+    whole_front whole =
         let header : header_of arrived ≡ h = arrived_header whole in
         let all : take (length p) p ≡ p = take_all (length p) p (omega arith) in
         let masked_all : masked_payload h.key p ≡ take h.len (drop used bytes) = ap (λ (l : List ℕ). masked_payload h.key l) (sym all) ∙ masked_back (length p) within_len ∙ ap (λ n. take n (drop used bytes)) whole in
-        record {
-          frame = arrived;
-          can = record { rsv = b.front.fields.rsv; opcode = b.front.fields.opcode; key = b.front.fields.key; payload = bytes_p; len = omega (arith, small_len) };
-          more = drop h.len (drop used bytes);
-          front = parts ∙ ap (λ (l : List ℕ). header_bytes h ++ l) (sym (take-append-drop h.len (drop used bytes)) ∙ ap (λ (l : List ℕ). l ++ drop h.len (drop used bytes)) (sym masked_all))
-              ∙ sym (append_assoc (header_bytes h) (masked_payload h.key p) (drop h.len (drop used bytes))) ∙ ap (λ (g : HeaderFields). (header_bytes g ++ masked_payload h.key p) ++ drop h.len (drop used bytes)) (sym header);
-          size = at_end ∙ ap (λ n. n + length p) (size ∙ ap (λ (g : HeaderFields). length (header_bytes g)) (sym header)) ∙ sym (length-frame_bytes arrived);
-          clean = clean_by fine;
-          is_content = is_content;
-          fits = content_fits content whole is_content;
-        }
+        parts ∙ ap (λ (l : List ℕ). header_bytes h ++ l) (sym (take-append-drop h.len (drop used bytes)) ∙ ap (λ (l : List ℕ). l ++ drop h.len (drop used bytes)) (sym masked_all))
+        ∙ sym (append_assoc (header_bytes h) (masked_payload h.key p) (drop h.len (drop used bytes))) ∙ ap (λ (g : HeaderFields). (header_bytes g ++ masked_payload h.key p) ++ drop h.len (drop used bytes)) (sym header)
 
-    pub judged_by : (j : FrameCheck) → IsPayloadCheck opened h used p j → IsFrameCheck role limits opened bytes j
-    judged_by check.Need a = (part_checked a.0 a.1, part_room a.0)
-    judged_by (check.Whole end content) a = whole_checked end content a.0 a.1 a.2 a.3
-    judged_by (check.Fault reason place) a = subst (λ n. IsFirstFaultOfNext role limits opened bytes n reason) (sym a.1) (payload_checked a.0 reason a.2)
+    pub whole_size : (end : ℕ) → length p ≡ h.len → end ≡ used + length p → end ≡ length (frame_bytes (record { frame = frame_with h p; key = h.key }))
+    unfolding arrived
+    whole_size end whole at_end =
+        let header : header_of arrived ≡ h = arrived_header whole in
+        at_end ∙ ap (λ n. n + length p) (size ∙ ap (λ (g : HeaderFields). length (header_bytes g)) (sym header)) ∙ sym (length-frame_bytes arrived)
 
 -- no header has come
 pub part_of_header : (role : Role) (limits : LimitsValue) (opened : Option Message) (bytes : List ℕ) → BeginsNoHeader bytes → IsPartOfFrame role limits opened bytes

@@ -13,7 +13,15 @@ pub mod Fresh
 pub mod HeaderReasons
 pub mod Payloads
 pub mod Frames
-pub mod Views
+pub mod MaskedParts
+pub mod Assembled
+pub mod Received
+pub mod Arriving
+pub mod HeaderEnds
+pub mod Pieces
+pub mod Kept
+pub mod Receipts
+pub mod SessionParts
 pub mod Over
 pub mod SomeExchange
 pub mod TakenPieces

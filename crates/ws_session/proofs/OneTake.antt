@@ -30,10 +30,6 @@ use Rattle.ws_frame.proofs.Numbers.{front_bytes}
 use Rattle.ws_session.proofs.Next.{within_front, next_later, next_earlier, drop_front}
 use Rattle.ws_session.proofs.Statuses.{IsGoingOn, is_going_on, replies_at, no_replies}
 use Rattle.ws_session.proofs.OneMoreFrame.{quiet_events, quiet_agrees, frame_events, frame_agrees, fault_events, fault_agrees, status_going}
-use Rattle.ws_session.specs.declared.checking.FrameCheck.{FrameCheck}
-use Rattle.ws_session.specs.declared.checking.FrameCheck.TheVariants as check
-use Rattle.ws_session.specs.Checking.{IsFrameCheck}
-use Rattle.ws_session.specs.Inside.{EndsBetween}
 
 -- ---- shorter fronts
 
@@ -60,7 +56,7 @@ fault_too_early : (n k : ℕ) (q r : Reason) → IsNoLater k r n q → n < k →
 fault_too_early n k q r (inl lt) le = omega arith
 fault_too_early n k q r (inr e) le = omega (arith, e.0)
 
-within_bytes : (role : Role) (limits : LimitsValue) (opened : Option Message) (t : List ℕ) (n : ℕ) (r : Reason) → IsFaultOfNext role limits opened t n r → n ≤ length t
+pub within_bytes : (role : Role) (limits : LimitsValue) (opened : Option Message) (t : List ℕ) (n : ℕ) (r : Reason) → IsFaultOfNext role limits opened t n r → n ≤ length t
 within_bytes role limits opened t n r f =
     let all : length t ≡ length (header_bytes f.header) + length (masked_payload f.header.key f.payload ++ f.rest) = ap (λ (l : List ℕ). length l) f.parts ∙ length-append (header_bytes f.header) (masked_payload f.header.key f.payload ++ f.rest) in
     let tail = length-append (masked_payload f.header.key f.payload) f.rest in
@@ -183,12 +179,3 @@ module _ (a : Answering) (old : SessionValue) (can_answer : CanAnswer a old.send
         put = put ∙ ap (λ (l : List Frame). before ++ stream_bytes (map (under_key old.role key) l)) (sym (owed_here (event.Failed r)));
         same = (is_after.role, is_after.limits);
       }
-
--- what is judged ends behind what was kept, and within the piece
-pub ends_between : (role : Role) (limits : LimitsValue) (opened : Option Message) (kept piece : List ℕ) (j : FrameCheck) → IsPartOfFrame role limits opened kept → IsFrameCheck role limits opened (kept ++ piece) j → EndsBetween (length kept) (length kept + length piece) j
-ends_between role limits opened kept piece check.Need p is = tt
-ends_between role limits opened kept piece (check.Whole used content) p is =
-    let total : length kept + length piece ≡ length (frame_bytes is.frame) + length is.more = sym (length-append kept piece) ∙ ap (λ (l : List ℕ). length l) is.front ∙ length-append (frame_bytes is.frame) is.more in
-    (omega (arith, is.size, frame_behind_kept role limits opened kept piece is.frame is.more p is.can is.front), omega (arith, is.size))
-ends_between role limits opened kept piece (check.Fault reason place) p is =
-    (fault_behind_kept role limits opened kept piece place reason p is.fault, omega (arith, within_bytes role limits opened (kept ++ piece) place reason is.fault, length-append kept piece))

@@ -21,7 +21,7 @@ use Rattle.ws_text.specs.declared.closing.CloseFault.{CloseFault}
 use Rattle.ws_text.specs.declared.closing.CloseFault.TheVariants.{OneByte, BadCode, ReasonNotText}
 use Rattle.ws_session.specs.Messages.{kind_of}
 use Rattle.ws_session.specs.Validity.{OfText}
-use Rattle.ws_session.specs.Assembly.{HasReadOpen, IsTextOf, message_plus}
+use Rattle.ws_session.specs.Assembly.{HasReadOpen}
 use Rattle.ws_session.specs.Checking.{NoneInPayload, IsFirstInPayload, reason_of_close}
 
 -- a front that is as long as the header says is the whole
@@ -303,8 +303,3 @@ kind_by false e = absurd cc
 
 pub kind_is_text : (opcode : ℕ) → kind_of opcode ≡ Text → opcode ≡ 1
 kind_is_text opcode e = eqb-true opcode 1 (kind_by (opcode == 1) e)
-
--- and with the payload behind it the message with it
-pub read_on : (opened : Option Message) (h : HeaderFields) (p : List ℕ) (text : Option (List ℕ)) → h.opcode ≤ 2 → (1 ≤ h.opcode → opened ≡ None) → (IsOfText opened h → HasRead text (open_payload opened ++ p)) → IsTextOf (message_plus opened (kind_of h.opcode) p) text
-read_on None h p text opcode begins read = text_if (kind_of h.opcode) (HasRead text p) (λ e. read (inl (kind_is_text h.opcode e)))
-read_on (Some m) h p text opcode begins read = text_if m.kind (HasRead text (m.payload ++ p)) (λ e. read (inr (elim (cases_lt h.opcode 1) [ inl zero_only ↦ omega arith | inr one ↦ let no_open = begins one in absurd cc ], e)))

@@ -1,19 +1,17 @@
 -- Inside the crate: what holds of every session, for its invariant. A reader may skip this file.
-use Rattle.std.specs.Prelude.{◌≡◌, ℕ, ◌+◌, ◌≤◌, ◌<◌, true, List, [], ◌∷◌, ◌++◌, length, Option, Some, None, map}
-use Rattle.ws_frame.specs.Frame.{Frame, stream_bytes}
+use Rattle.std.specs.Prelude.{◌≡◌, ℕ, ◌+◌, ◌≤◌, true, List, [], ◌∷◌, ◌++◌, length, Option, Some, None}
+use Rattle.ws_frame.specs.Frame.{Frame}
 use Rattle.ws_session.specs.declared.message.Message.{Message}
 use Rattle.ws_session.specs.declared.event.Event.{Event}
 use Rattle.ws_session.specs.declared.event.Event.TheVariants as event
-use Rattle.ws_session.specs.declared.checking.FrameCheck.{FrameCheck}
-use Rattle.ws_session.specs.declared.checking.FrameCheck.TheVariants as check
 use Rattle.ws_session.specs.Faults.{open_payload}
-use Rattle.ws_session.specs.Replies.{reply_to, message_frame, under_key}
+use Rattle.ws_session.specs.Replies.{reply_to, message_frame}
 use Rattle.ws_session.specs.Exchange.{SendingValue, SessionValue, is_over}
 use Rattle.ws_session.specs.Taking.{TakeCall, HasTaken}
 use Rattle.ws_session.specs.declared.event.PlacedEvent.{PlacedEvent}
 use Rattle.ws_session.specs.declared.session.Answering.{Answering}
 use Rattle.ws_session.specs.declared.session.Answering.TheVariants.{Plain, Echoing}
-use Rattle.ws_session.specs.NextFrame.{IsPartOfFrame, due_at, IsAfter}
+use Rattle.ws_session.specs.NextFrame.{IsPartOfFrame}
 
 -- what is kept is a part of one frame and a message within the limits, and nothing once all is over
 pub record IsSound (v : SessionValue) : Type 0 where
@@ -39,22 +37,6 @@ reply_by answering e = reply_to e
 abbrev pub CanAnswer : Answering → Option SendingValue → Type 0
 CanAnswer Plain sending = Unit {0}
 CanAnswer Echoing sending = sending ≡ None
-
--- the bytes of frames that are owed
-abbrev pub put_for : SessionValue → List ℕ → List Frame → List ℕ
-put_for v key frames = stream_bytes (map (under_key v.role key) (due_at v.status frames))
-
--- what came of an event, and of what was put for it
-pub record HasActed (answering : Answering) (old new : SessionValue) (key before after : List ℕ) (e : Event)
-    (opened : Option Message) : Type 0 where
-  pub is_after : IsAfter old new e opened
-  pub put : after ≡ before ++ put_for old key (reply_by answering e)
-
--- what is checked ends after the bytes that were kept, and within all of them
-abbrev pub EndsBetween : ℕ → ℕ → FrameCheck → Type 0
-EndsBetween kept all check.Need = Unit {0}
-EndsBetween kept all (check.Whole used content) = (kept < used) × (used ≤ all)
-EndsBetween kept all (check.Fault reason place) = (kept < place) × (place ≤ all)
 
 -- ---- a piece, front by front
 

@@ -12,6 +12,10 @@ pub mod Words
 pub mod NextFrame
 pub mod Assembly
 pub mod Checking
+pub mod Masked
+pub mod Receiving
+pub mod Replying
+pub mod Receiver
 pub mod Inside
 pub mod Outgoing
 pub mod Examples

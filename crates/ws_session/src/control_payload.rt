@@ -1,8 +1,10 @@
 //! The payload of a control frame (RFC 6455 section 5.5).
 
-ghost use Rattle.std.specs.Prelude.{◌≡◌, ◌≤◌, ◌+◌, ◌-◌, ◌++◌, length, replicate};
+ghost use Rattle.std.specs.Prelude.{◌≡◌, ◌≤◌, ◌+◌, ◌-◌, ◌++◌, List, ℕ, length, drop, replicate};
+ghost use Rattle.ws_session.specs.Masked.{masked_from};
 
 use std::marker::Model;
+use ws_frame::mask;
 
 /// The most payload bytes of a control frame.
 const MAX_CONTROL_PAYLOAD: usize = 125;
@@ -56,6 +58,44 @@ impl Small {
             bytes: padded_pair(front, back),
             len: front.len() + back.len(),
         }
+    }
+
+    /// These bytes, and after them those of a payload that these begin, unmasked.
+    pub(crate) fn with_masked(&self, key: Option<[u8; 4]>, more: &[u8]) -> Small
+        requires { length self.now + length more.now ≤ 125 }
+        ensures { result ≡ self.now ++ masked_from key (length self.now) more.now }
+    {
+        Small {
+            bytes: padded_masked(self.as_slice(), key, more),
+            len: self.len + more.len(),
+        }
+    }
+}
+
+/// The first bytes of a payload, after them more of it, unmasked, and zeros after them.
+fn padded_masked(front: &[u8], key: Option<[u8; 4]>, more: &[u8]) -> [u8; MAX_CONTROL_PAYLOAD]
+    requires { length front.now + length more.now ≤ 125 }
+    ensures { let payload : List ℕ = front.now ++ masked_from key (length front.now) more.now
+        in result ≡ payload ++ replicate (125 - length payload) 0 }
+{
+    let mut kept = [0; MAX_CONTROL_PAYLOAD];
+    let (first, rest) = kept.split_at_mut(front.len());
+    first.copy_from_slice(front);
+    put_masked(rest, front.len() % 4, key, more);
+    kept
+}
+
+/// Puts a part of a payload at the front of the bytes, unmasked. `phase` is the place of its first byte in the payload,
+/// modulo 4.
+fn put_masked(bytes: &mut [u8], phase: usize, key: Option<[u8; 4]>, part: &[u8])
+    requires phase { phase ≤ 3 }
+    requires room { length part.now ≤ length bytes.old }
+    ensures { bytes.new ≡ masked_from key phase part.now ++ drop (length part.now) bytes.old }
+{
+    let (front, _) = bytes.split_at_mut(part.len());
+    front.copy_from_slice(part);
+    if let Some(key) = key {
+        mask(key, phase, front);
     }
 }
 

@@ -10,8 +10,6 @@
 //! joins a client and a server by two `Vec`s.
 #![tactic(auto)]
 
-mod assembly;
-mod checking;
 mod control_payload;
 mod echo;
 mod event;
@@ -21,6 +19,8 @@ mod limits;
 mod message;
 mod outgoing;
 mod reason;
+mod receiver;
+mod replying;
 mod send_fault;
 mod session;
 mod status;

@@ -1,22 +1,20 @@
 //! What a session keeps, and the calls on it: each as the session's of that name.
 
-ghost use Rattle.std.specs.Prelude.{◌≡◌, ◌+◌, ◌≤◌, ◌<◌, [], ◌++◌, length, None, true, IfOk, IsOkAnd, OnOk, OnErr};
-ghost use Rattle.ws_frame.specs.Header.{AreBytes};
+ghost use Rattle.std.specs.Prelude.{◌≡◌, ◌+◌, ◌≤◌, ◌<◌, [], length, None, true, IfOk, IsOkAnd, OnErr};
 ghost use Rattle.ws_session.specs.declared.status.Status.TheVariants.{Open};
 ghost use Rattle.ws_session.specs.Faults.{open_payload};
 ghost use Rattle.ws_session.specs.Exchange.{is_over};
 ghost use Rattle.ws_session.specs.Taking.{HasTaken, TakesNothing};
-ghost use Rattle.ws_session.specs.Checking.{IsFrameCheck};
-ghost use Rattle.ws_session.specs.Inside.{EndsBetween, CanAnswer, reply_by};
+ghost use Rattle.ws_session.specs.Inside.{CanAnswer, reply_by};
+ghost use Rattle.ws_session.specs.Receiver.{status_by};
 
-mod replies;
 mod sends;
 
-use crate::assembly::Assembly;
-use crate::checking::{FrameCheck, check};
-use crate::event::Taken;
+use crate::event::{Event, Taken};
 use crate::limits::Limits;
 use crate::outgoing::Outgoing;
+use crate::receiver::Receiver;
+use crate::replying::Replying;
 use crate::session::Answering;
 use crate::status::Status;
 use std::alloc::Global;
@@ -24,44 +22,26 @@ use std::marker::Model;
 use ws_base::NoMemory;
 use ws_frame::Role;
 
-/// What a session keeps: contracts see it as they see the session.
+/// What a session keeps: its receiving side, its sending side, and how it stands. Contracts see it as they see the
+/// session.
 #[derive(Drop)]
 pub(super) struct State {
-    alloc: Global,
-    role: Role,
-    limits: Limits,
-    assembly: Assembly,
-    partial_frame: Vec<u8>,
+    receiver: Receiver,
     sending: Outgoing,
     status: Status,
 }
 
 impl Model for State {
-    ghost use Rattle.std.specs.Prelude.{None};
     ghost use Rattle.ws_session.specs.Exchange.{SessionValue};
 
     ghost Value = { SessionValue };
 
     ghost use Rattle.ws_session.specs.Inside.{IsSound};
+    ghost use Rattle.ws_session.specs.Receiver.{session_with};
 
-    ghost view = { λ s. record {
-      role = s.role;
-      limits = s.limits;
-      opened = s.assembly;
-      partial_frame = s.partial_frame.items;
-      sending = s.sending;
-      status = s.status;
-    } };
+    ghost view = { λ s. session_with s.receiver s.sending s.status };
 
-    ghost invariant = { λ s. IsSound
-        (record {
-          role = s.role;
-          limits = s.limits;
-          opened = s.assembly;
-          partial_frame = s.partial_frame.items;
-          sending = s.sending;
-          status = s.status;
-        }) };
+    ghost invariant = { λ s. IsSound (session_with s.receiver s.sending s.status) };
 }
 
 impl State {
@@ -76,14 +56,8 @@ impl State {
           status = Open;
         } }
     {
-        // Sees that the limit is in its range, on which the bound of `held` rests.
-        let _ = limits.max_message();
         State {
-            alloc,
-            role,
-            limits,
-            assembly: Assembly::new(),
-            partial_frame: Vec::new(alloc),
+            receiver: Receiver::new(alloc, role, limits),
             sending: Outgoing::new(),
             status: Status::Open,
         }
@@ -100,7 +74,16 @@ impl State {
         ensures bound { result ≤ self.now.limits.max_message + 139 }
         ensures over { is_over self.now.status ≡ true → result ≡ 0 }
     {
-        self.assembly.len() + self.partial_frame.len()
+        self.receiver.held()
+    }
+
+    /// All is over: nothing is kept any more.
+    pub(super) fn end_with(&mut self, status: Status)
+        requires { is_over status ≡ true }
+        ensures { self.new ≡ record self.old { opened = None; partial_frame = []; status = status } }
+    {
+        self.receiver.end();
+        self.status = status;
     }
 
     /// Takes the front of a piece, and where it is echoing sends each message back.
@@ -129,44 +112,26 @@ impl State {
                 event: None,
             });
         }
-        match self.check(piece)? {
-            FrameCheck::Need => {
-                self.partial_frame.extend_from_slice(piece)?;
-                Ok(Taken {
-                    used: piece.len(),
-                    event: None,
-                })
-            }
-            FrameCheck::Whole { used, content } => {
-                let used = used - self.partial_frame.len();
-                let event = self.on_content(answering, content, key, out)?;
-                Ok(Taken {
-                    used,
-                    event: Some(event),
-                })
-            }
-            FrameCheck::Fault { reason, place } => {
-                let used = place - self.partial_frame.len();
-                let event = self.on_fault(reason, key, out)?;
-                Ok(Taken {
-                    used,
-                    event: Some(event),
-                })
-            }
-        }
+        let replying = Replying {
+            role: self.receiver.role(),
+            status: self.status,
+            answering,
+            key,
+        };
+        let taken = self.receiver.take(&replying, piece, out)?;
+        self.status = status_after(self.status, &taken.event);
+        Ok(taken)
     }
+}
 
-    /// Checks the unfinished frame with the piece after it.
-    fn check(&self, piece: &[u8]) -> Result<FrameCheck, NoMemory>
-        ensures checked { IfOk result (λ check. IsFrameCheck self.now.role self.now.limits self.now.opened
-            (self.now.partial_frame ++ piece.now) check) }
-        ensures ends { IfOk result (λ check. EndsBetween (length self.now.partial_frame)
-            (length self.now.partial_frame + length piece.now) check) }
-        ensures bytes { OnOk result (AreBytes (self.now.partial_frame ++ piece.now)) }
-    {
-        let mut bytes = Vec::from_slice(self.alloc, &self.partial_frame)?;
-        bytes.extend_from_slice(piece)?;
-        let check = check(self.alloc, self.role, self.limits, &self.assembly, &bytes)?;
-        Ok(check)
+/// The status of a session that isn't over after an event, if there is one.
+fn status_after(status: Status, event: &Option<Event>) -> Status
+    ensures { result ≡ status_by status event.now }
+{
+    match event {
+        Some(Event::Failed(reason)) => Status::Failed(*reason),
+        Some(Event::Close(None)) => Status::Clean(None),
+        Some(Event::Close(Some(close))) => Status::Clean(Some(close.code())),
+        Some(Event::Part | Event::Message(_) | Event::Ping(_) | Event::Pong(_)) | None => status,
     }
 }

@@ -14,6 +14,7 @@ ghost use Rattle.ws_session.specs.declared.message.Message.{Message};
 
 use crate::control_payload::Small;
 use crate::message::Kind;
+use crate::replying::put_frame;
 use crate::send_fault::SendFault;
 use crate::session::state::State;
 use crate::status::Status;
@@ -158,7 +159,7 @@ impl State {
             × FitsTheLayout (under_key self.now.role key frame)) }
         ensures kept { IfErr result (λ fault. (fault ≡ SendFault.NoMemory) × (out.new.items ≡ out.old.items)) }
     {
-        if self.put(fin, opcode, payload, key, out).is_err() {
+        if put_frame(self.receiver.role(), fin, opcode, payload, key, out).is_err() {
             return Err(SendFault::NoMemory);
         }
         Ok(())

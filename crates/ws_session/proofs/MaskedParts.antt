@@ -1,0 +1,55 @@
+-- A payload that is unmasked part by part.
+use Rattle.std.proofs.Common.{◌≡◌, ℕ, ◌+◌, ◌-◌, ◌%◌, ◌≤◌, List, [], ◌∷◌, ◌++◌, length, take, replicate, Option, Some, None, refl, sym, ap, ◌∙◌, arith}
+use Rattle.std.specs.Prelude.{bit_xor, slice_index}
+use Rattle.std.proofs.Math.Seq.{take-append-add, take-append_seam}
+use Rattle.std.proofs.lemmas.List.{length-append, length-replicate}
+use Rattle.ws_frame.specs.Header.{HeaderFields}
+use Rattle.ws_frame.specs.Masking.{masked, masked_payload}
+use Rattle.ws_frame.proofs.Masks.{masked-append, masked_payload_twice, length-masked, length-masked_payload}
+use Rattle.ws_session.specs.Masked.{masked_from}
+use Rattle.ws_session.specs.Receiving.{arrived_payload}
+
+-- the phase counts modulo 4
+masked_same : (key : List ℕ) (m n : ℕ) (p : List ℕ) → m % 4 ≡ n % 4 → masked key m p ≡ masked key n p
+masked_same key m n [] e = refl
+masked_same key m n (b ∷ p) e =
+    let next : (m + 1) % 4 ≡ (n + 1) % 4 = omega (arith, e) in
+    ap (λ k. bit_xor b (slice_index key k) ∷ masked key (m + 1) p) e ∙ ap (λ (t : List ℕ). bit_xor b (slice_index key (n % 4)) ∷ t) (masked_same key (m + 1) (n + 1) p next)
+
+pub masked_from_phase : (k : Option (List ℕ)) (n : ℕ) (p : List ℕ) → masked_from k (n % 4) p ≡ masked_from k n p
+masked_from_phase None n p = refl
+masked_from_phase (Some key) n p = let same : (n % 4) % 4 ≡ n % 4 = omega arith in masked_same key (n % 4) n p same
+
+pub length-masked_from : (k : Option (List ℕ)) (n : ℕ) (p : List ℕ) → length (masked_from k n p) ≡ length p
+length-masked_from None n p = refl
+length-masked_from (Some key) n p = length-masked key n p
+
+-- what follows a payload is masked from its end on
+pub masked_after : (k : Option (List ℕ)) (p q : List ℕ) → masked_payload k (p ++ q) ≡ masked_payload k p ++ masked_from k (length p) q
+masked_after None p q = refl
+masked_after (Some key) p q =
+    let none : 0 + length p ≡ length p = omega arith in
+    masked-append key 0 p q ∙ ap (λ n. masked key 0 p ++ masked key n q) none
+
+-- the payload as it came, of which a part was kept unmasked
+pub arrived_is : (h : HeaderFields) (kept rest : List ℕ) → length kept ≤ h.len → masked_payload h.key (take h.len (masked_payload h.key kept ++ rest)) ≡ arrived_payload h kept rest
+arrived_is h kept rest le =
+    let size : length (masked_payload h.key kept) ≡ length kept = length-masked_payload h.key kept in
+    let count : length (masked_payload h.key kept) + (h.len - length kept) ≡ h.len = omega (arith, size) in
+    ap (λ n. masked_payload h.key (take n (masked_payload h.key kept ++ rest))) (sym count)
+    ∙ ap (λ (l : List ℕ). masked_payload h.key l) (take-append-add (masked_payload h.key kept) rest (h.len - length kept))
+    ∙ masked_after h.key (masked_payload h.key kept) (take (h.len - length kept) rest)
+    ∙ ap (λ (l : List ℕ). l ++ masked_from h.key (length (masked_payload h.key kept)) (take (h.len - length kept) rest)) (masked_payload_twice h.key kept)
+    ∙ ap (λ n. kept ++ masked_from h.key n (take (h.len - length kept) rest)) size
+
+-- ---- bytes in place, with zeros after them
+
+pub padded_front : (payload all : List ℕ) (n : ℕ) → length payload ≡ n → all ≡ payload ++ replicate (125 - length payload) 0 → take n all ≡ payload
+padded_front payload all n size is = ap (λ k. take k all) (sym size) ∙ ap (λ (l : List ℕ). take (length payload) l) is ∙ take-append_seam payload (replicate (125 - length payload) 0)
+
+pub padded_is : (payload all : List ℕ) (n : ℕ) → length payload ≡ n → n ≤ 125 → all ≡ payload ++ replicate (125 - length payload) 0 → (n ≤ 125) × (length all ≡ 125) × (take n all ++ replicate (125 - n) 0 ≡ all)
+padded_is payload all n size le is = (
+  le,
+  ap (λ (l : List ℕ). length l) is ∙ length-append payload (replicate (125 - length payload) 0) ∙ ap (λ k. length payload + k) (length-replicate (125 - length payload) 0) ∙ omega (arith, size, le),
+  ap (λ (l : List ℕ). l ++ replicate (125 - n) 0) (padded_front payload all n size is) ∙ ap (λ k. payload ++ replicate (125 - k) 0) (sym size) ∙ sym is,
+)

@@ -1,0 +1,15 @@
+use Rattle.std.proofs.Common.{◌≡◌, ◌≤◌, length, sym, subst}
+use Rattle.ws_session.specs.declared.receiver.under_way.UnderWay.{UnderWay}
+use Rattle.ws_session.specs.Faults.{open_payload}
+use Rattle.ws_session.specs.Assembly.{HasReadOpen}
+use Rattle.ws_session.specs.declared.receiver.frame_check.Content.{Content}
+use Rattle.ws_session.specs.Receiver.{ReceiverValue, IsReceiving, IsContentKept}
+use Rattle.ws_session.proofs.Kept.{not_begun}
+use Rattle.ws_session.proofs.receiver.Receiver.on_content.Goals as goal
+
+pub invariant_of-self : goal.invariant_of-self
+invariant_of-self c =
+    let i = c.self.inside in
+    let sound = c.self.invariant.sound in
+    let reads : HasReadOpen i.assembly.opened i.assembly.text = subst (λ (v : ReceiverValue). HasReadOpen v.opened v.text) (sym c.self.view_is) (subst (λ (x : Content). IsContentKept c.args.self.now x) c.in-Pong.is c.requires.read) in
+    subst (λ (f : UnderWay). IsReceiving i.role i.limits i.assembly f) (sym c.nothing-self-inside.ensures) (not_begun i.role i.limits i.assembly c.self.invariant.under_way.joined reads sound.limit sound.size)

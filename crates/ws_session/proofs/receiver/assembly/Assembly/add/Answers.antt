@@ -1,0 +1,13 @@
+use Rattle.std.proofs.Common.{◌≡◌, ◌∙◌, ◌++◌, ◌%◌, List, ℕ, ap}
+use Rattle.ws_session.specs.Masked.{masked_from}
+use Rattle.ws_session.specs.Receiving.{first_bytes}
+use Rattle.ws_session.proofs.MaskedParts.{masked_from_phase}
+use Rattle.ws_session.proofs.Assembled.{first_by}
+use Rattle.ws_session.proofs.receiver.assembly.Assembly.add.Goals as goal
+
+pub returns-clause-added : goal.returns-clause-added
+returns-clause-added c =
+    let inside = c.self.inside in
+    let first = first_by c.args.self.now inside.kind inside.before inside.payload.items inside.text c.args.came c.self.invariant c.self.view_is in
+    c.in_ok-append_masked.ensures.put ∙ ap (λ (l : List ℕ). l ++ masked_from c.args.key (c.args.came % 4) c.args.bytes.now) (c.truncate.ensures.items ∙ first)
+    ∙ ap (λ (l : List ℕ). first_bytes c.args.self.now c.args.came ++ l) (masked_from_phase c.args.key c.args.came c.args.bytes.now)

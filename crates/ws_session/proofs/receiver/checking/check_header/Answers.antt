@@ -1,0 +1,68 @@
+use Rattle.std.proofs.Common.{◌≡◌, ◌∙◌, ◌-◌, ◌≤◌, ◌<◌, ◌++◌, length, take, drop, List, ℕ, ap, refl, subst, arith}
+use Rattle.std.proofs.lemmas.List.{length-append}
+use Rattle.ws_frame.specs.Header.{AreBytes}
+use Rattle.ws_session.specs.Faults.{IsControl}
+use Rattle.ws_session.specs.Receiving.{arrived_payload, IsPayloadCheck}
+use Rattle.ws_session.proofs.ByteLists.{bytes_append}
+use Rattle.ws_session.proofs.Pieces.{opcode_of_data, opcode_of_control, short_control, none_open, read_first, header_part, header_fault, left_of, first_of_data, first_of_control}
+use Rattle.ws_session.proofs.receiver.checking.check_header.Goals as goal
+
+pub joined-requires : goal.joined-requires
+joined-requires c =
+    let are : AreBytes (c.args.kept.now ++ c.args.piece.now) = bytes_append c.args.kept.now c.args.piece.now c.requires.bytes (λ i. omega (arith, c.type_inv.piece i)) in
+    omega (arith, c.fourteen_bytes_hold_a_header.ensures (c.args.kept.now ++ c.args.piece.now) are c.in_default.ensures, length-append c.args.kept.now c.args.piece.now, ap (λ (l : List ℕ). length l) c.as_slice.ensures.bytes)
+
+pub returns-in_default-clause-checked : goal.returns-in_default-clause-checked
+returns-in_default-clause-checked c =
+    let bytes = c.args.kept.now ++ c.args.piece.now in
+    let are : AreBytes (c.args.kept.now ++ c.args.piece.now) = bytes_append c.args.kept.now c.args.piece.now c.requires.bytes (λ i. omega (arith, c.type_inv.piece i)) in
+    header_part c.args.role c.args.limits c.args.assembly.now (length c.args.kept.now) bytes c.joined.result c.text.result c.in_default.ensures are (c.fourteen_bytes_hold_a_header.ensures bytes are c.in_default.ensures) c.requires.joined c.requires.kept.1
+    (c.joined.ensures ∙ ap (λ (l : List ℕ). l ++ c.args.piece.now) c.as_slice.ensures.bytes) c.text.ensures
+
+pub returns-in-Some-reason_at_header-clause-checked :
+    goal.returns-in-Some-reason_at_header-clause-checked
+returns-in-Some-reason_at_header-clause-checked c =
+    let are : AreBytes (c.args.kept.now ++ c.args.piece.now) = bytes_append c.args.kept.now c.args.piece.now c.requires.bytes (λ i. omega (arith, c.type_inv.piece i)) in
+    header_fault c.args.role c.args.limits c.args.assembly.now c.args.kept.now c.args.piece.now c.in-Some.end.header c.in-Some.end.used c.in-Some-reason_at_header.reason c.in-Some.ensures.begins are c.in-Some-reason_at_header.ensures
+
+pub check_data-requires-clause-opcode : goal.check_data-requires-clause-opcode
+check_data-requires-clause-opcode c = opcode_of_data c.args.role c.args.limits c.args.assembly.now.opened c.in-Some.end.header c.in_default-reason_at_header.ensures (omega (arith, c.opcode.ensures.value, c.if-opcode-lt8.true))
+
+pub check_data-requires-clause-begins : goal.check_data-requires-clause-begins
+check_data-requires-clause-begins c = λ one.
+    let opcode = opcode_of_data c.args.role c.args.limits c.args.assembly.now.opened c.in-Some.end.header c.in_default-reason_at_header.ensures (omega (arith, c.opcode.ensures.value, c.if-opcode-lt8.true)) in
+    none_open c.args.role c.args.limits c.args.assembly.now.opened c.in-Some.end.header c.in_default-reason_at_header.ensures opcode one
+
+pub check_data-requires-clause-read : goal.check_data-requires-clause-read
+check_data-requires-clause-read c = λ of.
+    let opcode = opcode_of_data c.args.role c.args.limits c.args.assembly.now.opened c.in-Some.end.header c.in_default-reason_at_header.ensures (omega (arith, c.opcode.ensures.value, c.if-opcode-lt8.true)) in
+    read_first c.args.assembly.now c.in-Some.end.header c.requires.joined (λ one. none_open c.args.role c.args.limits c.args.assembly.now.opened c.in-Some.end.header c.in_default-reason_at_header.ensures opcode one) c.requires.kept.1 of
+
+pub check_control-requires-clause-opcode : goal.check_control-requires-clause-opcode
+check_control-requires-clause-opcode c = opcode_of_control c.args.role c.args.limits c.args.assembly.now.opened c.in-Some.end.header c.in_default-reason_at_header.ensures (omega (arith, c.opcode.ensures.value, c.if-opcode-lt8.false))
+
+pub check_control-requires-clause-short : goal.check_control-requires-clause-short
+check_control-requires-clause-short c =
+    let control : IsControl c.in-Some.end.header = opcode_of_control c.args.role c.args.limits c.args.assembly.now.opened c.in-Some.end.header c.in_default-reason_at_header.ensures (omega (arith, c.opcode.ensures.value, c.if-opcode-lt8.false)) in
+    short_control c.args.role c.args.limits c.args.assembly.now.opened c.in-Some.end.header c.in_default-reason_at_header.ensures control
+
+pub returns-then-opcode-lt8-clause-checked : goal.returns-then-opcode-lt8-clause-checked
+returns-then-opcode-lt8-clause-checked c =
+    let h = c.in-Some.end.header in
+    let used = c.in-Some.end.used in
+    let piece = c.args.piece.now in
+    let are : AreBytes (c.args.kept.now ++ piece) = bytes_append c.args.kept.now piece c.requires.bytes (λ i. omega (arith, c.type_inv.piece i)) in
+    let opcode = opcode_of_data c.args.role c.args.limits c.args.assembly.now.opened h c.in_default-reason_at_header.ensures (omega (arith, c.opcode.ensures.value, c.if-opcode-lt8.true)) in
+    first_of_data c.args.role c.args.limits c.args.assembly.now c.check_data.new.assembly h c.args.kept.now piece (take (length piece - used) (drop used piece)) used c.in-Some.ensures.begins are c.in_default-reason_at_header.ensures c.in_ok-check.ensures.opened c.in_ok-check.ensures.joined (left_of piece used)
+    c.in_ok-check.check opcode c.in_ok-check.ensures.payload c.in_ok-check.ensures.checked
+
+pub returns-clause-checked : goal.returns-clause-checked
+returns-clause-checked c =
+    let h = c.in-Some.end.header in
+    let used = c.in-Some.end.used in
+    let piece = c.args.piece.now in
+    let a = c.args.assembly.now in
+    let rest = take (length piece - used) (drop used piece) in
+    let are : AreBytes (c.args.kept.now ++ piece) = bytes_append c.args.kept.now piece c.requires.bytes (λ i. omega (arith, c.type_inv.piece i)) in
+    first_of_control c.args.role c.args.limits a a h c.args.kept.now piece rest used c.in-Some.ensures.begins are c.in_default-reason_at_header.ensures refl c.requires.joined (left_of piece used)
+    c.check_control.result c.requires.kept.1 (subst (λ (l : List ℕ). IsPayloadCheck h (length l) used a (arrived_payload h l rest) c.check_control.result) c.of-none.ensures c.check_control.ensures)

@@ -1,0 +1,6 @@
+use Rattle.std.proofs.Common.{List, ℕ, subst}
+use Rattle.ws_session.specs.Receiving.{IsWholeControl}
+use Rattle.ws_session.proofs.receiver.control_frame.check_whole.Goals as goal
+
+pub returns-then-opcode-eq-CLOSE : goal.returns-then-opcode-eq-CLOSE
+returns-then-opcode-eq-CLOSE c = λ a. subst (λ (l : List ℕ). IsWholeControl c.args.header.now c.args.used l a c.check_close.result) c.as_slice.ensures.bytes (c.check_close.ensures a)

@@ -1,0 +1,123 @@
+-- Inside the crate: the receiving side of an endpoint, for contracts of private functions. A reader may skip this file.
+use Rattle.std.specs.Prelude.{◌≡◌, ℕ, ◌+◌, ◌≤◌, ◌<◌, ◌^◌, if◌then◌else◌, List, [], ◌++◌, length, Option, Some, None}
+use Rattle.ws_frame.specs.declared.role.Role.{Role}
+use Rattle.ws_frame.specs.Header.{header_bytes}
+use Rattle.ws_session.specs.declared.message.Kind.{Kind}
+use Rattle.ws_session.specs.declared.message.Message.{Message}
+use Rattle.ws_session.specs.declared.event.Event.{Event}
+use Rattle.ws_session.specs.declared.event.Event.TheVariants as event
+use Rattle.ws_session.specs.declared.status.Status.{Status}
+use Rattle.ws_session.specs.declared.replying.Replying.{Replying}
+use Rattle.ws_session.specs.declared.receiver.under_way.UnderWay.{UnderWay}
+use Rattle.ws_session.specs.declared.receiver.under_way.UnderWay.TheVariants as under_way
+use Rattle.ws_session.specs.declared.receiver.frame_check.Content.{Content}
+use Rattle.ws_session.specs.declared.receiver.frame_check.Content.TheVariants as content
+use Rattle.ws_session.specs.Limits.{LimitsValue}
+use Rattle.ws_session.specs.Faults.{open_payload}
+use Rattle.ws_session.specs.Exchange.{SendingValue, SessionValue}
+use Rattle.ws_session.specs.Assembly.{IsTextOf, HasReadOpen}
+use Rattle.ws_session.specs.NextFrame.{IsPartOfFrame, status_with}
+use Rattle.ws_session.specs.Inside.{reply_by}
+use Rattle.ws_session.specs.Receiving.{AssemblyValue, partial_of, IsUnderWay}
+use Rattle.ws_session.specs.Replying.{bytes_put}
+
+-- what contracts see: the open message, the bytes of the frame under way as they came, all payload bytes that are kept,
+-- and the stream that reads them
+pub record ReceiverValue : Type 0 where
+  pub role : Role
+  pub limits : LimitsValue
+  pub opened : Option Message
+  pub partial_frame : List ℕ
+  pub assembled : List ℕ
+  pub text : Option (List ℕ)
+
+abbrev pub receiver_of : Role → LimitsValue → AssemblyValue → UnderWay → ReceiverValue
+receiver_of role limits a frame = record {
+  role = role;
+  limits = limits;
+  opened = a.opened;
+  partial_frame = partial_of a frame;
+  assembled = a.payload;
+  text = a.text;
+}
+
+-- what is shown is a part of one frame and a message within the limits
+pub record IsSoundReceiver (v : ReceiverValue) : Type 0 where
+  pub part : IsPartOfFrame v.role v.limits v.opened v.partial_frame
+  pub limit : v.limits.max_message ≤ 16777216
+  pub size : length (open_payload v.opened) ≤ v.limits.max_message
+  pub held : length (open_payload v.opened) + length v.partial_frame ≤ v.limits.max_message + 139
+
+pub record IsReceiving (role : Role) (limits : LimitsValue) (a : AssemblyValue) (frame : UnderWay) : Type 0 where
+  pub under_way : IsUnderWay role limits a frame
+  pub sound : IsSoundReceiver (receiver_of role limits a frame)
+
+-- ---- the frame under way
+
+-- no byte of it has come
+abbrev pub NotBegun : UnderWay
+NotBegun = under_way.Header []
+
+-- how many bytes of it have come
+abbrev pub length_so_far : UnderWay → ℕ
+length_so_far (under_way.Header bytes) = length bytes
+length_so_far (under_way.Data header came) = length (header_bytes header) + came
+length_so_far (under_way.Control header payload) = length (header_bytes header) + length payload
+
+abbrev pub HasRoom : UnderWay → Type 0
+HasRoom frame = length_so_far frame < 2 ^ 64
+
+-- ---- a session with this receiving side
+
+abbrev pub session_with : ReceiverValue → Option SendingValue → Status → SessionValue
+session_with v sending status = record {
+  role = v.role;
+  limits = v.limits;
+  opened = v.opened;
+  partial_frame = v.partial_frame;
+  sending = sending;
+  status = status;
+}
+
+-- its status after an event, if there is one
+abbrev pub status_by : Status → Option Event → Status
+status_by status None = status
+status_by status (Some e) = status_with status e
+
+-- ---- a whole frame
+
+-- the message that is all that is kept
+abbrev pub kept_message : ReceiverValue → Kind → Message
+kept_message v kind = record { kind = kind; payload = v.assembled }
+
+-- the stream has read it, where it is text; behind a control frame the text may go on
+abbrev pub IsContentKept : ReceiverValue → Content → Type 0
+IsContentKept v (content.Data fin kind text) = IsTextOf (kept_message v kind) text
+IsContentKept v _ = HasReadOpen v.opened v.text
+
+-- it is within the limit
+abbrev pub FitsLimit : ReceiverValue → Content → Type 0
+FitsLimit v (content.Data fin kind text) = length v.assembled ≤ v.limits.max_message
+FitsLimit v _ = Unit {0}
+
+abbrev pub event_of_kept : ReceiverValue → Content → Event
+event_of_kept v (content.Data fin kind text) = if fin then event.Message (kept_message v kind) else event.Part
+event_of_kept v (content.Ping payload) = event.Ping payload
+event_of_kept v (content.Pong payload) = event.Pong payload
+event_of_kept v (content.Close close) = event.Close close
+
+-- the message that is open after it: none after a close
+abbrev pub opened_by : ReceiverValue → Content → Option Message
+opened_by v (content.Data fin kind text) = if fin then None else Some (kept_message v kind)
+opened_by v (content.Ping payload) = v.opened
+opened_by v (content.Pong payload) = v.opened
+opened_by v (content.Close close) = None
+
+-- what came of an event: nothing is left of the frame, this message is open, and what is owed was put
+pub record HasReceived (r : Replying) (old new : ReceiverValue) (before after : List ℕ) (e : Event)
+    (opened : Option Message) : Type 0 where
+  pub role : new.role ≡ old.role
+  pub limits : new.limits ≡ old.limits
+  pub opened_is : new.opened ≡ opened
+  pub partial : new.partial_frame ≡ []
+  pub put : after ≡ before ++ bytes_put r (reply_by r.answering e)

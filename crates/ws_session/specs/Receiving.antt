@@ -1,0 +1,194 @@
+-- Inside the crate: the frame under way as it is kept, and what the check of more bytes of it answers, for contracts of
+-- private functions. A reader may skip this file.
+use Rattle.std.specs.Prelude.{◌≡◌, ℕ, ◌+◌, ◌-◌, ◌≤◌, ◌<◌, true, false, List, ◌++◌, length, take, drop, Option}
+use Rattle.std.specs.Prelude.{Some, None}
+use Rattle.ws_frame.specs.declared.role.Role.{Role}
+use Rattle.ws_frame.specs.Header.{HeaderFields, IsHeader, AreBytes, header_bytes}
+use Rattle.ws_frame.specs.Masking.{masked_payload}
+use Rattle.ws_frame.specs.Frame.{Frame, KeyedFrame, FitsTheLayout, frame_bytes, stream_bytes}
+use Rattle.ws_frame.specs.Reading.{Begins, BeginsNoHeader}
+use Rattle.ws_text.specs.Stream.{HasRead}
+use Rattle.ws_session.specs.declared.message.Kind.{Kind}
+use Rattle.ws_session.specs.declared.message.Message.{Message}
+use Rattle.ws_session.specs.declared.reason.Reason.{Reason}
+use Rattle.ws_session.specs.declared.event.Event.{Event}
+use Rattle.ws_session.specs.declared.event.Event.TheVariants as event
+use Rattle.ws_session.specs.declared.receiver.under_way.UnderWay.{UnderWay}
+use Rattle.ws_session.specs.declared.receiver.under_way.UnderWay.TheVariants as under_way
+use Rattle.ws_session.specs.declared.receiver.frame_check.Content.{Content}
+use Rattle.ws_session.specs.declared.receiver.frame_check.Content.TheVariants as content
+use Rattle.ws_session.specs.declared.receiver.frame_check.FrameCheck.{FrameCheck}
+use Rattle.ws_session.specs.declared.receiver.frame_check.FrameCheck.TheVariants as check
+use Rattle.ws_session.specs.Limits.{LimitsValue}
+use Rattle.ws_session.specs.Messages.{is_control, kind_of}
+use Rattle.ws_session.specs.Faults.{IsControl, IsOfText, open_payload}
+use Rattle.ws_session.specs.Events.{close_in}
+use Rattle.ws_session.specs.Masked.{masked_from}
+use Rattle.ws_session.specs.Assembly.{IsTextOf, HasReadOpen}
+use Rattle.ws_session.specs.Checking.{NoneAtHeader, NoneInPayload, IsFirstInPayload, frame_with, IsRoomFor}
+use Rattle.ws_session.specs.NextFrame.{IsPartOfFrame, HasNoFaultOfNext, IsFirstFaultOfNext, message_with}
+
+-- ---- the open message, and the payload of the frame under way after it
+
+-- the open message; its payload, and after it the payload bytes that are kept of the frame under way; and the stream
+-- that has read them as far as they are text and were taken
+pub record AssemblyValue : Type 0 where
+  pub opened : Option Message
+  pub payload : List ℕ
+  pub text : Option (List ℕ)
+
+-- the message of so many of the bytes, if one is open
+abbrev pub message_of_first : Option Kind → ℕ → List ℕ → Option Message
+message_of_first None before payload = None
+message_of_first (Some kind) before payload = Some (record { kind = kind; payload = take before payload })
+
+-- so many bytes are there, and none where no message is open
+pub record HasFirst (kind : Option Kind) (before : ℕ) (payload : List ℕ) : Type 0 where
+  pub within : before ≤ length payload
+  pub none : kind ≡ None → before ≡ 0
+
+-- the kind of the open message, or this one where none is open
+abbrev pub kind_with : Option Message → Kind → Kind
+kind_with None kind = kind
+kind_with (Some message) kind = message.kind
+
+-- the payload bytes that are kept of the frame under way
+abbrev pub frame_payload : AssemblyValue → List ℕ
+frame_payload a = drop (length (open_payload a.opened)) a.payload
+
+-- they are all that is kept after the open message
+abbrev pub IsJoined : AssemblyValue → Type 0
+IsJoined a = open_payload a.opened ++ frame_payload a ≡ a.payload
+
+-- the open message's bytes, and so many of the frame's
+abbrev pub first_bytes : AssemblyValue → ℕ → List ℕ
+first_bytes a came = take (length (open_payload a.opened) + came) a.payload
+
+-- ---- the frame under way
+
+-- so many bytes of the frame under way are kept
+abbrev pub HasKept : AssemblyValue → ℕ → Type 0
+HasKept a came = length (open_payload a.opened) + came ≤ length a.payload
+
+-- a payload of which this much came before, with what is there of it now
+abbrev pub arrived_payload : HeaderFields → List ℕ → List ℕ → List ℕ
+arrived_payload header came rest = came ++ masked_from header.key (length came) (take (header.len - length came) rest)
+
+-- its bytes so far, as they came
+abbrev pub partial_of : AssemblyValue → UnderWay → List ℕ
+partial_of a (under_way.Header bytes) = bytes
+partial_of a (under_way.Data header came) =
+    header_bytes header ++ masked_payload header.key (take came (frame_payload a))
+partial_of a (under_way.Control header payload) = header_bytes header ++ masked_payload header.key payload
+
+-- no header is whole yet; or the header breaks no rule, and its payload isn't whole
+abbrev pub IsKept : Role → LimitsValue → AssemblyValue → UnderWay → Type 0
+IsKept role limits a (under_way.Header bytes) = BeginsNoHeader bytes × HasReadOpen a.opened a.text
+IsKept role limits a (under_way.Data header came) = IsHeader header × NoneAtHeader role limits a.opened header
+    × (header.opcode ≤ 2) × (came < header.len) × HasKept a came
+    × (IsOfText a.opened header → HasRead a.text (first_bytes a came))
+IsKept role limits a (under_way.Control header payload) = IsHeader header × NoneAtHeader role limits a.opened header
+    × IsControl header × (length payload < header.len) × HasReadOpen a.opened a.text
+
+pub record IsUnderWay (role : Role) (limits : LimitsValue) (a : AssemblyValue) (frame : UnderWay) : Type 0 where
+  pub bytes : AreBytes (partial_of a frame)
+  pub joined : IsJoined a
+  pub kept : IsKept role limits a frame
+
+-- ---- the end of a header
+
+-- the piece completes this header by its first bytes
+pub record CompletesHeader (kept piece : List ℕ) (header : HeaderFields) (used : ℕ) : Type 0 where
+  pub begins : Begins header (length kept + used) (kept ++ piece)
+  pub within : used ≤ length piece
+
+-- ---- the payload, as far as it has come
+
+abbrev pub with_text : AssemblyValue → Option (List ℕ) → AssemblyValue
+with_text a text = record { opened = a.opened; payload = a.payload; text = text }
+
+-- the message whose payload is all that is kept
+abbrev pub message_kept : AssemblyValue → Kind → Message
+message_kept a kind = record { kind = kind; payload = a.payload }
+
+-- the content is this frame's
+abbrev pub IsContentOf : AssemblyValue → Frame → Content → Type 0
+IsContentOf a frame (content.Data fin kind text) = (is_control frame ≡ false) × (fin ≡ frame.fin)
+    × (message_kept a kind ≡ message_with a.opened frame) × IsTextOf (message_kept a kind) text
+IsContentOf a frame (content.Ping payload) = (frame.opcode ≡ 9) × (payload ≡ frame.payload)
+IsContentOf a frame (content.Pong payload) = (frame.opcode ≡ 10) × (payload ≡ frame.payload)
+IsContentOf a frame (content.Close close) = (frame.opcode ≡ 8) × (close ≡ close_in frame.payload)
+
+-- so much of the payload has come of the frame that is under way next
+abbrev pub IsNextOf : AssemblyValue → HeaderFields → List ℕ → UnderWay → Option (List ℕ) → Type 0
+IsNextOf a header payload (under_way.Header bytes) text = ⊥
+IsNextOf a header payload (under_way.Data same came) text = (same ≡ header) × (came ≡ length payload)
+    × (payload ≡ frame_payload a) × (header.opcode ≤ 2) × HasKept a came
+    × (IsOfText a.opened header → HasRead text a.payload)
+IsNextOf a header payload (under_way.Control same bytes) text = (same ≡ header) × (bytes ≡ payload)
+    × IsControl header × (text ≡ a.text)
+
+-- The check of a payload that has come so far, of which `came` bytes were kept before and the others follow the first
+-- `start` bytes of the piece, after a header in which nothing is wrong
+abbrev pub IsPayloadCheck : HeaderFields → ℕ → ℕ → AssemblyValue → List ℕ → FrameCheck → Type 0
+IsPayloadCheck header came start a payload (check.Need next text) = (length payload < header.len)
+    × NoneInPayload a.opened header payload × IsNextOf a header payload next text
+IsPayloadCheck header came start a payload (check.Whole used content) = (length payload ≡ header.len)
+    × (used + came ≡ start + length payload) × NoneInPayload a.opened header payload
+    × IsContentOf a (frame_with header payload) content
+IsPayloadCheck header came start a payload (check.Fault reason used) = (count : ℕ) × (used + came ≡ start + count)
+    × IsFirstInPayload a.opened header payload count reason
+
+-- nothing is wrong with the text, if it is one, and the stream has read it
+abbrev pub IsTextRead : HeaderFields → AssemblyValue → Option (List ℕ) → Type 0
+IsTextRead header a text = (IsOfText a.opened header → HasRead text a.payload)
+    × NoneInPayload a.opened header (frame_payload a)
+
+-- this is wrong first, after so many of the bytes that are new
+abbrev pub IsTextFault : HeaderFields → ℕ → AssemblyValue → Reason → ℕ → Type 0
+IsTextFault header came a reason count = IsFirstInPayload a.opened header (frame_payload a) (came + count) reason
+
+-- what the payload makes of the frame where nothing is wrong: so many bytes of it have come
+abbrev pub IsWithoutFault : AssemblyValue → HeaderFields → ℕ → ℕ → Option (List ℕ) → FrameCheck → Type 0
+IsWithoutFault a header came used text (check.Need next same) = (came < header.len)
+    × (next ≡ under_way.Data header came) × (same ≡ text)
+IsWithoutFault a header came used text (check.Whole end x) = (header.len ≤ came) × (end ≡ used)
+    × (x ≡ content.Data header.fin (kind_with a.opened (kind_of header.opcode)) text)
+IsWithoutFault a header came used text (check.Fault reason place) = ⊥
+
+-- what a whole payload makes of a control frame
+abbrev pub IsWholeControl : HeaderFields → ℕ → List ℕ → AssemblyValue → FrameCheck → Type 0
+IsWholeControl header used payload a (check.Need next text) = ⊥
+IsWholeControl header used payload a (check.Whole end content) = (end ≡ used)
+    × NoneInPayload a.opened header payload × IsContentOf a (frame_with header payload) content
+IsWholeControl header used payload a (check.Fault reason place) = (place ≡ used)
+    × IsFirstInPayload a.opened header payload (length payload) reason
+
+-- ---- the frame
+
+-- its bytes take the message no further than the limit allows
+abbrev pub FitsIn : LimitsValue → AssemblyValue → Content → Type 0
+FitsIn limits a (content.Data fin kind text) = length a.payload ≤ limits.max_message
+FitsIn limits a _ = Unit {0}
+
+-- a whole frame of this content stands at the front, and nothing is wrong with it
+pub record IsWholeFrame (role : Role) (limits : LimitsValue) (a : AssemblyValue) (bytes : List ℕ) (used : ℕ)
+    (content : Content) : Type 0 where
+  pub frame : KeyedFrame
+  pub can : FitsTheLayout frame
+  pub more : List ℕ
+  pub front : bytes ≡ frame_bytes frame ++ more
+  pub size : used ≡ length (frame_bytes frame)
+  pub clean : HasNoFaultOfNext role limits a.opened bytes
+  pub is_content : IsContentOf a frame.frame content
+  pub reads : is_control frame.frame ≡ true → HasReadOpen a.opened a.text
+  pub fits : FitsIn limits a content
+
+-- The check of bytes of which so many were kept before. What isn't whole is under way next
+abbrev pub IsFrameCheck : Role → LimitsValue → AssemblyValue → ℕ → List ℕ → FrameCheck → Type 0
+IsFrameCheck role limits a kept bytes (check.Need next text) = IsPartOfFrame role limits a.opened bytes
+    × IsRoomFor limits a.opened bytes × (partial_of a next ≡ bytes) × IsUnderWay role limits (with_text a text) next
+IsFrameCheck role limits a kept bytes (check.Whole used content) =
+    IsWholeFrame role limits a bytes (kept + used) content
+IsFrameCheck role limits a kept bytes (check.Fault reason used) =
+    IsFirstFaultOfNext role limits a.opened bytes (kept + used) reason

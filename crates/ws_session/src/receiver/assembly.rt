@@ -1,0 +1,203 @@
+//! The message that is open on the receiving side, and the payload of the frame under way after it (RFC 6455
+//! section 5.4).
+
+ghost use Rattle.std.specs.Prelude.{◌≡◌, ◌↔◌, ◌≤◌, ◌++◌, [], length, drop, is_some, IsTrue, OnOk, OnErr, Some};
+ghost use Rattle.std.specs.Prelude.{None};
+ghost use Rattle.ws_text.specs.Stream.{HasRead};
+ghost use Rattle.ws_session.specs.Faults.{open_payload, IsOpenText};
+ghost use Rattle.ws_session.specs.Masked.{masked_from};
+ghost use Rattle.ws_session.specs.Receiving.{HasKept, IsJoined, first_bytes, frame_payload, kind_with};
+
+use crate::message::{Kind, Message};
+use std::alloc::Global;
+use std::marker::Model;
+use std::mem::replace;
+use ws_base::{NoMemory, Payload};
+use ws_frame::mask;
+use ws_text::Utf8Stream;
+
+/// The open message, if there is one, and after its payload the payload bytes that are kept of the frame under way.
+/// Contracts see the message, all of these bytes, and the stream that reads them where they are text.
+#[derive(Drop)]
+pub(crate) struct Assembly {
+    alloc: Global,
+    /// The open message's kind, if there is one.
+    kind: Option<Kind>,
+    /// How many of the bytes are the open message's.
+    before: usize,
+    payload: Vec<u8>,
+    text: Utf8Stream,
+}
+
+impl Model for Assembly {
+    ghost use Rattle.ws_session.specs.Receiving.{AssemblyValue, HasFirst, message_of_first};
+
+    ghost Value = { AssemblyValue };
+
+    ghost view = { λ a. record {
+      opened = message_of_first a.kind a.before a.payload.items;
+      payload = a.payload.items;
+      text = a.text;
+    } };
+
+    ghost invariant = { λ a. HasFirst a.kind a.before a.payload.items };
+}
+
+impl Assembly {
+    /// No message is open, and no payload is kept.
+    pub(crate) fn new(alloc: Global) -> Assembly
+        ensures opened { result.opened ≡ None }
+        ensures payload { result.payload ≡ [] }
+        ensures text { HasRead result.text [] }
+    {
+        Assembly {
+            alloc,
+            kind: None,
+            before: 0,
+            payload: Vec::new(alloc),
+            text: Utf8Stream::new(),
+        }
+    }
+
+    pub(crate) fn is_open(&self) -> bool
+        ensures { result ≡ is_some self.now.opened }
+    {
+        self.kind.is_some()
+    }
+
+    /// The number of payload bytes of the open message.
+    pub(crate) fn open_len(&self) -> usize
+        ensures { result ≡ length (open_payload self.now.opened) }
+    {
+        self.before
+    }
+
+    /// Whether a text message is open.
+    pub(crate) fn is_text(&self) -> bool
+        ensures { IsTrue result ↔ IsOpenText self.now.opened }
+    {
+        match self.kind {
+            None => false,
+            Some(Kind::Text) => true,
+            Some(Kind::Binary) => false,
+        }
+    }
+
+    /// The kind of the open message, or this one where none is open.
+    pub(crate) fn kind_with(&self, kind: Kind) -> Kind
+        ensures { result ≡ kind_with self.now.opened kind }
+    {
+        match self.kind {
+            None => kind,
+            Some(open) => open,
+        }
+    }
+
+    /// The stream that has read what was taken, where it is text.
+    pub(crate) fn text(&self) -> Utf8Stream
+        ensures { result ≡ self.now.text }
+    {
+        self.text
+    }
+
+    /// All bytes that are kept.
+    pub(crate) fn payload(&self) -> &[u8]
+        ensures { result.now ≡ self.now.payload }
+    {
+        &self.payload
+    }
+
+    /// The bytes that are kept of the frame under way, without the first ones.
+    pub(crate) fn new_bytes(&self, came: usize) -> &[u8]
+        requires { HasKept self.now came }
+        ensures { result.now ≡ drop came (frame_payload self.now) }
+    {
+        &self.payload[self.before + came..]
+    }
+
+    /// Keeps of the frame under way the first bytes that came, and puts these after them, unmasked.
+    pub(crate) fn add(
+        &mut self,
+        came: usize,
+        key: Option<[u8; 4]>,
+        bytes: &[u8],
+    ) -> Result<(), NoMemory>
+        requires { HasKept self.old came }
+        ensures opened { self.new.opened ≡ self.old.opened }
+        ensures text { self.new.text ≡ self.old.text }
+        ensures added { OnOk result (self.new.payload ≡ first_bytes self.old came ++ masked_from key came bytes.now) }
+        ensures kept { OnErr result (self.new.payload ≡ first_bytes self.old came) }
+        ensures joined { IsJoined self.new }
+    {
+        self.payload.truncate(self.before + came);
+        append_masked(&mut self.payload, came % 4, key, bytes)?;
+        Ok(())
+    }
+
+    /// The frame under way goes on: the stream has read all that is kept of it.
+    pub(crate) fn go_on(&mut self, text: Utf8Stream)
+        ensures { self.new ≡ record self.old { text = text } }
+    {
+        self.text = text;
+    }
+
+    /// A frame without FIN has ended: all that is kept is the open message.
+    pub(crate) fn on_fragment(&mut self, kind: Kind, text: Utf8Stream)
+        ensures { self.new
+            ≡ record {
+              opened = Some (record { kind = kind; payload = self.old.payload });
+              payload = self.old.payload;
+              text = text;
+            } }
+    {
+        self.kind = Some(kind);
+        self.before = self.payload.len();
+        self.text = text;
+    }
+
+    /// A message has ended: it is all that was kept.
+    pub(crate) fn on_message(&mut self, kind: Kind) -> Message
+        ensures message { result ≡ record { kind = kind; payload = self.old.payload } }
+        ensures opened { self.new.opened ≡ None }
+        ensures payload { self.new.payload ≡ [] }
+        ensures text { HasRead self.new.text [] }
+    {
+        let payload = replace(&mut self.payload, Vec::new(self.alloc));
+        self.kind = None;
+        self.text = Utf8Stream::new();
+        self.before = 0;
+        Message {
+            kind,
+            payload: Payload::from_vec(payload),
+        }
+    }
+
+    /// All is over: nothing is kept any more.
+    pub(crate) fn clear(&mut self)
+        ensures opened { self.new.opened ≡ None }
+        ensures payload { self.new.payload ≡ [] }
+        ensures text { HasRead self.new.text [] }
+    {
+        *self = Assembly::new(self.alloc);
+    }
+}
+
+/// Puts a part of a payload after other bytes, unmasked. `phase` is the place of its first byte in the payload,
+/// modulo 4.
+fn append_masked(
+    kept: &mut Vec<u8>,
+    phase: usize,
+    key: Option<[u8; 4]>,
+    bytes: &[u8],
+) -> Result<(), NoMemory>
+    requires { phase ≤ 3 }
+    ensures put { OnOk result (kept.new.items ≡ kept.old.items ++ masked_from key phase bytes.now) }
+    ensures kept { OnErr result (kept.new.items ≡ kept.old.items) }
+{
+    let from = kept.len();
+    kept.extend_from_slice(bytes)?;
+    if let Some(key) = key {
+        mask(key, phase, &mut kept[from..]);
+    }
+    Ok(())
+}

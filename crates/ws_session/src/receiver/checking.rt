@@ -1,0 +1,89 @@
+//! What a piece makes of the frame under way, and of it alone: no byte behind that frame is looked at.
+
+ghost use Rattle.std.specs.Prelude.{◌≡◌, ◌++◌, length, IfOk};
+ghost use Rattle.ws_frame.specs.Header.{AreBytes};
+ghost use Rattle.ws_session.specs.declared.receiver.under_way.UnderWay.TheVariants as UnderWay;
+ghost use Rattle.ws_session.specs.Receiving.{IsUnderWay, IsJoined, partial_of, IsFrameCheck};
+
+use crate::control_payload::Small;
+use crate::limits::Limits;
+use crate::receiver::assembly::Assembly;
+use crate::receiver::control_frame::check_control;
+use crate::receiver::data_payload::check_data;
+use crate::receiver::frame_check::FrameCheck;
+use crate::receiver::header_end::complete_header;
+use crate::receiver::header_rules::reason_at_header;
+use crate::receiver::under_way::UnderWay;
+use ws_base::NoMemory;
+use ws_frame::{Role, laws};
+
+/// Checks a piece after the frame under way. Payload of a data frame goes into the assembly, where it shows only once
+/// it was taken.
+pub(super) fn check_piece(
+    role: Role,
+    limits: Limits,
+    assembly: &mut Assembly,
+    frame: &UnderWay,
+    piece: &[u8],
+) -> Result<FrameCheck, NoMemory>
+    requires { IsUnderWay role limits assembly.old frame.now }
+    ensures checked { IfOk result (λ check. IsFrameCheck role limits assembly.new
+        (length (partial_of assembly.old frame.now)) (partial_of assembly.old frame.now ++ piece.now) check) }
+
+    // What was taken stays as it was.
+    ensures opened { assembly.new.opened ≡ assembly.old.opened }
+    ensures partial { partial_of assembly.new frame.now ≡ partial_of assembly.old frame.now }
+    ensures under_way { IsUnderWay role limits assembly.new frame.now }
+    ensures bytes { AreBytes (partial_of assembly.old frame.now ++ piece.now) }
+{
+    match frame {
+        UnderWay::Header(kept) => {
+            let check = check_header(role, limits, assembly, kept, piece)?;
+            Ok(check)
+        }
+        UnderWay::Data { header, came } => {
+            let check = check_data(assembly, header, *came, 0, piece)?;
+            Ok(check)
+        }
+        UnderWay::Control { header, payload } => {
+            Ok(check_control(assembly, header, payload, 0, piece))
+        }
+    }
+}
+
+/// Checks a piece after a part of a header.
+fn check_header(
+    role: Role,
+    limits: Limits,
+    assembly: &mut Assembly,
+    kept: &Small,
+    piece: &[u8],
+) -> Result<FrameCheck, NoMemory>
+    requires { IsUnderWay role limits assembly.old (UnderWay.Header kept.now) }
+    ensures checked { IfOk result (λ check. IsFrameCheck role limits assembly.new (length kept.now)
+        (kept.now ++ piece.now) check) }
+    ensures opened { assembly.new.opened ≡ assembly.old.opened }
+    ensures text { assembly.new.text ≡ assembly.old.text }
+    ensures joined { IsJoined assembly.new }
+{
+    let Some(end) = complete_header(kept, piece) else {
+        laws::fourteen_bytes_hold_a_header();
+        return Ok(FrameCheck::Need {
+            next: UnderWay::Header(Small::joined(kept.as_slice(), piece)),
+            text: assembly.text(),
+        });
+    };
+    if let Some(reason) = reason_at_header(role, limits, assembly, &end.header) {
+        return Ok(FrameCheck::Fault {
+            reason,
+            used: end.used,
+        });
+    }
+    let rest = &piece[end.used..];
+    if end.header.opcode() < 8 {
+        let check = check_data(assembly, &end.header, 0, end.used, rest)?;
+        return Ok(check);
+    }
+    let none = Small::of(&[]);
+    Ok(check_control(assembly, &end.header, &none, end.used, rest))
+}

@@ -1,0 +1,98 @@
+//! The payload of a control frame, as it comes (RFC 6455 section 5.5).
+
+ghost use Rattle.std.specs.Prelude.{◌≡◌, ◌+◌, ◌≤◌, ◌<◌, ◌^◌, length};
+ghost use Rattle.ws_session.specs.Faults.{IsControl};
+ghost use Rattle.ws_session.specs.Checking.{reason_of_close};
+ghost use Rattle.ws_session.specs.Receiving.{AssemblyValue, arrived_payload, IsPayloadCheck, IsWholeControl};
+
+use crate::control_payload::Small;
+use crate::reason::Reason;
+use crate::receiver::assembly::Assembly;
+use crate::receiver::frame_check::{Content, FrameCheck};
+use crate::receiver::under_way::UnderWay;
+use ws_frame::Header;
+use ws_text::{CloseFault, ClosePayload};
+
+/// The opcodes of the control frames whose payload is checked or shown (section 5.5).
+const CLOSE: u8 = 8;
+
+const PING: u8 = 9;
+
+/// Checks what is there of the payload after the bytes that came before. `rest` is what the piece has after its first
+/// `start` bytes.
+pub(super) fn check_control(
+    assembly: &Assembly,
+    header: &Header,
+    came: &Small,
+    start: usize,
+    rest: &[u8],
+) -> FrameCheck
+    requires opcode { IsControl header.now }
+    requires short { header.now.len ≤ 125 }
+    requires within { length came.now ≤ header.now.len }
+    requires room { start + length rest.now < 2 ^ 64 }
+    ensures { IsPayloadCheck header.now (length came.now) start assembly.now
+        (arrived_payload header.now came.now rest.now) result }
+{
+    let left = header.payload_len() as usize - came.as_slice().len();
+    let here = left.min(rest.len());
+    let payload = came.with_masked(header.key(), &rest[..here]);
+    if here < left {
+        return FrameCheck::Need {
+            next: UnderWay::Control {
+                header: *header,
+                payload,
+            },
+            text: assembly.text(),
+        };
+    }
+    check_whole(header, &payload, start + here)
+}
+
+/// Checks the whole payload of a control frame, which ends with so many bytes of the piece.
+fn check_whole(header: &Header, payload: &Small, used: usize) -> FrameCheck
+    requires opcode { IsControl header.now }
+    requires whole { length payload.now ≡ header.now.len }
+    requires short { header.now.len ≤ 125 }
+    ensures { (a : AssemblyValue) → IsWholeControl header.now used payload.now a result }
+{
+    if header.opcode() == CLOSE {
+        return check_close(header, payload.as_slice(), used);
+    }
+    let content = if header.opcode() == PING {
+        Content::Ping(*payload)
+    } else {
+        Content::Pong(*payload)
+    };
+    FrameCheck::Whole { used, content }
+}
+
+/// Checks the whole payload of a close frame, which ends with so many bytes of the piece.
+fn check_close(header: &Header, payload: &[u8], used: usize) -> FrameCheck
+    requires opcode { header.now.opcode ≡ 8 }
+    requires whole { length payload.now ≡ header.now.len }
+    requires short { header.now.len ≤ 125 }
+    ensures { (a : AssemblyValue) → IsWholeControl header.now used payload.now a result }
+{
+    match ClosePayload::read(payload) {
+        Ok(close) => FrameCheck::Whole {
+            used,
+            content: Content::Close(close),
+        },
+        Err(fault) => FrameCheck::Fault {
+            reason: reason_of(fault),
+            used,
+        },
+    }
+}
+
+/// The reason that a close payload gives.
+fn reason_of(fault: CloseFault) -> Reason
+    ensures { result ≡ reason_of_close fault }
+{
+    match fault {
+        CloseFault::OneByte => Reason::CloseOneByte,
+        CloseFault::BadCode => Reason::CloseCode,
+        CloseFault::ReasonNotText => Reason::CloseReason,
+    }
+}

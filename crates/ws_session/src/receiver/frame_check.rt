@@ -1,0 +1,34 @@
+//! What a piece makes of the frame under way.
+
+use crate::control_payload::Small;
+use crate::message::Kind;
+use crate::reason::Reason;
+use crate::receiver::under_way::UnderWay;
+use ws_text::{Close, Utf8Stream};
+
+/// What a whole frame holds.
+#[derive(Drop)]
+pub(crate) enum Content {
+    /// A data frame: FIN, and the kind of its message, whose payload with this frame stands in the assembly, read by
+    /// the stream where it is text.
+    Data {
+        fin: bool,
+        kind: Kind,
+        text: Utf8Stream,
+    },
+    Ping(Small),
+    Pong(Small),
+    Close(Option<Close>),
+}
+
+/// What the piece makes of the frame under way.
+#[derive(Drop)]
+pub(crate) enum FrameCheck {
+    /// The frame isn't whole with the piece, and nothing is wrong with it: what has come of it then, and the stream
+    /// that has read the message with it.
+    Need { next: UnderWay, text: Utf8Stream },
+    /// The frame is whole with the first `used` bytes of the piece, and nothing is wrong with it.
+    Whole { used: usize, content: Content },
+    /// The first fault is told at the last of the first `used` bytes of the piece.
+    Fault { reason: Reason, used: usize },
+}

@@ -1,0 +1,64 @@
+//! The end of a header whose bytes come in pieces (RFC 6455 section 5.2).
+
+ghost use Rattle.std.specs.Prelude.{MatchOption, ◌++◌};
+ghost use Rattle.ws_frame.specs.Header.{AreBytes};
+ghost use Rattle.ws_frame.specs.Reading.{Begins, BeginsNoHeader};
+ghost use Rattle.ws_session.specs.Receiving.{CompletesHeader};
+
+use crate::control_payload::Small;
+use ws_frame::{Header, HeaderRead, laws, read_header};
+
+/// Where a header ends.
+#[derive(Clone, Copy)]
+pub(super) struct HeaderEnd {
+    pub(super) header: Header,
+    /// How many bytes there are up to its last one.
+    pub(super) used: usize,
+}
+
+/// The header that a piece completes, after the bytes of it that are kept, and how many bytes of the piece belong to
+/// it. No byte behind it is looked at.
+pub(super) fn complete_header(kept: &Small, piece: &[u8]) -> Option<HeaderEnd>
+    requires none { BeginsNoHeader kept.now }
+    requires bytes { AreBytes kept.now }
+    ensures { MatchOption result (BeginsNoHeader (kept.now ++ piece.now))
+        (λ end. CompletesHeader kept.now piece.now end.header end.used) }
+{
+    if kept.as_slice().is_empty() {
+        return header_at(piece);
+    }
+    complete_by_byte(kept, piece)
+}
+
+/// The same, where the header has begun in earlier pieces: byte by byte.
+fn complete_by_byte(kept: &Small, piece: &[u8]) -> Option<HeaderEnd>
+    requires none { BeginsNoHeader kept.now }
+    requires bytes { AreBytes kept.now }
+    ensures { MatchOption result (BeginsNoHeader (kept.now ++ piece.now))
+        (λ end. CompletesHeader kept.now piece.now end.header end.used) }
+{
+    let mut so_far = *kept;
+    for (i, byte) in piece.iter().enumerate() {
+        laws::fourteen_bytes_hold_a_header();
+        so_far = Small::joined(so_far.as_slice(), &[*byte]);
+        if let Some(end) = header_at(so_far.as_slice()) {
+            return Some(HeaderEnd {
+                header: end.header,
+                used: i + 1,
+            });
+        }
+    }
+    None
+}
+
+/// The header at the front of the bytes, and how many of them it takes. Whether its length is allowed is a rule of the
+/// session.
+fn header_at(bytes: &[u8]) -> Option<HeaderEnd>
+    ensures { MatchOption result (BeginsNoHeader bytes.now) (λ end. Begins end.header end.used bytes.now) }
+{
+    match read_header(bytes) {
+        HeaderRead::Need => None,
+        HeaderRead::Got { header, used } => Some(HeaderEnd { header, used }),
+        HeaderRead::BadLength { header, used } => Some(HeaderEnd { header, used }),
+    }
+}

@@ -1,0 +1,87 @@
+//! The rules of a header after the open message, told at its last byte (RFC 6455 sections 5.1 to 5.5).
+
+ghost use Rattle.std.specs.Prelude.{◌+◌, ◌<◌, ◌↔◌, IsTrue, length, MatchOption};
+ghost use Rattle.ws_session.specs.Faults.{IsControl, open_payload, AppliesAtHeader};
+ghost use Rattle.ws_session.specs.Checking.{NoneAtHeader, IsFirstAtHeader};
+
+use crate::limits::Limits;
+use crate::reason::Reason;
+use crate::receiver::assembly::Assembly;
+use ws_frame::{Header, Role};
+
+/// The reasons of a header, in the order in which they are told.
+const HEADER_REASONS: [Reason; 10] = [
+    Reason::ReservedBits,
+    Reason::Opcode,
+    Reason::MaskWrong,
+    Reason::NotShortest,
+    Reason::BadLength,
+    Reason::ControlCut,
+    Reason::ControlLong,
+    Reason::NothingToContinue,
+    Reason::MessageOpen,
+    Reason::TooBig,
+];
+
+/// The first length that may not be written: its top bit is set.
+const BAD_LENGTH: u64 = 1 << 63;
+
+/// The most payload bytes of a control frame (section 5.5).
+const MAX_CONTROL_PAYLOAD: u64 = 125;
+
+/// The lowest reason that applies at the end of a header.
+pub(super) fn reason_at_header(
+    role: Role,
+    limits: Limits,
+    assembly: &Assembly,
+    header: &Header,
+) -> Option<Reason>
+    ensures { MatchOption result (NoneAtHeader role limits assembly.now.opened header.now)
+        (IsFirstAtHeader role limits assembly.now.opened header.now) }
+{
+    for reason in HEADER_REASONS {
+        if applies(reason, role, limits, assembly, header) {
+            return Some(reason);
+        }
+    }
+    None
+}
+
+/// Whether the reason applies at the end of the header. The reasons of a payload never do.
+fn applies(reason: Reason, role: Role, limits: Limits, assembly: &Assembly, header: &Header) -> bool
+    ensures { IsTrue result ↔ AppliesAtHeader role limits assembly.now.opened header.now reason }
+{
+    match reason {
+        Reason::ReservedBits => header.rsv() != 0,
+        Reason::Opcode => matches!(header.opcode(), 3..=7 | 11..),
+        Reason::MaskWrong => header.key().is_some() != (role == Role::Server),
+        Reason::NotShortest => header.is_longer_than_needed(),
+        Reason::BadLength => header.payload_len() >= BAD_LENGTH,
+        Reason::ControlCut => is_control(header) && !header.fin(),
+        Reason::ControlLong => is_control(header) && header.payload_len() > MAX_CONTROL_PAYLOAD,
+        Reason::NothingToContinue => header.opcode() == 0 && !assembly.is_open(),
+        Reason::MessageOpen => matches!(header.opcode(), 1 | 2) && assembly.is_open(),
+        Reason::TooBig => header.opcode() <= 2 && is_too_big(limits, assembly, header),
+        Reason::NotText
+        | Reason::TextCut
+        | Reason::CloseOneByte
+        | Reason::CloseCode
+        | Reason::CloseReason => false,
+    }
+}
+
+/// Whether the opcode is that of a control frame (section 5.5).
+fn is_control(header: &Header) -> bool
+    ensures { IsTrue result ↔ IsControl header.now }
+{
+    matches!(header.opcode(), 8..=10)
+}
+
+/// Whether the frame takes the open message above the limit.
+fn is_too_big(limits: Limits, assembly: &Assembly, header: &Header) -> bool
+    ensures { IsTrue result ↔ (limits.max_message < length (open_payload assembly.now.opened) + header.now.len) }
+{
+    let limit = u64::from(limits.max_message());
+    let open = assembly.open_len() as u64;
+    open > limit || header.payload_len() > limit - open
+}

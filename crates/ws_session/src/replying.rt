@@ -1,0 +1,94 @@
+//! What an endpoint puts of its own accord for what comes (RFC 6455 sections 5.5 and 7.1).
+
+ghost use Rattle.std.specs.Prelude.{◌≡◌, ◌≤◌, ◌<◌, ◌∷◌, [], ◌++◌, length, OnOk, OnErr};
+ghost use Rattle.ws_frame.specs.Frame.{Frame, FitsTheLayout, frame_bytes};
+ghost use Rattle.ws_session.specs.Replies.{control_frame, under_key};
+ghost use Rattle.ws_session.specs.declared.message.Message.{Message};
+ghost use Rattle.ws_session.specs.Inside.{reply_to_message};
+ghost use Rattle.ws_session.specs.Replying.{bytes_put};
+
+use crate::message::Kind;
+use crate::session::Answering;
+use crate::status::Status;
+use ws_base::NoMemory;
+use ws_frame::{Header, Role, append_frame};
+
+/// How an endpoint replies while it takes a piece.
+#[derive(Clone, Copy)]
+pub(crate) struct Replying {
+    pub(crate) role: Role,
+    /// Once its close was sent it puts nothing.
+    pub(crate) status: Status,
+    pub(crate) answering: Answering,
+    /// Masks what a client puts.
+    pub(crate) key: [u8; 4],
+}
+
+impl Replying {
+    /// Puts a frame with FIN at the end of `out`, unless the endpoint's close was sent.
+    pub(crate) fn reply(
+        &self,
+        opcode: u8,
+        payload: &[u8],
+        out: &mut Vec<u8>,
+    ) -> Result<(), NoMemory>
+        requires opcode { opcode < 16 }
+        requires short { length payload.now ≤ 16777216 }
+        ensures put { OnOk result (out.new.items
+            ≡ out.old.items ++ bytes_put self.now (control_frame opcode payload.now ∷ [])) }
+        ensures kept { OnErr result (out.new.items ≡ out.old.items) }
+    {
+        if self.status == Status::Closing {
+            return Ok(());
+        }
+        put_frame(self.role, true, opcode, payload, self.key, out)?;
+        Ok(())
+    }
+
+    /// Puts a message back at the end of `out`, where this is an echo whose close was not sent.
+    pub(crate) fn reply_to_message(
+        &self,
+        kind: Kind,
+        payload: &[u8],
+        out: &mut Vec<u8>,
+    ) -> Result<(), NoMemory>
+        requires { length payload.now ≤ 16777216 }
+        ensures put { let message : Message = record { kind = kind; payload = payload.now }
+            in OnOk result (out.new.items
+            ≡ out.old.items ++ bytes_put self.now (reply_to_message self.now.answering message)) }
+        ensures kept { OnErr result (out.new.items ≡ out.old.items) }
+    {
+        if self.answering == Answering::Plain {
+            return Ok(());
+        }
+        self.reply(kind.opcode(), payload, out)?;
+        Ok(())
+    }
+}
+
+/// Puts a frame at the end of `out`, under the key if this is a client.
+pub(crate) fn put_frame(
+    role: Role,
+    fin: bool,
+    opcode: u8,
+    payload: &[u8],
+    key: [u8; 4],
+    out: &mut Vec<u8>,
+) -> Result<(), NoMemory>
+    requires opcode { opcode < 16 }
+    requires short { length payload.now ≤ 16777216 }
+    ensures put { let frame : Frame = record { fin = fin; rsv = 0; opcode = opcode; payload = payload.now }
+        in OnOk result ((out.new.items ≡ out.old.items ++ frame_bytes (under_key role key frame))
+        × FitsTheLayout (under_key role key frame)) }
+    ensures kept { OnErr result (out.new.items ≡ out.old.items) }
+{
+    let key = match role {
+        Role::Client => Some(key),
+        Role::Server => None,
+    };
+    let Some(header) = Header::shortest(fin, 0, opcode, key, payload.len() as u64) else {
+        unreachable!()
+    };
+    append_frame(&header, payload, out)?;
+    Ok(())
+}
