@@ -4,6 +4,8 @@ pub mod EchoTalks
 pub mod Runs
 pub mod EchoRuns
 pub mod Driving
-pub mod EchoLaws
+pub mod EchoRuns
 pub mod TurnRuns
+pub mod Examples
+pub mod EchoLaws
 pub mod Steps
