@@ -4,8 +4,7 @@ pub mod EchoTalks
 pub mod Runs
 pub mod EchoRuns
 pub mod Driving
-pub mod EchoRuns
-pub mod TurnRuns
 pub mod Examples
 pub mod EchoLaws
+pub mod TurnRuns
 pub mod Steps

@@ -7,6 +7,7 @@ mod captures;
 mod cases;
 mod echoes;
 mod frames;
+mod peers;
 mod printing;
 mod row_fault;
 mod sessions;
@@ -72,6 +73,7 @@ fn answer_to(alloc: Global, row: &str) -> Result<String, RowFault> {
         "capture_fault" => captures::tell_no_memory(words, &mut out)?,
         "judge" => captures::judge_turns(alloc, words, &mut out)?,
         "session" => sessions::play(alloc, words, &mut out)?,
+        "verdict" => peers::tell_verdict(alloc, words, &mut out)?,
         _ => return Err(RowFault::NotARow),
     }
     Ok(out)
