@@ -21,6 +21,8 @@ pub mod HeaderEnds
 pub mod Pieces
 pub mod Kept
 pub mod Receipts
+pub mod Wants
+pub mod Owed
 pub mod SessionParts
 pub mod Over
 pub mod SomeExchange

@@ -18,12 +18,13 @@ use Rattle.ws_session.specs.Limits.{LimitsValue}
 use Rattle.ws_session.specs.Faults.{IsControl, IsOfText, open_payload}
 use Rattle.ws_session.specs.Assembly.{HasReadOpen}
 use Rattle.ws_session.specs.Checking.{NoneAtHeader, IsFirstAtHeader}
-use Rattle.ws_session.specs.Receiving.{AssemblyValue, with_text, frame_payload, first_bytes, HasKept, IsJoined, arrived_payload, partial_of, IsUnderWay, IsPayloadCheck, IsFrameCheck}
+use Rattle.ws_session.specs.Receiving.{AssemblyValue, with_text, frame_payload, first_bytes, HasKept, IsJoined, arrived_payload, partial_of, IsUnderWay, HasNewData, IsPayloadCheck, IsFrameCheck}
 use Rattle.ws_session.proofs.ByteLists.{bytes_append}
 use Rattle.ws_session.proofs.Frames.{none_or_some, one_or_two, at_header, part_of_header, room_for_header}
 use Rattle.ws_session.proofs.Payloads.{read_open}
 use Rattle.ws_session.proofs.Assembled.{first_is}
-use Rattle.ws_session.proofs.Received.{kept_checked, first_checked}
+use Rattle.ws_frame.proofs.Masks.{length-masked_payload}
+use Rattle.ws_session.proofs.Received.{begins_kept, kept_checked, first_checked}
 
 -- ---- a header that breaks no rule
 
@@ -126,3 +127,21 @@ module _ (role : Role) (limits : LimitsValue) (a b : AssemblyValue) (h : HeaderF
 
   pub first_of_control : (j : FrameCheck) → HasReadOpen b.opened b.text → IsPayloadCheck h 0 used b (arrived_payload h [] rest) j → IsFrameCheck role limits b (length kept) (kept ++ piece) j
   first_of_control j reads c = first_checked role limits b h kept piece rest (arrived_payload h [] rest) used begins are none_b joined behind refl (λ control. reads) j c
+
+-- ---- new bytes of a data frame's payload
+
+-- behind a header that the piece completes
+pub first_data : (role : Role) (limits : LimitsValue) (opened : Option Message) (h : HeaderFields) (kept piece rest : List ℕ) (used : ℕ) → Begins h (length kept + used) (kept ++ piece) → NoneAtHeader role limits opened h → h.opcode ≤ 2 → 0 < h.len → rest ≡ drop used piece → 0 < length rest → HasNewData role limits opened (length kept) (kept ++ piece)
+first_data role limits opened h kept piece rest used b none opcode some behind more =
+    let size : length (kept ++ piece) ≡ length kept + length piece = length-append kept piece in
+    let left : length rest ≡ length piece - used = ap (λ (l : List ℕ). length l) behind ∙ length-drop used piece in
+    record { header = h; used = length kept + used; begins = b; none = none; is_data = opcode; some = some; past = omega (arith, size, left, more); new = omega (arith, size, left, more); left = omega (arith, some) }
+
+-- behind a part of it
+pub more_data : (role : Role) (limits : LimitsValue) (a : AssemblyValue) (h : HeaderFields) (came : ℕ) (piece : List ℕ) → IsUnderWay role limits a (under_way.Data h came) → 0 < length piece → HasNewData role limits a.opened (length (partial_of a (under_way.Data h came))) (partial_of a (under_way.Data h came) ++ piece)
+more_data role limits a h came piece u more =
+    let k = u.kept in
+    let payload = masked_payload h.key (take came (frame_payload a)) in
+    let size : length (header_bytes h ++ payload) ≡ length (header_bytes h) + came = length-append (header_bytes h) payload ∙ ap (λ n. length (header_bytes h) + n) (length-masked_payload h.key (take came (frame_payload a)) ∙ came_size role limits a h came u) in
+    let all : length ((header_bytes h ++ payload) ++ piece) ≡ length (header_bytes h ++ payload) + length piece = length-append (header_bytes h ++ payload) piece in
+    record { header = h; used = length (header_bytes h); begins = begins_kept h payload piece k.0; none = k.1; is_data = k.2; some = omega (arith, k.3); past = omega (arith, all, size, more); new = omega (arith, all, more); left = omega (arith, size, k.3) }

@@ -1,5 +1,5 @@
 -- A call of the receiving side as one of a session that has it.
-use Rattle.std.proofs.Common.{◌≡◌, ℕ, ◌+◌, ◌<◌, ◌≤◌, Bool, true, false, cond, List, [], ◌++◌, length, Option, Some, None, refl, sym, ap, ◌∙◌, arith, subst}
+use Rattle.std.proofs.Common.{◌≡◌, ◌≢◌, ℕ, ◌+◌, ◌<◌, ◌≤◌, Bool, true, false, cond, List, [], ◌∷◌, ◌++◌, length, Option, Some, None, refl, sym, ap, ◌∙◌, arith, subst}
 use Rattle.std.specs.Prelude.{map, nat_le, ◌==◌}
 use Rattle.ws_frame.specs.declared.role.Role.{Role}
 use Rattle.ws_frame.specs.Header.{AreBytes}
@@ -11,6 +11,7 @@ use Rattle.ws_session.specs.declared.reason.Reason.{Reason}
 use Rattle.ws_session.specs.declared.event.Event.{Event}
 use Rattle.ws_session.specs.declared.event.Event.TheVariants as event
 use Rattle.ws_session.specs.declared.status.Status.{Status}
+use Rattle.ws_session.specs.declared.status.Status.TheVariants as status
 use Rattle.ws_session.specs.declared.replying.Replying.{Replying}
 use Rattle.ws_session.specs.declared.receiver.under_way.UnderWay.{UnderWay}
 use Rattle.ws_session.specs.declared.receiver.frame_check.Content.{Content}
@@ -140,3 +141,13 @@ uses_fault role limits opened a kept piece used reason same p first =
     let behind = fault_behind_kept role limits opened kept piece (length kept + used) reason p here.fault in
     let within = within_bytes role limits opened (kept ++ piece) (length kept + used) reason here.fault in
     (λ some. omega (arith, behind), omega (arith, within, length-append kept piece))
+
+-- ---- what is owed
+
+-- who sends nothing more was not asked to
+pub owed_unless_closing : (s : Status) (frame : Frame) (frames : List Frame) → (s ≡ status.Closing → ⊥) → due_at s (frame ∷ frames) ≢ []
+owed_unless_closing status.Open frame frames never = λ e. absurd cc
+owed_unless_closing status.Closing frame frames never = λ e. never refl
+owed_unless_closing (status.Clean code) frame frames never = λ e. absurd cc
+owed_unless_closing (status.Failed reason) frame frames never = λ e. absurd cc
+owed_unless_closing status.Lost frame frames never = λ e. absurd cc

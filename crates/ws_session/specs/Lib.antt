@@ -6,6 +6,7 @@ pub mod Events
 pub mod Replies
 pub mod Exchange
 pub mod Taking
+pub mod Memory
 pub mod Sends
 pub mod Reach
 pub mod Words

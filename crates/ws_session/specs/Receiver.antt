@@ -1,5 +1,6 @@
 -- Inside the crate: the receiving side of an endpoint, for contracts of private functions. A reader may skip this file.
-use Rattle.std.specs.Prelude.{◌≡◌, ℕ, ◌+◌, ◌≤◌, ◌<◌, ◌^◌, if◌then◌else◌, List, [], ◌++◌, length, Option, Some, None}
+use Rattle.std.specs.Prelude.{◌≡◌, ◌≢◌, ℕ, ◌+◌, ◌≤◌, ◌<◌, ◌^◌, if◌then◌else◌, List, [], ◌++◌, length, Option}
+use Rattle.std.specs.Prelude.{Some, None}
 use Rattle.ws_frame.specs.declared.role.Role.{Role}
 use Rattle.ws_frame.specs.Header.{header_bytes}
 use Rattle.ws_session.specs.declared.message.Kind.{Kind}
@@ -16,7 +17,7 @@ use Rattle.ws_session.specs.Limits.{LimitsValue}
 use Rattle.ws_session.specs.Faults.{open_payload}
 use Rattle.ws_session.specs.Exchange.{SendingValue, SessionValue}
 use Rattle.ws_session.specs.Assembly.{IsTextOf, HasReadOpen}
-use Rattle.ws_session.specs.NextFrame.{IsPartOfFrame, status_with}
+use Rattle.ws_session.specs.NextFrame.{IsPartOfFrame, due_at, status_with}
 use Rattle.ws_session.specs.Inside.{reply_by}
 use Rattle.ws_session.specs.Receiving.{AssemblyValue, partial_of, IsUnderWay}
 use Rattle.ws_session.specs.Replying.{bytes_put}
@@ -121,3 +122,7 @@ pub record HasReceived (r : Replying) (old new : ReceiverValue) (before after : 
   pub opened_is : new.opened ≡ opened
   pub partial : new.partial_frame ≡ []
   pub put : after ≡ before ++ bytes_put r (reply_by r.answering e)
+
+-- an answer is owed for the event
+abbrev pub IsOwed : Replying → Event → Type 0
+IsOwed r e = due_at r.status (reply_by r.answering e) ≢ []

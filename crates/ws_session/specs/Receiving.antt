@@ -81,7 +81,8 @@ partial_of a (under_way.Data header came) =
     header_bytes header ++ masked_payload header.key (take came (frame_payload a))
 partial_of a (under_way.Control header payload) = header_bytes header ++ masked_payload header.key payload
 
--- no header is whole yet; or the header breaks no rule, and its payload isn't whole
+-- what is kept of it: no header is whole yet; or the header breaks no rule and its payload isn't whole, which of a data
+-- frame stands in the assembly. The stream has read what came of the message
 abbrev pub IsKept : Role → LimitsValue → AssemblyValue → UnderWay → Type 0
 IsKept role limits a (under_way.Header bytes) = BeginsNoHeader bytes × HasReadOpen a.opened a.text
 IsKept role limits a (under_way.Data header came) = IsHeader header × NoneAtHeader role limits a.opened header
@@ -90,6 +91,7 @@ IsKept role limits a (under_way.Data header came) = IsHeader header × NoneAtHea
 IsKept role limits a (under_way.Control header payload) = IsHeader header × NoneAtHeader role limits a.opened header
     × IsControl header × (length payload < header.len) × HasReadOpen a.opened a.text
 
+-- it is so kept, and what shows of it are bytes
 pub record IsUnderWay (role : Role) (limits : LimitsValue) (a : AssemblyValue) (frame : UnderWay) : Type 0 where
   pub bytes : AreBytes (partial_of a frame)
   pub joined : IsJoined a
@@ -101,6 +103,22 @@ pub record IsUnderWay (role : Role) (limits : LimitsValue) (a : AssemblyValue) (
 pub record CompletesHeader (kept piece : List ℕ) (header : HeaderFields) (used : ℕ) : Type 0 where
   pub begins : Begins header (length kept + used) (kept ++ piece)
   pub within : used ≤ length piece
+
+-- ---- payload of a data frame
+
+-- of these bytes, so many of which were kept, one that is new is of the payload of a data frame, whose header breaks no
+-- rule
+pub record HasNewData (role : Role) (limits : LimitsValue) (opened : Option Message) (kept : ℕ) (bytes : List ℕ)
+    : Type 0 where
+  pub header : HeaderFields
+  pub used : ℕ
+  pub begins : Begins header used bytes
+  pub none : NoneAtHeader role limits opened header
+  pub is_data : header.opcode ≤ 2
+  pub some : 0 < header.len
+  pub past : used < length bytes
+  pub new : kept < length bytes
+  pub left : kept < used + header.len
 
 -- ---- the payload, as far as it has come
 

@@ -7,6 +7,7 @@ ghost use Rattle.ws_session.specs.declared.status.Status.TheVariants.{Lost};
 ghost use Rattle.ws_session.specs.Replies.{echo_reply_to};
 ghost use Rattle.ws_session.specs.Exchange.{HasExchanged, HasSomeExchange, is_over};
 ghost use Rattle.ws_session.specs.Taking.{HasTaken, TakesNothing, HasTakenAll, front_taken};
+ghost use Rattle.ws_session.specs.Memory.{WantsMemory};
 
 use crate::event::{PlacedEvent, TakeStop, Taken};
 use crate::limits::Limits;
@@ -89,6 +90,9 @@ impl Echo {
         ensures role { self.new.role ≡ self.old.role }
         ensures limits { self.new.limits ≡ self.old.limits }
         ensures kept { OnErr result ((self.new ≡ self.old) × (out.new.items ≡ out.old.items)) }
+
+        // Memory is wanted where the bytes that would be used hold payload of a data frame, or an answer is owed.
+        ensures memory { OnErr result (WantsMemory echo_reply_to self.old piece.now) }
     {
         let taken = self.session.take_by(Answering::Echoing, piece, key, out)?;
         Ok(taken)

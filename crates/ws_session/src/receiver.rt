@@ -7,6 +7,7 @@ ghost use Rattle.std.specs.Prelude.{◌≡◌, ◌+◌, ◌≤◌, ◌<◌, [], 
 ghost use Rattle.ws_session.specs.Faults.{open_payload};
 ghost use Rattle.ws_session.specs.Exchange.{SendingValue, is_over};
 ghost use Rattle.ws_session.specs.Taking.{HasTaken};
+ghost use Rattle.ws_session.specs.Memory.{WantsMemory};
 ghost use Rattle.ws_session.specs.Inside.{CanAnswer, reply_by};
 ghost use Rattle.ws_session.specs.Receiver.{IsSoundReceiver, session_with, status_by};
 
@@ -125,6 +126,9 @@ impl Receiver {
             (self.new.opened ≡ None) × (self.new.partial_frame ≡ [])) }
         ensures kept { OnErr result ((self.new.opened ≡ self.old.opened)
             × (self.new.partial_frame ≡ self.old.partial_frame) × (out.new.items ≡ out.old.items)) }
+        ensures memory { (sending : Option SendingValue) → CanAnswer replying.now.answering sending
+            → OnErr result (WantsMemory (reply_by replying.now.answering)
+            (session_with self.old sending replying.now.status) piece.now) }
     {
         let check = check_piece(
             self.role,

@@ -1,9 +1,10 @@
 //! What an endpoint puts of its own accord for what comes (RFC 6455 sections 5.5 and 7.1).
 
-ghost use Rattle.std.specs.Prelude.{◌≡◌, ◌≤◌, ◌<◌, ◌∷◌, [], ◌++◌, length, OnOk, OnErr};
+ghost use Rattle.std.specs.Prelude.{◌≡◌, ◌≢◌, ◌≤◌, ◌<◌, ◌∷◌, [], ◌++◌, length, OnOk, OnErr};
 ghost use Rattle.ws_frame.specs.Frame.{Frame, FitsTheLayout, frame_bytes};
 ghost use Rattle.ws_session.specs.Replies.{control_frame, under_key};
 ghost use Rattle.ws_session.specs.declared.message.Message.{Message};
+ghost use Rattle.ws_session.specs.NextFrame.{due_at};
 ghost use Rattle.ws_session.specs.Inside.{reply_to_message};
 ghost use Rattle.ws_session.specs.Replying.{bytes_put};
 
@@ -37,6 +38,7 @@ impl Replying {
         ensures put { OnOk result (out.new.items
             ≡ out.old.items ++ bytes_put self.now (control_frame opcode payload.now ∷ [])) }
         ensures kept { OnErr result (out.new.items ≡ out.old.items) }
+        ensures owed { OnErr result (due_at self.now.status (control_frame opcode payload.now ∷ []) ≢ []) }
     {
         if self.status == Status::Closing {
             return Ok(());
@@ -57,6 +59,8 @@ impl Replying {
             in OnOk result (out.new.items
             ≡ out.old.items ++ bytes_put self.now (reply_to_message self.now.answering message)) }
         ensures kept { OnErr result (out.new.items ≡ out.old.items) }
+        ensures owed { let message : Message = record { kind = kind; payload = payload.now }
+            in OnErr result (due_at self.now.status (reply_to_message self.now.answering message) ≢ []) }
     {
         if self.answering == Answering::Plain {
             return Ok(());

@@ -8,6 +8,7 @@ ghost use Rattle.ws_session.specs.Faults.{open_payload};
 ghost use Rattle.ws_session.specs.Replies.{reply_to};
 ghost use Rattle.ws_session.specs.Exchange.{HasExchanged, HasSomeExchange, is_over};
 ghost use Rattle.ws_session.specs.Taking.{HasTaken, TakesNothing};
+ghost use Rattle.ws_session.specs.Memory.{WantsMemory};
 ghost use Rattle.ws_session.specs.Inside.{CanAnswer, reply_by};
 
 mod sends;
@@ -116,6 +117,9 @@ impl Session {
         ensures role { self.new.role ≡ self.old.role }
         ensures limits { self.new.limits ≡ self.old.limits }
         ensures kept { OnErr result ((self.new ≡ self.old) × (out.new.items ≡ out.old.items)) }
+
+        // Memory is wanted where the bytes that would be used hold payload of a data frame, or an answer is owed.
+        ensures memory { OnErr result (WantsMemory reply_to self.old piece.now) }
     {
         let taken = self.take_by(Answering::Plain, piece, key, out)?;
         Ok(taken)
@@ -140,6 +144,7 @@ impl Session {
             × (taken.used ≤ length piece.now)) }
         ensures sending { self.new.sending ≡ self.old.sending }
         ensures kept { OnErr result ((self.new ≡ self.old) × (out.new.items ≡ out.old.items)) }
+        ensures memory { OnErr result (WantsMemory (reply_by answering) self.old piece.now) }
     {
         let taken = self.state.take_by(answering, piece, key, out)?;
         Ok(taken)

@@ -1,7 +1,7 @@
 //! The message that is open on the receiving side, and the payload of the frame under way after it (RFC 6455
 //! section 5.4).
 
-ghost use Rattle.std.specs.Prelude.{◌≡◌, ◌↔◌, ◌≤◌, ◌++◌, [], length, drop, is_some, IsTrue, OnOk, OnErr, Some};
+ghost use Rattle.std.specs.Prelude.{◌≡◌, ◌↔◌, ◌≤◌, ◌<◌, ◌++◌, [], length, drop, is_some, IsTrue, OnOk, OnErr, Some};
 ghost use Rattle.std.specs.Prelude.{None};
 ghost use Rattle.ws_text.specs.Stream.{HasRead};
 ghost use Rattle.ws_session.specs.Faults.{open_payload, IsOpenText};
@@ -127,6 +127,7 @@ impl Assembly {
         ensures text { self.new.text ≡ self.old.text }
         ensures added { OnOk result (self.new.payload ≡ first_bytes self.old came ++ masked_from key came bytes.now) }
         ensures kept { OnErr result (self.new.payload ≡ first_bytes self.old came) }
+        ensures wants { OnErr result (0 < length bytes.now) }
         ensures joined { IsJoined self.new }
     {
         self.payload.truncate(self.before + came);
@@ -193,6 +194,7 @@ fn append_masked(
     requires { phase ≤ 3 }
     ensures put { OnOk result (kept.new.items ≡ kept.old.items ++ masked_from key phase bytes.now) }
     ensures kept { OnErr result (kept.new.items ≡ kept.old.items) }
+    ensures wants { OnErr result (0 < length bytes.now) }
 {
     let from = kept.len();
     kept.extend_from_slice(bytes)?;

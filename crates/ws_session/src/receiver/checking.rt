@@ -1,9 +1,9 @@
 //! What a piece makes of the frame under way, and of it alone: no byte behind that frame is looked at.
 
-ghost use Rattle.std.specs.Prelude.{◌≡◌, ◌++◌, length, IfOk};
+ghost use Rattle.std.specs.Prelude.{◌≡◌, ◌++◌, length, IfOk, OnErr};
 ghost use Rattle.ws_frame.specs.Header.{AreBytes};
 ghost use Rattle.ws_session.specs.declared.receiver.under_way.UnderWay.TheVariants as UnderWay;
-ghost use Rattle.ws_session.specs.Receiving.{IsUnderWay, IsJoined, partial_of, IsFrameCheck};
+ghost use Rattle.ws_session.specs.Receiving.{IsUnderWay, IsJoined, HasNewData, partial_of, IsFrameCheck};
 
 use crate::control_payload::Small;
 use crate::limits::Limits;
@@ -35,6 +35,10 @@ pub(super) fn check_piece(
     ensures partial { partial_of assembly.new frame.now ≡ partial_of assembly.old frame.now }
     ensures under_way { IsUnderWay role limits assembly.new frame.now }
     ensures bytes { AreBytes (partial_of assembly.old frame.now ++ piece.now) }
+
+    // Want of memory: a byte of the piece is of the payload of a data frame.
+    ensures wants { OnErr result (HasNewData role limits assembly.old.opened
+        (length (partial_of assembly.old frame.now)) (partial_of assembly.old frame.now ++ piece.now)) }
 {
     match frame {
         UnderWay::Header(kept) => {
@@ -65,6 +69,8 @@ fn check_header(
     ensures opened { assembly.new.opened ≡ assembly.old.opened }
     ensures text { assembly.new.text ≡ assembly.old.text }
     ensures joined { IsJoined assembly.new }
+    ensures wants { OnErr result (HasNewData role limits assembly.old.opened (length kept.now)
+        (kept.now ++ piece.now)) }
 {
     let Some(end) = complete_header(kept, piece) else {
         laws::fourteen_bytes_hold_a_header();

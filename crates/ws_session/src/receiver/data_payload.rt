@@ -1,7 +1,7 @@
 //! The payload of a data frame, as it comes (RFC 6455 sections 5.4, 5.6 and 8.1).
 
 ghost use Rattle.std.specs.Prelude.{◌≡◌, ◌↔◌, ◌+◌, ◌≤◌, ◌<◌, ◌^◌, ℕ, List, length, take, true, IsTrue, IfOk, OnOk};
-ghost use Rattle.std.specs.Prelude.{MatchResult, None};
+ghost use Rattle.std.specs.Prelude.{MatchResult, OnErr, None};
 ghost use Rattle.ws_text.specs.Text.{IsText};
 ghost use Rattle.ws_text.specs.Stream.{HasRead};
 ghost use Rattle.ws_session.specs.Messages.{kind_of};
@@ -43,6 +43,7 @@ pub(super) fn check_data(
     ensures opened { assembly.new.opened ≡ assembly.old.opened }
     ensures text { assembly.new.text ≡ assembly.old.text }
     ensures first { first_bytes assembly.new came ≡ first_bytes assembly.old came }
+    ensures wants { OnErr result ((came < header.now.len) × (0 < length rest.now)) }
 {
     let left = header.payload_len() - came as u64;
     let here = left.min(rest.len() as u64) as usize;

@@ -5,7 +5,7 @@ ghost use Rattle.std.specs.Prelude.{◌≡◌, ◌≤◌, length, if◌then◌el
 ghost use Rattle.ws_session.specs.declared.event.Event.TheVariants as Event;
 ghost use Rattle.ws_session.specs.Assembly.{IsTextOf, HasReadOpen};
 ghost use Rattle.ws_session.specs.Receiver.{HasReceived, IsContentKept, FitsLimit, event_of_kept, opened_by};
-ghost use Rattle.ws_session.specs.Receiver.{kept_message};
+ghost use Rattle.ws_session.specs.Receiver.{IsOwed, kept_message};
 
 use crate::control_payload::Small;
 use crate::event::Event;
@@ -37,6 +37,7 @@ impl Receiver {
         ensures received { IfOk result (λ event. HasReceived replying.now self.old self.new
             out.old.items out.new.items event (opened_by self.old content)) }
         ensures kept { OnErr result ((self.new ≡ self.old) × (out.new.items ≡ out.old.items)) }
+        ensures owed { OnErr result (IsOwed replying.now (event_of_kept self.old content)) }
     {
         match content {
             Content::Data { fin, kind, text } => {
@@ -74,6 +75,8 @@ impl Receiver {
         ensures received { IfOk result (λ event. HasReceived replying.now self.old self.new
             out.old.items out.new.items event (if fin then None else Some (kept_message self.old kind))) }
         ensures kept { OnErr result ((self.new ≡ self.old) × (out.new.items ≡ out.old.items)) }
+        ensures owed { OnErr result (IsOwed replying.now
+            (if fin then Event.Message (kept_message self.old kind) else Event.Part)) }
     {
         if !fin {
             self.assembly.on_fragment(kind, text);
@@ -98,6 +101,7 @@ impl Receiver {
         ensures received { IfOk result (λ event. HasReceived replying.now self.old self.new
             out.old.items out.new.items event self.old.opened) }
         ensures kept { OnErr result ((self.new ≡ self.old) × (out.new.items ≡ out.old.items)) }
+        ensures owed { OnErr result (IsOwed replying.now (Event.Ping payload)) }
     {
         replying.reply(PONG, payload.as_slice(), out)?;
         self.frame = nothing();
@@ -115,6 +119,7 @@ impl Receiver {
         ensures received { IfOk result (λ event. HasReceived replying.now self.old self.new
             out.old.items out.new.items event None) }
         ensures kept { OnErr result ((self.new ≡ self.old) × (out.new.items ≡ out.old.items)) }
+        ensures owed { OnErr result (IsOwed replying.now (Event.Close close)) }
     {
         match &close {
             None => replying.reply(CLOSE, &[], out)?,
@@ -135,6 +140,7 @@ impl Receiver {
         ensures received { IfOk result (λ event. HasReceived replying.now self.old self.new
             out.old.items out.new.items event None) }
         ensures kept { OnErr result ((self.new ≡ self.old) × (out.new.items ≡ out.old.items)) }
+        ensures owed { OnErr result (IsOwed replying.now (Event.Failed reason)) }
     {
         replying.reply(CLOSE, &reason.close_code().to_be_bytes(), out)?;
         self.end();

@@ -5,6 +5,7 @@ ghost use Rattle.ws_session.specs.declared.status.Status.TheVariants.{Open};
 ghost use Rattle.ws_session.specs.Faults.{open_payload};
 ghost use Rattle.ws_session.specs.Exchange.{is_over};
 ghost use Rattle.ws_session.specs.Taking.{HasTaken, TakesNothing};
+ghost use Rattle.ws_session.specs.Memory.{WantsMemory};
 ghost use Rattle.ws_session.specs.Inside.{CanAnswer, reply_by};
 ghost use Rattle.ws_session.specs.Receiver.{status_by};
 
@@ -105,6 +106,7 @@ impl State {
             × (taken.used ≤ length piece.now)) }
         ensures sending { self.new.sending ≡ self.old.sending }
         ensures kept { OnErr result ((self.new ≡ self.old) × (out.new.items ≡ out.old.items)) }
+        ensures memory { OnErr result (WantsMemory (reply_by answering) self.old piece.now) }
     {
         if self.status.is_over() {
             return Ok(Taken {

@@ -1,4 +1,4 @@
-use Rattle.std.proofs.Common.{◌≡◌, ◌∙◌, ◌+◌, ◌++◌, length, List, ℕ, Option, Some, ap, sym, refl, subst, arith}
+use Rattle.std.proofs.Common.{◌≡◌, ◌∙◌, ◌+◌, ◌++◌, length, List, ℕ, Option, Some, ap, sym, inl, subst, arith}
 use Rattle.ws_frame.specs.Header.{AreBytes}
 use Rattle.ws_session.specs.declared.message.Message.{Message}
 use Rattle.ws_session.specs.declared.receiver.frame_check.FrameCheck.{FrameCheck}
@@ -11,6 +11,10 @@ use Rattle.ws_session.specs.Receiving.{AssemblyValue, IsFrameCheck, partial_of}
 use Rattle.ws_session.specs.Receiver.{ReceiverValue, receiver_of, session_with, status_by}
 use Rattle.ws_session.proofs.Calls.{exchange_of, call_of}
 use Rattle.ws_session.proofs.Receipts.{received_part, received_frame, received_fault, uses_frame, uses_fault}
+use Rattle.ws_session.specs.Memory.{WouldTake, WantsMemory}
+use Rattle.ws_session.specs.Receiving.{HasNewData}
+use Rattle.ws_session.proofs.Wants.{on_err, wants_data}
+use Rattle.ws_session.proofs.Owed.{wants_frame, wants_fault}
 use Rattle.ws_session.proofs.receiver.Receiver.take.Goals as goal
 
 pub returns-in-Need-clause-taken : goal.returns-in-Need-clause-taken
@@ -79,3 +83,39 @@ returns-in_ok-event-in-Fault-clause-used c =
     let kept = partial_of i.assembly i.frame in
     let is : IsFrameCheck i.role i.limits b (length kept) (kept ++ piece) (check.Fault c.in-Fault.reason c.in-Fault.used) = subst (λ (j : FrameCheck). IsFrameCheck i.role i.limits b (length kept) (kept ++ piece) j) c.in-Fault.is c.in_ok-check.ensures.checked in
     uses_fault i.role i.limits i.assembly.opened b kept piece c.in-Fault.used c.in-Fault.reason c.in_ok-check.ensures.opened c.self.invariant.sound.part is
+
+pub returns-in_err-check-clause-memory : goal.returns-in_err-check-clause-memory
+returns-in_err-check-clause-memory c = λ sending can. on_err c.from_residual.result (WantsMemory (reply_by c.args.replying.now.answering) (session_with c.args.self.now sending c.args.replying.now.status) c.args.piece.now) (λ exchange unended h t would.
+    let r = c.args.replying.now in
+    let v = c.args.self.now in
+    let piece = c.args.piece.now in
+    inl (wants_data (session_with v sending r.status) exchange piece h c.requires.going (λ k. omega (arith, c.type_inv.piece k))
+    (subst (λ (x : ReceiverValue). AreBytes (x.partial_frame ++ piece)) c.self.view_is c.check_piece.ensures.bytes)
+    (subst (λ (x : ReceiverValue). IsPartOfFrame x.role x.limits x.opened x.partial_frame) c.self.view_is c.self.invariant.sound.part)
+    (subst (λ (x : ReceiverValue). HasNewData x.role x.limits x.opened (length x.partial_frame) (x.partial_frame ++ piece)) c.self.view_is c.in_err-check.ensures.wants) t would))
+
+pub returns-in_err-event-in-Whole-clause-memory : goal.returns-in_err-event-in-Whole-clause-memory
+returns-in_err-event-in-Whole-clause-memory c = λ sending can. on_err c.from_residual-in_err-event-in-Whole.result (WantsMemory (reply_by c.args.replying.now.answering) (session_with c.args.self.now sending c.args.replying.now.status) c.args.piece.now) (λ exchange unended h t would.
+    let i = c.self.inside in
+    let r = c.args.replying.now in
+    let b = c.check_piece.new.assembly in
+    let piece = c.args.piece.now in
+    let kept = partial_of i.assembly i.frame in
+    let o : ReceiverValue = receiver_of i.role i.limits i.assembly i.frame in
+    let is : IsFrameCheck i.role i.limits b (length kept) (kept ++ piece) (check.Whole c.in-Whole.used c.in-Whole.content) = subst (λ (j : FrameCheck). IsFrameCheck i.role i.limits b (length kept) (kept ++ piece) j) c.in-Whole.is c.in_ok-check.ensures.checked in
+    let before : HasExchanged (session_with o sending r.status) exchange.sent exchange.taken exchange.ended = subst (λ (x : ReceiverValue). HasExchanged (session_with x sending r.status) exchange.sent exchange.taken exchange.ended) (sym c.self.view_is) h in
+    wants_frame r o sending exchange piece can (c.requires.role ∙ sym (ap (λ (x : ReceiverValue). x.role) c.self.view_is)) c.requires.going before (λ k. omega (arith, c.type_inv.piece k)) b i.frame c.in-Whole.used c.in-Whole.content c.in_ok-check.ensures.opened is c.in_err-event-in-Whole.ensures.owed t
+    (subst (λ (x : ReceiverValue). WouldTake (session_with x sending r.status) exchange piece t) (sym c.self.view_is) would))
+
+pub returns-in_err-event-in-Fault-clause-memory : goal.returns-in_err-event-in-Fault-clause-memory
+returns-in_err-event-in-Fault-clause-memory c = λ sending can. on_err c.from_residual-in_err-event-in-Fault.result (WantsMemory (reply_by c.args.replying.now.answering) (session_with c.args.self.now sending c.args.replying.now.status) c.args.piece.now) (λ exchange unended h t would.
+    let i = c.self.inside in
+    let r = c.args.replying.now in
+    let b = c.check_piece.new.assembly in
+    let piece = c.args.piece.now in
+    let kept = partial_of i.assembly i.frame in
+    let o : ReceiverValue = receiver_of i.role i.limits i.assembly i.frame in
+    let is : IsFrameCheck i.role i.limits b (length kept) (kept ++ piece) (check.Fault c.in-Fault.reason c.in-Fault.used) = subst (λ (j : FrameCheck). IsFrameCheck i.role i.limits b (length kept) (kept ++ piece) j) c.in-Fault.is c.in_ok-check.ensures.checked in
+    let before : HasExchanged (session_with o sending r.status) exchange.sent exchange.taken exchange.ended = subst (λ (x : ReceiverValue). HasExchanged (session_with x sending r.status) exchange.sent exchange.taken exchange.ended) (sym c.self.view_is) h in
+    wants_fault r o sending exchange piece can (c.requires.role ∙ sym (ap (λ (x : ReceiverValue). x.role) c.self.view_is)) c.requires.going before (λ k. omega (arith, c.type_inv.piece k)) b i.frame c.in-Fault.used c.in-Fault.reason c.in_ok-check.ensures.opened c.check_piece.ensures.bytes is c.in_err-event-in-Fault.ensures.owed t
+    (subst (λ (x : ReceiverValue). WouldTake (session_with x sending r.status) exchange piece t) (sym c.self.view_is) would))

@@ -4,7 +4,8 @@ use Rattle.ws_frame.specs.Header.{AreBytes}
 use Rattle.ws_session.specs.Faults.{IsControl}
 use Rattle.ws_session.specs.Receiving.{arrived_payload, IsPayloadCheck}
 use Rattle.ws_session.proofs.ByteLists.{bytes_append}
-use Rattle.ws_session.proofs.Pieces.{opcode_of_data, opcode_of_control, short_control, none_open, read_first, header_part, header_fault, left_of, first_of_data, first_of_control}
+use Rattle.ws_session.proofs.Pieces.{opcode_of_data, opcode_of_control, short_control, none_open, read_first, header_part, header_fault, left_of, first_of_data, first_of_control, first_data}
+use Rattle.ws_session.proofs.Wants.{on_err}
 use Rattle.ws_session.proofs.receiver.checking.check_header.Goals as goal
 
 pub joined-requires : goal.joined-requires
@@ -66,3 +67,12 @@ returns-clause-checked c =
     let are : AreBytes (c.args.kept.now ++ piece) = bytes_append c.args.kept.now piece c.requires.bytes (λ i. omega (arith, c.type_inv.piece i)) in
     first_of_control c.args.role c.args.limits a a h c.args.kept.now piece rest used c.in-Some.ensures.begins are c.in_default-reason_at_header.ensures refl c.requires.joined (left_of piece used)
     c.check_control.result c.requires.kept.1 (subst (λ (l : List ℕ). IsPayloadCheck h (length l) used a (arrived_payload h l rest) c.check_control.result) c.of-none.ensures c.check_control.ensures)
+
+pub returns-in_err-check-clause-wants : goal.returns-in_err-check-clause-wants
+returns-in_err-check-clause-wants c =
+    let h = c.in-Some.end.header in
+    let used = c.in-Some.end.used in
+    let piece = c.args.piece.now in
+    let opcode = opcode_of_data c.args.role c.args.limits c.args.assembly.now.opened h c.in_default-reason_at_header.ensures (omega (arith, c.opcode.ensures.value, c.if-opcode-lt8.true)) in
+    let wants = c.in_err-check.ensures.wants in
+    on_err c.from_residual.result _ (first_data c.args.role c.args.limits c.args.assembly.now.opened h c.args.kept.now piece (take (length piece - used) (drop used piece)) used c.in-Some.ensures.begins c.in_default-reason_at_header.ensures opcode wants.0 (left_of piece used) wants.1)

@@ -3,9 +3,10 @@ use Rattle.ws_frame.specs.Header.{AreBytes}
 use Rattle.ws_session.specs.declared.receiver.under_way.UnderWay.{UnderWay}
 use Rattle.ws_session.specs.declared.receiver.under_way.UnderWay.TheVariants as under_way
 use Rattle.ws_session.specs.declared.receiver.frame_check.FrameCheck.{FrameCheck}
-use Rattle.ws_session.specs.Receiving.{IsUnderWay, IsFrameCheck, partial_of}
+use Rattle.ws_session.specs.Receiving.{IsUnderWay, HasNewData, IsFrameCheck, partial_of}
 use Rattle.ws_session.proofs.ByteLists.{bytes_append}
-use Rattle.ws_session.proofs.Pieces.{none_open, short_control, piece_of_data, piece_of_control, same_partial, still_data}
+use Rattle.ws_session.proofs.Pieces.{none_open, short_control, piece_of_data, piece_of_control, same_partial, still_data, more_data}
+use Rattle.ws_session.proofs.Wants.{on_err}
 use Rattle.ws_session.proofs.receiver.checking.check_piece.Goals as goal
 
 pub check_data-requires-clause-begins : goal.check_data-requires-clause-begins
@@ -77,3 +78,13 @@ returns-in-Control-clause-checked c =
     let are : AreBytes (partial_of a (under_way.Control c.in-Control.header c.in-Control.payload) ++ piece) = bytes_append (partial_of a (under_way.Control c.in-Control.header c.in-Control.payload)) piece u.bytes (λ i. omega (arith, c.type_inv.piece i)) in
     subst (λ (f : UnderWay). IsFrameCheck role limits a (length (partial_of a f)) (partial_of a f ++ piece) j) (sym c.in-Control.is)
     (piece_of_control role limits a c.in-Control.header c.in-Control.payload piece j u are c.check_control.ensures)
+
+pub returns-in_err-check-in-Data-clause-wants : goal.returns-in_err-check-in-Data-clause-wants
+returns-in_err-check-in-Data-clause-wants c =
+    let role = c.args.role in
+    let limits = c.args.limits in
+    let a = c.args.assembly.now in
+    let piece = c.args.piece.now in
+    let u : IsUnderWay role limits a (under_way.Data c.in-Data.header c.in-Data.came) = subst (λ (f : UnderWay). IsUnderWay role limits a f) c.in-Data.is c.requires in
+    let wants = c.in_err-check-in-Data.ensures.wants in
+    on_err c.from_residual-in_err-check-in-Data.result _ (subst (λ (f : UnderWay). HasNewData role limits a.opened (length (partial_of a f)) (partial_of a f ++ piece)) (sym c.in-Data.is) (more_data role limits a c.in-Data.header c.in-Data.came piece u wants.1))
