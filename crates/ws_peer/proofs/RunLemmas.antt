@@ -1,8 +1,8 @@
 -- The run of a turn, piece after piece, and that of a script, turn after turn.
-use Rattle.std.proofs.Common.{◌≡◌, ℕ, List, [], ◌∷◌, ◌++◌, refl, sym, ap, ◌∙◌, subst, append_assoc, append-nil, inl, inr}
+use Rattle.std.proofs.Common.{◌≡◌, ℕ, List, [], ◌∷◌, ◌++◌, refl, sym, ap, ◌∙◌, subst, append_assoc, append-nil, inl, inr, length, ◌<◌, arith}
 use Rattle.std.specs.Prelude.{map}
 use Rattle.std.specs.List.{AllByRecursion}
-use Rattle.std.proofs.lemmas.List.{map-append}
+use Rattle.std.proofs.lemmas.List.{length-append, map-append}
 use Rattle.std.proofs.lemmas.Grind.{flat_map-append}
 use Rattle.ws_suite.specs.declared.transcript.Turn.{Turn}
 use Rattle.ws_suite.specs.declared.transcript.Transcript.{Transcript}
@@ -101,6 +101,11 @@ turn_ended agrees old mid new all fed others piece sent sent_after got got_after
       talked = l.talked;
     }
 
+-- a turn at whose last piece the peer ended has a piece
+some_last : (part before : List Entry) (piece appended : List ℕ) → part ≡ before ++ Fed piece appended Ended ∷ [] → 0 < length (pieces_in part)
+some_last part before piece appended last =
+    omega (arith, ap (λ (x : List Entry). length (pieces_in x)) last, ap (λ (x : List (List ℕ)). length x) (pieces_in-more before (Fed piece appended Ended)), length-append (pieces_in before) (piece ∷ []))
+
 -- ---- a script
 
 -- these turns were run, and the peer goes on
@@ -166,6 +171,7 @@ run_ended agrees old mid new all before after pieces recorded written turn going
           after = after;
           are_fed = map-append pieces_in h.parts (t.part ∷ []) ∙ ap (λ (l : List (List (List ℕ))). l ++ pieces_in t.part ∷ []) h.pieces;
           are_turns = e ∙ ap (λ (l : List (List ℕ)). before ++ l ∷ after) r.ends.some;
+          some = some_last t.part r.ends.before r.ends.piece r.ends.appended r.ends.last;
         };
         recorded = tw ∙ recorded-more h.parts t.part recorded written turn h.recorded_is r.recorded w;
       });

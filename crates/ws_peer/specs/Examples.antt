@@ -1,5 +1,6 @@
 -- Worked examples of transcripts and of runs, each a theorem.
 use Rattle.std.specs.Prelude.{◌≡◌, ⊤, [], ◌∷◌, Some, None, refl}
+use Rattle.std.proofs.Common.{arith}
 use Rattle.ws_session.specs.declared.status.Status.TheVariants.{Clean, Closing}
 use Rattle.ws_suite.specs.declared.transcript.Ended.TheVariants.{Tester, Peer}
 use Rattle.ws_peer.specs.declared.peer.Going.TheVariants.{More, Ended}
@@ -71,6 +72,7 @@ the_peer_ends = record {
     after = ((3 ∷ []) ∷ []) ∷ [];
     are_fed = refl;
     are_turns = refl;
+    some = omega arith;
   };
   recorded = refl;
 }

@@ -1,5 +1,5 @@
 -- Runs of a script: the talk that a tester has with a peer, turn by turn, and the transcript of it.
-use Rattle.std.specs.Prelude.{◌≡◌, ℕ, ◌⊎◌, List, [], ◌∷◌, ◌++◌, map}
+use Rattle.std.specs.Prelude.{◌≡◌, ℕ, ◌<◌, ◌⊎◌, List, [], ◌∷◌, ◌++◌, length, map}
 use Rattle.std.specs.List.{AllByRecursion, flat_map}
 use Rattle.ws_suite.specs.declared.transcript.Turn.{Turn}
 use Rattle.ws_suite.specs.declared.transcript.Transcript.{Transcript}
@@ -56,7 +56,7 @@ pub record EndsByTester (turns : List (List (List ℕ))) (talk : List Entry) (tr
   pub pieces : pieces_by_turn parts ≡ turns
   pub recorded : transcript.turns ≡ with_finish (map turn_of parts) left
 
--- some turns, and then the first pieces of the next one
+-- some turns, and then the first pieces of the next one, at least one of them
 pub record AreFirstPieces (fed turns : List (List (List ℕ))) : Type 0 where
   pub before : List (List (List ℕ))
   pub first : List (List ℕ)
@@ -64,6 +64,7 @@ pub record AreFirstPieces (fed turns : List (List (List ℕ))) : Type 0 where
   pub after : List (List (List ℕ))
   pub are_fed : fed ≡ before ++ first ∷ []
   pub are_turns : turns ≡ before ++ (first ++ others) ∷ after
+  pub some : 0 < length first
 
 -- The peer ended the run: it went on after each piece but the last that was fed, and at that one it ended. It isn't
 -- finished.
