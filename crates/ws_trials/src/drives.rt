@@ -159,7 +159,12 @@ fn check_failed_write(rt: &impl Abort, place: u64, after: &After) {
     same_answer(rt, place, after.write_failed, true);
     same_answer(rt, place, after.read_failed, false);
     same_number(rt, place, after.writes, place);
-    same_number(rt, place, after.written.len() as u64, place - 1);
+    same_number(
+        rt,
+        place,
+        after.written.len() as u64,
+        place.saturating_sub(1),
+    );
     same_answer(
         rt,
         place,
