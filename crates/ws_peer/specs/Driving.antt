@@ -55,8 +55,8 @@ IsDrivenTo call ReadFault unread read written = HasAnswered call read written ×
 IsDrivenTo call WriteFault unread read written = BeginsAnswers call read written
 IsDrivenTo call NoMemory unread read written = BeginsAnswers call read written
 
--- What was read before the last read that gave bytes, and what that one gave: at most 4096 bytes. Before it, all that
--- was due had been written, and the session went on.
+-- What was read has a last part of at most 4096 bytes: before it, all that was due had been written, and the session
+-- went on. Nothing is asked of how many reads brought this part.
 pub record ReadsInTurn (call : DriveCall) (read written : List ℕ) : Type 0 where
   pub before : List ℕ
   pub last : List ℕ
@@ -81,8 +81,8 @@ LeavesEcho call NoMemory read written session = (front : List ℕ) × (more : Li
     × (call.first ++ read ≡ front ++ later)
     × IsEchoAfter call.role call.limits call.key front false (written ++ more) session
 
--- A run of `drive` over a reader and a writer: some bytes were read, at most as many as the budget and each read after
--- the answers to the one before, and what is due was written
+-- A run of `drive` over a reader and a writer: some bytes were read, at most as many as the budget, the answers to all
+-- but at most the last 4096 of them are written, and what is due was written
 pub record Drives (call : DriveCall) (end : DriveEnd) (session : SessionValue) (input output : Device) : Type 0 where
   pub read : List ℕ
   pub written : List ℕ

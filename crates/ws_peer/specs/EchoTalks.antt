@@ -42,7 +42,7 @@ pub record MayHaveHad (session : SessionValue) (talk : List Entry) : Type 0 wher
   pub is_echo : IsEchoTalk talk
   pub after : IsEchoAfter Server most_limits [] (fed_in talk) false (appended_in talk) session
 
--- the session has taken something, and its stream goes on
+-- the session agrees with some exchange whose stream goes on
 pub record HasTakenSomething (session : SessionValue) : Type 0 where
   pub exchange : Exchange
   pub goes_on : exchange.ended ≡ false

@@ -10,7 +10,7 @@ use std::fmt;
 pub enum Verdict {
     /// It sent what is due, and ended the connection as it should.
     Pass,
-    /// It broke no rule, but answered otherwise than an echo that is fed turn by turn.
+    /// No broken rule is seen, but it answered otherwise than an echo that is fed turn by turn.
     Loose(LooseWhy),
     /// It broke a rule.
     Fail(FailWhy),
@@ -26,7 +26,7 @@ pub enum FailWhy {
     Early = 2,
     /// The messages got aren't those that were sent. After a fault, they aren't a beginning of them.
     Messages = 3,
-    /// A pong was got that answers no ping, or the last ping is not answered (section 5.5.3).
+    /// A pong was got that answers no ping, or without a fault the last ping is not answered (section 5.5.3).
     Pongs = 4,
     /// A close was sent and none was got, or one was got without a cause (section 5.5.1).
     Close = 5,
