@@ -10,7 +10,7 @@ use Rattle.ws_calls.specs.declared.calls.Call.{Call}
 use Rattle.ws_calls.specs.declared.report.CallAnswer.{CallAnswer}
 use Rattle.ws_calls.specs.declared.report.CallAnswer.TheVariants.{Sent, Refused}
 use Rattle.ws_calls.specs.Calls.{Endpoint, HasStatus, IsAnswered, IsSendAnswered, with_sent}
-use Rattle.ws_calls.specs.Steps.{Agrees, HasAnswered, IsOutcome}
+use Rattle.ws_calls.specs.Steps.{Agrees, HasAnswered, HasAnsweredSend, IsOutcome}
 
 -- a session as an endpoint that replies so
 abbrev pub endpoint_of : (Event → List Frame) → SessionValue → Endpoint
@@ -57,20 +57,22 @@ module _ (reply : Event → List Frame) (exchange : Exchange) (taken : ℕ) (old
   send_answered (Err fault.TooLong) answer h r k e = at_answer (Refused fault.TooLong) answer e (is_refused fault.TooLong k (r exchange is.exchanged))
   send_answered (Err fault.BadCode) answer h r k e = at_answer (Refused fault.BadCode) answer e (is_refused fault.BadCode k (r exchange is.exchanged))
 
--- what a call of a session says of a send
-pub record HasCalled {X : Type 0} (old new : SessionValue) (what : Send) (key before put : List ℕ) (sent : Result X SendFault) : Type 0 where
-  pub done : OnOk sent (HasSent old new what key before put)
-  pub refused : IfErr sent (IsRefusedBy old what)
-  pub kept : OnErr sent ((new ≡ old) × (put ≡ before))
-
 unchanged : {X : Type 0} (P Q : Type 0) (sent : Result X SendFault) → OnErr sent (P × Q) → OnErr sent P
 unchanged P Q (Ok done) h = tt
 unchanged P Q (Err why) h = h.0
 
--- a call that sends this
-pub send_call : {X : Type 0} (reply : Event → List Frame) (exchange : Exchange) (taken : ℕ) (old new : SessionValue) (call : Call) (what : Send) (key before put : List ℕ) (sent : Result X SendFault) (answer : CallAnswer)
-    → ((a : CallAnswer) (after : Exchange) → IsSendAnswered (endpoint_of reply old) exchange what key a after → IsAnswered (endpoint_of reply old) exchange call a after)
-    → before ≡ [] → HasCalled old new what key before put sent → IsOutcome sent put answer → Agrees exchange taken old → HasAnswered (endpoint_of reply old) exchange call answer taken new
-send_call reply exchange taken old new call what key before put sent answer same empty h outcome is =
-    let g = send_answered reply exchange taken old new what key put is sent answer (subst (λ (l : List ℕ). OnOk sent (HasSent old new what key l put)) empty h.done) h.refused (unchanged (new ≡ old) (put ≡ before) sent h.kept) outcome in
-    record { after = g.0; answered = same answer g.0 g.1; agrees = g.2; same = g.3 }
+-- what a session's send says, put behind nothing
+pub has_sent : {X : Type 0} (reply : Event → List Frame) (exchange : Exchange) (taken : ℕ) (old new : SessionValue) (what : Send) (key before put : List ℕ) (sent : Result X SendFault) (answer : CallAnswer)
+    → before ≡ [] → OnOk sent (HasSent old new what key before put) → IfErr sent (IsRefusedBy old what) → OnErr sent ((new ≡ old) × (put ≡ before)) → IsOutcome sent put answer
+    → Agrees exchange taken old → HasAnsweredSend (endpoint_of reply old) exchange what key answer taken new
+has_sent reply exchange taken old new what key before put sent answer empty done refused kept outcome is =
+    let g = send_answered reply exchange taken old new what key put is sent answer (subst (λ (l : List ℕ). OnOk sent (HasSent old new what key l put)) empty done) refused (unchanged (new ≡ old) (put ≡ before) sent kept) outcome in
+    record { after = g.0; answered = g.1; agrees = g.2; same = g.3 }
+
+-- a call that sends this is answered as the send is
+pub send_call : (endpoint : Endpoint) (exchange : Exchange) (taken : ℕ) (new : SessionValue) (call : Call) (what given : Send) (key : List ℕ) (answer : CallAnswer) → given ≡ what
+    → ((a : CallAnswer) (after : Exchange) → IsSendAnswered endpoint exchange what key a after → IsAnswered endpoint exchange call a after)
+    → HasAnsweredSend endpoint exchange given key answer taken new → HasAnswered endpoint exchange call answer taken new
+send_call endpoint exchange taken new call what given key answer e as_send h =
+    let g = subst (λ (x : Send). HasAnsweredSend endpoint exchange x key answer taken new) e h in
+    record { after = g.after; answered = as_send answer g.after g.answered; agrees = g.agrees; same = g.same }

@@ -2,13 +2,11 @@
 -- stream has ended: RFC 6455 sections 5 to 7. No part of a frame, masking phase, unfinished character or buffer is in
 -- it.
 use Rattle.std.specs.Prelude.{◌≡◌, ℕ, ◌+◌, ◌≤◌, nat_le, if◌then◌else◌, true, false, MatchBool, List, [], ◌∷◌, ◌++◌}
-use Rattle.std.specs.Prelude.{length, take, map, sum_by, Option, Some, None, String, string_bytes}
+use Rattle.std.specs.Prelude.{length, take, map, sum_by, Some, None}
 use Rattle.std.specs.List.{AllByRecursion}
-use Rattle.std.specs.declared.alloc.Global.{Global}
 use Rattle.ws_frame.specs.declared.role.Role.{Role}
 use Rattle.ws_frame.specs.Frame.{Frame, KeyedFrame, frame_bytes, stream_bytes}
 use Rattle.ws_frame.specs.Stream.{SplitsInto}
-use Rattle.ws_text.specs.Close.{CloseValue}
 use Rattle.ws_session.specs.declared.event.Event.{Event}
 use Rattle.ws_session.specs.declared.status.Status.{Status}
 use Rattle.ws_session.specs.Limits.{LimitsValue}
@@ -17,7 +15,7 @@ use Rattle.ws_session.specs.Faults.{frames_of, open_payload}
 use Rattle.ws_session.specs.Events.{HasEvents}
 use Rattle.ws_session.specs.Replies.{reply_to, echo_reply_to, replies_by, under_key}
 use Rattle.ws_session.specs.Exchange.{Exchange, status_of, is_over}
-use Rattle.ws_session.specs.Sends.{Send, frame_of, MaySend, IsFirstWrong}
+use Rattle.ws_session.specs.Sends.{Send, frame_of, close_owned, MaySend, IsFirstWrong}
 use Rattle.ws_session.specs.Sends as send
 use Rattle.ws_calls.specs.declared.calls.Call.{Call}
 use Rattle.ws_calls.specs.declared.calls.Call.TheVariants.{Begin, More, Ping, Pong, Close, Take, End}
@@ -122,11 +120,6 @@ IsTakeAnswered endpoint exchange piece key Ended after = ⊥
 
 -- ---- all calls
 
--- the code and the reason's bytes of a close, if any
-abbrev pub close_given : Option (ℕ × String Global) → Option CloseValue
-close_given None = None
-close_given (Some given) = Some (record { code = given.0; reason = string_bytes given.1 })
-
 abbrev pub IsAnswered : Endpoint → Exchange → Call → CallAnswer → Exchange → Type 0
 IsAnswered endpoint exchange (Begin kind payload fin key) answer after =
     IsSendAnswered endpoint exchange (send.Begin kind payload fin) key answer after
@@ -137,7 +130,7 @@ IsAnswered endpoint exchange (Ping payload key) answer after =
 IsAnswered endpoint exchange (Pong payload key) answer after =
     IsSendAnswered endpoint exchange (send.Pong payload) key answer after
 IsAnswered endpoint exchange (Close given key) answer after =
-    IsSendAnswered endpoint exchange (send.Close (close_given given)) key answer after
+    IsSendAnswered endpoint exchange (send.Close (close_owned given)) key answer after
 IsAnswered endpoint exchange (Take piece key) answer after = IsTakeAnswered endpoint exchange piece key answer after
 IsAnswered endpoint exchange End answer after = (answer ≡ Ended) × (after ≡ record exchange { ended = true })
 

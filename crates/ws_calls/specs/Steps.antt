@@ -4,11 +4,12 @@ use Rattle.ws_session.specs.declared.event.PlacedEvent.{PlacedEvent}
 use Rattle.ws_session.specs.declared.send_fault.SendFault.{SendFault}
 use Rattle.ws_session.specs.declared.send_fault.SendFault.TheVariants as fault
 use Rattle.ws_session.specs.Exchange.{Exchange, SessionValue, HasExchanged}
+use Rattle.ws_session.specs.Sends.{Send}
 use Rattle.ws_calls.specs.declared.calls.Call.{Call}
 use Rattle.ws_calls.specs.declared.report.PlacedInStream.{PlacedInStream}
 use Rattle.ws_calls.specs.declared.report.CallAnswer.{CallAnswer}
 use Rattle.ws_calls.specs.declared.report.CallAnswer.TheVariants.{Sent, Refused, Taken, Ended}
-use Rattle.ws_calls.specs.Calls.{Endpoint, IsAnswered, piece_of}
+use Rattle.ws_calls.specs.Calls.{Endpoint, IsSendAnswered, IsAnswered}
 
 -- the session has exchanged this, and so many bytes of it are counted as taken
 pub record Agrees (exchange : Exchange) (taken : ℕ) (session : SessionValue) : Type 0 where
@@ -30,5 +31,13 @@ pub record HasAnswered (endpoint : Endpoint) (exchange : Exchange) (call : Call)
     (session : SessionValue) : Type 0 where
   pub after : Exchange
   pub answered : IsAnswered endpoint exchange call answer after
+  pub agrees : Agrees after taken session
+  pub same : (session.role ≡ endpoint.role) × (session.limits ≡ endpoint.limits)
+
+-- the send was answered so, and the session agrees with what it has then exchanged
+pub record HasAnsweredSend (endpoint : Endpoint) (exchange : Exchange) (what : Send) (key : List ℕ)
+    (answer : CallAnswer) (taken : ℕ) (session : SessionValue) : Type 0 where
+  pub after : Exchange
+  pub answered : IsSendAnswered endpoint exchange what key answer after
   pub agrees : Agrees after taken session
   pub same : (session.role ≡ endpoint.role) × (session.limits ≡ endpoint.limits)

@@ -2,9 +2,9 @@
 
 ghost use Rattle.std.specs.Prelude.{◌≡◌, ◌+◌, ◌^◌, ◌<◌, ◌≤◌, length, IfOk};
 ghost use Rattle.ws_session.specs.Exchange.{Exchange};
-ghost use Rattle.ws_session.specs.Sends as sends;
-ghost use Rattle.ws_calls.specs.Calls.{IsSessionReport, close_given, count_taken, piece_of, session_of};
-ghost use Rattle.ws_calls.specs.Steps.{Agrees, HasAnswered, IsOutcome};
+ghost use Rattle.ws_session.specs.Sends.{send_of};
+ghost use Rattle.ws_calls.specs.Calls.{IsSessionReport, count_taken, piece_of, session_of};
+ghost use Rattle.ws_calls.specs.Steps.{Agrees, HasAnswered, HasAnsweredSend, IsOutcome};
 ghost use Rattle.ws_calls.specs.declared.calls.Call.TheVariants.{Take};
 
 use crate::calls::Call;
@@ -13,7 +13,7 @@ use crate::report::{CallAnswer, CallsReport};
 use std::alloc::Global;
 use ws_base::{NoMemory, Payload, Sequence};
 use ws_frame::Role;
-use ws_session::{Limits, SendFault, Session};
+use ws_session::{Limits, Outgoing, SendFault, Session};
 
 /// Plays the calls, one after the other, at a new session, and answers what came of each. A piece is taken whole, and
 /// each of its events has its place in all bytes taken since the start (RFC 6455 sections 5 to 7). `NoMemory` where a
@@ -59,7 +59,6 @@ impl Caller {
             call.now answer self.new.taken self.new.session) }
         ensures taken { IfOk result (λ answer. self.new.taken ≤ self.old.taken + length (piece_of call.now)) }
     {
-        let mut put = Vec::new(alloc);
         match call {
             Call::Begin {
                 kind,
@@ -67,30 +66,32 @@ impl Caller {
                 fin,
                 key,
             } => {
-                let sent = self
-                    .session
-                    .begin(*kind, payload.as_slice(), *fin, *key, &mut put);
-                let answer = send_answer(sent, put)?;
+                let frame = Outgoing::Begin {
+                    kind: *kind,
+                    payload: payload.as_slice(),
+                    fin: *fin,
+                };
+                let answer = self.send(alloc, &frame, *key)?;
                 Ok(answer)
             }
             Call::More { payload, fin, key } => {
-                let sent = self.session.more(payload.as_slice(), *fin, *key, &mut put);
-                let answer = send_answer(sent, put)?;
+                let frame = Outgoing::More {
+                    payload: payload.as_slice(),
+                    fin: *fin,
+                };
+                let answer = self.send(alloc, &frame, *key)?;
                 Ok(answer)
             }
             Call::Ping { payload, key } => {
-                let sent = self.session.ping(payload.as_slice(), *key, &mut put);
-                let answer = send_answer(sent, put)?;
+                let answer = self.send(alloc, &Outgoing::Ping(payload.as_slice()), *key)?;
                 Ok(answer)
             }
             Call::Pong { payload, key } => {
-                let sent = self.session.pong(payload.as_slice(), *key, &mut put);
-                let answer = send_answer(sent, put)?;
+                let answer = self.send(alloc, &Outgoing::Pong(payload.as_slice()), *key)?;
                 Ok(answer)
             }
             Call::Close { given, key } => {
-                let sent = self.session.close(borrowed(given), *key, &mut put);
-                let answer = send_answer(sent, put)?;
+                let answer = self.send(alloc, &Outgoing::close(given), *key)?;
                 Ok(answer)
             }
             Call::Take { piece, key } => {
@@ -102,6 +103,24 @@ impl Caller {
                 Ok(CallAnswer::Ended)
             }
         }
+    }
+
+    /// A frame is sent.
+    fn send(
+        &mut self,
+        alloc: Global,
+        frame: &Outgoing<'_>,
+        key: [u8; 4],
+    ) -> Result<CallAnswer, NoMemory>
+        ensures answered { (exchange : Exchange) → Agrees exchange self.old.taken self.old.session →
+            IfOk result (λ answer. HasAnsweredSend (session_of self.old.session.role self.old.session.limits) exchange
+            (send_of frame.now) key answer self.new.taken self.new.session) }
+        ensures taken { self.new.taken ≡ self.old.taken }
+    {
+        let mut put = Vec::new(alloc);
+        let sent = self.session.send(frame, key, &mut put);
+        let answer = send_answer(sent, put)?;
+        Ok(answer)
     }
 
     /// A piece is taken whole, unless the session is over.
@@ -142,15 +161,5 @@ fn send_answer(sent: Result<(), SendFault>, put: Vec<u8>) -> Result<CallAnswer, 
         Ok(()) => Ok(CallAnswer::Sent(Payload::from_vec(put))),
         Err(SendFault::NoMemory) => Err(NoMemory),
         Err(fault) => Ok(CallAnswer::Refused(fault)),
-    }
-}
-
-/// The code and the reason of a close, borrowed.
-fn borrowed(given: &Option<(u16, String)>) -> Option<(u16, &str)>
-    ensures { sends.close_given result ≡ close_given given.now }
-{
-    match given {
-        None => None,
-        Some((code, reason)) => Some((*code, reason.as_str())),
     }
 }

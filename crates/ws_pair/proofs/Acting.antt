@@ -1,32 +1,28 @@
 -- One move at an end of a link.
 use Rattle.std.proofs.Common.{◌≡◌, ℕ, ◌+◌, ◌-◌, Bool, List, [], ◌∷◌, ◌++◌, length, take, min, cond, Option, Some, None, Result, Ok, Err, refl, sym, ap, ◌∙◌, subst}
-use Rattle.std.specs.Prelude.{map, String, IfSome, OnOk, OnErr, IfErr}
+use Rattle.std.specs.Prelude.{map, OnOk, OnErr, IfErr}
 use Rattle.std.specs.declared.alloc.Global.{Global}
 use Rattle.std.specs.declared.vec.Vec.{Vec}
 use Rattle.ws_session.specs.declared.session.Session.{Session}
 use Rattle.std.proofs.lemmas.List.{append-nil}
 use Rattle.ws_frame.specs.Frame.{Frame, KeyedFrame, stream_bytes}
-use Rattle.ws_text.specs.Text.{IsText}
-use Rattle.ws_text.specs.Close.{CloseValue}
-use Rattle.ws_session.specs.declared.message.Kind.{Kind}
 use Rattle.ws_session.specs.declared.status.Status.{Status}
 use Rattle.ws_session.specs.declared.send_fault.SendFault.{SendFault}
 use Rattle.ws_session.specs.declared.send_fault.SendFault.TheVariants as fault
 use Rattle.ws_session.specs.Faults.{frames_of}
 use Rattle.ws_session.specs.Replies.{replies_of, under_key}
 use Rattle.ws_session.specs.Sends.{Send, frame_of, HasTextReason, MaySend, IsFirstWrong, HasSent, IsRefusedBy}
-use Rattle.ws_session.specs.Sends as send
 use Rattle.ws_session.specs.Exchange.{Exchange}
 use Rattle.ws_pair.specs.declared.moves.End.{End}
 use Rattle.ws_pair.specs.declared.moves.End.TheVariants.{Client, Server}
 use Rattle.ws_pair.specs.declared.moves.Move.{Move}
-use Rattle.ws_pair.specs.declared.moves.Move.TheVariants.{Begin, More, Ping, Pong, Close, Arrive, Cut}
+use Rattle.ws_pair.specs.declared.moves.Move.TheVariants.{Arrive, Cut}
 use Rattle.ws_pair.specs.declared.report.Answer.{Answer}
 use Rattle.ws_pair.specs.declared.report.Answer.TheVariants as outcome
 use Rattle.ws_pair.specs.declared.endpoint.Endpoint.{Endpoint}
 use Rattle.ws_pair.specs.Link.{LinkEnd, Link, BothLimits, other, role_of, end_of, limits_of, with_end, status_at}
-use Rattle.ws_pair.specs.Moves.{side_of, with_sent, IsSendAnswered, newly_told, count_arriving, with_cut, close_given}
-use Rattle.ws_pair.specs.Playing.{IsToldOf, peer, AreSentBy, IsEnd, grown, Stands, HasMoved, SessionLaws}
+use Rattle.ws_pair.specs.Moves.{side_of, with_sent, IsSendAnswered, newly_told, count_arriving, with_cut, IsAnswered}
+use Rattle.ws_pair.specs.Playing.{IsToldOf, peer, AreSentBy, IsEnd, grown, Stands, HasSentMove, HasMoved, SessionLaws}
 use Rattle.ws_pair.proofs.Ends.{status_is, sent_by, unchanged}
 
 same_link : (link : Link) (side : End) → with_end link side (end_of link side) ≡ link
@@ -44,14 +40,6 @@ Acts v w others answer move = (limits : BothLimits) (link : Link) → Stands lim
     → others ≡ stream_bytes (end_of link (other (side_of move))).sent → HasMoved limits link move answer w
 
 -- ---- a send
-
--- what a send at an end promises
-record HasSentMove (limits : BothLimits) (link : Link) (side : End) (what : Send) (key : List ℕ) (answer : Answer) (w : Endpoint) : Type 0 where
-  pub end : LinkEnd
-  pub answered : IsSendAnswered limits link side what key answer (with_end link side end)
-  pub stands : Stands limits (with_end link side end) side w
-  pub more : List KeyedFrame
-  pub sent : end.sent ≡ (end_of link side).sent ++ more
 
 -- the endpoint with its session and what it has put as a call left them
 abbrev pub after_call : Endpoint → Session → Vec ℕ Global → Endpoint
@@ -106,7 +94,7 @@ module _ (laws : SessionLaws) (limits : BothLimits) (link : Link) (side : End) (
   at_answer a b e h = subst (λ (c : Answer). HasSentMove limits link side what key c w) (sym e) h
 
   -- whichever it is
-  send_moved : {X : Type 0} (sent : Result X SendFault) (answer : Answer) → HasCalled v w what key sent → IsToldOf sent answer → HasSentMove limits link side what key answer w
+  pub send_moved : {X : Type 0} (sent : Result X SendFault) (answer : Answer) → HasCalled v w what key sent → IsToldOf sent answer → HasSentMove limits link side what key answer w
   send_moved (Ok done) answer h e = at_answer outcome.Did answer e (is_done done h)
   send_moved (Err fault.NoMemory) answer h e = absurd e
   send_moved (Err fault.Over) answer h e = at_answer (outcome.Refused fault.Over) answer e (is_refused fault.Over h (h.refused here is.exchanged))
@@ -116,46 +104,14 @@ module _ (laws : SessionLaws) (limits : BothLimits) (link : Link) (side : End) (
   send_moved (Err fault.TooLong) answer h e = at_answer (outcome.Refused fault.TooLong) answer e (is_refused fault.TooLong h (h.refused here is.exchanged))
   send_moved (Err fault.BadCode) answer h e = at_answer (outcome.Refused fault.BadCode) answer e (is_refused fault.BadCode h (h.refused here is.exchanged))
 
--- ---- by the kind of send
-
-pub always : {X : Type 0} {P : Type 0} (sent : Result X SendFault) → P → OnOk sent P
-always (Ok done) p = p
-always (Err why) p = tt
-
-module _ (laws : SessionLaws) (v w : Endpoint) (others : List ℕ) (answer : Answer) (key : List ℕ) {X : Type 0} (sent : Result X SendFault) (told : IsToldOf sent answer) where
-  pub begin_acts : (side : End) (kind : Kind) (payload : List ℕ) (fin : Bool) → HasCalled v w (send.Begin kind payload fin) key sent → Acts v w others answer (Begin side kind payload fin key)
-  begin_acts side kind payload fin h limits link is peers all =
-      let m = send_moved laws limits link side (send.Begin kind payload fin) key v w is peers sent answer h told in
-      record { end = m.end; answered = m.answered; stands = m.stands; more = m.more; sent = m.sent }
-
-  pub more_acts : (side : End) (payload : List ℕ) (fin : Bool) → HasCalled v w (send.More payload fin) key sent → Acts v w others answer (More side payload fin key)
-  more_acts side payload fin h limits link is peers all =
-      let m = send_moved laws limits link side (send.More payload fin) key v w is peers sent answer h told in
-      record { end = m.end; answered = m.answered; stands = m.stands; more = m.more; sent = m.sent }
-
-  pub ping_acts : (side : End) (payload : List ℕ) → HasCalled v w (send.Ping payload) key sent → Acts v w others answer (Ping side payload key)
-  ping_acts side payload h limits link is peers all =
-      let m = send_moved laws limits link side (send.Ping payload) key v w is peers sent answer h told in
-      record { end = m.end; answered = m.answered; stands = m.stands; more = m.more; sent = m.sent }
-
-  pub pong_acts : (side : End) (payload : List ℕ) → HasCalled v w (send.Pong payload) key sent → Acts v w others answer (Pong side payload key)
-  pong_acts side payload h limits link is peers all =
-      let m = send_moved laws limits link side (send.Pong payload) key v w is peers sent answer h told in
-      record { end = m.end; answered = m.answered; stands = m.stands; more = m.more; sent = m.sent }
-
-  pub close_acts : (side : End) (given : Option (ℕ × String Global)) → HasCalled v w (send.Close (close_given given)) key sent → Acts v w others answer (Close side given key)
-  close_acts side given h limits link is peers all =
-      let m = send_moved laws limits link side (send.Close (close_given given)) key v w is peers sent answer h told in
-      record { end = m.end; answered = m.answered; stands = m.stands; more = m.more; sent = m.sent }
-
-text_of : (close : Option CloseValue) → IfSome close (λ given. IsText given.reason) → HasTextReason (send.Close close)
-text_of None h = tt
-text_of (Some close) h = h
-
--- the reason of a close that was sent is a text
-pub close_text : {X : Type 0} (sent : Result X SendFault) (close : Option CloseValue) → OnOk sent (IfSome close (λ given. IsText given.reason)) → OnOk sent (HasTextReason (send.Close close))
-close_text (Ok done) close h = text_of close h
-close_text (Err why) close h = tt
+-- a send is a move, where the move is answered as the send is
+pub send_acts : (v w : Endpoint) (others : List ℕ) (answer : Answer) (move : Move) (what given : Send) (key : List ℕ) → given ≡ what
+    → ((limits : BothLimits) (link after : Link) → IsSendAnswered limits link (side_of move) what key answer after → IsAnswered limits link move answer after)
+    → ((limits : BothLimits) (link : Link) (side : End) → Stands limits link side v → AreSentBy (peer (role_of side)) (end_of link (other side)).sent → HasSentMove limits link side given key answer w)
+    → Acts v w others answer move
+send_acts v w others answer move what given key e same sends limits link is peers all =
+    let m = subst (λ (x : Send). HasSentMove limits link (side_of move) x key answer w) e (sends limits link (side_of move) is peers) in
+    record { end = m.end; answered = same limits link (with_end link (side_of move) m.end) m.answered; stands = m.stands; more = m.more; sent = m.sent }
 
 -- ---- bytes that arrive, and a cut
 

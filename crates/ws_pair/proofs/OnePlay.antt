@@ -5,7 +5,7 @@ use Rattle.ws_frame.specs.Frame.{Frame}
 use Rattle.ws_session.specs.declared.status.Status.{Status}
 use Rattle.ws_session.specs.declared.send_fault.SendFault.{SendFault}
 use Rattle.ws_session.specs.declared.send_fault.SendFault.TheVariants.{Over, Busy, NothingOpen, NotText, TooLong, BadCode, NoMemory}
-use Rattle.ws_session.specs.Sends.{Send, IsFirstWrong, number_of_fault}
+use Rattle.ws_session.specs.Sends.{Send, close_owned, IsFirstWrong, number_of_fault}
 use Rattle.ws_session.specs.Faults.{frames_of}
 use Rattle.ws_session.specs.Sends as send
 use Rattle.ws_pair.specs.declared.moves.End.{End}
@@ -14,7 +14,7 @@ use Rattle.ws_pair.specs.declared.moves.Move.TheVariants.{Begin, More, Ping, Pon
 use Rattle.ws_pair.specs.declared.report.Answer.{Answer}
 use Rattle.ws_pair.specs.declared.report.Answer.TheVariants as outcome
 use Rattle.ws_pair.specs.Link.{end_of, Link, BothLimits, status_at}
-use Rattle.ws_pair.specs.Moves.{IsSendAnswered, close_given, IsAnswered, Plays}
+use Rattle.ws_pair.specs.Moves.{IsSendAnswered, IsAnswered, Plays}
 
 -- ---- one refusal
 
@@ -61,7 +61,7 @@ module _ (limits : BothLimits) (link : Link) where
   one_answer (More side payload fin key) a b x y p q = one_send side (send.More payload fin) key a b x y p q
   one_answer (Ping side payload key) a b x y p q = one_send side (send.Ping payload) key a b x y p q
   one_answer (Pong side payload key) a b x y p q = one_send side (send.Pong payload) key a b x y p q
-  one_answer (Close side given key) a b x y p q = one_send side (send.Close (close_given given)) key a b x y p q
+  one_answer (Close side given key) a b x y p q = one_send side (send.Close (close_owned given)) key a b x y p q
   one_answer (Arrive side bytes key) a b x y p q = (p.0 ∙ sym q.0, p.1 ∙ sym q.1)
   one_answer (Cut side) a b x y p q = (p.0 ∙ sym q.0, p.1 ∙ sym q.1)
 

@@ -1,14 +1,11 @@
 -- What each move does to two joined endpoints, and what is answered: RFC 6455 sections 5 to 7.
 use Rattle.std.specs.Prelude.{◌≡◌, ℕ, ◌+◌, ◌-◌, min, true, if◌then◌else◌, List, [], ◌∷◌, ◌++◌, length, drop, map}
-use Rattle.std.specs.Prelude.{Option, Some, None, String, string_bytes}
-use Rattle.std.specs.declared.alloc.Global.{Global}
 use Rattle.ws_frame.specs.Frame.{KeyedFrame, stream_bytes}
-use Rattle.ws_text.specs.Close.{CloseValue}
 use Rattle.ws_session.specs.declared.event.Event.{Event}
 use Rattle.ws_session.specs.Limits.{LimitsValue}
 use Rattle.ws_session.specs.Faults.{frames_of}
 use Rattle.ws_session.specs.Replies.{replies_of, under_key}
-use Rattle.ws_session.specs.Sends.{Send, frame_of, MaySend, IsFirstWrong}
+use Rattle.ws_session.specs.Sends.{Send, frame_of, close_owned, MaySend, IsFirstWrong}
 use Rattle.ws_session.specs.Sends as send
 use Rattle.ws_session.specs.Reach.{events_within}
 use Rattle.ws_pair.specs.declared.moves.End.{End}
@@ -71,11 +68,6 @@ side_of (Close side given key) = side
 side_of (Arrive side bytes key) = side
 side_of (Cut side) = side
 
--- the code and the reason's bytes of a close, if any
-abbrev pub close_given : Option (ℕ × String Global) → Option CloseValue
-close_given None = None
-close_given (Some given) = Some (record { code = given.0; reason = string_bytes given.1 })
-
 abbrev pub IsAnswered : BothLimits → Link → Move → Answer → Link → Type 0
 IsAnswered limits link (Begin side kind payload fin key) answer after =
     IsSendAnswered limits link side (send.Begin kind payload fin) key answer after
@@ -86,7 +78,7 @@ IsAnswered limits link (Ping side payload key) answer after =
 IsAnswered limits link (Pong side payload key) answer after =
     IsSendAnswered limits link side (send.Pong payload) key answer after
 IsAnswered limits link (Close side given key) answer after =
-    IsSendAnswered limits link side (send.Close (close_given given)) key answer after
+    IsSendAnswered limits link side (send.Close (close_owned given)) key answer after
 IsAnswered limits link (Arrive side bytes key) answer after =
     (answer ≡ outcome.Arrived (count_arriving link side bytes))
     × (after ≡ with_end link side (with_arrived limits link side (count_arriving link side bytes) key))

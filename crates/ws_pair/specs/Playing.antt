@@ -27,7 +27,7 @@ use Rattle.ws_pair.specs.declared.report.Answer.{Answer}
 use Rattle.ws_pair.specs.declared.report.Answer.TheVariants as outcome
 use Rattle.ws_pair.specs.declared.endpoint.Endpoint.{Endpoint}
 use Rattle.ws_pair.specs.Link.{LinkEnd, Link, BothLimits, other, role_of, end_of, limits_of, with_end}
-use Rattle.ws_pair.specs.Moves.{newly_told, side_of, IsAnswered}
+use Rattle.ws_pair.specs.Moves.{newly_told, side_of, IsSendAnswered, IsAnswered}
 
 -- ---- sends
 
@@ -75,6 +75,15 @@ grown role limits x others count key = record {
 abbrev pub Stands : BothLimits → Link → End → Endpoint → Type 0
 Stands limits link side v =
     IsEnd (role_of side) (limits_of limits side) (end_of link side) (end_of link (other side)).sent v
+
+-- the endpoint stands as the end after a send on this side, and nothing that was sent is taken back
+pub record HasSentMove (limits : BothLimits) (link : Link) (side : End) (what : Send) (key : List ℕ) (answer : Answer)
+    (v : Endpoint) : Type 0 where
+  pub end : LinkEnd
+  pub answered : IsSendAnswered limits link side what key answer (with_end link side end)
+  pub stands : Stands limits (with_end link side end) side v
+  pub more : List KeyedFrame
+  pub sent : end.sent ≡ (end_of link side).sent ++ more
 
 -- the endpoint stands as the end after a move on its side, and nothing that was sent is taken back
 pub record HasMoved (limits : BothLimits) (link : Link) (move : Move) (answer : Answer) (v : Endpoint) : Type 0 where

@@ -7,10 +7,11 @@ ghost use Rattle.ws_frame.specs.Frame.{KeyedFrame, stream_bytes};
 ghost use Rattle.ws_session.specs.Limits.{LimitsValue};
 ghost use Rattle.ws_session.specs.Events.{messages_in};
 ghost use Rattle.ws_session.specs.Taking.{events_in};
+ghost use Rattle.ws_pair.specs.declared.moves.End.{End};
 ghost use Rattle.ws_pair.specs.Link.{LinkEnd, Link, BothLimits, new_end, end_of, other, role_of};
-ghost use Rattle.ws_pair.specs.Playing.{AreSentBy, IsEnd, IsNextIn, Stands, HasMoved, IsToldOf, grown, peer};
-ghost use Rattle.ws_session.specs.Sends as sends;
-ghost use Rattle.ws_pair.specs.Moves.{with_cut, close_given, side_of};
+ghost use Rattle.ws_pair.specs.Playing.{AreSentBy, IsEnd, IsNextIn, Stands, HasMoved, IsToldOf, HasSentMove, grown, peer};
+ghost use Rattle.ws_session.specs.Sends.{send_of};
+ghost use Rattle.ws_pair.specs.Moves.{with_cut, side_of};
 
 use crate::lemmas::{has_key_bytes, session_laws};
 use crate::moves::Move;
@@ -18,7 +19,7 @@ use crate::report::{Answer, EndReport};
 use std::alloc::Global;
 use ws_base::NoMemory;
 use ws_frame::Role;
-use ws_session::{Event, Limits, Message, PlacedEvent, SendFault, Session};
+use ws_session::{Event, Limits, Message, Outgoing, PlacedEvent, SendFault, Session};
 
 /// One end of two joined sessions.
 #[derive(Drop)]
@@ -77,7 +78,6 @@ impl Endpoint {
             others.now ≡ stream_bytes (end_of link (other (side_of next.now))).sent →
             IfOk result (λ answer. HasMoved limits link next.now answer self.new) }
     {
-        session_laws();
         match next {
             Move::Begin {
                 kind,
@@ -86,10 +86,12 @@ impl Endpoint {
                 key,
                 ..
             } => {
-                let sent = self
-                    .session
-                    .begin(*kind, payload.as_slice(), *fin, *key, &mut self.put);
-                let answer = send_answer(sent)?;
+                let frame = Outgoing::Begin {
+                    kind: *kind,
+                    payload: payload.as_slice(),
+                    fin: *fin,
+                };
+                let answer = self.send(&frame, *key)?;
                 Ok(answer)
             }
             Move::More {
@@ -98,25 +100,23 @@ impl Endpoint {
                 key,
                 ..
             } => {
-                let sent = self
-                    .session
-                    .more(payload.as_slice(), *fin, *key, &mut self.put);
-                let answer = send_answer(sent)?;
+                let frame = Outgoing::More {
+                    payload: payload.as_slice(),
+                    fin: *fin,
+                };
+                let answer = self.send(&frame, *key)?;
                 Ok(answer)
             }
             Move::Ping { payload, key, .. } => {
-                let sent = self.session.ping(payload.as_slice(), *key, &mut self.put);
-                let answer = send_answer(sent)?;
+                let answer = self.send(&Outgoing::Ping(payload.as_slice()), *key)?;
                 Ok(answer)
             }
             Move::Pong { payload, key, .. } => {
-                let sent = self.session.pong(payload.as_slice(), *key, &mut self.put);
-                let answer = send_answer(sent)?;
+                let answer = self.send(&Outgoing::Pong(payload.as_slice()), *key)?;
                 Ok(answer)
             }
             Move::Close { given, key, .. } => {
-                let sent = self.session.close(borrowed(given), *key, &mut self.put);
-                let answer = send_answer(sent)?;
+                let answer = self.send(&Outgoing::close(given), *key)?;
                 Ok(answer)
             }
             Move::Arrive { bytes, key, .. } => {
@@ -128,6 +128,18 @@ impl Endpoint {
                 Ok(Answer::Cut)
             }
         }
+    }
+
+    /// A frame is sent at this end. Want of memory ends the run.
+    fn send(&mut self, frame: &Outgoing<'_>, key: [u8; 4]) -> Result<Answer, NoMemory>
+        ensures { (limits : BothLimits) (link : Link) (side : End) → Stands limits link side self.old →
+            AreSentBy (peer (role_of side)) (end_of link (other side)).sent →
+            IfOk result (λ answer. HasSentMove limits link side (send_of frame.now) key answer self.new) }
+    {
+        session_laws();
+        let sent = self.session.send(frame, key, &mut self.put);
+        let answer = send_answer(sent)?;
+        Ok(answer)
     }
 
     /// The next bytes come, at most so many: how many do.
@@ -203,16 +215,6 @@ fn send_answer(sent: Result<(), SendFault>) -> Result<Answer, NoMemory>
         Ok(()) => Ok(Answer::Did),
         Err(SendFault::NoMemory) => Err(NoMemory),
         Err(fault) => Ok(Answer::Refused(fault)),
-    }
-}
-
-/// The code and the reason of a close, borrowed.
-fn borrowed(given: &Option<(u16, String)>) -> Option<(u16, &str)>
-    ensures { sends.close_given result ≡ close_given given.now }
-{
-    match given {
-        None => None,
-        Some((code, reason)) => Some((*code, reason.as_str())),
     }
 }
 

@@ -19,7 +19,6 @@ use Rattle.ws_session.specs.Faults.{number_of, open_payload, Applies, AppliesInP
 use Rattle.ws_session.specs.NextFrame.{header_of, IsFaultOfNext, HasNoFaultOfNext, IsFirstFaultOfNext, IsPartOfFrame}
 use Rattle.std.specs.Prelude.{min}
 use Rattle.std.proofs.Common.{add-zero}
-use Rattle.std.proofs.lemmas.Bool.{leb-false}
 use Rattle.std.proofs.lemmas.List.{take_all, take-take}
 use Rattle.ws_frame.specs.Header.{key_bytes, length_bytes}
 use Rattle.ws_frame.specs.Reading.{Begins, BeginsNoHeader}

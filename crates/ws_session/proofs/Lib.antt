@@ -40,6 +40,9 @@ pub mod Decided
 pub mod DecidedReasons
 pub mod FirstFault
 pub mod SendsStayValid
+pub mod ToldFrames
 pub mod Replied
+pub mod EndIsLast
+pub mod EchoReplied
 pub mod SendCalls
 pub mod WorkedExamples

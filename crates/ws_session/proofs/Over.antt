@@ -96,7 +96,7 @@ event_ends_not_by true b before f m e h = control_ends_not (is_close f) (f.opcod
 event_ends_not_by false true before f m e h = h
 event_ends_not_by false false before f m e h = h
 
-event_ends_not : (before : List Frame) (f : Frame) → is_close f ≡ false → Ends (event_of before f) → ⊥
+pub event_ends_not : (before : List Frame) (f : Frame) → is_close f ≡ false → Ends (event_of before f) → ⊥
 event_ends_not before f e h = event_ends_not_by (is_control f) f.fin before f (message_of ((groups_of (data_frames before)).unfinished ++ f ∷ [])) e h
 
 abbrev EndsLast : Option Event → Type 0

@@ -1,15 +1,12 @@
 -- What is owed for what came leaves valid frames valid, and can be sent.
-use Rattle.std.proofs.Common.{◌≡◌, ◌≢◌, ℕ, zero, suc, ◌+◌, ◌-◌, ◌*◌, ◌/◌, ◌%◌, ◌<◌, ◌≤◌, Bool, true, false, cond, List, [], ◌∷◌, ◌++◌, length, map, Option, Some, None, refl, sym, ap, ◌∙◌, append_assoc, arith, inl, inr, subst, eqb-true, lit≤}
+use Rattle.std.proofs.Common.{◌≡◌, ◌≢◌, ℕ, zero, suc, ◌+◌, ◌*◌, ◌/◌, ◌%◌, ◌<◌, ◌≤◌, Bool, true, false, cond, List, [], ◌∷◌, ◌++◌, length, map, Option, Some, None, refl, sym, append_assoc, arith, inl, inr, subst, eqb-true, lit≤}
 use Rattle.std.specs.Prelude.{◌==◌}
 use Rattle.std.specs.List.{AllByRecursion, flat_map}
-use Rattle.std.proofs.lemmas.Bool.{cases_lt, lt-ltb, le-ltb}
-use Rattle.std.proofs.lemmas.List.{length-append, append-nil, map-append}
-use Rattle.std.proofs.lemmas.Grind.{flat_map-append}
+use Rattle.std.proofs.lemmas.List.{append-nil}
 use Rattle.ws_frame.specs.declared.role.Role.{Role}
 use Rattle.ws_frame.specs.declared.role.Role.TheVariants.{Client, Server}
 use Rattle.ws_frame.specs.Header.{AreBytes, IsMaskingKey, is_masked}
-use Rattle.ws_frame.specs.Frame.{Frame, KeyedFrame, FitsTheLayout, frame_bytes, stream_bytes}
-use Rattle.ws_frame.specs.Stream.{SplitsInto}
+use Rattle.ws_frame.specs.Frame.{Frame, KeyedFrame, FitsTheLayout, frame_bytes}
 use Rattle.ws_frame.proofs.Splits.{all-append}
 use Rattle.ws_text.specs.Close.{CodeAllowed}
 use Rattle.ws_text.proofs.Texts.{no_text}
@@ -21,11 +18,11 @@ use Rattle.ws_session.specs.declared.event.Event.TheVariants as event
 use Rattle.ws_session.specs.Limits.{LimitsValue}
 use Rattle.ws_session.specs.Messages.{is_control, is_close, data_frames, groups_of, message_of, open_message_of}
 use Rattle.ws_session.specs.Validity.{AreValidFrames}
-use Rattle.ws_session.specs.Faults.{frames_of, expects_key, KeysFit, IsNoClose, IsFaultAt}
-use Rattle.ws_session.specs.Events.{close_in, event_of, events_after, through_close, ending_before, events_of, IsFaultOf, HasEvents}
+use Rattle.ws_session.specs.Faults.{expects_key, KeysFit}
+use Rattle.ws_session.specs.Events.{close_in, event_of, HasEvents}
 use Rattle.ws_session.specs.Replies.{close_code_of, close_frame, reply_to, until_close, has_close, replies_of, key_for, under_key}
-use Rattle.ws_session.specs.NextFrame.{AreSent, HasNoFaultOfNext}
-use Rattle.ws_session.proofs.Next.{place_is, two_bytes, within_front, next_later, fault_of_next}
+use Rattle.ws_session.specs.NextFrame.{HasNoFaultOfNext}
+use Rattle.ws_session.proofs.ToldFrames.{each_told}
 use Rattle.ws_session.proofs.Valid.{NoneCloses, valid_snoc}
 use Rattle.ws_session.proofs.FineFrames.{alone_is, not_never_code}
 use Rattle.ws_session.proofs.Within.{split_all}
@@ -47,24 +44,6 @@ sound_by true false false d f m short bytes close = tt
 sound_by false b c true f m short bytes close = tt
 sound_by false b c false f m short bytes close = tt
 
--- the frames that end before a place, and what follows them
-record BeforeParts (n : ℕ) (xs ys : List KeyedFrame) : Type 0 where
-  pub more : List KeyedFrame
-  pub parts : xs ≡ ys ++ more
-  pub size : length (stream_bytes ys) < n
-
-before_parts : (n : ℕ) (xs : List KeyedFrame) → 0 < n → BeforeParts n xs (ending_before n xs)
-before_parts n [] some = record { more = []; parts = refl; size = some }
-before_parts n (x ∷ xs) some =
-    elim (cases_lt (length (frame_bytes x)) n) [
-      | inl lt ↦
-          let k = n - length (frame_bytes x) in
-          let left : 0 < k = omega (arith, lt) in
-          let t = before_parts k xs left in
-          rw (lt-ltb (length (frame_bytes x)) n lt) (record { more = t.more; parts = ap (λ (l : List KeyedFrame). x ∷ l) t.parts; size = omega (arith, t.size, length-append (frame_bytes x) (stream_bytes (ending_before k xs))) })
-      | inr ge ↦ rw (le-ltb (length (frame_bytes x)) n ge) (record { more = x ∷ xs; parts = refl; size = some })
-    ]
-
 module _ (role : Role) (limits : LimitsValue) where
   sound_close : (opened : Option Message) (x : KeyedFrame) (p : List ℕ) → FitsTheLayout x → HasNoFaultOfNext role limits opened (frame_bytes x) → x.frame.opcode ≡ 8 → p ≡ x.frame.payload → IsSound (event.Close (close_in p))
   sound_close opened x [] can fine e is = tt
@@ -81,52 +60,8 @@ module _ (role : Role) (limits : LimitsValue) where
       sound_by (is_control x.frame) (is_close x.frame) (x.frame.opcode == 9) x.frame.fin x.frame (message_of ((groups_of (data_frames before)).unfinished ++ x.frame ∷ []))
       (λ e. ((alone_is role limits opened x can fine).control e).1) can.payload (λ e. sound_close opened x x.frame.payload can fine (eqb-true x.frame.opcode 8 e) refl)
 
-  -- the next frame has no fault where the stream has none up to its end
-  fine_next : (s : List ℕ) (before : List KeyedFrame) (x : KeyedFrame) (u : List ℕ) → s ≡ stream_bytes before ++ (frame_bytes x ++ u) → AreSent before → AllByRecursion IsNoClose before → FitsTheLayout x
-      → ((n : ℕ) (r : Reason) → n ≤ length (stream_bytes before) + length (frame_bytes x) → IsFaultAt role limits s n r → ⊥) → HasNoFaultOfNext role limits (open_message_of (frames_of before)) (frame_bytes x)
-  fine_next s before x u e each no_close can clean k r f =
-      let opened = open_message_of (frames_of before) in
-      let t = frame_bytes x ++ u in
-      let within : k ≤ length (frame_bytes x) = within_front role limits opened (frame_bytes x) k r f x [] can (sym (append-nil (frame_bytes x))) in
-      let here : (n : ℕ) (q : Reason) → n ≤ length (stream_bytes before) + length (frame_bytes x) → IsFaultAt role limits (stream_bytes before ++ t) n q → ⊥ = λ n q le g. clean n q le (subst (λ (l : List ℕ). IsFaultAt role limits l n q) (sym e) g) in
-      here (length (stream_bytes before) + k) r (omega (arith, within))
-      (fault_of_next role limits before t each no_close (λ n q le g. here n q (omega (arith, le)) g) k r (next_later role limits opened (frame_bytes x) u k r f))
-
-  sound_step : (c : Bool) (before : List KeyedFrame) (x : KeyedFrame) (xs : List KeyedFrame) → is_close x.frame ≡ c → IsSound (event_of (frames_of before) x.frame)
-      → (c ≡ false → AllByRecursion IsSound (events_after (frames_of (before ++ x ∷ [])) (frames_of (through_close xs)))) → AllByRecursion IsSound (events_after (frames_of before) (frames_of (cond c (x ∷ []) (x ∷ through_close xs))))
-  sound_step true before x xs is first later = (first, tt)
-  sound_step false before x xs is first later =
-      (first, subst (λ (l : List Frame). AllByRecursion IsSound (events_after l (frames_of (through_close xs)))) (map-append (λ (y : KeyedFrame). y.frame) before (x ∷ [])) (later refl))
-
-  sound_after : (s : List ℕ) (before xs : List KeyedFrame) (rest : List ℕ) → s ≡ stream_bytes before ++ (stream_bytes xs ++ rest) → AreSent before → AllByRecursion IsNoClose before → AreSent xs
-      → ((n : ℕ) (r : Reason) → n ≤ length (stream_bytes before) + length (stream_bytes xs) → IsFaultAt role limits s n r → ⊥) → AllByRecursion IsSound (events_after (frames_of before) (frames_of (through_close xs)))
-  sound_after s before [] rest e each no_close sent clean = tt
-  sound_after s before (x ∷ xs) rest e each no_close sent clean =
-      let len : length (stream_bytes (x ∷ xs)) ≡ length (frame_bytes x) + length (stream_bytes xs) = length-append (frame_bytes x) (stream_bytes xs) in
-      let parts : s ≡ stream_bytes before ++ (frame_bytes x ++ (stream_bytes xs ++ rest)) = e ∙ ap (λ (l : List ℕ). stream_bytes before ++ l) (append_assoc (frame_bytes x) (stream_bytes xs) rest) in
-      let more : stream_bytes (before ++ x ∷ []) ≡ stream_bytes before ++ frame_bytes x = flat_map-append frame_bytes before (x ∷ []) ∙ ap (λ (l : List ℕ). stream_bytes before ++ l) (append-nil (frame_bytes x)) in
-      let size : length (stream_bytes (before ++ x ∷ [])) ≡ length (stream_bytes before) + length (frame_bytes x) = ap (λ (l : List ℕ). length l) more ∙ length-append (stream_bytes before) (frame_bytes x) in
-      sound_step (is_close x.frame) before x xs refl
-      (sound_frame (frames_of before) x sent.0 (fine_next s before x (stream_bytes xs ++ rest) parts each no_close sent.0 (λ n r le f. clean n r (omega (arith, le, len)) f)))
-      (λ not_close. sound_after s (before ++ x ∷ []) xs rest
-      (parts ∙ sym (append_assoc (stream_bytes before) (frame_bytes x) (stream_bytes xs ++ rest)) ∙ ap (λ (l : List ℕ). l ++ (stream_bytes xs ++ rest)) (sym more))
-      (all-append FitsTheLayout before (x ∷ []) each (sent.0, tt)) (all-append IsNoClose before (x ∷ []) no_close (not_close, tt)) sent.1
-      (λ n r le f. clean n r (omega (arith, le, len, size)) f))
-
-  sound_by_fault : (s : List ℕ) (frames : List KeyedFrame) (rest : List ℕ) → SplitsInto s frames rest → (fault : Option (ℕ × Reason)) → IsFaultOf role limits s fault → AllByRecursion IsSound (events_of frames fault)
-  sound_by_fault s frames rest split None clean = sound_after s [] frames rest split.whole tt tt split.each (λ n r le f. clean n r f)
-  sound_by_fault s frames rest split (Some fault) first =
-      let some : 0 < fault.0 = omega (arith, place_is role limits s fault.0 fault.1 first.fault, two_bytes first.fault.header) in
-      let b = before_parts fault.0 frames some in
-      let ys = ending_before fault.0 frames in
-      let sent = split_all FitsTheLayout ys b.more (subst (λ (l : List KeyedFrame). AreSent l) b.parts split.each) in
-      let whole : s ≡ stream_bytes ys ++ (stream_bytes b.more ++ rest) = split.whole ∙ ap (λ (l : List KeyedFrame). stream_bytes l ++ rest) b.parts ∙ ap (λ (l : List ℕ). l ++ rest) (flat_map-append frame_bytes ys b.more) ∙ append_assoc (stream_bytes ys) (stream_bytes b.more) rest in
-      all-append IsSound (events_after [] (frames_of (through_close ys))) (event.Failed fault.1 ∷ [])
-      (sound_after s [] ys (stream_bytes b.more ++ rest) whole tt tt sent.0 (λ n r le f. elim (first.first n r f) [ inl late ↦ omega (arith, late, le, b.size) | inr at ↦ omega (arith, at.0, le, b.size) ]))
-      (tt, tt)
-
   sound_events : (s : List ℕ) (events : List Event) → HasEvents role limits s events → AllByRecursion IsSound events
-  sound_events s events h = subst (λ (l : List Event). AllByRecursion IsSound l) (sym h.are) (sound_by_fault s h.frames h.rest h.split h.fault h.is_fault)
+  sound_events s events h = each_told role limits IsSound (λ opened. Unit {0}) (λ before x can fine left. (sound_frame before x can fine, tt)) tt (λ r. tt) s events h
 
   pub sound_later : (s : List ℕ) (events later : List Event) → HasEvents role limits s (events ++ later) → AllByRecursion IsSound later
   sound_later s events later h = (split_all IsSound events later (sound_events s (events ++ later) h)).1
@@ -140,7 +75,7 @@ bytes_cons : (b : ℕ) (l : List ℕ) → b < 256 → AreBytes l → AreBytes (b
 bytes_cons b l lt h zero = lt
 bytes_cons b l lt h (suc i) = h i
 
-no_bytes : AreBytes []
+pub no_bytes : AreBytes []
 no_bytes i = omega arith
 
 code_fits : (c : ℕ) → CodeAllowed c → c < 65536
@@ -181,7 +116,7 @@ fault_code MessageOpen = inl (lit≤ tt, lit≤ tt)
 fault_code CloseOneByte = inl (lit≤ tt, lit≤ tt)
 fault_code CloseCode = inl (lit≤ tt, lit≤ tt)
 
-sound_reply : (e : Event) → IsSound e → AllByRecursion IsReply (reply_to e)
+pub sound_reply : (e : Event) → IsSound e → AllByRecursion IsReply (reply_to e)
 sound_reply event.Part h = tt
 sound_reply (event.Message m) h = tt
 sound_reply (event.Ping payload) h = ((record { rsv = refl; least = omega arith; most = omega arith; fin = refl; short = h.0; close = λ e. absurd cc }, h.1), tt)
@@ -198,7 +133,7 @@ until_step : (P : Frame → Type 0) (b : Bool) (f : Frame) (fs : List Frame) →
 until_step P true f fs p h = (p, tt)
 until_step P false f fs p h = (p, h)
 
-all_until : (P : Frame → Type 0) (fs : List Frame) → AllByRecursion P fs → AllByRecursion P (until_close fs)
+pub all_until : (P : Frame → Type 0) (fs : List Frame) → AllByRecursion P fs → AllByRecursion P (until_close fs)
 all_until P [] h = tt
 all_until P (f ∷ fs) h = until_step P (is_close f) f fs h.0 (all_until P fs h.1)
 
@@ -211,7 +146,7 @@ are_replies sent es h = owed_by (has_close sent) (flat_map reply_to es) (all_unt
 
 -- ---- behind valid frames
 
-replies_step : (c : Bool) (most : LimitsValue) (sent : List Frame) (f : Frame) (fs : List Frame) → is_close f ≡ c → NoneCloses sent → AreValidFrames most (sent ++ f ∷ [])
+pub replies_step : (c : Bool) (most : LimitsValue) (sent : List Frame) (f : Frame) (fs : List Frame) → is_close f ≡ c → NoneCloses sent → AreValidFrames most (sent ++ f ∷ [])
     → (NoneCloses (sent ++ f ∷ []) → AreValidFrames most ((sent ++ f ∷ []) ++ until_close fs)) → AreValidFrames most (sent ++ cond c (f ∷ []) (f ∷ until_close fs))
 replies_step true most sent f fs e none v h = v
 replies_step false most sent f fs e none v h = subst (λ (l : List Frame). AreValidFrames most l) (append_assoc sent (f ∷ []) (until_close fs)) (h (all-append (λ (g : Frame). is_close g ≡ false) sent (f ∷ []) none (e, tt)))
@@ -231,7 +166,7 @@ stays_valid role limits most s events later sent h v = valid_by (has_close sent)
 
 -- ---- on the wire
 
-reply_can : (own : Role) (key : List ℕ) (f : Frame) → IsMaskingKey (key_for own key) → IsReply f → FitsTheLayout (under_key own key f)
+pub reply_can : (own : Role) (key : List ℕ) (f : Frame) → IsMaskingKey (key_for own key) → IsReply f → FitsTheLayout (under_key own key f)
 reply_can own key f is h = record { rsv = omega (arith, h.0.rsv); opcode = omega (arith, h.0.most); key = is; payload = h.1; len = omega (arith, h.0.short) }
 
 all_can : (own : Role) (key : List ℕ) (fs : List Frame) → IsMaskingKey (key_for own key) → AllByRecursion IsReply fs → AllByRecursion FitsTheLayout (map (under_key own key) fs)

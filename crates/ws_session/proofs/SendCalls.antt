@@ -11,8 +11,8 @@ use Rattle.ws_session.specs.declared.send_fault.SendFault.{SendFault}
 use Rattle.ws_session.specs.declared.send_fault.SendFault.TheVariants.{Over, Busy, NothingOpen, NotText, TooLong, BadCode, NoMemory}
 use Rattle.ws_session.specs.declared.status.Status.{Status}
 use Rattle.ws_session.specs.declared.status.Status.TheVariants as status
-use Rattle.ws_session.specs.declared.outgoing.SentSoFar.{SentSoFar}
-use Rattle.ws_session.specs.declared.outgoing.SentSoFar.TheVariants as so_far
+use Rattle.ws_session.specs.declared.sending.SentSoFar.{SentSoFar}
+use Rattle.ws_session.specs.declared.sending.SentSoFar.TheVariants as so_far
 use Rattle.ws_text.specs.Stream.{HasRead}
 use Rattle.ws_session.specs.Limits.{LimitsValue}
 use Rattle.ws_session.specs.Messages.{opcode_of, is_close, open_message_of}
@@ -21,7 +21,7 @@ use Rattle.ws_session.specs.Replies.{has_close, under_key}
 use Rattle.ws_session.specs.Exchange.{SendingValue, SessionValue, HasExchanged, IsUnfinishedOf, IsSendingOf, is_over, last_event, status_before_close, status_of}
 use Rattle.ws_session.specs.NextFrame.{opened_with}
 use Rattle.ws_session.specs.Sends.{Send, Begin, More, Ping, Pong, Close, frame_of, IsNoText, IsWrongWith, IsWrong, number_of_fault, IsRefusal, Sends}
-use Rattle.ws_session.specs.Outgoing.{sending_of, kept_tail, HasReadSome, IsSentBehind, IsRefusedBehind, sent_behind, IsFineWith, IsFirstWrongWith, IsSentWith}
+use Rattle.ws_session.specs.Sending.{sending_of, kept_tail, HasReadSome, IsSentBehind, IsRefusedBehind, sent_behind, IsFineWith, IsFirstWrongWith, IsSentWith}
 use Rattle.ws_session.proofs.Calls.{exchange_of}
 use Rattle.ws_session.proofs.OpenMessage.{open_snoc}
 use Rattle.ws_session.proofs.Statuses.{nothing_open, IsGoingOn, is_going_on, other_sent, closes_snoc, has_close_snoc}

@@ -18,5 +18,5 @@ pub mod Receiving
 pub mod Replying
 pub mod Receiver
 pub mod Inside
-pub mod Outgoing
+pub mod Sending
 pub mod Examples

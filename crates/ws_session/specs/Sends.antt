@@ -1,6 +1,7 @@
 -- What an endpoint may send, and the frame that a send makes: RFC 6455 sections 5.4 to 5.6, 7.1, 7.4 and 8.1.
 use Rattle.std.specs.Prelude.{◌≡◌, ◌≢◌, ℕ, ◌+◌, ◌<◌, ◌⊎◌, Bool, true, List, [], ◌∷◌, ◌++◌, length, Option, Some}
-use Rattle.std.specs.Prelude.{None}
+use Rattle.std.specs.Prelude.{None, String, string_bytes}
+use Rattle.std.specs.declared.alloc.Global.{Global}
 use Rattle.std.specs.Borrow.{Bor}
 use Rattle.ws_frame.specs.Frame.{Frame, FitsTheLayout, frame_bytes}
 use Rattle.ws_text.specs.Text.{IsText, BeginsText}
@@ -8,6 +9,8 @@ use Rattle.ws_text.specs.Close.{CloseValue, CodeAllowed, close_payload}
 use Rattle.ws_session.specs.declared.message.Kind.{Kind}
 use Rattle.ws_session.specs.declared.message.Kind.TheVariants.{Text}
 use Rattle.ws_session.specs.declared.message.Message.{Message}
+use Rattle.ws_session.specs.declared.outgoing.Outgoing.{Outgoing}
+use Rattle.ws_session.specs.declared.outgoing.Outgoing.TheVariants as out
 use Rattle.ws_session.specs.declared.send_fault.SendFault.{SendFault}
 use Rattle.ws_session.specs.declared.send_fault.SendFault.TheVariants.{Over, Busy, NothingOpen, NotText, TooLong}
 use Rattle.ws_session.specs.declared.send_fault.SendFault.TheVariants.{BadCode, NoMemory}
@@ -30,6 +33,19 @@ pub data Send : Type 0 where
 abbrev pub close_given : Option (ℕ × Bor (List ℕ)) → Option CloseValue
 close_given None = None
 close_given (Some given) = Some (record { code = given.0; reason = given.1.now })
+
+-- the same of a code and a reason that are owned
+abbrev pub close_owned : Option (ℕ × String Global) → Option CloseValue
+close_owned None = None
+close_owned (Some given) = Some (record { code = given.0; reason = string_bytes given.1 })
+
+-- the send that an endpoint is asked for by a value of the code
+abbrev pub send_of : Outgoing → Send
+send_of (out.Begin kind payload fin) = Begin kind payload.now fin
+send_of (out.More payload fin) = More payload.now fin
+send_of (out.Ping payload) = Ping payload.now
+send_of (out.Pong payload) = Pong payload.now
+send_of (out.Close given) = Close (close_given given)
 
 abbrev pub frame_of : Send → Frame
 frame_of (Begin kind payload fin) = record { fin = fin; rsv = 0; opcode = opcode_of kind; payload = payload }

@@ -5,9 +5,7 @@ ghost use Rattle.ws_session.specs.Masked.{masked_from};
 
 use std::marker::Model;
 use ws_frame::mask;
-
-/// The most payload bytes of a control frame.
-const MAX_CONTROL_PAYLOAD: usize = 125;
+use ws_text::MAX_CONTROL_PAYLOAD;
 
 /// At most 125 bytes, kept in place.
 #[derive(Clone, Copy)]

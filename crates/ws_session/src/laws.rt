@@ -1,11 +1,12 @@
 //! Laws over the definitions, each the contract of a function that does nothing.
 
-ghost use Rattle.std.specs.Prelude.{◌≡◌, ◌≢◌, ◌≤◌, ◌↔◌, ℕ, List, [], ◌∷◌, ◌++◌, length, take, map, Bool, true, false};
-ghost use Rattle.std.specs.Prelude.{Option, Some, None};
+ghost use Rattle.std.specs.Prelude.{◌≡◌, ◌≢◌, ◌≤◌, ◌<◌, ◌^◌, ◌↔◌, ℕ, List, [], ◌∷◌, ◌++◌, length, take, map};
+ghost use Rattle.std.specs.Prelude.{Bool, true, false, Option, Some, None};
 ghost use Rattle.std.specs.List.{AllByRecursion};
 ghost use Rattle.ws_frame.specs.declared.role.Role.{Role};
 ghost use Rattle.ws_frame.specs.Header.{AreBytes, IsMaskingKey};
 ghost use Rattle.ws_frame.specs.Frame.{Frame, KeyedFrame, FitsTheLayout, stream_bytes};
+ghost use Rattle.ws_text.specs.Close.{CloseValue};
 ghost use Rattle.ws_session.specs.declared.reason.Reason.{Reason};
 ghost use Rattle.ws_session.specs.declared.event.Event.{Event};
 ghost use Rattle.ws_session.specs.declared.event.Event.TheVariants as event;
@@ -14,9 +15,9 @@ ghost use Rattle.ws_session.specs.declared.status.Status.TheVariants.{Lost};
 ghost use Rattle.ws_session.specs.Limits.{LimitsValue};
 ghost use Rattle.ws_session.specs.Validity.{AreValidFrames, NothingAfterClose};
 ghost use Rattle.ws_session.specs.Faults.{frames_of, KeysFit, IsFirstFault, HasNoFault};
-ghost use Rattle.ws_session.specs.Messages.{messages_of};
+ghost use Rattle.ws_session.specs.Messages.{messages_of, open_message_of};
 ghost use Rattle.ws_session.specs.Events.{HasEvents, IsFaultOf, events_after, messages_in};
-ghost use Rattle.ws_session.specs.Replies.{has_close, replies_by, replies_of, key_for, under_key};
+ghost use Rattle.ws_session.specs.Replies.{has_close, echo_replies_of, replies_by, replies_of, key_for, under_key};
 ghost use Rattle.ws_session.specs.Reach.{fitting, first_passing, IsWithin, frames_within, is_too_big, events_within};
 ghost use Rattle.ws_session.specs.Sends.{Send, frame_of, most_limits, HasTextReason, MaySend};
 ghost use Rattle.ws_session.specs.Exchange.{SessionValue, HasExchanged, is_over, last_event};
@@ -46,6 +47,14 @@ pub fn events_go_on()
     ensures { (role : Role) (limits : LimitsValue) (bytes more : List ℕ) (events all : List Event) →
         HasEvents role limits bytes events → HasEvents role limits (bytes ++ more) all → (later : List Event)
         × (all ≡ events ++ later) }
+{}
+
+/// A close or a fault is the last event of a stream.
+pub fn the_end_comes_last()
+    ensures close { (role : Role) (limits : LimitsValue) (bytes : List ℕ) (events later : List Event)
+        (close : Option CloseValue) → HasEvents role limits bytes (events ++ event.Close close ∷ later) → later ≡ [] }
+    ensures fault { (role : Role) (limits : LimitsValue) (bytes : List ℕ) (events later : List Event)
+        (reason : Reason) → HasEvents role limits bytes (events ++ event.Failed reason ∷ later) → later ≡ [] }
 {}
 
 /// Bytes after the peer's close or after a fault say nothing: a session that is over by these, and not lost, agrees
@@ -154,6 +163,25 @@ pub fn replies_can_be_sent()
     ensures { (role own : Role) (limits : LimitsValue) (bytes key : List ℕ) (events later : List Event)
         (sent : List Frame) → HasEvents role limits bytes (events ++ later) → IsMaskingKey (key_for own key) →
         AllByRecursion FitsTheLayout (map (under_key own key) (replies_of sent later)) }
+{}
+
+/// What an echo owes for what comes, after whatever came before, leaves valid frames valid that leave no message open,
+/// under the limits that it takes by or greater ones. It leaves none open either.
+pub fn echo_replies_stay_valid()
+    ensures valid { (limits most : LimitsValue) → limits.max_message ≤ most.max_message → (role : Role)
+        (bytes : List ℕ) (events later : List Event) (sent : List Frame) →
+        HasEvents role limits bytes (events ++ later) → AreValidFrames most sent → open_message_of sent ≡ None →
+        AreValidFrames most (sent ++ echo_replies_of sent later) }
+    ensures leaves_none { (sent : List Frame) (events : List Event) → open_message_of sent ≡ None →
+        open_message_of (sent ++ echo_replies_of sent events) ≡ None }
+{}
+
+/// What an echo owes for what comes can be sent, where the messages that it takes have less than 2^63 bytes.
+pub fn echo_replies_can_be_sent()
+    ensures { (role own : Role) (limits : LimitsValue) (bytes key : List ℕ) (events later : List Event)
+        (sent : List Frame) → HasEvents role limits bytes (events ++ later) → limits.max_message < 2 ^ 63 →
+        IsMaskingKey (key_for own key) →
+        AllByRecursion FitsTheLayout (map (under_key own key) (echo_replies_of sent later)) }
 {}
 
 /// The keys of what one role sends fit the other.

@@ -5,6 +5,7 @@ ghost use Rattle.ws_base.specs.Reading.{Finds};
 ghost use Rattle.ws_session.specs.Messages.{opcode_of};
 ghost use Rattle.ws_session.specs.Words.{kind_word};
 
+use crate::opcode::{BINARY, TEXT};
 use std::fmt;
 use ws_base::Payload;
 
@@ -35,8 +36,8 @@ impl Kind {
         ensures bound { result ≤ 2 }
     {
         match self {
-            Kind::Text => 1,
-            Kind::Binary => 2,
+            Kind::Text => TEXT,
+            Kind::Binary => BINARY,
         }
     }
 }

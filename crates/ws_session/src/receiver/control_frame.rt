@@ -6,17 +6,13 @@ ghost use Rattle.ws_session.specs.Checking.{reason_of_close};
 ghost use Rattle.ws_session.specs.Receiving.{AssemblyValue, arrived_payload, IsPayloadCheck, IsWholeControl};
 
 use crate::control_payload::Small;
+use crate::opcode::{CLOSE, PING};
 use crate::reason::Reason;
 use crate::receiver::assembly::Assembly;
 use crate::receiver::frame_check::{Content, FrameCheck};
 use crate::receiver::under_way::UnderWay;
 use ws_frame::Header;
 use ws_text::{CloseFault, ClosePayload};
-
-/// The opcodes of the control frames whose payload is checked or shown (section 5.5).
-const CLOSE: u8 = 8;
-
-const PING: u8 = 9;
 
 /// Checks what is there of the payload after the bytes that came before. `rest` is what the piece has after its first
 /// `start` bytes.

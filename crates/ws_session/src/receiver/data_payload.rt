@@ -10,6 +10,7 @@ ghost use Rattle.ws_session.specs.Receiving.{HasKept, IsJoined, first_bytes, fra
 ghost use Rattle.ws_session.specs.Receiving.{IsPayloadCheck, IsTextRead, IsTextFault, IsWithoutFault};
 
 use crate::message::Kind;
+use crate::opcode::{CONTINUATION, TEXT};
 use crate::reason::Reason;
 use crate::receiver::assembly::Assembly;
 use crate::receiver::frame_check::{Content, FrameCheck};
@@ -90,7 +91,7 @@ fn without_fault(
 fn kind_of_opcode(header: &Header) -> Kind
     ensures { result ≡ kind_of header.now.opcode }
 {
-    if header.opcode() == 1 {
+    if header.opcode() == TEXT {
         Kind::Text
     } else {
         Kind::Binary
@@ -133,7 +134,7 @@ fn check_text(
 fn is_of_text(assembly: &Assembly, header: &Header) -> bool
     ensures { IsTrue result ↔ IsOfText assembly.now.opened header.now }
 {
-    header.opcode() == 1 || (header.opcode() == 0 && assembly.is_text())
+    header.opcode() == TEXT || (header.opcode() == CONTINUATION && assembly.is_text())
 }
 
 /// Whether the message ends with these bytes of those that are left of the payload, and the text doesn't.

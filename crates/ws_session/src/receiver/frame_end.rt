@@ -10,6 +10,7 @@ ghost use Rattle.ws_session.specs.Receiver.{IsOwed, kept_message};
 use crate::control_payload::Small;
 use crate::event::Event;
 use crate::message::Kind;
+use crate::opcode::{CLOSE, PONG};
 use crate::reason::Reason;
 use crate::receiver::Receiver;
 use crate::receiver::frame_check::Content;
@@ -17,11 +18,6 @@ use crate::receiver::under_way::nothing;
 use crate::replying::Replying;
 use ws_base::NoMemory;
 use ws_text::{Close, Utf8Stream};
-
-/// The opcodes of the control frames that are put as replies (section 5.5).
-const CLOSE: u8 = 8;
-
-const PONG: u8 = 10;
 
 impl Receiver {
     /// A whole frame has come.

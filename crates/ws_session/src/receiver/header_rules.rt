@@ -8,6 +8,7 @@ use crate::limits::Limits;
 use crate::reason::Reason;
 use crate::receiver::assembly::Assembly;
 use ws_frame::{Header, Role};
+use ws_text::MAX_CONTROL_PAYLOAD;
 
 /// The reasons of a header, in the order in which they are told.
 const HEADER_REASONS: [Reason; 10] = [
@@ -25,9 +26,6 @@ const HEADER_REASONS: [Reason; 10] = [
 
 /// The first length that may not be written: its top bit is set.
 const BAD_LENGTH: u64 = 1 << 63;
-
-/// The most payload bytes of a control frame (section 5.5).
-const MAX_CONTROL_PAYLOAD: u64 = 125;
 
 /// The lowest reason that applies at the end of a header.
 pub(super) fn reason_at_header(
@@ -58,7 +56,8 @@ fn applies(reason: Reason, role: Role, limits: Limits, assembly: &Assembly, head
         Reason::NotShortest => header.is_longer_than_needed(),
         Reason::BadLength => header.payload_len() >= BAD_LENGTH,
         Reason::ControlCut => is_control(header) && !header.fin(),
-        Reason::ControlLong => is_control(header) && header.payload_len() > MAX_CONTROL_PAYLOAD,
+        Reason::ControlLong => is_control(header)
+            && header.payload_len() > MAX_CONTROL_PAYLOAD as u64,
         Reason::NothingToContinue => header.opcode() == 0 && !assembly.is_open(),
         Reason::MessageOpen => matches!(header.opcode(), 1 | 2) && assembly.is_open(),
         Reason::TooBig => header.opcode() <= 2 && is_too_big(limits, assembly, header),

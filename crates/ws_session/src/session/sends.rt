@@ -3,15 +3,34 @@
 //! Each call checks first, in the order of `SendFault`, and takes no memory for that. Then it puts the frame at the end
 //! of `out`, and last it changes the session.
 
-ghost use Rattle.std.specs.Prelude.{◌≡◌, IfSome, IfErr, OnOk, OnErr};
-ghost use Rattle.ws_text.specs.Text.{IsText};
-ghost use Rattle.ws_session.specs.Sends.{Begin, More, Ping, Pong, Close, close_given, IsRefusedBy, HasSent};
+ghost use Rattle.std.specs.Prelude.{◌≡◌, IfErr, OnOk, OnErr};
+ghost use Rattle.ws_session.specs.Sends.{Begin, More, Ping, Pong, Close, close_given, send_of};
+ghost use Rattle.ws_session.specs.Sends.{IsRefusedBy, HasSent, HasTextReason};
 
 use crate::message::Kind;
+use crate::outgoing::Outgoing;
 use crate::send_fault::SendFault;
 use crate::session::Session;
 
 impl Session {
+    /// Sends a frame at the end of `out`. The five calls below do the same, each for one kind of frame.
+    pub fn send(
+        &mut self,
+        frame: &Outgoing<'_>,
+        key: [u8; 4],
+        out: &mut Vec<u8>,
+    ) -> Result<(), SendFault>
+        ensures sent { OnOk result (HasSent self.old self.new (send_of frame.now) key out.old.items out.new.items) }
+        ensures refused { IfErr result (IsRefusedBy self.old (send_of frame.now)) }
+        ensures kept { OnErr result ((self.new ≡ self.old) × (out.new.items ≡ out.old.items)) }
+
+        // A `str` holds a text.
+        ensures text { OnOk result (HasTextReason (send_of frame.now)) }
+    {
+        self.state.send(frame, key, out)?;
+        Ok(())
+    }
+
     /// Sends the first frame of a message, with `fin` the whole message, at the end of `out`.
     pub fn begin(
         &mut self,
@@ -26,7 +45,7 @@ impl Session {
         ensures refused { IfErr result (IsRefusedBy self.old (Begin kind payload.now fin)) }
         ensures kept { OnErr result ((self.new ≡ self.old) × (out.new.items ≡ out.old.items)) }
     {
-        self.state.begin(kind, payload, fin, key, out)?;
+        self.send(&Outgoing::Begin { kind, payload, fin }, key, out)?;
         Ok(())
     }
 
@@ -42,7 +61,7 @@ impl Session {
         ensures refused { IfErr result (IsRefusedBy self.old (More payload.now fin)) }
         ensures kept { OnErr result ((self.new ≡ self.old) × (out.new.items ≡ out.old.items)) }
     {
-        self.state.more(payload, fin, key, out)?;
+        self.send(&Outgoing::More { payload, fin }, key, out)?;
         Ok(())
     }
 
@@ -52,7 +71,7 @@ impl Session {
         ensures refused { IfErr result (IsRefusedBy self.old (Ping payload.now)) }
         ensures kept { OnErr result ((self.new ≡ self.old) × (out.new.items ≡ out.old.items)) }
     {
-        self.state.ping(payload, key, out)?;
+        self.send(&Outgoing::Ping(payload), key, out)?;
         Ok(())
     }
 
@@ -62,7 +81,7 @@ impl Session {
         ensures refused { IfErr result (IsRefusedBy self.old (Pong payload.now)) }
         ensures kept { OnErr result ((self.new ≡ self.old) × (out.new.items ≡ out.old.items)) }
     {
-        self.state.pong(payload, key, out)?;
+        self.send(&Outgoing::Pong(payload), key, out)?;
         Ok(())
     }
 
@@ -80,9 +99,9 @@ impl Session {
         ensures kept { OnErr result ((self.new ≡ self.old) × (out.new.items ≡ out.old.items)) }
 
         // A `str` holds a text.
-        ensures text { OnOk result (IfSome (close_given given.entry) (λ close. IsText close.reason)) }
+        ensures text { OnOk result (HasTextReason (Close (close_given given.entry))) }
     {
-        self.state.close(given, key, out)?;
+        self.send(&Outgoing::Close(given), key, out)?;
         Ok(())
     }
 }

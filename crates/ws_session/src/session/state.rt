@@ -13,9 +13,9 @@ mod sends;
 
 use crate::event::{Event, Taken};
 use crate::limits::Limits;
-use crate::outgoing::Outgoing;
 use crate::receiver::Receiver;
 use crate::replying::Replying;
+use crate::sending::Sending;
 use crate::session::Answering;
 use crate::status::Status;
 use std::alloc::Global;
@@ -28,7 +28,7 @@ use ws_frame::Role;
 #[derive(Drop)]
 pub(super) struct State {
     receiver: Receiver,
-    sending: Outgoing,
+    sending: Sending,
     status: Status,
 }
 
@@ -59,7 +59,7 @@ impl State {
     {
         State {
             receiver: Receiver::new(alloc, role, limits),
-            sending: Outgoing::new(),
+            sending: Sending::new(),
             status: Status::Open,
         }
     }

@@ -1,40 +1,51 @@
 //! What is sent, as a session keeps it (RFC 6455 sections 5.4, 5.5 and 7.1).
 
-ghost use Rattle.std.specs.Prelude.{◌≡◌, ◌≢◌, ◌≤◌, ◌<◌, length, Option, IfSome, IfErr, OnOk, OnErr, MatchResult, Some};
+ghost use Rattle.std.specs.Prelude.{◌≡◌, ◌≢◌, ◌≤◌, ◌<◌, length, Option, IfErr, OnOk, OnErr, MatchResult, Some};
 ghost use Rattle.std.specs.Prelude.{◌++◌};
 ghost use Rattle.ws_frame.specs.Frame.{Frame, FitsTheLayout, frame_bytes};
-ghost use Rattle.ws_text.specs.Text.{IsText};
 ghost use Rattle.ws_text.specs.Close.{CloseValue};
 ghost use Rattle.ws_session.specs.declared.send_fault.SendFault.TheVariants as SendFault;
 ghost use Rattle.ws_session.specs.declared.status.Status.TheVariants as Status;
-ghost use Rattle.ws_session.specs.Sends.{Begin, More, Ping, Pong, Close, close_given, IsRefusedBy, HasSent};
-ghost use Rattle.ws_session.specs.Outgoing.{IsFineWith, IsFirstWrongWith};
+ghost use Rattle.ws_session.specs.Sends.{Begin, More, Ping, Pong, Close, close_given, send_of};
+ghost use Rattle.ws_session.specs.Sends.{IsRefusedBy, HasSent, HasTextReason};
+ghost use Rattle.ws_session.specs.Sending.{IsFineWith, IsFirstWrongWith};
 ghost use Rattle.ws_session.specs.Replies.{under_key};
 ghost use Rattle.ws_session.specs.declared.message.Message.{Message};
 
 use crate::control_payload::Small;
 use crate::message::Kind;
+use crate::opcode::{CLOSE, CONTINUATION, PING, PONG};
+use crate::outgoing::Outgoing;
 use crate::replying::put_frame;
 use crate::send_fault::SendFault;
 use crate::session::state::State;
 use crate::status::Status;
 use ws_text::laws::str_is_text;
-use ws_text::{MAX_REASON, code_allowed};
-
-/// The opcodes of the frames that are sent beside the first of a message (sections 5.4 and 5.5).
-const CONTINUATION: u8 = 0;
-
-const CLOSE: u8 = 8;
-
-const PING: u8 = 9;
-
-const PONG: u8 = 10;
-
-/// The most payload bytes of a control frame (section 5.5).
-const MAX_CONTROL_PAYLOAD: usize = 125;
+use ws_text::{MAX_CONTROL_PAYLOAD, MAX_REASON, code_allowed};
 
 impl State {
-    pub(crate) fn begin(
+    pub(crate) fn send(
+        &mut self,
+        frame: &Outgoing<'_>,
+        key: [u8; 4],
+        out: &mut Vec<u8>,
+    ) -> Result<(), SendFault>
+        ensures sent { OnOk result (HasSent self.old self.new (send_of frame.now) key out.old.items out.new.items) }
+        ensures refused { IfErr result (IsRefusedBy self.old (send_of frame.now)) }
+        ensures kept { OnErr result ((self.new ≡ self.old) × (out.new.items ≡ out.old.items)) }
+        ensures text { OnOk result (HasTextReason (send_of frame.now)) }
+    {
+        match frame {
+            Outgoing::Begin { kind, payload, fin } => self.begin(*kind, payload, *fin, key, out)?,
+            Outgoing::More { payload, fin } => self.more(payload, *fin, key, out)?,
+            Outgoing::Ping(payload) => self.ping(payload, key, out)?,
+            Outgoing::Pong(payload) => self.pong(payload, key, out)?,
+            Outgoing::Close(given) => self.close(*given, key, out)?,
+        }
+        Ok(())
+    }
+
+    fn begin(
         &mut self,
         kind: Kind,
         payload: &[u8],
@@ -49,12 +60,12 @@ impl State {
     {
         self.may_send()?;
         let sending = self.sending.after_first(kind, payload, fin)?;
-        self.send(fin, kind.opcode(), payload, key, out)?;
+        self.put(fin, kind.opcode(), payload, key, out)?;
         self.sending = sending;
         Ok(())
     }
 
-    pub(crate) fn more(
+    fn more(
         &mut self,
         payload: &[u8],
         fin: bool,
@@ -67,44 +78,34 @@ impl State {
     {
         self.may_send()?;
         let sending = self.sending.after_next(payload, fin)?;
-        self.send(fin, CONTINUATION, payload, key, out)?;
+        self.put(fin, CONTINUATION, payload, key, out)?;
         self.sending = sending;
         Ok(())
     }
 
-    pub(crate) fn ping(
-        &mut self,
-        payload: &[u8],
-        key: [u8; 4],
-        out: &mut Vec<u8>,
-    ) -> Result<(), SendFault>
+    fn ping(&mut self, payload: &[u8], key: [u8; 4], out: &mut Vec<u8>) -> Result<(), SendFault>
         ensures sent { OnOk result (HasSent self.old self.new (Ping payload.now) key out.old.items out.new.items) }
         ensures refused { IfErr result (IsRefusedBy self.old (Ping payload.now)) }
         ensures kept { OnErr result ((self.new ≡ self.old) × (out.new.items ≡ out.old.items)) }
     {
         self.may_send()?;
         fits_control(payload)?;
-        self.send(true, PING, payload, key, out)?;
+        self.put(true, PING, payload, key, out)?;
         Ok(())
     }
 
-    pub(crate) fn pong(
-        &mut self,
-        payload: &[u8],
-        key: [u8; 4],
-        out: &mut Vec<u8>,
-    ) -> Result<(), SendFault>
+    fn pong(&mut self, payload: &[u8], key: [u8; 4], out: &mut Vec<u8>) -> Result<(), SendFault>
         ensures sent { OnOk result (HasSent self.old self.new (Pong payload.now) key out.old.items out.new.items) }
         ensures refused { IfErr result (IsRefusedBy self.old (Pong payload.now)) }
         ensures kept { OnErr result ((self.new ≡ self.old) × (out.new.items ≡ out.old.items)) }
     {
         self.may_send()?;
         fits_control(payload)?;
-        self.send(true, PONG, payload, key, out)?;
+        self.put(true, PONG, payload, key, out)?;
         Ok(())
     }
 
-    pub(crate) fn close(
+    fn close(
         &mut self,
         given: Option<(u16, &str)>,
         key: [u8; 4],
@@ -116,16 +117,16 @@ impl State {
         ensures kept { OnErr result ((self.new ≡ self.old) × (out.new.items ≡ out.old.items)) }
 
         // A `str` holds a text.
-        ensures text { OnOk result (IfSome (close_given given.entry) (λ close. IsText close.reason)) }
+        ensures text { OnOk result (HasTextReason (Close (close_given given.entry))) }
     {
         self.may_send()?;
         match given {
-            None => self.send(true, CLOSE, &[], key, out)?,
+            None => self.put(true, CLOSE, &[], key, out)?,
             Some((code, reason)) => {
                 fits_close(code, reason)?;
                 str_is_text(reason);
                 let payload = Small::joined(&code.to_be_bytes(), reason.as_bytes());
-                self.send(true, CLOSE, payload.as_slice(), key, out)?;
+                self.put(true, CLOSE, payload.as_slice(), key, out)?;
             }
         }
         self.status = Status::Closing;
@@ -144,7 +145,7 @@ impl State {
     }
 
     /// Puts a frame at the end of `out`.
-    fn send(
+    fn put(
         &self,
         fin: bool,
         opcode: u8,

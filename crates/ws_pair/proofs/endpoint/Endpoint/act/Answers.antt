@@ -1,50 +1,40 @@
-use Rattle.std.proofs.Common.{ℕ, List, Option, refl, sym, subst}
-use Rattle.ws_text.specs.Close.{CloseValue}
+use Rattle.std.proofs.Common.{ℕ, List, ap, refl, sym, subst}
 use Rattle.ws_session.specs.Sends as send
 use Rattle.ws_pair.specs.declared.moves.Move.{Move}
+use Rattle.ws_pair.specs.declared.moves.Move.TheVariants.{Begin, More, Ping, Pong, Close}
 use Rattle.ws_pair.specs.declared.report.Answer.TheVariants as outcome
 use Rattle.ws_pair.specs.Link.{other, role_of, end_of, limits_of}
-use Rattle.ws_pair.proofs.Acting.{Acts, HasCalled, after_call, always, begin_acts, more_acts, ping_acts, pong_acts, close_acts, close_text, arrive_acts, cut_acts}
+use Rattle.ws_pair.proofs.Acting.{Acts, send_acts, arrive_acts, cut_acts}
 use Rattle.ws_pair.proofs.endpoint.Endpoint.act.Goals as goal
 
 pub returns-in_ok-answer-in-Begin : goal.returns-in_ok-answer-in-Begin
 returns-in_ok-answer-in-Begin c = record {
-  moved = subst (λ (m : Move). Acts c.args.self.now (after_call c.args.self.now c.begin-sent.new.self c.begin-sent.new.out) c.args.others.now c.in_ok-answer-in-Begin.answer m) (sym c.in-Begin.is)
-      (begin_acts c.session_laws.ensures c.args.self.now (after_call c.args.self.now c.begin-sent.new.self c.begin-sent.new.out) c.args.others.now c.in_ok-answer-in-Begin.answer c.in-Begin.key c.begin-sent.result c.in_ok-answer-in-Begin.ensures c.in-Begin.side c.in-Begin.kind c.in-Begin.payload c.in-Begin.fin
-      (subst (λ (l : List ℕ). HasCalled c.args.self.now (after_call c.args.self.now c.begin-sent.new.self c.begin-sent.new.out) (send.Begin c.in-Begin.kind l c.in-Begin.fin) c.in-Begin.key c.begin-sent.result) c.as_slice.ensures
-      (record { done = c.begin-sent.ensures.sent; refused = c.begin-sent.ensures.refused; kept = c.begin-sent.ensures.kept; text = always c.begin-sent.result tt; reached = refl; delivered = refl; is_cut = refl })));
+  moved = subst (λ (m : Move). Acts c.args.self.now c.send.new.self c.args.others.now c.in_ok-answer-in-Begin.answer m) (sym c.in-Begin.is)
+      (send_acts c.args.self.now c.send.new.self c.args.others.now c.in_ok-answer-in-Begin.answer (Begin c.in-Begin.side c.in-Begin.kind c.in-Begin.payload c.in-Begin.fin c.in-Begin.key) (send.Begin c.in-Begin.kind c.in-Begin.payload c.in-Begin.fin) _ c.in-Begin.key (ap (λ (l : List ℕ). send.Begin c.in-Begin.kind l c.in-Begin.fin) c.as_slice.ensures) (λ limits link after h. h) c.in_ok-answer-in-Begin.ensures);
 }
 
 pub returns-in_ok-answer-in-More : goal.returns-in_ok-answer-in-More
 returns-in_ok-answer-in-More c = record {
-  moved = subst (λ (m : Move). Acts c.args.self.now (after_call c.args.self.now c.more-sent.new.self c.more-sent.new.out) c.args.others.now c.in_ok-answer-in-More.answer m) (sym c.in-More.is)
-      (more_acts c.session_laws.ensures c.args.self.now (after_call c.args.self.now c.more-sent.new.self c.more-sent.new.out) c.args.others.now c.in_ok-answer-in-More.answer c.in-More.key c.more-sent.result c.in_ok-answer-in-More.ensures c.in-More.side c.in-More.payload c.in-More.fin
-      (subst (λ (l : List ℕ). HasCalled c.args.self.now (after_call c.args.self.now c.more-sent.new.self c.more-sent.new.out) (send.More l c.in-More.fin) c.in-More.key c.more-sent.result) c.as_slice-in-More.ensures
-      (record { done = c.more-sent.ensures.sent; refused = c.more-sent.ensures.refused; kept = c.more-sent.ensures.kept; text = always c.more-sent.result tt; reached = refl; delivered = refl; is_cut = refl })));
+  moved = subst (λ (m : Move). Acts c.args.self.now c.send-in-More.new.self c.args.others.now c.in_ok-answer-in-More.answer m) (sym c.in-More.is)
+      (send_acts c.args.self.now c.send-in-More.new.self c.args.others.now c.in_ok-answer-in-More.answer (More c.in-More.side c.in-More.payload c.in-More.fin c.in-More.key) (send.More c.in-More.payload c.in-More.fin) _ c.in-More.key (ap (λ (l : List ℕ). send.More l c.in-More.fin) c.as_slice-in-More.ensures) (λ limits link after h. h) c.in_ok-answer-in-More.ensures);
 }
 
 pub returns-in_ok-answer-in-Ping : goal.returns-in_ok-answer-in-Ping
 returns-in_ok-answer-in-Ping c = record {
-  moved = subst (λ (m : Move). Acts c.args.self.now (after_call c.args.self.now c.ping-sent.new.self c.ping-sent.new.out) c.args.others.now c.in_ok-answer-in-Ping.answer m) (sym c.in-Ping.is)
-      (ping_acts c.session_laws.ensures c.args.self.now (after_call c.args.self.now c.ping-sent.new.self c.ping-sent.new.out) c.args.others.now c.in_ok-answer-in-Ping.answer c.in-Ping.key c.ping-sent.result c.in_ok-answer-in-Ping.ensures c.in-Ping.side c.in-Ping.payload
-      (subst (λ (l : List ℕ). HasCalled c.args.self.now (after_call c.args.self.now c.ping-sent.new.self c.ping-sent.new.out) (send.Ping l) c.in-Ping.key c.ping-sent.result) c.as_slice-in-Ping.ensures
-      (record { done = c.ping-sent.ensures.sent; refused = c.ping-sent.ensures.refused; kept = c.ping-sent.ensures.kept; text = always c.ping-sent.result tt; reached = refl; delivered = refl; is_cut = refl })));
+  moved = subst (λ (m : Move). Acts c.args.self.now c.send-in-Ping.new.self c.args.others.now c.in_ok-answer-in-Ping.answer m) (sym c.in-Ping.is)
+      (send_acts c.args.self.now c.send-in-Ping.new.self c.args.others.now c.in_ok-answer-in-Ping.answer (Ping c.in-Ping.side c.in-Ping.payload c.in-Ping.key) (send.Ping c.in-Ping.payload) _ c.in-Ping.key (ap (λ (l : List ℕ). send.Ping l) c.as_slice-in-Ping.ensures) (λ limits link after h. h) c.in_ok-answer-in-Ping.ensures);
 }
 
 pub returns-in_ok-answer-in-Pong : goal.returns-in_ok-answer-in-Pong
 returns-in_ok-answer-in-Pong c = record {
-  moved = subst (λ (m : Move). Acts c.args.self.now (after_call c.args.self.now c.pong-sent.new.self c.pong-sent.new.out) c.args.others.now c.in_ok-answer-in-Pong.answer m) (sym c.in-Pong.is)
-      (pong_acts c.session_laws.ensures c.args.self.now (after_call c.args.self.now c.pong-sent.new.self c.pong-sent.new.out) c.args.others.now c.in_ok-answer-in-Pong.answer c.in-Pong.key c.pong-sent.result c.in_ok-answer-in-Pong.ensures c.in-Pong.side c.in-Pong.payload
-      (subst (λ (l : List ℕ). HasCalled c.args.self.now (after_call c.args.self.now c.pong-sent.new.self c.pong-sent.new.out) (send.Pong l) c.in-Pong.key c.pong-sent.result) c.as_slice-in-Pong.ensures
-      (record { done = c.pong-sent.ensures.sent; refused = c.pong-sent.ensures.refused; kept = c.pong-sent.ensures.kept; text = always c.pong-sent.result tt; reached = refl; delivered = refl; is_cut = refl })));
+  moved = subst (λ (m : Move). Acts c.args.self.now c.send-in-Pong.new.self c.args.others.now c.in_ok-answer-in-Pong.answer m) (sym c.in-Pong.is)
+      (send_acts c.args.self.now c.send-in-Pong.new.self c.args.others.now c.in_ok-answer-in-Pong.answer (Pong c.in-Pong.side c.in-Pong.payload c.in-Pong.key) (send.Pong c.in-Pong.payload) _ c.in-Pong.key (ap (λ (l : List ℕ). send.Pong l) c.as_slice-in-Pong.ensures) (λ limits link after h. h) c.in_ok-answer-in-Pong.ensures);
 }
 
 pub returns-in_ok-answer-in-Close : goal.returns-in_ok-answer-in-Close
 returns-in_ok-answer-in-Close c = record {
-  moved = subst (λ (m : Move). Acts c.args.self.now (after_call c.args.self.now c.close-sent.new.self c.close-sent.new.out) c.args.others.now c.in_ok-answer-in-Close.answer m) (sym c.in-Close.is)
-      (close_acts c.session_laws.ensures c.args.self.now (after_call c.args.self.now c.close-sent.new.self c.close-sent.new.out) c.args.others.now c.in_ok-answer-in-Close.answer c.in-Close.key c.close-sent.result c.in_ok-answer-in-Close.ensures c.in-Close.side c.in-Close.given
-      (subst (λ (o : Option CloseValue). HasCalled c.args.self.now (after_call c.args.self.now c.close-sent.new.self c.close-sent.new.out) (send.Close o) c.in-Close.key c.close-sent.result) c.borrowed.ensures
-      (record { done = c.close-sent.ensures.sent; refused = c.close-sent.ensures.refused; kept = c.close-sent.ensures.kept; text = close_text c.close-sent.result (send.close_given c.borrowed.result) c.close-sent.ensures.text; reached = refl; delivered = refl; is_cut = refl })));
+  moved = subst (λ (m : Move). Acts c.args.self.now c.send-in-Close.new.self c.args.others.now c.in_ok-answer-in-Close.answer m) (sym c.in-Close.is)
+      (send_acts c.args.self.now c.send-in-Close.new.self c.args.others.now c.in_ok-answer-in-Close.answer (Close c.in-Close.side c.in-Close.given c.in-Close.key) (send.Close (send.close_owned c.in-Close.given)) _ c.in-Close.key c.close.ensures (λ limits link after h. h) c.in_ok-answer-in-Close.ensures);
 }
 
 pub returns-in_ok-count-in-Arrive : goal.returns-in_ok-count-in-Arrive

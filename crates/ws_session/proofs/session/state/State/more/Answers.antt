@@ -9,11 +9,11 @@ returns-in_err-sending-clause-refused c =
     first_refusal _ c.args.self.now exchange.sent exchange.taken exchange.ended (More c.args.payload.now c.args.fin) c.in_err-sending.field-0.0 c.self.view_is h c.in_ok-may_send.ensures c.in_err-sending.ensures.checked in
     search rules
 
-pub returns-in_err-send-clause-refused : goal.returns-in_err-send-clause-refused
-returns-in_err-send-clause-refused c =
-    of_error (IsRefusedBy c.args.self.now (More c.args.payload.now c.args.fin)) c.in_err-send.field-0.0 c.from_residual-in_err-send.result c.from_residual-in_err-send.ensures.1 (λ exchange h.
-    last_refusal _ c.args.self.now exchange.sent exchange.taken exchange.ended _ c.in_ok-sending.sending _ c.self.view_is h c.in_ok-may_send.ensures c.in_ok-sending.ensures.checked c.in_err-send.ensures.kept.0)
+pub returns-in_err-put-clause-refused : goal.returns-in_err-put-clause-refused
+returns-in_err-put-clause-refused c =
+    of_error (IsRefusedBy c.args.self.now (More c.args.payload.now c.args.fin)) c.in_err-put.field-0.0 c.from_residual-in_err-put.result c.from_residual-in_err-put.ensures.1 (λ exchange h.
+    last_refusal _ c.args.self.now exchange.sent exchange.taken exchange.ended _ c.in_ok-sending.sending _ c.self.view_is h c.in_ok-may_send.ensures c.in_ok-sending.ensures.checked c.in_err-put.ensures.kept.0)
 
 pub returns-clause-sent : goal.returns-clause-sent
 returns-clause-sent c = λ exchange h.
-    data_sent _ c.args.self.now _ exchange.sent exchange.taken exchange.ended (More c.args.payload.now c.args.fin) _ c.args.key c.args.out.now.items c.send.new.out.items c.self.view_is h c.in_ok-may_send.ensures c.in_ok-sending.ensures.checked refl refl c.in_ok-send.ensures.put refl refl refl refl refl
+    data_sent _ c.args.self.now _ exchange.sent exchange.taken exchange.ended (More c.args.payload.now c.args.fin) _ c.args.key c.args.out.now.items c.put.new.out.items c.self.view_is h c.in_ok-may_send.ensures c.in_ok-sending.ensures.checked refl refl c.in_ok-put.ensures.put refl refl refl refl refl

@@ -1,8 +1,8 @@
 use Rattle.std.proofs.Common.{rules, ◌≡◌, Some}
-use Rattle.ws_session.specs.declared.outgoing.SentSoFar.TheVariants as so_far
-use Rattle.ws_session.specs.Outgoing.{sending_of, HasReadSome}
+use Rattle.ws_session.specs.declared.sending.SentSoFar.TheVariants as so_far
+use Rattle.ws_session.specs.Sending.{sending_of, HasReadSome}
 use Rattle.ws_session.proofs.SendCalls.{text_checked}
-use Rattle.ws_session.proofs.outgoing.Outgoing.after_next.Goals as goal
+use Rattle.ws_session.proofs.sending.Sending.after_next.Goals as goal
 
 pub returns-in-Some-Text-clause-checked : goal.returns-in-Some-Text-clause-checked
 returns-in-Some-Text-clause-checked c = λ opened is.

@@ -1,7 +1,7 @@
 use Rattle.std.proofs.Common.{[], refl}
 use Rattle.ws_session.specs.declared.message.Kind.TheVariants.{Text, Binary}
 use Rattle.ws_session.proofs.SendCalls.{begun_checked}
-use Rattle.ws_session.proofs.outgoing.Outgoing.after_first.Goals as goal
+use Rattle.ws_session.proofs.sending.Sending.after_first.Goals as goal
 
 pub returns-in-Text-clause-checked : goal.returns-in-Text-clause-checked
 returns-in-Text-clause-checked c = λ opened is.

@@ -4,8 +4,8 @@ use Rattle.std.specs.Prelude.{◌≡◌, ℕ, ◌+◌, ◌≤◌, ◌<◌, Bool,
 use Rattle.ws_text.specs.Stream.{HasRead}
 use Rattle.ws_session.specs.declared.message.Kind.TheVariants.{Text, Binary}
 use Rattle.ws_session.specs.declared.message.Message.{Message}
-use Rattle.ws_session.specs.declared.outgoing.SentSoFar.{SentSoFar}
-use Rattle.ws_session.specs.declared.outgoing.SentSoFar.TheVariants as so_far
+use Rattle.ws_session.specs.declared.sending.SentSoFar.{SentSoFar}
+use Rattle.ws_session.specs.declared.sending.SentSoFar.TheVariants as so_far
 use Rattle.ws_session.specs.declared.send_fault.SendFault.{SendFault}
 use Rattle.ws_session.specs.declared.send_fault.SendFault.TheVariants.{NotText, TooLong}
 use Rattle.ws_session.specs.Faults.{IsLowest}
