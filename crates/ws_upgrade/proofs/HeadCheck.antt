@@ -45,48 +45,48 @@ too_large_request : (request : RequestParts) → IsRequestRefusal request TooLar
 unfolding Lacks
 too_large_request request = no_refusal (RequestMeets request) request_order TooLarge ((λ e. cc), ((λ e. cc), ((λ e. cc), ((λ e. cc), ((λ e. cc), ((λ e. cc), ((λ e. cc), tt)))))))
 
-refuses_request : (bytes : List ℕ) (fault : HeadFault) → ChecksRequest bytes (RefusedRequest fault) → RefusesRequest bytes fault
-refuses_request bytes Head checked = absurd (no_head_request (request_parts checked.0) checked.3)
-refuses_request bytes TooLarge checked = absurd (too_large_request (request_parts checked.0) checked.3)
-refuses_request bytes fault checked = checked
+refuses_request : (known : List (List ℕ)) (bytes : List ℕ) (fault : HeadFault) → ChecksRequest known bytes (RefusedRequest fault) → RefusesRequest known bytes fault
+refuses_request known bytes Head checked = absurd (no_head_request (request_parts checked.0) checked.3)
+refuses_request known bytes TooLarge checked = absurd (too_large_request (request_parts checked.0) checked.3)
+refuses_request known bytes fault checked = checked
 
 -- the answer to a head at the front
-pub request_read : (bytes : List ℕ) (answer : RequestRead) → ChecksRequest bytes answer → IsRequestRead bytes answer
-request_read bytes NeedRequest checked = absurd checked.3
-request_read bytes (GotRequest upgrade used) checked = checked
-request_read bytes (RefusedRequest fault) checked = refuses_request bytes fault checked
+pub request_read : (known : List (List ℕ)) (bytes : List ℕ) (answer : RequestRead) → ChecksRequest known bytes answer → IsRequestRead known bytes answer
+request_read known bytes NeedRequest checked = absurd checked.3
+request_read known bytes (GotRequest upgrade used) checked = checked
+request_read known bytes (RefusedRequest fault) checked = refuses_request known bytes fault checked
 
 -- the head that is answered is among the bytes
-pub request_held : (bytes : List ℕ) (answer : RequestRead) → IsRequestRead bytes answer → HoldsRequest bytes answer
-request_held bytes NeedRequest read = tt
-request_held bytes (GotRequest upgrade used) (head, len, begins, answers) =
+pub request_held : (known : List (List ℕ)) (bytes : List ℕ) (answer : RequestRead) → IsRequestRead known bytes answer → HoldsRequest bytes answer
+request_held known bytes NeedRequest read = tt
+request_held known bytes (GotRequest upgrade used) (head, len, begins, answers) =
     let all : length (head_part bytes) ≡ length (print_request head) + length (drop len (head_part bytes)) = ap length begins.reads.1 ∙ length-append (print_request head) (drop len (head_part bytes)) in
     omega (arith, answers.0, begins.whole, all, length-take 8192 bytes)
-request_held bytes (RefusedRequest fault) read = tt
+request_held known bytes (RefusedRequest fault) read = tt
 
-no_head_response : (nonce : List ℕ) (response : ResponseParts) → IsResponseRefusal nonce response Head → ⊥
+no_head_response : (nonce : List ℕ) (offers : List (List ℕ)) (response : ResponseParts) → IsResponseRefusal nonce offers response Head → ⊥
 unfolding Lacks
-no_head_response nonce response = no_refusal (ResponseMeets nonce response) response_order Head ((λ e. cc), ((λ e. cc), ((λ e. cc), ((λ e. cc), ((λ e. cc), ((λ e. cc), ((λ e. cc), tt)))))))
+no_head_response nonce offers response = no_refusal (ResponseMeets nonce offers response) response_order Head ((λ e. cc), ((λ e. cc), ((λ e. cc), ((λ e. cc), ((λ e. cc), ((λ e. cc), ((λ e. cc), tt)))))))
 
-too_large_response : (nonce : List ℕ) (response : ResponseParts) → IsResponseRefusal nonce response TooLarge → ⊥
+too_large_response : (nonce : List ℕ) (offers : List (List ℕ)) (response : ResponseParts) → IsResponseRefusal nonce offers response TooLarge → ⊥
 unfolding Lacks
-too_large_response nonce response = no_refusal (ResponseMeets nonce response) response_order TooLarge ((λ e. cc), ((λ e. cc), ((λ e. cc), ((λ e. cc), ((λ e. cc), ((λ e. cc), ((λ e. cc), tt)))))))
+too_large_response nonce offers response = no_refusal (ResponseMeets nonce offers response) response_order TooLarge ((λ e. cc), ((λ e. cc), ((λ e. cc), ((λ e. cc), ((λ e. cc), ((λ e. cc), ((λ e. cc), tt)))))))
 
-refuses_response : (nonce bytes : List ℕ) (fault : HeadFault) → ChecksResponse nonce bytes (RefusedResponse fault) → RefusesResponse nonce bytes fault
-refuses_response nonce bytes Head checked = absurd (no_head_response nonce (response_parts checked.0) checked.3)
-refuses_response nonce bytes TooLarge checked = absurd (too_large_response nonce (response_parts checked.0) checked.3)
-refuses_response nonce bytes fault checked = checked
+refuses_response : (nonce : List ℕ) (offers : List (List ℕ)) (bytes : List ℕ) (fault : HeadFault) → ChecksResponse nonce offers bytes (RefusedResponse fault) → RefusesResponse nonce offers bytes fault
+refuses_response nonce offers bytes Head checked = absurd (no_head_response nonce offers (response_parts checked.0) checked.3)
+refuses_response nonce offers bytes TooLarge checked = absurd (too_large_response nonce offers (response_parts checked.0) checked.3)
+refuses_response nonce offers bytes fault checked = checked
 
 -- the answer to a head at the front
-pub response_read : (nonce bytes : List ℕ) (answer : ResponseRead) → ChecksResponse nonce bytes answer → IsResponseRead nonce bytes answer
-response_read nonce bytes NeedResponse checked = absurd checked.3
-response_read nonce bytes (GotResponse used) checked = checked
-response_read nonce bytes (RefusedResponse fault) checked = refuses_response nonce bytes fault checked
+pub response_read : (nonce : List ℕ) (offers : List (List ℕ)) (bytes : List ℕ) (answer : ResponseRead) → ChecksResponse nonce offers bytes answer → IsResponseRead nonce offers bytes answer
+response_read nonce offers bytes NeedResponse checked = absurd checked.3
+response_read nonce offers bytes (GotResponse used protocol) checked = checked
+response_read nonce offers bytes (RefusedResponse fault) checked = refuses_response nonce offers bytes fault checked
 
 -- the head that is answered is among the bytes
-pub response_held : (nonce bytes : List ℕ) (answer : ResponseRead) → IsResponseRead nonce bytes answer → HoldsResponse bytes answer
-response_held nonce bytes NeedResponse read = tt
-response_held nonce bytes (GotResponse used) (head, len, begins, answers) =
+pub response_held : (nonce : List ℕ) (offers : List (List ℕ)) (bytes : List ℕ) (answer : ResponseRead) → IsResponseRead nonce offers bytes answer → HoldsResponse bytes answer
+response_held nonce offers bytes NeedResponse read = tt
+response_held nonce offers bytes (GotResponse used protocol) (head, len, begins, answers) =
     let all : length (head_part bytes) ≡ length (print_response head) + length (drop len (head_part bytes)) = ap length begins.reads.1 ∙ length-append (print_response head) (drop len (head_part bytes)) in
     omega (arith, answers.0, begins.whole, all, length-take 8192 bytes)
-response_held nonce bytes (RefusedResponse fault) read = tt
+response_held nonce offers bytes (RefusedResponse fault) read = tt

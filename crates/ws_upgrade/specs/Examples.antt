@@ -1,5 +1,5 @@
 -- Worked examples, each a theorem: first those of RFC 6455 sections 1.2 and 1.3.
-use Rattle.std.specs.Prelude.{◌≡◌, ℕ, List, [], ◌∷◌, ◌++◌, true, false, codes, refl}
+use Rattle.std.specs.Prelude.{◌≡◌, ℕ, zero, suc, ◌≤◌, List, [], ◌∷◌, ◌++◌, true, false, Some, codes, slice_get, refl}
 use Rattle.std.proofs.Common.{arith, inl, inr}
 use Rattle.sha1.specs.Sha1.{sha1, digest_bytes, hash_after, compress, rounds, schedule, first_words}
 use Rattle.base64.specs.Rfc4648.{encode_symbols}
@@ -7,7 +7,8 @@ use Rattle.httparse.specs.Grammar.{trim_ows}
 use Rattle.ws_upgrade.specs.Accept.{key_of, accept_value_of}
 use Rattle.ws_upgrade.specs.Members.{HeaderPairs, members_in, members_of, has_member}
 use Rattle.ws_upgrade.specs.Heads.{RequestParts, IsRequestRefusal, IsResponseRefusal}
-use Rattle.ws_upgrade.specs.Texts.{request_bytes, response_bytes, refusal_bytes}
+use Rattle.ws_upgrade.specs.Protocols.{protocols_in, AreOffers, IsChoice, NamesOffered}
+use Rattle.ws_upgrade.specs.Texts.{request_text, request_bytes, response_text, response_bytes, refusal_bytes}
 use Rattle.ws_upgrade.specs.declared.faults.HeadFault.TheVariants.{Head, Method, Host, Connection, Status, WsVersion}
 
 -- ---- the key and its accept value
@@ -83,8 +84,52 @@ keep_alive_is_refused =
     inr (refl, inr (refl, inr ((codes "server.example.com", refl), inr (refl, inl (refl, λ wrong. cc)))))
 
 -- the status comes first
-pub status_200_is_refused : IsResponseRefusal sample_nonce (record { minor = 0; status = 200; headers = [] }) Status
+pub status_200_is_refused : IsResponseRefusal sample_nonce [] (record { minor = 0; status = 200; headers = [] }) Status
 status_200_is_refused = inl (refl, λ same. omega arith)
+
+-- ---- subprotocols
+
+abbrev chat : List ℕ
+chat = codes "chat"
+
+abbrev superchat : List ℕ
+superchat = codes "superchat"
+
+pub protocols_of_two_headers :
+    protocols_in ((codes "Sec-WebSocket-Protocol", codes "a,, superchat") ∷ (codes "sec-websocket-protocol", chat) ∷ [])
+    ≡ codes "a" ∷ superchat ∷ chat ∷ []
+unfolding trim_ows
+protocols_of_two_headers = refl
+
+differ : Some chat ≡ Some superchat → ⊥
+differ same = cc
+
+not_first : (other : ℕ) → slice_get (chat ∷ superchat ∷ []) other ≡ Some superchat → 1 ≤ other
+not_first zero same = absurd (differ same)
+not_first (suc other) same = omega arith
+
+-- the client's order decides, not the server's
+pub superchat_is_chosen : IsChoice (chat ∷ superchat ∷ []) (superchat ∷ chat ∷ []) (Some 1)
+superchat_is_chosen = (
+  [],
+  superchat,
+  chat ∷ [],
+  refl,
+  (λ k d below. absurd (omega (arith, below))),
+  record { there = refl; least = not_first },
+)
+
+pub equal_names_are_no_offers : ¬ (AreOffers (chat ∷ chat ∷ []))
+equal_names_are_no_offers offers = offers.distinct 0 1 [] (omega arith) (omega arith) refl
+
+pub two_names_are_one_too_many : ¬ (NamesOffered (chat ∷ []) (chat ∷ chat ∷ []))
+two_names_are_one_too_many (inl none) = cc
+two_names_are_one_too_many (inr (name, only, offered)) = cc
+
+pub another_name_was_not_offered : ¬ (NamesOffered (chat ∷ []) (superchat ∷ []))
+another_name_was_not_offered (inl none) = cc
+another_name_was_not_offered (inr (name, only, (zero, below, is))) = cc
+another_name_was_not_offered (inr (name, only, (suc k, below, is))) = absurd (omega (arith, below))
 
 -- ---- texts
 
@@ -93,6 +138,17 @@ pub request_of_sample : request_bytes (codes "server.example.com") (codes "/chat
     ++ codes "Sec-WebSocket-Key: dGhlIHNhbXBsZSBub25jZQ==\r\nSec-WebSocket-Version: 13\r\n\r\n"
 unfolding encode_symbols
 request_of_sample = refl
+
+pub request_of_two_offers : request_text (codes "a") (codes "/") sample_key (superchat ∷ chat ∷ [])
+    ≡ codes "GET / HTTP/1.1\r\nHost: a\r\nUpgrade: websocket\r\nConnection: Upgrade\r\n"
+    ++ codes "Sec-WebSocket-Key: dGhlIHNhbXBsZSBub25jZQ==\r\nSec-WebSocket-Version: 13\r\n"
+    ++ codes "Sec-WebSocket-Protocol: superchat, chat\r\n\r\n"
+request_of_two_offers = refl
+
+pub response_of_superchat : response_text sample_accept (Some superchat)
+    ≡ codes "HTTP/1.1 101 Switching Protocols\r\nUpgrade: websocket\r\nConnection: Upgrade\r\n"
+    ++ codes "Sec-WebSocket-Accept: s3pPLMBiTxaQ9kYGzzhZRbK+xOo=\r\nSec-WebSocket-Protocol: superchat\r\n\r\n"
+response_of_superchat = refl
 
 pub response_of_sample : response_bytes sample_accept
     ≡ codes "HTTP/1.1 101 Switching Protocols\r\nUpgrade: websocket\r\nConnection: Upgrade\r\n"

@@ -4,6 +4,7 @@ use Rattle.httparse.specs.Grammar.{RequestHead, ResponseHead, status_code}
 use Rattle.httparse.specs.Spans.{name_and_value}
 use Rattle.ws_upgrade.specs.Accept.{IsHandshakeKey, key_of, accept_value_of}
 use Rattle.ws_upgrade.specs.Members.{HeaderPairs, IsOnlyValue, members_of, has_member}
+use Rattle.ws_upgrade.specs.Protocols.{protocols_in, NamesOffered}
 use Rattle.ws_upgrade.specs.declared.faults.HeadFault.{HeadFault}
 use Rattle.ws_upgrade.specs.declared.faults.HeadFault.TheVariants.{Head, Method, Version, Host, Upgrade, Connection}
 use Rattle.ws_upgrade.specs.declared.faults.HeadFault.TheVariants.{Key, WsVersion, Status, Accept, Extension, Protocol}
@@ -82,31 +83,33 @@ pub record ResponseParts : Type 0 where
 abbrev pub response_parts : ResponseHead → ResponseParts
 response_parts head = record { minor = head.minor; status = status_code head; headers = map name_and_value head.fields }
 
--- what each requirement of section 4.1 asks of the response to a request with this nonce
-abbrev pub ResponseMeets : List ℕ → ResponseParts → HeadFault → Type 0
-ResponseMeets nonce response Status = response.status ≡ 101
-ResponseMeets nonce response Version = response.minor ≡ 1
-ResponseMeets nonce response Upgrade = IsTrue (has_member (codes "Upgrade") (codes "websocket") response.headers)
-ResponseMeets nonce response Connection = IsTrue (has_member (codes "Connection") (codes "upgrade") response.headers)
-ResponseMeets nonce response Accept =
+-- what each requirement of section 4.1 asks of the response to a request with this nonce and these subprotocols offered
+abbrev pub ResponseMeets : List ℕ → List (List ℕ) → ResponseParts → HeadFault → Type 0
+ResponseMeets nonce offers response Status = response.status ≡ 101
+ResponseMeets nonce offers response Version = response.minor ≡ 1
+ResponseMeets nonce offers response Upgrade =
+    IsTrue (has_member (codes "Upgrade") (codes "websocket") response.headers)
+ResponseMeets nonce offers response Connection =
+    IsTrue (has_member (codes "Connection") (codes "upgrade") response.headers)
+ResponseMeets nonce offers response Accept =
     IsOnlyValue (codes "Sec-WebSocket-Accept") response.headers (accept_value_of (key_of nonce))
-ResponseMeets nonce response Extension = members_of (codes "Sec-WebSocket-Extensions") response.headers ≡ []
-ResponseMeets nonce response Protocol = members_of (codes "Sec-WebSocket-Protocol") response.headers ≡ []
-ResponseMeets nonce response Head = ⊤
-ResponseMeets nonce response Method = ⊤
-ResponseMeets nonce response Host = ⊤
-ResponseMeets nonce response Key = ⊤
-ResponseMeets nonce response WsVersion = ⊤
-ResponseMeets nonce response TooLarge = ⊤
+ResponseMeets nonce offers response Extension = members_of (codes "Sec-WebSocket-Extensions") response.headers ≡ []
+ResponseMeets nonce offers response Protocol = NamesOffered offers (protocols_in response.headers)
+ResponseMeets nonce offers response Head = ⊤
+ResponseMeets nonce offers response Method = ⊤
+ResponseMeets nonce offers response Host = ⊤
+ResponseMeets nonce offers response Key = ⊤
+ResponseMeets nonce offers response WsVersion = ⊤
+ResponseMeets nonce offers response TooLarge = ⊤
 
 -- the order in which they are checked: ours
 abbrev pub response_order : List HeadFault
 response_order = Status ∷ Version ∷ Upgrade ∷ Connection ∷ Accept ∷ Extension ∷ Protocol ∷ []
 
 -- the response is refused with this fault
-abbrev pub IsResponseRefusal : List ℕ → ResponseParts → HeadFault → Type 0
-IsResponseRefusal nonce response fault = IsFirstUnmet (ResponseMeets nonce response) response_order fault
+abbrev pub IsResponseRefusal : List ℕ → List (List ℕ) → ResponseParts → HeadFault → Type 0
+IsResponseRefusal nonce offers response fault = IsFirstUnmet (ResponseMeets nonce offers response) response_order fault
 
 -- the response is accepted
-abbrev pub IsAcceptedResponse : List ℕ → ResponseParts → Type 0
-IsAcceptedResponse nonce response = AreMet (ResponseMeets nonce response) response_order
+abbrev pub IsAcceptedResponse : List ℕ → List (List ℕ) → ResponseParts → Type 0
+IsAcceptedResponse nonce offers response = AreMet (ResponseMeets nonce offers response) response_order

@@ -1,5 +1,6 @@
 pub mod Accept
 pub mod Members
+pub mod Protocols
 pub mod Heads
 pub mod Reading
 pub mod Texts

@@ -1,7 +1,7 @@
 -- The heads that are written: RFC 6455 sections 4.1, 4.2.2 and 4.4.
 use Rattle.std.specs.Prelude.{◌≡◌, ℕ, ◌≤◌, List, [], ◌∷◌, ◌++◌, length, codes, Bool, ◌||◌, ◌==◌, All, IsTrue, slice_get}
-use Rattle.std.specs.Prelude.{Some}
-use Rattle.std.specs.List.{flat_map, list_any}
+use Rattle.std.specs.Prelude.{Option, Some, None}
+use Rattle.std.specs.List.{flat_map, list_any, join_by}
 use Rattle.std.specs.Char.{is_ascii_alphanumeric}
 use Rattle.ws_upgrade.specs.Accept.{key_of}
 use Rattle.ws_upgrade.specs.declared.faults.HeadFault.{HeadFault}
@@ -11,9 +11,13 @@ use Rattle.ws_upgrade.specs.declared.faults.HeadFault.TheVariants.{WsVersion}
 abbrev pub line_end : List ℕ
 line_end = 13 ∷ 10 ∷ []
 
--- the bytes of a head of these lines: each with its line end, and an empty line after them
+-- the bytes of these lines, each with its line end
+abbrev pub lines_bytes : List (List ℕ) → List ℕ
+lines_bytes lines = flat_map (λ line. line ++ line_end) lines
+
+-- the bytes of a head of these lines, with an empty line after them
 abbrev pub head_bytes : List (List ℕ) → List ℕ
-head_bytes lines = flat_map (λ line. line ++ line_end) lines ++ line_end
+head_bytes lines = lines_bytes lines ++ line_end
 
 -- the first line of a request for this path
 abbrev pub request_line : List ℕ → List ℕ
@@ -40,31 +44,46 @@ slash = 47
 abbrev pub IsPath : List ℕ → Type 0
 IsPath path = (slice_get path 0 ≡ Some slash) × (length path ≤ 2048) × All (λ byte. IsTrue (is_path_byte byte)) path
 
--- the request of a client with this key (section 4.1)
-abbrev pub request_text : List ℕ → List ℕ → List ℕ → List ℕ
-request_text host path key = head_bytes (
+-- the line that names these subprotocols, where there are any (section 11.3.4)
+abbrev pub protocol_lines : List (List ℕ) → List (List ℕ)
+protocol_lines [] = []
+protocol_lines (first ∷ others) =
+    header_line (codes "Sec-WebSocket-Protocol") (join_by (λ name. name) (codes ", ") (first ∷ others)) ∷ []
+
+-- the request of a client with this key and these subprotocols offered (section 4.1)
+abbrev pub request_text : List ℕ → List ℕ → List ℕ → List (List ℕ) → List ℕ
+request_text host path key offers = head_bytes (
     request_line path
     ∷ header_line (codes "Host") host
     ∷ header_line (codes "Upgrade") (codes "websocket")
     ∷ header_line (codes "Connection") (codes "Upgrade")
     ∷ header_line (codes "Sec-WebSocket-Key") key
     ∷ header_line (codes "Sec-WebSocket-Version") (codes "13")
-    ∷ [])
+    ∷ protocol_lines offers)
 
--- the request of a client with this nonce
+-- the request of a client with this nonce that offers no subprotocol
 abbrev pub request_bytes : List ℕ → List ℕ → List ℕ → List ℕ
-request_bytes host path nonce = request_text host path (key_of nonce)
+request_bytes host path nonce = request_text host path (key_of nonce) []
 
 -- ---- what a server answers
 
--- the response that accepts, with this accept value (section 4.2.2)
-abbrev pub response_bytes : List ℕ → List ℕ
-response_bytes accept = head_bytes (
+-- the list of the one name that is chosen, or of none
+abbrev pub chosen_names : Option (List ℕ) → List (List ℕ)
+chosen_names None = []
+chosen_names (Some name) = name ∷ []
+
+-- the response that accepts, with this accept value and this subprotocol, if any (section 4.2.2)
+abbrev pub response_text : List ℕ → Option (List ℕ) → List ℕ
+response_text accept protocol = head_bytes (
     codes "HTTP/1.1 101 Switching Protocols"
     ∷ header_line (codes "Upgrade") (codes "websocket")
     ∷ header_line (codes "Connection") (codes "Upgrade")
     ∷ header_line (codes "Sec-WebSocket-Accept") accept
-    ∷ [])
+    ∷ protocol_lines (chosen_names protocol))
+
+-- the response that accepts, with this accept value and no subprotocol
+abbrev pub response_bytes : List ℕ → List ℕ
+response_bytes accept = response_text accept None
 
 -- the response that refuses: to another version it names the one that is spoken (section 4.4)
 abbrev pub refusal_bytes : HeadFault → List ℕ

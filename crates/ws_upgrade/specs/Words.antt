@@ -1,9 +1,11 @@
--- The names of what is wrong with a head, and with what a request is asked to be made of.
+-- The names of what is wrong with a head, and with what a request or a response is asked to be made of.
 use Rattle.std.specs.Prelude.{ℕ, List, codes}
 use Rattle.ws_upgrade.specs.declared.faults.HeadFault.{HeadFault}
 use Rattle.ws_upgrade.specs.declared.faults.HeadFault.TheVariants as head
 use Rattle.ws_upgrade.specs.declared.faults.RequestFault.{RequestFault}
 use Rattle.ws_upgrade.specs.declared.faults.RequestFault.TheVariants as asked
+use Rattle.ws_upgrade.specs.declared.faults.ResponseFault.{ResponseFault}
+use Rattle.ws_upgrade.specs.declared.faults.ResponseFault.TheVariants as answered
 
 abbrev pub head_fault_name : HeadFault → List ℕ
 head_fault_name head.Head = codes "Head"
@@ -24,3 +26,8 @@ abbrev pub request_fault_name : RequestFault → List ℕ
 request_fault_name asked.BadHost = codes "BadHost"
 request_fault_name asked.BadPath = codes "BadPath"
 request_fault_name asked.NoMemory = codes "NoMemory"
+request_fault_name asked.BadProtocol = codes "BadProtocol"
+
+abbrev pub response_fault_name : ResponseFault → List ℕ
+response_fault_name answered.BadProtocol = codes "BadProtocol"
+response_fault_name answered.NoMemory = codes "NoMemory"

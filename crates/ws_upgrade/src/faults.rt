@@ -1,7 +1,7 @@
-//! What is wrong with a head, and with what a request is asked to be made of.
+//! What is wrong with a head, and with what a request or a response is asked to be made of.
 
 ghost use Rattle.std.specs.Prelude.{Some};
-ghost use Rattle.ws_upgrade.specs.Words.{head_fault_name, request_fault_name};
+ghost use Rattle.ws_upgrade.specs.Words.{head_fault_name, request_fault_name, response_fault_name};
 
 use std::alloc::AllocError;
 use std::error::Error;
@@ -33,7 +33,7 @@ pub enum HeadFault {
     Accept = 10,
     /// A response names an extension, and none was offered.
     Extension = 11,
-    /// A response names a subprotocol, and none was offered.
+    /// A response names more than one subprotocol, or one that was not offered.
     Protocol = 12,
     /// The first 8192 bytes hold no whole head, or a head has more than 64 headers.
     TooLarge = 13,
@@ -64,7 +64,8 @@ impl fmt::Display for HeadFault {
 
 impl Error for HeadFault {}
 
-/// Why a request is not made: the first of these that applies.
+/// Why a request is not made. A bad list of subprotocols is told after a bad path and before want of
+/// memory.
 #[derive(Clone, Copy, Debug, PartialEq, Eq)]
 pub enum RequestFault {
     /// The host has not 1 to 255 bytes, or one of them is no visible ASCII character.
@@ -74,6 +75,9 @@ pub enum RequestFault {
     BadPath = 2,
     /// Memory ran out.
     NoMemory = 3,
+    /// More than 16 subprotocols are offered, two that are equal, or one whose name has not 1 to 64
+    /// bytes or has a byte other than letters, digits and ``!#$%&'*+-.^_`|~``.
+    BadProtocol = 4,
 }
 
 impl From<AllocError> for RequestFault {
@@ -96,8 +100,44 @@ impl fmt::Display for RequestFault {
             RequestFault::BadHost => write!(f, "BadHost"),
             RequestFault::BadPath => write!(f, "BadPath"),
             RequestFault::NoMemory => write!(f, "NoMemory"),
+            RequestFault::BadProtocol => write!(f, "BadProtocol"),
         }
     }
 }
 
 impl Error for RequestFault {}
+
+/// Why a response is not made: the first of these that applies.
+#[derive(Clone, Copy, Debug, PartialEq, Eq)]
+pub enum ResponseFault {
+    /// The name of the subprotocol has not 1 to 64 bytes, or one other than letters, digits and
+    /// ``!#$%&'*+-.^_`|~``.
+    BadProtocol = 1,
+    /// Memory ran out.
+    NoMemory = 2,
+}
+
+impl From<AllocError> for ResponseFault {
+    ghost use Rattle.std.specs.Prelude.{◌≡◌};
+    ghost use Rattle.ws_upgrade.specs.declared.faults.ResponseFault.TheVariants.{NoMemory};
+
+    ghost from_gives = { λ _ fault. fault ≡ NoMemory };
+
+    fn from(_error: AllocError) -> ResponseFault {
+        ResponseFault::NoMemory
+    }
+}
+
+/// The name of the cause.
+impl fmt::Display for ResponseFault {
+    ghost output = { λ cause. Some (response_fault_name cause) };
+
+    fn fmt<W: fmt::Write>(&self, f: &mut fmt::Formatter<W>) -> fmt::Result {
+        match *self {
+            ResponseFault::BadProtocol => write!(f, "BadProtocol"),
+            ResponseFault::NoMemory => write!(f, "NoMemory"),
+        }
+    }
+}
+
+impl Error for ResponseFault {}

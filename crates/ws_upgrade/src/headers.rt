@@ -1,12 +1,15 @@
 //! The headers of a head by name (RFC 6455 section 4.2.1, RFC 9110 section 5.1).
 
 ghost use Rattle.std.specs.Prelude.{◌≡◌, ◌<◌, ◌≤◌, ◌∷◌, [], List, ℕ, length, map, drop, All, MatchOption, IfSome};
-ghost use Rattle.std.specs.Prelude.{IsTrue, ◌↔◌};
+ghost use Rattle.std.specs.Prelude.{IsTrue, MatchResult, ◌↔◌};
 ghost use Rattle.httparse.specs.Spans.{header_bytes, IsHeaderWithin};
 ghost use Rattle.ws_upgrade.specs.Members.{IsOnlyValue, values_of, members_of, has_member};
+ghost use Rattle.ws_upgrade.specs.Protocols.{IsChoice, NamesOffered};
 ghost use Rattle.ws_upgrade.specs.Walking.{members_left};
 
+use crate::faults::HeadFault;
 use crate::members::{first_member, is_same_word};
+use crate::protocols::place_of;
 use httparse::spans::HeaderSpan;
 use std::marker::Model;
 
@@ -74,6 +77,47 @@ impl<'h, 'b> Headers<'h, 'b> {
             next = next_after;
         }
         false
+    }
+
+    /// The first member of the headers of this name that is among these names, byte for byte: its
+    /// first place among them.
+    pub(crate) fn first_known(&self, name: &[u8], known: &[&[u8]]) -> Option<usize>
+        ensures { IsChoice (map (λ other. other.now) known.now) (members_of name.now self.now) result }
+    {
+        let mut rest: &[u8] = &[];
+        let mut next = 0;
+        while let Some((member, after, next_after)) = self.next_member(name, rest, next) {
+            if let Some(place) = place_of(known, member) {
+                return Some(place);
+            }
+            rest = after;
+            next = next_after;
+        }
+        None
+    }
+
+    /// The place among the offers of what the headers of this name name, if they name anything.
+    /// `Protocol` where that is more than one member, or one that is not offered.
+    pub(crate) fn only_offered(
+        &self,
+        name: &[u8],
+        offers: &[&[u8]],
+    ) -> Result<Option<usize>, HeadFault>
+        ensures { let offered = map (λ other. other.now) offers.now in
+            let members = members_of name.now self.now in
+            MatchResult result (λ choice. NamesOffered offered members × IsChoice offered members choice)
+            (λ fault. (fault ≡ HeadFault.Protocol) × ¬ (NamesOffered offered members)) }
+    {
+        let Some((member, rest, next)) = self.next_member(name, &[], 0) else {
+            return Ok(None);
+        };
+        if self.next_member(name, rest, next).is_some() {
+            return Err(HeadFault::Protocol);
+        }
+        match place_of(offers, member) {
+            Some(place) => Ok(Some(place)),
+            None => Err(HeadFault::Protocol),
+        }
     }
 
     /// Whether the headers of this name have no member.

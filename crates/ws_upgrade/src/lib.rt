@@ -3,14 +3,17 @@
 
 mod accepting;
 mod faults;
+mod head_lines;
 mod headers;
 mod members;
+mod protocols;
 mod requests;
 mod responses;
 mod writing;
 
 pub use accepting::accept_of;
-pub use faults::{HeadFault, RequestFault};
-pub use requests::{MAX_HEAD, RequestRead, Upgrade, read_request};
-pub use responses::{ResponseRead, read_response};
-pub use writing::{refusal, request, response};
+pub use faults::{HeadFault, RequestFault, ResponseFault};
+pub use protocols::are_offers;
+pub use requests::{MAX_HEAD, RequestRead, Upgrade, read_request, read_request_with};
+pub use responses::{ResponseRead, read_response, read_response_with};
+pub use writing::{refusal, request, request_with, response, response_with};

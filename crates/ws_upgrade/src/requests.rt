@@ -1,6 +1,6 @@
 //! Reading the head of a request (RFC 6455 section 4.2.1).
 
-ghost use Rattle.std.specs.Prelude.{◌≡◌, ℕ, List, MatchOption, MatchResult};
+ghost use Rattle.std.specs.Prelude.{◌≡◌, ℕ, List, [], MatchOption, MatchResult, map};
 ghost use Rattle.httparse.specs.Grammar.{RequestHead};
 ghost use Rattle.httparse.specs.Spans.{IsRequestAt, IsRequestWithin};
 ghost use Rattle.ws_upgrade.specs.Heads.{RequestParts, request_parts, IsOnlyKey, IsRequestRefusal};
@@ -10,6 +10,7 @@ ghost use Rattle.ws_upgrade.specs.Reading.{ChecksEachRequest};
 use crate::accepting::{accept_of, is_key};
 use crate::faults::HeadFault;
 use crate::headers::Headers;
+use crate::protocols::PROTOCOL_HEADER;
 use httparse::spans::{EMPTY_HEADER_SPAN, HeaderSpan, RequestSpans, parse_request};
 use httparse::{Error, Status};
 
@@ -28,6 +29,9 @@ pub struct Upgrade<'a> {
     pub path: &'a [u8],
     /// The accept value of its key, for `response`.
     pub accept: [u8; 28],
+    /// The place, among the subprotocols that are known, of the first one that it offers and that is
+    /// known; `None` where it offers none of them.
+    pub protocol: Option<usize>,
 }
 
 /// What stands at the front of some bytes.
@@ -53,16 +57,31 @@ pub enum RequestRead<'a> {
 pub fn read_request(bytes: &[u8]) -> RequestRead<'_>
     // Of each head that stands at the front: it is accepted with its parts, or refused with the
     // first requirement that it doesn't meet.
-    ensures checked { ChecksEachRequest bytes.now result }
+    ensures checked { ChecksEachRequest [] bytes.now result }
 
     // What each answer says of the bytes.
-    ensures read { IsRequestRead bytes.now result }
+    ensures read { IsRequestRead [] bytes.now result }
+    ensures within { HoldsRequest bytes.now result }
+{
+    read_request_with(bytes, &[])
+}
+
+/// Reads the head of a request as `read_request` does, and chooses one of the subprotocols that are
+/// known: the first that the request offers and that is known, whatever the order in which they are
+/// known. Names are compared byte for byte; no request is refused for what it offers.
+pub fn read_request_with<'b>(bytes: &'b [u8], known: &[&[u8]]) -> RequestRead<'b>
+    // Of each head that stands at the front: it is accepted with its parts and the choice, or
+    // refused with the first requirement that it doesn't meet.
+    ensures checked { ChecksEachRequest (map (λ name. name.now) known.now) bytes.now result }
+
+    // What each answer says of the bytes.
+    ensures read { IsRequestRead (map (λ name. name.now) known.now) bytes.now result }
     ensures within { HoldsRequest bytes.now result }
 {
     let front = head_part(bytes);
     let mut spans = [EMPTY_HEADER_SPAN; MAX_HEADERS];
     match parse_request(front, &mut spans) {
-        Ok(Status::Complete(head)) => answer(front, &spans, head),
+        Ok(Status::Complete(head)) => answer(front, &spans, head, known),
         Ok(Status::Partial) => {
             if bytes.len() < MAX_HEAD {
                 RequestRead::Need
@@ -89,14 +108,19 @@ pub(crate) fn head_part(bytes: &[u8]) -> &[u8]
 }
 
 /// What is answered to the head that was found.
-fn answer<'b>(front: &'b [u8], spans: &[HeaderSpan], head: RequestSpans) -> RequestRead<'b>
+fn answer<'b>(
+    front: &'b [u8],
+    spans: &[HeaderSpan],
+    head: RequestSpans,
+    known: &[&[u8]],
+) -> RequestRead<'b>
     requires { IsRequestWithin front.now spans.now head }
     ensures { (grammar : RequestHead) → IsRequestAt front.now spans.now head grammar
-        → AnswersRequest (request_parts grammar) head.len result }
+        → AnswersRequest (map (λ name. name.now) known.now) (request_parts grammar) head.len result }
 {
     let headers = Headers::new(front, &spans[..head.headers]);
     let (method, target) = (head.method.of(front), head.path.of(front));
-    match check(method, target, head.version, &headers) {
+    match check(method, target, head.version, &headers, known) {
         Ok(upgrade) => RequestRead::Got {
             upgrade,
             used: head.len,
@@ -111,10 +135,12 @@ fn check<'b>(
     target: &'b [u8],
     minor: u8,
     headers: &Headers<'_, 'b>,
+    known: &[&[u8]],
 ) -> Result<Upgrade<'b>, HeadFault>
     ensures { let request : RequestParts =
         record { method = method.now; target = target.now; minor = minor; headers = headers.now }
-        in MatchResult result (λ upgrade. OpensRequest request upgrade) (λ fault. IsRequestRefusal request fault) }
+        in MatchResult result (λ upgrade. OpensRequest (map (λ name. name.now) known.now) request upgrade)
+        (λ fault. IsRequestRefusal request fault) }
 {
     if method != b"GET".as_slice() {
         return Err(HeadFault::Method);
@@ -141,6 +167,7 @@ fn check<'b>(
         host,
         path: target,
         accept: accept_of(key),
+        protocol: headers.first_known(PROTOCOL_HEADER, known),
     })
 }
 

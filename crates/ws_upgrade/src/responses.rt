@@ -1,14 +1,16 @@
 //! Reading the head of a response (RFC 6455 section 4.1).
 
-ghost use Rattle.std.specs.Prelude.{MatchResult};
+ghost use Rattle.std.specs.Prelude.{[], MatchResult, map};
 ghost use Rattle.httparse.specs.Grammar.{ResponseHead};
 ghost use Rattle.httparse.specs.Spans.{IsResponseAt, IsResponseWithin};
-ghost use Rattle.ws_upgrade.specs.Heads.{ResponseParts, response_parts, IsResponseRefusal, IsAcceptedResponse};
-ghost use Rattle.ws_upgrade.specs.Reading.{AnswersResponse, HoldsResponse, IsResponseRead, ChecksEachResponse};
+ghost use Rattle.ws_upgrade.specs.Heads.{ResponseParts, response_parts, IsResponseRefusal};
+ghost use Rattle.ws_upgrade.specs.Reading.{OpensResponse, AnswersResponse, HoldsResponse, IsResponseRead};
+ghost use Rattle.ws_upgrade.specs.Reading.{ChecksEachResponse};
 
 use crate::accepting::{accept_of, key_text};
 use crate::faults::HeadFault;
 use crate::headers::Headers;
+use crate::protocols::PROTOCOL_HEADER;
 use crate::requests::{MAX_HEAD, MAX_HEADERS, head_part};
 use httparse::spans::{EMPTY_HEADER_SPAN, HeaderSpan, ResponseSpans, parse_response};
 use httparse::{Error, Status};
@@ -21,8 +23,12 @@ const SWITCHING_PROTOCOLS: u16 = 101;
 pub enum ResponseRead {
     /// Less than a whole head: read more.
     Need,
-    /// A head that accepts the upgrade, and its length: the first frame begins there.
-    Got { used: usize },
+    /// A head that accepts the upgrade: its length, where the first frame begins, and the place
+    /// among the offers of the subprotocol that it names; `None` where it names none.
+    Got {
+        used: usize,
+        protocol: Option<usize>,
+    },
     /// The bytes are to be refused.
     Refused(HeadFault),
 }
@@ -38,16 +44,31 @@ pub enum ResponseRead {
 pub fn read_response(bytes: &[u8], nonce: [u8; 16]) -> ResponseRead
     // Of each head that stands at the front: it is accepted, or refused with the first requirement
     // that it doesn't meet.
-    ensures checked { ChecksEachResponse nonce bytes.now result }
+    ensures checked { ChecksEachResponse nonce [] bytes.now result }
 
     // What each answer says of the bytes.
-    ensures read { IsResponseRead nonce bytes.now result }
+    ensures read { IsResponseRead nonce [] bytes.now result }
+    ensures within { HoldsResponse bytes.now result }
+{
+    read_response_with(bytes, nonce, &[])
+}
+
+/// Reads the head of a response as `read_response` does, to a request that offers these
+/// subprotocols. `Protocol` comes where the response names more than one member, or one that was not
+/// offered, byte for byte.
+pub fn read_response_with(bytes: &[u8], nonce: [u8; 16], offers: &[&[u8]]) -> ResponseRead
+    // Of each head that stands at the front: it is accepted with the place of what it names, or
+    // refused with the first requirement that it doesn't meet.
+    ensures checked { ChecksEachResponse nonce (map (λ name. name.now) offers.now) bytes.now result }
+
+    // What each answer says of the bytes.
+    ensures read { IsResponseRead nonce (map (λ name. name.now) offers.now) bytes.now result }
     ensures within { HoldsResponse bytes.now result }
 {
     let front = head_part(bytes);
     let mut spans = [EMPTY_HEADER_SPAN; MAX_HEADERS];
     match parse_response(front, &mut spans) {
-        Ok(Status::Complete(head)) => answer(front, &spans, head, &nonce),
+        Ok(Status::Complete(head)) => answer(front, &spans, head, &nonce, offers),
         Ok(Status::Partial) => {
             if bytes.len() < MAX_HEAD {
                 ResponseRead::Need
@@ -63,28 +84,40 @@ pub fn read_response(bytes: &[u8], nonce: [u8; 16]) -> ResponseRead
 }
 
 /// What is answered to the head that was found.
-fn answer(front: &[u8], spans: &[HeaderSpan], head: ResponseSpans, nonce: &[u8; 16]) -> ResponseRead
+fn answer(
+    front: &[u8],
+    spans: &[HeaderSpan],
+    head: ResponseSpans,
+    nonce: &[u8; 16],
+    offers: &[&[u8]],
+) -> ResponseRead
     requires { IsResponseWithin front.now spans.now head }
     ensures { (grammar : ResponseHead) → IsResponseAt front.now spans.now head grammar
-        → AnswersResponse nonce.now (response_parts grammar) head.len result }
+        → AnswersResponse nonce.now (map (λ name. name.now) offers.now) (response_parts grammar) head.len result }
 {
     let headers = Headers::new(front, &spans[..head.headers]);
-    match check(head.code, head.version, &headers, nonce) {
-        Ok(()) => ResponseRead::Got { used: head.len },
+    match check(head.code, head.version, &headers, nonce, offers) {
+        Ok(protocol) => ResponseRead::Got {
+            used: head.len,
+            protocol,
+        },
         Err(fault) => ResponseRead::Refused(fault),
     }
 }
 
-/// Whether a response accepts, or the first requirement that it doesn't meet.
+/// The place among the offers of what an accepting response names, or the first requirement that a
+/// response doesn't meet.
 fn check(
     status: u16,
     minor: u8,
     headers: &Headers<'_, '_>,
     nonce: &[u8; 16],
-) -> Result<(), HeadFault>
+    offers: &[&[u8]],
+) -> Result<Option<usize>, HeadFault>
     ensures { let response : ResponseParts = record { minor = minor; status = status; headers = headers.now }
-        in MatchResult result (λ _. IsAcceptedResponse nonce.now response)
-        (λ fault. IsResponseRefusal nonce.now response fault) }
+        in let offered = map (λ name. name.now) offers.now
+        in MatchResult result (λ protocol. OpensResponse nonce.now offered response protocol)
+        (λ fault. IsResponseRefusal nonce.now offered response fault) }
 {
     if status != SWITCHING_PROTOCOLS {
         return Err(HeadFault::Status);
@@ -104,8 +137,6 @@ fn check(
     if !headers.has_no_member(b"Sec-WebSocket-Extensions") {
         return Err(HeadFault::Extension);
     }
-    if !headers.has_no_member(b"Sec-WebSocket-Protocol") {
-        return Err(HeadFault::Protocol);
-    }
-    Ok(())
+    let protocol = headers.only_offered(PROTOCOL_HEADER, offers)?;
+    Ok(protocol)
 }

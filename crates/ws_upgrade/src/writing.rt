@@ -1,11 +1,15 @@
 //! The heads that are written (RFC 6455 sections 4.1, 4.2.2 and 4.4).
 
-ghost use Rattle.std.specs.Prelude.{◌≡◌, ◌++◌, ◌↔◌, IsTrue, IfOk, OnOk, IsErrOf};
-ghost use Rattle.ws_upgrade.specs.Texts.{line_end, request_line, header_line, IsHost, is_path_byte, IsPath};
-ghost use Rattle.ws_upgrade.specs.Texts.{request_text, request_bytes, response_bytes, refusal_bytes};
+ghost use Rattle.std.specs.Prelude.{◌≡◌, ◌↔◌, IsTrue, IfOk, OnOk, IsErrOf, map, option_map};
+ghost use Rattle.ws_upgrade.specs.Accept.{key_of};
+ghost use Rattle.ws_upgrade.specs.Protocols.{AreOffers, CanBeNamed};
+ghost use Rattle.ws_upgrade.specs.Texts.{IsHost, is_path_byte, IsPath, request_text, request_bytes};
+ghost use Rattle.ws_upgrade.specs.Texts.{response_text, response_bytes, refusal_bytes};
 
 use crate::accepting::key_text;
-use crate::faults::{HeadFault, RequestFault};
+use crate::faults::{HeadFault, RequestFault, ResponseFault};
+use crate::head_lines::{push_chosen, push_header, push_protocols, push_request_line};
+use crate::protocols::{are_offers, is_protocol_name};
 use std::alloc::{AllocError, Global};
 use ws_base::NoMemory;
 
@@ -42,7 +46,34 @@ pub fn request(
     // Which refusal it is.
     ensures bad_host { IsErrOf result RequestFault.BadHost ↔ ¬ (IsHost host.now) }
     ensures bad_path { IsErrOf result RequestFault.BadPath ↔ (IsHost host.now × ¬ (IsPath path.now)) }
+    ensures bad_protocol { ¬ (IsErrOf result RequestFault.BadProtocol) }
     ensures memory { IsErrOf result RequestFault.NoMemory → (IsHost host.now × IsPath path.now) }
+{
+    let text = request_with(alloc, host, path, nonce, &[])?;
+    Ok(text)
+}
+
+/// The head of `request` that also offers subprotocols, in this order: at most 16 names, no two of
+/// them equal. A name has 1 to 64 bytes: letters, digits and ``!#$%&'*+-.^_`|~``.
+pub fn request_with(
+    alloc: Global,
+    host: &[u8],
+    path: &[u8],
+    nonce: [u8; 16],
+    offers: &[&[u8]],
+) -> Result<Vec<u8>, RequestFault>
+    ensures text { IfOk result (λ text. text.items
+        ≡ request_text host.now path.now (key_of nonce) (map (λ name. name.now) offers.now)) }
+    ensures asked { OnOk result
+        (IsHost host.now × IsPath path.now × AreOffers (map (λ name. name.now) offers.now)) }
+
+    // Which refusal it is.
+    ensures bad_host { IsErrOf result RequestFault.BadHost ↔ ¬ (IsHost host.now) }
+    ensures bad_path { IsErrOf result RequestFault.BadPath ↔ (IsHost host.now × ¬ (IsPath path.now)) }
+    ensures bad_protocol { IsErrOf result RequestFault.BadProtocol
+        ↔ (IsHost host.now × IsPath path.now × ¬ (AreOffers (map (λ name. name.now) offers.now))) }
+    ensures memory { IsErrOf result RequestFault.NoMemory
+        → (IsHost host.now × IsPath path.now × AreOffers (map (λ name. name.now) offers.now)) }
 {
     if !is_host(host) {
         return Err(RequestFault::BadHost);
@@ -50,7 +81,10 @@ pub fn request(
     if !is_path(path) {
         return Err(RequestFault::BadPath);
     }
-    let text = request_text(alloc, host, path, &key_text(&nonce))?;
+    if !are_offers(offers) {
+        return Err(RequestFault::BadProtocol);
+    }
+    let text = request_text(alloc, host, path, &key_text(&nonce), offers)?;
     Ok(text)
 }
 
@@ -58,12 +92,31 @@ pub fn request(
 pub fn response(alloc: Global, accept: &[u8; 28]) -> Result<Vec<u8>, NoMemory>
     ensures { IfOk result (λ text. text.items ≡ response_bytes accept.now) }
 {
-    let mut text = Vec::new(alloc);
-    text.extend_from_slice(b"HTTP/1.1 101 Switching Protocols\r\n")?;
-    push_header(&mut text, b"Upgrade", b"websocket")?;
-    push_header(&mut text, b"Connection", b"Upgrade")?;
-    push_header(&mut text, b"Sec-WebSocket-Accept", accept)?;
-    text.extend_from_slice(b"\r\n")?;
+    let text = response_text(alloc, accept, None)?;
+    Ok(text)
+}
+
+/// The head with which a server accepts, with the accept value of the client's key and the name of
+/// the subprotocol that it chose, if any.
+pub fn response_with(
+    alloc: Global,
+    accept: &[u8; 28],
+    protocol: Option<&[u8]>,
+) -> Result<Vec<u8>, ResponseFault>
+    ensures text { IfOk result (λ text. text.items
+        ≡ response_text accept.now (option_map (λ name. name.now) protocol.entry)) }
+    ensures named { OnOk result (CanBeNamed (option_map (λ name. name.now) protocol.entry)) }
+
+    // Which refusal it is.
+    ensures bad_protocol { IsErrOf result ResponseFault.BadProtocol
+        ↔ ¬ (CanBeNamed (option_map (λ name. name.now) protocol.entry)) }
+    ensures memory { IsErrOf result ResponseFault.NoMemory
+        → CanBeNamed (option_map (λ name. name.now) protocol.entry) }
+{
+    if !can_be_named(protocol) {
+        return Err(ResponseFault::BadProtocol);
+    }
+    let text = response_text(alloc, accept, protocol)?;
     Ok(text)
 }
 
@@ -102,9 +155,26 @@ fn is_path_byte(byte: u8) -> bool
     byte.is_ascii_alphanumeric() || b"/-._~?=&%".contains(&byte)
 }
 
-/// The request of a client with this key.
-fn request_text(alloc: Global, host: &[u8], path: &[u8], key: &[u8]) -> Result<Vec<u8>, AllocError>
-    ensures { IfOk result (λ text. text.items ≡ request_text host.now path.now key.now) }
+/// Whether a response can name this subprotocol, if any.
+fn can_be_named(protocol: Option<&[u8]>) -> bool
+    ensures { IsTrue result ↔ CanBeNamed (option_map (λ name. name.now) protocol.entry) }
+{
+    match protocol {
+        Some(name) => is_protocol_name(name),
+        None => true,
+    }
+}
+
+/// The request of a client with this key that offers these subprotocols.
+fn request_text(
+    alloc: Global,
+    host: &[u8],
+    path: &[u8],
+    key: &[u8],
+    offers: &[&[u8]],
+) -> Result<Vec<u8>, AllocError>
+    ensures { IfOk result (λ text. text.items
+        ≡ request_text host.now path.now key.now (map (λ name. name.now) offers.now)) }
 {
     let mut text = Vec::new(alloc);
     push_request_line(&mut text, path)?;
@@ -113,27 +183,26 @@ fn request_text(alloc: Global, host: &[u8], path: &[u8], key: &[u8]) -> Result<V
     push_header(&mut text, b"Connection", b"Upgrade")?;
     push_header(&mut text, b"Sec-WebSocket-Key", key)?;
     push_header(&mut text, b"Sec-WebSocket-Version", b"13")?;
+    push_protocols(&mut text, offers)?;
     text.extend_from_slice(b"\r\n")?;
     Ok(text)
 }
 
-/// Adds the first line of a request.
-fn push_request_line(text: &mut Vec<u8>, path: &[u8]) -> Result<(), AllocError>
-    ensures { OnOk result (text.new.items ≡ text.old.items ++ (request_line path.now ++ line_end)) }
+/// The response with this accept value and this subprotocol, if any.
+fn response_text(
+    alloc: Global,
+    accept: &[u8; 28],
+    protocol: Option<&[u8]>,
+) -> Result<Vec<u8>, AllocError>
+    ensures { IfOk result (λ text. text.items
+        ≡ response_text accept.now (option_map (λ name. name.now) protocol.entry)) }
 {
-    text.extend_from_slice(b"GET ")?;
-    text.extend_from_slice(path)?;
-    text.extend_from_slice(b" HTTP/1.1\r\n")?;
-    Ok(())
-}
-
-/// Adds the line of a header.
-fn push_header(text: &mut Vec<u8>, name: &[u8], value: &[u8]) -> Result<(), AllocError>
-    ensures { OnOk result (text.new.items ≡ text.old.items ++ (header_line name.now value.now ++ line_end)) }
-{
-    text.extend_from_slice(name)?;
-    text.extend_from_slice(b": ")?;
-    text.extend_from_slice(value)?;
+    let mut text = Vec::new(alloc);
+    text.extend_from_slice(b"HTTP/1.1 101 Switching Protocols\r\n")?;
+    push_header(&mut text, b"Upgrade", b"websocket")?;
+    push_header(&mut text, b"Connection", b"Upgrade")?;
+    push_header(&mut text, b"Sec-WebSocket-Accept", accept)?;
+    push_chosen(&mut text, protocol)?;
     text.extend_from_slice(b"\r\n")?;
-    Ok(())
+    Ok(text)
 }

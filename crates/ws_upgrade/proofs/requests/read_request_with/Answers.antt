@@ -1,14 +1,14 @@
-use Rattle.std.proofs.Common.{rules, arith, inr}
+use Rattle.std.proofs.Common.{rules, arith, inr, map}
 use Rattle.httparse.specs.Spans.{IsRequestOf}
 use Rattle.httparse.specs.Grammar.{HasNoRequest, MayBecomeRequest}
 use Rattle.ws_upgrade.proofs.HeadCheck.{few_fields, request_held, request_read}
-use Rattle.ws_upgrade.proofs.requests.read_request.Goals as goal
+use Rattle.ws_upgrade.proofs.requests.read_request_with.Goals as goal
 
 pub returns-in-Ok-Complete-clause-read : goal.returns-in-Ok-Complete-clause-read
 returns-in-Ok-Complete-clause-read c =
     let found : IsRequestOf c.head_part-front.result.now c.parse_request.new.headers c.in-Ok-Complete.head = search rules in
     let at = found.1 in
-    request_read c.args.bytes.now c.answer.result (
+    request_read (map (λ name. name.now) c.args.known.now) c.args.bytes.now c.answer.result (
       found.0,
       c.in-Ok-Complete.head.len,
       record { reads = rw (← c.head_part-front.ensures) at.reads; whole = at.len; headers = few_fields c.head_part-front.result.now c.parse_request.new.headers c.in-Ok-Complete.head.headers found.0.fields at.fields c.parse_request.auto.headers },
@@ -23,4 +23,4 @@ returns-else-bytes-lt-MAX_HEAD-clause-read c =
     inr (omega arith, rw (← c.head_part-front.ensures) (none, may))
 
 pub returns-in-Ok-Complete-clause-within : goal.returns-in-Ok-Complete-clause-within
-returns-in-Ok-Complete-clause-within c = request_held c.args.bytes.now c.answer.result (returns-in-Ok-Complete-clause-read c)
+returns-in-Ok-Complete-clause-within c = request_held (map (λ name. name.now) c.args.known.now) c.args.bytes.now c.answer.result (returns-in-Ok-Complete-clause-read c)

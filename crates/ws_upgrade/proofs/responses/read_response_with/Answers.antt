@@ -1,14 +1,14 @@
-use Rattle.std.proofs.Common.{rules, arith, inr}
+use Rattle.std.proofs.Common.{rules, arith, inr, map}
 use Rattle.httparse.specs.Spans.{IsResponseOf}
 use Rattle.httparse.specs.Grammar.{HasNoResponse, MayBecomeResponse}
 use Rattle.ws_upgrade.proofs.HeadCheck.{few_fields, response_held, response_read}
-use Rattle.ws_upgrade.proofs.responses.read_response.Goals as goal
+use Rattle.ws_upgrade.proofs.responses.read_response_with.Goals as goal
 
 pub returns-in-Ok-Complete-clause-read : goal.returns-in-Ok-Complete-clause-read
 returns-in-Ok-Complete-clause-read c =
     let found : IsResponseOf c.head_part-front.result.now c.parse_response.new.headers c.in-Ok-Complete.head = search rules in
     let at = found.1 in
-    response_read c.args.nonce c.args.bytes.now c.answer.result (
+    response_read c.args.nonce (map (λ name. name.now) c.args.offers.now) c.args.bytes.now c.answer.result (
       found.0,
       c.in-Ok-Complete.head.len,
       record { reads = rw (← c.head_part-front.ensures) at.reads; whole = at.len; headers = few_fields c.head_part-front.result.now c.parse_response.new.headers c.in-Ok-Complete.head.headers found.0.fields at.fields c.parse_response.auto.headers },
@@ -23,4 +23,4 @@ returns-else-bytes-lt-MAX_HEAD-clause-read c =
     inr (omega arith, rw (← c.head_part-front.ensures) (none, may))
 
 pub returns-in-Ok-Complete-clause-within : goal.returns-in-Ok-Complete-clause-within
-returns-in-Ok-Complete-clause-within c = response_held c.args.nonce c.args.bytes.now c.answer.result (returns-in-Ok-Complete-clause-read c)
+returns-in-Ok-Complete-clause-within c = response_held c.args.nonce (map (λ name. name.now) c.args.offers.now) c.args.bytes.now c.answer.result (returns-in-Ok-Complete-clause-read c)
