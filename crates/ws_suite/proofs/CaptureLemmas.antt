@@ -28,7 +28,7 @@ peer_not_broken e = absurd cc
 
 -- ---- the lines are lines
 
-words_are_line : (line : Line) → HasLineBytes line → IsLine (line_words line)
+pub words_are_line : (line : Line) → HasLineBytes line → IsLine (line_words line)
 words_are_line (Sent bytes) h = line_of (62 ∷ 32 ∷ hex bytes) (omega arith, (omega arith, hex_no_feed bytes h.1))
 words_are_line (Got bytes) h = line_of (60 ∷ 32 ∷ hex bytes) (omega arith, (omega arith, hex_no_feed bytes h.1))
 

@@ -30,7 +30,7 @@ got_is (b ∷ bytes) = sym (append-nil _ ∙ ap (λ (l : List ℕ). 60 ∷ 32 �
 ended_joined : (a b : List Line) → ended (map line_words (a ++ b)) ≡ ended (map line_words a) ++ ended (map line_words b)
 ended_joined a b = ap (λ (l : List (List ℕ)). ended l) (map-append line_words a b) ∙ flat_map-append (λ (l : List ℕ). l ++ 10 ∷ []) (map line_words a) (map line_words b)
 
-turn_is : (turn : Turn) → turn_text turn ≡ ended (map line_words (lines_of_turn turn))
+pub turn_is : (turn : Turn) → turn_text turn ≡ ended (map line_words (lines_of_turn turn))
 turn_is turn = ap₂ (λ (a b : List ℕ). a ++ b) (sent_is turn.sent) (got_is turn.got) ∙ sym (ended_joined (line_if_any Sent turn.sent) (line_if_any Got turn.got))
 
 turns_are : (turns : List Turn) → flat_map turn_text turns ≡ ended (map line_words (flat_map lines_of_turn turns))
@@ -56,7 +56,7 @@ written_as transcript =
 digit_length : (d : ℕ) → d < 16 → length (digits 16 false d) ≡ 1
 digit_length d small = ap (λ (l : List ℕ). length l) (hex_one_digit false d small)
 
-hex_two : (b : ℕ) (bytes : List ℕ) → AreBytes (b ∷ bytes) → 2 ≤ length (hex (b ∷ bytes))
+pub hex_two : (b : ℕ) (bytes : List ℕ) → AreBytes (b ∷ bytes) → 2 ≤ length (hex (b ∷ bytes))
 hex_two b bytes are =
     let small : b < 256 = are 0 in
     omega (arith, digit_length (b / 16) (omega arith), digit_length (b % 16) (omega arith), length-append (digits 16 false (b / 16)) (digits 16 false (b % 16)), length-append (digits 16 false (b / 16) ++ digits 16 false (b % 16)) (hex bytes))

@@ -9,3 +9,14 @@ mod JudgeLemmas
 mod LastBytes
 mod OneVerdict
 mod OneCapture
+mod ValidDirections
+mod WorkedVerdicts
+mod Capture2Lines
+mod Capture2Lemmas
+mod Capture2Texts
+mod OneCapture2
+mod AnsweredEvents
+mod AnsweredTurns
+mod FairVerdict
+mod TurnsAdded
+mod FairEvidence

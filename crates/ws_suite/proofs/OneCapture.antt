@@ -27,10 +27,10 @@ some_hex [] some = absurd (omega arith)
 some_hex (b ∷ bytes) some = refl
 
 module _ (one : SpellsOne) where
-  same_bytes : (x y : List ℕ) → (0 < length x) × AreBytes x → (0 < length y) × AreBytes y → hex x ≡ hex y → x ≡ y
+  pub same_bytes : (x y : List ℕ) → (0 < length x) × AreBytes x → (0 < length y) × AreBytes y → hex x ≡ hex y → x ≡ y
   same_bytes x y h i e = one x y (hex x) (h.1, some_hex x h.0) (i.1, e ∙ some_hex y i.0)
 
-  same_line : (a b : Line) → HasLineBytes a → HasLineBytes b → line_words a ≡ line_words b → a ≡ b
+  pub same_line : (a b : Line) → HasLineBytes a → HasLineBytes b → line_words a ≡ line_words b → a ≡ b
   same_line (Sent x) (Sent y) h i e = ap Sent (same_bytes x y h i (append_cancel_left (codes "> ") (hex x) (hex y) e))
   same_line (Sent x) (Got y) h i e = absurd (heads_differ 60 62 (32 ∷ hex y) (32 ∷ hex x) (omega arith) (sym e))
   same_line (Got x) (Sent y) h i e = absurd (heads_differ 60 62 (32 ∷ hex x) (32 ∷ hex y) (omega arith) e)
@@ -62,7 +62,7 @@ module _ (one : SpellsOne) where
       let later = same_lines xs ys a b h.1 i.1 n m tail in
       (ap₂ (λ (z : Line) (zs : List Line). z ∷ zs) (same_line x y h.0 i.0 first) later.0, later.1)
 
-  no_lines : (lines : List (List ℕ)) → [] ≡ ended lines → lines ≡ []
+  pub no_lines : (lines : List (List ℕ)) → [] ≡ ended lines → lines ≡ []
   no_lines [] e = refl
   no_lines (line ∷ lines) e = absurd (no_line_empty line (ended lines) (sym (e ∙ ended_first line lines)))
 

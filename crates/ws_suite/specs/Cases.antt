@@ -4,7 +4,7 @@ use Rattle.std.specs.List.{list_all}
 use Rattle.ws_suite.specs.declared.script.Chop.{Chop}
 use Rattle.ws_suite.specs.declared.script.Chop.TheVariants.{Whole, PerFrame, Octets}
 use Rattle.ws_suite.specs.declared.cases.row.Act.{Act}
-use Rattle.ws_suite.specs.declared.cases.row.Act.TheVariants.{Fin, Part, Reserved, ByteByByte, Pause}
+use Rattle.ws_suite.specs.declared.cases.row.Act.TheVariants.{Fin, Part, Reserved, ByteByByte, Bare, Pause}
 use Rattle.ws_suite.specs.declared.cases.row.Row.{Row}
 use Rattle.ws_suite.specs.declared.cases.row.Section.{Section}
 use Rattle.ws_suite.specs.declared.cases.row.Section.TheVariants.{Rows, Texts, Joined, Fronts, NonCharacters, Codes}
@@ -14,6 +14,7 @@ act_fits (Fin opcode payload) = nat_lt opcode 16
 act_fits (Part opcode payload) = nat_lt opcode 16
 act_fits (Reserved rsv opcode payload) = nat_lt rsv 8 && nat_lt opcode 16
 act_fits (ByteByByte bytes) = true
+act_fits (Bare bytes) = true
 act_fits Pause = true
 
 abbrev pub chop_fits : Chop → Bool

@@ -1,13 +1,16 @@
 -- Inside the crate: how the evidence of a direction is collected, turn by turn. A reader may skip this file.
-use Rattle.std.specs.Prelude.{◌≡◌, ℕ, ◌↔◌, max, true, false, List, [], ◌∷◌, ◌++◌, map, flat_map, None}
-use Rattle.std.specs.List.{concat, last_or}
+use Rattle.std.specs.Prelude.{◌≡◌, ℕ, ◌≤◌, ◌↔◌, max, true, false, List, [], ◌∷◌, ◌++◌, map, take, flat_map, None}
+use Rattle.std.specs.List.{AllByRecursion, concat, last_or}
 use Rattle.ws_frame.specs.declared.role.Role.{Role}
 use Rattle.ws_frame.specs.declared.role.Role.TheVariants.{Client, Server}
-use Rattle.ws_frame.specs.Frame.{Frame}
+use Rattle.ws_frame.specs.Frame.{Frame, KeyedFrame, FitsTheLayout, stream_bytes}
 use Rattle.ws_session.specs.declared.event.Event.{Event}
 use Rattle.ws_session.specs.declared.event.PlacedEvent.{PlacedEvent}
 use Rattle.ws_session.specs.Limits.{LimitsValue}
 use Rattle.ws_session.specs.Events.{HasEvents}
+use Rattle.ws_session.specs.Faults.{KeysFit, frames_of}
+use Rattle.ws_session.specs.Reach.{events_within, first_passing, fitting}
+use Rattle.ws_session.specs.Validity.{AreValidFrames}
 use Rattle.ws_session.specs.Exchange.{SessionValue, HasExchanged}
 use Rattle.ws_session.specs.Sends.{most_limits}
 use Rattle.ws_suite.specs.declared.transcript.Turn.{Turn}
@@ -68,3 +71,13 @@ pub record SessionLaws : Type 0 where
   pub go_on : (role : Role) (limits : LimitsValue) (bytes more : List ℕ) (events all : List Event)
       → HasEvents role limits bytes events → HasEvents role limits (bytes ++ more) all
       → (later : List Event) × (all ≡ events ++ later)
+
+-- those that speak of valid frames
+pub record FrameLaws : Type 0 where
+  pub one_list : (role : Role) (limits : LimitsValue) (bytes : List ℕ) (events others : List Event)
+      → HasEvents role limits bytes events → HasEvents role limits bytes others → events ≡ others
+  pub told : (role : Role) (limits most : LimitsValue) (n : ℕ) (xs : List KeyedFrame)
+      → AllByRecursion FitsTheLayout xs → KeysFit role xs → AreValidFrames most (frames_of xs)
+      → HasEvents role limits (take n (stream_bytes xs)) (events_within limits n xs)
+  pub fit : (limits most : LimitsValue) (xs : List KeyedFrame) → AreValidFrames most (frames_of xs)
+      → most.max_message ≤ limits.max_message → (fitting limits xs ≡ xs) × (first_passing limits xs ≡ None)

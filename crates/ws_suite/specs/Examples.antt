@@ -1,13 +1,16 @@
--- Worked examples of scripts, captures and matched pongs, each a theorem, and transcripts for more of them.
-use Rattle.std.specs.Prelude.{◌≡◌, ⊤, ℕ, true, List, [], ◌∷◌, Some, None, codes, refl}
+-- Worked examples of scripts, captures, matched pongs and an echo's answers, each a theorem. The law `worked_verdicts`
+-- has verdicts on the transcripts that stand last.
+use Rattle.std.specs.Prelude.{◌≡◌, ⊤, ℕ, true, false, List, [], ◌∷◌, Some, None, codes, refl}
 use Rattle.std.proofs.Common.{lit≤}
 use Rattle.std.specs.Fmt.{digits}
+use Rattle.ws_session.specs.declared.reason.Reason.TheVariants.{Opcode}
+use Rattle.ws_session.specs.declared.event.Event.TheVariants as event
 use Rattle.ws_suite.specs.declared.script.Step.{Step}
 use Rattle.ws_suite.specs.declared.script.Step.TheVariants.{Frame, Raw, Wait}
 use Rattle.ws_suite.specs.declared.script.Chop.TheVariants.{Octets, PerFrame, Whole}
 use Rattle.ws_suite.specs.declared.transcript.Turn.{Turn}
 use Rattle.ws_suite.specs.declared.transcript.Ended.{Ended}
-use Rattle.ws_suite.specs.declared.transcript.Ended.TheVariants.{Broken}
+use Rattle.ws_suite.specs.declared.transcript.Ended.TheVariants.{Broken, Tester}
 use Rattle.ws_suite.specs.declared.transcript.Transcript.{Transcript}
 use Rattle.ws_suite.specs.declared.capture.Line.TheVariants.{Sent, Got}
 use Rattle.ws_suite.specs.declared.evidence.InTurn.{InTurn}
@@ -15,7 +18,9 @@ use Rattle.ws_suite.specs.declared.evidence.Reply.{Reply}
 use Rattle.ws_suite.specs.declared.evidence.Reply.TheVariants as reply
 use Rattle.ws_suite.specs.Scripts.{ArePieces, turn_bytes, turns_of}
 use Rattle.ws_suite.specs.Captures.{run_together, turns_in, written_capture}
+use Rattle.ws_suite.specs.Captures2.{written_capture2}
 use Rattle.ws_suite.specs.Verdicts.{matches_of}
+use Rattle.ws_suite.specs.Fairness.{echo_bytes, ends_echo}
 
 -- what is computed at numbers that are written out
 unfoldable on_numbers : ⊤
@@ -71,6 +76,24 @@ pub lines_of_two_turns : written_capture (record {
 unfolding on_numbers
 lines_of_two_turns = refl
 
+-- in format 2 each turn is kept, also one without bytes, and so are the key and a connection that broke
+pub kept_lines : written_capture2 (record {
+  key = Some (0x37 ∷ 0xfa ∷ 0x21 ∷ 0x3d ∷ []);
+  transcript = record {
+    turns = turn_of (0x89 ∷ 0x00 ∷ []) [] ∷ turn_of [] [] ∷ turn_of [] (0x8a ∷ 0x00 ∷ []) ∷ [];
+    ended = Broken;
+  };
+}) ≡ codes "wst-capture 2\nkey 37fa213d\nturn\n> 8900\nturn\nturn\n< 8a00\nend broken\n"
+unfolding on_numbers
+kept_lines = refl
+
+pub kept_lines_without_a_key : written_capture2 (record {
+  key = None;
+  transcript = record { turns = turn_of (0x89 ∷ 0x00 ∷ []) (0x8a ∷ 0x00 ∷ []) ∷ []; ended = Tester };
+}) ≡ codes "wst-capture 2\nkey -\nturn\n> 8900\n< 8a00\nend tester\n"
+unfolding on_numbers
+kept_lines_without_a_key = refl
+
 -- a turn begins with the first line, and with each sent line that follows a got line
 pub turns_of_lines :
     turns_in (Sent (1 ∷ []) ∷ Sent (2 ∷ []) ∷ Got (3 ∷ []) ∷ Sent (4 ∷ []) ∷ Got (5 ∷ []) ∷ Got (6 ∷ []) ∷ [])
@@ -104,7 +127,21 @@ pub matched_after_another :
     ≡ (pong 0 (2 ∷ []), None) ∷ (pong 0 (1 ∷ []), Some (pong 0 (1 ∷ []))) ∷ []
 matched_after_another = refl
 
--- ---- transcripts
+-- ---- an echo's answers
+
+pub a_ping_echoed : echo_bytes (event.Ping (7 ∷ []) ∷ event.Part ∷ []) ≡ 0x8a ∷ 0x01 ∷ 7 ∷ []
+a_ping_echoed = refl
+
+pub a_fault_closed : echo_bytes (event.Failed Opcode ∷ []) ≡ 0x88 ∷ 0x02 ∷ 0x03 ∷ 0xea ∷ []
+a_fault_closed = refl
+
+pub ended_by_a_close : ends_echo (event.Ping [] ∷ event.Close None ∷ []) ≡ true
+ended_by_a_close = refl
+
+pub not_ended_by_a_ping : ends_echo (event.Ping [] ∷ []) ≡ false
+not_ended_by_a_ping = refl
+
+-- ---- transcripts for `worked_verdicts`
 
 -- an empty ping under a key of zeros, and the pong that answers it
 abbrev pub ping_sent : List ℕ

@@ -2,8 +2,12 @@ pub mod Scripts
 pub mod Evidence
 pub mod Collecting
 pub mod Verdicts
+pub mod Fairness
+pub mod EchoReplyLaws
 pub mod Captures
+pub mod Captures2
 pub mod Capturing
+pub mod Capturing2
 pub mod Judging
 pub mod Cases
 pub mod Words

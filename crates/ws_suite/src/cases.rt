@@ -1,9 +1,10 @@
-//! The cases: 240 scripts in seven groups, each a module with rows as they stand in the table of cases. `case` and
-//! `ids` read the same rows.
+//! The cases: 240 scripts in seven groups, each a module with rows as they stand in the table of cases, and six more
+//! that are run only where they are named. `case` and `ids` read the same rows.
 
 mod closes;
 mod fragments;
 mod framing;
+mod hostile;
 mod opcodes;
 mod payloads;
 mod pings;
@@ -28,7 +29,7 @@ use ws_base::{NoMemory, Sequence};
 pub fn case(alloc: Global, id: &str) -> Result<Option<Case>, NoMemory>
     ensures { IfOk result (λ found. IfSome found (λ case. CanBeRun case × (string_bytes case.id ≡ id.now))) }
 {
-    for part in 0..PARTS {
+    for part in 0..ALL_PARTS {
         let found = case_in(alloc, sections(part), id)?;
         if found.is_some() {
             return Ok(found);
@@ -51,10 +52,10 @@ fn case_in(alloc: Global, sections: &[Section], id: &str) -> Result<Option<Case>
     Ok(None)
 }
 
-/// The names of all cases, in the order of the table.
+/// The names of the 240 cases, in the order of the table. The six whose names begin with `x` are not among them.
 pub fn ids(alloc: Global) -> Result<Sequence<String>, NoMemory> {
     let mut ids = Vec::new(alloc);
-    for part in 0..PARTS {
+    for part in 0..LISTED_PARTS {
         for section in sections(part) {
             push_names(alloc, *section, &mut ids)?;
         }
@@ -70,10 +71,14 @@ fn push_names(alloc: Global, section: Section, ids: &mut Vec<String>) -> Result<
     Ok(())
 }
 
-/// How many parts the table of cases has.
-const PARTS: usize = 8;
+/// How many parts of the table of cases `ids` lists.
+const LISTED_PARTS: usize = 8;
 
-/// A part of the table of cases. The groups stand in their order, the sixth in two parts.
+/// How many parts it has.
+const ALL_PARTS: usize = 9;
+
+/// A part of the table of cases. The groups stand in their order, the sixth in two parts, and then the cases that are
+/// not listed.
 fn sections(part: usize) -> &'static [Section]
     ensures { list_all section_fits result.now ≡ true }
 {
@@ -86,6 +91,7 @@ fn sections(part: usize) -> &'static [Section]
         5 => utf8::sections(),
         6 => sequences::sections(),
         7 => closes::sections(),
+        8 => hostile::sections(),
         _ => &[],
     }
 }

@@ -1,6 +1,7 @@
 //! The laws of the layer below, for proofs.
 
-ghost use Rattle.ws_suite.specs.Collecting.{SessionLaws};
+ghost use Rattle.ws_suite.specs.Collecting.{FrameLaws, SessionLaws};
+ghost use Rattle.ws_suite.specs.EchoReplyLaws.{EchoReplyLaws};
 
 use ws_session::laws;
 
@@ -10,4 +11,27 @@ pub(crate) fn session_laws()
 {
     laws::one_list_of_events();
     laws::events_go_on();
+}
+
+/// Those that speak of valid frames.
+pub(crate) fn frame_laws()
+    ensures { FrameLaws }
+{
+    laws::one_list_of_events();
+    laws::valid_frames_are_told();
+    laws::greater_limits_pass_none();
+}
+
+/// Those that speak of what an echo owes.
+pub(crate) fn echo_reply_laws()
+    ensures { EchoReplyLaws }
+{
+    frame_laws();
+    session_laws();
+    laws::every_stream_has_events();
+    laws::the_end_comes_last();
+    laws::replies_go_on();
+    laws::echo_replies_stay_valid();
+    laws::echo_replies_can_be_sent();
+    laws::keys_fit_the_other_role();
 }

@@ -16,7 +16,9 @@ mod script;
 mod transcript;
 mod verdict;
 
-pub use capture::{CaptureFault, read_capture, write_capture};
+pub use capture::{
+    Capture, CaptureFault, read_capture, read_capture2, write_capture, write_capture2,
+};
 pub use cases::{case, ids};
 pub use cutting::turns;
 pub use judging::judge;

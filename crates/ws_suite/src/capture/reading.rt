@@ -12,7 +12,7 @@ use std::alloc::Global;
 use ws_base::{LineFault, NoMemory, Payload, Sequence, cut_line, read_hex};
 
 /// The first line.
-const FIRST_LINE: &[u8] = b"wst-capture 1";
+pub(crate) const FIRST_LINE: &[u8] = b"wst-capture 1";
 
 /// The transcript of a capture in format 1.
 pub fn read_capture(alloc: Global, text: &[u8]) -> Result<Transcript, CaptureFault>
@@ -69,7 +69,7 @@ fn read_line(alloc: Global, line: &[u8]) -> Result<CaptureLine, LineFault>
 }
 
 /// A line with bytes.
-fn read_data(alloc: Global, line: &[u8]) -> Result<Line, LineFault>
+pub(crate) fn read_data(alloc: Global, line: &[u8]) -> Result<Line, LineFault>
     ensures { Reads result (λ read. AreWordsOf (Data read) line.now) }
 {
     let [mark, space, word @ ..] = line else {

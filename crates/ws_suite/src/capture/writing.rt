@@ -41,7 +41,7 @@ impl fmt::Display for CaptureText<'_> {
 
 /// The line of what was sent in a turn, if there is anything.
 #[derive(Drop)]
-struct SentLine<'a>(&'a [u8]);
+pub(crate) struct SentLine<'a>(pub(crate) &'a [u8]);
 
 impl fmt::Display for SentLine<'_> {
     ghost output = { λ line. Some (sent_text line.0.now) };
@@ -56,7 +56,7 @@ impl fmt::Display for SentLine<'_> {
 
 /// The line of what was got in a turn, if there is anything.
 #[derive(Drop)]
-struct GotLine<'a>(&'a [u8]);
+pub(crate) struct GotLine<'a>(pub(crate) &'a [u8]);
 
 impl fmt::Display for GotLine<'_> {
     ghost output = { λ line. Some (got_text line.0.now) };

@@ -23,6 +23,8 @@ pub(crate) enum Act {
     Reserved(u8, u8, Data),
     /// A text message with each byte in a frame of its own.
     ByteByByte(&'static [u8]),
+    /// Bytes as they are.
+    Bare(&'static [u8]),
     /// The turn ends.
     Pause,
 }

@@ -186,6 +186,7 @@ fn push_act(alloc: Global, act: Act, steps: &mut Vec<Step>) -> Result<(), NoMemo
             steps,
         ),
         Act::ByteByByte(bytes) => push_fragments(alloc, bytes, steps),
+        Act::Bare(bytes) => push_raw(bytes.to_vec(alloc)?, steps),
         Act::Pause => push_wait(steps),
     }
 }
@@ -235,6 +236,14 @@ fn push_frame(
         opcode,
         payload: Payload::from_vec(payload),
     })?;
+    Ok(())
+}
+
+/// Puts bytes as they are at the end of the steps.
+fn push_raw(bytes: Vec<u8>, steps: &mut Vec<Step>) -> Result<(), NoMemory>
+    ensures { AllByRecursion FitsAHeader steps.old.items → OnOk result (AllByRecursion FitsAHeader steps.new.items) }
+{
+    steps.push(Step::Raw(Payload::from_vec(bytes)))?;
     Ok(())
 }
 

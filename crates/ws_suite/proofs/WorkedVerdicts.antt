@@ -1,0 +1,248 @@
+-- Worked verdicts: a ping, and what is got for it.
+use Rattle.std.proofs.Common.{◌≡◌, ◌≢◌, ℕ, zero, suc, ◌<◌, true, false, List, [], ◌∷◌, ◌++◌, Some, None, refl, arith, inl, inr, lit≤}
+use Rattle.ws_frame.specs.declared.role.Role.TheVariants.{Client, Server}
+use Rattle.ws_frame.specs.Header.{AreBytes}
+use Rattle.ws_frame.specs.Frame.{KeyedFrame, FitsTheLayout}
+use Rattle.ws_session.specs.Validity.{AreValidFrames}
+use Rattle.ws_session.specs.Faults.{frames_of}
+use Rattle.ws_session.specs.Sends.{most_limits}
+use Rattle.ws_suite.specs.declared.transcript.Ended.{Ended}
+use Rattle.ws_suite.specs.declared.transcript.Ended.TheVariants.{Tester, Peer, Broken}
+use Rattle.ws_suite.specs.declared.verdict.Verdict.TheVariants.{Pass, Loose, Fail}
+use Rattle.ws_suite.specs.declared.verdict.FailWhy.{FailWhy}
+use Rattle.ws_suite.specs.declared.verdict.FailWhy.TheVariants as fail
+use Rattle.ws_suite.specs.declared.verdict.LooseWhy.{LooseWhy}
+use Rattle.ws_suite.specs.declared.verdict.LooseWhy.TheVariants as loose
+use Rattle.ws_suite.specs.declared.evidence.InTurn.{InTurn}
+use Rattle.ws_suite.specs.declared.evidence.Reply.{Reply}
+use Rattle.ws_suite.specs.declared.evidence.Direction.{Direction}
+use Rattle.ws_suite.specs.declared.evidence.Evidence.{Evidence}
+use Rattle.ws_suite.specs.Evidence.{IsDirectionOf, due_for, got_in}
+use Rattle.ws_suite.specs.Verdicts.{Fails, HasOtherClose, HasOtherEnd, IsLoose, IsNotFrames, IsVerdictOf, fail_number, loose_number}
+use Rattle.ws_suite.specs.Examples.{in_one_turn, in_two_turns, ping_sent, pong, pong_got}
+use Rattle.ws_suite.specs.Collecting.{FrameLaws}
+use Rattle.ws_suite.proofs.ValidDirections.{valid_direction}
+
+-- ---- frames
+
+abbrev ping : KeyedFrame
+ping = record { frame = record { fin = true; rsv = 0; opcode = 9; payload = [] }; key = Some (0x00 ∷ 0x00 ∷ 0x00 ∷ 0x00 ∷ []) }
+
+abbrev answer : KeyedFrame
+answer = record { frame = record { fin = true; rsv = 0; opcode = 10; payload = [] }; key = None }
+
+no_bytes : AreBytes []
+no_bytes i = omega arith
+
+and_zero : (bytes : List ℕ) → AreBytes bytes → AreBytes (0 ∷ bytes)
+and_zero bytes are zero = lit≤ tt
+and_zero bytes are (suc i) = are i
+
+ping_fits : FitsTheLayout ping
+ping_fits = record {
+  rsv = lit≤ tt;
+  opcode = lit≤ tt;
+  key = (refl, and_zero (0 ∷ 0 ∷ 0 ∷ []) (and_zero (0 ∷ 0 ∷ []) (and_zero (0 ∷ []) (and_zero [] no_bytes))));
+  payload = no_bytes;
+  len = lit≤ tt;
+}
+
+answer_fits : FitsTheLayout answer
+answer_fits = record { rsv = lit≤ tt; opcode = lit≤ tt; key = tt; payload = no_bytes; len = lit≤ tt }
+
+none_valid : AreValidFrames most_limits []
+none_valid = record { each = tt; close = tt; finished = tt; unfinished = record { frames = tt; size = lit≤ tt; text = tt } }
+
+ping_valid : AreValidFrames most_limits (frames_of (ping ∷ []))
+ping_valid = record {
+  each = (record { rsv = refl; opcode = inr (lit≤ tt, lit≤ tt); control = λ control. (refl, lit≤ tt) }, tt);
+  close = (λ close. absurd cc, tt);
+  finished = tt;
+  unfinished = record { frames = tt; size = lit≤ tt; text = tt };
+}
+
+pings_valid : AreValidFrames most_limits (frames_of (ping ∷ ping ∷ []))
+pings_valid = record {
+  each = (
+    record { rsv = refl; opcode = inr (lit≤ tt, lit≤ tt); control = λ control. (refl, lit≤ tt) },
+    (record { rsv = refl; opcode = inr (lit≤ tt, lit≤ tt); control = λ control. (refl, lit≤ tt) }, tt),
+  );
+  close = (λ close. absurd cc, (λ close. absurd cc, tt));
+  finished = tt;
+  unfinished = record { frames = tt; size = lit≤ tt; text = tt };
+}
+
+answer_valid : AreValidFrames most_limits (frames_of (answer ∷ []))
+answer_valid = record {
+  each = (record { rsv = refl; opcode = inr (lit≤ tt, lit≤ tt); control = λ control. (refl, lit≤ tt) }, tt);
+  close = (λ close. absurd cc, tt);
+  finished = tt;
+  unfinished = record { frames = tt; size = lit≤ tt; text = tt };
+}
+
+-- ---- evidence without a close, a fault or a rest
+
+abbrev saying : List (InTurn Reply) → Direction
+saying replies = record { replies = replies; ending = None; has_rest = false }
+
+abbrev quiet : List (InTurn Reply) → List (InTurn Reply) → ℕ → Ended → Evidence
+quiet due got turns ended = record { due = saying due; got = saying got; turns = turns; ended = ended }
+
+are_frames : (due got : List (InTurn Reply)) (turns : ℕ) (end : Ended) → IsNotFrames (quiet due got turns end) → ⊥
+are_frames due got turns end (inl h) = absurd (let wrong : false ≡ true = h in cc)
+are_frames due got turns end (inr (inl h)) = absurd (let wrong : false ≡ true = h.0 in cc)
+are_frames due got turns end (inr (inr h)) = absurd (let wrong : false ≡ true = h.0 in cc)
+
+no_close : (due got : List (InTurn Reply)) (turns : ℕ) (end : Ended) → HasOtherClose (quiet due got turns end) → ⊥
+no_close due got turns end (inl h) = absurd (let wrong : false ≡ true = h.0 in cc)
+no_close due got turns end (inr h) = absurd (let wrong : false ≡ true = h.1 in cc)
+
+right_end : (due got : List (InTurn Reply)) (turns : ℕ) → HasOtherEnd (quiet due got turns Tester) → ⊥
+right_end due got turns (inl h) = h.0 refl
+right_end due got turns (inr h) = h.1 refl
+
+-- ---- the five
+
+abbrev answered : Ended → Evidence
+answered end = quiet (pong 0 [] ∷ []) (pong 0 [] ∷ []) 1 end
+
+-- of an answered ping no Fail applies but that of the end
+answered_fails : (end : Ended) (why : FailWhy) → why ≢ fail.End → Fails (answered end) why → ⊥
+answered_fails end fail.NotFrames other h = are_frames (pong 0 [] ∷ []) (pong 0 [] ∷ []) 1 end h
+answered_fails end fail.Early other (inl h) = absurd (let wrong : false ≡ true = h in cc)
+answered_fails end fail.Early other (inr (inl h)) = absurd (let wrong : false ≡ true = h in cc)
+answered_fails end fail.Early other (inr (inr h)) = absurd h
+answered_fails end fail.Messages other h = h refl
+answered_fails end fail.Pongs other (inl h) = absurd (let wrong : false ≡ true = h in cc)
+answered_fails end fail.Pongs other (inr h) = h.2 (record { due = pong 0 []; is_due = refl; got = pong 0 []; is_got = refl; same = refl; turn = lit≤ tt })
+answered_fails end fail.Close other h = no_close (pong 0 [] ∷ []) (pong 0 [] ∷ []) 1 end h
+answered_fails end fail.End other h = other refl
+
+passes : (why : FailWhy) → Fails (answered Tester) why → ⊥
+passes fail.NotFrames h = answered_fails Tester fail.NotFrames (λ e. absurd cc) h
+passes fail.Early h = answered_fails Tester fail.Early (λ e. absurd cc) h
+passes fail.Messages h = answered_fails Tester fail.Messages (λ e. absurd cc) h
+passes fail.Pongs h = answered_fails Tester fail.Pongs (λ e. absurd cc) h
+passes fail.Close h = answered_fails Tester fail.Close (λ e. absurd cc) h
+passes fail.End h = right_end (pong 0 [] ∷ []) (pong 0 [] ∷ []) 1 h
+
+nothing_loose : (why : LooseWhy) → IsLoose (answered Tester) why → ⊥
+nothing_loose loose.PongsSkipped h = omega (arith, h.0)
+nothing_loose loose.PongElsewhere h = h (inl (refl, tt))
+nothing_loose loose.OtherCode (got, due, code, e, f, g, other) = absurd cc
+nothing_loose loose.LateEnd (due, e, less) = absurd cc
+nothing_loose loose.EchoShort h = absurd (let wrong : false ≡ true = h.0 in cc)
+nothing_loose loose.BrokenEnd h = absurd (let wrong : Tester ≡ Broken = h in cc)
+
+below_end : (lower : FailWhy) → fail_number lower < 6 → Fails (answered Peer) lower → ⊥
+below_end fail.NotFrames less h = answered_fails Peer fail.NotFrames (λ e. absurd cc) h
+below_end fail.Early less h = answered_fails Peer fail.Early (λ e. absurd cc) h
+below_end fail.Messages less h = answered_fails Peer fail.Messages (λ e. absurd cc) h
+below_end fail.Pongs less h = answered_fails Peer fail.Pongs (λ e. absurd cc) h
+below_end fail.Close less h = answered_fails Peer fail.Close (λ e. absurd cc) h
+below_end fail.End less h = absurd (omega (arith, less))
+
+abbrev early : Evidence
+early = quiet (pong 1 [] ∷ []) (pong 0 [] ∷ []) 2 Tester
+
+below_early : (lower : FailWhy) → fail_number lower < 2 → Fails early lower → ⊥
+below_early fail.NotFrames less h = are_frames (pong 1 [] ∷ []) (pong 0 [] ∷ []) 2 Tester h
+below_early fail.Early less h = absurd (omega (arith, less))
+below_early fail.Messages less h = absurd (omega (arith, less))
+below_early fail.Pongs less h = absurd (omega (arith, less))
+below_early fail.Close less h = absurd (omega (arith, less))
+below_early fail.End less h = absurd (omega (arith, less))
+
+abbrev silent : Evidence
+silent = quiet (pong 0 [] ∷ []) [] 1 Tester
+
+below_pongs : (lower : FailWhy) → fail_number lower < 4 → Fails silent lower → ⊥
+below_pongs fail.NotFrames less h = are_frames (pong 0 [] ∷ []) [] 1 Tester h
+below_pongs fail.Early less (inl h) = absurd (let wrong : false ≡ true = h in cc)
+below_pongs fail.Early less (inr (inl h)) = absurd (let wrong : false ≡ true = h in cc)
+below_pongs fail.Early less (inr (inr h)) = absurd h
+below_pongs fail.Messages less h = h refl
+below_pongs fail.Pongs less h = absurd (omega (arith, less))
+below_pongs fail.Close less h = absurd (omega (arith, less))
+below_pongs fail.End less h = absurd (omega (arith, less))
+
+abbrev latest : Evidence
+latest = quiet (pong 0 [] ∷ pong 0 [] ∷ []) (pong 0 [] ∷ []) 1 Tester
+
+latest_fails : (why : FailWhy) → Fails latest why → ⊥
+latest_fails fail.NotFrames h = are_frames (pong 0 [] ∷ pong 0 [] ∷ []) (pong 0 [] ∷ []) 1 Tester h
+latest_fails fail.Early (inl h) = absurd (let wrong : false ≡ true = h in cc)
+latest_fails fail.Early (inr (inl h)) = absurd (let wrong : false ≡ true = h in cc)
+latest_fails fail.Early (inr (inr h)) = absurd h
+latest_fails fail.Messages h = h refl
+latest_fails fail.Pongs (inl h) = absurd (let wrong : false ≡ true = h in cc)
+latest_fails fail.Pongs (inr h) = h.2 (record { due = pong 0 []; is_due = refl; got = pong 0 []; is_got = refl; same = refl; turn = lit≤ tt })
+latest_fails fail.Close h = no_close (pong 0 [] ∷ pong 0 [] ∷ []) (pong 0 [] ∷ []) 1 Tester h
+latest_fails fail.End h = right_end (pong 0 [] ∷ pong 0 [] ∷ []) (pong 0 [] ∷ []) 1 h
+
+below_skipped : (lower : LooseWhy) → loose_number lower < 1 → IsLoose latest lower → ⊥
+below_skipped loose.PongsSkipped less h = absurd (omega (arith, less))
+below_skipped loose.PongElsewhere less h = absurd (omega (arith, less))
+below_skipped loose.OtherCode less h = absurd (omega (arith, less))
+below_skipped loose.LateEnd less h = absurd (omega (arith, less))
+below_skipped loose.EchoShort less h = absurd (omega (arith, less))
+below_skipped loose.BrokenEnd less h = absurd (omega (arith, less))
+
+-- ---- the five transcripts
+
+module _ (laws : FrameLaws) where
+  ping_due : IsDirectionOf Server due_for (ping_sent ∷ []) (saying (pong 0 [] ∷ []))
+  ping_due = valid_direction laws Server ((ping ∷ []) ∷ []) (ping_fits, tt) (refl, tt) ping_valid due_for (saying (pong 0 [] ∷ [])) refl refl refl
+
+  pings_due : IsDirectionOf Server due_for ((ping_sent ++ ping_sent) ∷ []) (saying (pong 0 [] ∷ pong 0 [] ∷ []))
+  pings_due = valid_direction laws Server ((ping ∷ ping ∷ []) ∷ []) (ping_fits, (ping_fits, tt)) (refl, (refl, tt)) pings_valid due_for (saying (pong 0 [] ∷ pong 0 [] ∷ [])) refl refl refl
+
+  later_ping_due : IsDirectionOf Server due_for ([] ∷ ping_sent ∷ []) (saying (pong 1 [] ∷ []))
+  later_ping_due = valid_direction laws Server ([] ∷ (ping ∷ []) ∷ []) (ping_fits, tt) (refl, tt) ping_valid due_for (saying (pong 1 [] ∷ [])) refl refl refl
+
+  pong_is_got : IsDirectionOf Client got_in (pong_got ∷ []) (saying (pong 0 [] ∷ []))
+  pong_is_got = valid_direction laws Client ((answer ∷ []) ∷ []) (answer_fits, tt) (refl, tt) answer_valid got_in (saying (pong 0 [] ∷ [])) refl refl refl
+
+  first_pong_is_got : IsDirectionOf Client got_in (pong_got ∷ [] ∷ []) (saying (pong 0 [] ∷ []))
+  first_pong_is_got = valid_direction laws Client ((answer ∷ []) ∷ [] ∷ []) (answer_fits, tt) (refl, tt) answer_valid got_in (saying (pong 0 [] ∷ [])) refl refl refl
+
+  nothing_is_got : IsDirectionOf Client got_in ([] ∷ []) (saying [])
+  nothing_is_got = valid_direction laws Client ([] ∷ []) tt tt none_valid got_in (saying []) refl refl refl
+
+  pub answered_ping : IsVerdictOf (in_one_turn ping_sent pong_got Tester) Pass
+  answered_ping = record {
+    evidence = answered Tester;
+    is_evidence = record { due = ping_due; got = pong_is_got; turns = refl; ended = refl };
+    is_verdict = (passes, nothing_loose);
+  }
+
+  pub ended_by_peer : IsVerdictOf (in_one_turn ping_sent pong_got Peer) (Fail fail.End)
+  ended_by_peer = record {
+    evidence = answered Peer;
+    is_evidence = record { due = ping_due; got = pong_is_got; turns = refl; ended = refl };
+    is_verdict = (inr (refl, λ e. absurd cc), below_end);
+  }
+
+  pub before_its_ping : IsVerdictOf (in_two_turns [] pong_got ping_sent [] Tester) (Fail fail.Early)
+  before_its_ping = record {
+    evidence = early;
+    is_evidence = record { due = later_ping_due; got = first_pong_is_got; turns = refl; ended = refl };
+    is_verdict = (inr (inl refl), below_early);
+  }
+
+  pub no_answer : IsVerdictOf (in_one_turn ping_sent [] Tester) (Fail fail.Pongs)
+  no_answer = record {
+    evidence = silent;
+    is_evidence = record { due = ping_due; got = nothing_is_got; turns = refl; ended = refl };
+    is_verdict = (inr (refl, lit≤ tt, λ last. absurd (let wrong : None ≡ Some last.got = last.is_got in cc)), below_pongs);
+  }
+
+  pub latest_answered : IsVerdictOf (in_one_turn (ping_sent ++ ping_sent) pong_got Tester) (Loose loose.PongsSkipped)
+  latest_answered = record {
+    evidence = latest;
+    is_evidence = record { due = pings_due; got = pong_is_got; turns = refl; ended = refl };
+    is_verdict = (
+      latest_fails,
+      ((lit≤ tt, record { due = pong 0 []; is_due = refl; got = pong 0 []; is_got = refl; same = refl; turn = lit≤ tt }), below_skipped),
+    );
+  }
