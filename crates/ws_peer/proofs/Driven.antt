@@ -1,16 +1,15 @@
 -- A run of `drive`, read by read.
-use Rattle.std.proofs.Common.{◌≡◌, ℕ, ◌+◌, ◌-◌, ◌<◌, ◌≤◌, Bool, true, false, List, [], ◌∷◌, ◌++◌, length, Option, Err, refl, sym, ap, ◌∙◌, subst, arith, append_assoc, append-nil, length-append, take}
+use Rattle.std.proofs.Common.{◌≡◌, ℕ, ◌+◌, ◌-◌, ◌<◌, ◌≤◌, true, false, List, [], ◌++◌, length, Option, Err, refl, sym, ap, ◌∙◌, subst, arith, append_assoc, append-nil, length-append, take}
 use Rattle.std.proofs.lemmas.List.{length-take, length-take-le}
 use Rattle.std.specs.Io.KnownBytes.{Appends, Consumes, Keeps, IsAtEnd}
-use Rattle.std.proofs.KnownBytes.{Appends-nil, Appends-trans, Consumes-nil, Consumes-trans, Consumes-kept}
+use Rattle.std.proofs.KnownBytes.{Appends-trans, Consumes-nil, Consumes-trans, Consumes-kept}
 use Rattle.ws_frame.specs.declared.role.Role.{Role}
 use Rattle.ws_session.specs.Limits.{LimitsValue}
 use Rattle.ws_frame.specs.Devices.{Device, HasRead, HasWritten}
-use Rattle.ws_session.specs.declared.status.Status.{Status}
 use Rattle.ws_session.specs.Exchange.{SessionValue, is_over}
-use Rattle.ws_peer.specs.Echoes.{HasEchoed, IsEchoAfter}
+use Rattle.ws_peer.specs.Echoes.{IsEchoAfter}
 use Rattle.ws_peer.specs.EchoLaws.{EchoLaws}
-use Rattle.ws_peer.specs.Driving.{DriveCall, Echoes, HasAnswered, BeginsAnswers, ReadsInTurn, Drives, IsDrivenTo, LeavesEcho, IsFairDriveEnd}
+use Rattle.ws_peer.specs.Driving.{DriveCall, Echoes, HasAnswered, BeginsAnswers, ReadsInTurn, Drives, IsFairDriveEnd}
 use Rattle.ws_peer.specs.Steps.{Stands, AnswersPiece, end_of_stop}
 use Rattle.ws_peer.specs.declared.driving.DriveEnd.{DriveEnd}
 use Rattle.ws_peer.specs.declared.driving.DriveEnd.TheVariants as end

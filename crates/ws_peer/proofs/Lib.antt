@@ -3,3 +3,4 @@ pub mod Driven
 pub mod Talking
 pub mod RunLemmas
 pub mod EchoTalkLemmas
+pub mod EchoTranscripts

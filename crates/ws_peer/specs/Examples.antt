@@ -1,12 +1,12 @@
 -- Worked examples of transcripts and of runs, each a theorem.
-use Rattle.std.specs.Prelude.{◌≡◌, ⊤, [], ◌∷◌, Some, None, refl}
+use Rattle.std.specs.Prelude.{◌≡◌, [], ◌∷◌, Some, None, refl}
 use Rattle.std.proofs.Common.{arith}
 use Rattle.ws_session.specs.declared.status.Status.TheVariants.{Clean, Closing}
 use Rattle.ws_suite.specs.declared.transcript.Ended.TheVariants.{Tester, Peer}
 use Rattle.ws_peer.specs.declared.peer.Going.TheVariants.{More, Ended}
 use Rattle.ws_peer.specs.Talks.{Fed, Finished, appended_in, fed_in}
 use Rattle.ws_peer.specs.EchoTalks.{IsAnsweredBy}
-use Rattle.ws_peer.specs.Runs.{AreFirstPieces, EndsByPeer, EndsByTester, with_finish}
+use Rattle.ws_peer.specs.Runs.{EndsByPeer, EndsByTester, with_finish}
 
 -- ---- what is recorded of the finish
 

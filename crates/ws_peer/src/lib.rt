@@ -2,12 +2,13 @@
 //! (RFC 6455 sections 4 to 8).
 //!
 //! The layers above use two contracts: that of `run_case`, by which the transcript is that of a talk which the peer has
-//! had, and that of `run_over_echo`, by which over a new echo this talk is an echo's.
+//! had, and that of `run_over_echo`, by which over a new echo this talk is an echo's, and its verdict Pass.
 #![tactic(auto)]
 
 mod driving;
 mod echo_peer;
 mod echo_run;
+pub mod laws;
 mod lemmas;
 mod peer;
 mod running;

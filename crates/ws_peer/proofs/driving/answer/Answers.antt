@@ -1,6 +1,5 @@
-use Rattle.std.proofs.Common.{rules, ◌≡◌, List, ℕ, [], ◌++◌, sym, refl, subst, take, drop, take-append-drop}
+use Rattle.std.proofs.Common.{rules, List, ℕ, ◌++◌, sym, refl, subst, take, drop, take-append-drop}
 use Rattle.std.proofs.KnownBytes.{Appends-nil}
-use Rattle.ws_peer.specs.Driving.{DriveCall}
 use Rattle.ws_peer.specs.Steps.{Stands}
 use Rattle.ws_peer.proofs.Echoing.{piece_answered}
 use Rattle.ws_peer.proofs.driving.answer.Goals as goal

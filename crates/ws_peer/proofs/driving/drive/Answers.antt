@@ -1,14 +1,13 @@
-use Rattle.std.proofs.Common.{rules, ◌≡◌, List, ℕ, [], false, true, ◌<◌, ◌≤◌, ◌+◌, ◌++◌, ◌∙◌, length, sym, ap, refl, subst, arith, take, drop}
+use Rattle.std.proofs.Common.{rules, ◌≡◌, ℕ, [], false, true, ◌<◌, ◌≤◌, ◌++◌, ◌∙◌, length, sym, ap, refl, subst, arith, take}
 use Rattle.std.proofs.lemmas.List.{length-take}
-use Rattle.std.specs.Io.KnownBytes.{Consumes}
 use Rattle.ws_frame.specs.Devices.{Device, watched}
-use Rattle.ws_frame.specs.Watching.{inner_of, has_failed}
+use Rattle.ws_frame.specs.Watching.{has_failed}
 use Rattle.ws_session.specs.declared.status.Status.{Status}
 use Rattle.ws_session.specs.Exchange.{SessionValue, is_over}
 use Rattle.ws_peer.specs.declared.driving.DriveEnd.{DriveEnd}
 use Rattle.ws_peer.specs.declared.driving.DriveEnd.TheVariants as end
-use Rattle.ws_peer.specs.Driving.{DriveCall, Drives, IsFairDriveEnd}
-use Rattle.ws_peer.specs.Steps.{AnswersPiece, Stands, end_of_stop}
+use Rattle.ws_peer.specs.Driving.{DriveCall, Drives}
+use Rattle.ws_peer.specs.Steps.{end_of_stop}
 use Rattle.ws_peer.proofs.Echoing.{echo_new, echo_ended}
 use Rattle.ws_peer.proofs.Driven.{call_of_drive, stops_at_first, stops_at_read, has_begun, has_driven_more, done_when_over, ends_at_budget, ends_at_read_fault, done_at_end, fair_stop, gave_nothing, gave_at_most, gave_all}
 use Rattle.ws_peer.proofs.driving.drive.Goals as goal
