@@ -1,5 +1,5 @@
 -- From clap's clauses to what the words ask for.
-use Rattle.std.proofs.Common.{◌≡◌, ◌∙◌, ◌<◌, ◌^◌, ℕ, Bool, true, false, zero, suc, List, [], ◌∷◌, Option, Some, None, Result, Ok, Err, IsErrAnd, arith, ap, refl, sym, subst, inl, length, map, codes, slice_index, slice_index_or}
+use Rattle.std.proofs.Common.{◌≡◌, ◌∙◌, ◌<◌, ◌^◌, ◌||◌, ℕ, Bool, true, false, zero, suc, List, [], ◌∷◌, Option, Some, None, Result, Ok, Err, IsErrAnd, arith, ap, ap₂, refl, sym, subst, inl, length, map, codes, slice_index, slice_index_or}
 use Rattle.std.specs.Borrow.{Bor}
 use Rattle.std.specs.Prelude.{Box, MatchOption, option_map, unwrap_or}
 use Rattle.std.specs.Box.{box_value}
@@ -11,13 +11,15 @@ use Rattle.clap.specs.declared.builder.value_parser.ValueParser.{ValueParser}
 use Rattle.clap.specs.declared.builder.value_parser.ValueParser.TheVariants.{Names}
 use Rattle.clap.specs.declared.error.Error.{Error}
 use Rattle.clap.specs.declared.error.kind.ErrorKind.TheVariants.{OutOfMemory}
-use Rattle.wst_words.specs.Options.{EndPlaces, GivesFlag, GivesNoEnd, GivesNoFlag, GivesNoNumber, GivesNumber, end_names, end_rule}
+use Rattle.wst_words.specs.Options.{EndPlaces, GivesFlag, GivesNoEnd, GivesNoFlag, GivesNumberOf, end_names, end_rule}
 use Rattle.wst_words.specs.Pair.{AsksToPairNothing}
+use Rattle.wst_words.specs.Serve.{AsksToServeNothing}
 use Rattle.wst_words.specs.Session.{AsksForNoSession}
 use Rattle.wst_words.specs.Show.{AsksToShowNothing}
+use Rattle.wst_words.specs.Test.{AsksToTestNothing}
 use Rattle.wst_words.specs.Words.{AsksFor, AsksForNothing, CommandAsks, CommandAsksNothing, IsOfClap, IsRead, RefusesWords}
 use Rattle.wst_words.specs.declared.words.Task.{Task}
-use Rattle.wst_words.specs.declared.words.Task.TheVariants.{Cases, Head, Judge, Pair, Session, Show}
+use Rattle.wst_words.specs.declared.words.Task.TheVariants.{Cases, Convert, Head, Judge, Pair, Serve, Session, Show, Test}
 use Rattle.wst_words.specs.declared.words.WordsFault.{WordsFault}
 use Rattle.wst_words.specs.declared.words.WordsFault.TheVariants.{Clap, NoTask}
 
@@ -52,18 +54,18 @@ none_from None N P e none = none
 none_from (Some x) N P e none = absurd (cc)
 
 -- a number is given exactly where a text is there that a typed getter reads
-pub number_given : {E : Type 0} (gives : Text → Result ℕ E → Type 0) → ((text : Text) (g : Result ℕ E) → gives text g → ParsesUnsigned 64 10 text g)
+pub number_given : {E : Type 0} (bits : ℕ) (gives : Text → Result ℕ E → Type 0) → ((text : Text) (g : Result ℕ E) → gives text g → ParsesUnsigned bits 10 text g)
     → (rows : List Row) (name : Text) (o : Option Text) (r : Option ℕ) → o ≡ one_of name rows → (o ≡ None → r ≡ None)
-    → ((text : Text) → o ≡ Some text → ReadsOne gives text r) → MatchOption r (GivesNoNumber rows name) (GivesNumber rows name)
-number_given gives parses rows name o None there none some = λ number given.
+    → ((text : Text) → o ≡ Some text → ReadsOne gives text r) → MatchOption r ((number : ℕ) → GivesNumberOf bits rows name number → ⊥) (GivesNumberOf bits rows name)
+number_given bits gives parses rows name o None there none some = λ number given.
     let (e, fails) = some given.word (there ∙ given.has_word) in
-    parses given.word (Err e) fails (given.numeral, subst (λ (n : ℕ). n < 2 ^ 64) given.value given.fits)
-number_given gives parses rows name None (Some n) there none some =
+    parses given.word (Err e) fails (given.numeral, subst (λ (n : ℕ). n < 2 ^ bits) given.value given.fits)
+number_given bits gives parses rows name None (Some n) there none some =
     let bad : Some n ≡ None = none refl in
     absurd (cc)
-number_given gives parses rows name (Some text) (Some n) there none some =
+number_given bits gives parses rows name (Some text) (Some n) there none some =
     let parsed = parses text (Ok n) (some text refl) in
-    record { word = text; has_word = sym there; numeral = parsed.0.0; value = parsed.1; fits = subst (λ (m : ℕ). m < 2 ^ 64) (sym parsed.1) parsed.0.1 }
+    record { word = text; has_word = sym there; numeral = parsed.0.0; value = parsed.1; fits = subst (λ (m : ℕ). m < 2 ^ bits) (sym parsed.1) parsed.0.1 }
 
 -- a flag is set or not exactly where a text is there that names a `bool`
 pub flag_given : (E : Type 0) (rows : List Row) (name : Text) (o : Option Text) (r : Option Bool) → o ≡ one_of name rows → (o ≡ None → r ≡ None)
@@ -84,6 +86,16 @@ pub no_end_given : (rows : List Row) (name : Text) → first_of name rows ≡ No
 no_end_given rows name none = λ role given.
     let bad : Some given.word ≡ None = sym given.has_word ∙ none in
     absurd (cc)
+
+-- a word that isn't there is no word
+pub no_word : (rows : List Row) (name word : Text) → first_of name rows ≡ None → first_of name rows ≡ Some word → ⊥
+no_word rows name word none there =
+    let bad : Some word ≡ None = sym there ∙ none in
+    absurd (cc)
+
+-- a command with another argument that isn't global has no global argument
+pub stays_local : (new old global : Bool) → new ≡ (old || global) → old ≡ false → global ≡ false → new ≡ false
+stays_local new old global is none local = is ∙ ap₂ (λ (a b : Bool). a || b) none local
 
 -- the name and the rows of a subcommand that was met are those of what was met
 pub met_is : {Z : Type 0} (sub : Option (Box SubCommand Z)) (name : Text) (rows : List Row) → Some name ≡ option_map (λ b. (out-SubCommand (box_value b)).name.now) sub
@@ -112,8 +124,17 @@ no_show name rows is none = refuses
     refuses Judge asks =
         let bad : ◌≡◌ {A = ℕ} 115 106 = ap (λ (l : List ℕ). slice_index l 0) (sym is ∙ asks) in
         absurd (omega arith)
+    refuses Convert asks =
+        let bad : ◌≡◌ {A = ℕ} 115 99 = ap (λ (l : List ℕ). slice_index l 0) (sym is ∙ asks) in
+        absurd (omega arith)
     refuses Cases asks =
         let bad : ◌≡◌ {A = ℕ} 115 99 = ap (λ (l : List ℕ). slice_index l 0) (sym is ∙ asks) in
+        absurd (omega arith)
+    refuses (Test options) asks =
+        let bad : ◌≡◌ {A = ℕ} 115 116 = ap (λ (l : List ℕ). slice_index l 0) (sym is ∙ asks.0) in
+        absurd (omega arith)
+    refuses (Serve options) asks =
+        let bad : ◌≡◌ {A = ℕ} 104 101 = ap (λ (l : List ℕ). slice_index l 1) (sym is ∙ asks.0) in
         absurd (omega arith)
 
 pub no_pair : (name : Text) (rows : List Row) → name ≡ codes "pair" → AsksToPairNothing rows → CommandAsksNothing (Some (name, rows))
@@ -133,8 +154,17 @@ no_pair name rows is none = refuses
     refuses Judge asks =
         let bad : ◌≡◌ {A = ℕ} 112 106 = ap (λ (l : List ℕ). slice_index l 0) (sym is ∙ asks) in
         absurd (omega arith)
+    refuses Convert asks =
+        let bad : ◌≡◌ {A = ℕ} 112 99 = ap (λ (l : List ℕ). slice_index l 0) (sym is ∙ asks) in
+        absurd (omega arith)
     refuses Cases asks =
         let bad : ◌≡◌ {A = ℕ} 112 99 = ap (λ (l : List ℕ). slice_index l 0) (sym is ∙ asks) in
+        absurd (omega arith)
+    refuses (Test options) asks =
+        let bad : ◌≡◌ {A = ℕ} 112 116 = ap (λ (l : List ℕ). slice_index l 0) (sym is ∙ asks.0) in
+        absurd (omega arith)
+    refuses (Serve options) asks =
+        let bad : ◌≡◌ {A = ℕ} 112 115 = ap (λ (l : List ℕ). slice_index l 0) (sym is ∙ asks.0) in
         absurd (omega arith)
 
 pub no_session : (name : Text) (rows : List Row) → name ≡ codes "session" → AsksForNoSession rows → CommandAsksNothing (Some (name, rows))
@@ -154,8 +184,77 @@ no_session name rows is none = refuses
     refuses Judge asks =
         let bad : ◌≡◌ {A = ℕ} 115 106 = ap (λ (l : List ℕ). slice_index l 0) (sym is ∙ asks) in
         absurd (omega arith)
+    refuses Convert asks =
+        let bad : ◌≡◌ {A = ℕ} 115 99 = ap (λ (l : List ℕ). slice_index l 0) (sym is ∙ asks) in
+        absurd (omega arith)
     refuses Cases asks =
         let bad : ◌≡◌ {A = ℕ} 115 99 = ap (λ (l : List ℕ). slice_index l 0) (sym is ∙ asks) in
+        absurd (omega arith)
+    refuses (Test options) asks =
+        let bad : ◌≡◌ {A = ℕ} 115 116 = ap (λ (l : List ℕ). slice_index l 0) (sym is ∙ asks.0) in
+        absurd (omega arith)
+    refuses (Serve options) asks =
+        let bad : ◌≡◌ {A = ℕ} 115 114 = ap (λ (l : List ℕ). slice_index l 2) (sym is ∙ asks.0) in
+        absurd (omega arith)
+
+pub no_serve : (name : Text) (rows : List Row) → name ≡ codes "serve" → AsksToServeNothing rows → CommandAsksNothing (Some (name, rows))
+no_serve name rows is none = refuses
+  where
+    refuses : (task : Task) → CommandAsks (Some (name, rows)) task → ⊥
+    refuses (Serve options) asks = none options asks.1
+    refuses (Show options) asks =
+        let bad : ◌≡◌ {A = ℕ} 101 104 = ap (λ (l : List ℕ). slice_index l 1) (sym is ∙ asks.0) in
+        absurd (omega arith)
+    refuses (Pair options) asks =
+        let bad : ◌≡◌ {A = ℕ} 115 112 = ap (λ (l : List ℕ). slice_index l 0) (sym is ∙ asks.0) in
+        absurd (omega arith)
+    refuses Head asks =
+        let bad : ◌≡◌ {A = ℕ} 115 104 = ap (λ (l : List ℕ). slice_index l 0) (sym is ∙ asks) in
+        absurd (omega arith)
+    refuses (Session options) asks =
+        let bad : ◌≡◌ {A = ℕ} 114 115 = ap (λ (l : List ℕ). slice_index l 2) (sym is ∙ asks.0) in
+        absurd (omega arith)
+    refuses Judge asks =
+        let bad : ◌≡◌ {A = ℕ} 115 106 = ap (λ (l : List ℕ). slice_index l 0) (sym is ∙ asks) in
+        absurd (omega arith)
+    refuses Convert asks =
+        let bad : ◌≡◌ {A = ℕ} 115 99 = ap (λ (l : List ℕ). slice_index l 0) (sym is ∙ asks) in
+        absurd (omega arith)
+    refuses Cases asks =
+        let bad : ◌≡◌ {A = ℕ} 115 99 = ap (λ (l : List ℕ). slice_index l 0) (sym is ∙ asks) in
+        absurd (omega arith)
+    refuses (Test options) asks =
+        let bad : ◌≡◌ {A = ℕ} 115 116 = ap (λ (l : List ℕ). slice_index l 0) (sym is ∙ asks.0) in
+        absurd (omega arith)
+
+pub no_test : (rows : List Row) → AsksToTestNothing rows → CommandAsksNothing (Some (codes "test", rows))
+no_test rows none = refuses
+  where
+    refuses : (task : Task) → CommandAsks (Some (codes "test", rows)) task → ⊥
+    refuses (Test options) asks = none options asks.1
+    refuses (Show options) asks =
+        let bad : ◌≡◌ {A = ℕ} 116 115 = ap (λ (l : List ℕ). slice_index l 0) asks.0 in
+        absurd (omega arith)
+    refuses (Pair options) asks =
+        let bad : ◌≡◌ {A = ℕ} 116 112 = ap (λ (l : List ℕ). slice_index l 0) asks.0 in
+        absurd (omega arith)
+    refuses Head asks =
+        let bad : ◌≡◌ {A = ℕ} 116 104 = ap (λ (l : List ℕ). slice_index l 0) asks in
+        absurd (omega arith)
+    refuses (Session options) asks =
+        let bad : ◌≡◌ {A = ℕ} 116 115 = ap (λ (l : List ℕ). slice_index l 0) asks.0 in
+        absurd (omega arith)
+    refuses Judge asks =
+        let bad : ◌≡◌ {A = ℕ} 116 106 = ap (λ (l : List ℕ). slice_index l 0) asks in
+        absurd (omega arith)
+    refuses Convert asks =
+        let bad : ◌≡◌ {A = ℕ} 116 99 = ap (λ (l : List ℕ). slice_index l 0) asks in
+        absurd (omega arith)
+    refuses Cases asks =
+        let bad : ◌≡◌ {A = ℕ} 116 99 = ap (λ (l : List ℕ). slice_index l 0) asks in
+        absurd (omega arith)
+    refuses (Serve options) asks =
+        let bad : ◌≡◌ {A = ℕ} 116 115 = ap (λ (l : List ℕ). slice_index l 0) asks.0 in
         absurd (omega arith)
 
 -- want of memory is an error of any words

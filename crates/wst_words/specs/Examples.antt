@@ -1,22 +1,23 @@
 -- Worked examples of words and what they ask for, each a theorem, wherever the names of the ends lie in memory.
-use Rattle.std.specs.Prelude.{◌≡◌, ⊤, true, false, List, [], ◌∷◌, Some, map, codes, refl}
+use Rattle.std.specs.Prelude.{◌≡◌, ⊤, true, false, List, [], ◌∷◌, Some, map, codes, option_map, refl}
 use Rattle.std.specs.Char.{encode_utf8}
 use Rattle.std.specs.Str.{chars}
 use Rattle.std.specs.Str.Parse.{digits_value, without_leading_plus}
 use Rattle.clap.proofs.ValueTestLemmas.{accepts-Accepts}
-use Rattle.clap.specs.Words.{Row, Text, fault_of, one_of, takes}
+use Rattle.clap.specs.Words.{Row, Text, fault_of, first_of, one_of, subcommand_of, takes}
 use Rattle.clap.specs.ValueTests.{accepts}
 use Rattle.clap.specs.Walk.{bundle_met, walked}
 use Rattle.clap.specs.Takes.{flags_pass, walk_passes}
 use Rattle.clap.specs.Faults.{defaults_fault, flags_fault, walk_fault}
 use Rattle.clap.specs.declared.error.kind.ErrorKind.TheVariants.{DisplayHelp, DisplayVersion, InvalidSubcommand}
-use Rattle.clap.specs.declared.error.kind.ErrorKind.TheVariants.{InvalidValue, MissingSubcommand, UnknownArgument}
-use Rattle.clap.specs.declared.error.kind.ErrorKind.TheVariants.{ValueValidation}
+use Rattle.clap.specs.declared.error.kind.ErrorKind.TheVariants.{InvalidValue, MissingRequiredArgument}
+use Rattle.clap.specs.declared.error.kind.ErrorKind.TheVariants.{MissingSubcommand, UnknownArgument, ValueValidation}
 use Rattle.clap.specs.declared.builder.value_parser.ValueParser.TheVariants.{Unsigned}
 use Rattle.ws_frame.specs.declared.role.Role.TheVariants.{Client, Server}
 use Rattle.wst_words.specs.Options.{GivesNumber}
+use Rattle.wst_words.specs.Test.{given_words}
 use Rattle.wst_words.specs.Words.{AsksFor, Places, wst_app}
-use Rattle.wst_words.specs.declared.words.Task.TheVariants.{Cases, Head, Judge, Pair, Session, Show}
+use Rattle.wst_words.specs.declared.words.Task.TheVariants.{Cases, Convert, Head, Judge, Pair, Session, Show}
 
 -- what is computed at words that are written out
 unfoldable on_words : ⊤
@@ -132,6 +133,14 @@ pub plain_judge : (places : Places) → AsksFor (wst_app places) judge_words Jud
 unfolding on_words
 plain_judge places = (refl, refl)
 
+-- `wst convert` writes a capture in format 2
+abbrev convert_words : List Text
+convert_words = words (codes "convert" ∷ [])
+
+pub plain_convert : (places : Places) → AsksFor (wst_app places) convert_words Convert
+unfolding on_words
+plain_convert places = (refl, refl)
+
 -- `wst cases` lists the cases
 abbrev cases_words : List Text
 cases_words = words (codes "cases" ∷ [])
@@ -140,10 +149,50 @@ pub plain_cases : (places : Places) → AsksFor (wst_app places) cases_words Cas
 unfolding on_words
 plain_cases places = (refl, refl)
 
+-- `wst test own 2.5 1.1.1 2.5` runs cases over our echo, in the order given and as often as given, with the usual key
+abbrev test_words : List Text
+test_words = words (codes "test" ∷ codes "own" ∷ codes "2.5" ∷ codes "1.1.1" ∷ codes "2.5" ∷ [])
+
+pub test_names : (places : Places)
+    → option_map (λ met. given_words (codes "ids") met.1) (subcommand_of (wst_app places) test_words)
+    ≡ Some (codes "2.5" ∷ codes "1.1.1" ∷ codes "2.5" ∷ [])
+unfolding on_words
+test_names places = refl
+
+pub test_target : (places : Places)
+    → option_map (λ met. first_of (codes "target") met.1) (subcommand_of (wst_app places) test_words)
+    ≡ Some (Some (codes "own"))
+unfolding on_words
+test_target places = refl
+
+pub test_key : (places : Places)
+    → option_map (λ met. first_of (codes "key") met.1) (subcommand_of (wst_app places) test_words)
+    ≡ Some (Some (codes "37fa213d"))
+unfolding on_words
+test_key places = refl
+
+-- `wst serve --limit 1000 [::1]:9001 3` serves three connections, with messages of at most 1000 bytes
+abbrev serve_words : List Text
+serve_words = words (codes "serve" ∷ codes "--limit" ∷ codes "1000" ∷ codes "[::1]:9001" ∷ codes "3" ∷ [])
+
+pub serve_numbers : (places : Places)
+    → option_map (λ met. one_of (codes "limit") met.1 ∷ one_of (codes "budget") met.1
+    ∷ one_of (codes "count") met.1 ∷ []) (subcommand_of (wst_app places) serve_words)
+    ≡ Some (Some (codes "1000") ∷ Some (codes "1073741824") ∷ Some (codes "3") ∷ [])
+unfolding on_words
+serve_numbers places = refl
+
+pub serve_address : (places : Places)
+    → option_map (λ met. first_of (codes "address") met.1) (subcommand_of (wst_app places) serve_words)
+    ≡ Some (Some (codes "[::1]:9001"))
+unfolding on_words
+serve_address places = refl
+
 -- such words can fail for want of memory alone
 pub asking_words_are_taken : (places : Places)
     → map (takes (wst_app places)) (plain_words ∷ client_words ∷ head_words ∷ session_words ∷ echo_words ∷ judge_words
-    ∷ cases_words ∷ []) ≡ true ∷ true ∷ true ∷ true ∷ true ∷ true ∷ true ∷ []
+    ∷ convert_words ∷ cases_words ∷ test_words ∷ serve_words ∷ [])
+    ≡ true ∷ true ∷ true ∷ true ∷ true ∷ true ∷ true ∷ true ∷ true ∷ true ∷ []
 unfolding on_words
 asking_words_are_taken places = refl
 
@@ -185,6 +234,26 @@ pub judge_with_a_file : (places : Places)
     → fault_of (wst_app places) (words (codes "judge" ∷ codes "capture" ∷ [])) ≡ UnknownArgument ∷ []
 unfolding on_words
 judge_with_a_file places = refl
+
+-- `wst test`: no server
+pub test_alone : (places : Places)
+    → fault_of (wst_app places) (words (codes "test" ∷ [])) ≡ MissingRequiredArgument ∷ []
+unfolding on_words
+test_alone places = refl
+
+-- `wst serve localhost:9001`: no count
+pub serve_without_count : (places : Places)
+    → fault_of (wst_app places) (words (codes "serve" ∷ codes "localhost:9001" ∷ []))
+    ≡ MissingRequiredArgument ∷ []
+unfolding on_words
+serve_without_count places = refl
+
+-- `wst serve localhost:9001 4294967296`: no number of 32 bits
+pub serve_too_often : (places : Places)
+    → fault_of (wst_app places) (words (codes "serve" ∷ codes "localhost:9001" ∷ codes "4294967296" ∷ []))
+    ≡ ValueValidation ∷ []
+unfolding on_words
+serve_too_often places = refl
 
 -- `wst show --help` is answered with help
 pub show_help : (places : Places)

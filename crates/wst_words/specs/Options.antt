@@ -1,11 +1,11 @@
 -- Options that commands have, as clap's data, and what the words give them.
-use Rattle.std.specs.Prelude.{◌≡◌, ℕ, ◌^◌, ◌<◌, if◌then◌else◌, Bool, true, false, List, [], ◌∷◌, Some, codes}
+use Rattle.std.specs.Prelude.{◌≡◌, ℕ, ◌^◌, ◌<◌, if◌then◌else◌, Bool, true, false, List, [], ◌∷◌, Some, codes, pos}
 use Rattle.std.specs.Borrow.{Bor}
 use Rattle.std.specs.Str.{bytes_eq}
 use Rattle.std.specs.Str.Parse.{IsNumeral, digits_value, without_leading_plus}
 use Rattle.clap.specs.Words.{Row, Rule, Text, first_of, new_rule, one_of}
 use Rattle.clap.specs.declared.builder.action.ArgAction.TheVariants.{Set, SetTrue}
-use Rattle.clap.specs.declared.builder.value_parser.ValueParser.TheVariants.{Names, Unsigned}
+use Rattle.clap.specs.declared.builder.value_parser.ValueParser.TheVariants.{Names, Signed, Unsigned}
 use Rattle.ws_frame.specs.declared.role.Role.{Role}
 use Rattle.ws_frame.specs.declared.role.Role.TheVariants.{Client, Server}
 
@@ -49,6 +49,12 @@ pub record GivesEnd (rows : List Row) (name : Text) (role : Role) : Type 0 where
 abbrev pub GivesNoEnd : List Row → Text → Type 0
 GivesNoEnd rows name = (role : Role) → GivesEnd rows name role → ⊥
 
+-- ---- a word
+
+-- a word that may not be left out
+abbrev pub needed_word_rule : Text → Rule
+needed_word_rule name = record (new_rule name) { action = Some Set; value_names = 1; required = true }
+
 -- ---- a number
 
 -- an option that takes a number of 64 bits, and this one where it is left out
@@ -61,17 +67,30 @@ number_rule name default = record (new_rule name) {
   parser = Some (Unsigned 0 18446744073709551615);
 }
 
--- the option of this name gives this number
-pub record GivesNumber (rows : List Row) (name : Text) (number : ℕ) : Type 0 where
+-- a word for a number of 32 bits, which may not be left out
+abbrev pub needed_count_rule : Text → Rule
+needed_count_rule name = record (needed_word_rule name) { parser = Some (Signed (pos 0) (pos 4294967295)) }
+
+-- the word of this name gives this number of so many bits
+pub record GivesNumberOf (bits : ℕ) (rows : List Row) (name : Text) (number : ℕ) : Type 0 where
   pub word : Text
   pub has_word : one_of name rows ≡ Some word
   pub numeral : IsNumeral 10 (without_leading_plus word)
   pub value : number ≡ digits_value 10 (without_leading_plus word)
-  pub fits : number < 2 ^ 64
+  pub fits : number < 2 ^ bits
+
+abbrev pub GivesNumber : List Row → Text → ℕ → Type 0
+GivesNumber rows name number = GivesNumberOf 64 rows name number
+
+abbrev pub GivesCount : List Row → Text → ℕ → Type 0
+GivesCount rows name number = GivesNumberOf 32 rows name number
 
 -- and it gives none
 abbrev pub GivesNoNumber : List Row → Text → Type 0
 GivesNoNumber rows name = (number : ℕ) → GivesNumber rows name number → ⊥
+
+abbrev pub GivesNoCount : List Row → Text → Type 0
+GivesNoCount rows name = (number : ℕ) → GivesCount rows name number → ⊥
 
 -- ---- a flag
 

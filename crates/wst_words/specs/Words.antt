@@ -6,10 +6,13 @@ use Rattle.clap.specs.Simple.{on_top}
 use Rattle.clap.specs.declared.error.Error.{Error}
 use Rattle.wst_words.specs.Options.{EndPlaces}
 use Rattle.wst_words.specs.Pair.{AsksToPair, pair_app}
+use Rattle.wst_words.specs.Serve.{AsksToServe, serve_app}
 use Rattle.wst_words.specs.Session.{AsksForSession, session_app}
 use Rattle.wst_words.specs.Show.{AsksToShow, show_app}
+use Rattle.wst_words.specs.Test.{AsksToTest, test_app}
 use Rattle.wst_words.specs.declared.words.Task.{Task}
-use Rattle.wst_words.specs.declared.words.Task.TheVariants.{Cases, Head, Judge, Pair, Session, Show}
+use Rattle.wst_words.specs.declared.words.Task.TheVariants.{Cases, Convert, Head, Judge, Pair, Serve}
+use Rattle.wst_words.specs.declared.words.Task.TheVariants.{Session, Show, Test}
 use Rattle.wst_words.specs.declared.words.WordsFault.{WordsFault}
 use Rattle.wst_words.specs.declared.words.WordsFault.TheVariants.{Clap, NoTask}
 
@@ -27,6 +30,9 @@ head_app = new_app (codes "head")
 abbrev pub judge_app : App
 judge_app = new_app (codes "judge")
 
+abbrev pub convert_app : App
+convert_app = new_app (codes "convert")
+
 abbrev pub cases_app : App
 cases_app = new_app (codes "cases")
 
@@ -37,8 +43,9 @@ bare_app = on_top (λ s. record s { subcommand_required = true; has_version = tr
 -- `wst` with its commands
 abbrev pub wst_app : Places → App
 wst_app places =
-    with_subcommand (with_subcommand (with_subcommand (with_subcommand (with_subcommand (with_subcommand bare_app
-    (show_app places.from).top) head_app.top) pair_app.top) (session_app places.role).top) judge_app.top) cases_app.top
+    with_subcommand (with_subcommand (with_subcommand (with_subcommand (with_subcommand (with_subcommand
+    (with_subcommand (with_subcommand (with_subcommand bare_app (show_app places.from).top) head_app.top) pair_app.top)
+    (session_app places.role).top) judge_app.top) convert_app.top) cases_app.top) test_app.top) serve_app.top
 
 -- ---- what the words ask for
 
@@ -50,7 +57,10 @@ CommandAsks (Some (name, rows)) (Pair options) = (name ≡ codes "pair") × Asks
 CommandAsks (Some (name, rows)) Head = name ≡ codes "head"
 CommandAsks (Some (name, rows)) (Session options) = (name ≡ codes "session") × AsksForSession rows options
 CommandAsks (Some (name, rows)) Judge = name ≡ codes "judge"
+CommandAsks (Some (name, rows)) Convert = name ≡ codes "convert"
 CommandAsks (Some (name, rows)) Cases = name ≡ codes "cases"
+CommandAsks (Some (name, rows)) (Test options) = (name ≡ codes "test") × AsksToTest rows options
+CommandAsks (Some (name, rows)) (Serve options) = (name ≡ codes "serve") × AsksToServe rows options
 
 -- and they ask for none
 abbrev pub CommandAsksNothing : Option (Text × List Row) → Type 0

@@ -32,7 +32,8 @@ bytes: it sends each message back, answers each ping and a close, and fails at a
   end peer        the last line: the server ended the connection; `end tester`: the client did
 
 Each line ends in LF. A turn begins with the first of the lines with bytes, and with each `>` line
-behind a `<` line. The output is one line, the first of these that applies:
+behind a `<` line. Captures in format 2, which `convert --help` tells, are judged too. The output is
+one line, the first of these that applies:
 
   FAIL NotFrames       what was got is at fault, goes on after a close, or ends inside a frame
   FAIL Early           an answer stands in a turn before the one of what it answers
@@ -45,7 +46,7 @@ behind a `<` line. The output is one line, the first of these that applies:
   LOOSE OtherCode      the close that was got has another code than the one that is due
   LOOSE LateEnd        the client sent further turns after the close or the fault
   LOOSE EchoShort      messages or pongs that are due before a fault did not come
-  LOOSE BrokenEnd      the connection broke, which no line of this format tells
+  LOOSE BrokenEnd      the connection broke, which only format 2 tells
   PASS                 none of these
 
 A damaged capture is told as `line N: not a capture`, and nothing is written.

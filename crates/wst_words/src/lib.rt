@@ -4,15 +4,20 @@
 #![tactic(auto)]
 
 mod cases;
+mod convert;
 mod head;
 mod judge;
 mod options;
 mod pair;
+mod serve;
 mod session;
 mod show;
+mod test;
 mod words;
 
 pub use pair::PairOptions;
+pub use serve::ServeOptions;
 pub use session::SessionOptions;
 pub use show::ShowOptions;
+pub use test::TestOptions;
 pub use words::{Task, WordsFault, read_words};

@@ -2,9 +2,9 @@
 
 ghost use Rattle.std.specs.Prelude.{◌≡◌, MatchOption, codes, false};
 ghost use Rattle.clap.specs.Words.{found_of, rows_of, rule_of};
-ghost use Rattle.wst_words.specs.Options.{EndPlaces, GivesEnd, GivesFlag, GivesNumber};
-ghost use Rattle.wst_words.specs.Options.{GivesNoEnd, GivesNoFlag, GivesNoNumber};
-ghost use Rattle.wst_words.specs.Options.{end_rule, flag_rule, number_rule, role_named};
+ghost use Rattle.wst_words.specs.Options.{EndPlaces, GivesCount, GivesEnd, GivesFlag, GivesNumber};
+ghost use Rattle.wst_words.specs.Options.{GivesNoCount, GivesNoEnd, GivesNoFlag, GivesNoNumber};
+ghost use Rattle.wst_words.specs.Options.{end_rule, flag_rule, needed_count_rule, number_rule, role_named};
 
 use clap::{Arg, ArgAction, ArgMatches};
 use std::alloc::Global;
@@ -38,6 +38,19 @@ pub fn number_option<'a>(alloc: Global, name: &'a str, help: &'a str, default: &
         .default_value(default)
 }
 
+/// The word of this name for a count, a number of 32 bits that may not be left out.
+pub fn needed_count<'a>(alloc: Global, name: &'a str, help: &'a str) -> Arg<'a>
+    ensures rule { rule_of result ≡ needed_count_rule name.entry.now }
+    ensures local { result.global ≡ false }
+{
+    Arg::new(alloc, name)
+        .value_name("COUNT")
+        .help(help)
+        .action(ArgAction::Set)
+        .value_parser(clap::value_parser!(u32))
+        .required(true)
+}
+
 /// The flag of this name.
 pub fn flag_option<'a>(alloc: Global, name: &'a str, help: &'a str) -> Arg<'a>
     ensures rule { rule_of result ≡ flag_rule name.entry.now }
@@ -64,6 +77,14 @@ pub fn number_of(options: &ArgMatches<'_>, name: &str) -> Option<u64>
         (GivesNumber (rows_of (found_of options.now)) name.now) }
 {
     options.get_one::<u64>(name)
+}
+
+/// The count that the word of this name gives. `None` where it gives none.
+pub fn count_of(options: &ArgMatches<'_>, name: &str) -> Option<u32>
+    ensures { MatchOption result (GivesNoCount (rows_of (found_of options.now)) name.now)
+        (GivesCount (rows_of (found_of options.now)) name.now) }
+{
+    options.get_one::<u32>(name)
 }
 
 /// Whether the flag of this name is set. `None` where it has no value.

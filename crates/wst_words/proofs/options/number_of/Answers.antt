@@ -13,4 +13,4 @@ Gives text r = ParsesUnsigned 64 10 text r × ExplainsUnsignedError 10 text r ×
 pub returns : goal.returns
 returns c =
     let found = found_of c.args.options.now in
-    number_given Gives (λ text r h. h.0) (rows_of found) c.args.name.now _ c.get_one.result (one_text-rows found c.args.name.now) c.get_one.ensures.none c.get_one.ensures.value
+    number_given 64 Gives (λ text r h. h.0) (rows_of found) c.args.name.now _ c.get_one.result (one_text-rows found c.args.name.now) c.get_one.ensures.none c.get_one.ensures.value

@@ -1,0 +1,52 @@
+//! The words of the command `convert`, which has no options.
+
+ghost use Rattle.std.specs.Prelude.{◌≡◌, IfOk, false};
+ghost use Rattle.clap.specs.Words.{app_of};
+ghost use Rattle.clap.specs.declared.builder.command.Command.TheViews.{out-Command as fields_of};
+ghost use Rattle.wst_words.specs.Words.{convert_app};
+
+use clap::Command;
+use std::alloc::{AllocError, Global};
+
+/// `convert`.
+pub fn convert_command<'a>(alloc: Global) -> Result<Command<'a>, AllocError>
+    ensures app { IfOk result (λ command. app_of command ≡ convert_app) }
+    ensures local { IfOk result (λ command. (fields_of command).has_globals ≡ false) }
+{
+    let command = Command::new(alloc, "convert")
+        .about("Writes a captured connection in format 2, whichever of the formats it has")
+        .long_about(LONG_ABOUT)
+        .after_help(AFTER_HELP);
+    Ok(command)
+}
+
+/// What `convert` is for.
+const LONG_ABOUT: &str =
+    "Reads a capture in format 1 or 2, and writes it in format 2, which keeps all of it: the masking key
+where it is known, each turn also where nothing was got in it, and a connection that broke. The
+lines of format 2, each ended by LF:
+
+  wst-capture 2    the first line
+  key KEY          the masking key in eight digits, or `-` where none is known
+  turn             a turn begins; after it stand at most one line of each kind:
+  > HEX            the client sent these bytes, at least one
+  < HEX            it got these bytes, at least one
+  end peer         the last line: the server ended the connection; `end tester`: the client did;
+                   `end broken`: a read or a write failed
+
+A capture in format 1 tells no key. Its turns are those that `judge --help` tells.
+
+A damaged capture is told as `line N: not a capture`, and nothing is written.
+
+Exit status: 0 written, 1 a damaged capture, 2 wrong words, 3 a device failed or memory ran out.";
+
+/// What stands at the end of the help of `convert`.
+const AFTER_HELP: &str = "Example:
+  printf '%s\\n' 'wst-capture 1' '> 81810000000061' '< 810161' 'end tester' | wst convert
+prints
+  wst-capture 2
+  key -
+  turn
+  > 81810000000061
+  < 810161
+  end tester";

@@ -1,0 +1,158 @@
+//! The words of the command `test`.
+
+ghost use Rattle.std.specs.Prelude.{◌≡◌, map, codes, IfOk, MatchOption, false};
+ghost use Rattle.clap.specs.Words.{app_of, found_of, rows_of, rule_of};
+ghost use Rattle.clap.specs.declared.builder.command.Command.TheViews.{out-Command as fields_of};
+ghost use Rattle.wst_words.specs.Test.{AsksToTest, AsksToTestNothing, given_words};
+ghost use Rattle.wst_words.specs.Options.{needed_word_rule};
+ghost use Rattle.wst_words.specs.Test.{test_app, word_rule, words_rule};
+
+use crate::options::{flag_of, flag_option};
+use clap::{Arg, ArgAction, ArgMatches, Command};
+use std::alloc::{AllocError, Global};
+
+/// What `test` is asked to run.
+#[derive(Drop)]
+pub struct TestOptions<'a> {
+    /// The masking key of the frames, as a word.
+    pub key: &'a str,
+    /// The capture is written in place of the verdict.
+    pub capture: bool,
+    /// The peer: `own`, `tung` or an address.
+    pub target: &'a str,
+    /// The names of the cases in the order in which they run. None stands for all.
+    pub ids: Vec<&'a str>,
+}
+
+/// `test` and its words.
+pub fn test_command<'a>(alloc: Global) -> Result<Command<'a>, AllocError>
+    ensures app { IfOk result (λ command. app_of command ≡ test_app) }
+    ensures local { IfOk result (λ command. (fields_of command).has_globals ≡ false) }
+{
+    Command::new(alloc, "test")
+        .about("Runs cases against a server, and tells which rule it broke in each")
+        .long_about(LONG_ABOUT)
+        .after_help(AFTER_HELP)
+        .arg(key_option(alloc))?
+        .arg(flag_option(alloc, "capture", "Write the capture of one case"))?
+        .arg(target_word(alloc))?
+        .arg(id_words(alloc))
+}
+
+/// The masking key.
+fn key_option<'a>(alloc: Global) -> Arg<'a>
+    ensures rule { rule_of result ≡ word_rule (codes "key") (codes "37fa213d") }
+    ensures local { result.global ≡ false }
+{
+    Arg::new(alloc, "key")
+        .long("key")
+        .value_name("HEX8")
+        .help("Masking key: eight lower-case hexadecimal digits")
+        .action(ArgAction::Set)
+        .default_value("37fa213d")
+}
+
+/// The server.
+fn target_word<'a>(alloc: Global) -> Arg<'a>
+    ensures rule { rule_of result ≡ needed_word_rule (codes "target") }
+    ensures local { result.global ≡ false }
+{
+    Arg::new(alloc, "target")
+        .value_name("TARGET")
+        .help(
+            "The address of a server, or one in memory: `own`, our echo, or `tung`, tungstenite's",
+        )
+        .action(ArgAction::Set)
+        .required(true)
+}
+
+/// The names of the cases.
+fn id_words<'a>(alloc: Global) -> Arg<'a>
+    ensures rule { rule_of result ≡ words_rule (codes "ids") }
+    ensures local { result.global ≡ false }
+{
+    Arg::new(alloc, "ids")
+        .value_name("ID")
+        .help("Cases to run, in this order; all where none is given")
+        .action(ArgAction::Append)
+}
+
+/// What the words give. `None` where a word has no value.
+pub fn test_options<'a>(
+    alloc: Global,
+    options: &ArgMatches<'a>,
+) -> Result<Option<TestOptions<'a>>, AllocError>
+    ensures { IfOk result (λ found. MatchOption found (AsksToTestNothing (rows_of (found_of options.now)))
+        (AsksToTest (rows_of (found_of options.now)))) }
+{
+    let ids = ids_of(alloc, options)?;
+    let found = options_with(options, ids);
+    Ok(found)
+}
+
+/// The names of the cases that are given.
+fn ids_of<'a>(alloc: Global, options: &ArgMatches<'a>) -> Result<Vec<&'a str>, AllocError>
+    ensures { IfOk result (λ ids. map (λ id. id.now) ids.items
+        ≡ given_words (codes "ids") (rows_of (found_of options.now))) }
+{
+    match options.get_strs("ids") {
+        Some(ids) => {
+            let ids = ids.to_vec(alloc)?;
+            Ok(ids)
+        }
+        None => Ok(Vec::new(alloc)),
+    }
+}
+
+/// What the words give, with these names of cases.
+fn options_with<'a>(options: &ArgMatches<'a>, ids: Vec<&'a str>) -> Option<TestOptions<'a>>
+    requires { map (λ id. id.now) ids.items ≡ given_words (codes "ids") (rows_of (found_of options.now)) }
+    ensures { MatchOption result (AsksToTestNothing (rows_of (found_of options.now)))
+        (AsksToTest (rows_of (found_of options.now))) }
+{
+    let key = options.get_str("key")?;
+    let capture = flag_of(options, "capture")?;
+    let target = options.get_str("target")?;
+    Some(TestOptions {
+        key,
+        capture,
+        target,
+        ids,
+    })
+}
+
+/// What `test` is for.
+const LONG_ABOUT: &str =
+    "Runs cases, scripts that test a server, each over a connection of its own. TARGET is the address
+of a server, as 127.0.0.1:9001, [::1]:9001 or localhost:9001, which is asked for an upgrade at `/`
+and is to send each message back; or a new server in memory for each case, to see what a run looks
+like: `own`, our echo, which passes, or `tung`, one of the crate tungstenite. As soon as a case is
+judged a line for it is written, and the total at last:
+
+  ID PASS             the server kept the rules
+  ID LOOSE WHY        it broke none, but answered otherwise than an echo that is fed turn by turn
+  ID FAIL WHY         it broke this rule
+  ID FAIL Head NAME   its answer to the request is to be refused
+  ID no connection    there is none, or no whole answer came: the last line, without a total
+  P pass, L loose, F fail
+
+Cases run in the order in which their IDs are given, as often as they are given, and all of them
+where none is. `wst cases` lists the IDs, and `wst judge --help` says what each WHY means. NAME is
+Head, Version, Status, Upgrade, Connection, Accept, Extension, Protocol or TooLarge. With --capture,
+which takes one case, the capture of what went over the connection is written in place of the lines,
+and the status is that of its verdict. Nothing is read.
+
+A server that neither answers nor ends the connection keeps the command waiting; `timeout 60 wst
+test ..` ends it. In parts: wst cases | cut -d' ' -f1 | xargs -n 30 wst test 127.0.0.1:9001
+
+Exit status: 0 no case is FAIL, 1 one is, 2 wrong words, also a word that is no key, no ID or no
+host of a request, 3 there is no connection, the output failed or memory ran out.";
+
+/// What stands at the end of the help of `test`.
+const AFTER_HELP: &str = "Example:
+  wst test own 2.5
+prints
+  2.5 PASS
+  1 pass, 0 loose, 0 fail
+The echo failed the connection at a ping of 126 bytes, as it should. Over sockets:
+  wst serve 127.0.0.1:9001 1 & sleep 1; wst test 127.0.0.1:9001 1.1.1";
