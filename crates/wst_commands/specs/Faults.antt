@@ -1,8 +1,8 @@
 -- What is told on the fault output in place of an answer, and the exit that it stands for.
-use Rattle.std.specs.Prelude.{◌≡◌, ℕ, ◌⊎◌, List, [], ◌∷◌, codes}
+use Rattle.std.specs.Prelude.{◌≡◌, ℕ, ◌⊎◌, List, [], ◌∷◌, Result, Ok, Err, codes}
 use Rattle.std.specs.List.{concat}
 use Rattle.std.specs.Fmt.{decimal}
-use Rattle.ws_frame.specs.Devices.{Device}
+use Rattle.ws_frame.specs.Devices.{Device, IsUntouched}
 use Rattle.wst_commands.specs.Devices.{Tells}
 use Rattle.wst_commands.specs.declared.exit.Exit.{Exit}
 use Rattle.wst_commands.specs.declared.exit.Exit.TheVariants.{Damaged, Failed, WrongWords}
@@ -33,3 +33,8 @@ TellsFault NoCase exit faults = (exit ≡ Failed) × Tells (codes "error: a case
 TellsFault NoText exit faults = (exit ≡ WrongWords) × Tells (codes "error: the words are not UTF-8\n") faults
 TellsFault NoTask exit faults = (exit ≡ WrongWords) × Tells (codes "error: the words ask for nothing\n") faults
 TellsFault NoMemory exit faults = LacksMemory exit faults
+
+-- what is told of how a run ended, and the exit: nothing, or its fault
+abbrev pub Ends : Result Exit Fault → Exit → Device → Type 0
+Ends (Ok ended) exit faults = (exit ≡ ended) × IsUntouched faults
+Ends (Err fault) exit faults = TellsFault fault exit faults

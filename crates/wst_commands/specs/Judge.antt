@@ -1,9 +1,10 @@
 -- A run of `judge`: a capture is read whole and judged, and the verdict is written.
 use Rattle.std.specs.Prelude.{◌≡◌, ◌⊎◌, ℕ, List, ◌++◌, Result, Err, MatchResult, codes}
 use Rattle.ws_frame.specs.Devices.{Device, IsUntouched}
-use Rattle.ws_suite.specs.Captures.{Damages, IsCaptureOf}
+use Rattle.ws_suite.specs.Captures2.{DamagesAny, IsAnyCaptureOf}
 use Rattle.ws_suite.specs.Verdicts.{IsVerdictOf}
 use Rattle.ws_suite.specs.Words.{verdict_words}
+use Rattle.ws_suite.specs.declared.capture.Capture.{Capture}
 use Rattle.ws_suite.specs.declared.capture.CaptureFault.{CaptureFault}
 use Rattle.ws_suite.specs.declared.capture.CaptureFault.TheVariants as capture
 use Rattle.ws_suite.specs.declared.transcript.Transcript.{Transcript}
@@ -38,11 +39,12 @@ abbrev pub capture_fault : CaptureFault → Fault
 capture_fault (capture.Damaged number) = NotACapture number
 capture_fault capture.NoMemory = NoMemory
 
--- what is done with a text: as a capture it is judged; else nothing is written, and what is wrong is told
+-- what is done with a text: as a capture, in either format, it is judged; else nothing is written, and what is wrong is
+-- told
 abbrev pub AnswersCapture : List ℕ → Result Exit Fault → Device → Type 0
 AnswersCapture text ended output =
-    ((transcript : Transcript) × IsCaptureOf transcript text × TellsVerdict transcript ended output)
-    ⊎ ((fault : CaptureFault) × Damages fault text × (ended ≡ Err (capture_fault fault)) × IsUntouched output)
+    ((capture : Capture) × IsAnyCaptureOf capture text × TellsVerdict capture.transcript ended output)
+    ⊎ ((fault : CaptureFault) × DamagesAny fault text × (ended ≡ Err (capture_fault fault)) × IsUntouched output)
 
 -- a run of `judge`
 abbrev pub RunsJudge : Result Exit Fault → Device → Device → Type 0

@@ -1,5 +1,5 @@
 -- What the head of a request decides (RFC 6455 section 4.2.1).
-use Rattle.std.specs.Prelude.{◌≡◌, ℕ, ◌≤◌, List, length}
+use Rattle.std.specs.Prelude.{◌≡◌, ℕ, ◌≤◌, List, [], length}
 use Rattle.ws_upgrade.specs.Reading.{IsRequestRead, ChecksEachRequest}
 use Rattle.ws_upgrade.specs.declared.requests.Upgrade.{Upgrade}
 use Rattle.ws_upgrade.specs.declared.requests.RequestRead.{RequestRead}
@@ -7,9 +7,9 @@ use Rattle.ws_upgrade.specs.declared.requests.RequestRead.TheVariants as read
 use Rattle.wst_commands.specs.declared.request_head.RequestDecision.{RequestDecision}
 use Rattle.wst_commands.specs.declared.request_head.RequestDecision.TheVariants.{Accepted, Refused}
 
--- this is an answer to these bytes as a request
+-- this is an answer to these bytes as a request, by an endpoint that knows no subprotocol
 abbrev pub IsAnswer : List ℕ → RequestRead → Type 0
-IsAnswer bytes answer = IsRequestRead bytes answer × ChecksEachRequest bytes answer
+IsAnswer bytes answer = IsRequestRead [] bytes answer × ChecksEachRequest [] bytes answer
 
 -- these bytes need more to be a request
 abbrev pub NeedsRequest : List ℕ → Type 0

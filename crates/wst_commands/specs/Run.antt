@@ -1,39 +1,54 @@
 -- What a run of the program leaves: what its words ask for is done, or it is told what is wrong with them.
-use Rattle.std.specs.Prelude.{◌≡◌, ◌⊎◌, true, false, List, Result, Ok, Err}
+use Rattle.std.specs.Prelude.{◌≡◌, ℕ, ◌≤◌, ◌⊎◌, ⊤, true, false, List, Result}
 use Rattle.clap.specs.Words.{App, Text, kind_of}
 use Rattle.clap.specs.declared.error.kind.ErrorKind.{ErrorKind}
 use Rattle.clap.specs.declared.error.kind.ErrorKind.TheVariants.{DisplayHelp, DisplayVersion, OutOfMemory}
 use Rattle.ws_frame.specs.Devices.{Device, IsUntouched}
 use Rattle.wst_words.specs.Words.{AsksFor, RefusesWords}
 use Rattle.wst_words.specs.declared.words.Task.{Task}
-use Rattle.wst_words.specs.declared.words.Task.TheVariants.{Cases, Head, Judge, Pair, Session, Show}
+use Rattle.wst_words.specs.declared.words.Task.TheVariants.{Cases, Convert, Head, Judge, Pair, Serve}
+use Rattle.wst_words.specs.declared.words.Task.TheVariants.{Session, Show, Test}
 use Rattle.wst_words.specs.declared.words.WordsFault.{WordsFault}
 use Rattle.wst_words.specs.declared.words.WordsFault.TheVariants as words
 use Rattle.wst_commands.specs.Cases.{ListsCases}
-use Rattle.wst_commands.specs.Faults.{TellsFault}
+use Rattle.wst_commands.specs.Convert.{RunsConvert}
+use Rattle.wst_commands.specs.Exits.{status_of}
+use Rattle.wst_commands.specs.Faults.{Ends, TellsFault}
 use Rattle.wst_commands.specs.Head.{RunsHead}
 use Rattle.wst_commands.specs.Judge.{RunsJudge}
 use Rattle.wst_commands.specs.Pairs.{RunsPair}
+use Rattle.wst_commands.specs.Serve.{RunsServe}
 use Rattle.wst_commands.specs.Session.{RunsSession}
 use Rattle.wst_commands.specs.Show.{RunsShow}
+use Rattle.wst_commands.specs.Test.{RunsTest}
 use Rattle.wst_commands.specs.declared.exit.Exit.{Exit}
 use Rattle.wst_commands.specs.declared.exit.Exit.TheVariants.{Done, WrongWords, Failed}
 use Rattle.wst_commands.specs.declared.fault.Fault.{Fault}
 use Rattle.wst_commands.specs.declared.fault.Fault.TheVariants as fault
+use Rattle.wst_commands.specs.declared.running.Ran.{Ran}
+use Rattle.wst_commands.specs.declared.running.Ran.TheVariants as ran
 
--- what was asked for is done
-abbrev pub RunsTask : Task → Result Exit Fault → Device → Device → Type 0
-RunsTask (Show options) ended input output = RunsShow options ended input output
-RunsTask (Pair options) ended input output = RunsPair options ended input output
-RunsTask Head ended input output = RunsHead ended input output
-RunsTask (Session options) ended input output = RunsSession options ended input output
-RunsTask Judge ended input output = RunsJudge ended input output
-RunsTask Cases ended input output = IsUntouched input × ListsCases ended output
+-- the run has ended so, and that is told
+abbrev pub EndsRun : Result Exit Fault → Ran → Device → Type 0
+EndsRun ended (ran.Ended exit) faults = Ends ended exit faults
+EndsRun ended _ faults = ⊥
 
--- what is told of how a run ended, and the exit: nothing, or its fault
-abbrev pub Ends : Result Exit Fault → Exit → Device → Type 0
-Ends (Ok ended) exit faults = (exit ≡ ended) × IsUntouched faults
-Ends (Err fault) exit faults = TellsFault fault exit faults
+-- this was done, and how it ended is told
+abbrev pub EndsBy : (Result Exit Fault → Type 0) → Ran → Device → Type 0
+EndsBy Does ran faults = (ended : Result Exit Fault) × Does ended × EndsRun ended ran faults
+
+-- what was asked for is done, and how that ended is told; or it asks for sockets, and is handed back
+abbrev pub RunsTask : Task → Ran → Device → Device → Device → Type 0
+RunsTask (Show options) ran input output faults = EndsBy (λ ended. RunsShow options ended input output) ran faults
+RunsTask (Pair options) ran input output faults = EndsBy (λ ended. RunsPair options ended input output) ran faults
+RunsTask Head ran input output faults = EndsBy (λ ended. RunsHead ended input output) ran faults
+RunsTask (Session options) ran input output faults = EndsBy (λ ended. RunsSession options ended input output) ran faults
+RunsTask Judge ran input output faults = EndsBy (λ ended. RunsJudge ended input output) ran faults
+RunsTask Convert ran input output faults = EndsBy (λ ended. RunsConvert ended input output) ran faults
+RunsTask Cases ran input output faults = IsUntouched input × EndsBy (λ ended. ListsCases ended output) ran faults
+RunsTask (Test options) ran input output faults = IsUntouched input × RunsTest options ran output faults
+RunsTask (Serve options) ran input output faults =
+    IsUntouched input × IsUntouched output × (output.failed ≡ false) × RunsServe options ran faults
 
 -- help and the version go to the output, which is done exactly where no write to it failed
 abbrev pub TellsHelp : Exit → Device → Device → Type 0
@@ -53,11 +68,19 @@ abbrev pub AnswersWords : WordsFault → Exit → Device → Device → Type 0
 AnswersWords (words.Clap error) exit output faults = TellsOf (kind_of error) exit output faults
 AnswersWords words.NoTask exit output faults = IsUntouched output × TellsFault fault.NoTask exit faults
 
--- what the words ask for was done, and what that ended with is told; or they give no task, which is told, and nothing
--- was read
-abbrev pub Runs : App → List Text → Exit → Device → Device → Device → Type 0
-Runs app words exit input output faults =
-    ((task : Task) × (ended : Result Exit Fault) × AsksFor app words task × RunsTask task ended input output
-    × Ends ended exit faults)
-    ⊎ ((refused : WordsFault) × RefusesWords app words refused × IsUntouched input
-    × AnswersWords refused exit output faults)
+-- the words give no task, which is told, and nothing was read
+abbrev pub RefusesRun : App → List Text → Ran → Device → Device → Device → Type 0
+RefusesRun app words (ran.Ended exit) input output faults = (refused : WordsFault) × RefusesWords app words refused
+    × IsUntouched input × AnswersWords refused exit output faults
+RefusesRun app words _ input output faults = ⊥
+
+-- what the words ask for was done or handed back; or they give no task
+abbrev pub Runs : App → List Text → Ran → Device → Device → Device → Type 0
+Runs app words ran input output faults =
+    ((task : Task) × AsksFor app words task × RunsTask task ran input output faults)
+    ⊎ RefusesRun app words ran input output faults
+
+-- the exit of a run that has ended is of a status up to this
+abbrev pub EndsWithin : ℕ → Ran → Type 0
+EndsWithin most (ran.Ended exit) = status_of exit ≤ most
+EndsWithin most _ = ⊤

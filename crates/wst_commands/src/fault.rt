@@ -1,7 +1,7 @@
 //! What is told on the fault output in place of an answer.
 
 ghost use Rattle.std.specs.Prelude.{◌≡◌};
-ghost use Rattle.wst_commands.specs.Faults.{LacksMemory, TellsFault, TellsLine};
+ghost use Rattle.wst_commands.specs.Faults.{Ends, LacksMemory, TellsFault, TellsLine};
 ghost use Rattle.wst_commands.specs.declared.fault.Fault.TheVariants as variant;
 ghost use Rattle.ws_frame.specs.Devices.{watched};
 
@@ -49,6 +49,16 @@ impl From<AllocError> for Fault {
 
     fn from(_refused: AllocError) -> Fault {
         Fault::NoMemory
+    }
+}
+
+/// Tells what a run has to tell on the fault output, and answers how it ended.
+pub fn end_run<F: Write>(alloc: Global, ended: Result<Exit, Fault>, faults: &mut Watched<F>) -> Exit
+    ensures { Ends ended result (watched F.contents faults.old faults.new) }
+{
+    match ended {
+        Ok(exit) => exit,
+        Err(fault) => tell_fault(alloc, fault, faults),
     }
 }
 

@@ -12,9 +12,9 @@ use crate::telling::deliver;
 use std::alloc::Global;
 use std::io::{Read, Write};
 use ws_frame::Watched;
-use ws_suite::{CaptureFault, Transcript, Verdict, judge, read_capture};
+use ws_suite::{CaptureFault, Transcript, Verdict, judge, read_capture2};
 
-/// Judges the capture that the reader gives, and writes the verdict.
+/// Judges the capture that the reader gives, in either format, and writes the verdict.
 pub fn run_judge<R: Read, W: Write>(
     alloc: Global,
     reader: &mut Watched<R>,
@@ -37,14 +37,14 @@ fn answer<W: Write>(alloc: Global, text: &[u8], writer: &mut Watched<W>) -> Resu
     requires { has_failed writer.old ≡ false }
     ensures { AnswersCapture text.now result (watched W.contents writer.old writer.new) }
 {
-    match read_capture(alloc, text) {
-        Ok(transcript) => tell_verdict(alloc, &transcript, writer),
+    match read_capture2(alloc, text) {
+        Ok(capture) => tell_verdict(alloc, &capture.transcript, writer),
         Err(fault) => Err(fault_of(fault)),
     }
 }
 
 /// What is told of a text that is no capture.
-fn fault_of(fault: CaptureFault) -> Fault
+pub fn fault_of(fault: CaptureFault) -> Fault
     ensures { result ≡ capture_fault fault }
 {
     match fault {
@@ -72,7 +72,7 @@ fn tell_verdict<W: Write>(
 }
 
 /// How a run ends that has written this verdict.
-fn exit_of(verdict: Verdict) -> Exit
+pub fn exit_of(verdict: Verdict) -> Exit
     ensures { result ≡ exit_of verdict }
 {
     match verdict {

@@ -7,80 +7,139 @@ ghost use Rattle.ws_frame.specs.Watching.{has_failed};
 ghost use Rattle.wst_words.specs.Words.{Places, wst_app};
 ghost use Rattle.wst_commands.specs.Devices.{Tells};
 ghost use Rattle.wst_commands.specs.Exits.{status_of};
-ghost use Rattle.wst_commands.specs.Run.{AnswersWords, Ends, Runs, RunsTask, TellsOf};
+ghost use Rattle.wst_commands.specs.Run.{AnswersWords, EndsRun, EndsWithin, Runs, RunsTask, TellsOf};
+ghost use Rattle.wst_commands.specs.Serve.{RunsServe};
+ghost use Rattle.wst_commands.specs.Test.{RunsTest};
 
 use crate::cases::run_cases;
+use crate::convert::run_convert;
 use crate::exit::Exit;
-use crate::fault::{Fault, tell_fault};
+use crate::fault::{Fault, end_run, tell_fault};
 use crate::head::run_head;
 use crate::judge::run_judge;
 use crate::pair::run_moves;
+use crate::serve::{ServePlan, plan_serve};
 use crate::session::run_session;
 use crate::show::run_show;
+use crate::test::{Target, TestPlan, plan_test, run_plan, tell_refusal};
 use clap::Error;
 use clap::error::ErrorKind;
 use std::alloc::Global;
 use std::io::{Read, Write};
 use ws_frame::Watched;
-use wst_words::{Task, WordsFault, read_words};
+use wst_words::{ServeOptions, Task, TestOptions, WordsFault, read_words};
+
+/// What came of a run. What asks for sockets, which stand above, is handed back: then nothing was read, written or told.
+#[derive(Drop)]
+pub enum Ran<'a> {
+    /// It has ended.
+    Ended(Exit),
+    /// Connections are to be served.
+    Serve(ServePlan<'a>),
+    /// Cases are to be run over the server at this address, which can be the host of a request.
+    Test(&'a str, TestPlan<'a>),
+}
 
 /// Runs what the words ask for, the program's name first, and answers how that ended: status 0 done, 1 a
 /// damaged or refused input or a rule that was broken, 2 wrong words, 3 where input, output, the budget or
 /// memory failed. Help and the version go to the writer with status 0. What is wrong with the words goes to
-/// `faults`, and then nothing is read or written. Want of memory is told there as `no memory`.
-pub fn run<R: Read, W: Write, F: Write>(
+/// `faults`, and then nothing is read or written. Want of memory is told there as `no memory`. What is
+/// to be served, and what is to be run over a server at an address, is handed back, where nothing is wrong with it.
+pub fn run<'a, R: Read, W: Write, F: Write>(
     alloc: Global,
-    words: &[String],
+    words: &'a [String],
     reader: &mut Watched<R>,
     writer: &mut Watched<W>,
     faults: &mut Watched<F>,
-) -> Exit
+) -> Ran<'a>
     requires reader_works { has_failed reader.old ≡ false }
     requires writer_works { has_failed writer.old ≡ false }
-    ensures status { status_of result ≤ 3 }
+    ensures status { EndsWithin 3 result }
     ensures runs { (places : Places) × Runs (wst_app places) (map string_bytes words.now) result
         (watched R.remaining reader.old reader.new)
         (watched W.contents writer.old writer.new)
         (watched F.contents faults.old faults.new) }
 {
     match read_words(alloc, words) {
-        Ok(task) => {
-            let ended = run_task(alloc, task, reader, writer);
-            end_run(alloc, ended, faults)
-        }
-        Err(fault) => answer_words(alloc, &fault, writer, faults),
+        Ok(task) => run_task(alloc, task, reader, writer, faults),
+        Err(fault) => Ran::Ended(answer_words(alloc, &fault, writer, faults)),
     }
 }
 
-/// Does what was asked for. An `Err` is yet to be told.
-fn run_task<R: Read, W: Write>(
+/// Does what was asked for, and tells what is to be told; or hands back what asks for sockets.
+fn run_task<'a, R: Read, W: Write, F: Write>(
     alloc: Global,
-    task: Task,
+    task: Task<'a>,
     reader: &mut Watched<R>,
     writer: &mut Watched<W>,
-) -> Result<Exit, Fault>
+    faults: &mut Watched<F>,
+) -> Ran<'a>
     requires reader_works { has_failed reader.old ≡ false }
     requires writer_works { has_failed writer.old ≡ false }
-    ensures { RunsTask task result (watched R.remaining reader.old reader.new)
-        (watched W.contents writer.old writer.new) }
+    ensures { RunsTask task.entry result (watched R.remaining reader.old reader.new)
+        (watched W.contents writer.old writer.new)
+        (watched F.contents faults.old faults.new) }
 {
     match task {
-        Task::Show(options) => run_show(options, reader, writer),
-        Task::Pair(options) => run_moves(alloc, options, reader, writer),
-        Task::Head => run_head(alloc, reader, writer),
-        Task::Session(options) => run_session(alloc, options, reader, writer),
-        Task::Judge => run_judge(alloc, reader, writer),
-        Task::Cases => run_cases(alloc, writer),
+        Task::Show(options) => end_with(alloc, run_show(options, reader, writer), faults),
+        Task::Pair(options) => end_with(alloc, run_moves(alloc, options, reader, writer), faults),
+        Task::Head => end_with(alloc, run_head(alloc, reader, writer), faults),
+        Task::Session(options) => {
+            end_with(alloc, run_session(alloc, options, reader, writer), faults)
+        }
+        Task::Judge => end_with(alloc, run_judge(alloc, reader, writer), faults),
+        Task::Convert => end_with(alloc, run_convert(alloc, reader, writer), faults),
+        Task::Cases => end_with(alloc, run_cases(alloc, writer), faults),
+        Task::Test(options) => run_test(alloc, &options, writer, faults),
+        Task::Serve(options) => run_serve(alloc, options, faults),
     }
 }
 
-/// Tells what a run has to tell on the fault output, and answers how it ended.
-fn end_run<F: Write>(alloc: Global, ended: Result<Exit, Fault>, faults: &mut Watched<F>) -> Exit
-    ensures { Ends ended result (watched F.contents faults.old faults.new) }
+/// A run that has ended so, which is told.
+fn end_with<'a, F: Write>(
+    alloc: Global,
+    ended: Result<Exit, Fault>,
+    faults: &mut Watched<F>,
+) -> Ran<'a>
+    ensures { EndsRun ended result (watched F.contents faults.old faults.new) }
 {
-    match ended {
-        Ok(exit) => exit,
-        Err(fault) => tell_fault(alloc, fault, faults),
+    Ran::Ended(end_run(alloc, ended, faults))
+}
+
+/// Hands back what is to be served, or tells that no endpoint can have the limit.
+fn run_serve<'a, F: Write>(
+    alloc: Global,
+    options: ServeOptions<'a>,
+    faults: &mut Watched<F>,
+) -> Ran<'a>
+    ensures { RunsServe options.entry result (watched F.contents faults.old faults.new) }
+{
+    match plan_serve(&options) {
+        Some(plan) => Ran::Serve(plan),
+        None => Ran::Ended(tell_fault(alloc, Fault::BadLimits, faults)),
+    }
+}
+
+/// Runs the cases that the words ask for over servers in memory, hands back what is to be run over one at an address,
+/// or tells on the fault output why nothing is run.
+fn run_test<'a, W: Write, F: Write>(
+    alloc: Global,
+    options: &TestOptions<'a>,
+    writer: &mut Watched<W>,
+    faults: &mut Watched<F>,
+) -> Ran<'a>
+    requires { has_failed writer.old ≡ false }
+    ensures { RunsTest options.now result (watched W.contents writer.old writer.new)
+        (watched F.contents faults.old faults.new) }
+{
+    match plan_test(alloc, options) {
+        Ok(plan) => match plan.target {
+            Target::Memory(server) => {
+                Ran::Ended(run_plan(alloc, &server, &plan, writer, faults))
+            }
+            Target::Address(host) => Ran::Test(host, plan),
+        },
+        Err(refusal) => Ran::Ended(tell_refusal(alloc, refusal, faults)),
     }
 }
 

@@ -1,14 +1,16 @@
 //! One connection of a server: the opening handshake, and then an echo (RFC 6455 sections 4.2 and 5 to 7).
 
-ghost use Rattle.std.specs.Prelude.{◌≡◌, false};
+ghost use Rattle.std.specs.Prelude.{◌≡◌, Some, false};
 ghost use Rattle.ws_frame.specs.Devices.{watched};
 ghost use Rattle.ws_frame.specs.Watching.{has_failed};
 ghost use Rattle.wst_commands.specs.Requests.{DecidesRequest};
+ghost use Rattle.wst_commands.specs.Serve.{served_words};
 ghost use Rattle.wst_commands.specs.Serving.{AnswersAccepted, AnswersHead, AnswersRefused, Serves, served_by};
 
 use crate::reading_head::{HeadEnd, HeadRoom, read_head};
 use crate::request_head::{RequestDecision, RequestHead};
 use std::alloc::Global;
+use std::fmt;
 use std::io::{Read, Write};
 use ws_frame::{Role, Watched, write_whole};
 use ws_peer::{DriveEnd, drive};
@@ -27,6 +29,19 @@ pub enum Served {
     Refused(HeadFault),
     /// Reading, writing, the budget or memory ended it, or the stream did inside the head.
     Stopped,
+}
+
+/// How it ended, in words.
+impl fmt::Display for Served {
+    ghost output = { λ served. Some (served_words served) };
+
+    fn fmt<W: fmt::Write>(&self, f: &mut fmt::Formatter<W>) -> fmt::Result {
+        match *self {
+            Served::Ended(status) => write!(f, "{status}"),
+            Served::Refused(fault) => write!(f, "refused {fault}"),
+            Served::Stopped => write!(f, "stopped"),
+        }
+    }
 }
 
 /// Serves a connection: reads the head of a request, at most 8192 bytes, and writes the response, or the refusal and no

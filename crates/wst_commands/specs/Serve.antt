@@ -1,0 +1,67 @@
+-- What `serve` is asked for, and the lines that it tells.
+use Rattle.std.specs.Prelude.{◌≡◌, ℕ, ◌⊎◌, true, false, List, [], ◌∷◌, ◌++◌, codes}
+use Rattle.std.specs.List.{concat}
+use Rattle.std.specs.Fmt.{decimal}
+use Rattle.ws_frame.specs.Devices.{Device, HasBegun, HasWritten, IsUntouched}
+use Rattle.ws_session.specs.Limits.{AreLimits}
+use Rattle.ws_session.specs.Words.{status_words}
+use Rattle.ws_upgrade.specs.Words.{head_fault_name}
+use Rattle.wst_words.specs.declared.serve.ServeOptions.{ServeOptions}
+use Rattle.wst_commands.specs.Faults.{LacksMemory, TellsFault}
+use Rattle.wst_commands.specs.Limits.{limits_of}
+use Rattle.wst_commands.specs.declared.exit.Exit.{Exit}
+use Rattle.wst_commands.specs.declared.exit.Exit.TheVariants.{Done, Failed}
+use Rattle.wst_commands.specs.declared.fault.Fault.TheVariants.{BadLimits}
+use Rattle.wst_commands.specs.declared.running.Ran.{Ran}
+use Rattle.wst_commands.specs.declared.running.Ran.TheVariants as ran
+use Rattle.wst_commands.specs.declared.serve.ServePlan.{ServePlan}
+use Rattle.wst_commands.specs.declared.serving.Served.{Served}
+use Rattle.wst_commands.specs.declared.serving.Served.TheVariants.{Ended, Refused, Stopped}
+
+-- ---- what is asked for
+
+-- this server: its limits are those of the words, which an endpoint can have, and the rest is as it was given
+abbrev pub IsServePlan : ServeOptions → ServePlan → Type 0
+IsServePlan options plan =
+    (AreLimits (limits_of options.limit) × (plan.limits ≡ limits_of options.limit)) × (plan.budget ≡ options.budget)
+    × (plan.address ≡ options.address) × (plan.count ≡ options.count)
+
+-- one with limits that no endpoint can have
+abbrev pub CanNotServe : ServeOptions → Type 0
+CanNotServe options = ¬ (AreLimits (limits_of options.limit))
+
+-- ---- what is told
+
+-- how a connection ended, in words
+abbrev pub served_words : Served → List ℕ
+served_words (Ended status) = status_words status
+served_words (Refused fault) = codes "refused " ++ head_fault_name fault
+served_words Stopped = codes "stopped"
+
+-- the line of the connection of this number
+abbrev pub connection_line : ℕ → Served → List ℕ
+connection_line number served = concat (decimal number ∷ codes " " ∷ served_words served ∷ codes "\n" ∷ [])
+
+-- the line before the first of them
+abbrev pub listening_line : List ℕ → List ℕ
+listening_line address = concat (codes "listening on " ∷ address ∷ codes "\n" ∷ [])
+
+-- this line was written; or the exit is that of a failure: of a write, with a beginning of the line written, or of a
+-- flush, with the whole line written
+abbrev pub DeliversLine : List ℕ → Exit → Device → Type 0
+DeliversLine line exit output =
+    ((exit ≡ Done) × (output.failed ≡ false) × HasWritten line output)
+    ⊎ ((exit ≡ Failed) × (HasWritten line output ⊎ ((output.failed ≡ true) × HasBegun line output)))
+
+-- this line was delivered; or memory ran out for it, which is told, and nothing was written
+abbrev pub TellsLineOf : List ℕ → Exit → Device → Device → Type 0
+TellsLineOf line exit output faults =
+    (DeliversLine line exit output × IsUntouched faults) ⊎ (IsUntouched output × LacksMemory exit faults)
+
+-- ---- a run
+
+-- what is to be served is handed back, and nothing was told; or it is told that the limits are none
+abbrev pub RunsServe : ServeOptions → Ran → Device → Type 0
+RunsServe options (ran.Ended exit) faults = CanNotServe options × TellsFault BadLimits exit faults
+RunsServe options (ran.Serve plan) faults = IsServePlan options plan × IsUntouched faults
+RunsServe options _ faults = ⊥

@@ -1,0 +1,30 @@
+-- Servers that cases are run over: what is known of a connection to one in memory.
+use Rattle.std.specs.Prelude.{ℕ, List}
+use Rattle.ws_peer.specs.EchoRuns.{IsEchoRun}
+use Rattle.ws_peer.specs.Runs.{IsRunOf}
+use Rattle.ws_peer.specs.Talks.{Entry}
+use Rattle.ws_suite.specs.Scripts.{AreTurns}
+use Rattle.ws_suite.specs.declared.script.Case.{Case}
+use Rattle.ws_suite.specs.declared.transcript.Transcript.{Transcript}
+use Rattle.wst_commands.specs.declared.case_server.MemoryServer.{MemoryServer}
+use Rattle.wst_commands.specs.declared.case_server.MemoryServer.TheVariants.{Own, Tung}
+use Rattle.wst_commands.specs.declared.probe_end.Probe.{Probe}
+use Rattle.wst_commands.specs.declared.probe_end.Probe.TheVariants.{NoConnection, Ran, Refused}
+
+-- The transcript is that of a run of the script's pieces in some talk with a peer, of which nothing else is known.
+pub record IsPeerRun (key : List ℕ) (case : Case) (transcript : Transcript) : Type 0 where
+  pub turns : List (List (List ℕ))
+  pub are_turns : AreTurns case key turns
+  pub talk : List Entry
+  pub is_run : IsRunOf turns talk transcript
+
+-- over our echo the talk is an echo's; a server of `tungstenite` may answer anything
+abbrev pub IsMemoryRun : MemoryServer → List ℕ → Case → Transcript → Type 0
+IsMemoryRun Own key case transcript = IsEchoRun case key transcript
+IsMemoryRun Tung key case transcript = IsPeerRun key case transcript
+
+-- a server in memory is always there, and asks for no handshake
+abbrev pub MeetsInMemory : MemoryServer → List ℕ → Case → Probe → Type 0
+MeetsInMemory server key case (Ran transcript) = IsMemoryRun server key case transcript
+MeetsInMemory server key case (Refused fault) = ⊥
+MeetsInMemory server key case NoConnection = ⊥
