@@ -1,0 +1,87 @@
+//! Making a stream as a client sends it.
+
+use anyhow::{Context, Result};
+use std::alloc::{AllocError, Global};
+use std::io::Write;
+use ws_frame::Role;
+use ws_session::{Kind, Limits, Session};
+
+/// The key of the first frame.
+const FIRST_KEY: u32 = 0x37fa_213d;
+
+/// What a payload is filled with.
+#[derive(Clone, Copy)]
+pub enum Fill {
+    /// Bytes of all values.
+    Binary,
+    /// Letters of one byte.
+    Text,
+    /// Greek letters, of two bytes each.
+    Greek,
+}
+
+impl Fill {
+    /// The filling that a word names.
+    pub fn from_word(word: &str) -> Option<Fill> {
+        match word {
+            "binary" => Some(Fill::Binary),
+            "text" => Some(Fill::Text),
+            "greek" => Some(Fill::Greek),
+            _ => None,
+        }
+    }
+
+    /// The kind of such a message.
+    fn kind(self) -> Kind {
+        match self {
+            Fill::Binary => Kind::Binary,
+            Fill::Text | Fill::Greek => Kind::Text,
+        }
+    }
+
+    /// The byte at this place of a payload.
+    fn byte(self, place: usize) -> u8 {
+        match self {
+            Fill::Binary => (place % 256) as u8,
+            Fill::Text => b'a' + (place % 26) as u8,
+            // The letters U+03B1 to U+03BF.
+            Fill::Greek if place % 2 == 0 => 0xce,
+            Fill::Greek => 0xb1 + (place / 2 % 15) as u8,
+        }
+    }
+
+    /// A payload of so many bytes.
+    fn payload(self, alloc: Global, len: usize) -> Result<Vec<u8>, AllocError> {
+        let mut payload = Vec::new(alloc);
+        for place in 0..len {
+            payload.push(self.byte(place))?;
+        }
+        Ok(payload)
+    }
+}
+
+/// Writes so many messages of `len` bytes, each in one frame with a key of its own, and a close frame.
+pub fn make<W: Write>(
+    alloc: Global,
+    fill: Fill,
+    len: usize,
+    count: u64,
+    output: &mut W,
+) -> Result<()> {
+    // It takes nothing.
+    let limits = Limits::new(1).context("bad limits")?;
+    let mut client = Session::new(alloc, Role::Client, limits);
+    let payload = fill.payload(alloc, len)?;
+    let mut frame = Vec::new(alloc);
+    let mut key = FIRST_KEY;
+    for _ in 0..count {
+        frame.clear();
+        client.begin(fill.kind(), &payload, true, key.to_be_bytes(), &mut frame)?;
+        output.write_all(&frame)?;
+        key = key.wrapping_mul(1_664_525).wrapping_add(1_013_904_223);
+    }
+    frame.clear();
+    client.close(None, key.to_be_bytes(), &mut frame)?;
+    output.write_all(&frame)?;
+    Ok(())
+}

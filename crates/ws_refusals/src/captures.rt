@@ -1,0 +1,112 @@
+//! Captures: read, judged, and written again.
+
+use crate::tally::Tally;
+use std::alloc::Global;
+use ws_base::NoMemory;
+use ws_suite::{CaptureFault, Transcript, Verdict, judge, read_capture, write_capture};
+
+/// A capture, and the verdict on it.
+pub struct Capture {
+    pub text: &'static str,
+    pub verdict: &'static str,
+}
+
+/// An echo.
+pub const ECHO: Capture = Capture {
+    text: "\
+wst-capture 1
+> 81810000000061
+< 810161
+> 88820000000003e8
+< 880203e8
+end peer
+",
+    verdict: "PASS",
+};
+
+/// A message that comes before what it answers.
+pub const EARLY: Capture = Capture {
+    text: "\
+wst-capture 1
+< 810161
+> 8181000000006188820000000003e8
+< 880203e8
+end peer
+",
+    verdict: "FAIL Early",
+};
+
+/// Case 5.19 over an echo.
+pub const FRAGMENTS: Capture = Capture {
+    text: "\
+wst-capture 1
+> 018900000000667261676d656e7431008900000000667261676d656e743289860000000070696e672031
+< 8a0670696e672031
+> 008900000000667261676d656e7433008900000000667261676d656e743489860000000070696e672032808900000000667261676d656e7435
+< 8a0670696e672032812d667261676d656e7431667261676d656e7432667261676d656e7433667261676d656e7434667261676d656e7435
+> 88820000000003e8
+< 880203e8
+end peer
+",
+    verdict: "PASS",
+};
+
+/// Reads a capture, judges it, and writes it again.
+pub fn play(alloc: Global, capture: &Capture, tally: &mut Tally) -> Result<(), NoMemory> {
+    match read_again(alloc, capture.text.as_bytes(), tally) {
+        Ok(transcript) => {
+            let verdict = judge_again(alloc, &transcript, tally)?;
+            let words = format!(in alloc; "{verdict}")?;
+            tally.compare(words.as_str() == capture.verdict);
+            let text = write_again(alloc, &transcript, tally)?;
+            tally.compare(text.as_slice() == capture.text.as_bytes());
+        }
+        Err(CaptureFault::NoMemory) => return Err(NoMemory),
+        Err(CaptureFault::Damaged(_)) => tally.compare(false),
+    }
+    Ok(())
+}
+
+/// One reading, made again where memory runs out.
+fn read_again(alloc: Global, text: &[u8], tally: &mut Tally) -> Result<Transcript, CaptureFault> {
+    tally.call();
+    match read_capture(alloc, text) {
+        Err(CaptureFault::NoMemory) => {
+            tally.refuse("read_capture");
+            read_capture(alloc, text)
+        }
+        answer => answer,
+    }
+}
+
+/// One verdict, asked for again where memory runs out.
+pub fn judge_again(
+    alloc: Global,
+    transcript: &Transcript,
+    tally: &mut Tally,
+) -> Result<Verdict, NoMemory> {
+    tally.call();
+    match judge(alloc, transcript) {
+        Ok(verdict) => Ok(verdict),
+        Err(NoMemory) => {
+            tally.refuse("judge");
+            judge(alloc, transcript)
+        }
+    }
+}
+
+/// One writing, made again where memory runs out.
+fn write_again(
+    alloc: Global,
+    transcript: &Transcript,
+    tally: &mut Tally,
+) -> Result<Vec<u8>, NoMemory> {
+    tally.call();
+    match write_capture(alloc, transcript) {
+        Ok(text) => Ok(text),
+        Err(NoMemory) => {
+            tally.refuse("write_capture");
+            write_capture(alloc, transcript)
+        }
+    }
+}

@@ -1,0 +1,117 @@
+//! The lists that are played, each by the calls that it is about.
+
+use crate::captures::{self, Capture};
+use crate::pairs::{self, Script};
+use crate::streams::{self, Stream};
+use crate::tally::Tally;
+use crate::{feeding, peers, scripts, sending, spent, taking};
+use std::alloc::Global;
+use ws_base::NoMemory;
+
+/// A list, and how it is played.
+#[derive(Clone, Copy)]
+pub enum Part {
+    /// `Session::take`.
+    Take(&'static Stream),
+    /// `Echo::take`.
+    EchoTake(&'static Stream),
+    /// `feed_all`.
+    Feed(&'static Stream),
+    /// `begin`, `more`, `ping`, `pong`, `close` and `take` of a client.
+    Sends(&'static sending::List),
+    /// `run_pair`.
+    Pair(&'static Script),
+    /// `read_capture`, `judge` and `write_capture`.
+    Capture(&'static Capture),
+    /// `ids`, `case` and `turns`.
+    Scripts,
+    /// `run_case` over an echo.
+    EchoRun,
+    /// `run_case` over `tungstenite`.
+    TungRun,
+    /// `feed` and `finish` of an echo.
+    EchoFeed,
+    /// `feed` and `finish` of `tungstenite`.
+    TungFeed,
+}
+
+pub const PARTS: [Part; 28] = [
+    Part::Take(&streams::HELLO),
+    Part::Take(&streams::CUT_TEXT),
+    Part::Take(&streams::OVERSIZED),
+    Part::Take(&streams::CLOSED),
+    Part::Take(&streams::FRAGMENTS),
+    Part::EchoTake(&streams::HELLO),
+    Part::EchoTake(&streams::CUT_TEXT),
+    Part::EchoTake(&streams::OVERSIZED),
+    Part::EchoTake(&streams::CLOSED),
+    Part::EchoTake(&streams::FRAGMENTS),
+    Part::Feed(&streams::HELLO),
+    Part::Feed(&streams::CUT_TEXT),
+    Part::Feed(&streams::OVERSIZED),
+    Part::Feed(&streams::CLOSED),
+    Part::Feed(&streams::FRAGMENTS),
+    Part::Sends(&sending::TEXT),
+    Part::Sends(&sending::OVERSIZED),
+    Part::Sends(&sending::FRAGMENTS),
+    Part::Pair(&pairs::OVERSIZED),
+    Part::Pair(&pairs::FRAGMENTS),
+    Part::Capture(&captures::ECHO),
+    Part::Capture(&captures::EARLY),
+    Part::Capture(&captures::FRAGMENTS),
+    Part::Scripts,
+    Part::EchoRun,
+    Part::TungRun,
+    Part::EchoFeed,
+    Part::TungFeed,
+];
+
+impl Part {
+    /// What it is called where it differs.
+    pub fn name(self) -> &'static str {
+        match self {
+            Part::Take(_) => "take",
+            Part::EchoTake(_) => "Echo::take",
+            Part::Feed(_) => "feed_all",
+            Part::Sends(_) => "begin, more, ping, pong, close",
+            Part::Pair(_) => "run_pair",
+            Part::Capture(_) => "read_capture, judge, write_capture",
+            Part::Scripts => "ids, case, turns",
+            Part::EchoRun => "run_case over an echo",
+            Part::TungRun => "run_case over tungstenite",
+            Part::EchoFeed => "feed and finish of an echo",
+            Part::TungFeed => "feed and finish of tungstenite",
+        }
+    }
+
+    /// Plays the list. Where memory is refused that only this program wants, the list is played once more.
+    pub fn play_again(self, alloc: Global) -> Tally {
+        let mut tally = Tally::new();
+        if self.play(alloc, &mut tally).is_ok() {
+            return tally;
+        }
+        let mut again = Tally::new();
+        again.restart();
+        if self.play(alloc, &mut again).is_err() {
+            again.compare(false);
+        }
+        again
+    }
+
+    /// `NoMemory` where memory is refused that only this program wants, or a call lacked memory twice.
+    fn play(self, alloc: Global, tally: &mut Tally) -> Result<(), NoMemory> {
+        match self {
+            Part::Take(stream) => taking::take(alloc, stream, tally),
+            Part::EchoTake(stream) => taking::take_as_echo(alloc, stream, tally),
+            Part::Feed(stream) => feeding::feed(alloc, stream, tally),
+            Part::Sends(list) => sending::send(alloc, list, tally),
+            Part::Pair(script) => pairs::play(alloc, script, tally),
+            Part::Capture(capture) => captures::play(alloc, capture, tally),
+            Part::Scripts => scripts::make(alloc, tally),
+            Part::EchoRun => peers::run_over_echo(alloc, tally),
+            Part::TungRun => peers::run_over_tungstenite(alloc, tally),
+            Part::EchoFeed => spent::feed_echo(alloc, tally),
+            Part::TungFeed => spent::feed_tungstenite(alloc, tally),
+        }
+    }
+}
