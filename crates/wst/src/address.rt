@@ -1,0 +1,82 @@
+//! A server at an address: each case is run over a connection of its own.
+
+ghost use Rattle.std.specs.Prelude.{◌≡◌, false};
+ghost use Rattle.ws_frame.specs.Watching.{has_failed};
+ghost use Rattle.wst_commands.specs.Test.{CanBeTested};
+ghost use Rattle.ws_suite.specs.Scripts.{CanBeRun};
+ghost use Rattle.ws_upgrade.specs.Texts.{IsHost};
+
+use std::alloc::Global;
+use std::io::Write;
+use std::marker::Model;
+use std::net::{Net, TcpListener, TcpStream};
+use ws_base::NoMemory;
+use ws_frame::Watched;
+use ws_suite::Case;
+use wst_commands::{CaseServer, Exit, Probe, TestPlan, probe, run_plan};
+
+/// A server at an address, which can be the host of a request.
+#[derive(Drop)]
+struct AddressServer<'a, N> {
+    net: &'a N,
+    host: &'a str,
+}
+
+impl<'a, N> Model for AddressServer<'a, N> {
+    ghost use Rattle.std.specs.Prelude.{List, ℕ};
+    ghost use Rattle.ws_upgrade.specs.Texts.{IsHost};
+
+    ghost Value = { List ℕ };
+
+    ghost view = { λ server. server.host.now };
+
+    ghost invariant = { λ server. IsHost server.host.now };
+}
+
+impl<N: Net<Listener = TcpListener, Stream = TcpStream>> CaseServer for AddressServer<'_, N> {
+    ghost use Rattle.std.specs.Prelude.{⊤};
+
+    // no contract of a socket says which bytes pass, so anything may come of a connection
+    ghost meets = { λ server key case probe. ⊤ };
+
+    fn run(&self, alloc: Global, case: &Case, key: [u8; 4]) -> Result<Probe, NoMemory> {
+        match TcpStream::connect(self.net, self.host) {
+            Ok(stream) => probe_over(alloc, case, self.host, &stream, key),
+            Err(_) => Ok(Probe::NoConnection),
+        }
+    }
+}
+
+/// Runs a case over a connection. What is sent goes out at once, where the system allows it.
+fn probe_over(
+    alloc: Global,
+    case: &Case,
+    host: &str,
+    stream: &TcpStream,
+    key: [u8; 4],
+) -> Result<Probe, NoMemory>
+    requires runs { CanBeRun case.now }
+    requires host { IsHost host.now }
+{
+    let _ = stream.set_nodelay(true);
+    let mut reader = Watched::new(stream);
+    let mut writer = Watched::new(stream);
+    probe(alloc, case, host.as_bytes(), &mut reader, &mut writer, key)
+}
+
+/// Runs the cases of a plan over the server at an address, and tells how that ended.
+pub fn test_at<W: Write, F: Write>(
+    alloc: Global,
+    net: &impl Net<Listener = TcpListener, Stream = TcpStream>,
+    host: &str,
+    plan: &TestPlan<'_>,
+    writer: &mut Watched<W>,
+    faults: &mut Watched<F>,
+) -> Exit
+    requires works { has_failed writer.old ≡ false }
+    requires plan { CanBeTested plan.now }
+    requires host { IsHost host.now }
+{
+    let server = AddressServer { net, host };
+    run_plan(alloc, &server, plan, writer, faults)
+}
