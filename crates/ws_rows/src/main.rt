@@ -9,6 +9,7 @@ mod echoes;
 mod frames;
 mod peers;
 mod printing;
+mod protocols;
 mod row_fault;
 mod sessions;
 mod streams;
@@ -61,6 +62,10 @@ fn answer_to(alloc: Global, row: &str) -> Result<String, RowFault> {
         "read_request" => upgrades::read_a_request(alloc, words, &mut out)?,
         "upgrade" => upgrades::tell_upgrade(alloc, words, &mut out)?,
         "read_response" => upgrades::read_a_response(alloc, words, &mut out)?,
+        "request_with" => protocols::make_request(alloc, words, &mut out)?,
+        "response_with" => protocols::make_response(alloc, words, &mut out)?,
+        "read_request_with" => protocols::read_a_request(alloc, words, &mut out)?,
+        "read_response_with" => protocols::read_a_response(alloc, words, &mut out)?,
         "limits" => streams::make_limits(words, &mut out)?,
         "feed_all" => streams::feed(alloc, words, &mut out)?,
         "take_all" => streams::take_pieces(alloc, words, &mut out)?,
@@ -74,6 +79,7 @@ fn answer_to(alloc: Global, row: &str) -> Result<String, RowFault> {
         "judge" => captures::judge_turns(alloc, words, &mut out)?,
         "session" => sessions::play(alloc, words, &mut out)?,
         "verdict" => peers::tell_verdict(alloc, words, &mut out)?,
+        "verdicts" => peers::count_passes(alloc, words, &mut out)?,
         _ => return Err(RowFault::NotARow),
     }
     Ok(out)

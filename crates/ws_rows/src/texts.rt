@@ -5,10 +5,7 @@ use crate::words::{bytes_of, code_of};
 use std::alloc::Global;
 use std::fmt::Write;
 use ws_base::Hex;
-use ws_text::{ClosePayload, Utf8Stream, code_allowed};
-
-/// The most payload bytes of a control frame, of which a close payload is one.
-const MAX_CONTROL_PAYLOAD: usize = 125;
+use ws_text::{ClosePayload, MAX_CONTROL_PAYLOAD, Utf8Stream, code_allowed};
 
 /// `text PIECE ..`: what the joined pieces turn out to be: `whole`, `cut`, or `fault` and the place, in all of them,
 /// of the first byte from which on nothing completes them.

@@ -100,7 +100,7 @@ pub fn read_a_response(alloc: Global, words: &[&str], out: &mut String) -> Resul
     match read_response(bytes.as_slice(), nonce) {
         ResponseRead::Need => out.push_str("need")?,
         ResponseRead::Refused(fault) => write!(out, "refused {fault}")?,
-        ResponseRead::Got { used } => write!(
+        ResponseRead::Got { used, .. } => write!(
             out,
             "got, {} follow",
             bytes.len().saturating_sub(used)
@@ -110,7 +110,7 @@ pub fn read_a_response(alloc: Global, words: &[&str], out: &mut String) -> Resul
 }
 
 /// The 16 bytes of a nonce.
-fn nonce_of(alloc: Global, word: &str) -> Result<[u8; 16], RowFault> {
+pub fn nonce_of(alloc: Global, word: &str) -> Result<[u8; 16], RowFault> {
     let bytes = bytes_of(alloc, word)?;
     match <[u8; 16]>::try_from(bytes.as_slice()) {
         Ok(nonce) => Ok(nonce),

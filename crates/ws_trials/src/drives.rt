@@ -14,17 +14,17 @@ use ws_peer::{DriveEnd, drive};
 use ws_session::{Echo, Limits, Status};
 
 /// A text of five bytes, masked, and a close frame with the code 1000: bytes 1 to 11, and 12 to 19.
-const FRAMES: &[u8] =
+pub const FRAMES: &[u8] =
     b"\x81\x85\x37\xfa\x21\x3d\x7f\x9f\x4d\x51\x58\x88\x82\x37\xfa\x21\x3d\x34\x12";
 
 /// The text in one frame, and the close frame that answers the other.
-const REPLIES: &[u8] = b"\x81\x05Hello\x88\x02\x03\xe8";
+pub const REPLIES: &[u8] = b"\x81\x05Hello\x88\x02\x03\xe8";
 
 /// How many bytes the first reply has.
 const TEXT_LEN: usize = 7;
 
 /// A budget that no stream here uses up.
-const BUDGET: u64 = 1_000_000;
+pub const BUDGET: u64 = 1_000_000;
 
 /// The end of a session that was closed.
 const CLOSED: DriveEnd = DriveEnd::Done(Status::Clean(Some(1000)));
@@ -38,7 +38,7 @@ pub fn limits() -> Limits {
 }
 
 /// Drives a new echo, a server's.
-fn run_drive<R: Read, W: Write>(
+pub fn run_drive<R: Read, W: Write>(
     alloc: Global,
     first: &[u8],
     reader: &mut Watched<R>,
@@ -54,13 +54,13 @@ fn run_drive<R: Read, W: Write>(
 
 /// What a run leaves: how often each device was asked, and whether it has failed.
 #[derive(Drop)]
-struct After {
-    end: DriveEnd,
-    written: Vec<u8>,
-    reads: u64,
-    writes: u64,
-    read_failed: bool,
-    write_failed: bool,
+pub struct After {
+    pub end: DriveEnd,
+    pub written: Vec<u8>,
+    pub reads: u64,
+    pub writes: u64,
+    pub read_failed: bool,
+    pub write_failed: bool,
 }
 
 /// A run over a reader that gives a byte a call, and a writer that takes one.
@@ -75,7 +75,7 @@ fn after_bytes(
 }
 
 /// The same, of an echo that is fed some bytes first.
-fn after_first(
+pub fn after_first(
     alloc: Global,
     first: &[u8],
     stream: &[u8],

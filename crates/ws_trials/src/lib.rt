@@ -1,5 +1,5 @@
 //! Trials of the crates below with what no row of data can reach: devices that fail at any call, and that record what
-//! they are asked. There is nothing here but tests.
+//! they are asked; a socket. There is nothing here but tests.
 #![tactic(auto)]
 
 #[cfg(test)]
@@ -7,11 +7,21 @@ mod comparing;
 #[cfg(test)]
 mod drives;
 #[cfg(test)]
+mod echo_server;
+#[cfg(test)]
+mod fed_first;
+#[cfg(test)]
 mod heads;
 #[cfg(test)]
 mod inputs;
 #[cfg(test)]
+mod judging;
+#[cfg(test)]
 mod masks;
+#[cfg(test)]
+mod probe_faults;
+#[cfg(test)]
+mod probes;
 #[cfg(test)]
 mod running;
 #[cfg(test)]
@@ -20,6 +30,12 @@ mod runs;
 mod serves;
 #[cfg(test)]
 mod shown;
+#[cfg(test)]
+mod single_bytes;
+#[cfg(test)]
+mod sockets;
+#[cfg(test)]
+mod stopping;
 #[cfg(test)]
 mod watches;
 #[cfg(test)]

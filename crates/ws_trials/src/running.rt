@@ -10,7 +10,10 @@ use std::process::Abort;
 use std::test::Fail;
 use ws_frame::Watched;
 use ws_frame::devices::{ByteReader, ByteWriter, Counting, Failing, FullWriter};
-use wst_commands::run;
+use wst_commands::{Ran, run};
+
+/// The status of a command that was handed back, as no command of one word is.
+const HANDED_BACK: u8 = 255;
 
 /// Runs a command of one word, and answers the exit status.
 pub fn run_word<R: Read, W: Write, F: Write>(
@@ -27,7 +30,10 @@ pub fn run_word<R: Read, W: Write, F: Write>(
         String::from_str(alloc, "wst")?,
         String::from_str(alloc, word)?,
     ];
-    Ok(run(alloc, &words, reader, writer, faults).status())
+    match run(alloc, &words, reader, writer, faults) {
+        Ran::Ended(exit) => Ok(exit.status()),
+        Ran::Serve(_) | Ran::Test(..) => Ok(HANDED_BACK),
+    }
 }
 
 /// What a run leaves: its status, what was written to the output and to the fault output, and how often the device
@@ -92,6 +98,21 @@ fn after_full(alloc: Global, word: &str, input: &[u8], room: usize) -> Result<Af
         calls: device.lengths.len() as u64,
         written: device.inner.taken,
         faults: faults.into_inner(),
+    })
+}
+
+/// Runs a command over a reader that gives a byte a call and a writer that takes one. `calls` are the writes.
+pub fn after_both(alloc: Global, word: &str, input: &[u8]) -> Result<After, Fail> {
+    let mut reader = Watched::new(ByteReader::new(input, Failing::Never));
+    let mut writer = Watched::new(ByteWriter::new(alloc, Failing::Never));
+    let mut faults = Watched::new(Vec::new(alloc));
+    let status = run_word(alloc, word, &mut reader, &mut writer, &mut faults)?;
+    let device = writer.into_inner();
+    Ok(After {
+        status,
+        written: device.taken,
+        faults: faults.into_inner(),
+        calls: device.calls,
     })
 }
 

@@ -10,7 +10,7 @@ use ws_frame::devices::{Failing, FullWriter};
 use wst_commands::words_are_no_text;
 
 /// A request, with the example's key of RFC 6455 section 1.3.
-const REQUEST: &[u8] = b"GET /chat HTTP/1.1\r\n\
+pub const REQUEST: &[u8] = b"GET /chat HTTP/1.1\r\n\
     Host: server.example.com\r\n\
     Upgrade: websocket\r\n\
     Connection: Upgrade\r\n\
@@ -18,7 +18,7 @@ const REQUEST: &[u8] = b"GET /chat HTTP/1.1\r\n\
     Sec-WebSocket-Version: 13\r\n\r\n";
 
 /// What accepts it.
-const ACCEPTED: &[u8] = b"HTTP/1.1 101 Switching Protocols\r\n\
+pub const ACCEPTED: &[u8] = b"HTTP/1.1 101 Switching Protocols\r\n\
     Upgrade: websocket\r\n\
     Connection: Upgrade\r\n\
     Sec-WebSocket-Accept: s3pPLMBiTxaQ9kYGzzhZRbK+xOo=\r\n\r\n";
@@ -49,13 +49,13 @@ const CUT_FRAMES: &[u8] = b"\x81\x05Hello\x8a";
 const CUT_LINES: &[u8] = b"0 text fin=1 rsv=0 key=- len=5 short 48656c6c6f\ncut at 7\n";
 
 /// The report of two ends at which nothing has happened.
-const REPORT: &[u8] = b"client put -\nclient reached 0\nclient status open\n\
+pub const REPORT: &[u8] = b"client put -\nclient reached 0\nclient status open\n\
     server put -\nserver reached 0\nserver status open\n";
 
 /// A call at an endpoint, and the lines of what it answers.
-const CALLS: &[u8] = b"end\n";
+pub const CALLS: &[u8] = b"end\n";
 
-const CALL_LINES: &[u8] = b"ended\nheld 0\nstatus lost\n";
+pub const CALL_LINES: &[u8] = b"ended\nheld 0\nstatus lost\n";
 
 /// Each read of a head fails: nothing is written. Behind a head that is whole nothing is read.
 #[test]

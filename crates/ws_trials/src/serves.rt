@@ -12,39 +12,40 @@ use ws_upgrade::HeadFault;
 use wst_commands::{Served, serve_one};
 
 /// The request of RFC 6455 section 1.2, and behind it a text and a close frame with the code 1000.
-const REQUEST: &[u8] = b"GET /chat HTTP/1.1\r\nHost: server.example.com\r\nUpgrade: websocket\r\n\
+pub const REQUEST: &[u8] =
+    b"GET /chat HTTP/1.1\r\nHost: server.example.com\r\nUpgrade: websocket\r\n\
     Connection: Upgrade\r\nSec-WebSocket-Key: dGhlIHNhbXBsZSBub25jZQ==\r\nSec-WebSocket-Version: 13\r\n\r\n\
     \x81\x85\x37\xfa\x21\x3d\x7f\x9f\x4d\x51\x58\x88\x82\x37\xfa\x21\x3d\x34\x12";
 
 /// How many bytes the two frames have.
-const FRAMES_LEN: usize = 19;
+pub const FRAMES_LEN: usize = 19;
 
 /// The response to it, and behind it the text in one frame and the close frame that answers the other.
-const RESPONSE: &[u8] =
+pub const RESPONSE: &[u8] =
     b"HTTP/1.1 101 Switching Protocols\r\nUpgrade: websocket\r\nConnection: Upgrade\r\n\
     Sec-WebSocket-Accept: s3pPLMBiTxaQ9kYGzzhZRbK+xOo=\r\n\r\n\x81\x05Hello\x88\x02\x03\xe8";
 
 /// How many bytes the replies have.
-const REPLIES_LEN: usize = 11;
+pub const REPLIES_LEN: usize = 11;
 
-const BAD_REQUEST: &[u8] =
+pub const BAD_REQUEST: &[u8] =
     b"HTTP/1.1 400 Bad Request\r\nConnection: close\r\nContent-Length: 0\r\n\r\n";
 
 /// A budget that no stream here uses up.
-const BUDGET: u64 = 1_000_000;
+pub const BUDGET: u64 = 1_000_000;
 
 /// The end of a connection that was closed.
-const CLOSED: Served = Served::Ended(Status::Clean(Some(1000)));
+pub const CLOSED: Served = Served::Ended(Status::Clean(Some(1000)));
 
 /// What is left of a connection.
 #[derive(Drop)]
-struct After {
-    served: Served,
-    written: Vec<u8>,
+pub struct After {
+    pub served: Served,
+    pub written: Vec<u8>,
 }
 
 /// A connection over a reader that gives a byte a call, and a writer that takes one.
-fn after_bytes(
+pub fn after_bytes(
     alloc: Global,
     stream: &[u8],
     reads: Failing,
@@ -71,7 +72,7 @@ fn after_whole(alloc: Global, stream: &[u8], budget: u64) -> After {
     }
 }
 
-fn check(rt: &impl Abort, case: u64, after: &After, served: Served, written: &[u8]) {
+pub fn check(rt: &impl Abort, case: u64, after: &After, served: Served, written: &[u8]) {
     same_answer(rt, case, after.served == served, true);
     same_bytes(rt, case, after.written.as_slice(), written);
 }
@@ -113,7 +114,7 @@ fn budgets(rt: HostRuntime) {
 }
 
 /// What is due once so many bytes were read.
-fn due(read: usize) -> &'static [u8] {
+pub fn due(read: usize) -> &'static [u8] {
     let head = REQUEST.len() - FRAMES_LEN;
     if read < head {
         &[]
