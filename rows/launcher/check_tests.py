@@ -1,9 +1,10 @@
 """Tests of the test command `check`: which programs it trusts."""
 
-from clone import PROGRAM, ROWS_PROGRAM, ROWS_SOURCE, SOURCE
+from clone import PROGRAM, REFUSALS_PROGRAM, REFUSALS_SOURCE, ROWS_PROGRAM, ROWS_SOURCE, SOURCE
 
 CHECK = ("./check",)
 PLANTED = "#!/bin/sh\necho planted\n"
+PROGRAMS = (("wst", PROGRAM), ("ws_rows", ROWS_PROGRAM), ("ws_refusals", REFUSALS_PROGRAM))
 
 
 def last_line(text):
@@ -21,9 +22,16 @@ def rows_pass(clone):
     assert clone.run("rows", how=CHECK) == (0, "rows: 2 passed, 0 failed\n", "")
 
 
+def refusals_fail(clone, name):
+    """The refusals of memory must fail for this program."""
+    status, out, faults = clone.run("refusals", how=CHECK)
+    told = f"check: {name} was not built from the sources as they stand; './check build' builds it\n"
+    assert (status, out, faults) == (1, "refusals: 0 passed, 1 failed\n", told), (status, out, faults)
+
+
 def plant(clone):
     """Programs that other sources gave, with stamps for the sources as they stand."""
-    for name, program in (("wst", PROGRAM), ("ws_rows", ROWS_PROGRAM)):
+    for name, program in PROGRAMS:
         clone.program(program, PLANTED)
         assert clone.shell(f'mark_built {name} "$(sources_sum)" && echo marked') == "marked"
 
@@ -39,7 +47,8 @@ def rows_of_built_programs_pass(clone):
     clone.add_check()
     assert clone.run("build", how=CHECK)[0] == 0
     rows_pass(clone)
-    assert clone.builds.read_text().split(": ")[1:] == [f"run -- --help\n{clone.top}/crates/ws_rows", "run\n"]
+    built = [f"run -- --help\n{clone.top}/crates/ws_rows", f"run\n{clone.top}/crates/ws_refusals", "run\n"]
+    assert clone.builds.read_text().split(": ")[1:] == built, clone.builds.read_text()
 
 
 def rows_of_older_sources_fail(clone):
@@ -59,9 +68,19 @@ def rows_of_another_program_fail(clone):
         rows_fail(clone, name)
 
 
+def refusals_need_their_own_program(clone):
+    clone.add_check()
+    refusals_fail(clone, "wst")
+    clone.run("build", how=CHECK)
+    assert clone.run("refusals", how=CHECK) == (0, "rows: 2 passed, 0 failed\n", "")
+    clone.program(REFUSALS_PROGRAM, PLANTED)
+    refusals_fail(clone, "ws_refusals")
+    rows_pass(clone)
+
+
 def a_build_that_fails_is_not_marked(clone):
     clone.add_check()
-    for source, name in ((SOURCE, "wst"), (ROWS_SOURCE, "wst")):
+    for source, name in ((SOURCE, "wst"), (ROWS_SOURCE, "wst"), (REFUSALS_SOURCE, "wst")):
         for word in ("broken", "changing"):
             clone.write(source, f"{word}\n")
             assert clone.run("build", how=CHECK)[0] != 0, (source, word)
@@ -72,7 +91,7 @@ def a_build_that_fails_is_not_marked(clone):
 def all_parts_are_counted(clone):
     clone.add_check()
     status, out, faults = clone.run(how=CHECK)
-    assert (status, last_line(out)) == (0, "12 passed, 0 failed"), (status, out, faults)
+    assert (status, last_line(out)) == (0, "16 passed, 0 failed"), (status, out, faults)
     rows_pass(clone)
     assert clone.run("show") == (3, "first show\n", "")
 
@@ -81,14 +100,14 @@ def what_stood_before_is_removed(clone):
     clone.add_check()
     plant(clone)
     status, out, faults = clone.run(how=CHECK)
-    assert (status, last_line(out)) == (0, "12 passed, 0 failed"), (status, out, faults)
+    assert (status, last_line(out)) == (0, "16 passed, 0 failed"), (status, out, faults)
     assert "left" not in clone.builds.read_text(), clone.builds.read_text()
-    assert "planted" not in (clone.top / PROGRAM).read_text() + (clone.top / ROWS_PROGRAM).read_text()
+    assert all("planted" not in (clone.top / program).read_text() for _, program in PROGRAMS)
 
 
 def what_no_run_built_is_not_trusted(clone):
     clone.add_check()
-    for source, name in ((SOURCE, "wst"), (ROWS_SOURCE, "ws_rows")):
+    for source, name in ((SOURCE, "wst"), (ROWS_SOURCE, "ws_rows"), (REFUSALS_SOURCE, "ws_refusals")):
         clone.write(source, "lazy\n")
         plant(clone)
         status, out, faults = clone.run(how=CHECK)
@@ -119,6 +138,7 @@ TESTS = [
     rows_of_built_programs_pass,
     rows_of_older_sources_fail,
     rows_of_another_program_fail,
+    refusals_need_their_own_program,
     a_build_that_fails_is_not_marked,
     all_parts_are_counted,
     what_stood_before_is_removed,

@@ -10,6 +10,8 @@ SOURCE = "crates/wst/src/main.rt"
 PROGRAM = "crates/wst/out/wst"
 ROWS_SOURCE = "crates/ws_rows/src/main.rt"
 ROWS_PROGRAM = "crates/ws_rows/out/ws_rows"
+REFUSALS_SOURCE = "crates/ws_refusals/src/main.rt"
+REFUSALS_PROGRAM = "crates/ws_refusals/out/ws_refusals"
 
 # The stand-in for rt notes each call, takes a while, fails or builds nothing where a source says so, and changes a
 # source where it says so. `ci` notes the programs that it finds.
@@ -35,7 +37,7 @@ case $1 in
 version) echo "stand-in" ;;
 run) build "${PWD##*/}" ;;
 ci)
-    for name in wst ws_rows; do
+    for name in wst ws_rows ws_refusals; do
         cd "$(dirname "$0")/../a clone/crates/$name" || exit 1
         [ ! -e "out/$name" ] || echo "left from before: $name" >>"$BUILDS"
         build "$name"
@@ -45,7 +47,7 @@ ci)
 esac
 """
 
-# The stand-in for the rows and for the tests of the launcher.
+# The stand-in for the rows, for the refusals of memory, for the clients over loopback and for the tests of the launcher.
 COUNTED = """#!/bin/sh
 echo "rows: 2 passed, 0 failed"
 """
@@ -67,10 +69,13 @@ class Clone:
         self.program("../bin/rt", STAND_IN)
 
     def add_check(self):
-        """Adds the test command, with the source of `ws_rows`, and stand-ins for what it runs."""
+        """Adds the test command, with the sources of its two programs, and stand-ins for what it runs."""
         shutil.copy(ROOT / "check", self.top)
         self.write(ROWS_SOURCE, "calls\n")
+        self.write(REFUSALS_SOURCE, "lists\n")
         self.program("rows/run", COUNTED)
+        self.program("rows/refusals/run", COUNTED)
+        self.program("rows/loopback/run", COUNTED)
         self.program("rows/launcher/test", COUNTED)
         self.write("examples/show/hello.frames", "frames\n")
         self.write("examples/show/hello.out", "first show\nframes\n")

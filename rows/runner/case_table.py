@@ -5,7 +5,7 @@ import re
 from runner.calls import Call
 from runner.row_files import BadFile
 
-LINE = re.compile(r"([0-9]+(?:\.[0-9]+)+) \S+ \S+ \S.*")
+LINE = re.compile(r"((?:[0-9]+|x)(?:\.[0-9]+)+) \S+ \S+(?: \S.*)?")
 
 
 def calls_of_table(file):

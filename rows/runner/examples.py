@@ -4,10 +4,14 @@ from runner.commands import Run
 
 BESIDE = (".out", ".args", ".faults", ".status")
 
+# The folder of the example of two commands, which `rows/loopback/run` runs.
+LOOPBACK = "loopback"
+
 
 def examples_below(folder):
     """A run for each example."""
-    inputs = [file for file in sorted(folder.glob("*/*")) if file.suffix not in BESIDE]
+    files = [file for file in sorted(folder.glob("*/*")) if file.parent.name != LOOPBACK]
+    inputs = [file for file in files if file.suffix not in BESIDE]
     return [example_of(file) for file in inputs]
 
 

@@ -1,0 +1,99 @@
+"""What `wst serve` writes, when, and how it ends."""
+
+import socket
+
+from server import SECONDS, Server, run, start
+from wire import BAD_REQUEST, CLOSE, CLOSE_BACK, HELLO, HELLO_BACK, REQUEST, RESPONSE
+
+NO_ADDRESSES = ("127.0.0.1", "127.0.0.1:", "127.0.0.1:65536", "127.0.0.1:x", ":", "", "[::1]", "no.such.host.invalid:9")
+
+
+def no_connections():
+    Server(0).ends()
+
+
+def a_line_a_connection():
+    server = Server(3)
+    refused = server.client()
+    refused.send(b"GET / HTTP/1.1\r\nHost: x\r\n\r\n")
+    assert refused.rest() == BAD_REQUEST
+    assert server.line() == "1 refused Upgrade"
+    stopped = server.client()
+    stopped.half_close()
+    assert stopped.rest() == b""
+    assert server.line() == "2 stopped"
+    closed = server.client()
+    closed.send(REQUEST, CLOSE)
+    assert closed.rest() == RESPONSE + CLOSE_BACK
+    server.ends("3 clean 1000")
+    assert server.refuses()
+
+
+def each_address():
+    hosts = ["127.0.0.1", "localhost"]
+    if has_version_6():
+        hosts.append("[::1]")
+    for host in hosts:
+        server = Server(1, host=host)
+        client = server.client()
+        client.send(REQUEST, HELLO, CLOSE)
+        assert client.rest() == RESPONSE + HELLO_BACK + CLOSE_BACK, host
+        server.ends("1 clean 1000")
+
+
+def has_version_6():
+    try:
+        with socket.socket(socket.AF_INET6) as probe:
+            probe.bind(("::1", 0))
+    except OSError:
+        return False
+    return True
+
+
+def a_port_in_use():
+    server = Server(1)
+    assert run("serve", server.address, "1") == (3, b"", b"")
+    client = server.client()
+    client.send(REQUEST, CLOSE)
+    assert client.rest() == RESPONSE + CLOSE_BACK
+    server.ends("1 clean 1000")
+
+
+def an_address_that_is_none():
+    for address in NO_ADDRESSES:
+        assert run("serve", address, "1") == (3, b"", b""), address
+
+
+def limits_that_a_server_cannot_have():
+    for limit in ("0", "16777217", "4294967297"):
+        assert run("serve", "--limit", limit, "127.0.0.1:1", "1") == (2, b"", b"bad limits\n"), limit
+
+
+def the_first_line_can_not_be_written():
+    with open("/dev/full", "wb") as full:
+        process = start("serve", "127.0.0.1:0", "1", stdout=full)
+        assert process.wait(SECONDS) == 3
+    assert process.stderr.read() == b""
+
+
+def a_line_can_not_be_written():
+    server = Server(2)
+    server.process.stdout.close()
+    client = server.client()
+    client.send(REQUEST, CLOSE)
+    assert client.rest() == RESPONSE + CLOSE_BACK
+    assert server.process.wait(SECONDS) == 3, server.process.returncode
+    assert server.process.stderr.read() == b""
+    assert server.refuses()
+
+
+TESTS = [
+    no_connections,
+    a_line_a_connection,
+    each_address,
+    a_port_in_use,
+    an_address_that_is_none,
+    limits_that_a_server_cannot_have,
+    the_first_line_can_not_be_written,
+    a_line_can_not_be_written,
+]
