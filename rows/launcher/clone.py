@@ -47,7 +47,8 @@ ci)
 esac
 """
 
-# The stand-in for the rows, for the refusals of memory, for the clients over loopback and for the tests of the launcher.
+# The stand-in for the rows, for the refusals of memory, for the clients over loopback and for the tests of the
+# launcher.
 COUNTED = """#!/bin/sh
 echo "rows: 2 passed, 0 failed"
 """

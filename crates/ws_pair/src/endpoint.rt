@@ -9,7 +9,8 @@ ghost use Rattle.ws_session.specs.Events.{messages_in};
 ghost use Rattle.ws_session.specs.Taking.{events_in};
 ghost use Rattle.ws_pair.specs.declared.moves.End.{End};
 ghost use Rattle.ws_pair.specs.Link.{LinkEnd, Link, BothLimits, new_end, end_of, other, role_of};
-ghost use Rattle.ws_pair.specs.Playing.{AreSentBy, IsEnd, IsNextIn, Stands, HasMoved, IsToldOf, HasSentMove, grown, peer};
+ghost use Rattle.ws_pair.specs.Playing.{AreSentBy, HasMoved, HasSentMove, IsEnd, IsNextIn, IsToldOf, Stands};
+ghost use Rattle.ws_pair.specs.Playing.{grown, peer};
 ghost use Rattle.ws_session.specs.Sends.{send_of};
 ghost use Rattle.ws_pair.specs.Moves.{with_cut, side_of};
 

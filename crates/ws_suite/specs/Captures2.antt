@@ -1,6 +1,7 @@
 -- Captures that keep all, in format 2: a transcript with its masking key as lines of text, each of which ends with LF;
 -- and captures in either format.
-use Rattle.std.specs.Prelude.{◌≡◌, ◌⊎◌, ◌<◌, ⊤, ℕ, List, [], ◌∷◌, ◌++◌, length, map, flat_map, Option, Some, None, codes}
+use Rattle.std.specs.Prelude.{◌≡◌, ◌⊎◌, ◌<◌, ⊤, ℕ, List, [], ◌∷◌, ◌++◌, length, map, flat_map, codes}
+use Rattle.std.specs.Prelude.{Option, Some, None}
 use Rattle.std.specs.List.{AllByRecursion}
 use Rattle.ws_base.specs.Words.{AreFourBytes, hex}
 use Rattle.ws_base.specs.Lines.{IsDamagedAt, ended}

@@ -1,4 +1,5 @@
-//! `wst`, the frame-level WebSocket tester: the words of the command line, watched devices, sockets and the exit status.
+//! `wst`, the frame-level WebSocket tester: the words of the command line, watched devices, sockets and the exit
+//! status.
 #![tactic(auto)]
 
 mod address;

@@ -93,8 +93,8 @@ fn serve_client(alloc: Global, stream: &TcpStream, plan: &ServePlan<'_>) -> Serv
     serve_one(alloc, &mut reader, &mut writer, plan.limits, plan.budget)
 }
 
-/// Ends a connection from this side, and reads what still comes, until its end or enough reads. A read that waits in vain
-/// is one of them.
+/// Ends a connection from this side, and reads what still comes, until its end or enough reads. A read that waits in
+/// vain is one of them.
 fn linger(stream: &TcpStream) {
     let wait = Duration::from_millis(LINGER_MILLISECONDS);
     if stream.shutdown(Shutdown::Write).is_err() || stream.set_read_timeout(Some(wait)).is_err() {

@@ -29,7 +29,8 @@ use std::io::{Read, Write};
 use ws_frame::Watched;
 use wst_words::{ServeOptions, Task, TestOptions, WordsFault, read_words};
 
-/// What came of a run. What asks for sockets, which stand above, is handed back: then nothing was read, written or told.
+/// What came of a run. What asks for sockets, which stand above, is handed back: then nothing was read, written or
+/// told.
 #[derive(Drop)]
 pub enum Ran<'a> {
     /// It has ended.
