@@ -47,8 +47,8 @@ ci)
 esac
 """
 
-# The stand-in for the rows, for the refusals of memory, for the clients over loopback and for the tests of the
-# launcher.
+# The stand-in for the rows, for the refusals of memory, for the clients over loopback, for the documents and for the
+# tests of the launcher.
 COUNTED = """#!/bin/sh
 echo "rows: 2 passed, 0 failed"
 """
@@ -77,6 +77,7 @@ class Clone:
         self.program("rows/run", COUNTED)
         self.program("rows/refusals/run", COUNTED)
         self.program("rows/loopback/run", COUNTED)
+        self.program("rows/documents/run", COUNTED)
         self.program("rows/launcher/test", COUNTED)
         self.write("examples/show/hello.frames", "frames\n")
         self.write("examples/show/hello.out", "first show\nframes\n")
