@@ -27,17 +27,30 @@ def has_theorem(text, name):
     return any(re.search(form, text, re.MULTILINE) for form in forms)
 
 
+def contracts_of(text, name):
+    """What stands in sources from each function, or each `impl` of a trait, of this name up to the next function."""
+    form = rf"^(?: *(?:pub )?fn {name}\b|impl\S* \w+::{name} for).*?(?=^ *(?:pub )?fn (?!fmt)|\Z)"
+    return "\n".join(re.findall(form, text, re.MULTILINE | re.DOTALL))
+
+
+def has_clause(contracts, name):
+    """Whether these contracts have a clause of this name, or say what `Display` writes."""
+    return re.search(rf"^ *(?:ensures|ghost) {name} ", contracts, re.MULTILINE) is not None
+
+
+def has_type(text, name):
+    """Whether sources have a type of this name."""
+    return re.search(rf"^ *pub(?:\(crate\))? (?:enum|struct|type|trait) {name}\b", text, re.MULTILINE) is not None
+
+
 def has_definition(text, name):
     """Whether a file has a definition, or a type of the code, of this name."""
-    forms = (
-        rf"^(?:abbrev |unfoldable )*(?:pub )?(?:record |data )?{name}(?= )",
-        rf"^ *pub(?:\(crate\))? (?:enum|struct|type|trait) {name}\b",
-    )
-    return any(re.search(form, text, re.MULTILINE) for form in forms)
+    form = rf"^(?:abbrev |unfoldable )*(?:pub )?(?:record |data )?{name}(?= )"
+    return re.search(form, text, re.MULTILINE) is not None or has_type(text, name)
 
 
 def taken_names(text, ours):
-    """The names that a file takes from other files, ours or the kit's, without variants of enums, which the type tells."""
+    """The names that a file takes from other files, ours or the kit's, without the variants of enums."""
     taken = set()
     for line in text.splitlines():
         match = USED.match(line)
