@@ -38,7 +38,7 @@ pub record KeyedFrame : Type 0 where
   pub frame : Frame
   pub key : Option (List ℕ)
 
--- what can be sent at all
+-- what the bits can hold: also reserved bits and opcodes, which section 5.2 forbids to send
 pub record FitsTheLayout (x : KeyedFrame) : Type 0 where
   pub rsv : x.frame.rsv < 8
   pub opcode : x.frame.opcode < 16

@@ -41,7 +41,7 @@ count_arriving link side bytes =
 abbrev pub newly_told : LimitsValue → List KeyedFrame → ℕ → ℕ → List Event
 newly_told limits xs before after = drop (length (events_within limits before xs)) (events_within limits after xs)
 
--- so many bytes of the other's have come to an end, and each frame was answered
+-- so many bytes of the other's have come to an end, and the frames that are owed for what they tell were sent
 abbrev pub with_arrived : BothLimits → Link → End → ℕ → List ℕ → LinkEnd
 with_arrived limits link side count key =
     let x : LinkEnd = end_of link side

@@ -30,7 +30,7 @@ abbrev pub stopped : ReadStop → Result Exit Fault
 stopped stop.Fault = Ok Failed
 stopped stop.NoMemory = Err fault.NoMemory
 
--- the input was read whole, before anything else, and answered so; or it could not be read, and nothing was written
+-- the input was read whole and answered so; or it could not be read, and nothing was written
 abbrev pub AnswersInput : (List ℕ → Result Exit Fault → Device → Type 0) → Result Exit Fault → Device → Device → Type 0
 AnswersInput Answers ended input output =
     ((text : List ℕ) × ReadsAll text input × Answers text ended output)

@@ -130,7 +130,7 @@ like: `own`, our echo, which passes, or `tung`, one of the crate tungstenite. As
 judged a line for it is written, and the total at last:
 
   ID PASS             the server kept the rules
-  ID LOOSE WHY        it broke none, but answered otherwise than an echo that is fed turn by turn
+  ID LOOSE WHY        it answered otherwise than an echo that is fed turn by turn
   ID FAIL WHY         it broke this rule
   ID FAIL Head NAME   its answer to the request is to be refused
   ID no connection    there is none, or no whole answer came: the last line, without a total
