@@ -157,6 +157,27 @@ payload_without_fault a h came start here text opcode begins len within joined r
 )
 payload_without_fault a h came start here text opcode begins len within joined read (check.Fault reason place) w = absurd w
 
+-- a piece that doesn't end the payload is put in whole
+module _ (a b : AssemblyValue) (h : HeaderFields) (came : ℕ) (piece : List ℕ) (kept : HasKept a came) (inside : came + length piece < h.len) (opened : b.opened ≡ a.opened) (put : b.payload ≡ first_bytes a came ++ masked_from h.key came piece) where
+  le : came ≤ h.len
+  le = omega (arith, inside)
+
+  is_here : length piece ≡ min (h.len - came) (length piece)
+  is_here = omega (arith, inside)
+
+  put_all : b.payload ≡ first_bytes a came ++ masked_from h.key came (take (length piece) piece)
+  put_all = put ∙ ap (λ (l : List ℕ). first_bytes a came ++ masked_from h.key came l) (sym (take_all (length piece) piece (omega arith)))
+
+  pub inside_arrived : frame_payload b ≡ arrived_payload h (take came (frame_payload a)) piece
+  inside_arrived = put_arrived a b h came (length piece) piece kept le is_here opened put_all
+
+  pub inside_within : length (frame_payload b) ≤ h.len
+  inside_within = put_within a b h came (length piece) piece kept le is_here opened put_all
+
+  pub inside_checked : (text : Option (List ℕ)) → h.opcode ≤ 2 → (1 ≤ h.opcode → b.opened ≡ None) → IsJoined b → IsTextRead h b text → IsPayloadCheck h came 0 b (frame_payload b) (check.Need (under_way.Data h (came + length piece)) text)
+  inside_checked text opcode begins joined read =
+      payload_without_fault b h came 0 (length piece) text opcode begins (put_len a b h came (length piece) piece kept le is_here opened put_all) inside_within joined read (check.Need (under_way.Data h (came + length piece)) text) (inside, refl, refl)
+
 -- ---- the payload of a control frame
 
 module _ (h : HeaderFields) (came rest payload : List ℕ) (here : ℕ) (le : length came ≤ h.len) (is_here : here ≡ min (h.len - length came) (length rest)) (put : payload ≡ came ++ masked_from h.key (length came) (take here rest)) where

@@ -19,6 +19,7 @@ pub mod Received
 pub mod Arriving
 pub mod HeaderEnds
 pub mod Pieces
+pub mod WentOn
 pub mod Kept
 pub mod Receipts
 pub mod Wants

@@ -68,6 +68,12 @@ length_so_far (under_way.Control header payload) = length (header_bytes header) 
 abbrev pub HasRoom : UnderWay → Type 0
 HasRoom frame = length_so_far frame < 2 ^ 64
 
+-- so many more bytes of its payload have come, where it is a data frame
+abbrev pub after_more : UnderWay → ℕ → UnderWay
+after_more (under_way.Header bytes) more = under_way.Header bytes
+after_more (under_way.Data header came) more = under_way.Data header (came + more)
+after_more (under_way.Control header payload) more = under_way.Control header payload
+
 -- ---- a session with this receiving side
 
 abbrev pub session_with : ReceiverValue → Option SendingValue → Status → SessionValue

@@ -19,6 +19,7 @@ mod frame_check;
 mod frame_end;
 mod header_end;
 mod header_rules;
+mod inside;
 mod under_way;
 
 use crate::control_payload::Small;

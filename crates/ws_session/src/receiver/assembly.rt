@@ -1,7 +1,7 @@
 //! The message that is open on the receiving side, and the payload of the frame under way after it (RFC 6455
 //! section 5.4).
 
-ghost use Rattle.std.specs.Prelude.{◌≡◌, ◌↔◌, ◌≤◌, ◌<◌, ◌++◌, [], length, drop, is_some, IsTrue, OnOk, OnErr, Some};
+ghost use Rattle.std.specs.Prelude.{◌≡◌, ◌↔◌, ◌≤◌, ◌<◌, ◌++◌, ◌∷◌, [], length, drop, is_some, IsTrue, OnOk, OnErr, Some};
 ghost use Rattle.std.specs.Prelude.{None};
 ghost use Rattle.ws_text.specs.Stream.{HasRead};
 ghost use Rattle.ws_session.specs.Faults.{open_payload, IsOpenText};
@@ -196,10 +196,24 @@ fn append_masked(
     ensures kept { OnErr result (kept.new.items ≡ kept.old.items) }
     ensures wants { OnErr result (0 < length bytes.now) }
 {
+    if let [byte] = bytes {
+        kept.push(unmasked(key, phase, *byte))?;
+        return Ok(());
+    }
     let from = kept.len();
     kept.extend_from_slice(bytes)?;
     if let Some(key) = key {
         mask(key, phase, &mut kept[from..]);
     }
     Ok(())
+}
+
+/// The byte of a payload that has this place in it, unmasked.
+fn unmasked(key: Option<[u8; 4]>, place: usize, byte: u8) -> u8
+    ensures { result ∷ [] ≡ masked_from key place (byte ∷ []) }
+{
+    match key {
+        None => byte,
+        Some(key) => byte ^ key[place % 4],
+    }
 }

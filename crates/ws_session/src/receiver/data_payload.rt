@@ -1,7 +1,9 @@
 //! The payload of a data frame, as it comes (RFC 6455 sections 5.4, 5.6 and 8.1).
 
 ghost use Rattle.std.specs.Prelude.{◌≡◌, ◌↔◌, ◌+◌, ◌≤◌, ◌<◌, ◌^◌, ℕ, List, length, take, true, IsTrue, IfOk, OnOk};
-ghost use Rattle.std.specs.Prelude.{MatchResult, OnErr, None};
+ghost use Rattle.std.specs.Prelude.{MatchResult, OnErr, None, IfSome};
+ghost use Rattle.ws_session.specs.declared.receiver.frame_check.FrameCheck.TheVariants.{Need};
+ghost use Rattle.ws_session.specs.declared.receiver.under_way.UnderWay.TheVariants.{Data};
 ghost use Rattle.ws_text.specs.Text.{IsText};
 ghost use Rattle.ws_text.specs.Stream.{HasRead};
 ghost use Rattle.ws_session.specs.Messages.{kind_of};
@@ -55,6 +57,38 @@ pub(super) fn check_data(
             used: start + count,
         }),
         Ok(text) => Ok(without_fault(assembly, header, came + here, start + here, text)),
+    }
+}
+
+/// Puts bytes of the payload into the assembly that don't end it, after those that came before, and checks them: the
+/// stream that has read the message with them, and none where something is wrong with the text.
+pub(super) fn check_inside(
+    assembly: &mut Assembly,
+    header: &Header,
+    came: usize,
+    piece: &[u8],
+) -> Result<Option<Utf8Stream>, NoMemory>
+    requires opcode { header.now.opcode ≤ 2 }
+    requires begins { 1 ≤ header.now.opcode → assembly.old.opened ≡ None }
+    requires within { came + length piece.now < header.now.len }
+    requires kept { HasKept assembly.old came }
+    requires read { IsOfText assembly.old.opened header.now →
+        HasRead assembly.old.text (first_bytes assembly.old came) }
+    ensures checked { IfOk result (λ read. IfSome read (λ text. IsPayloadCheck header.now came 0 assembly.new
+        (frame_payload assembly.new) (Need (Data header.now (came + length piece.now)) text))) }
+    ensures payload { OnOk result (frame_payload assembly.new
+        ≡ arrived_payload header.now (take came (frame_payload assembly.old)) piece.now) }
+    ensures kept { HasKept assembly.new came }
+    ensures joined { IsJoined assembly.new }
+    ensures opened { assembly.new.opened ≡ assembly.old.opened }
+    ensures text { assembly.new.text ≡ assembly.old.text }
+    ensures first { first_bytes assembly.new came ≡ first_bytes assembly.old came }
+    ensures wants { OnErr result (0 < length piece.now) }
+{
+    assembly.add(came, header.key(), piece)?;
+    match check_text(assembly, header, came) {
+        Err(_) => Ok(None),
+        Ok(text) => Ok(Some(text)),
     }
 }
 

@@ -1,8 +1,8 @@
 //! The frame that has begun to come and isn't whole (RFC 6455 section 5.2).
 
-ghost use Rattle.std.specs.Prelude.{◌≡◌, ◌≤◌, length};
+ghost use Rattle.std.specs.Prelude.{◌≡◌, ◌+◌, ◌^◌, ◌≤◌, ◌<◌, length};
 ghost use Rattle.ws_frame.specs.Header.{header_bytes};
-ghost use Rattle.ws_session.specs.Receiver.{NotBegun, HasRoom, length_so_far};
+ghost use Rattle.ws_session.specs.Receiver.{NotBegun, HasRoom, length_so_far, after_more};
 
 use crate::control_payload::Small;
 use ws_frame::{Form, Header};
@@ -27,6 +27,16 @@ pub(super) fn nothing() -> UnderWay
 }
 
 impl UnderWay {
+    /// So many more bytes have come of a data frame's payload.
+    pub(super) fn go_on(&mut self, more: usize)
+        requires { length_so_far self.old + more < 2 ^ 64 }
+        ensures { self.new ≡ after_more self.old more }
+    {
+        if let UnderWay::Data { came, .. } = self {
+            *came += more;
+        }
+    }
+
     /// How many bytes of the frame have come.
     pub(super) fn len(&self) -> usize
         requires { HasRoom self.now }

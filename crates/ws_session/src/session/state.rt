@@ -114,6 +114,12 @@ impl State {
                 event: None,
             });
         }
+        if self.receiver.take_inside(piece)? {
+            return Ok(Taken {
+                used: piece.len(),
+                event: None,
+            });
+        }
         let replying = Replying {
             role: self.receiver.role(),
             status: self.status,
