@@ -4,7 +4,7 @@ use Rattle.std.specs.Prelude.{◌==◌, ◌||◌, nat_le}
 use Rattle.std.proofs.lemmas.List.{append-nil}
 use Rattle.std.proofs.lemmas.Grind.{flat_map-append}
 use Rattle.ws_frame.specs.Frame.{Frame, KeyedFrame}
-use Rattle.ws_session.specs.declared.reason.Reason.TheVariants.{TooBig}
+use Rattle.ws_session.specs.declared.reason.Reason.{Reason}
 use Rattle.ws_session.specs.declared.message.Message.{Message}
 use Rattle.ws_session.specs.declared.event.Event.{Event}
 use Rattle.ws_session.specs.declared.event.Event.TheVariants as event
@@ -17,9 +17,9 @@ use Rattle.ws_session.specs.Faults.{frames_of}
 use Rattle.ws_session.specs.Events.{close_in, event_of, events_after, message_in, messages_in}
 use Rattle.ws_session.specs.Replies.{has_close, replies_of}
 use Rattle.ws_session.specs.Exchange.{last_event, code_if_any, status_before_close, status_after, status_of, is_over}
-use Rattle.ws_session.specs.Reach.{frames_within, is_too_big, events_within}
+use Rattle.ws_session.specs.Reach.{frames_within, size_fault, events_of_fault, events_within}
 use Rattle.ws_session.specs.Sends.{most_limits}
-use Rattle.ws_pair.specs.Link.{LinkEnd, close_code_in, status_by_close}
+use Rattle.ws_pair.specs.Link.{LinkEnd, close_code_in, status_by_close, status_by_size}
 use Rattle.ws_pair.specs.Playing.{SessionLaws}
 
 -- ---- the status by the frames that have come
@@ -27,8 +27,7 @@ use Rattle.ws_pair.specs.Playing.{SessionLaws}
 -- the status of an end, by what it has sent and what has come
 abbrev pub status_by : LimitsValue → LinkEnd → List KeyedFrame → Status
 status_by limits x others =
-    if is_too_big limits x.reached others then status.Failed TooBig
-    else status_by_close (close_code_in (frames_of (frames_within limits x.reached others))) (frames_of x.sent) x.is_cut
+    status_by_size (size_fault limits x.reached others) (status_by_close (close_code_in (frames_of (frames_within limits x.reached others))) (frames_of x.sent) x.is_cut)
 
 pub no_both : (b : Bool) → b ≡ true → b ≡ false → ⊥
 no_both b e f = let no : true ≡ false = sym e ∙ f in absurd cc
@@ -114,8 +113,8 @@ not_clean true closing code e = no_both true refl (sym (ap is_clean e))
 not_clean false true code e = no_both true refl (sym (ap is_clean e))
 not_clean false false code e = no_both true refl (sym (ap is_clean e))
 
-failed_is_not_clean : (code : Option ℕ) → status.Failed TooBig ≡ status.Clean code → ⊥
-failed_is_not_clean code e = no_both true refl (sym (ap is_clean e))
+failed_is_not_clean : (reason : Reason) (code : Option ℕ) → status.Failed reason ≡ status.Clean code → ⊥
+failed_is_not_clean reason code e = no_both true refl (sym (ap is_clean e))
 
 module _ (laws : SessionLaws) (limits : LimitsValue) (xs : List KeyedFrame) (valid : AreValidFrames most_limits (frames_of xs)) where
   close_is_last : (n : ℕ) → CloseIsLast (frames_of (frames_within limits n xs))
@@ -126,15 +125,15 @@ module _ (laws : SessionLaws) (limits : LimitsValue) (xs : List KeyedFrame) (val
     | inr e ↦ none_closes (frames_of (frames_within limits n xs)) e
   ]
 
-  by_size : (n : ℕ) (sent : List Frame) (ended : Bool) (big : Bool)
-      → status_of sent ended (events_after [] (frames_of (frames_within limits n xs)) ++ cond big (event.Failed TooBig ∷ []) [])
-      ≡ cond big (status.Failed TooBig) (status_by_close (close_code_in (frames_of (frames_within limits n xs))) sent ended)
-  by_size n sent ended true = ap (λ (o : Option Event). status_after sent ended o) (last_fails (events_after [] (frames_of (frames_within limits n xs))) (event.Failed TooBig))
-  by_size n sent ended false =
+  by_size : (n : ℕ) (sent : List Frame) (ended : Bool) (fault : Option Reason)
+      → status_of sent ended (events_after [] (frames_of (frames_within limits n xs)) ++ events_of_fault fault)
+      ≡ status_by_size fault (status_by_close (close_code_in (frames_of (frames_within limits n xs))) sent ended)
+  by_size n sent ended (Some reason) = ap (λ (o : Option Event). status_after sent ended o) (last_fails (events_after [] (frames_of (frames_within limits n xs))) (event.Failed reason))
+  by_size n sent ended None =
       ap (λ (l : List Event). status_of sent ended l) (append-nil (events_after [] (frames_of (frames_within limits n xs)))) ∙ by_frames [] (frames_of (frames_within limits n xs)) sent ended (close_is_last n)
 
   pub status_told : (x : LinkEnd) → status_of (frames_of x.sent) x.is_cut (events_within limits x.reached xs) ≡ status_by limits x xs
-  status_told x = by_size x.reached (frames_of x.sent) x.is_cut (is_too_big limits x.reached xs)
+  status_told x = by_size x.reached (frames_of x.sent) x.is_cut (size_fault limits x.reached xs)
 
   -- ---- a clean close
 
@@ -142,11 +141,11 @@ module _ (laws : SessionLaws) (limits : LimitsValue) (xs : List KeyedFrame) (val
   clean_code None sent ended code e = absurd (not_clean ended (has_close sent) code e)
   clean_code (Some other) sent ended code e = ap (λ c. Some c) (ap (λ (s : Status). code_of other s) e)
 
-  by_clean : (big : Bool) (n : ℕ) (sent : List Frame) (ended : Bool) (code : Option ℕ)
-      → cond big (status.Failed TooBig) (status_by_close (close_code_in (frames_of (frames_within limits n xs))) sent ended) ≡ status.Clean code
+  by_clean : (fault : Option Reason) (n : ℕ) (sent : List Frame) (ended : Bool) (code : Option ℕ)
+      → status_by_size fault (status_by_close (close_code_in (frames_of (frames_within limits n xs))) sent ended) ≡ status.Clean code
       → (frames_within limits n xs ≡ xs) × (close_code_in (frames_of xs) ≡ Some code)
-  by_clean true n sent ended code e = absurd (failed_is_not_clean code e)
-  by_clean false n sent ended code e =
+  by_clean (Some reason) n sent ended code e = absurd (failed_is_not_clean reason code e)
+  by_clean None n sent ended code e =
       let is = clean_code (close_code_in (frames_of (frames_within limits n xs))) sent ended code e in
       let same : n ≤ n = omega arith in
       let all = (laws.after_close limits most_limits n n xs same valid (code_closes (frames_of (frames_within limits n xs)) code is)).0 in
@@ -154,23 +153,23 @@ module _ (laws : SessionLaws) (limits : LimitsValue) (xs : List KeyedFrame) (val
 
   -- an end that is clean has all that the other sent
   pub clean_is_whole : (x : LinkEnd) (code : Option ℕ) → status_by limits x xs ≡ status.Clean code → (frames_within limits x.reached xs ≡ xs) × (close_code_in (frames_of xs) ≡ Some code)
-  clean_is_whole x code e = by_clean (is_too_big limits x.reached xs) x.reached (frames_of x.sent) x.is_cut code e
+  clean_is_whole x code e = by_clean (size_fault limits x.reached xs) x.reached (frames_of x.sent) x.is_cut code e
 
 -- ---- messages
 
 pub messages-append : (a b : List Event) → messages_in (a ++ b) ≡ messages_in a ++ messages_in b
 messages-append a b = flat_map-append message_in a b
 
-no_message : (big : Bool) → messages_in (cond big (event.Failed TooBig ∷ []) []) ≡ []
-no_message true = refl
-no_message false = refl
+no_message : (fault : Option Reason) → messages_in (events_of_fault fault) ≡ []
+no_message (Some reason) = refl
+no_message None = refl
 
 -- the messages of the frames that have come are those that were told
 pub messages_within : (laws : SessionLaws) (limits : LimitsValue) (n : ℕ) (xs : List KeyedFrame) → messages_in (events_within limits n xs) ≡ messages_of (frames_of (frames_within limits n xs))
 messages_within laws limits n xs =
     let frames : List Frame = frames_of (frames_within limits n xs) in
-    messages-append (events_after [] frames) (cond (is_too_big limits n xs) (event.Failed TooBig ∷ []) [])
-    ∙ ap (λ (l : List Message). messages_in (events_after [] frames) ++ l) (no_message (is_too_big limits n xs)) ∙ append-nil (messages_in (events_after [] frames)) ∙ laws.messages frames
+    messages-append (events_after [] frames) (events_of_fault (size_fault limits n xs))
+    ∙ ap (λ (l : List Message). messages_in (events_after [] frames) ++ l) (no_message (size_fault limits n xs)) ∙ append-nil (messages_in (events_after [] frames)) ∙ laws.messages frames
 
 -- nothing is owed where nothing was told
 pub nothing_owed : (b : Bool) (sent : List Frame) → has_close sent ≡ b → replies_of sent [] ≡ []

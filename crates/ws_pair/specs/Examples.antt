@@ -1,14 +1,14 @@
 -- Worked examples of the definitions, as theorems. The masking key is four zeros, under which bytes stay as they are.
-use Rattle.std.specs.Prelude.{◌≡◌, ℕ, true, false, List, [], ◌∷◌, Some, refl}
+use Rattle.std.specs.Prelude.{◌≡◌, ℕ, true, false, List, [], ◌∷◌, Some, refl, None}
 use Rattle.ws_frame.specs.Frame.{KeyedFrame, stream_bytes}
 use Rattle.ws_session.specs.declared.message.Kind.TheVariants.{Binary}
-use Rattle.ws_session.specs.declared.reason.Reason.TheVariants.{TooBig}
+use Rattle.ws_session.specs.declared.reason.Reason.TheVariants.{TooBig, FrameBig}
 use Rattle.ws_session.specs.declared.status.Status.TheVariants.{Open, Closing, Clean, Failed, Lost}
 use Rattle.ws_session.specs.Messages.{messages_of}
 use Rattle.ws_session.specs.Faults.{frames_of}
 use Rattle.ws_session.specs.Replies.{control_frame, close_frame, under_key}
 use Rattle.ws_pair.specs.declared.moves.End.TheVariants.{Client, Server}
-use Rattle.ws_pair.specs.Link.{Link, BothLimits, new_link, role_of, frames_reached, has_size_fault, status_at}
+use Rattle.ws_pair.specs.Link.{Link, BothLimits, new_link, role_of, frames_reached, size_fault_at, status_at}
 use Rattle.ws_pair.specs.Moves.{count_arriving, with_arrived, with_cut}
 
 abbrev key : List ℕ
@@ -70,9 +70,14 @@ the_first_is_delivered = refl
 the_second_fails_at_its_header : status_at limits too_big Server ≡ Failed TooBig
 the_second_fails_at_its_header = refl
 
-one_byte_less_of_it : has_size_fault limits
-    (record { client = too_big.client; server = record { sent = []; reached = 13; is_cut = false } }) Server ≡ false
+one_byte_less_of_it : size_fault_at limits
+    (record { client = too_big.client; server = record { sent = []; reached = 13; is_cut = false } }) Server ≡ None
 one_byte_less_of_it = refl
+
+-- under a limit of one byte a frame the first is already too big
+a_frame_fails_alone : status_at (record { client = limits.client; server = record { max_message = 2; max_frame = 1 } })
+    too_big Server ≡ Failed FrameBig
+a_frame_fails_alone = refl
 
 -- ---- a cut
 

@@ -6,13 +6,13 @@ use Rattle.ws_frame.specs.declared.role.Role.TheVariants as role
 use Rattle.ws_frame.specs.Frame.{Frame, KeyedFrame}
 use Rattle.ws_session.specs.declared.status.Status.{Status}
 use Rattle.ws_session.specs.declared.status.Status.TheVariants.{Clean, Failed}
-use Rattle.ws_session.specs.declared.reason.Reason.TheVariants.{TooBig}
+use Rattle.ws_session.specs.declared.reason.Reason.{Reason}
 use Rattle.ws_session.specs.Limits.{LimitsValue}
 use Rattle.ws_session.specs.Messages.{is_close}
 use Rattle.ws_session.specs.Faults.{frames_of}
 use Rattle.ws_session.specs.Events.{close_in}
 use Rattle.ws_session.specs.Exchange.{code_if_any, status_before_close}
-use Rattle.ws_session.specs.Reach.{frames_within, is_too_big}
+use Rattle.ws_session.specs.Reach.{frames_within, size_fault}
 use Rattle.ws_pair.specs.declared.moves.End.{End}
 use Rattle.ws_pair.specs.declared.moves.End.TheVariants.{Client, Server}
 
@@ -62,15 +62,21 @@ with_end link Server x = record { client = link.client; server = x }
 
 -- ---- what has come
 
--- the other's frames that have reached an end, none of which passes its limit
+-- the other's frames that have reached an end, none of which passes its limits
 abbrev pub frames_reached : BothLimits → Link → End → List KeyedFrame
 frames_reached limits link side =
     frames_within (limits_of limits side) (end_of link side).reached (end_of link (other side)).sent
 
--- so much has come that the end tells a frame too big: it takes its message above the end's limit
-abbrev pub has_size_fault : BothLimits → Link → End → Bool
-has_size_fault limits link side =
-    is_too_big (limits_of limits side) (end_of link side).reached (end_of link (other side)).sent
+-- what the end tells of a frame whose size it does not take, once its header has come: it takes its message above the
+-- end's limit, or else it is above the end's limit of a frame
+abbrev pub size_fault_at : BothLimits → Link → End → Option Reason
+size_fault_at limits link side =
+    size_fault (limits_of limits side) (end_of link side).reached (end_of link (other side)).sent
+
+-- failed by a size fault, if there is one
+abbrev pub status_by_size : Option Reason → Status → Status
+status_by_size None status = status
+status_by_size (Some reason) status = Failed reason
 
 -- what the first close frame says, if there is one: its code, or none where it is empty
 abbrev pub close_code_in : List Frame → Option (Option ℕ)
@@ -86,7 +92,6 @@ status_by_close None sent is_cut = status_before_close sent is_cut
 -- the status of an end: failed by a size fault, else clean by the other's close, else lost by a cut, else closing by
 -- its own close, else open
 abbrev pub status_at : BothLimits → Link → End → Status
-status_at limits link side =
-    if has_size_fault limits link side then Failed TooBig
-    else status_by_close (close_code_in (frames_of (frames_reached limits link side)))
-    (frames_of (end_of link side).sent) (end_of link side).is_cut
+status_at limits link side = status_by_size (size_fault_at limits link side)
+    (status_by_close (close_code_in (frames_of (frames_reached limits link side)))
+    (frames_of (end_of link side).sent) (end_of link side).is_cut)

@@ -1,6 +1,6 @@
 -- Inside the crate: an endpoint as an end of a link, for contracts of private functions. A reader may skip this file.
 use Rattle.std.specs.Prelude.{◌≡◌, ℕ, ◌+◌, ◌≤◌, true, false, List, [], ◌∷◌, ◌++◌, length, take, drop, map, Result, Ok}
-use Rattle.std.specs.Prelude.{Err}
+use Rattle.std.specs.Prelude.{Err, None}
 use Rattle.std.specs.List.{AllByRecursion}
 use Rattle.ws_frame.specs.declared.role.Role.{Role}
 use Rattle.ws_frame.specs.declared.role.Role.TheVariants as role
@@ -18,7 +18,7 @@ use Rattle.ws_session.specs.Events.{HasEvents, events_after, messages_in}
 use Rattle.ws_session.specs.Sends.{Send, frame_of, most_limits, HasTextReason, MaySend}
 use Rattle.ws_session.specs.declared.status.Status.{Status}
 use Rattle.ws_session.specs.Exchange.{SessionValue, HasExchanged, is_over}
-use Rattle.ws_session.specs.Reach.{frames_within, is_too_big, events_within}
+use Rattle.ws_session.specs.Reach.{frames_within, size_fault, events_within}
 use Rattle.ws_pair.specs.declared.moves.End.{End}
 use Rattle.ws_pair.specs.declared.moves.End.TheVariants.{Client, Server}
 use Rattle.ws_pair.specs.declared.moves.Move.{Move}
@@ -112,7 +112,7 @@ pub record SessionLaws : Type 0 where
       → n ≤ length (stream_bytes xs) → frames_within limits n (xs ++ more) ≡ frames_within limits n xs
   pub after_close : (limits most : LimitsValue) (n m : ℕ) (xs : List KeyedFrame)
       → n ≤ m → AreValidFrames most (frames_of xs) → has_close (frames_of (frames_within limits n xs)) ≡ true
-      → (frames_within limits m xs ≡ xs) × (is_too_big limits m xs ≡ false)
+      → (frames_within limits m xs ≡ xs) × (size_fault limits m xs ≡ None)
   pub told : (role : Role) (limits most : LimitsValue) (n : ℕ) (xs : List KeyedFrame)
       → AllByRecursion FitsTheLayout xs → KeysFit role xs → AreValidFrames most (frames_of xs)
       → HasEvents role limits (take n (stream_bytes xs)) (events_within limits n xs)

@@ -20,6 +20,7 @@ use Rattle.ws_peer.specs.EchoLaws.{EchoLaws}
 pub nothing_is_valid : AreValidFrames most_limits []
 nothing_is_valid = record {
   each = tt;
+  sizes = tt;
   close = tt;
   finished = tt;
   unfinished = record { frames = tt; size = omega arith; text = tt };

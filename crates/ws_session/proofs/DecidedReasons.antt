@@ -12,7 +12,7 @@ use Rattle.ws_session.specs.declared.message.Kind.{Kind}
 use Rattle.ws_session.specs.declared.message.Kind.TheVariants.{Text, Binary}
 use Rattle.ws_session.specs.declared.message.Message.{Message}
 use Rattle.ws_session.specs.declared.reason.Reason.{Reason}
-use Rattle.ws_session.specs.declared.reason.Reason.TheVariants.{ReservedBits, Opcode, MaskWrong, NotShortest, BadLength, ControlCut, ControlLong, NothingToContinue, MessageOpen, TooBig, NotText, TextCut, CloseOneByte, CloseCode, CloseReason}
+use Rattle.ws_session.specs.declared.reason.Reason.TheVariants.{ReservedBits, Opcode, MaskWrong, NotShortest, BadLength, ControlCut, ControlLong, NothingToContinue, MessageOpen, TooBig, FrameBig, NotText, TextCut, CloseOneByte, CloseCode, CloseReason}
 use Rattle.ws_session.specs.Limits.{LimitsValue}
 use Rattle.ws_session.specs.Faults.{number_of, expects_key, open_payload, IsOpenText, IsOfText, IsControl, AppliesAtHeader, AppliesInPayload, Applies}
 use Rattle.ws_session.proofs.Faults.{reason_at, reason_again}
@@ -69,6 +69,7 @@ at_header_told role limits opened header ControlLong = both_told (IsControl head
 at_header_told role limits opened header NothingToContinue = both_told (header.opcode ≡ 0) (opened ≡ None) (cases_eq header.opcode 0) (none_told opened)
 at_header_told role limits opened header MessageOpen = both_told ((header.opcode ≡ 1) ⊎ (header.opcode ≡ 2)) (opened ≡ None → ⊥) (either_told (header.opcode ≡ 1) (header.opcode ≡ 2) (cases_eq header.opcode 1) (cases_eq header.opcode 2)) (not_told (opened ≡ None) (none_told opened))
 at_header_told role limits opened header TooBig = both_told (header.opcode ≤ 2) (limits.max_message < length (open_payload opened) + header.len) (most_told header.opcode 2) (less_told limits.max_message (length (open_payload opened) + header.len))
+at_header_told role limits opened header FrameBig = both_told (header.opcode ≤ 2) (limits.max_frame < header.len) (most_told header.opcode 2) (less_told limits.max_frame header.len)
 at_header_told role limits opened header NotText = inr (λ h. h)
 at_header_told role limits opened header TextCut = inr (λ h. h)
 at_header_told role limits opened header CloseOneByte = inr (λ h. h)
@@ -125,6 +126,7 @@ in_payload_told opened header payload are ControlLong = inr (λ h. h)
 in_payload_told opened header payload are NothingToContinue = inr (λ h. h)
 in_payload_told opened header payload are MessageOpen = inr (λ h. h)
 in_payload_told opened header payload are TooBig = inr (λ h. h)
+in_payload_told opened header payload are FrameBig = inr (λ h. h)
 in_payload_told opened header payload are NotText =
     three_told (IsOfText opened header) (0 < length payload) (BeginsText (open_payload opened ++ payload) → ⊥) (of_text_told opened header) (less_told 0 (length payload)) (not_told (BeginsText (open_payload opened ++ payload)) (begins_told (open_payload opened ++ payload)))
 in_payload_told opened header payload are TextCut = cut_told opened header payload
@@ -154,27 +156,28 @@ numbered_told P tell i =
       | inl same ↦ told_by (P (reason_at i)) ((reason : Reason) × (number_of reason ≡ i) × P reason) (λ p. (reason_at i, same, p)) (λ h. subst P (sym (reason_again h.0) ∙ ap reason_at h.1) h.2) (tell (reason_at i))
     ]
 
-at_most_fifteen : (reason : Reason) → number_of reason < 16
-at_most_fifteen ReservedBits = omega arith
-at_most_fifteen Opcode = omega arith
-at_most_fifteen MaskWrong = omega arith
-at_most_fifteen NotShortest = omega arith
-at_most_fifteen BadLength = omega arith
-at_most_fifteen ControlCut = omega arith
-at_most_fifteen ControlLong = omega arith
-at_most_fifteen NothingToContinue = omega arith
-at_most_fifteen MessageOpen = omega arith
-at_most_fifteen TooBig = omega arith
-at_most_fifteen NotText = omega arith
-at_most_fifteen TextCut = omega arith
-at_most_fifteen CloseOneByte = omega arith
-at_most_fifteen CloseCode = omega arith
-at_most_fifteen CloseReason = omega arith
+at_most_sixteen : (reason : Reason) → number_of reason < 17
+at_most_sixteen ReservedBits = omega arith
+at_most_sixteen Opcode = omega arith
+at_most_sixteen MaskWrong = omega arith
+at_most_sixteen NotShortest = omega arith
+at_most_sixteen BadLength = omega arith
+at_most_sixteen ControlCut = omega arith
+at_most_sixteen ControlLong = omega arith
+at_most_sixteen NothingToContinue = omega arith
+at_most_sixteen MessageOpen = omega arith
+at_most_sixteen TooBig = omega arith
+at_most_sixteen FrameBig = omega arith
+at_most_sixteen NotText = omega arith
+at_most_sixteen TextCut = omega arith
+at_most_sixteen CloseOneByte = omega arith
+at_most_sixteen CloseCode = omega arith
+at_most_sixteen CloseReason = omega arith
 
 -- of the reasons of which something holds the first, or none, where it can be told of each
 pub lowest_told : (P : Reason → Type 0) → ((reason : Reason) → Told (P reason)) → ((reason : Reason) × P reason × ((other : Reason) → P other → number_of reason ≤ number_of other)) ⊎ ((reason : Reason) → P reason → ⊥)
 lowest_told P tell =
-    elim (least_told (λ (i : ℕ). (reason : Reason) × (number_of reason ≡ i) × P reason) (numbered_told P tell) 16) [
+    elim (least_told (λ (i : ℕ). (reason : Reason) × (number_of reason ≡ i) × P reason) (numbered_told P tell) 17) [
       | inl found ↦ inl (found.1.0, found.1.2, λ other p. omega (arith, found.1.1, found.2 (number_of other) (other, refl, p)))
-      | inr none ↦ inr (λ reason p. none (number_of reason) (at_most_fifteen reason) (reason, refl, p))
+      | inr none ↦ inr (λ reason p. none (number_of reason) (at_most_sixteen reason) (reason, refl, p))
     ]

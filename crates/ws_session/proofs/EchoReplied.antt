@@ -204,8 +204,8 @@ text_begins l t = record { more = []; is_text = subst (λ (x : List ℕ). IsText
 no_both : (b : Bool) → b ≡ true → b ≡ false → ⊥
 no_both b e f = let both : true ≡ false = sym e ∙ f in absurd cc
 
-message_next : (limits most : LimitsValue) (m : Message) → limits.max_message ≤ most.max_message → IsSoundMessage limits m → IsValidNext most None (message_frame m)
-message_next limits most m le sound =
+message_next : (limits most : LimitsValue) (m : Message) → limits.max_message ≤ most.max_message → limits.max_message ≤ most.max_frame → IsSoundMessage limits m → IsValidNext most None (message_frame m)
+message_next limits most m le frame sound =
     let opcode = opcode_is m.kind in
     record {
       alone = record { rsv = refl; opcode = inl opcode.1; control = λ e. absurd (no_both (is_control (message_frame m)) e (no_control m.kind m.payload)) };
@@ -213,15 +213,16 @@ message_next limits most m le sound =
       goes_on = λ e. absurd (omega (arith, e, opcode.0));
       begins = λ one two. refl;
       size = λ two. omega (arith, le, sound.size);
+      frame = λ two. omega (arith, frame, sound.size);
       text = λ is. text_begins m.payload (sound.text (kind_of_message m.kind m.payload is));
       whole = λ is end. sound.text (kind_of_message m.kind m.payload is);
     }
 
-module _ (limits most : LimitsValue) (le : limits.max_message ≤ most.max_message) where
+module _ (limits most : LimitsValue) (le : limits.max_message ≤ most.max_message) (frame : limits.max_message ≤ most.max_frame) where
   frame_next : (sent : List Frame) (f : Frame) → open_message_of sent ≡ None → IsEchoFrame limits f → IsValidNext most (open_message_of sent) f
   frame_next sent f none (inl reply) = control_next most (open_message_of sent) f reply.0
   frame_next sent f none (inr message) =
-      subst (λ (o : Option Message). IsValidNext most o f) (sym none) (subst (λ (g : Frame). IsValidNext most None g) (sym message.1) (message_next limits most message.0 le message.2))
+      subst (λ (o : Option Message). IsValidNext most o f) (sym none) (subst (λ (g : Frame). IsValidNext most None g) (sym message.1) (message_next limits most message.0 le frame message.2))
 
   until_valid : (sent fs : List Frame) → AreValidFrames most sent → NoneCloses sent → open_message_of sent ≡ None → AllByRecursion (IsEchoFrame limits) fs → AllByRecursion LeavesNone fs → AreValidFrames most (sent ++ until_close fs)
   until_valid sent [] v none left h leaves = subst (λ (l : List Frame). AreValidFrames most l) (sym (append-nil sent)) v

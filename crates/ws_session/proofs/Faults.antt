@@ -5,13 +5,13 @@ use Rattle.std.proofs.lemmas.Bool.{cases_lt}
 use Rattle.std.proofs.lemmas.List.{length-append, take-append-le}
 use Rattle.ws_frame.specs.declared.role.Role.{Role}
 use Rattle.ws_session.specs.declared.reason.Reason.{Reason}
-use Rattle.ws_session.specs.declared.reason.Reason.TheVariants.{ReservedBits, Opcode, MaskWrong, NotShortest, BadLength, ControlCut, ControlLong, NothingToContinue, MessageOpen, TooBig, NotText, TextCut, CloseOneByte, CloseCode, CloseReason}
+use Rattle.ws_session.specs.declared.reason.Reason.TheVariants.{ReservedBits, Opcode, MaskWrong, NotShortest, BadLength, ControlCut, ControlLong, NothingToContinue, MessageOpen, TooBig, FrameBig, NotText, TextCut, CloseOneByte, CloseCode, CloseReason}
 use Rattle.ws_session.specs.Limits.{LimitsValue}
 use Rattle.ws_session.specs.Faults.{number_of, IsFaultAt, IsNoLater, IsFirstFault, HasNoFault}
 
 -- the reason with this number
 pub reason_at : ℕ → Reason
-reason_at n = cond (n == 1) ReservedBits (cond (n == 2) Opcode (cond (n == 3) MaskWrong (cond (n == 4) NotShortest (cond (n == 5) BadLength (cond (n == 6) ControlCut (cond (n == 7) ControlLong (cond (n == 8) NothingToContinue (cond (n == 9) MessageOpen (cond (n == 10) TooBig (cond (n == 11) NotText (cond (n == 12) TextCut (cond (n == 13) CloseOneByte (cond (n == 14) CloseCode (CloseReason))))))))))))))
+reason_at n = cond (n == 1) ReservedBits (cond (n == 2) Opcode (cond (n == 3) MaskWrong (cond (n == 4) NotShortest (cond (n == 5) BadLength (cond (n == 6) ControlCut (cond (n == 7) ControlLong (cond (n == 8) NothingToContinue (cond (n == 9) MessageOpen (cond (n == 10) TooBig (cond (n == 11) NotText (cond (n == 12) TextCut (cond (n == 13) CloseOneByte (cond (n == 14) CloseCode (cond (n == 15) CloseReason FrameBig))))))))))))))
 
 pub reason_again : (r : Reason) → reason_at (number_of r) ≡ r
 unfolding reason_at
@@ -25,6 +25,7 @@ reason_again ControlLong = refl
 reason_again NothingToContinue = refl
 reason_again MessageOpen = refl
 reason_again TooBig = refl
+reason_again FrameBig = refl
 reason_again NotText = refl
 reason_again TextCut = refl
 reason_again CloseOneByte = refl

@@ -14,7 +14,7 @@ use Rattle.ws_session.specs.declared.message.Kind.{Kind}
 use Rattle.ws_session.specs.declared.message.Kind.TheVariants.{Text, Binary}
 use Rattle.ws_session.specs.declared.message.Message.{Message}
 use Rattle.ws_session.specs.declared.reason.Reason.{Reason}
-use Rattle.ws_session.specs.declared.reason.Reason.TheVariants.{ReservedBits, Opcode, MaskWrong, NotShortest, BadLength, ControlCut, ControlLong, NothingToContinue, MessageOpen, TooBig, NotText, TextCut, CloseOneByte, CloseCode, CloseReason}
+use Rattle.ws_session.specs.declared.reason.Reason.TheVariants.{ReservedBits, Opcode, MaskWrong, NotShortest, BadLength, ControlCut, ControlLong, NothingToContinue, MessageOpen, TooBig, FrameBig, NotText, TextCut, CloseOneByte, CloseCode, CloseReason}
 use Rattle.ws_session.specs.Limits.{LimitsValue}
 use Rattle.ws_session.specs.Messages.{is_control, is_close}
 use Rattle.ws_session.specs.Faults.{expects_key, open_payload, Applies, AppliesAtHeader, AppliesInPayload}
@@ -102,6 +102,7 @@ module _ (role : Role) (limits : LimitsValue) (opened : Option Message) (x : Key
   none_at_header NothingToContinue a = v.goes_on a.0 a.1
   none_at_header MessageOpen a = let n = one_or_two_is x.frame.opcode a.0 in a.1 (v.begins n.0 n.1)
   none_at_header TooBig a = omega (arith, a.1, v.size a.0)
+  none_at_header FrameBig a = omega (arith, a.1, v.frame a.0)
   none_at_header NotText a = a
   none_at_header TextCut a = a
   none_at_header CloseOneByte a = a
@@ -145,6 +146,7 @@ module _ (role : Role) (limits : LimitsValue) (opened : Option Message) (x : Key
   none_in_payload p q e NothingToContinue a = a
   none_in_payload p q e MessageOpen a = a
   none_in_payload p q e TooBig a = a
+  none_in_payload p q e FrameBig a = a
 
   none_applies : (p q : List ℕ) → x.frame.payload ≡ p ++ q → (r : Reason) → Applies role limits opened (header_of x) p r → ⊥
   none_applies p q e r (inl a) = none_at_header r a.1
@@ -219,6 +221,9 @@ module _ (role : Role) (limits : LimitsValue) (opened : Option Message) (x : Key
   size_is : x.frame.opcode ≤ 2 → length (open_payload opened) + length x.frame.payload ≤ limits.max_message
   size_is le = elim (cases_lt limits.max_message (length (open_payload opened) + length x.frame.payload)) [ inl big ↦ absurd (never TooBig (inl (refl, (le, big)))) | inr fits ↦ fits ]
 
+  frame_is : x.frame.opcode ≤ 2 → length x.frame.payload ≤ limits.max_frame
+  frame_is le = elim (cases_lt limits.max_frame (length x.frame.payload)) [ inl big ↦ absurd (never FrameBig (inl (refl, (le, big)))) | inr fits ↦ fits ]
+
   begins_is : 1 ≤ x.frame.opcode → x.frame.opcode ≤ 2 → opened ≡ None
   begins_is one two = none_or_some opened (λ some. never MessageOpen (inl (refl, (one_or_two x.frame.opcode two one, some))))
 
@@ -290,6 +295,7 @@ module _ (role : Role) (limits : LimitsValue) (opened : Option Message) (x : Key
         goes_on = λ e none. never NothingToContinue (inl (refl, (e, none)));
         begins = begins_is;
         size = size_is;
+        frame = frame_is;
         text = text;
         whole = whole;
       })))

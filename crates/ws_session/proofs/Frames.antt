@@ -13,7 +13,7 @@ use Rattle.ws_frame.proofs.Headers.{same_header}
 use Rattle.ws_frame.proofs.Masks.{length-masked_payload, same_masked_payload, take-masked_payload}
 use Rattle.ws_session.specs.declared.message.Message.{Message}
 use Rattle.ws_session.specs.declared.reason.Reason.{Reason}
-use Rattle.ws_session.specs.declared.reason.Reason.TheVariants.{ReservedBits, Opcode, MaskWrong, NotShortest, BadLength, ControlCut, ControlLong, NothingToContinue, MessageOpen, TooBig, NotText, TextCut, CloseOneByte, CloseCode, CloseReason}
+use Rattle.ws_session.specs.declared.reason.Reason.TheVariants.{ReservedBits, Opcode, MaskWrong, NotShortest, BadLength, ControlCut, ControlLong, NothingToContinue, MessageOpen, TooBig, FrameBig, NotText, TextCut, CloseOneByte, CloseCode, CloseReason}
 use Rattle.ws_session.specs.Limits.{LimitsValue}
 use Rattle.ws_session.specs.Faults.{number_of, open_payload, Applies, AppliesInPayload, IsNoLater}
 use Rattle.ws_session.specs.NextFrame.{header_of, IsFaultOfNext, HasNoFaultOfNext, IsFirstFaultOfNext, IsPartOfFrame}
@@ -29,7 +29,7 @@ use Rattle.ws_frame.proofs.Splits.{rest_bytes}
 use Rattle.ws_frame.proofs.Frames.{no_wire_of_cut_payload, no_wire_without_header}
 use Rattle.ws_session.specs.Faults.{IsControl}
 use Rattle.ws_session.specs.Checking.{NoneAtHeader, IsFirstAtHeader, NoneInPayload, IsFirstInPayload, frame_with, IsRoomFor}
-use Rattle.ws_session.proofs.HeaderReasons.{at_most_ten}
+use Rattle.ws_session.proofs.HeaderReasons.{early_or_big}
 use Rattle.ws_session.proofs.Next.{length-frame_bytes}
 
 pub none_or_some : (opened : Option Message) → (opened ≢ None → ⊥) → opened ≡ None
@@ -157,10 +157,34 @@ module _ (role : Role) (limits : LimitsValue) (opened : Option Message) (bytes :
   late_number NothingToContinue a = absurd a
   late_number MessageOpen a = absurd a
   late_number TooBig a = absurd a
+  late_number FrameBig a = absurd a
+
+  -- no reason of a payload is told where none of it came of a frame that has some
+  late_of_some : (q : Reason) → h.opcode ≤ 2 → 0 < h.len → AppliesInPayload opened h [] q → ⊥
+  late_of_some NotText le some a = omega (arith, a.1)
+  late_of_some TextCut le some a = omega (arith, a.2, some)
+  late_of_some CloseOneByte le some a = omega (arith, a.0, le)
+  late_of_some CloseCode le some a = omega (arith, a.0, le)
+  late_of_some CloseReason le some a = omega (arith, a.0, le)
+  late_of_some ReservedBits le some a = a
+  late_of_some Opcode le some a = a
+  late_of_some MaskWrong le some a = a
+  late_of_some NotShortest le some a = a
+  late_of_some BadLength le some a = a
+  late_of_some ControlCut le some a = a
+  late_of_some ControlLong le some a = a
+  late_of_some NothingToContinue le some a = a
+  late_of_some MessageOpen le some a = a
+  late_of_some TooBig le some a = a
+  late_of_some FrameBig le some a = a
+
+  header_first_number : (r q : Reason) → (number_of r ≤ 10) ⊎ ((h.opcode ≤ 2) × (limits.max_frame < h.len)) → AppliesInPayload opened h [] q → number_of r ≤ number_of q
+  header_first_number r q (inl early) a = omega (arith, late_number q a, early)
+  header_first_number r q (inr big) a = absurd (late_of_some q big.0 (omega (arith, big.1)) a)
 
   header_first : (r : Reason) → IsFirstAtHeader role limits opened h r → (count : ℕ) (q : Reason) → Applies role limits opened h (take count p) q → IsNoLater used r (used + count) q
   header_first r first zero q (inl a) = inr (omega arith, first.first q a.1)
-  header_first r first zero q (inr a) = inr (omega arith, omega (arith, late_number q a, at_most_ten role limits opened h r first.wrong))
+  header_first r first zero q (inr a) = inr (omega arith, header_first_number r q (early_or_big role limits opened h r first.wrong) a)
   header_first r first (suc count) q a = inl (omega arith)
 
   pub at_header : (r : Reason) → IsFirstAtHeader role limits opened h r → IsFirstFaultOfNext role limits opened bytes used r

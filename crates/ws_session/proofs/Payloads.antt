@@ -9,7 +9,7 @@ use Rattle.ws_session.specs.declared.message.Kind.{Kind}
 use Rattle.ws_session.specs.declared.message.Kind.TheVariants.{Text, Binary}
 use Rattle.ws_session.specs.declared.message.Message.{Message}
 use Rattle.ws_session.specs.declared.reason.Reason.{Reason}
-use Rattle.ws_session.specs.declared.reason.Reason.TheVariants.{ReservedBits, Opcode, MaskWrong, NotShortest, BadLength, ControlCut, ControlLong, NothingToContinue, MessageOpen, TooBig, NotText, TextCut, CloseOneByte, CloseCode, CloseReason}
+use Rattle.ws_session.specs.declared.reason.Reason.TheVariants.{ReservedBits, Opcode, MaskWrong, NotShortest, BadLength, ControlCut, ControlLong, NothingToContinue, MessageOpen, TooBig, FrameBig, NotText, TextCut, CloseOneByte, CloseCode, CloseReason}
 use Rattle.ws_session.specs.Messages.{kind_of}
 use Rattle.ws_session.specs.Faults.{number_of, open_payload, IsOfText, AppliesInPayload, IsNoLater}
 use Rattle.ws_session.specs.Events.{close_in}
@@ -55,6 +55,7 @@ module _ (opened : Option Message) (h : HeaderFields) (p : List ℕ) (opcode : h
   none_of_binary never n NothingToContinue le a = a
   none_of_binary never n MessageOpen le a = a
   none_of_binary never n TooBig le a = a
+  none_of_binary never n FrameBig le a = a
 
   -- the text goes on, and is whole where the message ends
   pub none_of_text : BeginsText (open_payload opened ++ p) → (h.fin ≡ true → length p ≡ h.len → (IsText (open_payload opened ++ p) → ⊥) → ⊥) → NoneInPayload opened h p
@@ -76,6 +77,7 @@ module _ (opened : Option Message) (h : HeaderFields) (p : List ℕ) (opcode : h
   none_of_text begins whole n NothingToContinue le a = a
   none_of_text begins whole n MessageOpen le a = a
   none_of_text begins whole n TooBig le a = a
+  none_of_text begins whole n FrameBig le a = a
 
   -- the text ends inside a character
   cut_first : BeginsText (open_payload opened ++ p) → (n : ℕ) (q : Reason) → n ≤ length p → AppliesInPayload opened h (take n p) q → IsNoLater (length p) TextCut n q
@@ -94,6 +96,7 @@ module _ (opened : Option Message) (h : HeaderFields) (p : List ℕ) (opcode : h
   cut_first begins n NothingToContinue le a = absurd a
   cut_first begins n MessageOpen le a = absurd a
   cut_first begins n TooBig le a = absurd a
+  cut_first begins n FrameBig le a = absurd a
 
   pub text_is_cut : IsOfText opened h → h.fin ≡ true → length p ≡ h.len → BeginsText (open_payload opened ++ p) → (IsText (open_payload opened ++ p) → ⊥) → IsFirstInPayload opened h p (length p) TextCut
   text_is_cut of_text fin whole begins never =
@@ -127,6 +130,7 @@ module _ (opened : Option Message) (h : HeaderFields) (p : List ℕ) (opcode : h
   break_first k b n NothingToContinue le a = absurd a
   break_first k b n MessageOpen le a = absurd a
   break_first k b n TooBig le a = absurd a
+  break_first k b n FrameBig le a = absurd a
 
   pub text_breaks : (k : ℕ) → IsOfText opened h → BreaksTextAt (open_payload opened) p k → IsFirstInPayload opened h p (k + 1) NotText
   text_breaks k of_text b =
@@ -158,6 +162,7 @@ module _ (opened : Option Message) (h : HeaderFields) (p : List ℕ) (opcode : 8
   none_of_part short n NothingToContinue le a = a
   none_of_part short n MessageOpen le a = a
   none_of_part short n TooBig le a = a
+  none_of_part short n FrameBig le a = a
 
   -- it is a ping or a pong
   pub none_of_ping : (h.opcode ≡ 8 → ⊥) → NoneInPayload opened h p
@@ -176,6 +181,7 @@ module _ (opened : Option Message) (h : HeaderFields) (p : List ℕ) (opcode : 8
   none_of_ping never n NothingToContinue le a = a
   none_of_ping never n MessageOpen le a = a
   none_of_ping never n TooBig le a = a
+  none_of_ping never n FrameBig le a = a
 
 -- what a close payload holds is what stands in it
 make_close : ℕ → List ℕ → Option CloseValue
@@ -232,6 +238,7 @@ module _ (opened : Option Message) (h : HeaderFields) (p : List ℕ) (opcode : h
   lowest f e NothingToContinue a = absurd a
   lowest f e MessageOpen a = absurd a
   lowest f e TooBig a = absurd a
+  lowest f e FrameBig a = absurd a
 
   -- nothing applies to less of it
   only_here : (n : ℕ) (q : Reason) → n ≤ length p → AppliesInPayload opened h (take n p) q → (n ≡ length p) × AppliesInPayload opened h p q
@@ -250,6 +257,7 @@ module _ (opened : Option Message) (h : HeaderFields) (p : List ℕ) (opcode : h
   only_here n NothingToContinue le a = absurd a
   only_here n MessageOpen le a = absurd a
   only_here n TooBig le a = absurd a
+  only_here n FrameBig le a = absurd a
 
   pub close_fault : (f : CloseFault) → r ≡ Err f → IsFirstInPayload opened h p (length p) (reason_of_close f)
   close_fault f e = record {
@@ -277,6 +285,7 @@ module _ (opened : Option Message) (h : HeaderFields) (p : List ℕ) (opcode : h
   fine close e NothingToContinue a = a
   fine close e MessageOpen a = a
   fine close e TooBig a = a
+  fine close e FrameBig a = a
 
   pub close_fine : (close : Option CloseValue) → r ≡ Ok close → (close ≡ close_in p) × NoneInPayload opened h p
   close_fine close e = (close_in_is p close ((read close).0 e), λ n q le a. fine close e q (only_here n q le a).1)

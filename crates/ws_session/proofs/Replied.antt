@@ -12,7 +12,7 @@ use Rattle.ws_text.specs.Close.{CodeAllowed}
 use Rattle.ws_text.proofs.Texts.{no_text}
 use Rattle.ws_session.specs.declared.message.Message.{Message}
 use Rattle.ws_session.specs.declared.reason.Reason.{Reason}
-use Rattle.ws_session.specs.declared.reason.Reason.TheVariants.{ReservedBits, Opcode, MaskWrong, NotShortest, BadLength, ControlCut, ControlLong, NothingToContinue, MessageOpen, TooBig, NotText, TextCut, CloseOneByte, CloseCode, CloseReason}
+use Rattle.ws_session.specs.declared.reason.Reason.TheVariants.{ReservedBits, Opcode, MaskWrong, NotShortest, BadLength, ControlCut, ControlLong, NothingToContinue, MessageOpen, TooBig, FrameBig, NotText, TextCut, CloseOneByte, CloseCode, CloseReason}
 use Rattle.ws_session.specs.declared.event.Event.{Event}
 use Rattle.ws_session.specs.declared.event.Event.TheVariants as event
 use Rattle.ws_session.specs.Limits.{LimitsValue}
@@ -101,6 +101,7 @@ close_replies c allowed =
 
 fault_code : (r : Reason) → CodeAllowed (close_code_of r)
 fault_code TooBig = inr (inl (lit≤ tt, lit≤ tt))
+fault_code FrameBig = inr (inl (lit≤ tt, lit≤ tt))
 fault_code NotText = inr (inl (lit≤ tt, lit≤ tt))
 fault_code TextCut = inr (inl (lit≤ tt, lit≤ tt))
 fault_code CloseReason = inr (inl (lit≤ tt, lit≤ tt))

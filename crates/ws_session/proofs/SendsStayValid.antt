@@ -37,6 +37,7 @@ control_next limits opened f h = record {
   goes_on = λ e. absurd (omega (arith, e, h.least));
   begins = λ one two. absurd (omega (arith, two, h.least));
   size = λ two. absurd (omega (arith, two, h.least));
+  frame = λ two. absurd (omega (arith, two, h.least));
   text = λ is. absurd (elim is [ inl one ↦ omega (arith, one, h.least) | inr zero_open ↦ omega (arith, zero_open.0, h.least) ]);
   whole = λ is end. absurd (elim is [ inl one ↦ omega (arith, one, h.least) | inr zero_open ↦ omega (arith, zero_open.0, h.least) ]);
 }
@@ -66,6 +67,7 @@ begin_next Text payload fin never = record {
   goes_on = λ e. absurd (omega (arith, e));
   begins = λ one two. refl;
   size = λ le. omega (arith, at_most (length payload) most_sent (λ lt. never TooLong lt));
+  frame = λ le. at_most (length payload) most_sent (λ lt. never TooLong lt);
   text = λ is. begins_text fin payload (λ n. never NotText (refl, n));
   whole = λ is end. whole_text fin payload (λ n. never NotText (refl, n)) end;
 }
@@ -75,6 +77,7 @@ begin_next Binary payload fin never = record {
   goes_on = λ e. absurd (omega (arith, e));
   begins = λ one two. refl;
   size = λ le. omega (arith, at_most (length payload) most_sent (λ lt. never TooLong lt));
+  frame = λ le. at_most (length payload) most_sent (λ lt. never TooLong lt);
   text = λ is. absurd (binary_of_text payload fin is);
   whole = λ is end. absurd (binary_of_text payload fin is);
 }
@@ -90,6 +93,7 @@ more_next m payload fin never = record {
   goes_on = λ e none. absurd cc;
   begins = λ one two. absurd (omega (arith, one));
   size = λ le. at_most (length m.payload + length payload) most_sent (λ lt. never TooLong lt);
+  frame = λ le. omega (arith, at_most (length m.payload + length payload) most_sent (λ lt. never TooLong lt));
   text = λ is. begins_text fin (m.payload ++ payload) (λ n. never NotText (more_of_text m payload fin is, n));
   whole = λ is end. whole_text fin (m.payload ++ payload) (λ n. never NotText (more_of_text m payload fin is, n)) end;
 }

@@ -14,7 +14,7 @@ use Rattle.ws_session.specs.Faults.{open_payload}
 use Rattle.std.proofs.lemmas.Bool.{leb-false, leb-true}
 use Rattle.ws_text.specs.Close.{CloseValue, IsClosePayload}
 use Rattle.ws_session.specs.Messages.{Groups, kind_of, first_opcode, joined_payload, message_if_any}
-use Rattle.ws_session.specs.Validity.{IsValidAlone, CloseIsLast, IsContinuation, IsGroup, IsValidGroup, AreValidFrames}
+use Rattle.ws_session.specs.Validity.{IsValidAlone, CloseIsLast, IsContinuation, IsGroup, IsValidGroup, AreValidFrames, FitsTheFrameLimit}
 use Rattle.ws_session.specs.Faults.{IsOpenText}
 use Rattle.ws_frame.proofs.Splits.{all-append}
 use Rattle.ws_session.proofs.OpenMessage.{groups_control, groups_end, groups_more}
@@ -39,6 +39,7 @@ pub record IsValidNext (limits : LimitsValue) (opened : Option Message) (f : Fra
   pub goes_on : f.opcode ≡ 0 → opened ≢ None
   pub begins : 1 ≤ f.opcode → f.opcode ≤ 2 → opened ≡ None
   pub size : f.opcode ≤ 2 → length (open_payload opened) + length f.payload ≤ limits.max_message
+  pub frame : FitsTheFrameLimit limits f
   pub text : FrameOfText opened f → BeginsText (open_payload opened ++ f.payload)
   pub whole : FrameOfText opened f → f.fin ≡ true → IsText (open_payload opened ++ f.payload)
 
@@ -159,7 +160,7 @@ close_snoc (x ∷ fs) f none h = (λ e. absurd (no_both (is_close x) e none.0), 
 pub valid_snoc : (limits : LimitsValue) (fs : List Frame) (f : Frame) → AreValidFrames limits fs → NoneCloses fs → IsValidNext limits (open_message_of fs) f → AreValidFrames limits (fs ++ f ∷ [])
 valid_snoc limits fs f v none n =
     let g = good_snoc limits fs f (is_control f) f.fin refl refl (v.finished, v.unfinished) n in
-    record { each = all-append IsValidAlone fs (f ∷ []) v.each (n.alone, tt); close = close_snoc fs f none n.close; finished = g.0; unfinished = g.1 }
+    record { each = all-append IsValidAlone fs (f ∷ []) v.each (n.alone, tt); sizes = all-append (FitsTheFrameLimit limits) fs (f ∷ []) v.sizes (n.frame, tt); close = close_snoc fs f none n.close; finished = g.0; unfinished = g.1 }
 
 -- ---- and back
 
@@ -229,13 +230,14 @@ pub record ValidFront (limits : LimitsValue) (fs : List Frame) (f : Frame) : Typ
 pub valid_front : (limits : LimitsValue) (fs : List Frame) (f : Frame) → AreValidFrames limits (fs ++ f ∷ []) → ValidFront limits fs f
 valid_front limits fs f v =
     let each = all_before IsValidAlone fs f v.each in
+    let sizes = all_before (FitsTheFrameLimit limits) fs f v.sizes in
     let close = close_front fs f v.close in
     let good = good_front limits fs f (is_control f) f.fin refl refl (v.finished, v.unfinished) in
     record {
-      before = record { each = each.0; close = close.before; finished = good.before.0; unfinished = good.before.1 };
+      before = record { each = each.0; sizes = sizes.0; close = close.before; finished = good.before.0; unfinished = good.before.1 };
       none = close.none;
-      next = record { alone = each.1; close = close.last; goes_on = good.goes_on; begins = good.begins; size = good.size; text = good.text; whole = good.whole };
+      next = record { alone = each.1; close = close.last; goes_on = good.goes_on; begins = good.begins; size = good.size; frame = sizes.1; text = good.text; whole = good.whole };
     }
 
 pub valid_nothing : (limits : LimitsValue) → AreValidFrames limits []
-valid_nothing limits = record { each = tt; close = tt; finished = tt; unfinished = no_group limits }
+valid_nothing limits = record { each = tt; sizes = tt; close = tt; finished = tt; unfinished = no_group limits }

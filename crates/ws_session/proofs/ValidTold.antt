@@ -1,4 +1,5 @@
--- What the first bytes of valid frames tell: the events of the frames in them, and that one is too big.
+-- What the first bytes of valid frames tell: the events of the frames in them, and that the size of one is not taken.
+use Rattle.std.proofs.Common.{lit≤}
 use Rattle.std.proofs.Common.{◌≡◌, ℕ, ◌+◌, ◌-◌, ◌<◌, ◌≤◌, ◌⊎◌, Bool, true, false, cond, List, [], ◌∷◌, ◌++◌, length, take, drop, Option, Some, None, refl, sym, ap, ◌∙◌, append_assoc, arith, inl, inr, subst}
 use Rattle.std.proofs.lemmas.Bool.{cases_lt, le-ltb, lt-leb, le-leb}
 use Rattle.std.proofs.lemmas.List.{append-nil, take-append-drop, length-take}
@@ -10,15 +11,15 @@ use Rattle.ws_frame.specs.Frame.{KeyedFrame, FitsTheLayout, frame_bytes, stream_
 use Rattle.ws_frame.proofs.Frames.{sent_is_wire}
 use Rattle.ws_session.specs.declared.message.Message.{Message}
 use Rattle.ws_session.specs.declared.reason.Reason.{Reason}
-use Rattle.ws_session.specs.declared.reason.Reason.TheVariants.{ReservedBits, Opcode, MaskWrong, NotShortest, BadLength, ControlCut, ControlLong, NothingToContinue, MessageOpen, TooBig, NotText, TextCut, CloseOneByte, CloseCode, CloseReason}
+use Rattle.ws_session.specs.declared.reason.Reason.TheVariants.{ReservedBits, Opcode, MaskWrong, NotShortest, BadLength, ControlCut, ControlLong, NothingToContinue, MessageOpen, TooBig, FrameBig, NotText, TextCut, CloseOneByte, CloseCode, CloseReason}
 use Rattle.ws_session.specs.declared.event.Event.TheVariants as event
 use Rattle.ws_session.specs.Limits.{LimitsValue}
 use Rattle.ws_session.specs.Messages.{is_control, is_close, open_message_of}
 use Rattle.ws_session.specs.Validity.{CloseIsLast, AreValidFrames}
-use Rattle.ws_session.specs.Faults.{number_of, frames_of, expects_key, KeysFit, open_payload, Applies, IsFaultAt, IsFirstFault, IsNoLater, HasNoFault}
+use Rattle.ws_session.specs.Faults.{number_of, frames_of, expects_key, KeysFit, AppliesAtHeader, Applies, IsFaultAt, IsFirstFault, IsNoLater, HasNoFault}
 use Rattle.ws_session.specs.Events.{events_after, through_close, ending_before, HasEvents}
 use Rattle.ws_session.specs.NextFrame.{AreSent, header_of, IsFaultOfNext, IsFirstFaultOfNext}
-use Rattle.ws_session.specs.Reach.{passes_limit, fitting, first_passing, ending_within, frames_within, is_header_within, is_too_big, events_within}
+use Rattle.ws_session.specs.Reach.{is_message_too_big, passes_limit, size_reason, PassingFrame, fitting, first_passing, ending_within, frames_within, reason_within, size_fault, events_of_fault, events_within}
 use Rattle.ws_session.proofs.Faults.{fault_before, fault_later, faultless_before}
 use Rattle.ws_session.proofs.Streams.{ending_before_past}
 use Rattle.ws_session.proofs.Places.{part_of}
@@ -28,33 +29,42 @@ use Rattle.ws_session.proofs.Valid.{IsValidNext, ValidFront, valid_nothing}
 use Rattle.ws_session.proofs.FineFrames.{valid_is_fine, nothing_masked}
 use Rattle.ws_session.proofs.ValidStreams.{no_closes, valid_has_none}
 use Rattle.ws_session.proofs.Within.{ends_within, ends_beyond, all_within, stops_within, past_within, front_split, split_all}
-use Rattle.ws_session.proofs.Fitting.{fitting_valid, passes_by, IsPassing, AllFit, all_fit_or_not, passing_valid}
+use Rattle.ws_session.proofs.Fitting.{fitting_valid, PassesBy, passes_by, passing_frame, IsPassing, AllFit, all_fit_or_not, passing_valid}
 
 -- ---- its fault
 
--- where another reason applies does not go by the limit
-other_reason : (role : Role) (limits most : LimitsValue) (opened : Option Message) (q : Reason) → (q ≡ TooBig) ⊎ ((h : HeaderFields) (p : List ℕ) → Applies role limits opened h p q → Applies role most opened h p q)
-other_reason role limits most opened ReservedBits = inr (λ h p a. a)
-other_reason role limits most opened Opcode = inr (λ h p a. a)
-other_reason role limits most opened MaskWrong = inr (λ h p a. a)
-other_reason role limits most opened NotShortest = inr (λ h p a. a)
-other_reason role limits most opened BadLength = inr (λ h p a. a)
-other_reason role limits most opened ControlCut = inr (λ h p a. a)
-other_reason role limits most opened ControlLong = inr (λ h p a. a)
-other_reason role limits most opened NothingToContinue = inr (λ h p a. a)
-other_reason role limits most opened MessageOpen = inr (λ h p a. a)
-other_reason role limits most opened TooBig = inl refl
-other_reason role limits most opened NotText = inr (λ h p a. a)
-other_reason role limits most opened TextCut = inr (λ h p a. a)
-other_reason role limits most opened CloseOneByte = inr (λ h p a. a)
-other_reason role limits most opened CloseCode = inr (λ h p a. a)
-other_reason role limits most opened CloseReason = inr (λ h p a. a)
+-- where a reason applies goes by the limits only with the two of a size
+size_or_other : (role : Role) (limits most : LimitsValue) (opened : Option Message) (q : Reason) → (q ≡ TooBig) ⊎ ((q ≡ FrameBig) ⊎ ((h : HeaderFields) (p : List ℕ) → Applies role limits opened h p q → Applies role most opened h p q))
+size_or_other role limits most opened ReservedBits = inr (inr (λ h p a. a))
+size_or_other role limits most opened Opcode = inr (inr (λ h p a. a))
+size_or_other role limits most opened MaskWrong = inr (inr (λ h p a. a))
+size_or_other role limits most opened NotShortest = inr (inr (λ h p a. a))
+size_or_other role limits most opened BadLength = inr (inr (λ h p a. a))
+size_or_other role limits most opened ControlCut = inr (inr (λ h p a. a))
+size_or_other role limits most opened ControlLong = inr (inr (λ h p a. a))
+size_or_other role limits most opened NothingToContinue = inr (inr (λ h p a. a))
+size_or_other role limits most opened MessageOpen = inr (inr (λ h p a. a))
+size_or_other role limits most opened TooBig = inl refl
+size_or_other role limits most opened FrameBig = inr (inl refl)
+size_or_other role limits most opened NotText = inr (inr (λ h p a. a))
+size_or_other role limits most opened TextCut = inr (inr (λ h p a. a))
+size_or_other role limits most opened CloseOneByte = inr (inr (λ h p a. a))
+size_or_other role limits most opened CloseCode = inr (inr (λ h p a. a))
+size_or_other role limits most opened CloseReason = inr (inr (λ h p a. a))
 
--- x is valid but passes the limit, and u follows it
+-- what is told of a frame that passes a limit
+abbrev told_by_size : Bool → Reason
+told_by_size c = cond c TooBig FrameBig
+
+-- x is valid but passes a limit, and u follows it
 module _ (role : Role) (limits most : LimitsValue) (opened : Option Message) (x : KeyedFrame) (u : List ℕ) (can : FitsTheLayout x) (key : is_masked x.key ≡ expects_key role) (v : IsValidNext most opened x.frame)
-    (passes : (x.frame.opcode ≤ 2) × (limits.max_message < length (open_payload opened) + length x.frame.payload)) where
-  too_big_here : IsFaultOfNext role limits opened (frame_bytes x ++ u) (length (header_bytes (header_of x))) TooBig
-  too_big_here = record {
+    (small : x.frame.opcode ≤ 2) where
+  applies_by : (c : Bool) → PassesBy c limits opened x.frame → AppliesAtHeader role limits opened (header_of x) (told_by_size c)
+  applies_by true passes = (small, passes)
+  applies_by false passes = (small, passes.1)
+
+  too_big_here : (c : Bool) → PassesBy c limits opened x.frame → IsFaultOfNext role limits opened (frame_bytes x ++ u) (length (header_bytes (header_of x))) (told_by_size c)
+  too_big_here c passes = record {
     header = header_of x;
     is_header = (sent_is_wire x can).header;
     payload = [];
@@ -63,7 +73,7 @@ module _ (role : Role) (limits most : LimitsValue) (opened : Option Message) (x 
     rest = masked_payload x.key x.frame.payload ++ u;
     parts = append_assoc (header_bytes (header_of x)) (masked_payload x.key x.frame.payload) u ∙ ap (λ (l : List ℕ). header_bytes (header_of x) ++ l) (nothing_masked x.key (masked_payload x.key x.frame.payload ++ u));
     is_place = omega arith;
-    applies = inl (refl, passes);
+    applies = inl (refl, applies_by c passes);
   }
 
   no_other : (m : ℕ) (q : Reason) → IsFaultOfNext role limits opened (frame_bytes x ++ u) m q → ((h : HeaderFields) (p : List ℕ) → Applies role limits opened h p q → Applies role most opened h p q) → ⊥
@@ -71,24 +81,47 @@ module _ (role : Role) (limits most : LimitsValue) (opened : Option Message) (x 
       let g : IsFaultOfNext role most opened (frame_bytes x ++ u) m q = record { header = f.header; is_header = f.is_header; payload = f.payload; are_bytes = f.are_bytes; within = f.within; rest = f.rest; parts = f.parts; is_place = f.is_place; applies = change f.header f.payload f.applies } in
       valid_is_fine role most opened x can key v m q (next_earlier role most opened (frame_bytes x) u m q (within_front role most opened (frame_bytes x ++ u) m q g x u can refl) g)
 
-  no_payload : (h : HeaderFields) (p : List ℕ) → Applies role limits opened h p TooBig → p ≡ []
-  no_payload h p (inl a) = a.0
-  no_payload h p (inr a) = absurd a
-
-  only_there : (m : ℕ) → IsFaultOfNext role limits opened (frame_bytes x ++ u) m TooBig → m ≡ length (header_bytes (header_of x))
-  only_there m f =
+  -- a reason of the header is told at its last byte, of this header
+  only_there : (m : ℕ) (q : Reason) → ((h : HeaderFields) (p : List ℕ) → Applies role limits opened h p q → (p ≡ []) × AppliesAtHeader role limits opened h q) → IsFaultOfNext role limits opened (frame_bytes x ++ u) m q
+      → (m ≡ length (header_bytes (header_of x))) × AppliesAtHeader role limits opened (header_of x) q
+  only_there m q at f =
       let part = part_of f.header f.payload f.rest x u f.is_header can f.within (sym f.parts) in
-      let none : length f.payload ≡ 0 = ap (λ (l : List ℕ). length l) (no_payload f.header f.payload f.applies) in
+      let applies = at f.header f.payload f.applies in
+      let none : length f.payload ≡ 0 = ap (λ (l : List ℕ). length l) applies.0 in
       let head : length (header_bytes f.header) ≡ length (header_bytes (header_of x)) = ap (λ (h : HeaderFields). length (header_bytes h)) part.header in
-      omega (arith, f.is_place, none, head)
+      (omega (arith, f.is_place, none, head), subst (λ (h : HeaderFields). AppliesAtHeader role limits opened h q) part.header applies.1)
 
-  first_too_big : IsFirstFaultOfNext role limits opened (frame_bytes x ++ u) (length (header_bytes (header_of x))) TooBig
-  first_too_big = record {
-    fault = too_big_here;
+  at_header_big : (h : HeaderFields) (p : List ℕ) → Applies role limits opened h p TooBig → (p ≡ []) × AppliesAtHeader role limits opened h TooBig
+  at_header_big h p (inl a) = a
+  at_header_big h p (inr a) = absurd a
+
+  at_header_frame : (h : HeaderFields) (p : List ℕ) → Applies role limits opened h p FrameBig → (p ≡ []) × AppliesAtHeader role limits opened h FrameBig
+  at_header_frame h p (inl a) = a
+  at_header_frame h p (inr a) = absurd a
+
+  -- the message's reason goes before the frame's
+  before_big : (c : Bool) → PassesBy c limits opened x.frame → AppliesAtHeader role limits opened (header_of x) TooBig → number_of (told_by_size c) ≤ 10
+  before_big true passes a = lit≤ tt
+  before_big false passes a = absurd (omega (arith, passes.0, a.1))
+
+  before_frame : (c : Bool) → number_of (told_by_size c) ≤ 16
+  before_frame true = lit≤ tt
+  before_frame false = lit≤ tt
+
+  first_too_big : (c : Bool) → PassesBy c limits opened x.frame → IsFirstFaultOfNext role limits opened (frame_bytes x ++ u) (length (header_bytes (header_of x))) (told_by_size c)
+  first_too_big c passes = record {
+    fault = too_big_here c passes;
     first = λ m q f.
-        elim (other_reason role limits most opened q) as (λ _. IsNoLater (length (header_bytes (header_of x))) TooBig m q) [
-          | inr other ↦ absurd (no_other m q f other)
-          | inl is ↦ inr (sym (only_there m (subst (λ (r : Reason). IsFaultOfNext role limits opened (frame_bytes x ++ u) m r) is f)), omega (arith, ap (λ (r : Reason). number_of r) is))
+        elim (size_or_other role limits most opened q) as (λ _. IsNoLater (length (header_bytes (header_of x))) (told_by_size c) m q) [
+          | inl is ↦
+              let at = only_there m TooBig at_header_big (subst (λ (r : Reason). IsFaultOfNext role limits opened (frame_bytes x ++ u) m r) is f) in
+              inr (sym at.0, omega (arith, before_big c passes at.1, ap (λ (r : Reason). number_of r) is))
+          | inr more ↦ elim more as (λ _. IsNoLater (length (header_bytes (header_of x))) (told_by_size c) m q) [
+            | inl is ↦
+                let at = only_there m FrameBig at_header_frame (subst (λ (r : Reason). IsFaultOfNext role limits opened (frame_bytes x ++ u) m r) is f) in
+                inr (sym at.0, omega (arith, before_frame c, ap (λ (r : Reason). number_of r) is))
+            | inr other ↦ absurd (no_other m q f other)
+          ]
         ];
   }
 
@@ -123,19 +156,20 @@ none_before k place y ys le =
       | inr all ↦ ap (λ (l : List KeyedFrame). ending_before place l) (ends_within k y ys all) ∙ (rw (le-ltb (length (frame_bytes y)) place le) refl)
     ]
 
--- ---- a frame that passes the limit, and valid ones round it
+-- ---- a frame that passes a limit, and valid ones round it
 
 module _ (role : Role) (limits most : LimitsValue) (fits : List KeyedFrame) (x : KeyedFrame) (more : List KeyedFrame) (each : AreSent (fits ++ x ∷ more)) (keys : KeysFit role (fits ++ x ∷ more))
     (valid : AreValidFrames limits (frames_of fits)) (next : ValidFront most (frames_of fits) x.frame) (passes : passes_limit limits (frames_of fits) x.frame ≡ true) where
-  first_of_stream : IsFirstFault role limits (stream_bytes (fits ++ x ∷ more)) (length (stream_bytes fits) + length (header_bytes (header_of x))) TooBig
+  first_of_stream : IsFirstFault role limits (stream_bytes (fits ++ x ∷ more)) (length (stream_bytes fits) + length (header_bytes (header_of x))) (size_reason limits (frames_of fits) x.frame)
   first_of_stream =
       let sent = split_all FitsTheLayout fits (x ∷ more) each in
       let fit = split_all (λ (y : KeyedFrame). is_masked y.key ≡ expects_key role) fits (x ∷ more) keys in
       let t = frame_bytes x ++ stream_bytes more in
-      subst (λ (l : List ℕ). IsFirstFault role limits l (length (stream_bytes fits) + length (header_bytes (header_of x))) TooBig) (sym (flat_map-append frame_bytes fits (x ∷ more)))
+      let passing = passes_by (is_control x.frame) limits (frames_of fits) x.frame refl passes next.next.alone in
+      subst (λ (l : List ℕ). IsFirstFault role limits l (length (stream_bytes fits) + length (header_bytes (header_of x))) (size_reason limits (frames_of fits) x.frame)) (sym (flat_map-append frame_bytes fits (x ∷ more)))
       (first_of_next role limits fits t sent.0 (no_closes fits next.none) (λ n r le f. valid_has_none role limits fits sent.0 fit.0 valid n r (fault_before role limits (stream_bytes fits) t n r le f))
-      (length (header_bytes (header_of x))) TooBig
-      (first_too_big role limits most (open_message_of (frames_of fits)) x (stream_bytes more) sent.1.0 fit.1.0 next.next (passes_by (is_control x.frame) limits (frames_of fits) x.frame refl passes next.next.alone)))
+      (length (header_bytes (header_of x))) (size_reason limits (frames_of fits) x.frame)
+      (first_too_big role limits most (open_message_of (frames_of fits)) x (stream_bytes more) sent.1.0 fit.1.0 next.next passing.0 (is_message_too_big limits (frames_of fits) x.frame) passing.1))
 
   -- a fault of the first bytes is one of all
   of_all : (n m : ℕ) (q : Reason) → IsFaultAt role limits (take n (stream_bytes (fits ++ x ∷ more))) m q → IsFaultAt role limits (stream_bytes (fits ++ x ∷ more)) m q
@@ -149,13 +183,13 @@ module _ (role : Role) (limits most : LimitsValue) (fits : List KeyedFrame) (x :
       let early : m ≤ n = omega (arith, within, length-take n (stream_bytes (fits ++ x ∷ more))) in
       elim (first_of_stream.first m q (of_all n m q f)) [ inl late ↦ omega (arith, late, early, lt) | inr at ↦ omega (arith, at.0, early, lt) ]
 
-  from_place : (n : ℕ) → length (stream_bytes fits) + length (header_bytes (header_of x)) ≤ n → IsFirstFault role limits (take n (stream_bytes (fits ++ x ∷ more))) (length (stream_bytes fits) + length (header_bytes (header_of x))) TooBig
+  from_place : (n : ℕ) → length (stream_bytes fits) + length (header_bytes (header_of x)) ≤ n → IsFirstFault role limits (take n (stream_bytes (fits ++ x ∷ more))) (length (stream_bytes fits) + length (header_bytes (header_of x))) (size_reason limits (frames_of fits) x.frame)
   from_place n le =
       let s = stream_bytes (fits ++ x ∷ more) in
       let place = length (stream_bytes fits) + length (header_bytes (header_of x)) in
       let long : place ≤ length s = first_of_stream.fault.long in
       record {
-        fault = fault_before role limits (take n s) (drop n s) place TooBig (omega (arith, long, le, length-take n s)) (subst (λ (l : List ℕ). IsFaultAt role limits l place TooBig) (sym (take-append-drop n s)) first_of_stream.fault);
+        fault = fault_before role limits (take n s) (drop n s) place (size_reason limits (frames_of fits) x.frame) (omega (arith, long, le, length-take n s)) (subst (λ (l : List ℕ). IsFaultAt role limits l place (size_reason limits (frames_of fits) x.frame)) (sym (take-append-drop n s)) first_of_stream.fault);
         first = λ m q f. first_of_stream.first m q (of_all n m q f);
       }
 
@@ -175,8 +209,8 @@ module _ (role : Role) (limits most : LimitsValue) (n : ℕ) (xs : List KeyedFra
   fits_valid : AreValidFrames limits (frames_of (fitting limits xs))
   fits_valid = fitting_valid limits most [] xs valid (valid_nothing limits)
 
-  -- no frame is told too big
-  quiet : is_too_big limits n xs ≡ false → frames_within limits n xs ≡ ending_within n xs → HasNoFault role limits (take n (stream_bytes xs)) → HasEvents role limits (take n (stream_bytes xs)) (events_within limits n xs)
+  -- no size is at fault
+  quiet : size_fault limits n xs ≡ None → frames_within limits n xs ≡ ending_within n xs → HasNoFault role limits (take n (stream_bytes xs)) → HasEvents role limits (take n (stream_bytes xs)) (events_within limits n xs)
   quiet small same clean =
       let s = front_split n xs each in
       let told = events_after [] (frames_of (frames_within limits n xs)) in
@@ -186,14 +220,14 @@ module _ (role : Role) (limits most : LimitsValue) (n : ℕ) (xs : List KeyedFra
         split = s.split;
         fault = None;
         is_fault = clean;
-        are = ap (λ b. told ++ cond b (event.Failed TooBig ∷ []) []) small ∙ append-nil told ∙ ap (λ (l : List KeyedFrame). events_after [] (frames_of l)) (same ∙ sym (through_last n xs valid.close));
+        are = ap (λ (o : Option Reason). told ++ events_of_fault o) small ∙ append-nil told ∙ ap (λ (l : List KeyedFrame). events_after [] (frames_of l)) (same ∙ sym (through_last n xs valid.close));
       }
 
   all_fit : AllFit xs (fitting limits xs) (first_passing limits xs) → HasEvents role limits (take n (stream_bytes xs)) (events_within limits n xs)
   all_fit t =
       let here : AreValidFrames limits (frames_of xs) = subst (λ (l : List KeyedFrame). AreValidFrames limits (frames_of l)) t.0 fits_valid in
       let all : take n (stream_bytes xs) ++ drop n (stream_bytes xs) ≡ stream_bytes xs = take-append-drop n (stream_bytes xs) in
-      quiet (ap (λ (o : Option KeyedFrame). is_header_within n (length (stream_bytes (fitting limits xs))) o) t.1) (ap (λ (l : List KeyedFrame). ending_within n l) t.0)
+      quiet (ap (λ (o : Option PassingFrame). reason_within n (length (stream_bytes (fitting limits xs))) o) t.1) (ap (λ (l : List KeyedFrame). ending_within n l) t.0)
       (faultless_before role limits (take n (stream_bytes xs)) (drop n (stream_bytes xs)) (subst (λ (l : List ℕ). HasNoFault role limits l) (sym all) (valid_has_none role limits xs each keys here)))
 
   passing : IsPassing limits [] xs (fitting limits xs) (first_passing limits xs) → HasEvents role limits (take n (stream_bytes xs)) (events_within limits n xs)
@@ -203,11 +237,12 @@ module _ (role : Role) (limits most : LimitsValue) (n : ℕ) (xs : List KeyedFra
       let sent : AreSent (fits ++ p.frame ∷ p.more) = subst (λ (l : List KeyedFrame). AreSent l) p.parts each in
       let fit : KeysFit role (fits ++ p.frame ∷ p.more) = subst (λ (l : List KeyedFrame). KeysFit role l) p.parts keys in
       let next = passing_valid most xs fits p.frame p.more p.parts valid in
-      let header : is_too_big limits n xs ≡ is_header_within n (length (stream_bytes fits)) (Some p.frame) = ap (λ (o : Option KeyedFrame). is_header_within n (length (stream_bytes fits)) o) p.is_first in
+      let reason = size_reason limits (frames_of fits) p.frame.frame in
+      let header : size_fault limits n xs ≡ reason_within n (length (stream_bytes fits)) (Some (passing_frame p.frame reason)) = ap (λ (o : Option PassingFrame). reason_within n (length (stream_bytes fits)) o) p.is_first in
       elim (cases_lt n place) [
         | inl lt ↦
             let stops : n < length (stream_bytes fits) + length (frame_bytes p.frame) = omega (arith, lt, length-frame_bytes p.frame) in
-            quiet (header ∙ lt-leb place n lt) (sym (ap (λ (l : List KeyedFrame). ending_within n l) p.parts ∙ stops_within n fits p.frame p.more stops))
+            quiet (header ∙ ap (λ b. cond b (Some reason) None) (lt-leb place n lt)) (sym (ap (λ (l : List KeyedFrame). ending_within n l) p.parts ∙ stops_within n fits p.frame p.more stops))
             (subst (λ (l : List KeyedFrame). HasNoFault role limits (take n (stream_bytes l))) (sym p.parts) (before_place role limits most fits p.frame p.more sent fit fits_valid next p.passes n lt))
         | inr le ↦
             let s = front_split n xs each in
@@ -217,10 +252,10 @@ module _ (role : Role) (limits most : LimitsValue) (n : ℕ) (xs : List KeyedFra
               frames = ending_within n xs;
               rest = s.rest;
               split = s.split;
-              fault = Some (place, TooBig);
-              is_fault = subst (λ (l : List KeyedFrame). IsFirstFault role limits (take n (stream_bytes l)) place TooBig) (sym p.parts) (from_place role limits most fits p.frame p.more sent fit fits_valid next p.passes n le);
-              are = ap (λ b. told ++ cond b (event.Failed TooBig ∷ []) []) (header ∙ le-leb place n le)
-                  ∙ ap (λ (l : List KeyedFrame). events_after [] (frames_of l) ++ event.Failed TooBig ∷ []) (all_within n fits fit_within ∙ sym (ap (λ (l : List KeyedFrame). through_close (ending_before place (ending_within n l))) p.parts ∙ frames_before role limits most fits p.frame p.more sent fit fits_valid next p.passes n le));
+              fault = Some (place, reason);
+              is_fault = subst (λ (l : List KeyedFrame). IsFirstFault role limits (take n (stream_bytes l)) place reason) (sym p.parts) (from_place role limits most fits p.frame p.more sent fit fits_valid next p.passes n le);
+              are = ap (λ (o : Option Reason). told ++ events_of_fault o) (header ∙ ap (λ b. cond b (Some reason) None) (le-leb place n le))
+                  ∙ ap (λ (l : List KeyedFrame). events_after [] (frames_of l) ++ event.Failed reason ∷ []) (all_within n fits fit_within ∙ sym (ap (λ (l : List KeyedFrame). through_close (ending_before place (ending_within n l))) p.parts ∙ frames_before role limits most fits p.frame p.more sent fit fits_valid next p.passes n le));
             }
       ]
 

@@ -14,7 +14,7 @@ use Rattle.ws_frame.proofs.Masks.{masked_payload_twice, length-masked_payload}
 use Rattle.ws_frame.proofs.Numbers.{front_bytes}
 use Rattle.ws_session.specs.declared.message.Message.{Message}
 use Rattle.ws_session.specs.declared.reason.Reason.{Reason}
-use Rattle.ws_session.specs.declared.reason.Reason.TheVariants.{ReservedBits, Opcode, MaskWrong, NotShortest, BadLength, ControlCut, ControlLong, NothingToContinue, MessageOpen, TooBig, NotText, TextCut, CloseOneByte, CloseCode, CloseReason}
+use Rattle.ws_session.specs.declared.reason.Reason.TheVariants.{ReservedBits, Opcode, MaskWrong, NotShortest, BadLength, ControlCut, ControlLong, NothingToContinue, MessageOpen, TooBig, FrameBig, NotText, TextCut, CloseOneByte, CloseCode, CloseReason}
 use Rattle.ws_session.specs.declared.event.Event.{Event}
 use Rattle.ws_session.specs.declared.event.Taken.{Taken}
 use Rattle.ws_session.specs.Limits.{LimitsValue}
@@ -61,6 +61,7 @@ nothing_yet opened h opcode some n ControlLong le a = a
 nothing_yet opened h opcode some n NothingToContinue le a = a
 nothing_yet opened h opcode some n MessageOpen le a = a
 nothing_yet opened h opcode some n TooBig le a = a
+nothing_yet opened h opcode some n FrameBig le a = a
 
 -- its header is a part of one frame, and so is each front of it
 module _ (role : Role) (limits : LimitsValue) (opened : Option Message) (bytes : List ℕ) (h : HeaderFields) (u : ℕ) (b : Begins h u bytes) (are : AreBytes bytes) (none : NoneAtHeader role limits opened h) (is_data : h.opcode ≤ 2) (some : 0 < h.len) where

@@ -1,6 +1,6 @@
 -- Frames of which the first bytes have come: what later frames and more bytes leave.
 use Rattle.std.proofs.Common.{◌≡◌, ℕ, ◌+◌, ◌-◌, ◌<◌, ◌≤◌, ◌⊎◌, Bool, true, false, cond, List, [], ◌∷◌, ◌++◌, length, take, drop, Option, Some, None, refl, sym, ap, ◌∙◌, append_assoc, arith, inl, inr, subst}
-use Rattle.std.specs.Prelude.{◌||◌}
+use Rattle.std.specs.Prelude.{◌||◌, nat_le}
 use Rattle.std.proofs.lemmas.Bool.{cases_lt, leb-true, le-leb, lt-leb}
 use Rattle.std.proofs.lemmas.List.{length-append, take_all, take-append-drop, length-take}
 use Rattle.std.proofs.Math.Seq.{take-append-add}
@@ -9,15 +9,17 @@ use Rattle.ws_frame.specs.Header.{header_bytes}
 use Rattle.ws_frame.specs.Frame.{Frame, KeyedFrame, FitsTheLayout, frame_bytes, stream_bytes}
 use Rattle.ws_frame.specs.Stream.{SplitsInto}
 use Rattle.ws_frame.proofs.Frames.{no_frame_begins}
+use Rattle.ws_session.specs.declared.reason.Reason.{Reason}
 use Rattle.ws_session.specs.Limits.{LimitsValue}
 use Rattle.ws_session.specs.Messages.{is_close}
 use Rattle.ws_session.specs.Faults.{frames_of}
 use Rattle.ws_session.specs.Validity.{CloseIsLast, AreValidFrames}
 use Rattle.ws_session.specs.Replies.{has_close}
 use Rattle.ws_session.specs.NextFrame.{AreSent, header_of}
-use Rattle.ws_session.specs.Reach.{passes_limit, fitting_after, fitting, first_passing_after, first_passing, ending_within, frames_within, is_header_within, is_too_big}
+use Rattle.ws_session.specs.Reach.{passes_limit, size_reason, fitting_after, fitting, first_passing_after, first_passing, ending_within, frames_within, PassingFrame, reason_within, size_fault}
 use Rattle.ws_session.proofs.Next.{length-frame_bytes, two_bytes}
 use Rattle.ws_session.proofs.OneMoreFrame.{none_in_nothing}
+use Rattle.ws_session.proofs.Fitting.{passing_frame}
 
 plain_sum : (k a b c : ℕ) → c ≡ a + b → k + c ≡ (k + a) + b
 plain_sum k a b c e = omega (arith, e)
@@ -92,47 +94,53 @@ same_ending limits before n (x ∷ xs) more le =
     same_ending_step (passes_limit limits before x.frame) n x (fitting_after limits after (xs ++ more)) (fitting_after limits after xs) (λ first.
     let rest : n - length (frame_bytes x) ≤ length (stream_bytes xs) = omega arith in same_ending limits after (n - length (frame_bytes x)) xs more rest)
 
-header_beyond : (n k m : ℕ) (o : Option KeyedFrame) → n ≤ k → is_header_within n (k + m) o ≡ false
+header_beyond : (n k m : ℕ) (o : Option PassingFrame) → n ≤ k → reason_within n (k + m) o ≡ None
 header_beyond n k m None le = refl
-header_beyond n k m (Some x) le = lt-leb (k + m + length (header_bytes (header_of x))) n (omega (arith, two_bytes (header_of x)))
+header_beyond n k m (Some x) le = ap (λ b. cond b (Some x.reason) None) (lt-leb (k + m + length (header_bytes (header_of x.frame))) n (omega (arith, two_bytes (header_of x.frame))))
 
-same_header_step : (b : Bool) (n k : ℕ) (x : KeyedFrame) (xs ys : List KeyedFrame) (o p : Option KeyedFrame)
-    → is_header_within n ((k + length (frame_bytes x)) + length (stream_bytes xs)) o ≡ is_header_within n ((k + length (frame_bytes x)) + length (stream_bytes ys)) p
-    → is_header_within n (k + length (stream_bytes (cond b [] (x ∷ xs)))) (cond b (Some x) o) ≡ is_header_within n (k + length (stream_bytes (cond b [] (x ∷ ys)))) (cond b (Some x) p)
-same_header_step true n k x xs ys o p h = refl
-same_header_step false n k x xs ys o p h =
-    ap (λ m. is_header_within n m o) (plain_sum k (length (frame_bytes x)) (length (stream_bytes xs)) (length (stream_bytes (x ∷ xs))) (length-append (frame_bytes x) (stream_bytes xs))) ∙ h
-    ∙ sym (ap (λ m. is_header_within n m p) (plain_sum k (length (frame_bytes x)) (length (stream_bytes ys)) (length (stream_bytes (x ∷ ys))) (length-append (frame_bytes x) (stream_bytes ys))))
+same_header_step : (b : Bool) (n k : ℕ) (x : KeyedFrame) (xs ys : List KeyedFrame) (r : Reason) (o p : Option PassingFrame)
+    → reason_within n ((k + length (frame_bytes x)) + length (stream_bytes xs)) o ≡ reason_within n ((k + length (frame_bytes x)) + length (stream_bytes ys)) p
+    → reason_within n (k + length (stream_bytes (cond b [] (x ∷ xs)))) (cond b (Some (passing_frame x r)) o) ≡ reason_within n (k + length (stream_bytes (cond b [] (x ∷ ys)))) (cond b (Some (passing_frame x r)) p)
+same_header_step true n k x xs ys r o p h = refl
+same_header_step false n k x xs ys r o p h =
+    ap (λ m. reason_within n m o) (plain_sum k (length (frame_bytes x)) (length (stream_bytes xs)) (length (stream_bytes (x ∷ xs))) (length-append (frame_bytes x) (stream_bytes xs))) ∙ h
+    ∙ sym (ap (λ m. reason_within n m p) (plain_sum k (length (frame_bytes x)) (length (stream_bytes ys)) (length (stream_bytes (x ∷ ys))) (length-append (frame_bytes x) (stream_bytes ys))))
 
 same_header_within : (limits : LimitsValue) (before : List Frame) (n k : ℕ) (xs more : List KeyedFrame) → n ≤ k + length (stream_bytes xs)
-    → is_header_within n (k + length (stream_bytes (fitting_after limits before (xs ++ more)))) (first_passing_after limits before (xs ++ more)) ≡ is_header_within n (k + length (stream_bytes (fitting_after limits before xs))) (first_passing_after limits before xs)
+    → reason_within n (k + length (stream_bytes (fitting_after limits before (xs ++ more)))) (first_passing_after limits before (xs ++ more)) ≡ reason_within n (k + length (stream_bytes (fitting_after limits before xs))) (first_passing_after limits before xs)
 same_header_within limits before n k [] more le = header_beyond n k (length (stream_bytes (fitting_after limits before more))) (first_passing_after limits before more) (omega arith)
 same_header_within limits before n k (x ∷ xs) more le =
     let len = plain_sum k (length (frame_bytes x)) (length (stream_bytes xs)) (length (stream_bytes (x ∷ xs))) (length-append (frame_bytes x) (stream_bytes xs)) in
     let rest : n ≤ (k + length (frame_bytes x)) + length (stream_bytes xs) = omega arith in
     let after = before ++ x.frame ∷ [] in
-    same_header_step (passes_limit limits before x.frame) n k x (fitting_after limits after (xs ++ more)) (fitting_after limits after xs) (first_passing_after limits after (xs ++ more)) (first_passing_after limits after xs)
+    same_header_step (passes_limit limits before x.frame) n k x (fitting_after limits after (xs ++ more)) (fitting_after limits after xs) (size_reason limits before x.frame) (first_passing_after limits after (xs ++ more)) (first_passing_after limits after xs)
     (same_header_within limits after n (k + length (frame_bytes x)) xs more rest)
 
 pub later_frames_beyond : (limits : LimitsValue) (n : ℕ) (xs more : List KeyedFrame) → n ≤ length (stream_bytes xs) → frames_within limits n (xs ++ more) ≡ frames_within limits n xs
 later_frames_beyond limits n xs more le = same_ending limits [] n xs more le
 
-pub later_header_beyond : (limits : LimitsValue) (n : ℕ) (xs more : List KeyedFrame) → n ≤ length (stream_bytes xs) → is_too_big limits n (xs ++ more) ≡ is_too_big limits n xs
+pub later_header_beyond : (limits : LimitsValue) (n : ℕ) (xs more : List KeyedFrame) → n ≤ length (stream_bytes xs) → size_fault limits n (xs ++ more) ≡ size_fault limits n xs
 later_header_beyond limits n xs more le =
-    ap (λ m. is_header_within n m (first_passing limits (xs ++ more))) (plain_zero (length (stream_bytes (fitting limits (xs ++ more))))) ∙ same_header_within limits [] n 0 xs more (omega arith)
-    ∙ sym (ap (λ m. is_header_within n m (first_passing limits xs)) (plain_zero (length (stream_bytes (fitting limits xs)))))
+    ap (λ m. reason_within n m (first_passing limits (xs ++ more))) (plain_zero (length (stream_bytes (fitting limits (xs ++ more))))) ∙ same_header_within limits [] n 0 xs more (omega arith)
+    ∙ sym (ap (λ m. reason_within n m (first_passing limits xs)) (plain_zero (length (stream_bytes (fitting limits xs)))))
 
 -- ---- more bytes
 
-pub header_stays : (n m k : ℕ) (o : Option KeyedFrame) → n ≤ m → is_header_within n k o ≡ true → (k ≤ n) × (is_header_within m k o ≡ true)
-header_stays n m k None le h = absurd cc
-header_stays n m k (Some x) le h =
-    let all : k + length (header_bytes (header_of x)) ≤ n = leb-true (k + length (header_bytes (header_of x))) n h in
-    (omega arith, le-leb (k + length (header_bytes (header_of x))) m (omega arith))
+told_then : (b : Bool) (s r : Reason) → cond b (Some s) None ≡ Some r → (b ≡ true) × (Some s ≡ Some r)
+told_then true s r h = (refl, h)
+told_then false s r h = absurd cc
 
-pub too_big_stays : (limits : LimitsValue) (n m : ℕ) (xs : List KeyedFrame) → n ≤ m → is_too_big limits n xs ≡ true → (frames_within limits m xs ≡ frames_within limits n xs) × (is_too_big limits m xs ≡ true)
-too_big_stays limits n m xs le h =
-    let stays = header_stays n m (length (stream_bytes (fitting limits xs))) (first_passing limits xs) le h in
+pub header_stays : (n m k : ℕ) (o : Option PassingFrame) (r : Reason) → n ≤ m → reason_within n k o ≡ Some r → (k ≤ n) × (reason_within m k o ≡ Some r)
+header_stays n m k None r le h = absurd cc
+header_stays n m k (Some x) r le h =
+    let end = k + length (header_bytes (header_of x.frame)) in
+    let told = told_then (nat_le end n) x.reason r h in
+    let all : end ≤ n = leb-true end n told.0 in
+    (omega arith, ap (λ b. cond b (Some x.reason) None) (le-leb end m (omega arith)) ∙ told.1)
+
+pub size_fault_stays : (limits : LimitsValue) (n m : ℕ) (xs : List KeyedFrame) (r : Reason) → n ≤ m → size_fault limits n xs ≡ Some r → (frames_within limits m xs ≡ frames_within limits n xs) × (size_fault limits m xs ≡ Some r)
+size_fault_stays limits n m xs r le h =
+    let stays = header_stays n m (length (stream_bytes (fitting limits xs))) (first_passing limits xs) r le h in
     let more : length (stream_bytes (fitting limits xs)) ≤ m = omega (arith, stays.0) in
     (all_within m (fitting limits xs) more ∙ sym (all_within n (fitting limits xs) stays.0), stays.1)
 
@@ -148,13 +156,13 @@ pub either_of : (c d : Bool) → c || d ≡ true → (c ≡ true) ⊎ (d ≡ tru
 either_of true d h = inl refl
 either_of false d h = inr h
 
-close_step : (b : Bool) (n m : ℕ) (x : KeyedFrame) (xs fits : List KeyedFrame) (passing : Option KeyedFrame) → n ≤ m
+close_step : (b : Bool) (n m : ℕ) (x : KeyedFrame) (xs fits : List KeyedFrame) (p : PassingFrame) (passing : Option PassingFrame) → n ≤ m
     → (is_close x.frame ≡ true → (fits ≡ []) × (xs ≡ []) × (passing ≡ None))
     → (has_close (frames_of (ending_within (n - length (frame_bytes x)) fits)) ≡ true → (ending_within (m - length (frame_bytes x)) fits ≡ xs) × (passing ≡ None))
     → has_close (frames_of (ending_within n (cond b [] (x ∷ fits)))) ≡ true
-    → (ending_within m (cond b [] (x ∷ fits)) ≡ x ∷ xs) × (cond b (Some x) passing ≡ None)
-close_step true n m x xs fits passing le last ih h = absurd cc
-close_step false n m x xs fits passing le last ih h =
+    → (ending_within m (cond b [] (x ∷ fits)) ≡ x ∷ xs) × (cond b (Some p) passing ≡ None)
+close_step true n m x xs fits p passing le last ih h = absurd cc
+close_step false n m x xs fits p passing le last ih h =
     elim (cases_lt n (length (frame_bytes x))) [
       | inl lt ↦ let no : false ≡ true = ap (λ (l : List KeyedFrame). has_close (frames_of l)) (sym (ends_beyond n x fits lt)) ∙ h in absurd cc
       | inr first ↦
@@ -172,16 +180,16 @@ close_within : (limits : LimitsValue) (before : List Frame) (n m : ℕ) (xs : Li
 close_within limits before n m [] le last h = absurd cc
 close_within limits before n m (x ∷ xs) le last h =
     let after = before ++ x.frame ∷ [] in
-    close_step (passes_limit limits before x.frame) n m x xs (fitting_after limits after xs) (first_passing_after limits after xs) le
+    close_step (passes_limit limits before x.frame) n m x xs (fitting_after limits after xs) (passing_frame x (size_reason limits before x.frame)) (first_passing_after limits after xs) le
     (λ is.
     let none = no_frames xs (last.0 is).0 in
     (ap (λ (l : List KeyedFrame). fitting_after limits after l) none, none, ap (λ (l : List KeyedFrame). first_passing_after limits after l) none))
     (λ later. close_within limits after (n - length (frame_bytes x)) (m - length (frame_bytes x)) xs (omega arith) last.1 later) h
 
-pub close_is_all : (limits most : LimitsValue) (n m : ℕ) (xs : List KeyedFrame) → n ≤ m → AreValidFrames most (frames_of xs) → has_close (frames_of (frames_within limits n xs)) ≡ true → (frames_within limits m xs ≡ xs) × (is_too_big limits m xs ≡ false)
+pub close_is_all : (limits most : LimitsValue) (n m : ℕ) (xs : List KeyedFrame) → n ≤ m → AreValidFrames most (frames_of xs) → has_close (frames_of (frames_within limits n xs)) ≡ true → (frames_within limits m xs ≡ xs) × (size_fault limits m xs ≡ None)
 close_is_all limits most n m xs le valid h =
     let t = close_within limits [] n m xs le valid.close h in
-    (t.0, ap (λ (o : Option KeyedFrame). is_header_within m (length (stream_bytes (fitting limits xs))) o) t.1)
+    (t.0, ap (λ (o : Option PassingFrame). reason_within m (length (stream_bytes (fitting limits xs))) o) t.1)
 
 -- ---- the split of the first bytes
 

@@ -56,6 +56,7 @@ one_least reason.ControlLong = lit≤ tt
 one_least reason.NothingToContinue = lit≤ tt
 one_least reason.MessageOpen = lit≤ tt
 one_least reason.TooBig = lit≤ tt
+one_least reason.FrameBig = lit≤ tt
 one_least reason.NotText = lit≤ tt
 one_least reason.TextCut = lit≤ tt
 one_least reason.CloseOneByte = lit≤ tt
@@ -138,6 +139,7 @@ pong = record { frame = record { fin = true; rsv = 0; opcode = 10; payload = [] 
 pong_is_valid : AreValidFrames ten_at_most (frames_of (pong ∷ []))
 pong_is_valid = record {
   each = (record { rsv = refl; opcode = inr (lit≤ tt, lit≤ tt); control = λ control. (refl, lit≤ tt) }, tt);
+  sizes = (λ small. absurd (omega (arith, small)), tt);
   close = (λ close. absurd cc, tt);
   finished = tt;
   unfinished = record { frames = tt; size = lit≤ tt; text = tt };

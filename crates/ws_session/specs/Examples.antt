@@ -8,7 +8,7 @@ use Rattle.ws_text.specs.Text.{IsScalarValue, char_bytes, IsText}
 use Rattle.ws_frame.specs.Frame.{KeyedFrame, frame_bytes, stream_bytes}
 use Rattle.ws_frame.specs.declared.role.Role.TheVariants.{Client, Server}
 use Rattle.ws_session.specs.declared.message.Kind.TheVariants.{Text, Binary}
-use Rattle.ws_session.specs.declared.reason.Reason.TheVariants.{TooBig, MessageOpen}
+use Rattle.ws_session.specs.declared.reason.Reason.TheVariants.{TooBig, FrameBig, MessageOpen}
 use Rattle.ws_session.specs.declared.event.Event.TheVariants as event
 use Rattle.ws_session.specs.declared.status.Status.TheVariants as status
 use Rattle.ws_session.specs.Limits.{LimitsValue}
@@ -17,7 +17,7 @@ use Rattle.ws_session.specs.Faults.{frames_of, IsFaultAt}
 use Rattle.ws_session.specs.Validity.{AreValidFrames}
 use Rattle.ws_session.specs.Events.{events_of, close_in}
 use Rattle.ws_session.specs.Replies.{replies_of, echo_replies_of, control_frame, close_frame, under_key}
-use Rattle.ws_session.specs.Reach.{frames_within, is_too_big, events_within}
+use Rattle.ws_session.specs.Reach.{frames_within, size_fault, events_within}
 use Rattle.ws_session.specs.Exchange.{status_of}
 use Rattle.ws_session.specs.declared.send_fault.SendFault.{SendFault}
 use Rattle.ws_session.specs.declared.send_fault.SendFault.TheVariants.{Over, Busy, NothingOpen, NotText, TooLong}
@@ -82,6 +82,7 @@ fragments_are_valid = record {
       (record { rsv = refl; opcode = inl (lit≤ tt); control = λ control. absurd cc }, tt),
     ),
   );
+  sizes = (λ small. lit≤ tt, (λ small. lit≤ tt, (λ small. lit≤ tt, tt)));
   close = (λ close. absurd cc, (λ close. absurd cc, (λ close. absurd cc, tt)));
   finished = (record { frames = (inl refl, (refl, tt)); size = lit≤ tt; text = hello_is_text }, tt);
   unfinished = record { frames = tt; size = lit≤ tt; text = tt };
@@ -179,15 +180,26 @@ none_within_fewer : frames_within ten_at_most 15 ten_and_eleven ≡ []
 none_within_fewer = refl
 
 -- the header of the second ends with byte 22
-header_still_cut : is_too_big ten_at_most 21 ten_and_eleven ≡ false
+header_still_cut : size_fault ten_at_most 21 ten_and_eleven ≡ None
 header_still_cut = refl
 
-eleven_are_too_big : is_too_big ten_at_most 22 ten_and_eleven ≡ true
+eleven_are_too_big : size_fault ten_at_most 22 ten_and_eleven ≡ Some TooBig
 eleven_are_too_big = refl
 
 told_at_its_header : events_within ten_at_most 22 ten_and_eleven
     ≡ event.Message (record { kind = Binary; payload = ten_bytes }) ∷ event.Failed TooBig ∷ []
 told_at_its_header = refl
+
+abbrev four_a_frame : LimitsValue
+four_a_frame = record { max_message = 10; max_frame = 4 }
+
+-- ten bytes are a message that is taken, and a frame that is not
+a_frame_too_big : size_fault four_a_frame 6 ten_and_eleven ≡ Some FrameBig
+a_frame_too_big = refl
+
+-- eleven are neither: the message's reason is told
+the_message_first : size_fault four_a_frame 6 (binary (10 ∷ ten_bytes) ∷ []) ≡ Some TooBig
+the_message_first = refl
 
 -- ---- the status
 

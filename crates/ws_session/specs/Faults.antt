@@ -16,7 +16,7 @@ use Rattle.ws_session.specs.declared.reason.Reason.{Reason}
 use Rattle.ws_session.specs.declared.reason.Reason.TheVariants.{ReservedBits, Opcode, MaskWrong, NotShortest, BadLength}
 use Rattle.ws_session.specs.declared.reason.Reason.TheVariants.{ControlCut, ControlLong, NothingToContinue, MessageOpen}
 use Rattle.ws_session.specs.declared.reason.Reason.TheVariants.{TooBig, NotText, TextCut, CloseOneByte, CloseCode}
-use Rattle.ws_session.specs.declared.reason.Reason.TheVariants.{CloseReason}
+use Rattle.ws_session.specs.declared.reason.Reason.TheVariants.{CloseReason, FrameBig}
 use Rattle.ws_session.specs.Limits.{LimitsValue}
 use Rattle.ws_session.specs.Messages.{open_message_of, is_close}
 
@@ -41,6 +41,7 @@ number_of TextCut = 12
 number_of CloseOneByte = 13
 number_of CloseCode = 14
 number_of CloseReason = 15
+number_of FrameBig = 16
 
 -- it applies, and of all that apply its number is the lowest
 pub record IsLowest (F : Type 0) (number : F → ℕ) (Applies : F → Type 0) (fault : F) : Type 0 where
@@ -88,6 +89,7 @@ AppliesAtHeader role limits opened header NothingToContinue = (header.opcode ≡
 AppliesAtHeader role limits opened header MessageOpen = ((header.opcode ≡ 1) ⊎ (header.opcode ≡ 2)) × (opened ≢ None)
 AppliesAtHeader role limits opened header TooBig = (header.opcode ≤ 2)
     × (limits.max_message < length (open_payload opened) + header.len)
+AppliesAtHeader role limits opened header FrameBig = (header.opcode ≤ 2) × (limits.max_frame < header.len)
 AppliesAtHeader role limits opened header _ = ⊥
 
 -- the reason is one of the payload, told where these bytes of it have come: with a text the first byte after which

@@ -1,14 +1,14 @@
 -- What a session takes at most.
 use Rattle.std.specs.Prelude.{ℕ, ◌≡◌, ◌≤◌}
 
--- The most payload bytes of one message, and of one data frame. No rule asks for the second yet: it is the first.
+-- the most payload bytes of one message, and of one data frame
 -- our choice: section 10.4 asks for such limits and leaves them to the endpoint
 pub record LimitsValue : Type 0 where
   pub max_message : ℕ
   pub max_frame : ℕ
 
--- from one byte to 16,777,216
+-- from one byte to 16,777,216, and a frame has no greater one than a message
 pub record AreLimits (limits : LimitsValue) : Type 0 where
-  pub least : 1 ≤ limits.max_message
+  pub least : 1 ≤ limits.max_frame
+  pub frame : limits.max_frame ≤ limits.max_message
   pub most : limits.max_message ≤ 16777216
-  pub frame : limits.max_frame ≡ limits.max_message

@@ -6,7 +6,7 @@ use Rattle.ws_frame.specs.declared.role.Role.TheVariants.{Client, Server}
 use Rattle.ws_frame.specs.Frame.{Frame, KeyedFrame}
 use Rattle.ws_text.specs.Close.{CloseValue, close_payload}
 use Rattle.ws_session.specs.declared.reason.Reason.{Reason}
-use Rattle.ws_session.specs.declared.reason.Reason.TheVariants.{TooBig, NotText, TextCut, CloseReason}
+use Rattle.ws_session.specs.declared.reason.Reason.TheVariants.{TooBig, FrameBig, NotText, TextCut, CloseReason}
 use Rattle.ws_session.specs.declared.event.Event.{Event}
 use Rattle.ws_session.specs.declared.event.Event.TheVariants as event
 use Rattle.ws_session.specs.declared.message.Message.{Message}
@@ -15,6 +15,7 @@ use Rattle.ws_session.specs.Messages.{is_close, opcode_of}
 -- the close code that tells a reason (section 7.4.1): 1009 too big, 1007 not text, else 1002 protocol error
 abbrev pub close_code_of : Reason → ℕ
 close_code_of TooBig = 1009
+close_code_of FrameBig = 1009
 close_code_of NotText = 1007
 close_code_of TextCut = 1007
 close_code_of CloseReason = 1007

@@ -43,9 +43,15 @@ pub record IsValidGroup (IsRight : List ℕ → Type 0) (limits : LimitsValue) (
   pub size : length (joined_payload group) ≤ limits.max_message
   pub text : OfText (kind_of (first_opcode group)) (IsRight (joined_payload group))
 
--- each frame is valid alone, a close ends them, each finished message is whole and the unfinished one goes on as one
+-- a data frame is of a size that is taken (section 10.4)
+abbrev pub FitsTheFrameLimit : LimitsValue → Frame → Type 0
+FitsTheFrameLimit limits frame = frame.opcode ≤ 2 → length frame.payload ≤ limits.max_frame
+
+-- each frame is valid alone and of a size that is taken, a close ends them, each finished message is whole and the
+-- unfinished one goes on as one
 pub record AreValidFrames (limits : LimitsValue) (frames : List Frame) : Type 0 where
   pub each : AllByRecursion IsValidAlone frames
+  pub sizes : AllByRecursion (FitsTheFrameLimit limits) frames
   pub close : CloseIsLast frames
   pub finished : AllByRecursion (IsValidGroup IsText limits) (groups_of (data_frames frames)).finished
   pub unfinished : IsValidGroup BeginsText limits (groups_of (data_frames frames)).unfinished

@@ -41,6 +41,7 @@ reason_name reason.TextCut = codes "TextCut"
 reason_name reason.CloseOneByte = codes "CloseOneByte"
 reason_name reason.CloseCode = codes "CloseCode"
 reason_name reason.CloseReason = codes "CloseReason"
+reason_name reason.FrameBig = codes "FrameBig"
 
 -- how an endpoint stands
 abbrev pub status_words : Status → List ℕ

@@ -18,7 +18,7 @@ ghost use Rattle.ws_session.specs.Faults.{frames_of, KeysFit, IsFirstFault, HasN
 ghost use Rattle.ws_session.specs.Messages.{messages_of, open_message_of};
 ghost use Rattle.ws_session.specs.Events.{HasEvents, IsFaultOf, events_after, messages_in};
 ghost use Rattle.ws_session.specs.Replies.{has_close, echo_replies_of, replies_by, replies_of, key_for, under_key};
-ghost use Rattle.ws_session.specs.Reach.{fitting, first_passing, IsWithin, frames_within, is_too_big, events_within};
+ghost use Rattle.ws_session.specs.Reach.{fitting, first_passing, IsWithin, frames_within, size_fault, events_within};
 ghost use Rattle.ws_session.specs.Sends.{Send, frame_of, most_limits, HasTextReason, MaySend};
 ghost use Rattle.ws_session.specs.Exchange.{SessionValue, HasExchanged, is_over, last_event};
 
@@ -84,7 +84,7 @@ pub fn messages_are_told()
     ensures { (frames : List Frame) → messages_in (events_after [] frames) ≡ messages_of frames }
 {}
 
-/// The frames within the first bytes are the longest front of all that takes no more bytes and in which none passes the
+/// The frames within the first bytes are the longest front of all that takes no more bytes and in which none passes a
 /// limit.
 pub fn longest_front_within()
     ensures is { (limits : LimitsValue) (n : ℕ) (xs : List KeyedFrame) →
@@ -97,34 +97,36 @@ pub fn longest_front_within()
 pub fn appended_frames_are_not_within()
     ensures frames { (limits : LimitsValue) (n : ℕ) (xs more : List KeyedFrame) → n ≤ length (stream_bytes xs) →
         frames_within limits n (xs ++ more) ≡ frames_within limits n xs }
-    ensures too_big { (limits : LimitsValue) (n : ℕ) (xs more : List KeyedFrame) → n ≤ length (stream_bytes xs) →
-        is_too_big limits n (xs ++ more) ≡ is_too_big limits n xs }
+    ensures size { (limits : LimitsValue) (n : ℕ) (xs more : List KeyedFrame) → n ≤ length (stream_bytes xs) →
+        size_fault limits n (xs ++ more) ≡ size_fault limits n xs }
 {}
 
 /// What a valid sender can do to a receiver, under whatever limits each has: of the first bytes the receiver tells the
-/// frames in them that fit its limit, and then that one is too big. So no other fault comes of valid frames.
+/// frames in them that fit its limits, and then that a size is not taken, of a message or else of a frame. So no other
+/// fault comes of valid frames.
 pub fn valid_frames_are_told()
     ensures { (role : Role) (limits most : LimitsValue) (n : ℕ) (xs : List KeyedFrame) →
         AllByRecursion FitsTheLayout xs → KeysFit role xs → AreValidFrames most (frames_of xs) →
         HasEvents role limits (take n (stream_bytes xs)) (events_within limits n xs) }
 {}
 
-/// Of frames that keep to a limit none passes a greater one: all of them fit.
+/// Of frames that keep to limits none passes greater ones: all of them fit.
 pub fn greater_limits_pass_none()
     ensures { (limits most : LimitsValue) (xs : List KeyedFrame) → AreValidFrames most (frames_of xs) →
-        most.max_message ≤ limits.max_message →
+        most.max_message ≤ limits.max_message → most.max_frame ≤ limits.max_frame →
         (fitting limits xs ≡ xs) × (first_passing limits xs ≡ None) }
 {}
 
-/// Once a frame was too big, or a close has come, more bytes hold nothing more.
+/// Once a size was not taken, or a close has come, more bytes hold nothing more.
 pub fn more_bytes_after_the_last()
-    ensures too_big { (limits : LimitsValue) (n m : ℕ) (xs : List KeyedFrame) → n ≤ m → is_too_big limits n xs ≡ true →
-        (frames_within limits m xs ≡ frames_within limits n xs) × (is_too_big limits m xs ≡ true) }
+    ensures size { (limits : LimitsValue) (n m : ℕ) (xs : List KeyedFrame) (reason : Reason) → n ≤ m →
+        size_fault limits n xs ≡ Some reason →
+        (frames_within limits m xs ≡ frames_within limits n xs) × (size_fault limits m xs ≡ Some reason) }
 
     // A close is the last of valid frames, so all of them have come.
     ensures close { (limits most : LimitsValue) (n m : ℕ) (xs : List KeyedFrame) → n ≤ m →
         AreValidFrames most (frames_of xs) → has_close (frames_of (frames_within limits n xs)) ≡ true →
-        (frames_within limits m xs ≡ xs) × (is_too_big limits m xs ≡ false) }
+        (frames_within limits m xs ≡ xs) × (size_fault limits m xs ≡ None) }
 {}
 
 /// Frames under fitting keys, of which none follows a close, have a fault exactly where they aren't valid.
@@ -166,12 +168,12 @@ pub fn replies_can_be_sent()
 {}
 
 /// What an echo owes for what comes, after whatever came before, leaves valid frames valid that leave no message open,
-/// under the limits that it takes by or greater ones. It leaves none open either.
+/// under limits by which a frame may hold any message that it takes. It leaves none open either.
 pub fn echo_replies_stay_valid()
-    ensures valid { (limits most : LimitsValue) → limits.max_message ≤ most.max_message → (role : Role)
-        (bytes : List ℕ) (events later : List Event) (sent : List Frame) →
-        HasEvents role limits bytes (events ++ later) → AreValidFrames most sent → open_message_of sent ≡ None →
-        AreValidFrames most (sent ++ echo_replies_of sent later) }
+    ensures valid { (limits most : LimitsValue) → limits.max_message ≤ most.max_message →
+        limits.max_message ≤ most.max_frame → (role : Role) (bytes : List ℕ) (events later : List Event)
+        (sent : List Frame) → HasEvents role limits bytes (events ++ later) → AreValidFrames most sent →
+        open_message_of sent ≡ None → AreValidFrames most (sent ++ echo_replies_of sent later) }
     ensures leaves_none { (sent : List Frame) (events : List Event) → open_message_of sent ≡ None →
         open_message_of (sent ++ echo_replies_of sent events) ≡ None }
 {}

@@ -8,7 +8,8 @@ use std::marker::Model;
 /// The most that a limit on a message's payload can be, in bytes.
 const MOST: u32 = 16_777_216;
 
-/// What a session takes at most: the payload bytes of one message.
+/// What a session takes at most: the payload bytes of one message, and of one data frame. A control frame has its own
+/// limit, 125 bytes (section 5.5).
 #[derive(Clone, Copy)]
 pub struct Limits {
     max_message: u32,
@@ -28,17 +29,26 @@ impl Model for Limits {
 }
 
 impl Limits {
-    /// Messages of at most so many payload bytes. `None` outside 1 to 16,777,216.
+    /// Messages of at most so many payload bytes, in frames of any size. `None` outside 1 to 16,777,216.
     pub fn new(max_message: u32) -> Option<Limits>
         ensures { let limits : LimitsValue = record { max_message = max_message; max_frame = max_message }
             in MatchOption result (¬ (AreLimits limits)) (λ l. (l ≡ limits) × AreLimits limits) }
     {
-        if max_message == 0 || max_message > MOST {
+        Limits::with_frame(max_message, max_message)
+    }
+
+    /// Messages of at most `max_message` payload bytes, in data frames of at most `max_frame` each. `None` where a
+    /// frame could have none or more than a message, or a message more than 16,777,216.
+    pub fn with_frame(max_message: u32, max_frame: u32) -> Option<Limits>
+        ensures { let limits : LimitsValue = record { max_message = max_message; max_frame = max_frame }
+            in MatchOption result (¬ (AreLimits limits)) (λ l. (l ≡ limits) × AreLimits limits) }
+    {
+        if max_frame == 0 || max_frame > max_message || max_message > MOST {
             return None;
         }
         Some(Limits {
             max_message,
-            max_frame: max_message,
+            max_frame,
         })
     }
 
@@ -48,5 +58,13 @@ impl Limits {
         ensures bound { result ≤ 16777216 }
     {
         self.max_message
+    }
+
+    /// The most payload bytes of one data frame.
+    pub fn max_frame(&self) -> u32
+        ensures value { result ≡ self.now.max_frame }
+        ensures bound { result ≤ self.now.max_message }
+    {
+        self.max_frame
     }
 }

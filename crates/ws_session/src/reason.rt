@@ -28,11 +28,11 @@ pub enum Reason {
     NothingToContinue = 8,
     /// A new message inside an open one.
     MessageOpen = 9,
-    /// The frame takes its message above the limit.
+    /// The frame takes its message above the limit of a message.
     TooBig = 10,
     /// Nothing can complete the text: told at the first byte after which that is so (section 8.1).
     NotText = 11,
-    /// The message ends inside a character. Told, like all below, at the last byte of the frame.
+    /// The message ends inside a character. Told, like the reasons of a close, at the last byte of the frame.
     TextCut = 12,
     /// The close payload is half a code (section 5.5.1).
     CloseOneByte = 13,
@@ -40,6 +40,8 @@ pub enum Reason {
     CloseCode = 14,
     /// The close reason is no text.
     CloseReason = 15,
+    /// The data frame is above the limit of a frame. Told at the last byte of the header, behind `TooBig`.
+    FrameBig = 16,
 }
 
 impl Reason {
@@ -60,7 +62,7 @@ impl Reason {
             | Reason::CloseOneByte
             | Reason::CloseCode => 1002,
             Reason::NotText | Reason::TextCut | Reason::CloseReason => 1007,
-            Reason::TooBig => 1009,
+            Reason::TooBig | Reason::FrameBig => 1009,
         }
     }
 }
@@ -86,6 +88,7 @@ impl fmt::Display for Reason {
             Reason::CloseOneByte => write!(f, "CloseOneByte"),
             Reason::CloseCode => write!(f, "CloseCode"),
             Reason::CloseReason => write!(f, "CloseReason"),
+            Reason::FrameBig => write!(f, "FrameBig"),
         }
     }
 }

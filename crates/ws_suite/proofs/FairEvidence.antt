@@ -47,7 +47,7 @@ module _ (laws : EchoReplyLaws) (transcript : Transcript) (h : IsEchoTranscript 
   got_as_many = length-map transcript.turns (λ (turn : Turn). turn.got)
 
   nothing_valid : AreValidFrames most_limits []
-  nothing_valid = record { each = tt; close = tt; finished = tt; unfinished = record { frames = tt; size = omega arith; text = tt } }
+  nothing_valid = record { each = tt; sizes = tt; close = tt; finished = tt; unfinished = record { frames = tt; size = omega arith; text = tt } }
 
   first_none : h.events 0 ≡ []
   first_none = laws.session.one_list Server most_limits [] (h.events 0) [] (h.has_events 0 (omega arith)) (laws.frames.told Server most_limits most_limits 0 [] tt tt nothing_valid)

@@ -7,12 +7,10 @@ use Rattle.std.specs.List.{AllByRecursion, concat, last_or}
 use Rattle.ws_frame.specs.declared.role.Role.{Role}
 use Rattle.ws_frame.specs.Frame.{Frame, KeyedFrame, FitsTheLayout, frame_bytes, stream_bytes}
 use Rattle.ws_session.specs.declared.event.Event.{Event}
-use Rattle.ws_session.specs.declared.event.Event.TheVariants as event
-use Rattle.ws_session.specs.declared.reason.Reason.TheVariants.{TooBig}
 use Rattle.ws_session.specs.Validity.{AreValidFrames}
 use Rattle.ws_session.specs.Faults.{KeysFit, frames_of}
 use Rattle.ws_session.specs.Events.{HasEvents, event_of, events_after}
-use Rattle.ws_session.specs.Reach.{ending_within, is_header_within}
+use Rattle.ws_session.specs.Reach.{PassingFrame, ending_within, events_of_fault, reason_within}
 use Rattle.ws_session.specs.Sends.{most_limits}
 use Rattle.ws_suite.specs.declared.evidence.Reply.{Reply}
 use Rattle.ws_suite.specs.declared.evidence.Direction.{Direction}
@@ -106,9 +104,9 @@ module _ (laws : FrameLaws) (role : Role) (turns : List (List KeyedFrame)) (layo
   -- the first bytes have the events of the frames in them
   first_events : (n : ℕ) → HasEvents role most_limits (take n (stream_bytes (joined_frames turns))) (events_after [] (frames_of (ending_within n (joined_frames turns))))
   first_events n =
-      let fit = laws.fit most_limits most_limits (joined_frames turns) valid (omega arith) in
-      let same = ap₂ (λ (xs : List KeyedFrame) (x : Option KeyedFrame). events_after [] (frames_of (ending_within n xs))
-      ++ (if is_header_within n (length (stream_bytes xs)) x then event.Failed TooBig ∷ [] else [])) fit.0 fit.1
+      let fit = laws.fit most_limits most_limits (joined_frames turns) valid (omega arith) (omega arith) in
+      let same = ap₂ (λ (xs : List KeyedFrame) (x : Option PassingFrame). events_after [] (frames_of (ending_within n xs))
+      ++ events_of_fault (reason_within n (length (stream_bytes xs)) x)) fit.0 fit.1
       ∙ append-nil (events_after [] (frames_of (ending_within n (joined_frames turns)))) in
       subst (λ (l : List Event). HasEvents role most_limits (take n (stream_bytes (joined_frames turns))) l) same
       (laws.told role most_limits most_limits n (joined_frames turns) layout keys valid)

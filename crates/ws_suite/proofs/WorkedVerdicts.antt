@@ -51,11 +51,12 @@ answer_fits : FitsTheLayout answer
 answer_fits = record { rsv = lit≤ tt; opcode = lit≤ tt; key = tt; payload = no_bytes; len = lit≤ tt }
 
 none_valid : AreValidFrames most_limits []
-none_valid = record { each = tt; close = tt; finished = tt; unfinished = record { frames = tt; size = lit≤ tt; text = tt } }
+none_valid = record { each = tt; sizes = tt; close = tt; finished = tt; unfinished = record { frames = tt; size = lit≤ tt; text = tt } }
 
 ping_valid : AreValidFrames most_limits (frames_of (ping ∷ []))
 ping_valid = record {
   each = (record { rsv = refl; opcode = inr (lit≤ tt, lit≤ tt); control = λ control. (refl, lit≤ tt) }, tt);
+  sizes = (λ small. lit≤ tt, tt);
   close = (λ close. absurd cc, tt);
   finished = tt;
   unfinished = record { frames = tt; size = lit≤ tt; text = tt };
@@ -67,6 +68,7 @@ pings_valid = record {
     record { rsv = refl; opcode = inr (lit≤ tt, lit≤ tt); control = λ control. (refl, lit≤ tt) },
     (record { rsv = refl; opcode = inr (lit≤ tt, lit≤ tt); control = λ control. (refl, lit≤ tt) }, tt),
   );
+  sizes = (λ small. lit≤ tt, (λ small. lit≤ tt, tt));
   close = (λ close. absurd cc, (λ close. absurd cc, tt));
   finished = tt;
   unfinished = record { frames = tt; size = lit≤ tt; text = tt };
@@ -75,6 +77,7 @@ pings_valid = record {
 answer_valid : AreValidFrames most_limits (frames_of (answer ∷ []))
 answer_valid = record {
   each = (record { rsv = refl; opcode = inr (lit≤ tt, lit≤ tt); control = λ control. (refl, lit≤ tt) }, tt);
+  sizes = (λ small. lit≤ tt, tt);
   close = (λ close. absurd cc, tt);
   finished = tt;
   unfinished = record { frames = tt; size = lit≤ tt; text = tt };

@@ -80,4 +80,5 @@ pub record FrameLaws : Type 0 where
       → AllByRecursion FitsTheLayout xs → KeysFit role xs → AreValidFrames most (frames_of xs)
       → HasEvents role limits (take n (stream_bytes xs)) (events_within limits n xs)
   pub fit : (limits most : LimitsValue) (xs : List KeyedFrame) → AreValidFrames most (frames_of xs)
-      → most.max_message ≤ limits.max_message → (fitting limits xs ≡ xs) × (first_passing limits xs ≡ None)
+      → most.max_message ≤ limits.max_message → most.max_frame ≤ limits.max_frame
+      → (fitting limits xs ≡ xs) × (first_passing limits xs ≡ None)

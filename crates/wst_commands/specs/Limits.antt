@@ -2,6 +2,6 @@
 use Rattle.std.specs.Prelude.{ℕ}
 use Rattle.ws_session.specs.Limits.{LimitsValue}
 
--- what an end takes at most
-abbrev pub limits_of : ℕ → LimitsValue
-limits_of most = record { max_message = most; max_frame = most }
+-- what an end takes at most, of a message and of a data frame
+abbrev pub limits_of : ℕ → ℕ → LimitsValue
+limits_of message frame = record { max_message = message; max_frame = frame }

@@ -21,7 +21,8 @@ use Rattle.wst_commands.specs.declared.fault.Fault.TheVariants.{BadLimits, NotAM
 
 -- both ends can have the limits that the words give
 abbrev pub CanLimit : PairOptions → Type 0
-CanLimit options = AreLimits (limits_of options.limit_client) × AreLimits (limits_of options.limit_server)
+CanLimit options = AreLimits (limits_of options.limit_client options.frame_client)
+    × AreLimits (limits_of options.limit_server options.frame_server)
 
 -- the moves were played, and the lines of their report were written; or memory ran out, and nothing was written
 abbrev pub PlaysMoves : LimitsValue → LimitsValue → List Move → Result Exit Fault → Device → Type 0
@@ -45,5 +46,6 @@ AnswersScript client server text ended output =
 abbrev pub RunsPair : PairOptions → Result Exit Fault → Device → Device → Type 0
 RunsPair options ended input output =
     (CanLimit options
-    × AnswersInput (AnswersScript (limits_of options.limit_client) (limits_of options.limit_server)) ended input output)
+    × AnswersInput (AnswersScript (limits_of options.limit_client options.frame_client)
+    (limits_of options.limit_server options.frame_server)) ended input output)
     ⊎ (¬ (CanLimit options) × (ended ≡ Err BadLimits) × IsUntouched input × IsUntouched output)

@@ -23,12 +23,12 @@ use Rattle.wst_commands.specs.declared.serving.Served.TheVariants.{Ended, Refuse
 -- this server: its limits are those of the words, which an endpoint can have, and the rest is as it was given
 abbrev pub IsServePlan : ServeOptions → ServePlan → Type 0
 IsServePlan options plan =
-    (AreLimits (limits_of options.limit) × (plan.limits ≡ limits_of options.limit)) × (plan.budget ≡ options.budget)
-    × (plan.address ≡ options.address) × (plan.count ≡ options.count)
+    (AreLimits (limits_of options.limit options.frame) × (plan.limits ≡ limits_of options.limit options.frame))
+    × (plan.budget ≡ options.budget) × (plan.address ≡ options.address) × (plan.count ≡ options.count)
 
 -- one with limits that no endpoint can have
 abbrev pub CanNotServe : ServeOptions → Type 0
-CanNotServe options = ¬ (AreLimits (limits_of options.limit))
+CanNotServe options = ¬ (AreLimits (limits_of options.limit options.frame))
 
 -- ---- what is told
 

@@ -57,6 +57,7 @@ AnswersCalls options limits text ended output = MatchResult ended
 -- a run of `session`: limits that an endpoint can't have are told, and nothing is read or written
 abbrev pub RunsSession : SessionOptions → Result Exit Fault → Device → Device → Type 0
 RunsSession options ended input output =
-    (AreLimits (limits_of options.limit)
-    × AnswersInput (AnswersCalls options (limits_of options.limit)) ended input output)
-    ⊎ (¬ (AreLimits (limits_of options.limit)) × (ended ≡ Err BadLimits) × IsUntouched input × IsUntouched output)
+    (AreLimits (limits_of options.limit options.frame)
+    × AnswersInput (AnswersCalls options (limits_of options.limit options.frame)) ended input output)
+    ⊎ (¬ (AreLimits (limits_of options.limit options.frame)) × (ended ≡ Err BadLimits) × IsUntouched input
+    × IsUntouched output)

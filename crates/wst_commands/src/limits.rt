@@ -6,13 +6,17 @@ ghost use Rattle.wst_commands.specs.Limits.{limits_of};
 
 use ws_session::Limits;
 
-/// The limits with so many bytes of a message. `None` outside 1 to 16,777,216.
-pub fn message_limit(most: u64) -> Option<Limits>
-    ensures { MatchOption result (¬ (AreLimits (limits_of most)))
-        (λ limits. AreLimits (limits_of most) × (limits ≡ limits_of most)) }
+/// The limits with so many bytes of a message, and of a data frame. `None` where a frame could have none or more than a
+/// message, or a message more than 16,777,216.
+pub fn limits_given(message: u64, frame: u64) -> Option<Limits>
+    ensures { MatchOption result (¬ (AreLimits (limits_of message frame)))
+        (λ limits. AreLimits (limits_of message frame) × (limits ≡ limits_of message frame)) }
 {
-    let Ok(most) = u32::try_from(most) else {
+    let Ok(message) = u32::try_from(message) else {
         return None;
     };
-    Limits::new(most)
+    let Ok(frame) = u32::try_from(frame) else {
+        return None;
+    };
+    Limits::with_frame(message, frame)
 }

@@ -11,7 +11,7 @@ ghost use Rattle.wst_commands.specs.Pairs.{AnswersScript, CanLimit, PlaysMoves, 
 
 use crate::exit::Exit;
 use crate::fault::Fault;
-use crate::limits::message_limit;
+use crate::limits::limits_given;
 use crate::reading_whole::{ReadStop, read_whole};
 use crate::telling::deliver;
 use std::alloc::Global;
@@ -47,10 +47,11 @@ pub fn run_moves<R: Read, W: Write>(
 /// The limits of the client and of the server. `None` where one is none.
 fn both_limits(options: PairOptions) -> Option<(Limits, Limits)>
     ensures { MatchOption result (¬ (CanLimit options)) (λ both. CanLimit options
-        × (both.0 ≡ limits_of options.limit_client) × (both.1 ≡ limits_of options.limit_server)) }
+        × (both.0 ≡ limits_of options.limit_client options.frame_client)
+        × (both.1 ≡ limits_of options.limit_server options.frame_server)) }
 {
-    let client = message_limit(options.limit_client)?;
-    let server = message_limit(options.limit_server)?;
+    let client = limits_given(options.limit_client, options.frame_client)?;
+    let server = limits_given(options.limit_server, options.frame_server)?;
     Some((client, server))
 }
 

@@ -8,7 +8,7 @@ ghost use Rattle.wst_commands.specs.Serve.{connection_line, listening_line};
 
 use crate::exit::Exit;
 use crate::fault::{Fault, tell_fault};
-use crate::limits::message_limit;
+use crate::limits::limits_given;
 use crate::serving::Served;
 use std::alloc::Global;
 use std::io::Write;
@@ -29,11 +29,11 @@ pub struct ServePlan<'a> {
     pub budget: u64,
 }
 
-/// What is to be served. `None` where no endpoint can have the limit.
+/// What is to be served. `None` where no endpoint can have the limits.
 pub fn plan_serve<'a>(options: &ServeOptions<'a>) -> Option<ServePlan<'a>>
     ensures { MatchOption result (CanNotServe options.now) (IsServePlan options.now) }
 {
-    let limits = message_limit(options.limit)?;
+    let limits = limits_given(options.limit, options.frame)?;
     Some(ServePlan {
         address: options.address,
         count: options.count,

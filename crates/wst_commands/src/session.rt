@@ -13,7 +13,7 @@ ghost use Rattle.wst_commands.specs.Session.{TellsEcho, TellsSession, call_fault
 
 use crate::exit::Exit;
 use crate::fault::Fault;
-use crate::limits::message_limit;
+use crate::limits::limits_given;
 use crate::reading_whole::{ReadStop, read_whole};
 use crate::telling::deliver;
 use std::alloc::Global;
@@ -38,7 +38,7 @@ pub fn run_session<R: Read, W: Write>(
     ensures { RunsSession options result (watched R.remaining reader.old reader.new)
         (watched W.contents writer.old writer.new) }
 {
-    let Some(limits) = message_limit(options.limit) else {
+    let Some(limits) = limits_given(options.limit, options.frame) else {
         return Err(Fault::BadLimits);
     };
     match read_whole(alloc, reader) {

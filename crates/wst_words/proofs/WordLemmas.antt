@@ -1,5 +1,5 @@
 -- From clap's clauses to what the words ask for.
-use Rattle.std.proofs.Common.{◌≡◌, ◌∙◌, ◌<◌, ◌^◌, ◌||◌, ℕ, Bool, true, false, zero, suc, List, [], ◌∷◌, Option, Some, None, Result, Ok, Err, IsErrAnd, arith, ap, ap₂, refl, sym, subst, inl, length, map, codes, slice_index, slice_index_or}
+use Rattle.std.proofs.Common.{◌≡◌, ◌∙◌, ◌<◌, ◌^◌, ◌||◌, ℕ, Bool, true, false, zero, suc, List, [], ◌∷◌, Option, Some, None, Result, Ok, Err, IsErrAnd, arith, ap, ap₂, refl, sym, subst, inl, inr, length, map, codes, slice_index, slice_index_or}
 use Rattle.std.specs.Borrow.{Bor}
 use Rattle.std.specs.Prelude.{Box, MatchOption, option_map, unwrap_or}
 use Rattle.std.specs.Box.{box_value}
@@ -11,7 +11,7 @@ use Rattle.clap.specs.declared.builder.value_parser.ValueParser.{ValueParser}
 use Rattle.clap.specs.declared.builder.value_parser.ValueParser.TheVariants.{Names}
 use Rattle.clap.specs.declared.error.Error.{Error}
 use Rattle.clap.specs.declared.error.kind.ErrorKind.TheVariants.{OutOfMemory}
-use Rattle.wst_words.specs.Options.{EndPlaces, GivesFlag, GivesNoEnd, GivesNoFlag, GivesNumberOf, end_names, end_rule}
+use Rattle.wst_words.specs.Options.{EndPlaces, GivesFlag, GivesNoEnd, GivesNoFlag, GivesNoNumber, GivesNoNumberOr, GivesNumber, GivesNumberOf, GivesNumberOr, end_names, end_rule}
 use Rattle.wst_words.specs.Pair.{AsksToPairNothing}
 use Rattle.wst_words.specs.Serve.{AsksToServeNothing}
 use Rattle.wst_words.specs.Session.{AsksForNoSession}
@@ -67,6 +67,22 @@ number_given bits gives parses rows name (Some text) (Some n) there none some =
     let parsed = parses text (Ok n) (some text refl) in
     record { word = text; has_word = sym there; numeral = parsed.0.0; value = parsed.1; fits = subst (λ (m : ℕ). m < 2 ^ bits) (sym parsed.1) parsed.0.1 }
 
+-- a word that isn't there is no word
+pub no_word : (rows : List Row) (name word : Text) → first_of name rows ≡ None → first_of name rows ≡ Some word → ⊥
+no_word rows name word none there =
+    let bad : Some word ≡ None = sym there ∙ none in
+    absurd (cc)
+
+-- where the option was met, its number is given or none is
+pub number_or_given : (rows : List Row) (name : Text) (other : ℕ) (word : Text) (r : Option ℕ) → first_of name rows ≡ Some word → MatchOption r (GivesNoNumber rows name) (GivesNumber rows name)
+    → MatchOption r (GivesNoNumberOr rows name) (GivesNumberOr other rows name)
+number_or_given rows name other word None there none = refuses
+  where
+    refuses : GivesNoNumberOr rows name
+    refuses any number (inl given) = none number given
+    refuses any number (inr (left_out, same)) = no_word rows name word left_out there
+number_or_given rows name other word (Some number) there given = inl given
+
 -- a flag is set or not exactly where a text is there that names a `bool`
 pub flag_given : (E : Type 0) (rows : List Row) (name : Text) (o : Option Text) (r : Option Bool) → o ≡ one_of name rows → (o ≡ None → r ≡ None)
     → ((text : Text) → o ≡ Some text → ReadsOne {E = E} ParsesBool text r) → MatchOption r (GivesNoFlag rows name) (GivesFlag rows name)
@@ -85,12 +101,6 @@ flag_given E rows name (Some text) (Some false) there none some = sym there ∙ 
 pub no_end_given : (rows : List Row) (name : Text) → first_of name rows ≡ None → GivesNoEnd rows name
 no_end_given rows name none = λ role given.
     let bad : Some given.word ≡ None = sym given.has_word ∙ none in
-    absurd (cc)
-
--- a word that isn't there is no word
-pub no_word : (rows : List Row) (name word : Text) → first_of name rows ≡ None → first_of name rows ≡ Some word → ⊥
-no_word rows name word none there =
-    let bad : Some word ≡ None = sym there ∙ none in
     absurd (cc)
 
 -- a command with another argument that isn't global has no global argument

@@ -1,5 +1,6 @@
 -- Worked examples of words and what they ask for, each a theorem, wherever the names of the ends lie in memory.
 use Rattle.std.specs.Prelude.{◌≡◌, ⊤, true, false, List, [], ◌∷◌, Some, map, codes, option_map, refl}
+use Rattle.std.proofs.Common.{inr}
 use Rattle.std.specs.Char.{encode_utf8}
 use Rattle.std.specs.Str.{chars}
 use Rattle.std.specs.Str.Parse.{digits_value, without_leading_plus}
@@ -85,28 +86,41 @@ pub plain_head : (places : Places) → AsksFor (wst_app places) head_words Head
 unfolding on_words
 plain_head places = (refl, refl)
 
--- `wst pair` joins ends that take messages of 1 MiB, unless told another limit
+-- `wst pair` joins ends that take messages of 1 MiB, and frames as large, unless told another limit
 pub plain_pair : (places : Places)
     → AsksFor (wst_app places) (words (codes "pair" ∷ codes "--limit-server" ∷ codes "10" ∷ []))
-    (Pair (record { limit_client = 1048576; limit_server = 10 }))
+    (Pair (record { limit_client = 1048576; limit_server = 10; frame_client = 1048576; frame_server = 10 }))
 unfolding on_words
 plain_pair places = (
   refl,
-  (refl, (numbered _ _ (codes "1048576") refl refl, numbered _ _ (codes "10") refl refl)),
+  (
+    refl,
+    (
+      numbered _ _ (codes "1048576") refl refl,
+      numbered _ _ (codes "10") refl refl,
+      inr (refl, refl),
+      inr (refl, refl),
+    ),
+  ),
 )
 
 -- `wst session` makes its calls at a server that takes messages of 1 MiB, and that is no echo
 abbrev session_words : List Text
 session_words = words (codes "session" ∷ [])
 
-pub plain_session : (places : Places)
-    → AsksFor (wst_app places) session_words (Session (record { role = Server; limit = 1048576; echo = false }))
+pub plain_session : (places : Places) → AsksFor (wst_app places) session_words
+    (Session (record { role = Server; limit = 1048576; frame = 1048576; echo = false }))
 unfolding on_words
 plain_session places = (
   refl,
   (
     refl,
-    (record { word = codes "server"; has_word = refl; value = refl }, numbered _ _ (codes "1048576") refl refl, refl),
+    (
+      record { word = codes "server"; has_word = refl; value = refl },
+      numbered _ _ (codes "1048576") refl refl,
+      inr (refl, refl),
+      refl,
+    ),
   ),
 )
 
@@ -114,14 +128,19 @@ plain_session places = (
 abbrev echo_words : List Text
 echo_words = words (codes "session" ∷ codes "--echo" ∷ [])
 
-pub plain_echo : (places : Places)
-    → AsksFor (wst_app places) echo_words (Session (record { role = Server; limit = 1048576; echo = true }))
+pub plain_echo : (places : Places) → AsksFor (wst_app places) echo_words
+    (Session (record { role = Server; limit = 1048576; frame = 1048576; echo = true }))
 unfolding on_words
 plain_echo places = (
   refl,
   (
     refl,
-    (record { word = codes "server"; has_word = refl; value = refl }, numbered _ _ (codes "1048576") refl refl, refl),
+    (
+      record { word = codes "server"; has_word = refl; value = refl },
+      numbered _ _ (codes "1048576") refl refl,
+      inr (refl, refl),
+      refl,
+    ),
   ),
 )
 

@@ -1,5 +1,6 @@
 -- Options that commands have, as clap's data, and what the words give them.
-use Rattle.std.specs.Prelude.{◌≡◌, ℕ, ◌^◌, ◌<◌, if◌then◌else◌, Bool, true, false, List, [], ◌∷◌, Some, codes, pos}
+use Rattle.std.specs.Prelude.{◌≡◌, ℕ, ◌^◌, ◌<◌, ◌⊎◌, if◌then◌else◌, Bool, true, false, List, [], ◌∷◌, Some, None}
+use Rattle.std.specs.Prelude.{codes, pos}
 use Rattle.std.specs.Borrow.{Bor}
 use Rattle.std.specs.Str.{bytes_eq}
 use Rattle.std.specs.Str.Parse.{IsNumeral, digits_value, without_leading_plus}
@@ -67,6 +68,15 @@ number_rule name default = record (new_rule name) {
   parser = Some (Unsigned 0 18446744073709551615);
 }
 
+-- an option that takes a number of 64 bits, and may be left out
+abbrev pub optional_number_rule : Text → Rule
+optional_number_rule name = record (new_rule name) {
+  long = Some name;
+  action = Some Set;
+  value_names = 1;
+  parser = Some (Unsigned 0 18446744073709551615);
+}
+
 -- a word for a number of 32 bits, which may not be left out
 abbrev pub needed_count_rule : Text → Rule
 needed_count_rule name = record (needed_word_rule name) { parser = Some (Signed (pos 0) (pos 4294967295)) }
@@ -82,12 +92,21 @@ pub record GivesNumberOf (bits : ℕ) (rows : List Row) (name : Text) (number : 
 abbrev pub GivesNumber : List Row → Text → ℕ → Type 0
 GivesNumber rows name number = GivesNumberOf 64 rows name number
 
+-- the option of this name gives this number, or it is left out and the number is this other one
+abbrev pub GivesNumberOr : ℕ → List Row → Text → ℕ → Type 0
+GivesNumberOr other rows name number =
+    GivesNumber rows name number ⊎ ((first_of name rows ≡ None) × (number ≡ other))
+
 abbrev pub GivesCount : List Row → Text → ℕ → Type 0
 GivesCount rows name number = GivesNumberOf 32 rows name number
 
 -- and it gives none
 abbrev pub GivesNoNumber : List Row → Text → Type 0
 GivesNoNumber rows name = (number : ℕ) → GivesNumber rows name number → ⊥
+
+-- nor another one
+abbrev pub GivesNoNumberOr : List Row → Text → Type 0
+GivesNoNumberOr rows name = (other number : ℕ) → GivesNumberOr other rows name number → ⊥
 
 abbrev pub GivesNoCount : List Row → Text → Type 0
 GivesNoCount rows name = (number : ℕ) → GivesCount rows name number → ⊥

@@ -4,6 +4,7 @@ ghost use Rattle.std.specs.Prelude.{◌≡◌, MatchOption, codes, false};
 ghost use Rattle.clap.specs.Words.{found_of, rows_of, rule_of};
 ghost use Rattle.wst_words.specs.Options.{EndPlaces, GivesCount, GivesEnd, GivesFlag, GivesNumber};
 ghost use Rattle.wst_words.specs.Options.{GivesNoCount, GivesNoEnd, GivesNoFlag, GivesNoNumber};
+ghost use Rattle.wst_words.specs.Options.{GivesNumberOr, GivesNoNumberOr, optional_number_rule};
 ghost use Rattle.wst_words.specs.Options.{end_rule, flag_rule, needed_count_rule, number_rule, role_named};
 
 use clap::{Arg, ArgAction, ArgMatches};
@@ -36,6 +37,19 @@ pub fn number_option<'a>(alloc: Global, name: &'a str, help: &'a str, default: &
         .action(ArgAction::Set)
         .value_parser(clap::value_parser!(u64))
         .default_value(default)
+}
+
+/// The option of this name for a number of 64 bits, which may be left out.
+pub fn optional_number<'a>(alloc: Global, name: &'a str, help: &'a str) -> Arg<'a>
+    ensures rule { rule_of result ≡ optional_number_rule name.entry.now }
+    ensures local { result.global ≡ false }
+{
+    Arg::new(alloc, name)
+        .long(name)
+        .value_name("N")
+        .help(help)
+        .action(ArgAction::Set)
+        .value_parser(clap::value_parser!(u64))
 }
 
 /// The word of this name for a count, a number of 32 bits that may not be left out.
@@ -77,6 +91,17 @@ pub fn number_of(options: &ArgMatches<'_>, name: &str) -> Option<u64>
         (GivesNumber (rows_of (found_of options.now)) name.now) }
 {
     options.get_one::<u64>(name)
+}
+
+/// The number that the option of this name gives, or the other one where it is left out. `None` where it gives none.
+pub fn number_or(options: &ArgMatches<'_>, name: &str, other: u64) -> Option<u64>
+    ensures { MatchOption result (GivesNoNumberOr (rows_of (found_of options.now)) name.now)
+        (GivesNumberOr other (rows_of (found_of options.now)) name.now) }
+{
+    match options.get_str(name) {
+        None => Some(other),
+        Some(_) => number_of(options, name),
+    }
 }
 
 /// The count that the word of this name gives. `None` where it gives none.

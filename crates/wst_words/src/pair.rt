@@ -5,7 +5,7 @@ ghost use Rattle.clap.specs.Words.{app_of, found_of, rows_of};
 ghost use Rattle.clap.specs.declared.builder.command.Command.TheViews.{out-Command as fields_of};
 ghost use Rattle.wst_words.specs.Pair.{AsksToPair, AsksToPairNothing, pair_app};
 
-use crate::options::{number_of, number_option};
+use crate::options::{number_of, number_option, number_or, optional_number};
 use clap::{ArgMatches, Command};
 use std::alloc::{AllocError, Global};
 
@@ -16,6 +16,10 @@ pub struct PairOptions {
     pub limit_client: u64,
     /// The server takes messages of at most so many bytes.
     pub limit_server: u64,
+    /// The client takes data frames of at most so many bytes.
+    pub frame_client: u64,
+    /// The server takes data frames of at most so many bytes.
+    pub frame_server: u64,
 }
 
 /// `pair` and its options.
@@ -30,7 +34,9 @@ pub fn pair_command<'a>(alloc: Global) -> Result<Command<'a>, AllocError>
         .long_about(LONG_ABOUT)
         .after_help(AFTER_HELP)
         .arg(number_option(alloc, "limit-client", LIMIT_CLIENT, "1048576"))?
-        .arg(number_option(alloc, "limit-server", LIMIT_SERVER, "1048576"))
+        .arg(number_option(alloc, "limit-server", LIMIT_SERVER, "1048576"))?
+        .arg(optional_number(alloc, "frame-client", FRAME_CLIENT))?
+        .arg(optional_number(alloc, "frame-server", FRAME_SERVER))
 }
 
 /// The options that were met. `None` where one has no value.
@@ -40,15 +46,23 @@ pub fn pair_options(options: &ArgMatches<'_>) -> Option<PairOptions>
 {
     let limit_client = number_of(options, "limit-client")?;
     let limit_server = number_of(options, "limit-server")?;
+    let frame_client = number_or(options, "frame-client", limit_client)?;
+    let frame_server = number_or(options, "frame-server", limit_server)?;
     Some(PairOptions {
         limit_client,
         limit_server,
+        frame_client,
+        frame_server,
     })
 }
 
 const LIMIT_CLIENT: &str = "Most bytes of a message to the client, 1 to 16777216";
 
 const LIMIT_SERVER: &str = "Most bytes of a message to the server, 1 to 16777216";
+
+const FRAME_CLIENT: &str = "Most bytes of a data frame to the client [default: as --limit-client]";
+
+const FRAME_SERVER: &str = "Most bytes of a data frame to the server [default: as --limit-server]";
 
 /// What `pair` is for.
 const LONG_ABOUT: &str =
@@ -80,7 +94,11 @@ it delivered; and `END status STATUS`, one of `open`, `closing`, `clean CODE`, `
 
 The NAME of a refusal is Over, Busy, NothingOpen, NotText, TooLong or BadCode. The NAME of a failure
 is ReservedBits, Opcode, MaskWrong, NotShortest, BadLength, ControlCut, ControlLong,
-NothingToContinue, MessageOpen, TooBig, NotText, TextCut, CloseOneByte, CloseCode or CloseReason.
+NothingToContinue, MessageOpen, TooBig, NotText, TextCut, CloseOneByte, CloseCode, CloseReason or
+FrameBig.
+
+The limit of a data frame is 1 to that of a message to the same end. Control frames have their own,
+125 bytes.
 
 Exit status: 0 all played, 1 a line is no move, and nothing is played, 2 wrong words or limits, 3 a
 device failed or memory ran out.";

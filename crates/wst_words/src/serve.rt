@@ -6,7 +6,9 @@ ghost use Rattle.clap.specs.declared.builder.command.Command.TheViews.{out-Comma
 ghost use Rattle.wst_words.specs.Options.{needed_word_rule};
 ghost use Rattle.wst_words.specs.Serve.{AsksToServe, AsksToServeNothing, serve_app};
 
-use crate::options::{count_of, needed_count, number_of, number_option};
+use crate::options::{
+    count_of, needed_count, number_of, number_option, number_or, optional_number,
+};
 use clap::{Arg, ArgAction, ArgMatches, Command};
 use std::alloc::{AllocError, Global};
 
@@ -15,6 +17,8 @@ use std::alloc::{AllocError, Global};
 pub struct ServeOptions<'a> {
     /// The server takes messages of at most so many bytes.
     pub limit: u64,
+    /// It takes data frames of at most so many bytes.
+    pub frame: u64,
     /// It reads at most so many bytes of a connection behind the head of its request.
     pub budget: u64,
     /// The address at which it listens: an IP address or the name of a host, and a port.
@@ -33,6 +37,7 @@ pub fn serve_command<'a>(alloc: Global) -> Result<Command<'a>, AllocError>
         .long_about(LONG_ABOUT)
         .after_help(AFTER_HELP)
         .arg(number_option(alloc, "limit", LIMIT, "1048576"))?
+        .arg(optional_number(alloc, "frame", FRAME))?
         .arg(number_option(alloc, "budget", BUDGET, "1073741824"))?
         .arg(address_word(alloc))?
         .arg(needed_count(
@@ -60,11 +65,13 @@ pub fn serve_options<'a>(options: &ArgMatches<'a>) -> Option<ServeOptions<'a>>
         (AsksToServe (rows_of (found_of options.now))) }
 {
     let limit = number_of(options, "limit")?;
+    let frame = number_or(options, "frame", limit)?;
     let budget = number_of(options, "budget")?;
     let address = options.get_str("address")?;
     let count = count_of(options, "count")?;
     Some(ServeOptions {
         limit,
+        frame,
         budget,
         address,
         count,
@@ -72,6 +79,8 @@ pub fn serve_options<'a>(options: &ArgMatches<'a>) -> Option<ServeOptions<'a>>
 }
 
 const LIMIT: &str = "Most bytes of a message to the server, 1 to 16777216";
+
+const FRAME: &str = "Most bytes of a data frame to the server [default: as --limit]";
 
 const BUDGET: &str = "Read at most N bytes of a connection behind its head";
 
@@ -95,6 +104,8 @@ A line is written as soon as the command listens, and one for each connection th
 
 The NAME of a refusal is Head, Method, Version, Host, Upgrade, Connection, Key, WsVersion or
 TooLarge; that of a failure is one that `wst session --help` lists.
+
+The limit of a data frame is 1 to that of a message. Control frames have their own, 125 bytes.
 
 Exit status: 0 so many connections were served, however they ended, 2 wrong words or limits, 3 the
 address can't be listened at, no more connections come, a line could not be written or memory ran

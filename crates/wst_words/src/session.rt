@@ -6,7 +6,9 @@ ghost use Rattle.clap.specs.declared.builder.command.Command.TheViews.{out-Comma
 ghost use Rattle.wst_words.specs.Options.{EndPlaces};
 ghost use Rattle.wst_words.specs.Session.{AsksForSession, AsksForNoSession, session_app};
 
-use crate::options::{end_of, end_option, flag_of, flag_option, number_of, number_option};
+use crate::options::{
+    end_of, end_option, flag_of, flag_option, number_of, number_option, number_or, optional_number,
+};
 use clap::{ArgMatches, Command};
 use std::alloc::{AllocError, Global};
 use ws_frame::Role;
@@ -18,6 +20,8 @@ pub struct SessionOptions {
     pub role: Role,
     /// It takes messages of at most so many bytes.
     pub limit: u64,
+    /// It takes data frames of at most so many bytes.
+    pub frame: u64,
     /// It is an echo: it sends each message back, and nothing of its own accord.
     pub echo: bool,
 }
@@ -33,6 +37,7 @@ pub fn session_command<'a>(alloc: Global) -> Result<Command<'a>, AllocError>
         .after_help(AFTER_HELP)
         .arg(end_option(alloc, "role", "The role of the endpoint"))?
         .arg(number_option(alloc, "limit", LIMIT, "1048576"))?
+        .arg(optional_number(alloc, "frame", FRAME))?
         .arg(flag_option(alloc, "echo", "The endpoint sends each message back"))
 }
 
@@ -43,11 +48,19 @@ pub fn session_options(options: &ArgMatches<'_>) -> Option<SessionOptions>
 {
     let role = end_of(options, "role")?;
     let limit = number_of(options, "limit")?;
+    let frame = number_or(options, "frame", limit)?;
     let echo = flag_of(options, "echo")?;
-    Some(SessionOptions { role, limit, echo })
+    Some(SessionOptions {
+        role,
+        limit,
+        frame,
+        echo,
+    })
 }
 
 const LIMIT: &str = "Most bytes of a message to the endpoint, 1 to 16777216";
+
+const FRAME: &str = "Most bytes of a data frame to the endpoint [default: as --limit]";
 
 /// What `session` is for.
 const LONG_ABOUT: &str =
@@ -89,7 +102,10 @@ calls. The output has lines for each call, and two at the end:
 PLACE counts the bytes that were taken since the start, up to and with the last of the event.
 The NAME of a refusal is Over, Busy, NothingOpen, NotText, TooLong or BadCode. The NAME of a failure
 is ReservedBits, Opcode, MaskWrong, NotShortest, BadLength, ControlCut, ControlLong,
-NothingToContinue, MessageOpen, TooBig, NotText, TextCut, CloseOneByte, CloseCode or CloseReason.
+NothingToContinue, MessageOpen, TooBig, NotText, TextCut, CloseOneByte, CloseCode, CloseReason or
+FrameBig.
+
+The limit of a data frame is 1 to that of a message. Control frames have their own, 125 bytes.
 
 Exit status: 0 all calls made, 1 a line is no call, and none is made, 2 wrong words or limits, 3 a
 device failed or memory ran out.";

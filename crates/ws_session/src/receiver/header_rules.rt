@@ -11,7 +11,7 @@ use ws_frame::{Header, Role};
 use ws_text::MAX_CONTROL_PAYLOAD;
 
 /// The reasons of a header, in the order in which they are told.
-const HEADER_REASONS: [Reason; 10] = [
+const HEADER_REASONS: [Reason; 11] = [
     Reason::ReservedBits,
     Reason::Opcode,
     Reason::MaskWrong,
@@ -22,6 +22,7 @@ const HEADER_REASONS: [Reason; 10] = [
     Reason::NothingToContinue,
     Reason::MessageOpen,
     Reason::TooBig,
+    Reason::FrameBig,
 ];
 
 /// The first length that may not be written: its top bit is set.
@@ -61,6 +62,9 @@ fn applies(reason: Reason, role: Role, limits: Limits, assembly: &Assembly, head
         Reason::NothingToContinue => header.opcode() == 0 && !assembly.is_open(),
         Reason::MessageOpen => matches!(header.opcode(), 1 | 2) && assembly.is_open(),
         Reason::TooBig => header.opcode() <= 2 && is_too_big(limits, assembly, header),
+        Reason::FrameBig => {
+            header.opcode() <= 2 && header.payload_len() > u64::from(limits.max_frame())
+        }
         Reason::NotText
         | Reason::TextCut
         | Reason::CloseOneByte

@@ -4,5 +4,5 @@ use Rattle.ws_session.proofs.laws.appended_frames_are_not_within.Goals as goal
 pub returns-clause-frames : goal.returns-clause-frames
 returns-clause-frames c = later_frames_beyond
 
-pub returns-clause-too_big : goal.returns-clause-too_big
-returns-clause-too_big c = later_header_beyond
+pub returns-clause-size : goal.returns-clause-size
+returns-clause-size c = later_header_beyond

@@ -1,11 +1,23 @@
-use Rattle.std.proofs.Common.{◌≡◌, ◌∙◌, ap, ap₂, codes}
+use Rattle.std.proofs.Common.{rules, ◌≡◌, ◌∙◌, ap, ap₂, codes, false}
 use Rattle.std.proofs.lemmas.Result.{IfOk-weaker}
 use Rattle.clap.specs.Words.{app_of, new_app, with_rule}
 use Rattle.clap.specs.Simple.{app_of_fields}
+use Rattle.clap.specs.declared.builder.command.Command.TheViews.{out-Command as fields_of}
+use Rattle.wst_words.proofs.WordLemmas.{stays_local}
 use Rattle.wst_words.proofs.pair.pair_command.Goals as goal
 
 pub returns-clause-app : goal.returns-clause-app
 returns-clause-app c =
     let texts : app_of c.after_help.result ≡ new_app (codes "pair") = ap app_of_fields c.after_help.ensures ∙ ap app_of_fields c.long_about.ensures ∙ ap app_of_fields c.about.ensures ∙ c.new.ensures.app in
-    IfOk-weaker c.arg-2.result _ _ (λ r h. h.shape c.number_option-2.ensures.local
-    ∙ ap₂ with_rule (c.in_ok-arg.ensures.shape c.number_option.ensures.local ∙ ap₂ with_rule texts c.number_option.ensures.rule) c.number_option-2.ensures.rule) c.arg-2.ensures
+    let one = c.in_ok-arg.ensures.shape c.number_option.ensures.local ∙ ap₂ with_rule texts c.number_option.ensures.rule in
+    let two = c.in_ok-arg-2.ensures.shape c.number_option-2.ensures.local ∙ ap₂ with_rule one c.number_option-2.ensures.rule in
+    let three = c.in_ok-arg-3.ensures.shape c.optional_number.ensures.local ∙ ap₂ with_rule two c.optional_number.ensures.rule in
+    IfOk-weaker c.arg-4.result _ _ (λ r h. h.shape c.optional_number-2.ensures.local ∙ ap₂ with_rule three c.optional_number-2.ensures.rule) c.arg-4.ensures
+
+pub returns-clause-local : goal.returns-clause-local
+returns-clause-local c =
+    let bare : (fields_of c.after_help.result).has_globals ≡ false = search rules in
+    let one = stays_local _ _ _ c.in_ok-arg.ensures.globals bare c.number_option.ensures.local in
+    let two = stays_local _ _ _ c.in_ok-arg-2.ensures.globals one c.number_option-2.ensures.local in
+    let three = stays_local _ _ _ c.in_ok-arg-3.ensures.globals two c.optional_number.ensures.local in
+    IfOk-weaker c.arg-4.result _ _ (λ r h. stays_local _ _ _ h.globals three c.optional_number-2.ensures.local) c.arg-4.ensures

@@ -10,27 +10,33 @@ returns-in_err-limit c =
     let rows = rows_of (found_of c.args.options.now) in
     none_from c.from_residual.result (AsksToServeNothing rows) (AsksToServe rows) (search rules) (λ options asks. c.in_err-limit.ensures options.limit asks.0)
 
+pub returns-in_err-frame : goal.returns-in_err-frame
+returns-in_err-frame c =
+    let rows = rows_of (found_of c.args.options.now) in
+    none_from c.from_residual-in_err-frame.result (AsksToServeNothing rows) (AsksToServe rows) (search rules) (λ options asks. c.in_err-frame.ensures options.limit options.frame asks.1)
+
 pub returns-in_err-budget : goal.returns-in_err-budget
 returns-in_err-budget c =
     let rows = rows_of (found_of c.args.options.now) in
-    none_from c.from_residual-in_err-budget.result (AsksToServeNothing rows) (AsksToServe rows) (search rules) (λ options asks. c.in_err-budget.ensures options.budget asks.1)
+    none_from c.from_residual-in_err-budget.result (AsksToServeNothing rows) (AsksToServe rows) (search rules) (λ options asks. c.in_err-budget.ensures options.budget asks.2)
 
 pub returns-in_err-address : goal.returns-in_err-address
 returns-in_err-address c =
     let found = found_of c.args.options.now in
     let rows = rows_of found in
     let nothing : first_of (codes "address") rows ≡ None = sym (first_value-rows found (codes "address")) ∙ sym c.in_err-address.ensures in
-    none_from c.from_residual-in_err-address.result (AsksToServeNothing rows) (AsksToServe rows) (search rules) (λ options asks. no_word rows (codes "address") options.address.now nothing asks.2)
+    none_from c.from_residual-in_err-address.result (AsksToServeNothing rows) (AsksToServe rows) (search rules) (λ options asks. no_word rows (codes "address") options.address.now nothing asks.3)
 
 pub returns-in_err-count : goal.returns-in_err-count
 returns-in_err-count c =
     let rows = rows_of (found_of c.args.options.now) in
-    none_from c.from_residual-in_err-count.result (AsksToServeNothing rows) (AsksToServe rows) (search rules) (λ options asks. c.in_err-count.ensures options.count asks.3)
+    none_from c.from_residual-in_err-count.result (AsksToServeNothing rows) (AsksToServe rows) (search rules) (λ options asks. c.in_err-count.ensures options.count asks.4)
 
 pub returns : goal.returns
 returns c =
     let found = found_of c.args.options.now in (
       c.in_ok-limit.ensures,
+      c.in_ok-frame.ensures,
       c.in_ok-budget.ensures,
       sym (first_value-rows found (codes "address")) ∙ sym c.in_ok-address.ensures,
       c.in_ok-count.ensures,

@@ -1,8 +1,10 @@
-use Rattle.std.proofs.Common.{◌≡◌, ◌∙◌, ap, ap₂, codes}
+use Rattle.std.proofs.Common.{rules, ◌≡◌, ◌∙◌, ap, ap₂, codes, false}
 use Rattle.std.proofs.lemmas.Result.{IfOk-weaker}
 use Rattle.clap.specs.Words.{app_of, new_app, with_rule}
 use Rattle.clap.specs.Simple.{app_of_fields}
 use Rattle.wst_words.specs.Options.{end_rule}
+use Rattle.clap.specs.declared.builder.command.Command.TheViews.{out-Command as fields_of}
+use Rattle.wst_words.proofs.WordLemmas.{stays_local}
 use Rattle.wst_words.proofs.session.session_command.Goals as goal
 
 pub returns-clause-app : goal.returns-clause-app
@@ -11,4 +13,13 @@ returns-clause-app c =
     let role = c.end_option.ensures.rule in
     let one : app_of c.in_ok-arg.field-0 ≡ with_rule (new_app (codes "session")) (end_rule (codes "role") role.0) = c.in_ok-arg.ensures.shape c.end_option.ensures.local ∙ ap₂ with_rule texts role.1 in
     let two = c.in_ok-arg-2.ensures.shape c.number_option.ensures.local ∙ ap₂ with_rule one c.number_option.ensures.rule in
-    IfOk-weaker c.arg-3.result _ _ (λ r h. (role.0, h.shape c.flag_option.ensures.local ∙ ap₂ with_rule two c.flag_option.ensures.rule)) c.arg-3.ensures
+    let three = c.in_ok-arg-3.ensures.shape c.optional_number.ensures.local ∙ ap₂ with_rule two c.optional_number.ensures.rule in
+    IfOk-weaker c.arg-4.result _ _ (λ r h. (role.0, h.shape c.flag_option.ensures.local ∙ ap₂ with_rule three c.flag_option.ensures.rule)) c.arg-4.ensures
+
+pub returns-clause-local : goal.returns-clause-local
+returns-clause-local c =
+    let bare : (fields_of c.after_help.result).has_globals ≡ false = search rules in
+    let one = stays_local _ _ _ c.in_ok-arg.ensures.globals bare c.end_option.ensures.local in
+    let two = stays_local _ _ _ c.in_ok-arg-2.ensures.globals one c.number_option.ensures.local in
+    let three = stays_local _ _ _ c.in_ok-arg-3.ensures.globals two c.optional_number.ensures.local in
+    IfOk-weaker c.arg-4.result _ _ (λ r h. stays_local _ _ _ h.globals three c.flag_option.ensures.local) c.arg-4.ensures

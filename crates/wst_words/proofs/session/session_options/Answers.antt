@@ -14,7 +14,12 @@ returns-in_err-limit c =
     let rows = rows_of (found_of c.args.options.now) in
     none_from c.from_residual-in_err-limit.result (AsksForNoSession rows) (AsksForSession rows) (search rules) (λ options asks. c.in_err-limit.ensures options.limit asks.1)
 
+pub returns-in_err-frame : goal.returns-in_err-frame
+returns-in_err-frame c =
+    let rows = rows_of (found_of c.args.options.now) in
+    none_from c.from_residual-in_err-frame.result (AsksForNoSession rows) (AsksForSession rows) (search rules) (λ options asks. c.in_err-frame.ensures options.limit options.frame asks.2)
+
 pub returns-in_err-echo : goal.returns-in_err-echo
 returns-in_err-echo c =
     let rows = rows_of (found_of c.args.options.now) in
-    none_from c.from_residual-in_err-echo.result (AsksForNoSession rows) (AsksForSession rows) (search rules) (λ options asks. c.in_err-echo.ensures options.echo asks.2)
+    none_from c.from_residual-in_err-echo.result (AsksForNoSession rows) (AsksForSession rows) (search rules) (λ options asks. c.in_err-echo.ensures options.echo asks.3)
