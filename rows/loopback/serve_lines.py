@@ -3,7 +3,7 @@
 import socket
 
 from server import SECONDS, Server, run, start
-from wire import BAD_REQUEST, CLOSE, CLOSE_BACK, HELLO, HELLO_BACK, REQUEST, RESPONSE
+from wire import BAD_REQUEST, CLOSE, CLOSE_BACK, HELLO, HELLO_BACK, NAMES_CHAT, NAMES_SUPERCHAT, OFFERING, REQUEST, RESPONSE
 
 NO_ADDRESSES = ("127.0.0.1", "127.0.0.1:", "127.0.0.1:65536", "127.0.0.1:x", ":", "", "[::1]", "no.such.host.invalid:9")
 
@@ -69,6 +69,26 @@ def limits_that_a_server_cannot_have():
         assert run("serve", "--limit", limit, "127.0.0.1:1", "1") == (2, b"", b"bad limits\n"), limit
 
 
+def subprotocols():
+    for known, response in (
+        ("chat,superchat", NAMES_SUPERCHAT),
+        ("superchat,chat", NAMES_SUPERCHAT),
+        ("soap,chat", NAMES_CHAT),
+        ("soap", RESPONSE),
+    ):
+        server = Server(1, "--protocols", known)
+        client = server.client()
+        client.send(OFFERING, HELLO, CLOSE)
+        assert client.rest() == response + HELLO_BACK + CLOSE_BACK, known
+        server.ends("1 clean 1000")
+
+
+def a_bad_list_before_bad_limits():
+    for names in ("", "chat,chat", "a/b", "chat,"):
+        words = ("serve", "--limit", "0", "--protocols", names, "127.0.0.1:1", "1")
+        assert run(*words) == (2, b"", b"bad protocol list\n"), names
+
+
 def the_first_line_can_not_be_written():
     with open("/dev/full", "wb") as full:
         process = start("serve", "127.0.0.1:0", "1", stdout=full)
@@ -94,6 +114,8 @@ TESTS = [
     a_port_in_use,
     an_address_that_is_none,
     limits_that_a_server_cannot_have,
+    subprotocols,
+    a_bad_list_before_bad_limits,
     the_first_line_can_not_be_written,
     a_line_can_not_be_written,
 ]

@@ -3,7 +3,8 @@
 import socket
 
 from server import SECONDS, Tested, run
-from wire import BAD_REQUEST, CLOSE_BACK, EMPTY_BACK, EMPTY_TEXT, MASKED_CLOSE, RESPONSE, request_to
+from wire import BAD_REQUEST, CLOSE_BACK, EMPTY_BACK, EMPTY_TEXT, MASKED_CLOSE, NAMES_BOTH, NAMES_SOAP, NAMES_SUPERCHAT, RESPONSE
+from wire import request_to, with_line
 
 ONE_PASS = "1.1.1 PASS\n1 pass, 0 loose, 0 fail\n"
 CAPTURE = """wst-capture 2
@@ -71,6 +72,30 @@ def one_byte_a_packet_of_a_server():
     server.ends(ONE_PASS)
 
 
+def offers():
+    for answer in (NAMES_SUPERCHAT, RESPONSE):
+        server = Tested("--protocols=chat,superchat", "1.1.1")
+        client = server.next()
+        asked = with_line(request_to(server.address), b"Sec-WebSocket-Protocol: chat, superchat")
+        assert client.get(len(asked)) == asked
+        client.send(answer, EMPTY_BACK)
+        assert client.get(len(EMPTY_TEXT + MASKED_CLOSE)) == EMPTY_TEXT + MASKED_CLOSE
+        client.send(CLOSE_BACK)
+        client.close()
+        server.ends(ONE_PASS)
+
+
+def what_was_not_offered():
+    for words, answer in (
+        (("--protocols=chat,superchat", "1.1.1"), NAMES_SOAP),
+        (("--protocols=chat,superchat", "1.1.1"), NAMES_BOTH),
+        (("1.1.1",), NAMES_SUPERCHAT),
+    ):
+        server = Tested(*words)
+        server.next().send(answer)
+        server.ends("1.1.1 FAIL Head Protocol\n0 pass, 0 loose, 1 fail\n", status=1)
+
+
 def by_name():
     server = Tested("1.1.1", host="localhost")
     passes(server)
@@ -105,6 +130,7 @@ def no_address_to_test():
 
 def no_address_before_other_faults():
     for words, told in (
+        (("--protocols", "", "--key", "x", "a b", "1.1.1"), b"bad protocol list\n"),
         (("--key", "x", "a b", "1.1.1"), b"bad key\n"),
         (("a b", "0.0.0"), b"bad address\n"),
         (("--capture", "127.0.0.1:1"), b"--capture takes one case\n"),
@@ -126,6 +152,8 @@ TESTS = [
     a_connection_a_case,
     a_frame_in_the_packet_of_the_head,
     one_byte_a_packet_of_a_server,
+    offers,
+    what_was_not_offered,
     by_name,
     a_capture,
     a_capture_of_a_refused_head,

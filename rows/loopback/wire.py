@@ -47,3 +47,16 @@ EMPTY_BACK = b"\x81\x00"
 def request_to(address):
     """The request that a server at this address gets."""
     return REQUEST.replace(b"/chat", b"/").replace(b"server.example.com", address.encode())
+
+
+def with_line(head, line):
+    """A head with one more line before its empty line."""
+    return head[:-2] + line + b"\r\n\r\n"
+
+
+# A request that prefers superchat to chat, and the responses that name one of them (sections 1.3 and 1.9).
+OFFERING = with_line(REQUEST, b"Sec-WebSocket-Protocol: superchat, chat")
+NAMES_SUPERCHAT = with_line(RESPONSE, b"Sec-WebSocket-Protocol: superchat")
+NAMES_CHAT = with_line(RESPONSE, b"Sec-WebSocket-Protocol: chat")
+NAMES_SOAP = with_line(RESPONSE, b"Sec-WebSocket-Protocol: soap")
+NAMES_BOTH = with_line(RESPONSE, b"Sec-WebSocket-Protocol: superchat, chat")

@@ -14,7 +14,7 @@ fn a_head_that_is_too_large(rt: HostRuntime) -> Result<(), Fail> {
     input.resize(20000, b'a')?;
     let mut reader = Watched::new(Counting::new(rt.alloc(), input.as_slice()));
     let mut room = HeadRoom::new();
-    let end = read_head(&mut reader, &mut room, &RequestHead);
+    let end = read_head(&mut reader, &mut room, &RequestHead { known: &[] });
     let refused = match end {
         HeadEnd::Decided(RequestDecision::Refused(fault)) => fault == HeadFault::TooLarge,
         _ => false,

@@ -23,6 +23,8 @@ mod probe_faults;
 #[cfg(test)]
 mod probes;
 #[cfg(test)]
+mod protocols;
+#[cfg(test)]
 mod running;
 #[cfg(test)]
 mod runs;

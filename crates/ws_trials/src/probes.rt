@@ -15,14 +15,14 @@ use ws_base::Sequence;
 use ws_frame::Watched;
 use ws_frame::devices::{ByteReader, Failing};
 use ws_suite::{Case, Chop, Ended, Verdict, case, judge};
-use ws_upgrade::{HeadFault, request};
+use ws_upgrade::{HeadFault, request_with};
 use wst_commands::{Probe, probe};
 
 /// The host that is asked.
-const HOST: &[u8] = b"localhost:9001";
+pub const HOST: &[u8] = b"localhost:9001";
 
 /// The nonce of each probe.
-const NONCE: [u8; 16] = *b"the sample nonce";
+pub const NONCE: [u8; 16] = *b"the sample nonce";
 
 /// The key of each frame.
 const KEY: [u8; 4] = [0x37, 0xfa, 0x21, 0x3d];
@@ -32,7 +32,7 @@ pub const RESPONSE: &[u8] =
     b"HTTP/1.1 101 Switching Protocols\r\nUpgrade: websocket\r\nConnection: Upgrade\r\n\
     Sec-WebSocket-Accept: s3pPLMBiTxaQ9kYGzzhZRbK+xOo=\r\n\r\n";
 
-/// Runs a case of the tables.
+/// Runs a case of the tables, without offers.
 pub fn run_case<R: Read, W: Write>(
     alloc: Global,
     id: &str,
@@ -42,10 +42,24 @@ pub fn run_case<R: Read, W: Write>(
     requires reader_works { has_failed reader.old ≡ false }
     requires writer_works { has_failed writer.old ≡ false }
 {
+    run_case_with(alloc, id, &[], reader, writer)
+}
+
+/// Runs a case of the tables, and offers these subprotocols.
+pub fn run_case_with<R: Read, W: Write>(
+    alloc: Global,
+    id: &str,
+    offers: &[&[u8]],
+    reader: &mut Watched<R>,
+    writer: &mut Watched<W>,
+) -> Result<Option<Probe>, Fail>
+    requires reader_works { has_failed reader.old ≡ false }
+    requires writer_works { has_failed writer.old ≡ false }
+{
     // What is asked of this host can be asked.
-    let _text = request(alloc, HOST, b"/", NONCE)?;
+    let _text = request_with(alloc, HOST, b"/", NONCE, offers)?;
     match case(alloc, id)? {
-        Some(case) => Ok(Some(probe(alloc, &case, HOST, reader, writer, KEY)?)),
+        Some(case) => Ok(Some(probe(alloc, &case, HOST, reader, writer, KEY, offers)?)),
         None => Ok(None),
     }
 }
@@ -211,12 +225,12 @@ fn no_steps(alloc: Global) -> Case
 /// A script without turns sends nothing behind the request; what came with the head is a turn, if it is anything.
 #[test]
 fn a_script_without_turns(rt: HostRuntime) -> Result<(), Fail> {
-    let _text = request(rt.alloc(), HOST, b"/", NONCE)?;
+    let _text = request_with(rt.alloc(), HOST, b"/", NONCE, &[])?;
     let case = no_steps(rt.alloc());
     let answer = answer(rt.alloc(), 8)?;
     let mut reader = Watched::new(answer.as_slice());
     let mut writer = Watched::new(Vec::new(rt.alloc()));
-    let ran = probe(rt.alloc(), &case, HOST, &mut reader, &mut writer, KEY)?;
+    let ran = probe(rt.alloc(), &case, HOST, &mut reader, &mut writer, KEY, &[])?;
     let after = after_run(rt.alloc(), Some(ran))?;
     same_answer(&rt, 0, ended_so(&after, Some(Ended::Tester)), true);
     same_number(&rt, 1, after.turns, 1);
@@ -228,12 +242,12 @@ fn a_script_without_turns(rt: HostRuntime) -> Result<(), Fail> {
 /// Where the bytes behind the head come later, they are not read.
 #[test]
 fn a_script_without_turns_reads_no_further(rt: HostRuntime) -> Result<(), Fail> {
-    let _text = request(rt.alloc(), HOST, b"/", NONCE)?;
+    let _text = request_with(rt.alloc(), HOST, b"/", NONCE, &[])?;
     let case = no_steps(rt.alloc());
     let answer = answer(rt.alloc(), 8)?;
     let mut reader = Watched::new(ByteReader::new(answer.as_slice(), Failing::Never));
     let mut writer = Watched::new(Vec::new(rt.alloc()));
-    let ran = probe(rt.alloc(), &case, HOST, &mut reader, &mut writer, KEY)?;
+    let ran = probe(rt.alloc(), &case, HOST, &mut reader, &mut writer, KEY, &[])?;
     let after = after_run(rt.alloc(), Some(ran))?;
     same_answer(&rt, 0, ended_so(&after, Some(Ended::Tester)), true);
     same_number(&rt, 1, after.turns, 0);

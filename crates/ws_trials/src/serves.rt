@@ -54,7 +54,7 @@ pub fn after_bytes(
 ) -> After {
     let mut reader = Watched::new(ByteReader::new(stream, reads));
     let mut writer = Watched::new(ByteWriter::new(alloc, writes));
-    let served = serve_one(alloc, &mut reader, &mut writer, limits(), budget);
+    let served = serve_one(alloc, &mut reader, &mut writer, limits(), budget, &[]);
     After {
         served,
         written: writer.into_inner().taken,
@@ -65,7 +65,7 @@ pub fn after_bytes(
 fn after_whole(alloc: Global, stream: &[u8], budget: u64) -> After {
     let mut reader = Watched::new(stream);
     let mut writer = Watched::new(Vec::new(alloc));
-    let served = serve_one(alloc, &mut reader, &mut writer, limits(), budget);
+    let served = serve_one(alloc, &mut reader, &mut writer, limits(), budget, &[]);
     After {
         served,
         written: writer.into_inner(),

@@ -16,7 +16,7 @@ fn serve_next(alloc: Global, listener: &TcpListener) -> io::Result<Served> {
     let (stream, _) = listener.accept()?;
     let mut reader = Watched::new(&stream);
     let mut writer = Watched::new(&stream);
-    Ok(serve_one(alloc, &mut reader, &mut writer, limits(), BUDGET))
+    Ok(serve_one(alloc, &mut reader, &mut writer, limits(), BUDGET, &[]))
 }
 
 /// The client has sent all before the server takes its connection, and reads once the server has closed it.

@@ -34,7 +34,7 @@ fn each_write_fails_for_good(rt: HostRuntime) {
 fn after_full(alloc: Global, stream: &[u8], room: usize) -> After {
     let mut reader = Watched::new(ByteReader::new(stream, Failing::Never));
     let mut writer = Watched::new(FullWriter::new(alloc, room));
-    let served = serve_one(alloc, &mut reader, &mut writer, limits(), BUDGET);
+    let served = serve_one(alloc, &mut reader, &mut writer, limits(), BUDGET, &[]);
     After {
         served,
         written: writer.into_inner().taken,

@@ -90,7 +90,15 @@ fn serve_client(alloc: Global, stream: &TcpStream, plan: &ServePlan<'_>) -> Serv
     let _ = stream.set_nodelay(true);
     let mut reader = Watched::new(stream);
     let mut writer = Watched::new(stream);
-    serve_one(alloc, &mut reader, &mut writer, plan.limits, plan.budget)
+    let protocols = plan.protocols.as_slice();
+    serve_one(
+        alloc,
+        &mut reader,
+        &mut writer,
+        plan.limits,
+        plan.budget,
+        protocols,
+    )
 }
 
 /// Ends a connection from this side, and reads what still comes, until its end or enough reads. A read that waits in

@@ -15,7 +15,7 @@ use Rattle.wst_commands.specs.declared.test.TestPlan.{TestPlan}
 pub server_works : {Asks : Task → Type 0} (plan : ServePlan) (input output faults : Device) → ((task : Task) × Asks task × RunsTask task (ran.Serve plan) input output faults) ⊎ ⊥ → output.failed ≡ false
 server_works plan input output faults (inl (Show options, asks, (ended, does, bad))) = absurd bad
 server_works plan input output faults (inl (Pair options, asks, (ended, does, bad))) = absurd bad
-server_works plan input output faults (inl (Head, asks, (ended, does, bad))) = absurd bad
+server_works plan input output faults (inl (Head options, asks, (ended, does, bad))) = absurd bad
 server_works plan input output faults (inl (Session options, asks, (ended, does, bad))) = absurd bad
 server_works plan input output faults (inl (Judge, asks, (ended, does, bad))) = absurd bad
 server_works plan input output faults (inl (Convert, asks, (ended, does, bad))) = absurd bad
@@ -29,7 +29,7 @@ pub cases_can_run : {Asks : Task → Type 0} (host : Bor (List ℕ)) (plan : Tes
     → (output.failed ≡ false) × CanBeTested plan × IsHost host.now
 cases_can_run host plan input output faults (inl (Show options, asks, (ended, does, bad))) = absurd bad
 cases_can_run host plan input output faults (inl (Pair options, asks, (ended, does, bad))) = absurd bad
-cases_can_run host plan input output faults (inl (Head, asks, (ended, does, bad))) = absurd bad
+cases_can_run host plan input output faults (inl (Head options, asks, (ended, does, bad))) = absurd bad
 cases_can_run host plan input output faults (inl (Session options, asks, (ended, does, bad))) = absurd bad
 cases_can_run host plan input output faults (inl (Judge, asks, (ended, does, bad))) = absurd bad
 cases_can_run host plan input output faults (inl (Convert, asks, (ended, does, bad))) = absurd bad

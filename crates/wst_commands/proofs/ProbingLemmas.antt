@@ -277,9 +277,9 @@ pub behind_of : (items none room all : List ℕ) (used : ℕ) → items ≡ none
 behind_of items none room all used is e same = is ∙ ap (λ (l : List ℕ). l ++ take (length room - used) (drop used room)) e ∙ take_rest room used ∙ ap (λ (l : List ℕ). drop used l) same
 
 -- the head was read to b, and the script run from there
-pub runs_after : {protocol : Option ℕ} (turns : List (List ℕ)) (transcript : Transcript) (head first : List ℕ) (used : ℕ) (f g : Bool) (a b c : Option (List ℕ)) (output : Device) → ReadsHead (NeedsResponse probe_nonce) (DecidesResponse probe_nonce) (Decided (Accepted used protocol)) head (device f a b)
-    → first ≡ drop used head → Records turns first transcript (device g b c) output → AnswersProbe turns (Ran transcript) (device g a c) output
-runs_after {protocol} turns transcript head first used f g a b c output (read, bound, no_further, (decides, works)) behind r = record {
+pub runs_after : {protocol : Option ℕ} (turns offers : List (List ℕ)) (transcript : Transcript) (head first : List ℕ) (used : ℕ) (f g : Bool) (a b c : Option (List ℕ)) (output : Device) → ReadsHead (NeedsResponse probe_nonce offers) (DecidesResponse probe_nonce offers) (Decided (Accepted used protocol)) head (device f a b)
+    → first ≡ drop used head → Records turns first transcript (device g b c) output → AnswersProbe turns offers (Ran transcript) (device g a c) output
+runs_after {protocol} turns offers transcript head first used f g a b c output (read, bound, no_further, (decides, works)) behind r = record {
   head = head;
   used = used;
   protocol = protocol;
@@ -300,9 +300,9 @@ runs_after {protocol} turns transcript head first used f g a b c output (read, b
     ends_same (inl e) = inl (record { none = e.none; ended = e.ended; recorded = e.recorded; works = e.works })
     ends_same (inr e) = inr (record { with_head = e.with_head; before = e.before; last = e.last; recorded = e.recorded; bytes = e.bytes; others = e.others; sent = e.sent; ends = ended_same transcript.ended e.bytes e.last.sent e.ends })
 
-pub refused_after : (turns : List (List ℕ)) (head : List ℕ) (fault : HeadFault) (input output : Device) → ReadsHead (NeedsResponse probe_nonce) (DecidesResponse probe_nonce) (Decided (RefusedHead fault)) head input → Keeps output.old output.new → output.failed ≡ false
-    → AnswersProbe turns (Refused fault) input output
-refused_after turns head fault input output (read, bound, no_further, (decides, works)) kept fine =
+pub refused_after : (turns offers : List (List ℕ)) (head : List ℕ) (fault : HeadFault) (input output : Device) → ReadsHead (NeedsResponse probe_nonce offers) (DecidesResponse probe_nonce offers) (Decided (RefusedHead fault)) head input → Keeps output.old output.new → output.failed ≡ false
+    → AnswersProbe turns offers (Refused fault) input output
+refused_after turns offers head fault input output (read, bound, no_further, (decides, works)) kept fine =
     (head, record { decides = decides; bound = bound; no_further = no_further }, read, kept, (works, fine))
 
 -- ---- the request
@@ -315,9 +315,9 @@ bytes_are chop key (steps ∷ turns) [] h = absurd h
 bytes_are chop key (steps ∷ turns) (pieces ∷ script) (is, h) = ap (λ (l : List ℕ). l ∷ bytes_of script) is.joined ∙ ap (λ (l : List (List ℕ)). turn_bytes key steps ∷ l) (bytes_are chop key turns script h)
 
 -- after the request, which was written to q
-pub probes : (case : Case) (key host text : List ℕ) (probe : Probe) (input : Device) (g : Bool) (p q r : Option (List ℕ)) → text ≡ request_to host → Appends p q text → AnswersProbe (bytes_by_turn case key) probe input (device g q r)
-    → Probes case key host probe input (device g p r)
-probes case key host text (Ran transcript) input g p q r is wrote run = record {
+pub probes : (case : Case) (key host : List ℕ) (offers : List (List ℕ)) (text : List ℕ) (probe : Probe) (input : Device) (g : Bool) (p q r : Option (List ℕ)) → text ≡ request_to host offers → Appends p q text → AnswersProbe (bytes_by_turn case key) offers probe input (device g q r)
+    → Probes case key host offers probe input (device g p r)
+probes case key host offers text (Ran transcript) input g p q r is wrote run = record {
   head = run.head;
   used = run.used;
   protocol = run.protocol;
@@ -337,7 +337,7 @@ probes case key host text (Ran transcript) input g p q r is wrote run = record {
     ends_same : EndsScript (bytes_by_turn case key) (drop run.used run.head) transcript input (device g q r) → EndsScript (bytes_by_turn case key) (drop run.used run.head) transcript input (device g p r)
     ends_same (inl e) = inl (record { none = e.none; ended = e.ended; recorded = e.recorded; works = e.works })
     ends_same (inr e) = inr (record { with_head = e.with_head; before = e.before; last = e.last; recorded = e.recorded; bytes = e.bytes; others = e.others; sent = e.sent; ends = ended_same transcript.ended e.bytes e.last.sent e.ends })
-probes case key host text (Refused fault) input g p q r is wrote (head, is_head, read, kept, works) =
+probes case key host offers text (Refused fault) input g p q r is wrote (head, is_head, read, kept, works) =
     (head, is_head, read, subst (λ (l : List ℕ). Appends p r l) is (Appends-kept p q r text wrote kept), works)
-probes case key host text NoConnection input g p q r is wrote (kept, fine, stops) =
+probes case key host offers text NoConnection input g p q r is wrote (kept, fine, stops) =
     inr (subst (λ (l : List ℕ). Appends p r l) is (Appends-kept p q r text wrote kept), fine, stops)

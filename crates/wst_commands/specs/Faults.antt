@@ -7,8 +7,8 @@ use Rattle.wst_commands.specs.Devices.{Tells}
 use Rattle.wst_commands.specs.declared.exit.Exit.{Exit}
 use Rattle.wst_commands.specs.declared.exit.Exit.TheVariants.{Damaged, Failed, WrongWords}
 use Rattle.wst_commands.specs.declared.fault.Fault.{Fault}
-use Rattle.wst_commands.specs.declared.fault.Fault.TheVariants.{BadLimits, HeadIsCut, NotACall, NotACapture, NotAMove}
-use Rattle.wst_commands.specs.declared.fault.Fault.TheVariants.{NoCase, NoText, NoTask, NoMemory}
+use Rattle.wst_commands.specs.declared.fault.Fault.TheVariants.{BadLimits, BadProtocols, HeadIsCut, NotACall}
+use Rattle.wst_commands.specs.declared.fault.Fault.TheVariants.{NotACapture, NotAMove, NoCase, NoText, NoTask, NoMemory}
 
 -- memory ran out, and that is told
 abbrev pub LacksMemory : Exit → Device → Type 0
@@ -25,6 +25,7 @@ TellsLine number what exit faults =
 
 abbrev pub TellsFault : Fault → Exit → Device → Type 0
 TellsFault BadLimits exit faults = (exit ≡ WrongWords) × Tells (codes "bad limits\n") faults
+TellsFault BadProtocols exit faults = (exit ≡ WrongWords) × Tells (codes "bad protocol list\n") faults
 TellsFault HeadIsCut exit faults = (exit ≡ Damaged) × Tells (codes "head is cut\n") faults
 TellsFault (NotAMove number) exit faults = TellsLine number (codes "not a move") exit faults
 TellsFault (NotACall number) exit faults = TellsLine number (codes "not a call") exit faults

@@ -4,6 +4,7 @@ pub mod Faults
 pub mod Limits
 pub mod ReadingWhole
 pub mod ReadingHeads
+pub mod Protocols
 pub mod Requests
 pub mod Responses
 pub mod Probing

@@ -71,10 +71,11 @@ pub record Records (turns : List (List ℕ)) (first : List ℕ) (transcript : Tr
   pub has_written : HasWritten (all_sent transcript.turns) output
   pub ends : EndsScript turns first transcript input output
 
--- what came of a connection, once the request was written
-abbrev pub AnswersProbe : List (List ℕ) → Probe → Device → Device → Type 0
-AnswersProbe turns (Ran transcript) input output = RunsScript turns [] transcript input output
-AnswersProbe turns (Refused fault) input output = (head : List ℕ) × ReadsResponse head (RefusedHead fault)
+-- what came of a connection, once the request with these offers was written
+abbrev pub AnswersProbe : List (List ℕ) → List (List ℕ) → Probe → Device → Device → Type 0
+AnswersProbe turns offers (Ran transcript) input output = RunsScript turns offers [] transcript input output
+AnswersProbe turns offers (Refused fault) input output = (head : List ℕ)
+    × ReadsResponse offers head (RefusedHead fault)
     × HasRead head input × IsUntouched output × HaveWorked input output
-AnswersProbe turns NoConnection input output =
-    IsUntouched output × (output.failed ≡ false) × StopsInResponse input
+AnswersProbe turns offers NoConnection input output =
+    IsUntouched output × (output.failed ≡ false) × StopsInResponse offers input

@@ -4,7 +4,8 @@ use Rattle.std.specs.Prelude.{◌≡◌, ℕ, ◌≤◌, ◌⊎◌, true, false,
 use Rattle.std.specs.List.{concat}
 use Rattle.std.specs.Io.KnownBytes.{IsAtEnd}
 use Rattle.ws_frame.specs.Devices.{Device, HasBegun, HasRead, HasWritten, IsUntouched}
-use Rattle.ws_upgrade.specs.Texts.{request_bytes}
+use Rattle.ws_upgrade.specs.Accept.{key_of}
+use Rattle.ws_upgrade.specs.Texts.{request_text}
 use Rattle.ws_suite.specs.declared.script.Case.{Case}
 use Rattle.ws_suite.specs.declared.transcript.Ended.{Ended}
 use Rattle.ws_suite.specs.declared.transcript.Ended.TheVariants.{Tester, Peer, Broken}
@@ -88,43 +89,45 @@ EndsScript turns first transcript input output =
 abbrev pub probe_nonce : List ℕ
 probe_nonce = codes "the sample nonce"
 
--- the request that is sent to a host: it asks for an upgrade at `/`
-abbrev pub request_to : List ℕ → List ℕ
-request_to host = request_bytes host (codes "/") probe_nonce
+-- the request that is sent to a host: it asks for an upgrade at `/`, and offers these subprotocols
+abbrev pub request_to : List ℕ → List (List ℕ) → List ℕ
+request_to host offers = request_text host (codes "/") (key_of probe_nonce) offers
 
--- these bytes were read for the head of the answer, and decide so: at most 8192, and at most 1024 behind bytes that
--- need more
-pub record ReadsResponse (head : List ℕ) (decision : ResponseDecision) : Type 0 where
-  pub decides : DecidesResponse probe_nonce head decision
+-- these bytes were read for the head of the answer to such offers, and decide so: at most 8192, and at most 1024 behind
+-- bytes that need more
+pub record ReadsResponse (offers : List (List ℕ)) (head : List ℕ) (decision : ResponseDecision) : Type 0 where
+  pub decides : DecidesResponse probe_nonce offers head decision
   pub bound : length head ≤ 8192
-  pub no_further : ReadsNoFurther (NeedsResponse probe_nonce) head
+  pub no_further : ReadsNoFurther (NeedsResponse probe_nonce offers) head
 
 -- the reader was at its end inside the head of the answer, or a read failed there
-abbrev pub StopsInResponse : Device → Type 0
-StopsInResponse input = (head : List ℕ)
-    × (ReadsHead (NeedsResponse probe_nonce) (DecidesResponse probe_nonce) Cut head input
-    ⊎ ReadsHead (NeedsResponse probe_nonce) (DecidesResponse probe_nonce) ReadFault head input)
+abbrev pub StopsInResponse : List (List ℕ) → Device → Type 0
+StopsInResponse offers input = (head : List ℕ)
+    × (ReadsHead (NeedsResponse probe_nonce offers) (DecidesResponse probe_nonce offers) Cut head input
+    ⊎ ReadsHead (NeedsResponse probe_nonce offers) (DecidesResponse probe_nonce offers) ReadFault head input)
 
--- The request was accepted, and a script run whose turns have these bytes. After the request, `request`, just the bytes
--- that the turns sent were written, and just those that they got were read behind the head.
-pub record RunsScript (turns : List (List ℕ)) (request : List ℕ) (transcript : Transcript)
+-- The request was accepted, which has these offers, and a script run whose turns have these bytes. After the request,
+-- `request`, just the bytes that the turns sent were written, and just those that they got were read behind the head.
+pub record RunsScript (turns offers : List (List ℕ)) (request : List ℕ) (transcript : Transcript)
     (input output : Device) : Type 0 where
   pub head : List ℕ
   pub used : ℕ
   pub protocol : Option ℕ
-  pub is_head : ReadsResponse head (Accepted used protocol)
+  pub is_head : ReadsResponse offers head (Accepted used protocol)
   pub read : List ℕ
   pub has_read : HasRead (head ++ read) input
   pub got : all_got transcript.turns ≡ drop used head ++ read
   pub has_written : HasWritten (request ++ all_sent transcript.turns) output
   pub ends : EndsScript turns (drop used head) transcript input output
 
--- what came of a connection to this host, over which this script was to be run
-abbrev pub Probes : Case → List ℕ → List ℕ → Probe → Device → Device → Type 0
-Probes case key host (Ran transcript) input output =
-    RunsScript (bytes_by_turn case key) (request_to host) transcript input output
-Probes case key host (Refused fault) input output = (head : List ℕ) × ReadsResponse head (RefusedHead fault)
-    × HasRead head input × HasWritten (request_to host) output × HaveWorked input output
-Probes case key host NoConnection input output =
-    ((output.failed ≡ true) × HasBegun (request_to host) output × IsUntouched input × (input.failed ≡ false))
-    ⊎ (HasWritten (request_to host) output × (output.failed ≡ false) × StopsInResponse input)
+-- what came of a connection to this host, to which these subprotocols were offered and over which this script was to be
+-- run
+abbrev pub Probes : Case → List ℕ → List ℕ → List (List ℕ) → Probe → Device → Device → Type 0
+Probes case key host offers (Ran transcript) input output =
+    RunsScript (bytes_by_turn case key) offers (request_to host offers) transcript input output
+Probes case key host offers (Refused fault) input output = (head : List ℕ)
+    × ReadsResponse offers head (RefusedHead fault)
+    × HasRead head input × HasWritten (request_to host offers) output × HaveWorked input output
+Probes case key host offers NoConnection input output =
+    ((output.failed ≡ true) × HasBegun (request_to host offers) output × IsUntouched input × (input.failed ≡ false))
+    ⊎ (HasWritten (request_to host offers) output × (output.failed ≡ false) × StopsInResponse offers input)

@@ -41,7 +41,7 @@ EndsBy Does ran faults = (ended : Result Exit Fault) × Does ended × EndsRun en
 abbrev pub RunsTask : Task → Ran → Device → Device → Device → Type 0
 RunsTask (Show options) ran input output faults = EndsBy (λ ended. RunsShow options ended input output) ran faults
 RunsTask (Pair options) ran input output faults = EndsBy (λ ended. RunsPair options ended input output) ran faults
-RunsTask Head ran input output faults = EndsBy (λ ended. RunsHead ended input output) ran faults
+RunsTask (Head options) ran input output faults = EndsBy (λ ended. RunsHead options ended input output) ran faults
 RunsTask (Session options) ran input output faults = EndsBy (λ ended. RunsSession options ended input output) ran faults
 RunsTask Judge ran input output faults = EndsBy (λ ended. RunsJudge ended input output) ran faults
 RunsTask Convert ran input output faults = EndsBy (λ ended. RunsConvert ended input output) ran faults

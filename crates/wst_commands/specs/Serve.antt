@@ -5,13 +5,16 @@ use Rattle.std.specs.Fmt.{decimal}
 use Rattle.ws_frame.specs.Devices.{Device, HasBegun, HasWritten, IsUntouched}
 use Rattle.ws_session.specs.Limits.{AreLimits}
 use Rattle.ws_session.specs.Words.{status_words}
+use Rattle.ws_upgrade.specs.Protocols.{AreOffers}
 use Rattle.ws_upgrade.specs.Words.{head_fault_name}
 use Rattle.wst_words.specs.declared.serve.ServeOptions.{ServeOptions}
 use Rattle.wst_commands.specs.Faults.{LacksMemory, TellsFault}
 use Rattle.wst_commands.specs.Limits.{limits_of}
+use Rattle.wst_commands.specs.Protocols.{protocols_given}
 use Rattle.wst_commands.specs.declared.exit.Exit.{Exit}
 use Rattle.wst_commands.specs.declared.exit.Exit.TheVariants.{Done, Failed}
-use Rattle.wst_commands.specs.declared.fault.Fault.TheVariants.{BadLimits}
+use Rattle.wst_commands.specs.declared.fault.Fault.{Fault}
+use Rattle.wst_commands.specs.declared.fault.Fault.TheVariants.{BadLimits, BadProtocols, NoMemory}
 use Rattle.wst_commands.specs.declared.running.Ran.{Ran}
 use Rattle.wst_commands.specs.declared.running.Ran.TheVariants as ran
 use Rattle.wst_commands.specs.declared.serve.ServePlan.{ServePlan}
@@ -20,15 +23,21 @@ use Rattle.wst_commands.specs.declared.serving.Served.TheVariants.{Ended, Refuse
 
 -- ---- what is asked for
 
--- this server: its limits are those of the words, which an endpoint can have, and the rest is as it was given
+-- this server: its limits are those of the words, which an endpoint can have, it knows the subprotocols that are given,
+-- which can be offered, and the rest is as it was given
 abbrev pub IsServePlan : ServeOptions → ServePlan → Type 0
 IsServePlan options plan =
     (AreLimits (limits_of options.limit options.frame) × (plan.limits ≡ limits_of options.limit options.frame))
     × (plan.budget ≡ options.budget) × (plan.address ≡ options.address) × (plan.count ≡ options.count)
+    × (AreOffers (protocols_given options.protocols) × (plan.protocols ≡ protocols_given options.protocols))
 
--- one with limits that no endpoint can have
-abbrev pub CanNotServe : ServeOptions → Type 0
-CanNotServe options = ¬ (AreLimits (limits_of options.limit options.frame))
+-- Why there is none, the first of these that applies: the names that are given can't be offered; no endpoint can have
+-- the limits. Or memory ran out for the names.
+abbrev pub CanNotServe : ServeOptions → Fault → Type 0
+CanNotServe options BadProtocols = ¬ (AreOffers (protocols_given options.protocols))
+CanNotServe options BadLimits =
+    AreOffers (protocols_given options.protocols) × ¬ (AreLimits (limits_of options.limit options.frame))
+CanNotServe options fault = fault ≡ NoMemory
 
 -- ---- what is told
 
@@ -60,8 +69,8 @@ TellsLineOf line exit output faults =
 
 -- ---- a run
 
--- what is to be served is handed back, and nothing was told; or it is told that the limits are none
+-- what is to be served is handed back, and nothing was told; or it is told why there is nothing to serve
 abbrev pub RunsServe : ServeOptions → Ran → Device → Type 0
-RunsServe options (ran.Ended exit) faults = CanNotServe options × TellsFault BadLimits exit faults
+RunsServe options (ran.Ended exit) faults = (fault : Fault) × CanNotServe options fault × TellsFault fault exit faults
 RunsServe options (ran.Serve plan) faults = IsServePlan options plan × IsUntouched faults
 RunsServe options _ faults = ⊥

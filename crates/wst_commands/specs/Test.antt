@@ -8,11 +8,13 @@ use Rattle.ws_base.specs.Words.{IsKeyWord}
 use Rattle.ws_frame.specs.Devices.{Device, IsUntouched}
 use Rattle.ws_suite.specs.Scripts.{CanBeRun}
 use Rattle.ws_suite.specs.declared.script.Case.{Case}
+use Rattle.ws_upgrade.specs.Protocols.{AreOffers}
 use Rattle.ws_upgrade.specs.Texts.{IsHost}
 use Rattle.wst_words.specs.declared.test.TestOptions.{TestOptions}
 use Rattle.wst_commands.specs.Cases.{IsNoList}
 use Rattle.wst_commands.specs.Devices.{Tells}
 use Rattle.wst_commands.specs.Faults.{Ends, LacksMemory, TellsFault}
+use Rattle.wst_commands.specs.Protocols.{protocols_given}
 use Rattle.wst_commands.specs.Servers.{MeetsInMemory}
 use Rattle.wst_commands.specs.Testing.{CapturesCase, TestsCases}
 use Rattle.wst_commands.specs.declared.case_server.MemoryServer.TheVariants.{Own, Tung}
@@ -47,6 +49,10 @@ HasTarget options = (target : Target) × IsTargetOf options.target.now target
 abbrev pub HasKey : TestOptions → Type 0
 HasKey options = (key : List ℕ) × IsKeyWord key options.key.now
 
+-- the names that are given can be offered
+abbrev pub HasOffers : TestOptions → Type 0
+HasOffers options = AreOffers (protocols_given options.protocols)
+
 -- a capture is of one case
 abbrev pub CanCapture : TestOptions → Type 0
 CanCapture options = options.capture ≡ true → length options.ids.items ≡ 1
@@ -66,6 +72,8 @@ AreCasesFor (id ∷ ids) cases = AreCasesOf (names_of (id ∷ ids)) cases
 
 -- the words ask for this
 pub record IsPlan (options : TestOptions) (plan : TestPlan) : Type 0 where
+  pub has_offers : HasOffers options
+  pub protocols : plan.protocols ≡ protocols_given options.protocols
   pub key : IsKeyWord plan.key options.key.now
   pub target : IsTargetOf options.target.now plan.target
   pub capture : plan.capture ≡ options.capture
@@ -91,15 +99,17 @@ RefusesNames ids (refusal.NoSuchCase id) = (n : ℕ) × (before : List Case) × 
 RefusesNames ids (refusal.Fault fault) = IsNoList fault
 RefusesNames ids _ = ⊥
 
--- The first of these that applies: the key is none; the target is none; a capture is not of one case; a name has no
--- case. Which names have one is said by no definition.
+-- The first of these that applies: the names that are given can't be offered; the key is none; the target is none; a
+-- capture is not of one case; a name has no case. Which names have one is said by no definition.
 abbrev pub RefusesTest : TestOptions → TestRefusal → Type 0
-RefusesTest options refusal.BadKey = (key : List ℕ) → ¬ (IsKeyWord key options.key.now)
-RefusesTest options refusal.BadAddress = HasKey options × RefusesTarget options.target.now refusal.BadAddress
-RefusesTest options refusal.NotOneCase = HasKey options × HasTarget options × ¬ (CanCapture options)
-RefusesTest options (refusal.NoSuchCase id) =
-    HasKey options × HasTarget options × CanCapture options × RefusesNames options.ids.items (refusal.NoSuchCase id)
-RefusesTest options (refusal.Fault fault) = HasKey options × IsNoList fault
+RefusesTest options refusal.BadProtocols = ¬ (HasOffers options)
+RefusesTest options refusal.BadKey = HasOffers options × ((key : List ℕ) → ¬ (IsKeyWord key options.key.now))
+RefusesTest options refusal.BadAddress =
+    HasOffers options × HasKey options × RefusesTarget options.target.now refusal.BadAddress
+RefusesTest options refusal.NotOneCase = HasOffers options × HasKey options × HasTarget options × ¬ (CanCapture options)
+RefusesTest options (refusal.NoSuchCase id) = HasOffers options × HasKey options × HasTarget options
+    × CanCapture options × RefusesNames options.ids.items (refusal.NoSuchCase id)
+RefusesTest options (refusal.Fault fault) = (fault ≡ NoMemory) ⊎ (HasOffers options × HasKey options × IsNoList fault)
 
 -- ---- what is told
 
@@ -109,6 +119,7 @@ no_case_line id = concat (codes "no such case: " ∷ id ∷ codes "\n" ∷ [])
 
 -- what is told of a refusal, and the exit
 abbrev pub TellsRefusal : TestRefusal → Exit → Device → Type 0
+TellsRefusal refusal.BadProtocols exit faults = (exit ≡ WrongWords) × Tells (codes "bad protocol list\n") faults
 TellsRefusal refusal.BadKey exit faults = (exit ≡ WrongWords) × Tells (codes "bad key\n") faults
 TellsRefusal refusal.BadAddress exit faults = (exit ≡ WrongWords) × Tells (codes "bad address\n") faults
 TellsRefusal refusal.NotOneCase exit faults = (exit ≡ WrongWords) × Tells (codes "--capture takes one case\n") faults

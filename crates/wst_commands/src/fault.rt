@@ -17,6 +17,8 @@ use ws_frame::Watched;
 pub enum Fault {
     /// A limit that no end can have.
     BadLimits,
+    /// Names that can't be offered as subprotocols.
+    BadProtocols,
     /// The input ends inside a head, or is empty.
     HeadIsCut,
     /// The first line that is damaged in a script of moves, counted from 1.
@@ -70,6 +72,10 @@ pub fn tell_fault<F: Write>(alloc: Global, fault: Fault, faults: &mut Watched<F>
     match fault {
         Fault::BadLimits => {
             tell(b"bad limits\n", faults);
+            Exit::WrongWords
+        }
+        Fault::BadProtocols => {
+            tell(b"bad protocol list\n", faults);
             Exit::WrongWords
         }
         Fault::HeadIsCut => {

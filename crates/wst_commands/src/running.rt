@@ -84,7 +84,7 @@ fn run_task<'a, R: Read, W: Write, F: Write>(
     match task {
         Task::Show(options) => end_with(alloc, run_show(options, reader, writer), faults),
         Task::Pair(options) => end_with(alloc, run_moves(alloc, options, reader, writer), faults),
-        Task::Head => end_with(alloc, run_head(alloc, reader, writer), faults),
+        Task::Head(options) => end_with(alloc, run_head(alloc, options, reader, writer), faults),
         Task::Session(options) => {
             end_with(alloc, run_session(alloc, options, reader, writer), faults)
         }
@@ -107,7 +107,7 @@ fn end_with<'a, F: Write>(
     Ran::Ended(end_run(alloc, ended, faults))
 }
 
-/// Hands back what is to be served, or tells that no endpoint can have the limit.
+/// Hands back what is to be served, or tells why there is nothing to serve.
 fn run_serve<'a, F: Write>(
     alloc: Global,
     options: ServeOptions<'a>,
@@ -115,9 +115,9 @@ fn run_serve<'a, F: Write>(
 ) -> Ran<'a>
     ensures { RunsServe options.entry result (watched F.contents faults.old faults.new) }
 {
-    match plan_serve(&options) {
-        Some(plan) => Ran::Serve(plan),
-        None => Ran::Ended(tell_fault(alloc, Fault::BadLimits, faults)),
+    match plan_serve(alloc, &options) {
+        Ok(plan) => Ran::Serve(plan),
+        Err(fault) => Ran::Ended(tell_fault(alloc, fault, faults)),
     }
 }
 

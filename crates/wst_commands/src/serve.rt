@@ -1,6 +1,6 @@
 //! What the command `serve` needs beside its sockets: the server that is asked for, and the lines that are told.
 
-ghost use Rattle.std.specs.Prelude.{◌≡◌, MatchOption, false};
+ghost use Rattle.std.specs.Prelude.{◌≡◌, MatchResult, false};
 ghost use Rattle.ws_frame.specs.Devices.{watched};
 ghost use Rattle.ws_frame.specs.Watching.{has_failed};
 ghost use Rattle.wst_commands.specs.Serve.{CanNotServe, DeliversLine, IsServePlan, TellsLineOf};
@@ -9,6 +9,7 @@ ghost use Rattle.wst_commands.specs.Serve.{connection_line, listening_line};
 use crate::exit::Exit;
 use crate::fault::{Fault, tell_fault};
 use crate::limits::limits_given;
+use crate::protocols::{Protocols, protocols_of};
 use crate::serving::Served;
 use std::alloc::Global;
 use std::io::Write;
@@ -17,7 +18,7 @@ use ws_session::Limits;
 use wst_words::ServeOptions;
 
 /// Connections that are to be served over sockets.
-#[derive(Clone, Copy)]
+#[derive(Drop)]
 pub struct ServePlan<'a> {
     /// The address at which to listen, as it was given.
     pub address: &'a str,
@@ -27,18 +28,27 @@ pub struct ServePlan<'a> {
     pub limits: Limits,
     /// At most so many bytes are read of each connection behind the head of its request.
     pub budget: u64,
+    /// The subprotocols that are known.
+    pub protocols: Protocols<'a>,
 }
 
-/// What is to be served. `None` where no endpoint can have the limits.
-pub fn plan_serve<'a>(options: &ServeOptions<'a>) -> Option<ServePlan<'a>>
-    ensures { MatchOption result (CanNotServe options.now) (IsServePlan options.now) }
+/// What is to be served, or the first reason against it: the names that are given can't be offered, or no endpoint can
+/// have the limits.
+pub fn plan_serve<'a>(alloc: Global, options: &ServeOptions<'a>) -> Result<ServePlan<'a>, Fault>
+    ensures { MatchResult result (IsServePlan options.now) (CanNotServe options.now) }
 {
-    let limits = limits_given(options.limit, options.frame)?;
-    Some(ServePlan {
+    let Some(protocols) = protocols_of(alloc, options.protocols)? else {
+        return Err(Fault::BadProtocols);
+    };
+    let Some(limits) = limits_given(options.limit, options.frame) else {
+        return Err(Fault::BadLimits);
+    };
+    Ok(ServePlan {
         address: options.address,
         count: options.count,
         limits,
         budget: options.budget,
+        protocols,
     })
 }
 

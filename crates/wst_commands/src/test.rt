@@ -13,6 +13,7 @@ use crate::case_server::{CaseServer, MemoryServer};
 use crate::exit::Exit;
 use crate::fault::{Fault, end_run, tell_fault};
 use crate::given_cases::cases_of;
+use crate::protocols::{Protocols, protocols_of};
 use crate::telling::tell;
 use crate::testing::{capture_case, test_cases};
 use std::alloc::Global;
@@ -44,11 +45,15 @@ pub struct TestPlan<'a> {
     /// The capture of the one case is written in place of the verdicts.
     pub capture: bool,
     pub cases: Vec<Case>,
+    /// The subprotocols that are offered to a server at an address.
+    pub protocols: Protocols<'a>,
 }
 
 /// Why nothing is run: the first of these that applies.
 #[derive(Clone, Copy)]
 pub enum TestRefusal<'a> {
+    /// The names that are given can't be offered as subprotocols.
+    BadProtocols,
     /// The key is not eight lower-case hexadecimal digits.
     BadKey,
     /// The target is no server in memory, and can't be the host of a request.
@@ -128,6 +133,9 @@ pub fn plan_test<'a>(
     ensures fits { IfOk result CanBeTested }
     ensures host { IfOk result (λ plan. HasHost plan.target) }
 {
+    let Some(protocols) = protocols_of(alloc, options.protocols)? else {
+        return Err(TestRefusal::BadProtocols);
+    };
     let Some(key) = read_key(options.key.as_bytes()) else {
         return Err(TestRefusal::BadKey);
     };
@@ -141,6 +149,7 @@ pub fn plan_test<'a>(
         target,
         capture: options.capture,
         cases,
+        protocols,
     })
 }
 
@@ -179,6 +188,7 @@ pub fn tell_refusal<F: Write>(
     ensures { TellsRefusal refusal.entry result (watched F.contents faults.old faults.new) }
 {
     match refusal {
+        TestRefusal::BadProtocols => tell_wrong(b"bad protocol list\n", faults),
         TestRefusal::BadKey => tell_wrong(b"bad key\n", faults),
         TestRefusal::BadAddress => tell_wrong(b"bad address\n", faults),
         TestRefusal::NotOneCase => tell_wrong(b"--capture takes one case\n", faults),

@@ -125,8 +125,8 @@ no_show name rows is none = refuses
     refuses (Pair options) asks =
         let bad : ◌≡◌ {A = ℕ} 115 112 = ap (λ (l : List ℕ). slice_index l 0) (sym is ∙ asks.0) in
         absurd (omega arith)
-    refuses Head asks =
-        let bad : ◌≡◌ {A = ℕ} 115 104 = ap (λ (l : List ℕ). slice_index l 0) (sym is ∙ asks) in
+    refuses (Head options) asks =
+        let bad : ◌≡◌ {A = ℕ} 115 104 = ap (λ (l : List ℕ). slice_index l 0) (sym is ∙ asks.0) in
         absurd (omega arith)
     refuses (Session options) asks =
         let bad : ◌≡◌ {A = ℕ} 104 101 = ap (λ (l : List ℕ). slice_index l 1) (sym is ∙ asks.0) in
@@ -155,8 +155,8 @@ no_pair name rows is none = refuses
     refuses (Show options) asks =
         let bad : ◌≡◌ {A = ℕ} 112 115 = ap (λ (l : List ℕ). slice_index l 0) (sym is ∙ asks.0) in
         absurd (omega arith)
-    refuses Head asks =
-        let bad : ◌≡◌ {A = ℕ} 112 104 = ap (λ (l : List ℕ). slice_index l 0) (sym is ∙ asks) in
+    refuses (Head options) asks =
+        let bad : ◌≡◌ {A = ℕ} 112 104 = ap (λ (l : List ℕ). slice_index l 0) (sym is ∙ asks.0) in
         absurd (omega arith)
     refuses (Session options) asks =
         let bad : ◌≡◌ {A = ℕ} 112 115 = ap (λ (l : List ℕ). slice_index l 0) (sym is ∙ asks.0) in
@@ -188,8 +188,8 @@ no_session name rows is none = refuses
     refuses (Pair options) asks =
         let bad : ◌≡◌ {A = ℕ} 115 112 = ap (λ (l : List ℕ). slice_index l 0) (sym is ∙ asks.0) in
         absurd (omega arith)
-    refuses Head asks =
-        let bad : ◌≡◌ {A = ℕ} 115 104 = ap (λ (l : List ℕ). slice_index l 0) (sym is ∙ asks) in
+    refuses (Head options) asks =
+        let bad : ◌≡◌ {A = ℕ} 115 104 = ap (λ (l : List ℕ). slice_index l 0) (sym is ∙ asks.0) in
         absurd (omega arith)
     refuses Judge asks =
         let bad : ◌≡◌ {A = ℕ} 115 106 = ap (λ (l : List ℕ). slice_index l 0) (sym is ∙ asks) in
@@ -218,8 +218,8 @@ no_serve name rows is none = refuses
     refuses (Pair options) asks =
         let bad : ◌≡◌ {A = ℕ} 115 112 = ap (λ (l : List ℕ). slice_index l 0) (sym is ∙ asks.0) in
         absurd (omega arith)
-    refuses Head asks =
-        let bad : ◌≡◌ {A = ℕ} 115 104 = ap (λ (l : List ℕ). slice_index l 0) (sym is ∙ asks) in
+    refuses (Head options) asks =
+        let bad : ◌≡◌ {A = ℕ} 115 104 = ap (λ (l : List ℕ). slice_index l 0) (sym is ∙ asks.0) in
         absurd (omega arith)
     refuses (Session options) asks =
         let bad : ◌≡◌ {A = ℕ} 114 115 = ap (λ (l : List ℕ). slice_index l 2) (sym is ∙ asks.0) in
@@ -248,8 +248,8 @@ no_test rows none = refuses
     refuses (Pair options) asks =
         let bad : ◌≡◌ {A = ℕ} 116 112 = ap (λ (l : List ℕ). slice_index l 0) asks.0 in
         absurd (omega arith)
-    refuses Head asks =
-        let bad : ◌≡◌ {A = ℕ} 116 104 = ap (λ (l : List ℕ). slice_index l 0) asks in
+    refuses (Head options) asks =
+        let bad : ◌≡◌ {A = ℕ} 116 104 = ap (λ (l : List ℕ). slice_index l 0) asks.0 in
         absurd (omega arith)
     refuses (Session options) asks =
         let bad : ◌≡◌ {A = ℕ} 116 115 = ap (λ (l : List ℕ). slice_index l 0) asks.0 in

@@ -1,5 +1,5 @@
 -- Worked examples of words and what they ask for, each a theorem, wherever the names of the ends lie in memory.
-use Rattle.std.specs.Prelude.{◌≡◌, ⊤, true, false, List, [], ◌∷◌, Some, map, codes, option_map, refl}
+use Rattle.std.specs.Prelude.{◌≡◌, ⊤, true, false, List, [], ◌∷◌, Some, None, map, codes, option_map, refl}
 use Rattle.std.proofs.Common.{inr}
 use Rattle.std.specs.Char.{encode_utf8}
 use Rattle.std.specs.Str.{chars}
@@ -82,9 +82,29 @@ joined_show places = (
 abbrev head_words : List Text
 head_words = words (codes "head" ∷ [])
 
-pub plain_head : (places : Places) → AsksFor (wst_app places) head_words Head
+pub plain_head : (places : Places) → AsksFor (wst_app places) head_words (Head (record { protocols = None }))
 unfolding on_words
-plain_head places = (refl, refl)
+plain_head places = (refl, (refl, refl))
+
+-- `wst head --protocols chat,superchat` knows two subprotocols
+abbrev protocol_words : List Text
+protocol_words = words (codes "head" ∷ codes "--protocols" ∷ codes "chat,superchat" ∷ [])
+
+pub head_protocols : (places : Places)
+    → option_map (λ met. first_of (codes "protocols") met.1) (subcommand_of (wst_app places) protocol_words)
+    ≡ Some (Some (codes "chat,superchat"))
+unfolding on_words
+head_protocols places = refl
+
+-- and the empty list is a list
+abbrev no_protocol_words : List Text
+no_protocol_words = words (codes "head" ∷ codes "--protocols" ∷ codes "" ∷ [])
+
+pub head_no_protocols : (places : Places)
+    → option_map (λ met. first_of (codes "protocols") met.1) (subcommand_of (wst_app places) no_protocol_words)
+    ≡ Some (Some [])
+unfolding on_words
+head_no_protocols places = refl
 
 -- `wst pair` joins ends that take messages of 1 MiB, and frames as large, unless told another limit
 pub plain_pair : (places : Places)
@@ -209,9 +229,9 @@ serve_address places = refl
 
 -- such words can fail for want of memory alone
 pub asking_words_are_taken : (places : Places)
-    → map (takes (wst_app places)) (plain_words ∷ client_words ∷ head_words ∷ session_words ∷ echo_words ∷ judge_words
-    ∷ convert_words ∷ cases_words ∷ test_words ∷ serve_words ∷ [])
-    ≡ true ∷ true ∷ true ∷ true ∷ true ∷ true ∷ true ∷ true ∷ true ∷ true ∷ []
+    → map (takes (wst_app places)) (plain_words ∷ client_words ∷ head_words ∷ protocol_words ∷ no_protocol_words
+    ∷ session_words ∷ echo_words ∷ judge_words ∷ convert_words ∷ cases_words ∷ test_words ∷ serve_words ∷ [])
+    ≡ true ∷ true ∷ true ∷ true ∷ true ∷ true ∷ true ∷ true ∷ true ∷ true ∷ true ∷ true ∷ []
 unfolding on_words
 asking_words_are_taken places = refl
 

@@ -1,5 +1,6 @@
 pub mod Options
 pub mod Show
+pub mod Head
 pub mod Pair
 pub mod Session
 pub mod Test

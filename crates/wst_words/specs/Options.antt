@@ -1,6 +1,6 @@
 -- Options that commands have, as clap's data, and what the words give them.
-use Rattle.std.specs.Prelude.{◌≡◌, ℕ, ◌^◌, ◌<◌, ◌⊎◌, if◌then◌else◌, Bool, true, false, List, [], ◌∷◌, Some, None}
-use Rattle.std.specs.Prelude.{codes, pos}
+use Rattle.std.specs.Prelude.{◌≡◌, ℕ, ◌^◌, ◌<◌, ◌⊎◌, if◌then◌else◌, Bool, true, false, List, [], ◌∷◌, Option, Some, None}
+use Rattle.std.specs.Prelude.{codes, option_map, pos}
 use Rattle.std.specs.Borrow.{Bor}
 use Rattle.std.specs.Str.{bytes_eq}
 use Rattle.std.specs.Str.Parse.{IsNumeral, digits_value, without_leading_plus}
@@ -55,6 +55,14 @@ GivesNoEnd rows name = (role : Role) → GivesEnd rows name role → ⊥
 -- a word that may not be left out
 abbrev pub needed_word_rule : Text → Rule
 needed_word_rule name = record (new_rule name) { action = Some Set; value_names = 1; required = true }
+
+-- an option that takes a word
+abbrev pub free_word_rule : Text → Rule
+free_word_rule name = record (new_rule name) { long = Some name; action = Some Set; value_names = 1 }
+
+-- the option for subprotocols gives this list, or none
+abbrev pub GivesProtocols : List Row → Option (Bor Text) → Type 0
+GivesProtocols rows list = first_of (codes "protocols") rows ≡ option_map (λ l. l.now) list
 
 -- ---- a number
 

@@ -4,6 +4,7 @@ use Rattle.std.specs.Prelude.{◌≡◌, true, List, [], Option, Some, None, Res
 use Rattle.clap.specs.Words.{App, HasKind, Row, Text, fault_of, new_app, subcommand_of, with_subcommand}
 use Rattle.clap.specs.Simple.{on_top}
 use Rattle.clap.specs.declared.error.Error.{Error}
+use Rattle.wst_words.specs.Head.{AsksForHead, head_app}
 use Rattle.wst_words.specs.Options.{EndPlaces}
 use Rattle.wst_words.specs.Pair.{AsksToPair, pair_app}
 use Rattle.wst_words.specs.Serve.{AsksToServe, serve_app}
@@ -24,9 +25,6 @@ pub record Places : Type 0 where
   pub role : EndPlaces
 
 -- the commands without options
-abbrev pub head_app : App
-head_app = new_app (codes "head")
-
 abbrev pub judge_app : App
 judge_app = new_app (codes "judge")
 
@@ -54,7 +52,7 @@ abbrev pub CommandAsks : Option (Text × List Row) → Task → Type 0
 CommandAsks None task = ⊥
 CommandAsks (Some (name, rows)) (Show options) = (name ≡ codes "show") × AsksToShow rows options
 CommandAsks (Some (name, rows)) (Pair options) = (name ≡ codes "pair") × AsksToPair rows options
-CommandAsks (Some (name, rows)) Head = name ≡ codes "head"
+CommandAsks (Some (name, rows)) (Head options) = (name ≡ codes "head") × AsksForHead rows options
 CommandAsks (Some (name, rows)) (Session options) = (name ≡ codes "session") × AsksForSession rows options
 CommandAsks (Some (name, rows)) Judge = name ≡ codes "judge"
 CommandAsks (Some (name, rows)) Convert = name ≡ codes "convert"

@@ -1,24 +1,43 @@
-//! The words of the command `head`, which has no options.
+//! The words of the command `head`.
 
 ghost use Rattle.std.specs.Prelude.{◌≡◌, IfOk, false};
-ghost use Rattle.clap.specs.Words.{app_of};
+ghost use Rattle.clap.specs.Words.{app_of, found_of, rows_of};
 ghost use Rattle.clap.specs.declared.builder.command.Command.TheViews.{out-Command as fields_of};
-ghost use Rattle.wst_words.specs.Words.{head_app};
+ghost use Rattle.wst_words.specs.Head.{AsksForHead, head_app};
 
-use clap::Command;
+use crate::options::{protocols_of, protocols_option};
+use clap::{ArgMatches, Command};
 use std::alloc::{AllocError, Global};
 
-/// `head`.
+/// What `head` is asked for.
+#[derive(Clone, Copy)]
+pub struct HeadOptions<'a> {
+    /// The subprotocols that the server knows, joined by commas, where they are given.
+    pub protocols: Option<&'a str>,
+}
+
+/// `head` and its options.
 pub fn head_command<'a>(alloc: Global) -> Result<Command<'a>, AllocError>
     ensures app { IfOk result (λ command. app_of command ≡ head_app) }
     ensures local { IfOk result (λ command. (fields_of command).has_globals ≡ false) }
 {
-    let command = Command::new(alloc, "head")
+    Command::new(alloc, "head")
         .about("Answers the head of a request for an upgrade")
         .long_about(LONG_ABOUT)
-        .after_help(AFTER_HELP);
-    Ok(command)
+        .after_help(AFTER_HELP)
+        .arg(protocols_option(alloc, PROTOCOLS))
 }
+
+/// What the words give.
+pub fn head_options<'a>(options: &ArgMatches<'a>) -> HeadOptions<'a>
+    ensures { AsksForHead (rows_of (found_of options.now)) result }
+{
+    HeadOptions {
+        protocols: protocols_of(options),
+    }
+}
+
+const PROTOCOLS: &str = "Subprotocols that the server knows, joined by commas";
 
 /// What `head` is for.
 const LONG_ABOUT: &str =
@@ -27,8 +46,13 @@ response that accepts it, or the refusal, `426 Upgrade Required` where another v
 protocol is asked for and else `400 Bad Request`. It answers as soon as the head is decided; what
 follows it is ignored. Each line of a head ends in CR LF, and an empty line ends the head.
 
-Exit status: 0 accepted, 1 refused or the head is cut, 2 wrong words, 3 a device failed or memory
-ran out.";
+With --protocols the response names the first subprotocol that the request offers and that is in
+LIST, byte for byte, whatever the order of LIST; where there is none it names none, and the request
+is accepted all the same. LIST is 1 to 16 names, no two of them equal, as chat,superchat. A name has
+1 to 64 letters, digits and characters of !#$%&'*+-.^_`|~.
+
+Exit status: 0 accepted, 1 refused or the head is cut, 2 wrong words or a bad LIST, 3 a device
+failed or memory ran out.";
 
 /// What stands at the end of the help of `head`.
 const AFTER_HELP: &str = "Example:

@@ -15,6 +15,7 @@ mod show;
 mod test;
 mod words;
 
+pub use head::HeadOptions;
 pub use pair::PairOptions;
 pub use serve::ServeOptions;
 pub use session::SessionOptions;

@@ -1,11 +1,12 @@
-//! Options that commands have: an end of the connection, a number, a flag.
+//! Options that commands have: an end of the connection, a number, a flag, a list of subprotocols.
 
 ghost use Rattle.std.specs.Prelude.{◌≡◌, MatchOption, codes, false};
 ghost use Rattle.clap.specs.Words.{found_of, rows_of, rule_of};
 ghost use Rattle.wst_words.specs.Options.{EndPlaces, GivesCount, GivesEnd, GivesFlag, GivesNumber};
-ghost use Rattle.wst_words.specs.Options.{GivesNoCount, GivesNoEnd, GivesNoFlag, GivesNoNumber};
+ghost use Rattle.wst_words.specs.Options.{GivesNoCount, GivesNoEnd, GivesNoFlag, GivesNoNumber, GivesProtocols};
 ghost use Rattle.wst_words.specs.Options.{GivesNumberOr, GivesNoNumberOr, optional_number_rule};
-ghost use Rattle.wst_words.specs.Options.{end_rule, flag_rule, needed_count_rule, number_rule, role_named};
+ghost use Rattle.wst_words.specs.Options.{end_rule, flag_rule, free_word_rule, needed_count_rule, number_rule};
+ghost use Rattle.wst_words.specs.Options.{role_named};
 
 use clap::{Arg, ArgAction, ArgMatches};
 use std::alloc::Global;
@@ -76,6 +77,18 @@ pub fn flag_option<'a>(alloc: Global, name: &'a str, help: &'a str) -> Arg<'a>
         .action(ArgAction::SetTrue)
 }
 
+/// The option for a list of subprotocols.
+pub fn protocols_option<'a>(alloc: Global, help: &'a str) -> Arg<'a>
+    ensures rule { rule_of result ≡ free_word_rule (codes "protocols") }
+    ensures local { result.global ≡ false }
+{
+    Arg::new(alloc, "protocols")
+        .long("protocols")
+        .value_name("LIST")
+        .help(help)
+        .action(ArgAction::Set)
+}
+
 /// The end that the option of this name gives. `None` where it gives none.
 pub fn end_of(options: &ArgMatches<'_>, name: &str) -> Option<Role>
     ensures { MatchOption result (GivesNoEnd (rows_of (found_of options.now)) name.now)
@@ -118,6 +131,13 @@ pub fn flag_of(options: &ArgMatches<'_>, name: &str) -> Option<bool>
         (GivesFlag (rows_of (found_of options.now)) name.now) }
 {
     options.get_one::<bool>(name)
+}
+
+/// The list of subprotocols that is given. `None` where none is.
+pub fn protocols_of<'a>(options: &ArgMatches<'a>) -> Option<&'a str>
+    ensures { GivesProtocols (rows_of (found_of options.now)) result }
+{
+    options.get_str("protocols")
 }
 
 /// The end that a word names.

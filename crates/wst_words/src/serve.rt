@@ -7,7 +7,8 @@ ghost use Rattle.wst_words.specs.Options.{needed_word_rule};
 ghost use Rattle.wst_words.specs.Serve.{AsksToServe, AsksToServeNothing, serve_app};
 
 use crate::options::{
-    count_of, needed_count, number_of, number_option, number_or, optional_number,
+    count_of, needed_count, number_of, number_option, number_or, optional_number, protocols_of,
+    protocols_option,
 };
 use clap::{Arg, ArgAction, ArgMatches, Command};
 use std::alloc::{AllocError, Global};
@@ -21,6 +22,8 @@ pub struct ServeOptions<'a> {
     pub frame: u64,
     /// It reads at most so many bytes of a connection behind the head of its request.
     pub budget: u64,
+    /// The subprotocols that it knows, joined by commas, where they are given.
+    pub protocols: Option<&'a str>,
     /// The address at which it listens: an IP address or the name of a host, and a port.
     pub address: &'a str,
     /// It serves so many connections.
@@ -39,6 +42,7 @@ pub fn serve_command<'a>(alloc: Global) -> Result<Command<'a>, AllocError>
         .arg(number_option(alloc, "limit", LIMIT, "1048576"))?
         .arg(optional_number(alloc, "frame", FRAME))?
         .arg(number_option(alloc, "budget", BUDGET, "1073741824"))?
+        .arg(protocols_option(alloc, PROTOCOLS))?
         .arg(address_word(alloc))?
         .arg(needed_count(
             alloc,
@@ -73,6 +77,7 @@ pub fn serve_options<'a>(options: &ArgMatches<'a>) -> Option<ServeOptions<'a>>
         limit,
         frame,
         budget,
+        protocols: protocols_of(options),
         address,
         count,
     })
@@ -83,6 +88,8 @@ const LIMIT: &str = "Most bytes of a message to the server, 1 to 16777216";
 const FRAME: &str = "Most bytes of a data frame to the server [default: as --limit]";
 
 const BUDGET: &str = "Read at most N bytes of a connection behind its head";
+
+const PROTOCOLS: &str = "Subprotocols that the server knows, joined by commas";
 
 /// What `serve` is for.
 const LONG_ABOUT: &str =
@@ -107,9 +114,12 @@ TooLarge; that of a failure is one that `wst session --help` lists.
 
 The limit of a data frame is 1 to that of a message. Control frames have their own, 125 bytes.
 
-Exit status: 0 so many connections were served, however they ended, 2 wrong words or limits, 3 the
-address can't be listened at, no more connections come, a line could not be written or memory ran
-out for it.";
+With --protocols the response to a request names the first subprotocol that the request offers and
+that is in LIST, as `wst head --help` says; none is refused for what it offers.
+
+Exit status: 0 so many connections were served, however they ended, 2 wrong words, limits or LIST, 3
+the address can't be listened at, no more connections come, a line could not be written or memory
+ran out for it.";
 
 /// What stands at the end of the help of `serve`.
 const AFTER_HELP: &str = "Example:

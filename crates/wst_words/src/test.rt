@@ -7,7 +7,7 @@ ghost use Rattle.wst_words.specs.Test.{AsksToTest, AsksToTestNothing, given_word
 ghost use Rattle.wst_words.specs.Options.{needed_word_rule};
 ghost use Rattle.wst_words.specs.Test.{test_app, word_rule, words_rule};
 
-use crate::options::{flag_of, flag_option};
+use crate::options::{flag_of, flag_option, protocols_of, protocols_option};
 use clap::{Arg, ArgAction, ArgMatches, Command};
 use std::alloc::{AllocError, Global};
 
@@ -18,6 +18,8 @@ pub struct TestOptions<'a> {
     pub key: &'a str,
     /// The capture is written in place of the verdict.
     pub capture: bool,
+    /// The subprotocols that are offered, joined by commas, where they are given.
+    pub protocols: Option<&'a str>,
     /// The peer: `own`, `tung` or an address.
     pub target: &'a str,
     /// The names of the cases in the order in which they run. None stands for all.
@@ -35,6 +37,7 @@ pub fn test_command<'a>(alloc: Global) -> Result<Command<'a>, AllocError>
         .after_help(AFTER_HELP)
         .arg(key_option(alloc))?
         .arg(flag_option(alloc, "capture", "Write the capture of one case"))?
+        .arg(protocols_option(alloc, PROTOCOLS))?
         .arg(target_word(alloc))?
         .arg(id_words(alloc))
 }
@@ -116,10 +119,13 @@ fn options_with<'a>(options: &ArgMatches<'a>, ids: Vec<&'a str>) -> Option<TestO
     Some(TestOptions {
         key,
         capture,
+        protocols: protocols_of(options),
         target,
         ids,
     })
 }
+
+const PROTOCOLS: &str = "Subprotocols to offer to a server at an address, joined by commas";
 
 /// What `test` is for.
 const LONG_ABOUT: &str =
@@ -142,11 +148,15 @@ Head, Version, Status, Upgrade, Connection, Accept, Extension, Protocol or TooLa
 which takes one case, the capture of what went over the connection is written in place of the lines,
 and the status is that of its verdict. Nothing is read.
 
+With --protocols each request offers the subprotocols of LIST in its order, which `wst head --help`
+describes. An answer that names another one, or more than one, is to be refused as Protocol. A
+server in memory asks for no handshake, and so LIST is without effect there.
+
 A server that neither answers nor ends the connection keeps the command waiting; `timeout 60 wst
 test ..` ends it. In parts: wst cases | cut -d' ' -f1 | xargs -n 30 wst test 127.0.0.1:9001
 
-Exit status: 0 no case is FAIL, 1 one is, 2 wrong words, also a word that is no key, no ID or no
-host of a request, 3 there is no connection, the output failed or memory ran out.";
+Exit status: 0 no case is FAIL, 1 one is, 2 wrong words, also a word that is no LIST, no key, no ID
+or no host of a request, 3 there is no connection, the output failed or memory ran out.";
 
 /// What stands at the end of the help of `test`.
 const AFTER_HELP: &str = "Example:

@@ -8,7 +8,7 @@ ghost use Rattle.wst_words.specs.Words.{CommandAsks, CommandAsksNothing, IsOfCla
 
 use crate::cases::cases_command;
 use crate::convert::convert_command;
-use crate::head::head_command;
+use crate::head::{HeadOptions, head_command, head_options};
 use crate::judge::judge_command;
 use crate::pair::{PairOptions, pair_command, pair_options};
 use crate::serve::{ServeOptions, serve_command, serve_options};
@@ -30,7 +30,7 @@ pub enum Task<'a> {
     /// The report of the moves that come in.
     Pair(PairOptions),
     /// The answer to the head of a request that comes in.
-    Head,
+    Head(HeadOptions<'a>),
     /// The answers of one endpoint to the calls that come in.
     Session(SessionOptions),
     /// The verdict on the capture that comes in.
@@ -125,7 +125,7 @@ fn plain_task<'a>(name: &str, options: &ArgMatches<'a>) -> Option<Task<'a>>
     match name {
         "show" => Some(Task::Show(show_options(options)?)),
         "pair" => Some(Task::Pair(pair_options(options)?)),
-        "head" => Some(Task::Head),
+        "head" => Some(Task::Head(head_options(options))),
         "session" => Some(Task::Session(session_options(options)?)),
         "judge" => Some(Task::Judge),
         "convert" => Some(Task::Convert),

@@ -1,4 +1,4 @@
-use Rattle.std.proofs.Common.{rules, inl, subst, sym}
+use Rattle.std.proofs.Common.{inl, subst, sym}
 use Rattle.ws_frame.specs.Devices.{watched}
 use Rattle.wst_commands.specs.Test.{RunsInMemory}
 use Rattle.wst_commands.specs.declared.test.Target.{Target}

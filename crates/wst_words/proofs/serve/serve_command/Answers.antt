@@ -12,8 +12,9 @@ returns-clause-app c =
     let one = c.in_ok-arg.ensures.shape c.number_option.ensures.local ∙ ap₂ with_rule texts c.number_option.ensures.rule in
     let two = c.in_ok-arg-2.ensures.shape c.optional_number.ensures.local ∙ ap₂ with_rule one c.optional_number.ensures.rule in
     let three = c.in_ok-arg-3.ensures.shape c.number_option-2.ensures.local ∙ ap₂ with_rule two c.number_option-2.ensures.rule in
-    let four = c.in_ok-arg-4.ensures.shape c.address_word.ensures.local ∙ ap₂ with_rule three c.address_word.ensures.rule in
-    IfOk-weaker c.arg-5.result _ _ (λ r h. h.shape c.needed_count.ensures.local ∙ ap₂ with_rule four c.needed_count.ensures.rule) c.arg-5.ensures
+    let four = c.in_ok-arg-4.ensures.shape c.protocols_option.ensures.local ∙ ap₂ with_rule three c.protocols_option.ensures.rule in
+    let five = c.in_ok-arg-5.ensures.shape c.address_word.ensures.local ∙ ap₂ with_rule four c.address_word.ensures.rule in
+    IfOk-weaker c.arg-6.result _ _ (λ r h. h.shape c.needed_count.ensures.local ∙ ap₂ with_rule five c.needed_count.ensures.rule) c.arg-6.ensures
 
 pub returns-clause-local : goal.returns-clause-local
 returns-clause-local c =
@@ -21,5 +22,6 @@ returns-clause-local c =
     let one = stays_local _ _ _ c.in_ok-arg.ensures.globals bare c.number_option.ensures.local in
     let two = stays_local _ _ _ c.in_ok-arg-2.ensures.globals one c.optional_number.ensures.local in
     let three = stays_local _ _ _ c.in_ok-arg-3.ensures.globals two c.number_option-2.ensures.local in
-    let four = stays_local _ _ _ c.in_ok-arg-4.ensures.globals three c.address_word.ensures.local in
-    IfOk-weaker c.arg-5.result _ _ (λ r h. stays_local _ _ _ h.globals four c.needed_count.ensures.local) c.arg-5.ensures
+    let four = stays_local _ _ _ c.in_ok-arg-4.ensures.globals three c.protocols_option.ensures.local in
+    let five = stays_local _ _ _ c.in_ok-arg-5.ensures.globals four c.address_word.ensures.local in
+    IfOk-weaker c.arg-6.result _ _ (λ r h. stays_local _ _ _ h.globals five c.needed_count.ensures.local) c.arg-6.ensures

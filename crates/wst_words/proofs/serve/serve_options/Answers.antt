@@ -40,4 +40,5 @@ returns c =
       c.in_ok-budget.ensures,
       sym (first_value-rows found (codes "address")) ∙ sym c.in_ok-address.ensures,
       c.in_ok-count.ensures,
+      c.protocols_of.ensures,
     )

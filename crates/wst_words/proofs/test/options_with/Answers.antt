@@ -26,4 +26,5 @@ returns c =
       c.in_ok-capture.ensures,
       sym (first_value-rows found (codes "target")) ∙ sym c.in_ok-target.ensures,
       c.requires,
+      c.protocols_of.ensures,
     )

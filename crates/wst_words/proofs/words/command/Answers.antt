@@ -2,11 +2,12 @@ use Rattle.std.proofs.Common.{◌≡◌, ◌∙◌, ap, ap₂, codes, true}
 use Rattle.std.proofs.lemmas.Result.{IfOk-weaker}
 use Rattle.clap.specs.Words.{App, app_of, new_app, with_subcommand}
 use Rattle.clap.specs.Simple.{app_of_fields, on_top}
+use Rattle.wst_words.specs.Head.{head_app}
 use Rattle.wst_words.specs.Show.{show_app}
 use Rattle.wst_words.specs.Pair.{pair_app}
 use Rattle.wst_words.specs.Session.{session_app}
 use Rattle.wst_words.specs.Test.{test_app}
-use Rattle.wst_words.specs.Words.{bare_app, cases_app, convert_app, head_app, judge_app}
+use Rattle.wst_words.specs.Words.{bare_app, cases_app, convert_app, judge_app}
 use Rattle.wst_words.proofs.words.command.Goals as goal
 
 abbrev versioned : App
