@@ -67,6 +67,15 @@ def sessions_that_fail():
     server.ends("4 clean none")
 
 
+def a_limit_of_a_frame():
+    server = Server(2, "--limit", "10", "--frame", "4")
+    assert served(server, REQUEST, bytes.fromhex("828500000000")) == RESPONSE + FAILED_1009
+    assert server.line() == "1 failed FrameBig"
+    two_frames = bytes.fromhex("0284000000000001020380840000000004050607")
+    assert served(server, REQUEST, two_frames, CLOSE) == RESPONSE + bytes.fromhex("82080001020304050607") + CLOSE_BACK
+    server.ends("2 clean 1000")
+
+
 def a_budget():
     server = Server(2, "--budget", "11")
     client = server.client()
@@ -127,6 +136,7 @@ TESTS = [
     one_byte_a_packet,
     heads_that_are_refused,
     sessions_that_fail,
+    a_limit_of_a_frame,
     a_budget,
     a_half_close,
     a_second_client_waits,
