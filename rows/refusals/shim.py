@@ -1,0 +1,43 @@
+"""The shim that refuses a request for memory of a program that is started with it."""
+
+import os
+import subprocess
+from dataclasses import dataclass
+from pathlib import Path
+
+from runner.results import shown
+
+SOURCE = Path("rows/refusals/refuse.c")
+
+
+@dataclass
+class Ended:
+    """The status of a run, and what was written to the output and to the fault output, in the order in which it was."""
+
+    status: int
+    text: bytes
+
+    def __str__(self):
+        return f"status {self.status}, {shown(self.text)}"
+
+
+def build_shim(folder):
+    """Compiles the shim with the compiler of the kit, and gives its path."""
+    page = subprocess.run(["rt", "doc"], capture_output=True, text=True, check=True).stdout.strip()
+    clang = Path(page).parent / "toolchain/bin/clang"
+    shim = str(Path(folder) / "refuse.so")
+    subprocess.run([clang, "-shared", "-fPIC", "-O2", "-o", shim, SOURCE], check=True)
+    return shim
+
+
+def refusing(shim, place, run):
+    """Runs a program whose request with this number is refused, none for 0: what `run` gives, which starts it with
+    these options and waits for its end, and whether a request was refused."""
+    noted, note = os.pipe()
+    env = {"PATH": os.environ["PATH"], "LD_PRELOAD": shim, "REFUSE": str(place), "REFUSE_NOTE": str(note)}
+    with os.fdopen(noted, "rb") as notes:
+        try:
+            result = run(env=env, pass_fds=[note])
+        finally:
+            os.close(note)
+        return result, notes.read() != b""

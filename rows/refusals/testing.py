@@ -1,0 +1,51 @@
+"""Runs of `wst test` against a server over loopback, for which a request for memory is refused."""
+
+import socket
+import subprocess
+from threading import Thread
+
+from loopback.server import Client
+from loopback.wire import CLOSE_BACK, EMPTY_BACK, EMPTY_TEXT, MASKED_CLOSE, RESPONSE, request_to
+from shim import Ended, refusing
+
+SECONDS = 20
+LINES = b"1.1.1 PASS\n1 pass, 0 loose, 0 fail\n"
+
+
+class Test:
+    """`wst test` of one case against a server that echoes, and the shim that refuses its memory."""
+
+    def __init__(self, shim, wst):
+        self.shim, self.wst = shim, wst
+
+    def outcome(self, place):
+        """Refuses the request with this number: how the run ended, and whether a request was refused."""
+        return refusing(self.shim, place, self.run)
+
+    def run(self, **options):
+        pipes = {"stdin": subprocess.DEVNULL, "stdout": subprocess.PIPE, "stderr": subprocess.STDOUT}
+        with socket.create_server(("127.0.0.1", 0)) as listener:
+            address = f"127.0.0.1:{listener.getsockname()[1]}"
+            echo = Thread(target=answer, args=[listener, address])
+            echo.start()
+            try:
+                ran = subprocess.run([self.wst, "test", address, "1.1.1"], timeout=SECONDS, **pipes, **options)
+            finally:
+                # Where there was no connection, none is waited for any more.
+                listener.shutdown(socket.SHUT_RDWR)
+                echo.join()
+        return Ended(ran.returncode, ran.stdout)
+
+
+def answer(listener, address):
+    """Serves one connection, as long as what comes is what the case sends."""
+    turns = [(request_to(address), RESPONSE), (EMPTY_TEXT, EMPTY_BACK), (MASKED_CLOSE, CLOSE_BACK)]
+    try:
+        client = Client(listener.accept()[0])
+        with client.stream:
+            for sent, back in turns:
+                if client.get(len(sent)) != sent:
+                    return
+                client.send(back)
+    except OSError:
+        pass
