@@ -1,4 +1,4 @@
-//! Runs of commands of one word over devices that fail, and what they leave.
+//! Runs of commands over devices that fail, and what they leave.
 
 ghost use Rattle.std.specs.Prelude.{◌≡◌, false};
 ghost use Rattle.ws_frame.specs.Watching.{has_failed};
@@ -12,13 +12,13 @@ use ws_frame::Watched;
 use ws_frame::devices::{ByteReader, ByteWriter, Counting, Failing, FullWriter};
 use wst_commands::{Ran, run};
 
-/// The status of a command that was handed back, as no command of one word is.
+/// The status of a command that was handed back, as none of those here is.
 const HANDED_BACK: u8 = 255;
 
-/// Runs a command of one word, and answers the exit status.
-pub fn run_word<R: Read, W: Write, F: Write>(
+/// Runs a command of these words, and answers the exit status.
+pub fn run_words<R: Read, W: Write, F: Write>(
     alloc: Global,
-    word: &str,
+    words: &str,
     reader: &mut Watched<R>,
     writer: &mut Watched<W>,
     faults: &mut Watched<F>,
@@ -26,14 +26,21 @@ pub fn run_word<R: Read, W: Write, F: Write>(
     requires reader_works { has_failed reader.old ≡ false }
     requires writer_works { has_failed writer.old ≡ false }
 {
-    let words = [
-        String::from_str(alloc, "wst")?,
-        String::from_str(alloc, word)?,
-    ];
-    match run(alloc, &words, reader, writer, faults) {
+    let words = command_line(alloc, words)?;
+    match run(alloc, words.as_slice(), reader, writer, faults) {
         Ran::Ended(exit) => Ok(exit.status()),
         Ran::Serve(_) | Ran::Test(..) => Ok(HANDED_BACK),
     }
+}
+
+/// The name of the program and these words, which are parted by spaces.
+fn command_line(alloc: Global, words: &str) -> Result<Vec<String>, Fail> {
+    let mut line = Vec::new(alloc);
+    line.push(String::from_str(alloc, "wst")?)?;
+    for word in words.split(' ') {
+        line.push(String::from_str(alloc, word)?)?;
+    }
+    Ok(line)
 }
 
 /// What a run leaves: its status, what was written to the output and to the fault output, and how often the device
@@ -49,14 +56,14 @@ pub struct After {
 /// Runs a command over a reader that gives a byte a call.
 pub fn after_reads(
     alloc: Global,
-    word: &str,
+    words: &str,
     input: &[u8],
     failing: Failing,
 ) -> Result<After, Fail> {
     let mut reader = Watched::new(ByteReader::new(input, failing));
     let mut writer = Watched::new(Vec::new(alloc));
     let mut faults = Watched::new(Vec::new(alloc));
-    let status = run_word(alloc, word, &mut reader, &mut writer, &mut faults)?;
+    let status = run_words(alloc, words, &mut reader, &mut writer, &mut faults)?;
     Ok(After {
         status,
         written: writer.into_inner(),
@@ -68,14 +75,14 @@ pub fn after_reads(
 /// Runs a command over a writer that takes a byte a call.
 pub fn after_writes(
     alloc: Global,
-    word: &str,
+    words: &str,
     input: &[u8],
     failing: Failing,
 ) -> Result<After, Fail> {
     let mut reader = Watched::new(input);
     let mut writer = Watched::new(ByteWriter::new(alloc, failing));
     let mut faults = Watched::new(Vec::new(alloc));
-    let status = run_word(alloc, word, &mut reader, &mut writer, &mut faults)?;
+    let status = run_words(alloc, words, &mut reader, &mut writer, &mut faults)?;
     let device = writer.into_inner();
     Ok(After {
         status,
@@ -86,12 +93,12 @@ pub fn after_writes(
 }
 
 /// Runs a command over a writer that takes so many bytes, one a call, and then none.
-fn after_full(alloc: Global, word: &str, input: &[u8], room: usize) -> Result<After, Fail> {
+fn after_full(alloc: Global, words: &str, input: &[u8], room: usize) -> Result<After, Fail> {
     let mut reader = Watched::new(input);
     let full = FullWriter::new(alloc, room);
     let mut writer = Watched::new(Counting::new(alloc, full));
     let mut faults = Watched::new(Vec::new(alloc));
-    let status = run_word(alloc, word, &mut reader, &mut writer, &mut faults)?;
+    let status = run_words(alloc, words, &mut reader, &mut writer, &mut faults)?;
     let device = writer.into_inner();
     Ok(After {
         status,
@@ -102,11 +109,11 @@ fn after_full(alloc: Global, word: &str, input: &[u8], room: usize) -> Result<Af
 }
 
 /// Runs a command over a reader that gives a byte a call and a writer that takes one. `calls` are the writes.
-pub fn after_both(alloc: Global, word: &str, input: &[u8]) -> Result<After, Fail> {
+pub fn after_both(alloc: Global, words: &str, input: &[u8]) -> Result<After, Fail> {
     let mut reader = Watched::new(ByteReader::new(input, Failing::Never));
     let mut writer = Watched::new(ByteWriter::new(alloc, Failing::Never));
     let mut faults = Watched::new(Vec::new(alloc));
-    let status = run_word(alloc, word, &mut reader, &mut writer, &mut faults)?;
+    let status = run_words(alloc, words, &mut reader, &mut writer, &mut faults)?;
     let device = writer.into_inner();
     Ok(After {
         status,
@@ -128,13 +135,13 @@ pub fn check(rt: &impl Abort, after: &After, status: u8, calls: u64, written: &[
 fn check_failed_read(
     rt: &impl Abort,
     alloc: Global,
-    word: &str,
+    words: &str,
     input: &[u8],
     place: u64,
 ) -> Result<(), Fail> {
-    let once = after_reads(alloc, word, input, Failing::Once(place))?;
+    let once = after_reads(alloc, words, input, Failing::Once(place))?;
     check(rt, &once, 3, place, b"");
-    let for_good = after_reads(alloc, word, input, Failing::From(place))?;
+    let for_good = after_reads(alloc, words, input, Failing::From(place))?;
     check(rt, &for_good, 3, place, b"");
     Ok(())
 }
@@ -143,14 +150,14 @@ fn check_failed_read(
 fn check_failed_write(
     rt: &impl Abort,
     alloc: Global,
-    word: &str,
+    words: &str,
     input: &[u8],
     written: &[u8],
 ) -> Result<(), Fail> {
     let place = written.len() as u64 + 1;
-    let once = after_writes(alloc, word, input, Failing::Once(place))?;
+    let once = after_writes(alloc, words, input, Failing::Once(place))?;
     check(rt, &once, 3, place, written);
-    let for_good = after_writes(alloc, word, input, Failing::From(place))?;
+    let for_good = after_writes(alloc, words, input, Failing::From(place))?;
     check(rt, &for_good, 3, place, written);
     Ok(())
 }
@@ -159,11 +166,11 @@ fn check_failed_write(
 fn check_full(
     rt: &impl Abort,
     alloc: Global,
-    word: &str,
+    words: &str,
     input: &[u8],
     written: &[u8],
 ) -> Result<(), Fail> {
-    let after = after_full(alloc, word, input, written.len())?;
+    let after = after_full(alloc, words, input, written.len())?;
     check(rt, &after, 3, written.len() as u64 + 1, written);
     Ok(())
 }
@@ -172,12 +179,12 @@ fn check_full(
 pub fn check_each_read(
     rt: &impl Abort,
     alloc: Global,
-    word: &str,
+    words: &str,
     input: &[u8],
 ) -> Result<(), Fail> {
     let last = input.len() as u64 + 1;
     for place in 1..=last {
-        check_failed_read(rt, alloc, word, input, place)?;
+        check_failed_read(rt, alloc, words, input, place)?;
     }
     Ok(())
 }
@@ -186,13 +193,13 @@ pub fn check_each_read(
 pub fn check_each_write(
     rt: &impl Abort,
     alloc: Global,
-    word: &str,
+    words: &str,
     input: &[u8],
     output: &[u8],
 ) -> Result<(), Fail> {
     for written in 0..output.len() {
-        check_failed_write(rt, alloc, word, input, &output[..written])?;
-        check_full(rt, alloc, word, input, &output[..written])?;
+        check_failed_write(rt, alloc, words, input, &output[..written])?;
+        check_full(rt, alloc, words, input, &output[..written])?;
     }
     Ok(())
 }

@@ -2,7 +2,7 @@
 
 use crate::comparing::{same_bytes, same_number};
 use crate::running::{
-    after_reads, after_writes, check, check_each_read, check_each_write, run_word,
+    after_reads, after_writes, check, check_each_read, check_each_write, run_words,
 };
 use std::test::Fail;
 use ws_frame::Watched;
@@ -56,6 +56,12 @@ pub const REPORT: &[u8] = b"client put -\nclient reached 0\nclient status open\n
 pub const CALLS: &[u8] = b"end\n";
 
 pub const CALL_LINES: &[u8] = b"ended\nheld 0\nstatus lost\n";
+
+/// A text and a close frame that come to an echo, and the lines of what it answers.
+pub const ECHO_CALLS: &[u8] = b"take 8181000000006188820000000003e8 -\n";
+
+pub const ECHO_LINES: &[u8] =
+    b"7 text 61\n15 close 1000 -\ntaken 15 put 810161880203e8\nstatus clean 1000\n";
 
 /// Each read of a head fails: nothing is written. Behind a head that is whole nothing is read.
 #[test]
@@ -139,6 +145,26 @@ fn session_works(rt: HostRuntime) -> Result<(), Fail> {
     Ok(())
 }
 
+/// Each read of a script of calls at an echo.
+#[test]
+fn echo_reads(rt: HostRuntime) -> Result<(), Fail> {
+    check_each_read(&rt, rt.alloc(), "session --echo", ECHO_CALLS)
+}
+
+/// Each write of what an echo answers.
+#[test]
+fn echo_writes(rt: HostRuntime) -> Result<(), Fail> {
+    let alloc = rt.alloc();
+    check_each_write(&rt, alloc, "session --echo", ECHO_CALLS, ECHO_LINES)
+}
+
+/// Each write of the line of a case and of the total. Nothing is read.
+#[test]
+fn test_writes(rt: HostRuntime) -> Result<(), Fail> {
+    let lines = b"2.5 PASS\n1 pass, 0 loose, 0 fail\n";
+    check_each_write(&rt, rt.alloc(), "test own 2.5", b"", lines)
+}
+
 /// Help that can't be written is a failure.
 #[test]
 fn help_failure(rt: HostRuntime) -> Result<(), Fail> {
@@ -155,7 +181,7 @@ fn fault_output_fails(rt: HostRuntime) -> Result<(), Fail> {
     let mut reader = Watched::new(b"GET".as_slice());
     let mut writer = Watched::new(FullWriter::new(rt.alloc(), 0));
     let mut faults = Watched::new(FullWriter::new(rt.alloc(), 0));
-    let status = run_word(rt.alloc(), "head", &mut reader, &mut writer, &mut faults)?;
+    let status = run_words(rt.alloc(), "head", &mut reader, &mut writer, &mut faults)?;
     same_number(&rt, 0, u64::from(status), 1);
     Ok(())
 }

@@ -2,7 +2,7 @@
 
 use crate::comparing::{same_answer, same_bytes, same_number};
 use crate::running::{after_both, after_reads, check};
-use crate::runs::{ACCEPTED, CALL_LINES, CALLS, REPORT, REQUEST};
+use crate::runs::{ACCEPTED, CALL_LINES, CALLS, ECHO_CALLS, ECHO_LINES, REPORT, REQUEST};
 use std::alloc::Global;
 use std::test::Fail;
 use ws_frame::devices::{ByteReader, ByteWriter, Failing};
@@ -16,19 +16,20 @@ const HELLO_LINE: &[u8] = b"0 text fin=1 rsv=0 key=- len=5 short 48656c6c6f\n";
 /// Each command writes the same as over whole reads and writes, in one write a byte.
 #[test]
 fn both_sides(rt: HostRuntime) -> Result<(), Fail> {
-    let runs: [(&str, &[u8], &[u8]); 5] = [
+    let runs: [(&str, &[u8], &[u8]); 6] = [
         ("show", HELLO, HELLO_LINE),
         ("head", REQUEST, ACCEPTED),
         ("pair", b"", REPORT),
         ("session", CALLS, CALL_LINES),
+        ("session --echo", ECHO_CALLS, ECHO_LINES),
         (
             "judge",
             b"wst-capture 1\n> 81810000000061\n< 810161\nend tester\n",
             b"PASS\n",
         ),
     ];
-    for (word, input, output) in runs {
-        let after = after_both(rt.alloc(), word, input)?;
+    for (words, input, output) in runs {
+        let after = after_both(rt.alloc(), words, input)?;
         check(&rt, &after, 0, output.len() as u64, output);
     }
     Ok(())
