@@ -2,7 +2,7 @@
 //! 7): what each end delivers, whatever is sent and however the bytes are cut.
 //!
 //! The layers above use one contract, that of `run_pair`: each end delivers exactly the other's messages whose last
-//! byte has reached it before a message was too big.
+//! byte has reached it before it reported a size fault.
 #![tactic(auto)]
 
 mod endpoint;

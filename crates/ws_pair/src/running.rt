@@ -18,7 +18,7 @@ use ws_session::Limits;
 
 /// Plays the moves, one after the other, at a new client and a new server that are joined by two ordered streams of
 /// bytes. `client` and `server` are what each takes at most. Each end has delivered, in order, exactly the other's
-/// messages whose last byte has reached it before a message was too big for it; an end that reports a clean close has
+/// messages whose last byte has reached it before it reported a size fault; an end that reports a clean close has
 /// delivered all that the other sent and reports its close code; and no end has put a frame behind its close (RFC 6455
 /// sections 5 to 7). `NoMemory` where a growth was refused, also of a send: then the run stops.
 pub fn run_pair(
