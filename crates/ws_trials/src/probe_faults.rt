@@ -1,5 +1,5 @@
-//! `probe` over devices that give and take a byte a call: each read and each write of the handshake and of each turn of a
-//! script fails, once and for good; each write takes nothing; the stream ends at each byte.
+//! `probe` over devices that give and take a byte a call: each read and each write of the handshake and of each turn of
+//! a script fails, once and for good; each write takes nothing; the stream ends at each byte.
 
 use crate::comparing::{same_answer, same_bytes, same_number};
 use crate::probes::{After, RESPONSE, after_run, ended_so, run_case};

@@ -1,8 +1,8 @@
 //! The message that is open on the receiving side, and the payload of the frame under way after it (RFC 6455
 //! section 5.4).
 
-ghost use Rattle.std.specs.Prelude.{◌≡◌, ◌↔◌, ◌≤◌, ◌<◌, ◌++◌, ◌∷◌, [], length, drop, is_some, IsTrue, OnOk, OnErr, Some};
-ghost use Rattle.std.specs.Prelude.{None};
+ghost use Rattle.std.specs.Prelude.{◌≡◌, ◌↔◌, ◌≤◌, ◌<◌, ◌++◌, ◌∷◌, [], length, drop, is_some, IsTrue};
+ghost use Rattle.std.specs.Prelude.{OnOk, OnErr, Some, None};
 ghost use Rattle.ws_text.specs.Stream.{HasRead};
 ghost use Rattle.ws_session.specs.Faults.{open_payload, IsOpenText};
 ghost use Rattle.ws_session.specs.Masked.{masked_from};
