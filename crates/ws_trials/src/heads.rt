@@ -2,10 +2,10 @@
 
 use crate::comparing::{same_answer, same_lengths, same_number};
 use std::test::Fail;
+use ws_connection::{HeadEnd, HeadRoom, RequestDecision, RequestHead, read_head};
 use ws_frame::Watched;
 use ws_frame::devices::Counting;
 use ws_upgrade::HeadFault;
-use wst_commands::{HeadEnd, HeadRoom, RequestDecision, RequestHead, read_head};
 
 /// Eight reads of 1024 bytes at most, and none behind byte 8192.
 #[test]

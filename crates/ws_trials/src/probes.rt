@@ -12,11 +12,11 @@ use std::alloc::Global;
 use std::io::{Read, Write};
 use std::test::Fail;
 use ws_base::Sequence;
+use ws_connection::{Probe, probe};
 use ws_frame::Watched;
 use ws_frame::devices::{ByteReader, Failing};
 use ws_suite::{Case, Chop, Ended, Verdict, case, judge};
 use ws_upgrade::{HeadFault, request_with};
-use wst_commands::{Probe, probe};
 
 /// The host that is asked.
 pub const HOST: &[u8] = b"localhost:9001";

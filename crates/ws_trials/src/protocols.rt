@@ -8,9 +8,9 @@ use crate::serves::{BUDGET, CLOSED};
 use std::alloc::Global;
 use std::process::Abort;
 use std::test::Fail;
+use ws_connection::{Probe, Served, serve_one};
 use ws_frame::Watched;
 use ws_upgrade::{HeadFault, request_with};
-use wst_commands::{Probe, Served, serve_one};
 
 /// A request that offers two subprotocols, and behind it a close frame with the code 1000.
 const OFFERING: &[u8] = b"GET /chat HTTP/1.1\r\nHost: server.example.com\r\nUpgrade: websocket\r\n\

@@ -5,11 +5,11 @@ use crate::drives::limits;
 use std::alloc::Global;
 use std::process::Abort;
 use std::test::Fail;
+use ws_connection::{Served, serve_one};
 use ws_frame::Watched;
 use ws_frame::devices::{ByteReader, ByteWriter, Failing};
 use ws_session::{Reason, Status};
 use ws_upgrade::HeadFault;
-use wst_commands::{Served, serve_one};
 
 /// The request of RFC 6455 section 1.2, and behind it a text and a close frame with the code 1000.
 pub const REQUEST: &[u8] =

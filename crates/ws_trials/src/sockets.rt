@@ -8,8 +8,8 @@ use std::io;
 use std::io::{Read, Write};
 use std::net::{TcpListener, TcpStream};
 use std::test::Fail;
+use ws_connection::{Served, serve_one};
 use ws_frame::Watched;
-use wst_commands::{Served, serve_one};
 
 /// Takes the next connection, serves it, and closes its socket.
 fn serve_next(alloc: Global, listener: &TcpListener) -> io::Result<Served> {

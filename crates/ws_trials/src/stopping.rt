@@ -3,9 +3,9 @@
 use crate::drives::limits;
 use crate::serves::{After, BAD_REQUEST, BUDGET, REQUEST, RESPONSE, after_bytes, check, due};
 use std::alloc::Global;
+use ws_connection::{Served, serve_one};
 use ws_frame::Watched;
 use ws_frame::devices::{ByteReader, Failing, FullWriter};
-use wst_commands::{Served, serve_one};
 
 /// A request that is refused.
 const OTHER_METHOD: &[u8] = b"POST / HTTP/1.1\r\n\r\n";

@@ -2,8 +2,8 @@
 use Rattle.std.proofs.Common.{◌≡◌, ◌∙◌, ℕ, List, false, inl, inr, sym}
 use Rattle.ws_frame.specs.Devices.{Device}
 use Rattle.wst_commands.specs.Serve.{TellsLineOf}
-use Rattle.wst_commands.specs.declared.exit.Exit.{Exit}
-use Rattle.wst_commands.specs.declared.exit.Exit.TheVariants.{Done, Failed}
+use Rattle.wst_filters.specs.declared.exit.Exit.{Exit}
+use Rattle.wst_filters.specs.declared.exit.Exit.TheVariants.{Done, Failed}
 
 pub works_after : (line : List ℕ) (exit : Exit) (output faults : Device) → TellsLineOf line exit output faults → exit ≡ Done
     → output.failed ≡ false

@@ -12,9 +12,11 @@ use std::io::Write;
 use std::marker::Model;
 use std::net::{Net, TcpListener, TcpStream};
 use ws_base::NoMemory;
+use ws_connection::{Probe, probe};
 use ws_frame::Watched;
 use ws_suite::Case;
-use wst_commands::{CaseServer, Exit, Probe, TestPlan, probe, run_plan};
+use wst_commands::{CaseServer, TestPlan, run_plan};
+use wst_filters::Exit;
 
 /// A server at an address, which can be the host of a request. These subprotocols are offered to it.
 #[derive(Drop)]

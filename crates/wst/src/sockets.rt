@@ -7,8 +7,10 @@ use std::alloc::Global;
 use std::io::{ErrorKind, Read, Write};
 use std::net::{Net, Shutdown, TcpListener, TcpStream};
 use std::time::Duration;
+use ws_connection::{Served, serve_one};
 use ws_frame::Watched;
-use wst_commands::{Exit, ServePlan, Served, serve_one, tell_listening, tell_served};
+use wst_commands::{ServePlan, tell_listening, tell_served};
+use wst_filters::Exit;
 
 /// A client that still sends when its connection has ended is read so often, so that it sees the last bytes sent to it:
 /// a socket that is closed over bytes that were not read is reset.

@@ -9,7 +9,7 @@ use Rattle.std.specs.declared.string.String.{String}
 use Rattle.ws_suite.specs.Scripts.{CanBeRun}
 use Rattle.ws_suite.specs.declared.script.Case.{Case}
 use Rattle.wst_commands.specs.Test.{AreCasesFor, AreCasesOf, GrowsByCase, names_of}
-use Rattle.wst_commands.proofs.CaseLemmas.{next_name}
+use Rattle.wst_filters.proofs.CaseLemmas.{next_name}
 
 -- one more name, and its case
 pub one_more_case : (names : List (List ℕ)) (name : List ℕ) (old new : List Case) (case : Case) → AreCasesOf names old → CanBeRun case

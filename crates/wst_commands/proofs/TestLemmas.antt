@@ -11,18 +11,18 @@ use Rattle.ws_frame.specs.Devices.{Device, HasBegun, HasWritten}
 use Rattle.ws_frame.specs.Watching.{AppendsFront}
 use Rattle.ws_suite.specs.declared.script.Case.{Case}
 use Rattle.ws_suite.specs.declared.verdict.Verdict.TheVariants as verdict
-use Rattle.wst_commands.specs.Devices.{Delivers}
+use Rattle.wst_filters.specs.Devices.{Delivers}
 use Rattle.wst_commands.specs.Outcomes.{exit_of_tests, is_fail, is_loose, is_pass, no_tally, tally_of, tally_with, total_line}
 use Rattle.wst_commands.specs.Testing.{AreTested, IsTested, LacksMemoryAfter, StopsAtConnection, StopsAtLine, TellsAll, TestsCases, no_connection_line, outcomes_in, test_line, test_lines}
-use Rattle.wst_commands.specs.declared.exit.Exit.{Exit}
-use Rattle.wst_commands.specs.declared.exit.Exit.TheVariants.{Failed}
-use Rattle.wst_commands.specs.declared.fault.Fault.{Fault}
-use Rattle.wst_commands.specs.declared.fault.Fault.TheVariants.{NoMemory}
+use Rattle.wst_filters.specs.declared.exit.Exit.{Exit}
+use Rattle.wst_filters.specs.declared.exit.Exit.TheVariants.{Failed}
+use Rattle.wst_filters.specs.declared.fault.Fault.{Fault}
+use Rattle.wst_filters.specs.declared.fault.Fault.TheVariants.{NoMemory}
 use Rattle.wst_commands.specs.declared.outcome.Outcome.{Outcome}
 use Rattle.wst_commands.specs.declared.outcome.Outcome.TheVariants.{HeadRefused, Judged}
 use Rattle.wst_commands.specs.declared.outcome.Tally.{Tally}
-use Rattle.wst_commands.specs.declared.probe_end.Probe.{Probe}
-use Rattle.wst_commands.specs.declared.probe_end.Probe.TheVariants as probe
+use Rattle.ws_connection.specs.declared.probe_end.Probe.{Probe}
+use Rattle.ws_connection.specs.declared.probe_end.Probe.TheVariants as probe
 
 -- one more case, and what is told in it
 pub one_more_test : (Meets : Case → Probe → Type 0) (cases more : List Case) (tests : List (Case × Outcome)) (case : Case) (outcome : Outcome)

@@ -6,8 +6,8 @@ use Rattle.std.specs.Fmt.{decimal}
 use Rattle.ws_suite.specs.Words.{verdict_words}
 use Rattle.ws_suite.specs.declared.verdict.Verdict.TheVariants as verdict
 use Rattle.ws_upgrade.specs.Words.{head_fault_name}
-use Rattle.wst_commands.specs.declared.exit.Exit.{Exit}
-use Rattle.wst_commands.specs.declared.exit.Exit.TheVariants.{Damaged, Done}
+use Rattle.wst_filters.specs.declared.exit.Exit.{Exit}
+use Rattle.wst_filters.specs.declared.exit.Exit.TheVariants.{Damaged, Done}
 use Rattle.wst_commands.specs.declared.outcome.Outcome.{Outcome}
 use Rattle.wst_commands.specs.declared.outcome.Outcome.TheVariants.{HeadRefused, Judged}
 use Rattle.wst_commands.specs.declared.outcome.Tally.{Tally}

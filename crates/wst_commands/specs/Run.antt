@@ -10,21 +10,21 @@ use Rattle.wst_words.specs.declared.words.Task.TheVariants.{Cases, Convert, Head
 use Rattle.wst_words.specs.declared.words.Task.TheVariants.{Session, Show, Test}
 use Rattle.wst_words.specs.declared.words.WordsFault.{WordsFault}
 use Rattle.wst_words.specs.declared.words.WordsFault.TheVariants as words
-use Rattle.wst_commands.specs.Cases.{ListsCases}
-use Rattle.wst_commands.specs.Convert.{RunsConvert}
-use Rattle.wst_commands.specs.Exits.{status_of}
-use Rattle.wst_commands.specs.Faults.{Ends, TellsFault}
-use Rattle.wst_commands.specs.Head.{RunsHead}
-use Rattle.wst_commands.specs.Judge.{RunsJudge}
-use Rattle.wst_commands.specs.Pairs.{RunsPair}
+use Rattle.wst_filters.specs.Cases.{ListsCases}
+use Rattle.wst_filters.specs.Convert.{RunsConvert}
+use Rattle.wst_filters.specs.Exits.{status_of}
+use Rattle.wst_filters.specs.Faults.{Ends, TellsFault}
+use Rattle.wst_filters.specs.Head.{RunsHead}
+use Rattle.wst_filters.specs.Judge.{RunsJudge}
+use Rattle.wst_filters.specs.Pairs.{RunsPair}
 use Rattle.wst_commands.specs.Serve.{RunsServe}
-use Rattle.wst_commands.specs.Session.{RunsSession}
-use Rattle.wst_commands.specs.Show.{RunsShow}
+use Rattle.wst_filters.specs.Session.{RunsSession}
+use Rattle.wst_filters.specs.Show.{RunsShow}
 use Rattle.wst_commands.specs.Test.{RunsTest}
-use Rattle.wst_commands.specs.declared.exit.Exit.{Exit}
-use Rattle.wst_commands.specs.declared.exit.Exit.TheVariants.{Done, WrongWords, Failed}
-use Rattle.wst_commands.specs.declared.fault.Fault.{Fault}
-use Rattle.wst_commands.specs.declared.fault.Fault.TheVariants as fault
+use Rattle.wst_filters.specs.declared.exit.Exit.{Exit}
+use Rattle.wst_filters.specs.declared.exit.Exit.TheVariants.{Done, WrongWords, Failed}
+use Rattle.wst_filters.specs.declared.fault.Fault.{Fault}
+use Rattle.wst_filters.specs.declared.fault.Fault.TheVariants as fault
 use Rattle.wst_commands.specs.declared.running.Ran.{Ran}
 use Rattle.wst_commands.specs.declared.running.Ran.TheVariants as ran
 

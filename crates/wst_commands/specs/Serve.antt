@@ -1,25 +1,23 @@
 -- What `serve` is asked for, and the lines that it tells.
-use Rattle.std.specs.Prelude.{◌≡◌, ℕ, ◌⊎◌, true, false, List, [], ◌∷◌, ◌++◌, codes}
+use Rattle.std.specs.Prelude.{◌≡◌, ℕ, ◌⊎◌, true, false, List, [], ◌∷◌, codes}
 use Rattle.std.specs.List.{concat}
 use Rattle.std.specs.Fmt.{decimal}
 use Rattle.ws_frame.specs.Devices.{Device, HasBegun, HasWritten, IsUntouched}
 use Rattle.ws_session.specs.Limits.{AreLimits}
-use Rattle.ws_session.specs.Words.{status_words}
 use Rattle.ws_upgrade.specs.Protocols.{AreOffers}
-use Rattle.ws_upgrade.specs.Words.{head_fault_name}
+use Rattle.ws_connection.specs.Protocols.{protocols_given}
+use Rattle.ws_connection.specs.Serving.{served_words}
+use Rattle.ws_connection.specs.declared.serving.Served.{Served}
 use Rattle.wst_words.specs.declared.serve.ServeOptions.{ServeOptions}
-use Rattle.wst_commands.specs.Faults.{LacksMemory, TellsFault}
-use Rattle.wst_commands.specs.Limits.{limits_of}
-use Rattle.wst_commands.specs.Protocols.{protocols_given}
-use Rattle.wst_commands.specs.declared.exit.Exit.{Exit}
-use Rattle.wst_commands.specs.declared.exit.Exit.TheVariants.{Done, Failed}
-use Rattle.wst_commands.specs.declared.fault.Fault.{Fault}
-use Rattle.wst_commands.specs.declared.fault.Fault.TheVariants.{BadLimits, BadProtocols, NoMemory}
+use Rattle.wst_filters.specs.Faults.{LacksMemory, TellsFault}
+use Rattle.wst_filters.specs.Limits.{limits_of}
+use Rattle.wst_filters.specs.declared.exit.Exit.{Exit}
+use Rattle.wst_filters.specs.declared.exit.Exit.TheVariants.{Done, Failed}
+use Rattle.wst_filters.specs.declared.fault.Fault.{Fault}
+use Rattle.wst_filters.specs.declared.fault.Fault.TheVariants.{BadLimits, BadProtocols, NoMemory}
 use Rattle.wst_commands.specs.declared.running.Ran.{Ran}
 use Rattle.wst_commands.specs.declared.running.Ran.TheVariants as ran
 use Rattle.wst_commands.specs.declared.serve.ServePlan.{ServePlan}
-use Rattle.wst_commands.specs.declared.serving.Served.{Served}
-use Rattle.wst_commands.specs.declared.serving.Served.TheVariants.{Ended, Refused, Stopped}
 
 -- ---- what is asked for
 
@@ -40,12 +38,6 @@ CanNotServe options BadLimits =
 CanNotServe options fault = fault ≡ NoMemory
 
 -- ---- what is told
-
--- how a connection ended, in words
-abbrev pub served_words : Served → List ℕ
-served_words (Ended status) = status_words status
-served_words (Refused fault) = codes "refused " ++ head_fault_name fault
-served_words Stopped = codes "stopped"
 
 -- the line of the connection of this number
 abbrev pub connection_line : ℕ → Served → List ℕ

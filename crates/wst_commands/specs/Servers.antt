@@ -8,8 +8,8 @@ use Rattle.ws_suite.specs.declared.script.Case.{Case}
 use Rattle.ws_suite.specs.declared.transcript.Transcript.{Transcript}
 use Rattle.wst_commands.specs.declared.case_server.MemoryServer.{MemoryServer}
 use Rattle.wst_commands.specs.declared.case_server.MemoryServer.TheVariants.{Own, Tung}
-use Rattle.wst_commands.specs.declared.probe_end.Probe.{Probe}
-use Rattle.wst_commands.specs.declared.probe_end.Probe.TheVariants.{NoConnection, Ran, Refused}
+use Rattle.ws_connection.specs.declared.probe_end.Probe.{Probe}
+use Rattle.ws_connection.specs.declared.probe_end.Probe.TheVariants.{NoConnection, Ran, Refused}
 
 -- The transcript is that of a run of the script's pieces in some talk with a peer, of which nothing else is known.
 pub record IsPeerRun (key : List ℕ) (case : Case) (transcript : Transcript) : Type 0 where

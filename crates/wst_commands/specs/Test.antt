@@ -11,18 +11,18 @@ use Rattle.ws_suite.specs.declared.script.Case.{Case}
 use Rattle.ws_upgrade.specs.Protocols.{AreOffers}
 use Rattle.ws_upgrade.specs.Texts.{IsHost}
 use Rattle.wst_words.specs.declared.test.TestOptions.{TestOptions}
-use Rattle.wst_commands.specs.Cases.{IsNoList}
-use Rattle.wst_commands.specs.Devices.{Tells}
-use Rattle.wst_commands.specs.Faults.{Ends, LacksMemory, TellsFault}
-use Rattle.wst_commands.specs.Protocols.{protocols_given}
+use Rattle.wst_filters.specs.Cases.{IsNoList}
+use Rattle.wst_filters.specs.Devices.{Tells}
+use Rattle.wst_filters.specs.Faults.{Ends, LacksMemory, TellsFault}
+use Rattle.ws_connection.specs.Protocols.{protocols_given}
 use Rattle.wst_commands.specs.Servers.{MeetsInMemory}
 use Rattle.wst_commands.specs.Testing.{CapturesCase, TestsCases}
 use Rattle.wst_commands.specs.declared.case_server.MemoryServer.TheVariants.{Own, Tung}
-use Rattle.wst_commands.specs.declared.exit.Exit.{Exit}
-use Rattle.wst_commands.specs.declared.exit.Exit.TheVariants.{WrongWords}
-use Rattle.wst_commands.specs.declared.fault.Fault.{Fault}
-use Rattle.wst_commands.specs.declared.fault.Fault.TheVariants.{NoMemory}
-use Rattle.wst_commands.specs.declared.probe_end.Probe.{Probe}
+use Rattle.wst_filters.specs.declared.exit.Exit.{Exit}
+use Rattle.wst_filters.specs.declared.exit.Exit.TheVariants.{WrongWords}
+use Rattle.wst_filters.specs.declared.fault.Fault.{Fault}
+use Rattle.wst_filters.specs.declared.fault.Fault.TheVariants.{NoMemory}
+use Rattle.ws_connection.specs.declared.probe_end.Probe.{Probe}
 use Rattle.wst_commands.specs.declared.running.Ran.{Ran}
 use Rattle.wst_commands.specs.declared.running.Ran.TheVariants as ran
 use Rattle.wst_commands.specs.declared.test.Target.{Target}

@@ -8,17 +8,17 @@ use Rattle.ws_suite.specs.declared.capture.Capture.{Capture}
 use Rattle.ws_suite.specs.Verdicts.{IsVerdictOf}
 use Rattle.ws_suite.specs.declared.script.Case.{Case}
 use Rattle.ws_suite.specs.declared.verdict.Verdict.{Verdict}
-use Rattle.wst_commands.specs.Devices.{Delivers}
-use Rattle.wst_commands.specs.Judge.{exit_of}
+use Rattle.wst_filters.specs.Devices.{Delivers}
+use Rattle.wst_filters.specs.Judge.{exit_of}
 use Rattle.wst_commands.specs.Outcomes.{exit_of_tests, outcome_words, tally_of, total_line}
-use Rattle.wst_commands.specs.declared.exit.Exit.{Exit}
-use Rattle.wst_commands.specs.declared.exit.Exit.TheVariants.{Damaged, Failed}
-use Rattle.wst_commands.specs.declared.fault.Fault.{Fault}
-use Rattle.wst_commands.specs.declared.fault.Fault.TheVariants.{NoMemory}
+use Rattle.wst_filters.specs.declared.exit.Exit.{Exit}
+use Rattle.wst_filters.specs.declared.exit.Exit.TheVariants.{Damaged, Failed}
+use Rattle.wst_filters.specs.declared.fault.Fault.{Fault}
+use Rattle.wst_filters.specs.declared.fault.Fault.TheVariants.{NoMemory}
 use Rattle.wst_commands.specs.declared.outcome.Outcome.{Outcome}
 use Rattle.wst_commands.specs.declared.outcome.Outcome.TheVariants as outcome
-use Rattle.wst_commands.specs.declared.probe_end.Probe.{Probe}
-use Rattle.wst_commands.specs.declared.probe_end.Probe.TheVariants as probe
+use Rattle.ws_connection.specs.declared.probe_end.Probe.{Probe}
+use Rattle.ws_connection.specs.declared.probe_end.Probe.TheVariants as probe
 
 -- ---- one case
 

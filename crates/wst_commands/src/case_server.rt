@@ -4,9 +4,9 @@ ghost use Rattle.std.specs.Prelude.{IfOk};
 ghost use Rattle.ws_suite.specs.Scripts.{CanBeRun};
 ghost use Rattle.wst_commands.specs.Servers.{IsMemoryRun, IsPeerRun, MeetsInMemory};
 
-use crate::probe_end::Probe;
 use std::alloc::Global;
 use ws_base::NoMemory;
+use ws_connection::Probe;
 use ws_peer::{TungPeer, run_case, run_over_echo};
 use ws_suite::{Case, Transcript};
 
@@ -14,7 +14,7 @@ use ws_suite::{Case, Transcript};
 pub trait CaseServer {
     ghost use Rattle.std.specs.Prelude.{List, ℕ};
     ghost use Rattle.ws_suite.specs.declared.script.Case.{Case};
-    ghost use Rattle.wst_commands.specs.declared.probe_end.Probe.{Probe};
+    ghost use Rattle.ws_connection.specs.declared.probe_end.Probe.{Probe};
 
     /// With this masking key, this may come of a connection to a new server in this case.
     ghost meets: { Self → List ℕ → Case → Probe → Type 0 };

@@ -1,14 +1,14 @@
 //! The cases that `test` is asked for.
 
 ghost use Rattle.std.specs.Prelude.{ℕ, List, IfOk, MatchResult};
-ghost use Rattle.wst_commands.specs.Cases.{IsNoList};
+ghost use Rattle.wst_filters.specs.Cases.{IsNoList};
 ghost use Rattle.wst_commands.specs.Test.{AreCasesFor, AreCasesOf, GrowsByCase, RefusesNames, names_of};
 
-use crate::fault::Fault;
 use crate::test::TestRefusal;
 use std::alloc::Global;
 use ws_base::NoMemory;
 use ws_suite::{Case, case, ids};
+use wst_filters::Fault;
 
 /// The cases with these names, all cases where there are none.
 pub fn cases_of<'a>(alloc: Global, ids: &[&'a str]) -> Result<Vec<Case>, TestRefusal<'a>>

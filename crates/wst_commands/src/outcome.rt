@@ -3,10 +3,10 @@
 ghost use Rattle.std.specs.Prelude.{◌≡◌, ◌+◌, ◌<◌, ◌^◌};
 ghost use Rattle.wst_commands.specs.Outcomes.{exit_of_tests, no_tally, outcome_words, tally_with};
 
-use crate::exit::Exit;
 use std::fmt;
 use ws_suite::Verdict;
 use ws_upgrade::HeadFault;
+use wst_filters::Exit;
 
 /// What is told of a server in a case.
 #[derive(Clone, Copy)]

@@ -5,28 +5,23 @@ ghost use Rattle.clap.specs.Words.{kind_of};
 ghost use Rattle.ws_frame.specs.Devices.{watched};
 ghost use Rattle.ws_frame.specs.Watching.{has_failed};
 ghost use Rattle.wst_words.specs.Words.{Places, wst_app};
-ghost use Rattle.wst_commands.specs.Devices.{Tells};
-ghost use Rattle.wst_commands.specs.Exits.{status_of};
+ghost use Rattle.wst_filters.specs.Devices.{Tells};
+ghost use Rattle.wst_filters.specs.Exits.{status_of};
 ghost use Rattle.wst_commands.specs.Run.{AnswersWords, EndsRun, EndsWithin, Runs, RunsTask, TellsOf};
 ghost use Rattle.wst_commands.specs.Serve.{RunsServe};
 ghost use Rattle.wst_commands.specs.Test.{RunsTest};
 
-use crate::cases::run_cases;
-use crate::convert::run_convert;
-use crate::exit::Exit;
-use crate::fault::{Fault, end_run, tell_fault};
-use crate::head::run_head;
-use crate::judge::run_judge;
-use crate::pair::run_moves;
 use crate::serve::{ServePlan, plan_serve};
-use crate::session::run_session;
-use crate::show::run_show;
 use crate::test::{Target, TestPlan, plan_test, run_plan, tell_refusal};
 use clap::Error;
 use clap::error::ErrorKind;
 use std::alloc::Global;
 use std::io::{Read, Write};
 use ws_frame::Watched;
+use wst_filters::{
+    Exit, Fault, end_run, run_cases, run_convert, run_head, run_judge, run_moves, run_session,
+    run_show, tell_fault,
+};
 use wst_words::{ServeOptions, Task, TestOptions, WordsFault, read_words};
 
 /// What came of a run. What asks for sockets, which stand above, is handed back: then nothing was read, written or

@@ -6,15 +6,12 @@ ghost use Rattle.ws_frame.specs.Watching.{has_failed};
 ghost use Rattle.wst_commands.specs.Serve.{CanNotServe, DeliversLine, IsServePlan, TellsLineOf};
 ghost use Rattle.wst_commands.specs.Serve.{connection_line, listening_line};
 
-use crate::exit::Exit;
-use crate::fault::{Fault, tell_fault};
-use crate::limits::limits_given;
-use crate::protocols::{Protocols, protocols_of};
-use crate::serving::Served;
 use std::alloc::Global;
 use std::io::Write;
+use ws_connection::{Protocols, Served, protocols_of};
 use ws_frame::{Watched, write_whole};
 use ws_session::Limits;
+use wst_filters::{Exit, Fault, limits_given, tell_fault};
 use wst_words::ServeOptions;
 
 /// Connections that are to be served over sockets.

@@ -3,25 +3,23 @@
 ghost use Rattle.std.specs.Prelude.{◌≡◌, ◌≢◌, ◌⊎◌, IfOk, MatchResult, codes, false};
 ghost use Rattle.ws_frame.specs.Devices.{watched};
 ghost use Rattle.ws_frame.specs.Watching.{has_failed};
-ghost use Rattle.wst_commands.specs.Devices.{Tells};
-ghost use Rattle.wst_commands.specs.Faults.{LacksMemory};
+ghost use Rattle.wst_filters.specs.Devices.{Tells};
+ghost use Rattle.wst_filters.specs.Faults.{LacksMemory};
 ghost use Rattle.wst_commands.specs.Test.{CanBeTested, CarriesOut, HasHost, IsPlan, IsTargetOf};
 ghost use Rattle.wst_commands.specs.Test.{RefusesTarget, RefusesTest, RunsPlan, TellsRefusal, no_case_line};
-ghost use Rattle.wst_commands.specs.declared.exit.Exit.TheVariants.{WrongWords};
+ghost use Rattle.wst_filters.specs.declared.exit.Exit.TheVariants.{WrongWords};
 
 use crate::case_server::{CaseServer, MemoryServer};
-use crate::exit::Exit;
-use crate::fault::{Fault, end_run, tell_fault};
 use crate::given_cases::cases_of;
-use crate::protocols::{Protocols, protocols_of};
-use crate::telling::tell;
 use crate::testing::{capture_case, test_cases};
 use std::alloc::Global;
 use std::io::Write;
 use ws_base::{NoMemory, read_key};
+use ws_connection::{Protocols, protocols_of};
 use ws_frame::Watched;
 use ws_suite::Case;
 use ws_upgrade::{RequestFault, request};
+use wst_filters::{Exit, Fault, end_run, tell, tell_fault};
 use wst_words::TestOptions;
 
 /// The nonce of each opening handshake.
@@ -77,7 +75,7 @@ impl From<Fault> for TestRefusal<'_> {
 }
 
 impl From<NoMemory> for TestRefusal<'_> {
-    ghost use Rattle.wst_commands.specs.declared.fault.Fault.TheVariants as fault;
+    ghost use Rattle.wst_filters.specs.declared.fault.Fault.TheVariants as fault;
     ghost use Rattle.wst_commands.specs.declared.test.TestRefusal.TheVariants as refusal;
 
     ghost from_gives = { λ _ given. given ≡ refusal.Fault fault.NoMemory };

@@ -5,26 +5,23 @@ ghost use Rattle.std.specs.List.{All};
 ghost use Rattle.ws_frame.specs.Devices.{watched};
 ghost use Rattle.ws_frame.specs.Watching.{has_failed};
 ghost use Rattle.ws_suite.specs.Scripts.{CanBeRun};
-ghost use Rattle.wst_commands.specs.Devices.{Delivers};
+ghost use Rattle.wst_filters.specs.Devices.{Delivers};
 ghost use Rattle.wst_commands.specs.Outcomes.{exit_of_tests, total_line};
 ghost use Rattle.wst_commands.specs.Testing.{CapturesCase, IsTested, TestsCases, WritesCapture};
 ghost use Rattle.wst_commands.specs.Testing.{no_connection_line, test_line};
-ghost use Rattle.wst_commands.specs.declared.exit.Exit.TheVariants.{Done, Failed};
-ghost use Rattle.wst_commands.specs.declared.fault.Fault.TheVariants as variant;
-ghost use Rattle.wst_commands.specs.declared.probe_end.Probe.TheVariants.{NoConnection};
+ghost use Rattle.wst_filters.specs.declared.exit.Exit.TheVariants.{Done, Failed};
+ghost use Rattle.wst_filters.specs.declared.fault.Fault.TheVariants as variant;
+ghost use Rattle.ws_connection.specs.declared.probe_end.Probe.TheVariants.{NoConnection};
 
 use crate::case_server::CaseServer;
-use crate::exit::Exit;
-use crate::fault::Fault;
-use crate::judge::exit_of;
 use crate::outcome::{Outcome, Tally};
-use crate::probe_end::Probe;
-use crate::telling::deliver;
 use std::alloc::Global;
 use std::io::Write;
 use ws_base::NoMemory;
+use ws_connection::Probe;
 use ws_frame::Watched;
 use ws_suite::{Capture, Case, judge, write_capture2};
+use wst_filters::{Exit, Fault, deliver, exit_of};
 
 /// Runs the cases in their order, each over a new server, its frames masked with `key`, and writes a line for each as
 /// soon as it is judged, and the total last. A line that can't be written ends the run, and so does a server to which

@@ -1,6 +1,6 @@
 use Rattle.std.proofs.Common.{◌≡◌, ◌∙◌, inl, refl, subst, List, ℕ}
 use Rattle.ws_frame.specs.Devices.{watched}
-use Rattle.wst_commands.specs.Devices.{Tells}
+use Rattle.wst_filters.specs.Devices.{Tells}
 use Rattle.wst_commands.specs.Test.{no_case_line}
 use Rattle.wst_commands.proofs.test.tell_no_case.Goals as goal
 

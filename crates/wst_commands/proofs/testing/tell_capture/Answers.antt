@@ -1,8 +1,8 @@
 use Rattle.std.proofs.Common.{rules, ◌≡◌}
 use Rattle.ws_frame.specs.Devices.{watched}
 use Rattle.ws_suite.specs.Captures2.{written_capture2}
-use Rattle.wst_commands.specs.Judge.{exit_of}
-use Rattle.wst_commands.proofs.Delivering.{delivers_same}
+use Rattle.wst_filters.specs.Judge.{exit_of}
+use Rattle.wst_filters.proofs.Delivering.{delivers_same}
 use Rattle.wst_commands.proofs.testing.tell_capture.Goals as goal
 
 pub returns : goal.returns

@@ -1,8 +1,8 @@
 use Rattle.std.proofs.Common.{◌≡◌, ◌∙◌, refl}
 use Rattle.ws_frame.specs.Devices.{watched}
 use Rattle.wst_commands.specs.Testing.{no_connection_line}
-use Rattle.wst_commands.specs.declared.exit.Exit.TheVariants.{Failed}
-use Rattle.wst_commands.proofs.Delivering.{delivers_same}
+use Rattle.wst_filters.specs.declared.exit.Exit.TheVariants.{Failed}
+use Rattle.wst_filters.proofs.Delivering.{delivers_same}
 use Rattle.wst_commands.proofs.testing.tell_no_connection.Goals as goal
 
 pub returns : goal.returns

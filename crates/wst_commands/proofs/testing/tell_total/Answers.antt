@@ -1,7 +1,7 @@
 use Rattle.std.proofs.Common.{rules, ◌≡◌}
 use Rattle.ws_frame.specs.Devices.{watched}
 use Rattle.wst_commands.specs.Outcomes.{exit_of_tests, total_line}
-use Rattle.wst_commands.proofs.Delivering.{delivers_same}
+use Rattle.wst_filters.proofs.Delivering.{delivers_same}
 use Rattle.wst_commands.proofs.testing.tell_total.Goals as goal
 
 pub returns : goal.returns

@@ -4,9 +4,9 @@ use Rattle.ws_frame.specs.Devices.{watched}
 use Rattle.ws_frame.specs.Watching.{has_failed, inner_of}
 use Rattle.ws_suite.specs.declared.script.Case.{Case}
 use Rattle.wst_commands.specs.Testing.{IsTested, test_line}
-use Rattle.wst_commands.specs.declared.exit.Exit.TheVariants.{Done}
+use Rattle.wst_filters.specs.declared.exit.Exit.TheVariants.{Done}
 use Rattle.wst_commands.specs.declared.outcome.Outcome.{Outcome}
-use Rattle.wst_commands.specs.declared.probe_end.Probe.TheVariants.{NoConnection}
+use Rattle.ws_connection.specs.declared.probe_end.Probe.TheVariants.{NoConnection}
 use Rattle.wst_commands.proofs.TestLemmas.{ends_there, ends_told, tally_has_room, told_more, told_nothing, told_stops, was_begun, was_written}
 use Rattle.wst_commands.proofs.testing.test_cases.Goals as goal
 

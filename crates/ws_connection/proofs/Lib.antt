@@ -1,0 +1,3 @@
+pub mod HeadLemmas
+pub mod ServingLemmas
+pub mod ProbingLemmas

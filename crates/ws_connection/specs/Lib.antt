@@ -1,0 +1,7 @@
+pub mod ReadingHeads
+pub mod Protocols
+pub mod Requests
+pub mod Responses
+pub mod Probing
+pub mod ProbeTurns
+pub mod Serving

@@ -1,0 +1,24 @@
+//! One connection over a watched reader and a watched writer: the opening handshake, read from the device, and what
+//! comes behind it, on either side (RFC 6455 sections 4.1, 4.2 and 5 to 7). The device is any: a socket, or bytes in
+//! memory.
+//!
+//! The layer above uses: `serve_one` (the clauses with `Serves`), `probe` (`Probes`), `read_head` (the clauses with
+//! `ReadsHead`) with `RequestHead` and `ResponseHead`, and `protocols_of`, whose `Protocols` both take.
+#![tactic(auto)]
+
+mod awaiting;
+mod probe_end;
+mod probing;
+mod protocols;
+mod reading_head;
+mod request_head;
+mod response_head;
+mod serving;
+
+pub use probe_end::Probe;
+pub use probing::probe;
+pub use protocols::{Protocols, name_chosen, protocols_of};
+pub use reading_head::{HeadDecider, HeadEnd, HeadRoom, read_head};
+pub use request_head::{RequestDecision, RequestHead};
+pub use response_head::{ResponseDecision, ResponseHead};
+pub use serving::{Served, serve_one};

@@ -1,0 +1,120 @@
+//! Reading the head of an opening handshake from a stream (RFC 6455 section 4), no further than it takes.
+
+ghost use Rattle.std.specs.Prelude.{◌≡◌, ◌≤◌, ◌<◌, ◌||◌, [], length, false, is_err, IfNone, MatchOption};
+ghost use Rattle.ws_frame.specs.Devices.{watched};
+ghost use Rattle.ws_frame.specs.Watching.{has_failed};
+ghost use Rattle.ws_connection.specs.ReadingHeads.{ReadsHead, ReadsMore};
+
+use std::io;
+use std::io::Read;
+use std::marker::Model;
+use ws_frame::Watched;
+use ws_upgrade::MAX_HEAD;
+
+/// How many bytes one read asks for at most.
+const READ_SIZE: usize = 1024;
+
+/// Room for the bytes that are read for a head, at most 8192, kept in place.
+#[derive(Drop)]
+pub struct HeadRoom {
+    bytes: [u8; MAX_HEAD],
+    len: usize,
+}
+
+impl Model for HeadRoom {
+    ghost use Rattle.std.specs.Prelude.{List, ℕ, take, ◌≤◌};
+
+    ghost Value = { List ℕ };
+
+    ghost view = { λ room. take room.len room.bytes };
+
+    ghost invariant = { λ room. room.len ≤ 8192 };
+}
+
+impl HeadRoom {
+    /// Room in which no byte is kept.
+    pub fn new() -> HeadRoom
+        ensures { result ≡ [] }
+    {
+        HeadRoom {
+            bytes: [0; MAX_HEAD],
+            len: 0,
+        }
+    }
+
+    /// The bytes that were read.
+    pub fn as_slice(&self) -> &[u8]
+        ensures bytes { result.now ≡ self.now }
+        ensures bound { length result.now ≤ 8192 }
+    {
+        &self.bytes[..self.len]
+    }
+
+    /// Reads once, at most 1024 bytes, and keeps them after the others. Answers how many they are.
+    fn read_more<R: Read>(&mut self, reader: &mut Watched<R>) -> io::Result<usize>
+        requires { length self.old < 8192 }
+        ensures bytes { ReadsMore self.old self.new result (watched R.remaining reader.old reader.new) }
+        ensures bound { length self.new ≤ 8192 }
+        ensures failed { has_failed reader.new ≡ (has_failed reader.old || is_err result) }
+    {
+        let end = self.len + READ_SIZE.min(MAX_HEAD - self.len);
+        let count = reader.read(&mut self.bytes[self.len..end])?;
+        self.len += count;
+        Ok(count)
+    }
+}
+
+/// What decides the heads of requests, or of responses.
+pub trait HeadDecider {
+    /// What is decided.
+    type Decision: Copy;
+
+    ghost use Rattle.std.specs.Prelude.{List, ℕ};
+
+    /// These bytes need more.
+    ghost needs: { Self → List ℕ → Type 0 };
+
+    /// These bytes are decided so.
+    ghost decides: { Self → List ℕ → Self.Decision → Type 0 };
+
+    /// What these bytes decide. `None` where more are needed, and they are less than the most that are read.
+    fn decide(&self, bytes: &[u8]) -> Option<Self::Decision>
+        ensures decided { MatchOption result (needs self.now bytes.now) (decides self.now bytes.now) }
+        ensures room { IfNone result (length bytes.now < 8192) };
+}
+
+/// How the reading of a head ended.
+#[derive(Clone, Copy)]
+pub enum HeadEnd<D> {
+    /// What was read decides so.
+    Decided(D),
+    /// The reader is at its end inside a head, or gave nothing.
+    Cut,
+    /// A read answered an error.
+    ReadFault,
+}
+
+/// Reads until a head is decided, or to the reader's end, at most 8192 bytes. `room` keeps what was read,
+/// in place of what it kept before. Once a head is decided nothing more is read; of what follows it at
+/// most what came with the last read, of 1024 bytes, is in `room`.
+pub fn read_head<R: Read, D: HeadDecider>(
+    reader: &mut Watched<R>,
+    room: &mut HeadRoom,
+    decider: &D,
+) -> HeadEnd<D::Decision>
+    requires reader_works { has_failed reader.old ≡ false }
+    ensures { ReadsHead (D.needs decider.now) (D.decides decider.now) result room.new
+        (watched R.remaining reader.old reader.new) }
+{
+    *room = HeadRoom::new();
+    loop {
+        if let Some(decision) = decider.decide(room.as_slice()) {
+            return HeadEnd::Decided(decision);
+        }
+        match room.read_more(reader) {
+            Ok(0) => return HeadEnd::Cut,
+            Ok(_) => {}
+            Err(_) => return HeadEnd::ReadFault,
+        }
+    }
+}

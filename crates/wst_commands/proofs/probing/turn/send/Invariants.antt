@@ -1,7 +1,0 @@
-use Rattle.ws_frame.specs.Devices.{watched}
-use Rattle.wst_commands.proofs.ProbingLemmas.{HasSentPieces}
-use Rattle.wst_commands.proofs.probing.turn.send.Given as goal
-
--- the pieces so far were sent
-abbrev pub invariant-loop-piece : goal.invariant-loop-piece
-invariant-loop-piece g l = HasSentPieces l.pieces l.piece-index l.sent.items (watched g.W.Write.contents l.fn.writer l.writer)

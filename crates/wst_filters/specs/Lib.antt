@@ -1,0 +1,12 @@
+pub mod Exits
+pub mod Devices
+pub mod Faults
+pub mod Limits
+pub mod ReadingWhole
+pub mod Show
+pub mod Head
+pub mod Pairs
+pub mod Session
+pub mod Judge
+pub mod Convert
+pub mod Cases
