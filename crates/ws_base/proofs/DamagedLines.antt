@@ -1,8 +1,9 @@
 -- Texts with a line for each value, and the first line that tells none.
-use Rattle.std.proofs.Common.{◌≡◌, ◌≢◌, ◌∙◌, ℕ, zero, suc, ◌+◌, ◌<◌, ◌≤◌, List, [], ◌∷◌, ◌++◌, length, ap, ap₂, sym, refl, subst, arith, append_assoc, slice_index}
+use Rattle.std.proofs.Common.{◌≡◌, ◌∙◌, ℕ, zero, suc, ◌+◌, ◌<◌, ◌≤◌, List, [], ◌∷◌, ◌++◌, length, ap, ap₂, sym, refl, subst, arith, append_assoc, slice_index}
 use Rattle.std.proofs.lemmas.List.{length-append}
-use Rattle.std.specs.List.{All, AllByRecursion}
-use Rattle.ws_base.specs.Lines.{BeginsWithLines, HasLineForEach, IsDamagedAt, IsLine, ended}
+use Rattle.std.specs.List.{AllByRecursion}
+use Rattle.ws_base.specs.Lines.{Damages, HasLineForEach, IsDamagedAt, IsLine, ended}
+use Rattle.ws_base.specs.declared.lines.TextFault.TheVariants.{Damaged}
 
 -- ---- lines
 
@@ -138,3 +139,7 @@ module _ {T : Type 0} (IsLineOf : T → List ℕ → Type 0) where
   first_line_no_value text front after cut is wrong (value, line, rest, e, is_line, of) =
       let same = one_line line front rest after is_line is (sym e ∙ cut) in
       wrong value (subst (IsLineOf value) same.0 of)
+
+-- a fault that names the line at which the text is damaged
+pub names_line : {T : Type 0} (IsTextOf : T → List ℕ → Type 0) (line : ℕ) (text : List ℕ) → IsDamagedAt IsTextOf line text → Damages IsTextOf (Damaged line) text
+names_line IsTextOf line text damaged n told = let same : line ≡ n = cc in subst (λ (k : ℕ). IsDamagedAt IsTextOf k text) same damaged

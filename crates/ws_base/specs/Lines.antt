@@ -1,8 +1,8 @@
 -- Texts of lines, each of which ends with LF; and, for any format of such texts, where a text is damaged.
-use Rattle.std.specs.Prelude.{◌≡◌, ◌≢◌, ⊤, ℕ, ◌<◌, All, List, [], ◌∷◌, ◌++◌, length, Option, Some, None}
+use Rattle.std.specs.Prelude.{◌≡◌, ◌≢◌, ℕ, ◌<◌, All, List, [], ◌∷◌, ◌++◌, length}
 use Rattle.std.specs.List.{AllByRecursion, flat_map}
 use Rattle.ws_base.specs.declared.lines.TextFault.{TextFault}
-use Rattle.ws_base.specs.declared.lines.TextFault.TheVariants.{Damaged, NoMemory}
+use Rattle.ws_base.specs.declared.lines.TextFault.TheVariants.{Damaged}
 
 abbrev pub line_feed : ℕ
 line_feed = 10
@@ -44,7 +44,6 @@ pub record IsDamagedAt {T : Type 0} (IsTextOf : T → List ℕ → Type 0) (n : 
   pub before : (m : ℕ) → m < n → BeginsWithLines IsTextOf m text
   pub damaged : BeginsWithLines IsTextOf n text → ⊥
 
--- what a fault tells of a text
+-- what a fault tells of a text: where it names a line, the text is damaged at that line
 abbrev pub Damages : {T : Type 0} → (T → List ℕ → Type 0) → TextFault → List ℕ → Type 0
-Damages IsTextOf (Damaged n) text = IsDamagedAt IsTextOf n text
-Damages IsTextOf NoMemory text = ⊤
+Damages IsTextOf fault text = (n : ℕ) → fault ≡ Damaged n → IsDamagedAt IsTextOf n text

@@ -1,6 +1,6 @@
 -- What the readers of words and lines answer, and inside the crate their steps. A reader may skip all but the first
 -- two.
-use Rattle.std.specs.Prelude.{◌≡◌, ◌≢◌, ℕ, ◌/◌, ◌%◌, ◌<◌, ◌⊎◌, false, All, List, ◌∷◌, ◌++◌, length, slice_index, Option}
+use Rattle.std.specs.Prelude.{◌≡◌, ℕ, ◌/◌, ◌%◌, ◌<◌, ◌⊎◌, false, List, ◌∷◌, ◌++◌, length, slice_index, Option}
 use Rattle.std.specs.Prelude.{Some, None, Result, Ok, Err}
 use Rattle.std.specs.Fmt.{digit_glyph}
 use Rattle.std.specs.Borrow.{Bor}

@@ -5,15 +5,15 @@ use Rattle.std.proofs.lemmas.Bool.{cases_lt}
 use Rattle.std.proofs.lemmas.List.{length-append, take-append-drop}
 use Rattle.std.proofs.lemmas.Grind.{flat_map-append}
 use Rattle.ws_frame.specs.declared.role.Role.{Role}
-use Rattle.ws_frame.specs.declared.showing.ShowEnd.{ShowEnd}
-use Rattle.ws_frame.specs.declared.showing.ShowEnd.TheVariants.{Done, CutAt, BadLengthAt, Budget, ReadFault, WriteFault, NoMemory}
+use Rattle.ws_frame.specs.declared.showing.StreamEnd.{StreamEnd}
+use Rattle.ws_frame.specs.declared.showing.StreamEnd.TheVariants.{Whole, CutAt, BadLengthAt}
 use Rattle.ws_frame.specs.Header.{HeaderFields, AreBytes}
 use Rattle.ws_frame.specs.Masking.{masked_payload}
 use Rattle.ws_frame.specs.Frame.{WireFrame, IsWireFrame, wire_bytes}
 use Rattle.ws_frame.specs.Reading.{Begins, BeginsNoHeader, BeginsBadLength}
 use Rattle.ws_frame.specs.Stream.{SplitsIntoAnyForm}
 use Rattle.ws_frame.specs.Lines.{line_with, line_of, frame_lines, last_line, Leaves, AreLinesOf}
-use Rattle.ws_frame.specs.Showing.{IsLeft, BeginsLines}
+use Rattle.ws_frame.specs.InnerShowing.{IsLeft, BeginsLines}
 use Rattle.ws_frame.proofs.Headers.{same_header, header_parts, header_or_none}
 use Rattle.ws_frame.proofs.Masks.{masked_payload_twice, take-masked_payload}
 use Rattle.ws_frame.proofs.Splits.{some_split, split_is_one, rest_bytes, all-append}
@@ -55,8 +55,8 @@ pub nothing_bad : (rest : List ℕ) → rest ≡ [] → BeginsBadLength rest →
 nothing_bad rest e (h, used, b, big) = omega (arith, ap (λ (t : List ℕ). length t) (sym e ∙ header_parts h used rest b))
 
 -- what is left of any stream
-some_left : (at : ℕ) (rest : List ℕ) → AreBytes rest → (left : ShowEnd) × Leaves left at rest
-some_left at [] are = (Done, refl)
+some_left : (at : ℕ) (rest : List ℕ) → AreBytes rest → (left : StreamEnd) × Leaves left at rest
+some_left at [] are = (Whole, refl)
 some_left at (b ∷ rest) are =
     elim (header_or_none (b ∷ rest) are) [
       | inr none ↦ (CutAt at, (refl, omega arith, no_bad_without_header (b ∷ rest) none))
@@ -66,53 +66,37 @@ some_left at (b ∷ rest) are =
       ]
     ]
 
-pub some_lines : (from : Role) (bytes : List ℕ) → AreBytes bytes → (left : ShowEnd) × (lines : List ℕ) × AreLinesOf from bytes left lines
+pub some_lines : (from : Role) (bytes : List ℕ) → AreBytes bytes → (left : StreamEnd) × (lines : List ℕ) × AreLinesOf from bytes left lines
 some_lines from bytes are =
     let s = some_split IsWireFrame wire_bytes wire_told bytes are in
     let place = length (flat_map wire_bytes s.frames) in
     let (left, leaves) = some_left place s.rest (rest_bytes bytes (flat_map wire_bytes s.frames) s.rest s.split.whole are) in
     (left, frame_lines from 0 s.frames ++ last_line left, record { frames = s.frames; rest = s.rest; split = s.split; leaves = leaves; all = refl })
 
-same_left : (left other : ShowEnd) (at : ℕ) (rest : List ℕ) → Leaves left at rest → Leaves other at rest → left ≡ other
-same_left Done Done at rest p q = refl
-same_left Done (CutAt m) at rest p q = absurd (omega (arith, ap (λ (t : List ℕ). length t) p, q.1))
-same_left Done (BadLengthAt m) at rest p (e, (h, used, b, big)) = absurd (omega (arith, ap (λ (t : List ℕ). length t) (sym p ∙ header_parts h used rest b)))
-same_left (CutAt n) Done at rest p q = absurd (omega (arith, ap (λ (t : List ℕ). length t) q, p.1))
+same_left : (left other : StreamEnd) (at : ℕ) (rest : List ℕ) → Leaves left at rest → Leaves other at rest → left ≡ other
+same_left Whole Whole at rest p q = refl
+same_left Whole (CutAt m) at rest p q = absurd (omega (arith, ap (λ (t : List ℕ). length t) p, q.1))
+same_left Whole (BadLengthAt m) at rest p (e, (h, used, b, big)) = absurd (omega (arith, ap (λ (t : List ℕ). length t) (sym p ∙ header_parts h used rest b)))
+same_left (CutAt n) Whole at rest p q = absurd (omega (arith, ap (λ (t : List ℕ). length t) q, p.1))
 same_left (CutAt n) (CutAt m) at rest p q = ap (λ k. CutAt k) (p.0 ∙ sym q.0)
 same_left (CutAt n) (BadLengthAt m) at rest p q = absurd (p.2 q.1)
-same_left (BadLengthAt n) Done at rest (e, (h, used, b, big)) q = absurd (omega (arith, ap (λ (t : List ℕ). length t) (sym q ∙ header_parts h used rest b)))
+same_left (BadLengthAt n) Whole at rest (e, (h, used, b, big)) q = absurd (omega (arith, ap (λ (t : List ℕ). length t) (sym q ∙ header_parts h used rest b)))
 same_left (BadLengthAt n) (CutAt m) at rest p q = absurd (q.2 p.1)
 same_left (BadLengthAt n) (BadLengthAt m) at rest p q = ap (λ k. BadLengthAt k) (p.0 ∙ sym q.0)
-same_left Budget other at rest p q = absurd p
-same_left ReadFault other at rest p q = absurd p
-same_left WriteFault other at rest p q = absurd p
-same_left NoMemory other at rest p q = absurd p
-same_left Done Budget at rest p q = absurd q
-same_left Done ReadFault at rest p q = absurd q
-same_left Done WriteFault at rest p q = absurd q
-same_left Done NoMemory at rest p q = absurd q
-same_left (CutAt n) Budget at rest p q = absurd q
-same_left (CutAt n) ReadFault at rest p q = absurd q
-same_left (CutAt n) WriteFault at rest p q = absurd q
-same_left (CutAt n) NoMemory at rest p q = absurd q
-same_left (BadLengthAt n) Budget at rest p q = absurd q
-same_left (BadLengthAt n) ReadFault at rest p q = absurd q
-same_left (BadLengthAt n) WriteFault at rest p q = absurd q
-same_left (BadLengthAt n) NoMemory at rest p q = absurd q
 
 -- a stream has one list of lines
-pub lines_are_one : (from : Role) (bytes : List ℕ) (left other : ShowEnd) (lines others : List ℕ) → AreLinesOf from bytes left lines → AreLinesOf from bytes other others → (left ≡ other) × (lines ≡ others)
+pub lines_are_one : (from : Role) (bytes : List ℕ) (left other : StreamEnd) (lines others : List ℕ) → AreLinesOf from bytes left lines → AreLinesOf from bytes other others → (left ≡ other) × (lines ≡ others)
 lines_are_one from bytes left other lines others p q =
     let s = split_is_one IsWireFrame wire_bytes wire_none_begins bytes p.frames q.frames p.rest q.rest p.split q.split in
     let place : length (flat_map wire_bytes p.frames) ≡ length (flat_map wire_bytes q.frames) = ap (λ (t : List WireFrame). length (flat_map wire_bytes t)) s.0 in
     let other_leaves : Leaves other (length (flat_map wire_bytes p.frames)) p.rest = subst (λ k. Leaves other k p.rest) (sym place) (subst (λ (t : List ℕ). Leaves other (length (flat_map wire_bytes q.frames)) t) (sym s.1) q.leaves) in
     let same : left ≡ other = same_left left other (length (flat_map wire_bytes p.frames)) p.rest p.leaves other_leaves in
-    (same, p.all ∙ ap (λ (t : List WireFrame). frame_lines from 0 t ++ last_line left) s.0 ∙ ap (λ (e : ShowEnd). frame_lines from 0 q.frames ++ last_line e) same ∙ sym q.all)
+    (same, p.all ∙ ap (λ (t : List WireFrame). frame_lines from 0 t ++ last_line left) s.0 ∙ ap (λ (e : StreamEnd). frame_lines from 0 q.frames ++ last_line e) same ∙ sym q.all)
 
 -- the lines so far begin the lines of the whole: those of all frames, and that of a bad length
-by_left : (from : Role) (bytes : List ℕ) (frames : List WireFrame) (rest : List ℕ) (left : ShowEnd) (front more : List ℕ) → SplitsIntoAnyForm bytes frames rest
+by_left : (from : Role) (bytes : List ℕ) (frames : List WireFrame) (rest : List ℕ) (left : StreamEnd) (front more : List ℕ) → SplitsIntoAnyForm bytes frames rest
     → Leaves left (length (flat_map wire_bytes frames)) rest → frame_lines from 0 frames ≡ front ++ more → BeginsLines from bytes front
-by_left from bytes frames rest Done front more split leaves e =
+by_left from bytes frames rest Whole front more split leaves e =
     record { lines = frame_lines from 0 frames; more = more; are = inl (record { frames = frames; rest = rest; split = split; goes_on = nothing_bad rest leaves; all = refl }); begins = e }
 by_left from bytes frames rest (CutAt n) front more split leaves e =
     record { lines = frame_lines from 0 frames; more = more; are = inl (record { frames = frames; rest = rest; split = split; goes_on = leaves.2; all = refl }); begins = e }
@@ -123,10 +107,6 @@ by_left from bytes frames rest (BadLengthAt n) front more split leaves e =
       are = inr (n, record { frames = frames; rest = rest; split = split; leaves = leaves; all = refl });
       begins = ap (λ (t : List ℕ). t ++ last_line (BadLengthAt n)) e ∙ append_assoc front more (last_line (BadLengthAt n));
     }
-by_left from bytes frames rest Budget front more split leaves e = absurd leaves
-by_left from bytes frames rest ReadFault front more split leaves e = absurd leaves
-by_left from bytes frames rest WriteFault front more split leaves e = absurd leaves
-by_left from bytes frames rest NoMemory front more split leaves e = absurd leaves
 
 -- the lines of the frames up to a rest begin the lines of the whole
 pub begins_so_far : (from : Role) (bytes rest : List ℕ) (before : List WireFrame) (front more : List ℕ) → AreBytes rest → AllByRecursion IsWireFrame before → bytes ≡ flat_map wire_bytes before ++ rest
@@ -145,5 +125,5 @@ begins_so_far from bytes rest before front more are each parts front_of =
 
 -- ---- how a run ends
 
-pub all_lines : (from : Role) (bytes : List ℕ) (left : ShowEnd) (written : List ℕ) → IsLeft from bytes left written → AreLinesOf from bytes left (written ++ last_line left)
+pub all_lines : (from : Role) (bytes : List ℕ) (left : StreamEnd) (written : List ℕ) → IsLeft from bytes left written → AreLinesOf from bytes left (written ++ last_line left)
 all_lines from bytes left written is = record { frames = is.frames; rest = is.rest; split = is.split; leaves = is.leaves; all = ap (λ (t : List ℕ). t ++ last_line left) is.all }

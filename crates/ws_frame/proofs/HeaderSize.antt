@@ -6,10 +6,11 @@ use Rattle.std.proofs.lemmas.List.{length-drop, length-take-le, take-append-drop
 use Rattle.ws_frame.specs.declared.header.Form.{Form}
 use Rattle.ws_frame.specs.declared.header.Form.TheVariants.{Short, Two, Eight}
 use Rattle.ws_frame.specs.Header.{AreBytes}
-use Rattle.ws_frame.specs.Parts.{LengthEnds, KeyEnds}
+use Rattle.ws_frame.specs.InnerParts.{LengthEnds, KeyEnds}
 use Rattle.ws_frame.specs.Reading.{BeginsNoHeader}
 use Rattle.ws_frame.proofs.Numbers.{AreBytes-drop, front_bytes}
-use Rattle.ws_frame.proofs.Headers.{two_ends, eight_ends, header_begins}
+use Rattle.ws_frame.proofs.HeaderLengths.{two_ends, eight_ends}
+use Rattle.ws_frame.proofs.Headers.{header_begins}
 
 record LengthWithin (bytes : List ℕ) : Type 0 where
   pub form : Form

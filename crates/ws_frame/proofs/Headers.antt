@@ -1,73 +1,16 @@
 -- A header read field by field: where each part ends, and that no other header begins the same bytes.
-use Rattle.std.proofs.Common.{◌≡◌, ℕ, ◌+◌, ◌-◌, ◌*◌, ◌/◌, ◌%◌, ◌^◌, ◌<◌, ◌≤◌, ◌⊎◌, Bool, true, false, List, [], ◌∷◌, ◌++◌, length, get_or, take, drop, Option, Some, None, refl, sym, ap, ◌∙◌, append_assoc, arith, inl, inr, lit<, subst}
+use Rattle.std.proofs.Common.{◌≡◌, ℕ, ◌+◌, ◌-◌, ◌*◌, ◌/◌, ◌%◌, ◌<◌, ◌≤◌, ◌⊎◌, Bool, true, false, List, [], ◌∷◌, ◌++◌, length, get_or, take, drop, Option, Some, None, refl, sym, ap, ◌∙◌, append_assoc, arith, inl, inr, lit<, subst}
 use Rattle.std.specs.Prelude.{slice_index, nat_le}
 use Rattle.std.proofs.lemmas.Bool.{cases_lt, cases_eq, le-leb, lt-leb}
 use Rattle.std.proofs.lemmas.List.{take-append-drop, length-append, length-take-le, length-drop, take_at, append_cancel_left, drop-drop, take_rest}
-use Rattle.byteorder.specs.Endian.{big_bytes, big_number, big_from}
-use Rattle.byteorder.specs.Numbers.{big_number-reads_back, big_from-lt}
+use Rattle.byteorder.specs.Endian.{big_number}
 use Rattle.ws_frame.specs.declared.header.Form.{Form}
 use Rattle.ws_frame.specs.declared.header.Form.TheVariants.{Short, Two, Eight}
 use Rattle.ws_frame.specs.Header.{HeaderFields, IsHeader, IsHeaderOf, AreBytes, CanHold, IsMaskingKey, length_bits, length_bytes, key_bytes, is_masked, top_bit, header_bytes, first_byte, second_byte}
-use Rattle.ws_frame.specs.Parts.{LengthEnds, LengthIsCut, KeyEnds, KeyIsCut}
+use Rattle.ws_frame.specs.InnerParts.{LengthEnds, LengthIsCut, KeyEnds, KeyIsCut}
 use Rattle.ws_frame.specs.Reading.{Begins, BeginsNoHeader}
-use Rattle.ws_frame.proofs.Numbers.{two_bytes, eight_bytes, front_bytes, AreBytes-drop}
-
--- ---- the length
-
-pub two_ends : (bytes : List ℕ) → AreBytes bytes → 4 ≤ length bytes → slice_index bytes 1 % 128 ≡ 126 → LengthEnds bytes Two (big_number 2 (drop 2 bytes)) 4
-two_ends bytes h l bits = record {
-  can_hold = big_from-lt 0 2 (drop 2 bytes) (AreBytes-drop 2 bytes h);
-  bits = bits;
-  within = l;
-  layout = two_bytes (drop 2 bytes) (AreBytes-drop 2 bytes h) (omega (arith, length-drop 2 bytes)) ∙ ap (λ (t : List ℕ). big_bytes 2 (big_number 2 (drop 2 bytes)) ++ t) (drop-drop 2 2 bytes);
-}
-
-pub eight_ends : (bytes : List ℕ) → AreBytes bytes → 10 ≤ length bytes → slice_index bytes 1 % 128 ≡ 127 → LengthEnds bytes Eight (big_number 8 (drop 2 bytes)) 10
-eight_ends bytes h l bits = record {
-  can_hold = big_from-lt 0 8 (drop 2 bytes) (AreBytes-drop 2 bytes h);
-  bits = bits;
-  within = l;
-  layout = eight_bytes (drop 2 bytes) (AreBytes-drop 2 bytes h) (omega (arith, length-drop 2 bytes)) ∙ ap (λ (t : List ℕ). big_bytes 8 (big_number 8 (drop 2 bytes)) ++ t) (drop-drop 8 2 bytes);
-}
-
-pub two_cut : (bytes : List ℕ) → 2 ≤ length bytes → slice_index bytes 1 % 128 ≡ 126 → length bytes < 4 → LengthIsCut bytes
-two_cut bytes two bits short Short len rest can e layout = absurd (omega arith)
-two_cut bytes two bits short Two len rest can e layout = absurd (omega (arith, length-drop 2 bytes, ap length layout))
-two_cut bytes two bits short Eight len rest can e layout = absurd (omega arith)
-
-pub eight_cut : (bytes : List ℕ) → 2 ≤ length bytes → slice_index bytes 1 % 128 ≡ 127 → length bytes < 10 → LengthIsCut bytes
-eight_cut bytes two bits short Short len rest can e layout = absurd (omega arith)
-eight_cut bytes two bits short Two len rest can e layout = absurd (omega arith)
-eight_cut bytes two bits short Eight len rest can e layout = absurd (omega (arith, length-drop 2 bytes, ap length layout))
-
--- the same bits and bytes are one form, one length and one rest
-pub record SameLength (f g : Form) (m n : ℕ) (xs ys : List ℕ) : Type 0 where
-  pub form : f ≡ g
-  pub len : m ≡ n
-  pub rest : xs ≡ ys
-
-same_number : (w m n : ℕ) (xs ys : List ℕ) → m < 256 ^ w → n < 256 ^ w → big_bytes w m ++ xs ≡ big_bytes w n ++ ys → m ≡ n
-same_number w m n xs ys lm ln e = sym (big_number-reads_back w m xs lm) ∙ ap (λ (t : List ℕ). big_from 0 w t) e ∙ big_number-reads_back w n ys ln
-
-same_rest : (w m n : ℕ) (xs ys : List ℕ) → m ≡ n → big_bytes w m ++ xs ≡ big_bytes w n ++ ys → xs ≡ ys
-same_rest w m n xs ys same e = append_cancel_left (big_bytes w m) xs ys (e ∙ ap (λ k. big_bytes w k ++ ys) (sym same))
-
-pub same_length : (f g : Form) (m n : ℕ) (xs ys : List ℕ) → CanHold f m → CanHold g n → length_bits f m ≡ length_bits g n → length_bytes f m ++ xs ≡ length_bytes g n ++ ys → SameLength f g m n xs ys
-same_length Short Short m n xs ys cm cn bits e = record { form = refl; len = bits; rest = e }
-same_length Short Two m n xs ys cm cn bits e = absurd (omega arith)
-same_length Short Eight m n xs ys cm cn bits e = absurd (omega arith)
-same_length Two Short m n xs ys cm cn bits e = absurd (omega arith)
-same_length Two Two m n xs ys cm cn bits e = let same = same_number 2 m n xs ys cm cn e in record { form = refl; len = same; rest = same_rest 2 m n xs ys same e }
-same_length Two Eight m n xs ys cm cn bits e = absurd (omega arith)
-same_length Eight Short m n xs ys cm cn bits e = absurd (omega arith)
-same_length Eight Two m n xs ys cm cn bits e = absurd (omega arith)
-same_length Eight Eight m n xs ys cm cn bits e = let same = same_number 8 m n xs ys cm cn e in record { form = refl; len = same; rest = same_rest 8 m n xs ys same e }
-
--- ---- the key
-
-pub key_cut : (bytes : List ℕ) (at : ℕ) → at ≤ length bytes → 128 ≤ slice_index bytes 1 → length bytes - at < 4 → KeyIsCut bytes at
-key_cut bytes at within bit short None rest is e layout = absurd (grind (arith, le-leb))
-key_cut bytes at within bit short (Some key) rest is e layout = absurd (omega (arith, length-drop at bytes, ap length layout ∙ length-append key rest, is.0))
+use Rattle.ws_frame.proofs.Numbers.{front_bytes, AreBytes-drop}
+use Rattle.ws_frame.proofs.HeaderLengths.{two_ends, eight_ends, two_cut, eight_cut, same_length, key_cut}
 
 -- ---- the whole
 

@@ -1,5 +1,6 @@
 pub mod Numbers
 pub mod Masks
+pub mod HeaderLengths
 pub mod Headers
 pub mod HeaderSize
 pub mod Splits
@@ -9,4 +10,5 @@ pub mod Fronts
 pub mod LineLemmas
 pub mod Partials
 pub mod Runs
+pub mod RunEnds
 pub mod TestDeviceLemmas

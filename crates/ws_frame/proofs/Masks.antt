@@ -141,13 +141,26 @@ four_lanes key phase a b c d le ea eb ec ed (suc (suc zero)) lt = ec
 four_lanes key phase a b c d le ea eb ec ed (suc (suc (suc zero))) lt = ed
 four_lanes key phase a b c d le ea eb ec ed (suc (suc (suc (suc i)))) lt = absurd (omega arith)
 
+-- the four bytes of the key from the phase on
+pub once : (key : List ℕ) (phase a b c d : ℕ) → phase ≤ 3 → a ≡ slice_index key phase → b ≡ slice_index key ((phase + 1) % 4) → c ≡ slice_index key ((phase + 2) % 4) → d ≡ slice_index key ((phase + 3) % 4)
+    → AreKeyLanes key phase (a ∷ b ∷ c ∷ d ∷ [])
+once key phase a b c d le ea eb ec ed i lt = four_lanes key phase a b c d le ea eb ec ed i lt
+
+-- the first four bytes of a key that stands twice
+pub four_again : (t : List ℕ) → length t ≡ 4 → (i : ℕ) → i < 4 → slice_index (slice_index (t ++ t) 0 ∷ slice_index (t ++ t) 1 ∷ slice_index (t ++ t) 2 ∷ slice_index (t ++ t) 3 ∷ []) i ≡ slice_index t i
+four_again t four zero lt = get_or_append_left t t 0 0 (omega (arith, four))
+four_again t four (suc zero) lt = get_or_append_left t t 0 1 (omega (arith, four))
+four_again t four (suc (suc zero)) lt = get_or_append_left t t 0 2 (omega (arith, four))
+four_again t four (suc (suc (suc zero))) lt = get_or_append_left t t 0 3 (omega (arith, four))
+four_again t four (suc (suc (suc (suc i)))) lt = absurd (omega arith)
+
 -- the four bytes of the key from the phase on, eight times over
-pub eight_times : (key : List ℕ) (phase a b c d : ℕ) → phase ≤ 3 → a ≡ slice_index key phase → b ≡ slice_index key ((phase + 1) % 4) → c ≡ slice_index key ((phase + 2) % 4) → d ≡ slice_index key ((phase + 3) % 4)
+pub eight_times : (key : List ℕ) (phase a b c d : ℕ) → ((i : ℕ) → i < 4 → slice_index (a ∷ b ∷ c ∷ d ∷ []) i ≡ slice_index key ((phase + i) % 4))
     → AreKeyLanes key phase (a ∷ b ∷ c ∷ d ∷ a ∷ b ∷ c ∷ d ∷ a ∷ b ∷ c ∷ d ∷ a ∷ b ∷ c ∷ d ∷ a ∷ b ∷ c ∷ d ∷ a ∷ b ∷ c ∷ d ∷ a ∷ b ∷ c ∷ d ∷ a ∷ b ∷ c ∷ d ∷ [])
 unfolding repeated
-eight_times key phase a b c d le ea eb ec ed i lt =
+eight_times key phase a b c d four i lt =
     let round : (phase + i % 4) % 4 ≡ (phase + i) % 4 = omega arith in
-    at_repeated 8 (a ∷ b ∷ c ∷ d ∷ []) refl i lt ∙ four_lanes key phase a b c d le ea eb ec ed (i % 4) (omega arith) ∙ ap (λ k. slice_index key k) round
+    at_repeated 8 (a ∷ b ∷ c ∷ d ∷ []) refl i lt ∙ four (i % 4) (omega arith) ∙ ap (λ k. slice_index key k) round
 
 -- bytes that are xored with the lanes
 pub xored_lanes : (key : List ℕ) (phase : ℕ) (lanes p : List ℕ) → length lanes ≡ length p → AreKeyLanes key phase lanes → zip2 bit_xor p lanes ≡ masked key phase p
@@ -159,29 +172,29 @@ xored_lanes key phase lanes p same are =
     })
 
 -- a vector's worth of bytes, loaded, xored with the lanes and stored
-pub stored_lanes : (key : List ℕ) (phase : ℕ) (lanes p : List ℕ) → length lanes ≡ 32 → length p ≡ 32 → AreKeyLanes key phase lanes → put_chunk 0 p (zip2 bit_xor (take 32 p) lanes) ≡ masked key phase p
-stored_lanes key phase lanes p of_lanes of_p are =
-    let all : take 32 p ≡ p = take_all 32 p (omega arith) in
-    let same : zip2 bit_xor (take 32 p) lanes ≡ masked key phase p = ap (λ (t : List ℕ). zip2 bit_xor t lanes) all ∙ xored_lanes key phase lanes p (omega arith) are in
+pub stored_lanes : (size : ℕ) (key : List ℕ) (phase : ℕ) (lanes p : List ℕ) → length lanes ≡ size → length p ≡ size → AreKeyLanes key phase lanes → put_chunk 0 p (zip2 bit_xor (take size p) lanes) ≡ masked key phase p
+stored_lanes size key phase lanes p of_lanes of_p are =
+    let all : take size p ≡ p = take_all size p (omega (arith, of_p)) in
+    let same : zip2 bit_xor (take size p) lanes ≡ masked key phase p = ap (λ (t : List ℕ). zip2 bit_xor t lanes) all ∙ xored_lanes key phase lanes p (omega (arith, of_p, of_lanes)) are in
     ap (λ (t : List ℕ). put_chunk 0 p t) same ∙ put_chunk_whole p (masked key phase p) (sym (length-masked key phase p))
 
--- the loop's step over a vector
-pub lanes_more : (key : List ℕ) (phase at k : ℕ) (p new : List ℕ) → at + 32 ≤ length p → k ≡ 32 → new ≡ masked key phase (take k (drop at p))
-    → take (at + 32) (put_mid at k p new) ++ masked key phase (drop (at + 32) (put_mid at k p new)) ≡ take at p ++ masked key phase (drop at p)
-lanes_more key phase at k p new room size is =
-    let front : length (take k (drop at p)) ≡ 32 = length-take-le k (drop at p) (omega (arith, length-drop at p)) ∙ size in
-    let lanes : length new ≡ 32 = ap (λ (t : List ℕ). length t) is ∙ length-masked key phase (take k (drop at p)) ∙ front in
-    let parts : drop at p ≡ take k (drop at p) ++ drop (at + 32) p =
+-- the loop's step over a vector of some keys' bytes
+pub lanes_more : (count : ℕ) (key : List ℕ) (phase at k : ℕ) (p new : List ℕ) → at + 4 * count ≤ length p → k ≡ 4 * count → new ≡ masked key phase (take k (drop at p))
+    → take (at + 4 * count) (put_mid at k p new) ++ masked key phase (drop (at + 4 * count) (put_mid at k p new)) ≡ take at p ++ masked key phase (drop at p)
+lanes_more count key phase at k p new room size is =
+    let front : length (take k (drop at p)) ≡ 4 * count = length-take-le k (drop at p) (omega (arith, room, size, length-drop at p)) ∙ size in
+    let lanes : length new ≡ 4 * count = ap (λ (t : List ℕ). length t) is ∙ length-masked key phase (take k (drop at p)) ∙ front in
+    let parts : drop at p ≡ take k (drop at p) ++ drop (at + 4 * count) p =
     sym (take-append-drop k (drop at p)) ∙ ap (λ (t : List ℕ). take k (drop at p) ++ t) (drop-drop k at p ∙ ap (λ n. drop (at + n) p) size) in
-    let rest : new ++ masked key phase (drop (at + 32) p) ≡ masked key phase (drop at p) =
-    ap (λ (t : List ℕ). t ++ masked key phase (drop (at + 32) p)) is
-    ∙ ap (λ (t : List ℕ). masked key phase (take k (drop at p)) ++ t) (sym (masked_round key phase 8 (drop (at + 32) p)))
-    ∙ ap (λ n. masked key phase (take k (drop at p)) ++ masked key (phase + n) (drop (at + 32) p)) (sym front)
-    ∙ sym (masked-append key phase (take k (drop at p)) (drop (at + 32) p))
+    let rest : new ++ masked key phase (drop (at + 4 * count) p) ≡ masked key phase (drop at p) =
+    ap (λ (t : List ℕ). t ++ masked key phase (drop (at + 4 * count) p)) is
+    ∙ ap (λ (t : List ℕ). masked key phase (take k (drop at p)) ++ t) (sym (masked_round key phase count (drop (at + 4 * count) p)))
+    ∙ ap (λ n. masked key phase (take k (drop at p)) ++ masked key (phase + n) (drop (at + 4 * count) p)) (sym front)
+    ∙ sym (masked-append key phase (take k (drop at p)) (drop (at + 4 * count) p))
     ∙ ap (λ (t : List ℕ). masked key phase t) (sym parts) in
-    ap (λ (t : List ℕ). t ++ masked key phase (drop (at + 32) (put_mid at k p new))) (take-put_mid at k p new (at + 32) (omega arith) (omega arith))
-    ∙ ap (λ (t : List ℕ). (take at p ++ new) ++ masked key phase t) (drop-put_mid at k p new (at + 32) (omega arith) (omega arith) (omega arith))
-    ∙ append_assoc (take at p) new (masked key phase (drop (at + 32) p))
+    ap (λ (t : List ℕ). t ++ masked key phase (drop (at + 4 * count) (put_mid at k p new))) (take-put_mid at k p new (at + 4 * count) (omega (arith, lanes, size, room)) (omega (arith, lanes, size, room)))
+    ∙ ap (λ (t : List ℕ). (take at p ++ new) ++ masked key phase t) (drop-put_mid at k p new (at + 4 * count) (omega (arith, lanes, size, room)) (omega (arith, lanes, size, room)) (omega (arith, lanes, size, room)))
+    ∙ append_assoc (take at p) new (masked key phase (drop (at + 4 * count) p))
     ∙ ap (λ (t : List ℕ). take at p ++ t) rest
 
 -- the rest, masked behind the vectors

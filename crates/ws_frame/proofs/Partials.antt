@@ -13,7 +13,7 @@ use Rattle.ws_frame.specs.Stream.{BeginsNone}
 use Rattle.ws_frame.specs.declared.partial.Partial.{Partial}
 use Rattle.ws_frame.specs.declared.partial.Taken.{Taken}
 use Rattle.ws_frame.specs.declared.partial.Taken.TheVariants.{Part, Whole, BadLength}
-use Rattle.ws_frame.specs.Showing.{IsPartOfPayload, IsKeptAs, IsWhole, UsesSome, IsTaken, BeginsPayload}
+use Rattle.ws_frame.specs.InnerShowing.{IsPartOfPayload, IsKeptAs, IsWhole, UsesSome, IsTaken, BeginsPayload}
 use Rattle.ws_frame.proofs.Numbers.{front_bytes}
 use Rattle.ws_frame.proofs.Headers.{too_short_for_header}
 use Rattle.ws_frame.proofs.HeaderSize.{short_without_header}

@@ -1,24 +1,22 @@
--- Where a run of `show` stands, and how it ends.
-use Rattle.std.proofs.Common.{◌≡◌, ℕ, ◌+◌, ◌-◌, ◌<◌, ◌≤◌, Bool, true, false, List, [], ◌∷◌, ◌++◌, length, take, drop, Option, Ok, min, refl, sym, ap, ◌∙◌, append_assoc, append-nil, zero-add, arith, inl, inr, subst}
+-- Where a run of `show` stands, and what a piece makes of it.
+use Rattle.std.proofs.Common.{◌≡◌, ℕ, ◌+◌, ◌-◌, ◌<◌, ◌≤◌, Bool, true, false, List, [], ◌∷◌, ◌++◌, length, take, drop, Option, Ok, refl, sym, ap, ◌∙◌, append_assoc, append-nil, zero-add, arith, inr, subst}
 use Rattle.std.specs.List.{flat_map}
 use Rattle.std.specs.Prelude.{IsTrue, ◌↔◌}
 use Rattle.std.proofs.lemmas.List.{length-append, length-take-le, take-append-drop, take_rest, take_all}
 use Rattle.std.proofs.lemmas.Grind.{flat_map-append}
-use Rattle.std.specs.Io.KnownBytes.{IsAtEnd, Consumes}
-use Rattle.std.proofs.KnownBytes.{Consumes-trans}
 use Rattle.ws_frame.specs.declared.role.Role.{Role}
-use Rattle.ws_frame.specs.declared.showing.ShowEnd.{ShowEnd}
-use Rattle.ws_frame.specs.declared.showing.ShowEnd.TheVariants.{Done, CutAt, BadLengthAt, Budget, ReadFault, WriteFault, NoMemory}
+use Rattle.ws_frame.specs.declared.showing.StreamEnd.{StreamEnd}
+use Rattle.ws_frame.specs.declared.showing.StreamEnd.TheVariants.{BadLengthAt}
 use Rattle.ws_frame.specs.declared.partial.Partial.{Partial}
 use Rattle.ws_frame.specs.Header.{HeaderFields, AreBytes}
 use Rattle.ws_frame.specs.Masking.{masked_payload}
 use Rattle.ws_frame.specs.Frame.{IsWireFrame, wire_bytes}
 use Rattle.ws_frame.specs.Stream.{SplitsIntoAnyForm}
 use Rattle.ws_frame.specs.Reading.{BeginsBadLength}
-use Rattle.ws_frame.specs.Devices.{Device, HasWritten}
-use Rattle.ws_frame.specs.Lines.{line_with, line_of, frame_lines, last_line, Leaves, AreFrameLinesOf, BeginsDueLines, HasEarlierLines, IsShownAt, IsFairEnd}
+use Rattle.ws_frame.specs.Devices.{Device}
+use Rattle.ws_frame.specs.Lines.{line_with, line_of, frame_lines, last_line, Leaves, AreFrameLinesOf}
 use Rattle.ws_frame.specs.declared.showing.Run.{Run}
-use Rattle.ws_frame.specs.Showing.{IsKept, IsWhole, Stands, HasTold, IsLeft, BeginsLines, ShowsNext, ShowsPiece, EndsWith}
+use Rattle.ws_frame.specs.InnerShowing.{IsPartialFrame, IsWhole, AreLinesSoFar, HasTold, IsLeft, BeginsLines, ShowsNext, ShowsPiece}
 use Rattle.ws_frame.specs.declared.showing.PieceEnd.{PieceEnd}
 use Rattle.ws_frame.proofs.Numbers.{front_bytes, AreBytes-drop}
 use Rattle.ws_frame.proofs.Written.{front_grows}
@@ -29,15 +27,15 @@ use Rattle.ws_frame.proofs.Partials.{AreBytes-append, kept_is_no_frame, kept_is_
 
 -- ---- where a run stands
 
-pub nothing_taken : (from : Role) (partial : Partial) → IsKept [] partial → Stands from [] 0 partial []
+pub nothing_taken : (from : Role) (partial : Partial) → IsPartialFrame [] partial → AreLinesSoFar from [] 0 partial []
 nothing_taken from partial k = record { are_bytes = λ i. omega arith; frames = []; rest = []; each = tt; parts = refl; place = refl; are_lines = refl; is_kept = k }
 
-pub rest_are_bytes : (from : Role) (taken : List ℕ) (offset : ℕ) (partial : Partial) (lines : List ℕ) → (s : Stands from taken offset partial lines) → AreBytes s.rest
+pub rest_are_bytes : (from : Role) (taken : List ℕ) (offset : ℕ) (partial : Partial) (lines : List ℕ) → (s : AreLinesSoFar from taken offset partial lines) → AreBytes s.rest
 rest_are_bytes from taken offset partial lines s = rest_bytes taken (flat_map wire_bytes s.frames) s.rest s.parts s.are_bytes
 
 -- more of the frame under way
-pub part_taken : (from : Role) (taken : List ℕ) (offset : ℕ) (partial new : Partial) (lines more : List ℕ) → (s : Stands from taken offset partial lines) → AreBytes more → IsKept (s.rest ++ more) new
-    → Stands from (taken ++ more) offset new lines
+pub part_taken : (from : Role) (taken : List ℕ) (offset : ℕ) (partial new : Partial) (lines more : List ℕ) → (s : AreLinesSoFar from taken offset partial lines) → AreBytes more → IsPartialFrame (s.rest ++ more) new
+    → AreLinesSoFar from (taken ++ more) offset new lines
 part_taken from taken offset partial new lines more s are k = record {
   are_bytes = AreBytes-append taken more s.are_bytes are;
   frames = s.frames;
@@ -50,9 +48,9 @@ part_taken from taken offset partial new lines more s are k = record {
 }
 
 -- the frame under way is whole
-pub frame_taken : (from : Role) (taken : List ℕ) (offset place : ℕ) (partial new : Partial) (lines more : List ℕ) (header : HeaderFields) (first : List ℕ) → (s : Stands from taken offset partial lines)
-    → AreBytes more → IsWhole (s.rest ++ more) header first → IsKept [] new → place ≡ length (taken ++ more)
-    → Stands from (taken ++ more) place new (lines ++ line_with from offset header (masked_payload header.key first))
+pub frame_taken : (from : Role) (taken : List ℕ) (offset place : ℕ) (partial new : Partial) (lines more : List ℕ) (header : HeaderFields) (first : List ℕ) → (s : AreLinesSoFar from taken offset partial lines)
+    → AreBytes more → IsWhole (s.rest ++ more) header first → IsPartialFrame [] new → place ≡ length (taken ++ more)
+    → AreLinesSoFar from (taken ++ more) place new (lines ++ line_with from offset header (masked_payload header.key first))
 frame_taken from taken offset place partial new lines more header first s are w k e =
     let x = w.frame in
     let frames = s.frames ++ x ∷ [] in
@@ -77,14 +75,14 @@ frame_taken from taken offset place partial new lines more header first s are w 
 
 -- ---- what its lines are
 
-split_of : (from : Role) (taken : List ℕ) (offset : ℕ) (partial : Partial) (lines : List ℕ) → (s : Stands from taken offset partial lines) → SplitsIntoAnyForm taken s.frames s.rest
+split_of : (from : Role) (taken : List ℕ) (offset : ℕ) (partial : Partial) (lines : List ℕ) → (s : AreLinesSoFar from taken offset partial lines) → SplitsIntoAnyForm taken s.frames s.rest
 split_of from taken offset partial lines s = record { each = s.each; whole = s.parts; left = kept_is_no_frame s.rest partial.header partial.first partial.to_come s.is_kept }
 
-pub left_at_end : (from : Role) (taken : List ℕ) (offset : ℕ) (partial : Partial) (lines : List ℕ) (left : ShowEnd) → (s : Stands from taken offset partial lines) → Leaves left offset s.rest → IsLeft from taken left lines
+pub left_at_end : (from : Role) (taken : List ℕ) (offset : ℕ) (partial : Partial) (lines : List ℕ) (left : StreamEnd) → (s : AreLinesSoFar from taken offset partial lines) → Leaves left offset s.rest → IsLeft from taken left lines
 left_at_end from taken offset partial lines left s leaves =
     record { frames = s.frames; rest = s.rest; split = split_of from taken offset partial lines s; leaves = subst (λ n. Leaves left n s.rest) s.place leaves; all = s.are_lines }
 
-pub lines_of_frames : (from : Role) (taken : List ℕ) (offset : ℕ) (partial : Partial) (lines : List ℕ) → Stands from taken offset partial lines → AreFrameLinesOf from taken lines
+pub lines_of_frames : (from : Role) (taken : List ℕ) (offset : ℕ) (partial : Partial) (lines : List ℕ) → AreLinesSoFar from taken offset partial lines → AreFrameLinesOf from taken lines
 lines_of_frames from taken offset partial lines s = record {
   frames = s.frames;
   rest = s.rest;
@@ -93,7 +91,7 @@ lines_of_frames from taken offset partial lines s = record {
   all = s.are_lines;
 }
 
-pub left_at_bad_length : (from : Role) (taken : List ℕ) (offset : ℕ) (partial : Partial) (lines more : List ℕ) → (s : Stands from taken offset partial lines) → BeginsBadLength (s.rest ++ more)
+pub left_at_bad_length : (from : Role) (taken : List ℕ) (offset : ℕ) (partial : Partial) (lines more : List ℕ) → (s : AreLinesSoFar from taken offset partial lines) → BeginsBadLength (s.rest ++ more)
     → IsLeft from (taken ++ more) (BadLengthAt offset) lines
 left_at_bad_length from taken offset partial lines more s (h, used, b, big) = record {
   frames = s.frames;
@@ -108,7 +106,7 @@ left_at_bad_length from taken offset partial lines more s (h, used, b, big) = re
 }
 
 -- what begins the lines so far begins those of more bytes
-pub begins_more : (from : Role) (taken : List ℕ) (offset : ℕ) (partial : Partial) (lines more front behind : List ℕ) → Stands from taken offset partial lines → AreBytes more → lines ≡ front ++ behind
+pub begins_more : (from : Role) (taken : List ℕ) (offset : ℕ) (partial : Partial) (lines more front behind : List ℕ) → AreLinesSoFar from taken offset partial lines → AreBytes more → lines ≡ front ++ behind
     → BeginsLines from (taken ++ more) front
 begins_more from taken offset partial lines more front behind s are e =
     begins_so_far from (taken ++ more) (s.rest ++ more) s.frames front behind (AreBytes-append s.rest more (rest_are_bytes from taken offset partial lines s) are) s.each
@@ -139,11 +137,11 @@ front_and_rest taken piece used = append_assoc taken (take used piece) (drop use
 counted : (count used : ℕ) (taken piece : List ℕ) → count ≡ length taken → used ≤ length piece → count + used ≡ length (taken ++ take used piece)
 counted count used taken piece e le = omega (arith, e, length-append taken (take used piece), length-take-le used piece le)
 
-pub part_told : (from : Role) (taken written piece lines : List ℕ) (count offset used : ℕ) (partial new : Partial) → count ≡ length taken → (s : Stands from taken offset partial (written ++ lines)) → AreBytes piece → used ≤ length piece
-    → IsKept (s.rest ++ take used piece) new → (count + used ≡ length (taken ++ take used piece)) × Stands from (taken ++ take used piece) offset new ((written ++ []) ++ lines)
+pub part_told : (from : Role) (taken written piece lines : List ℕ) (count offset used : ℕ) (partial new : Partial) → count ≡ length taken → (s : AreLinesSoFar from taken offset partial (written ++ lines)) → AreBytes piece → used ≤ length piece
+    → IsPartialFrame (s.rest ++ take used piece) new → (count + used ≡ length (taken ++ take used piece)) × AreLinesSoFar from (taken ++ take used piece) offset new ((written ++ []) ++ lines)
 part_told from taken written piece lines count offset used partial new e s are le k = (
   counted count used taken piece e le,
-  subst (λ (t : List ℕ). Stands from (taken ++ take used piece) offset new (t ++ lines)) (sym (append-nil written))
+  subst (λ (t : List ℕ). AreLinesSoFar from (taken ++ take used piece) offset new (t ++ lines)) (sym (append-nil written))
       (part_taken from taken offset partial new (written ++ lines) (take used piece) s (front_bytes used piece are) k),
 )
 
@@ -152,25 +150,25 @@ due_again : (written lines line w waiting : List ℕ) → lines ++ line ≡ w ++
 due_again written lines line w waiting due = append_assoc written lines line ∙ ap (λ (t : List ℕ). written ++ t) due ∙ sym (append_assoc written w waiting)
 
 pub frame_told : (from : Role) (taken written piece lines w waiting : List ℕ) (count offset used : ℕ) (partial new : Partial) (header : HeaderFields) (first : List ℕ) → count ≡ length taken
-    → (s : Stands from taken offset partial (written ++ lines)) → AreBytes piece → used ≤ length piece → IsWhole (s.rest ++ take used piece) header first → IsKept [] new
+    → (s : AreLinesSoFar from taken offset partial (written ++ lines)) → AreBytes piece → used ≤ length piece → IsWhole (s.rest ++ take used piece) header first → IsPartialFrame [] new
     → lines ++ line_with from offset header (masked_payload header.key first) ≡ w ++ waiting
-    → (count + used ≡ length (taken ++ take used piece)) × Stands from (taken ++ take used piece) (count + used) new ((written ++ w) ++ waiting)
+    → (count + used ≡ length (taken ++ take used piece)) × AreLinesSoFar from (taken ++ take used piece) (count + used) new ((written ++ w) ++ waiting)
 frame_told from taken written piece lines w waiting count offset used partial new header first e s are le whole k due =
     let place = counted count used taken piece e le in (
       place,
-      subst (λ (t : List ℕ). Stands from (taken ++ take used piece) (count + used) new t) (due_again written lines (line_with from offset header (masked_payload header.key first)) w waiting due)
+      subst (λ (t : List ℕ). AreLinesSoFar from (taken ++ take used piece) (count + used) new t) (due_again written lines (line_with from offset header (masked_payload header.key first)) w waiting due)
           (frame_taken from taken offset (count + used) partial new (written ++ lines) (take used piece) header first s (front_bytes used piece are) whole k place),
     )
 
 pub frame_begun : (from : Role) (taken written piece lines front behind : List ℕ) (count offset used : ℕ) (partial new : Partial) (header : HeaderFields) (first : List ℕ) → count ≡ length taken
-    → (s : Stands from taken offset partial (written ++ lines)) → AreBytes piece → used ≤ length piece → IsWhole (s.rest ++ take used piece) header first → IsKept [] new
+    → (s : AreLinesSoFar from taken offset partial (written ++ lines)) → AreBytes piece → used ≤ length piece → IsWhole (s.rest ++ take used piece) header first → IsPartialFrame [] new
     → lines ++ line_with from offset header (masked_payload header.key first) ≡ front ++ behind → BeginsLines from (taken ++ piece) (written ++ front)
 frame_begun from taken written piece lines front behind count offset used partial new header first e s are le whole k due =
     let next = frame_told from taken written piece lines front behind count offset used partial new header first e s are le whole k due in
     subst (λ (t : List ℕ). BeginsLines from t (written ++ front)) (front_and_rest taken piece used)
     (begins_more from (taken ++ take used piece) (count + used) new ((written ++ front) ++ behind) (drop used piece) (written ++ front) behind next.1 (AreBytes-drop used piece are) refl)
 
-pub bad_told : (from : Role) (taken written piece lines : List ℕ) (offset : ℕ) (partial : Partial) → (s : Stands from taken offset partial (written ++ lines)) → BeginsBadLength (s.rest ++ piece)
+pub bad_told : (from : Role) (taken written piece lines : List ℕ) (offset : ℕ) (partial : Partial) → (s : AreLinesSoFar from taken offset partial (written ++ lines)) → BeginsBadLength (s.rest ++ piece)
     → IsLeft from (taken ++ piece) (BadLengthAt offset) ((written ++ []) ++ lines)
 bad_told from taken written piece lines offset partial s bad =
     subst (λ (t : List ℕ). IsLeft from (taken ++ piece) (BadLengthAt offset) (t ++ lines)) (sym (append-nil written)) (left_at_bad_length from taken offset partial (written ++ lines) piece s bad)
@@ -183,7 +181,7 @@ told_so run taken taken' written written' h et ew = subst (λ (t : List ℕ). Ha
 pub begins_so : (from : Role) (bytes bytes' front front' : List ℕ) → BeginsLines from bytes front → bytes ≡ bytes' → front ≡ front' → BeginsLines from bytes' front'
 begins_so from bytes bytes' front front' b eb ef = subst (λ (t : List ℕ). BeginsLines from t front') eb (subst (λ (t : List ℕ). BeginsLines from bytes t) ef b)
 
-pub left_so : (from : Role) (left : ShowEnd) (bytes bytes' lines lines' : List ℕ) → IsLeft from bytes left lines → bytes ≡ bytes' → lines ≡ lines' → IsLeft from bytes' left lines'
+pub left_so : (from : Role) (left : StreamEnd) (bytes bytes' lines lines' : List ℕ) → IsLeft from bytes left lines → bytes ≡ bytes' → lines ≡ lines' → IsLeft from bytes' left lines'
 left_so from left bytes bytes' lines lines' is eb el = subst (λ (t : List ℕ). IsLeft from t left lines') eb (subst (λ (t : List ℕ). IsLeft from bytes left t) el is)
 
 pub whole_piece : (taken piece : List ℕ) (at : ℕ) → (taken ++ take at piece) ++ take (length piece - at) (drop at piece) ≡ taken ++ piece
@@ -203,18 +201,18 @@ pub all_out : (written more next lines w waiting : List ℕ) → lines ≡ w ++ 
 all_out written more next lines w waiting due none =
     out_behind_two written more next lines w waiting due ∙ ap (λ (t : List ℕ). (written ++ (more ++ (next ++ w))) ++ t) none ∙ append-nil (written ++ (more ++ (next ++ w)))
 
-pub end_begun : (from : Role) (taken piece written more lines front behind : List ℕ) (offset at : ℕ) (partial : Partial) → Stands from (taken ++ take at piece) offset partial ((written ++ more) ++ lines) → length piece ≤ at
+pub end_begun : (from : Role) (taken piece written more lines front behind : List ℕ) (offset at : ℕ) (partial : Partial) → AreLinesSoFar from (taken ++ take at piece) offset partial ((written ++ more) ++ lines) → length piece ≤ at
     → lines ≡ front ++ behind → BeginsLines from (taken ++ piece) (written ++ (more ++ front))
 end_begun from taken piece written more lines front behind offset at partial s end due =
     begins_so from ((taken ++ take at piece) ++ []) (taken ++ piece) (written ++ (more ++ front)) (written ++ (more ++ front))
     (begins_more from (taken ++ take at piece) offset partial ((written ++ more) ++ lines) [] (written ++ (more ++ front)) behind s (λ i. omega arith) (out_behind written more lines front behind due))
     (append-nil (taken ++ take at piece) ∙ ap (λ (t : List ℕ). taken ++ t) (take_all at piece end)) refl
 
-pub end_told : (from : Role) (taken piece written more lines w waiting : List ℕ) (offset at : ℕ) (partial : Partial) → Stands from (taken ++ take at piece) offset partial ((written ++ more) ++ lines) → length piece ≤ at
-    → lines ≡ w ++ waiting → Stands from (taken ++ piece) offset partial ((written ++ (more ++ w)) ++ waiting)
+pub end_told : (from : Role) (taken piece written more lines w waiting : List ℕ) (offset at : ℕ) (partial : Partial) → AreLinesSoFar from (taken ++ take at piece) offset partial ((written ++ more) ++ lines) → length piece ≤ at
+    → lines ≡ w ++ waiting → AreLinesSoFar from (taken ++ piece) offset partial ((written ++ (more ++ w)) ++ waiting)
 end_told from taken piece written more lines w waiting offset at partial s end due =
-    subst (λ (t : List ℕ). Stands from t offset partial ((written ++ (more ++ w)) ++ waiting)) (ap (λ (t : List ℕ). taken ++ t) (take_all at piece end))
-    (subst (λ (t : List ℕ). Stands from (taken ++ take at piece) offset partial t) (out_behind written more lines w waiting due) s)
+    subst (λ (t : List ℕ). AreLinesSoFar from t offset partial ((written ++ (more ++ w)) ++ waiting)) (ap (λ (t : List ℕ). taken ++ t) (take_all at piece end))
+    (subst (λ (t : List ℕ). AreLinesSoFar from (taken ++ take at piece) offset partial t) (out_behind written more lines w waiting due) s)
 
 pub next_is : (old new : Run) (piece : List ℕ) (output : Device) (next other : Option ℕ) → next ≡ other → ShowsNext old new piece output (Ok next) → ShowsNext old new piece output (Ok other)
 next_is old new piece output next other e shown = subst (λ (o : Option ℕ). ShowsNext old new piece output (Ok o)) e shown
@@ -223,120 +221,6 @@ pub piece_is : (old new : Run) (piece : List ℕ) (output : Device) (end other :
 piece_is old new piece output end other e shown = subst (λ (o : PieceEnd). ShowsPiece old new piece output (Ok o)) e shown
 
 -- all lines of what was read are written
-pub stands_written : (from from' : Role) (read : List ℕ) (offset : ℕ) (partial : Partial) (written lines : List ℕ) → Stands from read offset partial (written ++ lines) → lines ≡ [] → from ≡ from' → Stands from' read offset partial written
-stands_written from from' read offset partial written lines s none e =
-    subst (λ (r : Role). Stands r read offset partial written) e (subst (λ (t : List ℕ). Stands from read offset partial t) (ap (λ (t : List ℕ). written ++ t) none ∙ append-nil written) s)
-
--- ---- reading
-
-pub read_nothing : (a b c : Option (List ℕ)) (read buf : List ℕ) (n : ℕ) → n ≡ 0 → Consumes a b read → Consumes b c (take n buf) → Consumes a c read
-read_nothing a b c read buf n e p q =
-    subst (λ (t : List ℕ). Consumes a c t) (ap (λ k. read ++ take k buf) e ∙ append-nil read) (Consumes-trans a b c read (take n buf) p q)
-
-pub piece_within : (taken budget count want : ℕ) (read buf : List ℕ) → taken ≡ length read → count ≤ length buf → length buf ≡ want → want ≡ min (budget - taken) 65536 → taken < budget
-    → (length (read ++ take count buf) ≤ budget) × (length (take count buf) ≤ 65536) × (length (read ++ take count buf) ≡ taken + count)
-piece_within taken budget count want read buf e le size least below =
-    let piece : length (take count buf) ≡ count = length-take-le count buf le in
-    let all : length (read ++ take count buf) ≡ taken + count = length-append read (take count buf) ∙ (omega (arith, e, piece)) in
-    (omega (arith, all, le, size, least), omega (arith, piece, le, size, least), all)
-
--- ---- how a run ends
-
--- what begins the lines of a stream that may go on begins what is due
-pub due_on : (from : Role) (budget : ℕ) (unread : Option (List ℕ)) (read front : List ℕ) → BeginsLines from read front → BeginsDueLines from budget unread read front
-due_on from budget unread read front b = record {
-  lines = b.lines;
-  more = b.more;
-  due = elim b.are [ inl frames ↦ inl frames | inr bad ↦ inr (inl bad) ];
-  begins = b.begins;
-}
-
--- of a read, the lines of all before it were written
-pub earlier_lines : (from : Role) (before last lines more : List ℕ) → length last ≤ 65536 → AreFrameLinesOf from before lines → HasEarlierLines from (before ++ last) (lines ++ more)
-earlier_lines from before last lines more few are = record { before = before; last = last; parts = refl; one_read = few; lines = lines; are = are; more = more; begins = refl }
-
-earlier_more : (from : Role) (read written more : List ℕ) → HasEarlierLines from read written → HasEarlierLines from read (written ++ more)
-earlier_more from read written more h =
-    record { before = h.before; last = h.last; parts = h.parts; one_read = h.one_read; lines = h.lines; are = h.are; more = h.more ++ more; begins = ap (λ (t : List ℕ). t ++ more) h.begins ∙ append_assoc h.lines h.more more }
-
--- what has to hold where a run ends so
-abbrev pub MayEnd : ShowEnd → ℕ → List ℕ → Device → Type 0
-MayEnd (BadLengthAt place) budget read input = Unit {0}
-MayEnd Done budget read input = (length read < budget) × (input.failed ≡ false) × IsAtEnd input.new
-MayEnd (CutAt place) budget read input = (length read < budget) × (input.failed ≡ false) × IsAtEnd input.new
-MayEnd Budget budget read input = ⊥
-MayEnd ReadFault budget read input = ⊥
-MayEnd WriteFault budget read input = ⊥
-MayEnd NoMemory budget read input = ⊥
-
-pub may_end : (left : ShowEnd) (at budget : ℕ) (read rest : List ℕ) (input : Device) → Leaves left at rest → length read < budget → input.failed ≡ false → IsAtEnd input.new → MayEnd left budget read input
-may_end Done at budget read rest input leaves below works end = (below, works, end)
-may_end (CutAt place) at budget read rest input leaves below works end = (below, works, end)
-may_end (BadLengthAt place) at budget read rest input leaves below works end = tt
-may_end Budget at budget read rest input leaves below works end = absurd leaves
-may_end ReadFault at budget read rest input leaves below works end = absurd leaves
-may_end WriteFault at budget read rest input leaves below works end = absurd leaves
-may_end NoMemory at budget read rest input leaves below works end = absurd leaves
-
-pub earlier_all : (from : Role) (read lines : List ℕ) → AreFrameLinesOf from read lines → HasEarlierLines from read lines
-earlier_all from read lines are = record { before = read; last = []; parts = sym (append-nil read); one_read = omega arith; lines = lines; are = are; more = []; begins = sym (append-nil lines) }
-
--- a beginning of the last line was written
-begun : (from : Role) (budget : ℕ) (left : ShowEnd) (read written front more : List ℕ) (input : Device) → MayEnd left budget read input → IsLeft from read left written → last_line left ≡ front ++ more
-    → BeginsDueLines from budget input.new read (written ++ front)
-begun from budget Done read written front more input (below, f, end) is part = record {
-  lines = written ++ last_line Done;
-  more = more;
-  due = inr (inr (below, end, (Done, all_lines from read Done written is)));
-  begins = ap (λ (t : List ℕ). written ++ t) part ∙ sym (append_assoc written front more);
-}
-begun from budget (CutAt at) read written front more input (below, f, end) is part = record {
-  lines = written ++ last_line (CutAt at);
-  more = more;
-  due = inr (inr (below, end, (CutAt at, all_lines from read (CutAt at) written is)));
-  begins = ap (λ (t : List ℕ). written ++ t) part ∙ sym (append_assoc written front more);
-}
-begun from budget (BadLengthAt at) read written front more input may is part = record {
-  lines = written ++ last_line (BadLengthAt at);
-  more = more;
-  due = inr (inl (at, all_lines from read (BadLengthAt at) written is));
-  begins = ap (λ (t : List ℕ). written ++ t) part ∙ sym (append_assoc written front more);
-}
-begun from budget Budget read written front more input may is part = absurd may
-begun from budget ReadFault read written front more input may is part = absurd may
-begun from budget WriteFault read written front more input may is part = absurd may
-begun from budget NoMemory read written front more input may is part = absurd may
-
--- the last line was written
-pub record Ended (from : Role) (budget : ℕ) (result : ShowEnd) (read written : List ℕ) (input output : Device) : Type 0 where
-  pub last : List ℕ
-  pub was_written : HasWritten last output
-  pub shown : IsShownAt from budget result input.new read (written ++ last)
-  pub fair : IsFairEnd result input output
-  pub memory : result ≡ NoMemory → ⊥
-
-ended_so : (from : Role) (budget : ℕ) (left : ShowEnd) (read written : List ℕ) (input output : Device) → MayEnd left budget read input → IsLeft from read left written → HasWritten (last_line left) output
-    → output.failed ≡ false → Ended from budget left read written input output
-ended_so from budget Done read written input output (below, f, end) is wrote works =
-    record { last = last_line Done; was_written = wrote; shown = (all_lines from read Done written is, below); fair = (f, works, end); memory = λ e. absurd cc }
-ended_so from budget (CutAt at) read written input output (below, f, end) is wrote works =
-    record { last = last_line (CutAt at); was_written = wrote; shown = (all_lines from read (CutAt at) written is, below); fair = (f, works, end); memory = λ e. absurd cc }
-ended_so from budget (BadLengthAt at) read written input output may is wrote works =
-    record { last = last_line (BadLengthAt at); was_written = wrote; shown = all_lines from read (BadLengthAt at) written is; fair = works; memory = λ e. absurd cc }
-ended_so from budget Budget read written input output may is wrote works = absurd may
-ended_so from budget ReadFault read written input output may is wrote works = absurd may
-ended_so from budget WriteFault read written input output may is wrote works = absurd may
-ended_so from budget NoMemory read written input output may is wrote works = absurd may
-
-pub ended : (from : Role) (budget : ℕ) (left result : ShowEnd) (read written : List ℕ) (input output : Device) → MayEnd left budget read input → IsLeft from read left written → HasEarlierLines from read written
-    → EndsWith left output result → Ended from budget result read written input output
-ended from budget left result read written input output may is earlier (inl (same, wrote, works)) =
-    subst (λ (x : ShowEnd). Ended from budget x read written input output) (sym same) (ended_so from budget left read written input output may is wrote works)
-ended from budget left result read written input output may is earlier (inr (same, failed, (front, more, wrote, part))) =
-    subst (λ (x : ShowEnd). Ended from budget x read written input output) (sym same) (record {
-      last = front;
-      was_written = wrote;
-      shown = (begun from budget left read written front more input may is part, earlier_more from read written front earlier);
-      fair = failed;
-      memory = λ e. absurd cc;
-    })
+pub all_written : (from from' : Role) (read : List ℕ) (offset : ℕ) (partial : Partial) (written lines : List ℕ) → AreLinesSoFar from read offset partial (written ++ lines) → lines ≡ [] → from ≡ from' → AreLinesSoFar from' read offset partial written
+all_written from from' read offset partial written lines s none e =
+    subst (λ (r : Role). AreLinesSoFar r read offset partial written) e (subst (λ (t : List ℕ). AreLinesSoFar from read offset partial t) (ap (λ (t : List ℕ). written ++ t) none ∙ append-nil written) s)

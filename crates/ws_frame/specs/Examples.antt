@@ -6,7 +6,8 @@ use Rattle.ws_frame.specs.declared.header.Form.TheVariants.{Short, Two, Eight}
 use Rattle.ws_frame.specs.Header.{header_bytes}
 use Rattle.ws_frame.specs.Masking.{masked}
 use Rattle.ws_frame.specs.Frame.{KeyedFrame, frame_bytes, stream_bytes, shortest_form}
-use Rattle.ws_frame.specs.Lines.{line_of}
+use Rattle.ws_frame.specs.declared.showing.StreamEnd.TheVariants.{CutAt, BadLengthAt}
+use Rattle.ws_frame.specs.Lines.{line_of, last_line}
 
 -- a frame with FIN, if so, and no reserved bit
 abbrev sent : Bool → ℕ → List ℕ → Option (List ℕ) → KeyedFrame
@@ -90,3 +91,12 @@ pub line_of_odd_frame : line_of Client 11 (record {
     ≡ codes "11 op3 fin=0 rsv=4 key=- len=0 two - !mask !form\n"
 unfolding digits
 line_of_odd_frame = refl
+
+-- the last line of a stream that is cut inside the frame at 7, and of one that begins with a bad length
+pub last_line_of_cut : last_line (CutAt 7) ≡ codes "cut at 7\n"
+unfolding digits
+last_line_of_cut = refl
+
+pub last_line_of_bad_length : last_line (BadLengthAt 0) ≡ codes "bad length at 0\n"
+unfolding digits
+last_line_of_bad_length = refl

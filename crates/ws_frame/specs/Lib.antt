@@ -8,7 +8,7 @@ pub mod Devices
 pub mod ReadingInput
 pub mod TestDevices
 pub mod Lines
-pub mod Showing
 pub mod Examples
-pub mod Parts
-pub mod Printing
+pub mod InnerShowing
+pub mod InnerParts
+pub mod InnerPrinting

@@ -9,9 +9,10 @@ use Rattle.ws_frame.specs.declared.role.Role.{Role}
 use Rattle.ws_frame.specs.declared.role.Role.TheVariants.{Client, Server}
 use Rattle.ws_frame.specs.declared.header.Form.{Form}
 use Rattle.ws_frame.specs.declared.header.Form.TheVariants.{Short, Two, Eight}
+use Rattle.ws_frame.specs.declared.showing.StreamEnd.{StreamEnd}
+use Rattle.ws_frame.specs.declared.showing.StreamEnd.TheVariants.{Whole, CutAt, BadLengthAt}
 use Rattle.ws_frame.specs.declared.showing.ShowEnd.{ShowEnd}
-use Rattle.ws_frame.specs.declared.showing.ShowEnd.TheVariants.{Done, CutAt, BadLengthAt, Budget, ReadFault, WriteFault}
-use Rattle.ws_frame.specs.declared.showing.ShowEnd.TheVariants.{NoMemory}
+use Rattle.ws_frame.specs.declared.showing.ShowEnd.TheVariants as show_end
 use Rattle.ws_frame.specs.Header.{HeaderFields}
 use Rattle.ws_frame.specs.Frame.{WireFrame, wire_bytes, is_longer_than_needed}
 use Rattle.ws_frame.specs.Stream.{SplitsIntoAnyForm}
@@ -22,8 +23,8 @@ pub use Rattle.ws_base.specs.Words.{hex}
 -- ---- the words of a line
 
 -- the name of an opcode (section 5.2); a reserved one is `op` and its number
-abbrev pub kind_word : ℕ → List ℕ
-kind_word opcode =
+abbrev pub opcode_word : ℕ → List ℕ
+opcode_word opcode =
     if opcode == 0 then codes "cont"
     else (if opcode == 1 then codes "text"
     else (if opcode == 2 then codes "binary"
@@ -67,7 +68,7 @@ form_mark form len = if is_longer_than_needed form len then codes " !form" else 
 -- the line of a frame that begins at this place of the stream, by its header and the first bytes of its payload
 abbrev pub line_with : Role → ℕ → HeaderFields → List ℕ → List ℕ
 line_with from offset header first = concat (
-    decimal offset ∷ codes " " ∷ kind_word header.opcode
+    decimal offset ∷ codes " " ∷ opcode_word header.opcode
     ∷ codes " fin=" ∷ bit_word header.fin ∷ codes " rsv=" ∷ decimal header.rsv
     ∷ codes " key=" ∷ key_word header.key ∷ codes " len=" ∷ decimal header.len
     ∷ codes " " ∷ form_word header.form ∷ codes " " ∷ data_word header.len first
@@ -82,28 +83,21 @@ abbrev pub frame_lines : Role → ℕ → List WireFrame → List ℕ
 frame_lines from offset [] = []
 frame_lines from offset (x ∷ frames) = line_of from offset x ++ frame_lines from (offset + length (wire_bytes x)) frames
 
--- what is left after the whole frames, at this place: nothing, a bad length, or else part of a frame
-abbrev pub Leaves : ShowEnd → ℕ → List ℕ → Type 0
-Leaves Done at rest = rest ≡ []
+-- what is left after the whole frames, at this place, of a stream that ends so: nothing; or part of a frame; or a
+-- header at the front whose length has the top bit set
+abbrev pub Leaves : StreamEnd → ℕ → List ℕ → Type 0
+Leaves Whole at rest = rest ≡ []
 Leaves (CutAt place) at rest = (place ≡ at) × (0 < length rest) × (BeginsBadLength rest → ⊥)
 Leaves (BadLengthAt place) at rest = (place ≡ at) × BeginsBadLength rest
-Leaves Budget at rest = ⊥
-Leaves ReadFault at rest = ⊥
-Leaves WriteFault at rest = ⊥
-Leaves NoMemory at rest = ⊥
 
--- the line for what is left
-abbrev pub last_line : ShowEnd → List ℕ
-last_line Done = []
+-- the line for what is left: none after whole frames
+abbrev pub last_line : StreamEnd → List ℕ
+last_line Whole = []
 last_line (CutAt place) = codes "cut at " ++ (decimal place ++ codes "\n")
 last_line (BadLengthAt place) = codes "bad length at " ++ (decimal place ++ codes "\n")
-last_line Budget = []
-last_line ReadFault = []
-last_line WriteFault = []
-last_line NoMemory = []
 
--- the lines of a stream that has ended, and the line for its end
-pub record AreLinesOf (from : Role) (bytes : List ℕ) (end : ShowEnd) (lines : List ℕ) : Type 0 where
+-- the lines of a stream that has ended so: one for each whole frame, and that for what is left
+pub record AreLinesOf (from : Role) (bytes : List ℕ) (end : StreamEnd) (lines : List ℕ) : Type 0 where
   pub frames : List WireFrame
   pub rest : List ℕ
   pub split : SplitsIntoAnyForm bytes frames rest
@@ -118,63 +112,80 @@ pub record AreFrameLinesOf (from : Role) (bytes : List ℕ) (lines : List ℕ) :
   pub goes_on : BeginsBadLength rest → ⊥
   pub all : lines ≡ frame_lines from 0 frames
 
--- The lines that are due. While more may come they are those of the whole frames, and that of a bad length; once the
--- reader is at its end, before the budget is used up, they are all lines.
-abbrev pub AreDue : Role → ℕ → Option (List ℕ) → List ℕ → List ℕ → Type 0
-AreDue from budget unread read lines =
-    AreFrameLinesOf from read lines
-    ⊎ (((place : ℕ) × AreLinesOf from read (BadLengthAt place) lines)
-    ⊎ ((length read < budget) × IsAtEnd unread × ((end : ShowEnd) × AreLinesOf from read end lines)))
-
--- a beginning of the lines that are due
-pub record BeginsDueLines (from : Role) (budget : ℕ) (unread : Option (List ℕ)) (read front : List ℕ) : Type 0 where
-  pub lines : List ℕ
-  pub more : List ℕ
-  pub due : AreDue from budget unread read lines
-  pub begins : lines ≡ front ++ more
-
 -- ---- a run of `show`
 
 -- one read asks for at most so many bytes
 abbrev pub read_size : ℕ
 read_size = 65536
 
--- the lines of the frames that all but the last read completed are written, before anything more
-pub record HasEarlierLines (from : Role) (read written : List ℕ) : Type 0 where
+-- what a run was asked and did
+pub record ShowRun : Type 0 where
+  -- the role of the endpoint that sent the stream
+  pub from : Role
+  -- how many bytes may be read
+  pub budget : ℕ
+  -- what was read
+  pub read : List ℕ
+  -- what the reader has left, where that is known
+  pub unread : Option (List ℕ)
+  -- what was written
+  pub written : List ℕ
+
+-- The lines that are due. While more may come they are those of the whole frames, and that of a bad length; once the
+-- reader is at its end, before the budget is used up, they are all lines.
+abbrev pub AreDue : ShowRun → List ℕ → Type 0
+AreDue run lines =
+    AreFrameLinesOf run.from run.read lines
+    ⊎ (((place : ℕ) × AreLinesOf run.from run.read (BadLengthAt place) lines)
+    ⊎ ((length run.read < run.budget) × IsAtEnd run.unread
+    × ((end : StreamEnd) × AreLinesOf run.from run.read end lines)))
+
+-- a beginning of the lines that are due was written
+pub record BeginsDueLines (run : ShowRun) : Type 0 where
+  pub lines : List ℕ
+  pub more : List ℕ
+  pub due : AreDue run lines
+  pub begins : lines ≡ run.written ++ more
+
+-- the lines of the frames that all but at most the last 65536 bytes complete were written, before anything more
+pub record HasEarlierLines (run : ShowRun) : Type 0 where
   pub before : List ℕ
   pub last : List ℕ
-  pub parts : read ≡ before ++ last
+  pub parts : run.read ≡ before ++ last
   pub one_read : length last ≤ read_size
   pub lines : List ℕ
-  pub are : AreFrameLinesOf from before lines
+  pub are : AreFrameLinesOf run.from before lines
   pub more : List ℕ
-  pub begins : written ≡ lines ++ more
+  pub begins : run.written ≡ lines ++ more
 
 -- what was written for what was read, by how the run ended
-abbrev pub IsShownAt : Role → ℕ → ShowEnd → Option (List ℕ) → List ℕ → List ℕ → Type 0
-IsShownAt from budget Done unread read written = AreLinesOf from read Done written × (length read < budget)
-IsShownAt from budget (CutAt place) unread read written =
-    AreLinesOf from read (CutAt place) written × (length read < budget)
-IsShownAt from budget (BadLengthAt place) unread read written = AreLinesOf from read (BadLengthAt place) written
-IsShownAt from budget Budget unread read written = AreFrameLinesOf from read written × (length read ≡ budget)
-IsShownAt from budget ReadFault unread read written = AreFrameLinesOf from read written × (length read < budget)
-IsShownAt from budget WriteFault unread read written =
-    BeginsDueLines from budget unread read written × HasEarlierLines from read written
-IsShownAt from budget NoMemory unread read written = ⊥
+abbrev pub IsShownAt : ShowEnd → ShowRun → Type 0
+IsShownAt show_end.Done run = AreLinesOf run.from run.read Whole run.written × (length run.read < run.budget)
+IsShownAt (show_end.CutAt place) run =
+    AreLinesOf run.from run.read (CutAt place) run.written × (length run.read < run.budget)
+IsShownAt (show_end.BadLengthAt place) run = AreLinesOf run.from run.read (BadLengthAt place) run.written
+IsShownAt show_end.Budget run = AreFrameLinesOf run.from run.read run.written × (length run.read ≡ run.budget)
+IsShownAt show_end.ReadFault run = AreFrameLinesOf run.from run.read run.written × (length run.read < run.budget)
+IsShownAt show_end.WriteFault run = BeginsDueLines run × HasEarlierLines run
+IsShownAt show_end.NoMemory run = ⊥
 
 -- a run of `show` over a reader and a writer: some bytes were read, at most as many as the budget, and what is due for
 -- them was written
-abbrev pub Shows : Role → ℕ → ShowEnd → Device → Device → Type 0
-Shows from budget end input output =
-    (read : List ℕ) × (written : List ℕ) × HasRead read input × HasWritten written output
-    × (length read ≤ budget) × IsShownAt from budget end input.new read written
+pub record Shows (from : Role) (budget : ℕ) (end : ShowEnd) (input output : Device) : Type 0 where
+  pub read : List ℕ
+  pub written : List ℕ
+  pub has_read : HasRead read input
+  pub has_written : HasWritten written output
+  pub within : length read ≤ budget
+  pub shown : IsShownAt end
+      (record { from = from; budget = budget; read = read; unread = input.new; written = written })
 
 -- which device has failed, and that the reader is at its end where the run says so
 abbrev pub IsFairEnd : ShowEnd → Device → Device → Type 0
-IsFairEnd Done input output = (input.failed ≡ false) × (output.failed ≡ false) × IsAtEnd input.new
-IsFairEnd (CutAt _) input output = (input.failed ≡ false) × (output.failed ≡ false) × IsAtEnd input.new
-IsFairEnd (BadLengthAt _) input output = output.failed ≡ false
-IsFairEnd Budget input output = (input.failed ≡ false) × (output.failed ≡ false)
-IsFairEnd ReadFault input output = (input.failed ≡ true) × (output.failed ≡ false)
-IsFairEnd WriteFault input output = output.failed ≡ true
-IsFairEnd NoMemory input output = ⊥
+IsFairEnd show_end.Done input output = (input.failed ≡ false) × (output.failed ≡ false) × IsAtEnd input.new
+IsFairEnd (show_end.CutAt _) input output = (input.failed ≡ false) × (output.failed ≡ false) × IsAtEnd input.new
+IsFairEnd (show_end.BadLengthAt _) input output = output.failed ≡ false
+IsFairEnd show_end.Budget input output = (input.failed ≡ false) × (output.failed ≡ false)
+IsFairEnd show_end.ReadFault input output = (input.failed ≡ true) × (output.failed ≡ false)
+IsFairEnd show_end.WriteFault input output = output.failed ≡ true
+IsFairEnd show_end.NoMemory input output = ⊥

@@ -7,11 +7,11 @@ use crate::masking::mask;
 use std::marker::Model;
 
 /// How many bytes of a payload a line shows at most. A header has fewer.
-pub const SHOWN: usize = 16;
+pub(crate) const SHOWN: usize = 16;
 
 /// The first bytes of some, at most sixteen: contracts see the list of them.
 #[derive(Drop)]
-pub struct FirstBytes {
+pub(crate) struct FirstBytes {
     bytes: [u8; SHOWN],
     len: usize,
 }
@@ -28,7 +28,7 @@ impl Model for FirstBytes {
 
 impl FirstBytes {
     /// None yet.
-    pub fn new() -> FirstBytes
+    pub(crate) fn new() -> FirstBytes
         ensures { result ≡ [] }
     {
         FirstBytes {
@@ -38,7 +38,7 @@ impl FirstBytes {
     }
 
     /// The bytes as a slice.
-    pub fn as_slice(&self) -> &[u8]
+    pub(crate) fn as_slice(&self) -> &[u8]
         ensures bytes { result.now ≡ self.now }
         ensures bound { length result.now ≤ 16 }
     {
@@ -46,7 +46,7 @@ impl FirstBytes {
     }
 
     /// More bytes come: the first sixteen of all are kept.
-    pub fn push(&mut self, more: &[u8])
+    pub(crate) fn push(&mut self, more: &[u8])
         ensures { self.new ≡ take 16 (self.old ++ more.now) }
     {
         let end = self.len + (SHOWN - self.len).min(more.len());
@@ -55,7 +55,7 @@ impl FirstBytes {
     }
 
     /// Unmasks them, where they are the first of a payload under this key.
-    pub fn unmask(&mut self, key: [u8; 4])
+    pub(crate) fn unmask(&mut self, key: [u8; 4])
         ensures { self.new ≡ masked key 0 self.old }
     {
         mask(key, 0, &mut self.bytes[..self.len]);

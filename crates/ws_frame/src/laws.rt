@@ -10,7 +10,7 @@ ghost use Rattle.ws_frame.specs.Stream.{SplitsInto, SplitsIntoAnyForm};
 ghost use Rattle.ws_frame.specs.Lines.{AreLinesOf};
 ghost use Rattle.ws_frame.specs.declared.header.Form.{Form};
 ghost use Rattle.ws_frame.specs.declared.role.Role.{Role};
-ghost use Rattle.ws_frame.specs.declared.showing.ShowEnd.{ShowEnd};
+ghost use Rattle.ws_frame.specs.declared.showing.StreamEnd.{StreamEnd};
 
 /// No header begins another: where two stand at the front of the same bytes they are one.
 pub fn no_header_begins_another()
@@ -75,11 +75,11 @@ pub fn splits_go_on()
 /// Every stream that has ended has its lines.
 pub fn every_stream_has_lines()
     ensures { (from : Role) (bytes : List ℕ) → AreBytes bytes
-        → (end : ShowEnd) × (lines : List ℕ) × AreLinesOf from bytes end lines }
+        → (end : StreamEnd) × (lines : List ℕ) × AreLinesOf from bytes end lines }
 {}
 
 /// A stream that has ended has one list of lines, and one end.
 pub fn one_list_of_lines()
-    ensures { (from : Role) (bytes : List ℕ) (end other : ShowEnd) (lines others : List ℕ)
+    ensures { (from : Role) (bytes : List ℕ) (end other : StreamEnd) (lines others : List ℕ)
         → AreLinesOf from bytes end lines → AreLinesOf from bytes other others → (end ≡ other) × (lines ≡ others) }
 {}

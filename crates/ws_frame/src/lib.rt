@@ -25,5 +25,5 @@ pub use header::{Form, Header};
 pub use masking::{mask, mask_plainly};
 pub use reading::{HeaderRead, read_header};
 pub use role::Role;
-pub use showing::{ShowEnd, show};
+pub use showing::{ShowEnd, StreamEnd, show};
 pub use writing::HeadBytes;

@@ -1,9 +1,9 @@
 //! The line that tells of one frame (RFC 6455 section 5.2).
 
 ghost use Rattle.std.specs.Prelude.{◌≡◌, ◌≤◌, ◌+◌, Some, ◌++◌, length};
-ghost use Rattle.ws_frame.specs.Lines.{kind_word, bit_word, key_word, form_word, data_word, mask_mark, form_mark};
+ghost use Rattle.ws_frame.specs.Lines.{opcode_word, bit_word, key_word, form_word, data_word, mask_mark, form_mark};
 ghost use Rattle.ws_frame.specs.Lines.{line_with};
-ghost use Rattle.ws_frame.specs.Printing.{bits_words, layout_words};
+ghost use Rattle.ws_frame.specs.InnerPrinting.{bits_words, layout_words};
 
 use crate::first_bytes::SHOWN;
 use crate::header::{Form, Header};
@@ -12,11 +12,11 @@ use crate::room::Room;
 use std::fmt;
 
 /// No line has more bytes than this.
-pub const MAX_LINE: usize = 200;
+pub(crate) const MAX_LINE: usize = 200;
 
 /// Puts the line of a frame that begins at `offset` into the room, ended by LF. `first` are the first bytes of the
 /// payload, unmasked: as many as there are, at most `SHOWN`.
-pub fn push_line(room: &mut Room, from: Role, offset: u64, header: &Header, first: &[u8])
+pub(crate) fn push_line(room: &mut Room, from: Role, offset: u64, header: &Header, first: &[u8])
     requires room { length room.old + 200 ≤ 65536 }
     requires few { length first.now ≤ 16 }
     ensures { room.new ≡ room.old ++ line_with from offset header.now first.now }
@@ -62,7 +62,7 @@ fn push_layout(room: &mut Room, header: &Header)
 /// Puts the name of an opcode.
 fn push_kind(room: &mut Room, opcode: u8)
     requires { length room.old + 22 ≤ 65536 }
-    ensures pushed { room.new ≡ room.old ++ kind_word opcode }
+    ensures pushed { room.new ≡ room.old ++ opcode_word opcode }
     ensures len { length room.new ≤ length room.old + 22 }
 {
     match opcode {

@@ -1,7 +1,7 @@
 //! The frame under way: what is kept of one that is not whole (RFC 6455 section 5.2).
 
 ghost use Rattle.std.specs.Prelude.{◌≡◌, ◌<◌, [], List, ℕ, length, IsTrue, ◌↔◌, Some, None};
-ghost use Rattle.ws_frame.specs.Showing.{IsKept, IsUnderWay, UsesSome, TakesPart, BeginsPayload};
+ghost use Rattle.ws_frame.specs.InnerShowing.{IsPartialFrame, KeepsPartialFrame, UsesSome, TakesPart, BeginsPayload};
 
 use crate::first_bytes::FirstBytes;
 use crate::header::Header;
@@ -10,18 +10,18 @@ use std::mem;
 
 /// What is kept of a frame that is not whole. Between two frames nothing is.
 #[derive(Drop)]
-pub struct Partial {
+pub(crate) struct Partial {
     /// The header, once it is whole.
-    pub header: Option<Header>,
+    pub(crate) header: Option<Header>,
     /// The bytes of the header until it is whole, and then the first bytes of the payload as they stand on the wire.
-    pub first: FirstBytes,
+    pub(crate) first: FirstBytes,
     /// How many bytes of the payload are still to come.
-    pub to_come: u64,
+    pub(crate) to_come: u64,
 }
 
 /// What came of taking bytes.
 #[derive(Drop)]
-pub enum Taken {
+pub(crate) enum Taken {
     /// So many were used, and no frame is whole.
     Part(usize),
     /// So many were used, and a frame is whole: its header, and the first bytes of its payload on the wire.
@@ -36,8 +36,8 @@ pub enum Taken {
 
 impl Partial {
     /// Nothing of a frame.
-    pub fn new() -> Partial
-        ensures { IsKept [] result }
+    pub(crate) fn new() -> Partial
+        ensures { IsPartialFrame [] result }
     {
         Partial {
             header: None,
@@ -47,15 +47,15 @@ impl Partial {
     }
 
     /// Whether nothing of a frame is kept: the stream stands between two frames.
-    pub fn is_empty(&self) -> bool
-        ensures { (rest : List ℕ) → IsKept rest self.now → (IsTrue result ↔ (rest ≡ [])) }
+    pub(crate) fn is_empty(&self) -> bool
+        ensures { (rest : List ℕ) → IsPartialFrame rest self.now → (IsTrue result ↔ (rest ≡ [])) }
     {
         self.header.is_none() && self.first.as_slice().is_empty()
     }
 
     /// Takes at most the rest of one frame: of a header, or of a payload, which is skipped.
-    pub fn take(&mut self, piece: &[u8]) -> Taken
-        requires under_way { IsUnderWay self.old }
+    pub(crate) fn take(&mut self, piece: &[u8]) -> Taken
+        requires under_way { KeepsPartialFrame self.old }
         requires some { 0 < length piece.now }
         ensures used { UsesSome piece.now result }
         ensures taken { TakesPart self.old self.new piece.now result }
@@ -69,7 +69,7 @@ impl Partial {
     /// Takes bytes of the header.
     fn take_header(&mut self, piece: &[u8]) -> Taken
         requires header { self.old.header ≡ None }
-        requires under_way { IsUnderWay self.old }
+        requires under_way { KeepsPartialFrame self.old }
         requires some { 0 < length piece.now }
         ensures used { UsesSome piece.now result }
         ensures taken { TakesPart self.old self.new piece.now result }
@@ -106,7 +106,7 @@ impl Partial {
     /// Takes bytes of the payload.
     fn take_payload(&mut self, header: Header, piece: &[u8]) -> Taken
         requires header { self.old.header ≡ Some header }
-        requires under_way { IsUnderWay self.old }
+        requires under_way { KeepsPartialFrame self.old }
         requires some { 0 < length piece.now }
         ensures used { UsesSome piece.now result }
         ensures taken { TakesPart self.old self.new piece.now result }

@@ -2,7 +2,7 @@
 
 ghost use Rattle.std.specs.Prelude.{◌≡◌, ◌≤◌, length, MatchOption};
 ghost use Rattle.ws_frame.specs.Reading.{IsHeaderRead};
-ghost use Rattle.ws_frame.specs.Parts.{LengthEnds, LengthIsCut, KeyEnds, KeyIsCut};
+ghost use Rattle.ws_frame.specs.InnerParts.{LengthEnds, LengthIsCut, KeyEnds, KeyIsCut};
 
 use crate::header::{Form, Header};
 use byteorder::{BigEndian, ByteOrder};

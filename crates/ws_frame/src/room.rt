@@ -8,11 +8,11 @@ use itoa::Buffer;
 use std::marker::Model;
 
 /// How many bytes a room holds.
-pub const ROOM: usize = 65536;
+pub(crate) const ROOM: usize = 65536;
 
 /// Bytes in a fixed room: contracts see the list of them.
 #[derive(Drop)]
-pub struct Room {
+pub(crate) struct Room {
     bytes: [u8; ROOM],
     len: usize,
 }
@@ -29,7 +29,7 @@ impl Model for Room {
 
 impl Room {
     /// An empty room.
-    pub fn new() -> Room
+    pub(crate) fn new() -> Room
         ensures { result ≡ [] }
     {
         Room {
@@ -39,7 +39,7 @@ impl Room {
     }
 
     /// How many bytes stand in it.
-    pub fn len(&self) -> usize
+    pub(crate) fn len(&self) -> usize
         ensures count { result ≡ length self.now }
         ensures bound { result ≤ 65536 }
     {
@@ -47,21 +47,21 @@ impl Room {
     }
 
     /// The bytes that stand in it.
-    pub fn as_slice(&self) -> &[u8]
+    pub(crate) fn as_slice(&self) -> &[u8]
         ensures { result.now ≡ self.now }
     {
         &self.bytes[..self.len]
     }
 
     /// Takes everything out of it.
-    pub fn clear(&mut self)
+    pub(crate) fn clear(&mut self)
         ensures { self.new ≡ [] }
     {
         self.len = 0;
     }
 
     /// Puts bytes behind those that stand in it.
-    pub fn push(&mut self, bytes: &[u8])
+    pub(crate) fn push(&mut self, bytes: &[u8])
         requires { length self.old + length bytes.now ≤ 65536 }
         ensures pushed { self.new ≡ self.old ++ bytes.now }
         ensures len { length self.new ≡ length self.old + length bytes.now }
@@ -72,7 +72,7 @@ impl Room {
     }
 
     /// Puts a number behind them, in decimal digits.
-    pub fn push_decimal(&mut self, number: u64)
+    pub(crate) fn push_decimal(&mut self, number: u64)
         requires { length self.old + 20 ≤ 65536 }
         ensures pushed { self.new ≡ self.old ++ decimal number }
         ensures len { length self.new ≤ length self.old + 20 }
@@ -82,7 +82,7 @@ impl Room {
     }
 
     /// Puts the digits of bytes behind them, two a byte.
-    pub fn push_hex(&mut self, bytes: &[u8])
+    pub(crate) fn push_hex(&mut self, bytes: &[u8])
         requires { length self.old + 2 * length bytes.now ≤ 65536 }
         ensures pushed { self.new ≡ self.old ++ hex bytes.now }
         ensures len { length self.new ≡ length self.old + 2 * length bytes.now }

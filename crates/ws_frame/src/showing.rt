@@ -4,7 +4,7 @@ ghost use Rattle.std.specs.Prelude.{◌≡◌, ◌<◌, ◌≤◌, ◌+◌, ◌^
 ghost use Rattle.ws_frame.specs.Watching.{has_failed};
 ghost use Rattle.ws_frame.specs.Devices.{watched};
 ghost use Rattle.ws_frame.specs.Lines.{Leaves, Shows, IsFairEnd};
-ghost use Rattle.ws_frame.specs.Showing.{CanGoOn, HasTold, ShowsPiece, ShowsNext, IsKept};
+ghost use Rattle.ws_frame.specs.InnerShowing.{CanShowMore, HasTold, ShowsPiece, ShowsNext, IsPartialFrame, run_end};
 ghost use Rattle.ws_frame.specs.declared.showing.ShowEnd.TheVariants.{NoMemory};
 
 use crate::devices::{Watched, WriteFault};
@@ -16,6 +16,30 @@ use std::io::{Read, Write};
 
 /// How many bytes one read asks for at most.
 const READ_SIZE: usize = 65536;
+
+/// How a stream that has ended ends.
+#[derive(Clone, Copy)]
+pub enum StreamEnd {
+    /// With a whole frame, or before the first one.
+    Whole,
+    /// Inside the frame that begins at this place.
+    CutAt(u64),
+    /// At this place stands a header whose length has the top bit set: nothing behind it is a frame.
+    BadLengthAt(u64),
+}
+
+impl StreamEnd {
+    /// How a run of `show` ends that has written all lines of such a stream.
+    pub(crate) fn run_end(self) -> ShowEnd
+        ensures { result ≡ run_end self }
+    {
+        match self {
+            StreamEnd::Whole => ShowEnd::Done,
+            StreamEnd::CutAt(place) => ShowEnd::CutAt(place),
+            StreamEnd::BadLengthAt(place) => ShowEnd::BadLengthAt(place),
+        }
+    }
+}
 
 /// How a run of `show` ended.
 #[derive(Clone, Copy, PartialEq, Eq)]
@@ -39,12 +63,12 @@ pub enum ShowEnd {
 /// Writes a line for each whole frame that the reader gives, in any form of header, and a last one
 /// where the stream stops inside a frame (`cut at OFFSET`) or at a length with the top bit set
 /// (`bad length at OFFSET`). `from` is the end that sent the stream, for the remarks on masking. At
-/// most `budget` bytes are read; once so many are, nothing more is read and no last line is
-/// written. Nothing is judged but the masking and the form of the length.
+/// most `budget` bytes are read; once so many are, nothing more is read, and no last line is
+/// written but that of a bad length. Nothing is judged but the masking and the form of the length.
 ///
 /// The lines of the frames that a read completes are written before the next read. A bad length ends
 /// the run at once, also where the budget is used up. At `WriteFault` a beginning of what was due is
-/// written, which has the lines of all but the last read. No memory is taken.
+/// written, which has the lines of all but at most the last 65536 bytes. No memory is taken.
 pub fn show<R: Read, W: Write>(
     reader: &mut Watched<R>,
     writer: &mut Watched<W>,
@@ -75,7 +99,7 @@ pub fn show<R: Read, W: Write>(
         match run.show_piece(writer, &buf[..count]) {
             Err(_) => return ShowEnd::WriteFault,
             Ok(PieceEnd::BadLength) => {
-                let end = ShowEnd::BadLengthAt(run.offset);
+                let end = StreamEnd::BadLengthAt(run.offset);
                 return end_with(&mut run.lines, writer, end);
             }
             Ok(PieceEnd::Inside) => {}
@@ -129,7 +153,7 @@ impl Run {
         piece: &[u8],
     ) -> Result<PieceEnd, WriteFault>
         requires writer_works { has_failed writer.old ≡ false }
-        requires going { CanGoOn self.old }
+        requires going { CanShowMore self.old }
         requires count { self.old.taken + length piece.now < 2 ^ 64 }
         ensures from { self.new.from ≡ self.old.from }
         ensures shown { ShowsPiece self.old self.new piece.now (watched W.contents writer.old writer.new) result }
@@ -157,7 +181,7 @@ impl Run {
         piece: &[u8],
     ) -> Result<Option<usize>, WriteFault>
         requires writer_works { has_failed writer.old ≡ false }
-        requires going { CanGoOn self.old }
+        requires going { CanShowMore self.old }
         requires some { 0 < length piece.now }
         requires count { self.old.taken + length piece.now < 2 ^ 64 }
         ensures from { self.new.from ≡ self.old.from }
@@ -191,14 +215,14 @@ impl Run {
         }
     }
 
-    /// How the run ends at the end of the input.
-    fn end_of_input(&self) -> ShowEnd
-        ensures { (rest : List ℕ) → IsKept rest self.now.partial → Leaves result self.now.offset rest }
+    /// How the stream ends where the reader is at its end.
+    fn end_of_input(&self) -> StreamEnd
+        ensures { (rest : List ℕ) → IsPartialFrame rest self.now.partial → Leaves result self.now.offset rest }
     {
         if self.partial.is_empty() {
-            ShowEnd::Done
+            StreamEnd::Whole
         } else {
-            ShowEnd::CutAt(self.offset)
+            StreamEnd::CutAt(self.offset)
         }
     }
 }

@@ -5,7 +5,7 @@ ghost use Rattle.ws_frame.specs.Watching.{has_failed};
 ghost use Rattle.ws_frame.specs.Devices.{watched};
 ghost use Rattle.ws_frame.specs.Masking.{masked_payload};
 ghost use Rattle.ws_frame.specs.Lines.{line_with, last_line};
-ghost use Rattle.ws_frame.specs.Showing.{WritesSome, EndsWith};
+ghost use Rattle.ws_frame.specs.InnerShowing.{WritesSome, EndsWith};
 
 use crate::devices::{Watched, WriteFault, write_whole};
 use crate::first_bytes::FirstBytes;
@@ -13,12 +13,12 @@ use crate::header::Header;
 use crate::line::{MAX_LINE, push_line};
 use crate::role::Role;
 use crate::room::{ROOM, Room};
-use crate::showing::ShowEnd;
+use crate::showing::{ShowEnd, StreamEnd};
 use std::io::Write;
 
 /// Puts the line of a frame behind those that wait, which are written first where there is no room for one more.
 /// `first` are the first bytes of the payload as they stand on the wire.
-pub fn put_line<W: Write>(
+pub(crate) fn put_line<W: Write>(
     lines: &mut Room,
     writer: &mut Watched<W>,
     from: Role,
@@ -60,7 +60,7 @@ fn unmasked(key: Option<[u8; 4]>, first: FirstBytes) -> FirstBytes
 }
 
 /// Writes the lines that wait.
-pub fn flush<W: Write>(lines: &mut Room, writer: &mut Watched<W>) -> Result<(), WriteFault>
+pub(crate) fn flush<W: Write>(lines: &mut Room, writer: &mut Watched<W>) -> Result<(), WriteFault>
     requires { has_failed writer.old ≡ false }
     ensures written { WritesSome lines.old lines.new (watched W.contents writer.old writer.new) result }
     ensures empty { OnOk result (lines.new ≡ []) }
@@ -70,28 +70,32 @@ pub fn flush<W: Write>(lines: &mut Room, writer: &mut Watched<W>) -> Result<(), 
     Ok(())
 }
 
-/// Writes the line for this end, if it has one, and answers how the run ended.
-pub fn end_with<W: Write>(lines: &mut Room, writer: &mut Watched<W>, end: ShowEnd) -> ShowEnd
+/// Writes the line for this end of the stream, if it has one, and answers how the run ended.
+pub(crate) fn end_with<W: Write>(
+    lines: &mut Room,
+    writer: &mut Watched<W>,
+    end: StreamEnd,
+) -> ShowEnd
     requires works { has_failed writer.old ≡ false }
     requires empty { lines.old ≡ [] }
     ensures { EndsWith end (watched W.contents writer.old writer.new) result }
 {
     push_last_line(lines, end);
     match flush(lines, writer) {
-        Ok(()) => end,
+        Ok(()) => end.run_end(),
         Err(_) => ShowEnd::WriteFault,
     }
 }
 
-/// Puts the line for this end, if it has one.
-fn push_last_line(lines: &mut Room, end: ShowEnd)
+/// Puts the line for this end of the stream, if it has one.
+fn push_last_line(lines: &mut Room, end: StreamEnd)
     requires { lines.old ≡ [] }
     ensures { lines.new ≡ last_line end }
 {
     let (words, place) = match end {
-        ShowEnd::CutAt(place) => (b"cut at ".as_slice(), place),
-        ShowEnd::BadLengthAt(place) => (b"bad length at ".as_slice(), place),
-        _ => return,
+        StreamEnd::Whole => return,
+        StreamEnd::CutAt(place) => (b"cut at ".as_slice(), place),
+        StreamEnd::BadLengthAt(place) => (b"bad length at ".as_slice(), place),
     };
     lines.push(words);
     lines.push_decimal(place);

@@ -4,7 +4,7 @@ use Rattle.std.specs.Prelude.{IsOk, MatchResult}
 use Rattle.std.proofs.lemmas.List.{length-append, length-replicate, take_at, take_rest}
 use Rattle.ws_text.specs.Text.{IsText}
 use Rattle.ws_text.specs.Close.{CloseValue, CodeAllowed, CanBeSaid, close_payload, IsClosePayload, HoldsCode}
-use Rattle.ws_text.specs.Kept.{IsPadded}
+use Rattle.ws_text.specs.InnerKept.{IsPadded}
 
 -- where the only error says that U fails, U leaves none
 pub is_ok_of : {T E U : Type 0} (r : Result T E) (P : T → Type 0) (Q : E → Type 0) → MatchResult r P (λ e. (¬ U) × Q e) → U → IsOk r

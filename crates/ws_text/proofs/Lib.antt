@@ -1,4 +1,5 @@
 pub mod Characters
+pub mod UnfinishedCharacters
 pub mod Texts
 pub mod Pieces
 pub mod Closes

@@ -2,7 +2,8 @@
 use Rattle.std.proofs.Common.{◌≤◌, [], ◌∷◌, refl, arith, inl, lit≤}
 use Rattle.ws_text.specs.Text.{BeginsText}
 use Rattle.ws_text.specs.Stream.{BreaksTextAt}
-use Rattle.ws_text.proofs.Characters.{one_unfinished, is_second, not_first}
+use Rattle.ws_text.proofs.Characters.{is_second, not_first}
+use Rattle.ws_text.proofs.UnfinishedCharacters.{one_unfinished}
 use Rattle.ws_text.proofs.Texts.{no_text, unfinished_alone, begins_of_unfinished, unfinished_of_text}
 use Rattle.ws_text.proofs.Pieces.{stops}
 

@@ -9,8 +9,8 @@ use Rattle.std.proofs.lemmas.List.Elements.{All-nil, All-cons, All-head, All-tai
 use Rattle.std.proofs.lemmas.Bool.{and_parts, and_from, le-ltb, lt-ltb, le-leb}
 use lib.Utf8.{encode, encodes, scalar, scalars, scalar_cases, low_scalar}
 use Rattle.ws_text.specs.Text.{IsText, BeginsText, char_bytes, IsScalarValue, IsUnfinished, HasUnfinished}
-use Rattle.ws_text.specs.Step.{IsCharacter}
-use Rattle.ws_text.proofs.Characters.{no_empty, character_length}
+use Rattle.ws_text.specs.InnerStep.{IsCharacter}
+use Rattle.ws_text.proofs.UnfinishedCharacters.{no_empty, character_length}
 
 -- ---- std's words
 

@@ -2,6 +2,6 @@ pub mod Text
 pub mod Stream
 pub mod Close
 pub mod Words
-pub mod Kept
-pub mod Step
 pub mod Examples
+pub mod InnerKept
+pub mod InnerStep

@@ -6,9 +6,9 @@ use Rattle.ws_text.specs.Text.{BeginsText, HasUnfinished}
 -- A stream is seen as the unfinished character that it keeps, or as nothing once it has failed.
 
 -- the stream has read this text, and none of it was refused
-abbrev pub HasRead : Option (List ℕ) → List ℕ → Type 0
-HasRead None text = ⊥
-HasRead (Some tail) text = HasUnfinished text tail
+abbrev pub HasReadText : Option (List ℕ) → List ℕ → Type 0
+HasReadText None text = ⊥
+HasReadText (Some tail) text = HasUnfinished text tail
 
 -- a piece was refused
 abbrev pub HasFailed : Option (List ℕ) → Type 0

@@ -37,7 +37,7 @@ pub struct Close {
 impl Model for Close {
     ghost use Rattle.std.specs.Prelude.{◌-◌, ◌++◌, length, take, replicate};
     ghost use Rattle.ws_text.specs.Close.{CloseValue, CanBeSaid};
-    ghost use Rattle.ws_text.specs.Kept.{IsPadded};
+    ghost use Rattle.ws_text.specs.InnerKept.{IsPadded};
 
     ghost Value = { CloseValue };
 

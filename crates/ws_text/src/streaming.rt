@@ -2,7 +2,7 @@
 
 ghost use Rattle.std.specs.Prelude.{◌≡◌, ◌↔◌, ℕ, List, [], ◌++◌, IsTrue, Bool, false, IsOk, OnOk, OnErr, IfErr, Err};
 ghost use Rattle.ws_text.specs.Text.{IsText, BeginsText};
-ghost use Rattle.ws_text.specs.Stream.{HasRead, HasFailed, BreaksTextAt};
+ghost use Rattle.ws_text.specs.Stream.{HasReadText, HasFailed, BreaksTextAt};
 
 use crate::unfinished::Unfinished;
 use crate::whole::valid_prefix;
@@ -22,7 +22,7 @@ impl Model for Utf8Stream {
     ghost Value = { Option (List ℕ) };
 
     ghost use Rattle.ws_text.specs.Text.{IsUnfinished};
-    ghost use Rattle.ws_text.specs.Step.{kept_bytes, from_kept_bytes};
+    ghost use Rattle.ws_text.specs.InnerStep.{kept_bytes, from_kept_bytes};
 
     ghost view = { λ s. option_map kept_bytes s.unfinished };
 
@@ -34,7 +34,7 @@ impl Model for Utf8Stream {
 impl Utf8Stream {
     /// A stream that has read nothing yet.
     pub fn new() -> Utf8Stream
-        ensures { HasRead result [] }
+        ensures { HasReadText result [] }
     {
         Utf8Stream {
             unfinished: Some(Unfinished::Nothing),
@@ -45,13 +45,13 @@ impl Utf8Stream {
     /// nothing can complete the text so far: a receiver fails the connection with code 1007
     /// (section 8.1). From then on the stream has failed, and each push is `Err(0)`.
     pub fn push(&mut self, piece: &[u8]) -> Result<(), usize>
-        ensures fits { (text : List ℕ) → HasRead self.old text →
+        ensures fits { (text : List ℕ) → HasReadText self.old text →
             (IsOk result ↔ BeginsText (text ++ piece.now)) }
-        ensures read { (text : List ℕ) → HasRead self.old text →
-            OnOk result (HasRead self.new (text ++ piece.now)) }
+        ensures read { (text : List ℕ) → HasReadText self.old text →
+            OnOk result (HasReadText self.new (text ++ piece.now)) }
 
         // The place is the least: every front of what begins a text begins one.
-        ensures place { (text : List ℕ) → HasRead self.old text →
+        ensures place { (text : List ℕ) → HasReadText self.old text →
             IfErr result (BreaksTextAt text piece.now) }
         ensures fails { OnErr result (HasFailed self.new) }
         ensures failed { HasFailed self.old → result ≡ Err 0 }
@@ -73,7 +73,7 @@ impl Utf8Stream {
 
     /// Whether what was read is a text: it was never refused, and ends inside no character.
     pub fn is_whole(&self) -> bool
-        ensures whole { (text : List ℕ) → HasRead self.now text → (IsTrue result ↔ IsText text) }
+        ensures whole { (text : List ℕ) → HasReadText self.now text → (IsTrue result ↔ IsText text) }
         ensures failed { HasFailed self.now → result ≡ false }
     {
         match self.unfinished {

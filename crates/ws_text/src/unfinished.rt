@@ -5,7 +5,7 @@ ghost use Rattle.std.specs.Prelude.{MatchResult, IfOk, IfErr};
 ghost use Rattle.std.specs.Int.{IsInRange};
 ghost use Rattle.ws_text.specs.Text.{HasUnfinished, IsUnfinished};
 ghost use Rattle.ws_text.specs.Stream.{BreaksTextAt};
-ghost use Rattle.ws_text.specs.Step.{kept_bytes, BeginsCharacter, GoesOn};
+ghost use Rattle.ws_text.specs.InnerStep.{kept_bytes, BeginsCharacter, GoesOn};
 
 use crate::whole::valid_prefix;
 

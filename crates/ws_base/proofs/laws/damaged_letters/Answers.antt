@@ -1,4 +1,4 @@
-use Rattle.std.proofs.Common.{◌≡◌, ◌∙◌, ℕ, zero, suc, List, [], ◌∷◌, ◌++◌, ap, codes, refl, sym, arith, slice_index}
+use Rattle.std.proofs.Common.{◌≡◌, ℕ, zero, suc, List, [], ◌∷◌, ap, codes, refl, arith, slice_index}
 use Rattle.ws_base.specs.Examples.{IsLetter}
 use Rattle.ws_base.specs.Lines.{IsLine}
 use Rattle.ws_base.proofs.DamagedLines.{damaged_behind, first_line_no_value, no_line_no_value}

@@ -1,20 +1,22 @@
 use Rattle.std.proofs.Common.{rules, arith, ◌≡◌, ◌++◌, ◌∷◌, [], ◌∙◌, ap, sym, subst, length, List, ℕ}
 use Rattle.std.proofs.lemmas.List.{length-append}
 use Rattle.ws_base.specs.Lines.{HasLineForEach, ended}
-use Rattle.ws_base.proofs.DamagedLines.{damaged_behind, first_line_no_value, line_added, lines_added, no_line_no_value, text_added, value_added}
+use Rattle.ws_base.proofs.DamagedLines.{damaged_behind, first_line_no_value, line_added, lines_added, names_line, no_line_no_value, text_added, value_added}
 use Rattle.ws_base.proofs.lines.read_lines.Goals as goal
 
 pub returns-in_default : goal.returns-in_default
 returns-in_default g c =
     let i = c.loop-rest.invariant in
-    damaged_behind g.T.Line.is_line_of c.loop-rest.values.items i.0 c.args.text.now c.loop-rest.rest.now _ i.1 i.3 i.4 (search rules)
-    (no_line_no_value g.T.Line.is_line_of c.loop-rest.rest.now c.in_default.ensures) (search rules)
+    names_line (HasLineForEach g.T.Line.is_line_of) _ c.args.text.now
+    (damaged_behind g.T.Line.is_line_of c.loop-rest.values.items i.0 c.args.text.now c.loop-rest.rest.now _ i.1 i.3 i.4 (search rules)
+    (no_line_no_value g.T.Line.is_line_of c.loop-rest.rest.now c.in_default.ensures) (search rules))
 
 pub returns-in-Err-Damaged : goal.returns-in-Err-Damaged
 returns-in-Err-Damaged g c =
     let i = c.loop-rest.invariant in
-    damaged_behind g.T.Line.is_line_of c.loop-rest.values.items i.0 c.args.text.now c.loop-rest.rest.now _ i.1 i.3 i.4 (search rules)
-    (first_line_no_value g.T.Line.is_line_of c.loop-rest.rest.now c.in-Some.line.now c.in-Some.after.now c.in-Some.ensures.0 c.in-Some.ensures.1 (c.in-Err-Damaged.ensures c.in-Err-Damaged.field-0-is)) (search rules)
+    names_line (HasLineForEach g.T.Line.is_line_of) _ c.args.text.now
+    (damaged_behind g.T.Line.is_line_of c.loop-rest.values.items i.0 c.args.text.now c.loop-rest.rest.now _ i.1 i.3 i.4 (search rules)
+    (first_line_no_value g.T.Line.is_line_of c.loop-rest.rest.now c.in-Some.line.now c.in-Some.after.now c.in-Some.ensures.0 c.in-Some.ensures.1 (c.in-Err-Damaged.ensures c.in-Err-Damaged.field-0-is)) (search rules))
 
 pub loop-rest-preserved : goal.loop-rest-preserved
 loop-rest-preserved g c =

@@ -1,6 +1,6 @@
-use Rattle.std.proofs.Common.{refl}
-use Rattle.ws_frame.proofs.Masks.{eight_times}
+use Rattle.std.proofs.Common.{◌∙◌, arith}
+use Rattle.ws_frame.proofs.Masks.{eight_times, four_again}
 use Rattle.ws_frame.proofs.masking.key_lanes.Goals as goal
 
 pub returns-clause-lanes : goal.returns-clause-lanes
-returns-clause-lanes c = eight_times c.args.key c.args.phase _ _ _ _ c.requires refl refl refl refl
+returns-clause-lanes c = λ key phase are. eight_times key phase _ _ _ _ (λ i lt. four_again c.args.turned c.requires i lt ∙ are i (omega (arith, lt, c.requires)))

@@ -6,13 +6,13 @@ use Rattle.ws_frame.proofs.masking.mask.Goals as goal
 pub loop-bytes-preserved : goal.loop-bytes-preserved
 loop-bytes-preserved c = (
   omega arith,
-  lanes_more c.args.key c.args.phase c.loop-bytes.at _ c.loop-bytes.bytes c.mask_lanes.new.bytes (omega arith) (omega arith) (c.mask_lanes.ensures c.args.key c.args.phase c.key_lanes-lanes.ensures.lanes)
+  lanes_more 8 c.args.key c.args.phase c.loop-bytes.at _ c.loop-bytes.bytes c.mask_lanes.new.bytes (omega arith) (omega arith) (c.mask_lanes.ensures c.args.key c.args.phase (c.key_lanes-lanes.ensures.lanes c.args.key c.args.phase c.turned_key-turned.ensures.lanes))
       ∙ c.loop-bytes.invariant.1,
 )
 
 pub returns-clause-bytes : goal.returns-clause-bytes
 returns-clause-bytes c =
-    lanes_done c.args.key c.args.phase c.loop-bytes.at _ c.loop-bytes.bytes c.mask_plainly.new.bytes _ c.loop-bytes.invariant.0 (omega arith) c.mask_plainly.ensures.bytes c.loop-bytes.invariant.1
+    lanes_done c.args.key c.args.phase c.loop-bytes.at _ c.loop-bytes.bytes c.mask_rest.new.bytes _ c.loop-bytes.invariant.0 (omega arith) c.mask_rest.ensures c.loop-bytes.invariant.1
 
 pub returns-clause-rule : goal.returns-clause-rule
 returns-clause-rule c =

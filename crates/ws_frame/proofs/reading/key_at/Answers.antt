@@ -1,4 +1,4 @@
-use Rattle.ws_frame.proofs.Headers.{key_cut}
+use Rattle.ws_frame.proofs.HeaderLengths.{key_cut}
 use Rattle.ws_frame.proofs.reading.key_at.Goals as goal
 
 pub returns-then-bytes-at-lt4 : goal.returns-then-bytes-at-lt4

@@ -2,54 +2,70 @@ use Rattle.std.proofs.Common.{rules, arith, ◌≡◌, ◌∙◌, ◌<◌, ◌++
 use Rattle.std.specs.Prelude.{◌||◌, false}
 use Rattle.std.proofs.KnownBytes.{Appends-trans, Consumes-kept, Consumes-trans}
 use Rattle.ws_frame.specs.declared.role.Role.{Role}
-use Rattle.ws_frame.specs.declared.showing.ShowEnd.TheVariants.{BadLengthAt}
+use Rattle.ws_frame.specs.declared.showing.StreamEnd.TheVariants.{BadLengthAt}
 use Rattle.ws_frame.specs.declared.showing.PieceEnd.TheVariants as piece_end
 use Rattle.ws_frame.specs.Devices.{watched}
-use Rattle.ws_frame.specs.Showing.{IsLeft, BeginsLines}
-use Rattle.ws_frame.proofs.Runs.{piece_is, stands_written, lines_of_frames, left_at_end, read_nothing, piece_within, may_end, earlier_all, earlier_lines, due_on, ended}
+use Rattle.ws_frame.specs.InnerShowing.{IsLeft, BeginsLines}
+use Rattle.ws_frame.proofs.Runs.{piece_is, all_written, lines_of_frames, left_at_end}
+use Rattle.ws_frame.proofs.RunEnds.{read_nothing, piece_within, may_end, earlier_all, earlier_lines, due_on, ended}
 use Rattle.ws_frame.proofs.showing.show.Goals as goal
 
 pub returns-in-Err-clause-lines : goal.returns-in-Err-clause-lines
 returns-in-Err-clause-lines g c =
     let run = c.loop-run.run in
     let (read, written, consumed, appended, t) = c.loop-run.invariant.told in
-    let s = stands_written run.from c.args.from read run.offset run.partial written run.lines t.stands c.loop-run.invariant.none_wait c.loop-run.invariant.from in
+    let s = all_written run.from c.args.from read run.offset run.partial written run.lines t.so_far c.loop-run.invariant.none_wait c.loop-run.invariant.from in
     let below : length read < c.args.budget = omega (arith, t.count, c.loop-run-test.true) in
-    (read, written, Consumes-kept _ _ _ _ consumed c.in-Err.ensures.bytes, appended, omega (arith, below), (lines_of_frames c.args.from read run.offset run.partial written s, below))
+    record {
+      read = read;
+      written = written;
+      has_read = Consumes-kept _ _ _ _ consumed c.in-Err.ensures.bytes;
+      has_written = appended;
+      within = omega (arith, below);
+      shown = (lines_of_frames c.args.from read run.offset run.partial written s, below);
+    }
 
 pub returns-in-Ok-eq0-clause-lines : goal.returns-in-Ok-eq0-clause-lines
 returns-in-Ok-eq0-clause-lines g c =
     let run = c.loop-run.run in
     let (read, written, consumed, appended, t) = c.loop-run.invariant.told in
-    let s = stands_written run.from c.args.from read run.offset run.partial written run.lines t.stands c.loop-run.invariant.none_wait c.loop-run.invariant.from in
+    let s = all_written run.from c.args.from read run.offset run.partial written run.lines t.so_far c.loop-run.invariant.none_wait c.loop-run.invariant.from in
     let below : length read < c.args.budget = omega (arith, t.count, c.loop-run-test.true) in
     let input = watched g.R.Read.remaining c.args.reader.now c.read.new.self in
     let output = watched g.W.Write.contents c.loop-run.writer c.end_with.new.writer in
     let leaves = c.end_of_input-end.ensures s.rest s.is_kept in
-    let may = may_end c.end_of_input-end.result run.offset c.args.budget read s.rest input leaves below (c.in-Ok-eq0.ensures.failed ∙ ap (λ (b : Bool). b || false) c.loop-run.invariant.reads)
+    let may = may_end c.end_of_input-end.result c.args.budget read input below (c.in-Ok-eq0.ensures.failed ∙ ap (λ (b : Bool). b || false) c.loop-run.invariant.reads)
     (c.in-Ok-eq0.ensures.bytes.1 (search rules) (search rules)) in
     let left = left_at_end c.args.from read run.offset run.partial written c.end_of_input-end.result s leaves in
-    let earlier = earlier_all c.args.from read written (lines_of_frames c.args.from read run.offset run.partial written s) in
+    let earlier = earlier_all c.args.from c.args.budget input.new read written (lines_of_frames c.args.from read run.offset run.partial written s) in
     let e = ended c.args.from c.args.budget c.end_of_input-end.result c.end_with.result read written input output may left earlier c.end_with.ensures in
-    (read, written ++ e.last, read_nothing _ _ _ read c.read.new.buf _ (search rules) consumed c.in-Ok-eq0.ensures.bytes.0, Appends-trans _ _ _ _ _ appended e.was_written, omega (arith, below), e.shown)
+    record {
+      read = read;
+      written = written ++ e.last;
+      has_read = read_nothing _ _ _ read c.read.new.buf _ (search rules) consumed c.in-Ok-eq0.ensures.bytes.0;
+      has_written = Appends-trans _ _ _ _ _ appended e.was_written;
+      within = omega (arith, below);
+      shown = e.shown;
+    }
 
 pub returns-in-Err-show_piece-clause-lines : goal.returns-in-Err-show_piece-clause-lines
 returns-in-Err-show_piece-clause-lines g c =
     let run = c.loop-run.run in
     let (read, written, consumed, appended, t) = c.loop-run.invariant.told in
-    let s = stands_written run.from c.args.from read run.offset run.partial written run.lines t.stands c.loop-run.invariant.none_wait c.loop-run.invariant.from in
+    let s = all_written run.from c.args.from read run.offset run.partial written run.lines t.so_far c.loop-run.invariant.none_wait c.loop-run.invariant.from in
     let piece = take c.in-Ok.count c.read.new.buf in
     let (more, wrote, (failed, begins)) = c.in-Err-show_piece.ensures.shown read written t in
     let from : c.show_piece.new.self.from ≡ c.args.from = c.show_piece.ensures.from ∙ c.loop-run.invariant.from in
     let begun = subst (λ (r : Role). BeginsLines r (read ++ piece) (written ++ more)) from begins in
-    let w = piece_within run.taken c.args.budget c.in-Ok.count c.min-want.result read c.read.new.buf t.count c.in-Ok.ensures.bound.0 (search rules) c.min-want.ensures c.loop-run-test.true in (
-      read ++ piece,
-      written ++ more,
-      Consumes-trans _ _ _ _ _ consumed c.in-Ok.ensures.bytes.0,
-      Appends-trans _ _ _ _ _ appended wrote,
-      w.0,
-      (due_on c.args.from c.args.budget _ (read ++ piece) (written ++ more) begun, earlier_lines c.args.from read piece written more w.1 (lines_of_frames c.args.from read run.offset run.partial written s)),
-    )
+    let w = piece_within run.taken c.args.budget c.in-Ok.count c.min-want.result read c.read.new.buf t.count c.in-Ok.ensures.bound.0 (search rules) c.min-want.ensures c.loop-run-test.true in
+    record {
+      read = read ++ piece;
+      written = written ++ more;
+      has_read = Consumes-trans _ _ _ _ _ consumed c.in-Ok.ensures.bytes.0;
+      has_written = Appends-trans _ _ _ _ _ appended wrote;
+      within = w.0;
+      shown = (due_on c.args.from c.args.budget _ (read ++ piece) (written ++ more) begun, earlier_lines c.args.from c.args.budget _ read piece written more w.1 (lines_of_frames c.args.from read run.offset run.partial written s));
+    }
 
 pub returns-in-Err-show_piece-clause-fair : goal.returns-in-Err-show_piece-clause-fair
 returns-in-Err-show_piece-clause-fair g c =
@@ -78,7 +94,7 @@ returns-in-Ok-BadLength-clause-lines g c =
     let run = c.loop-run.run in
     let new = c.show_piece.new.self in
     let (read, written, consumed, appended, t) = c.loop-run.invariant.told in
-    let s = stands_written run.from c.args.from read run.offset run.partial written run.lines t.stands c.loop-run.invariant.none_wait c.loop-run.invariant.from in
+    let s = all_written run.from c.args.from read run.offset run.partial written run.lines t.so_far c.loop-run.invariant.none_wait c.loop-run.invariant.from in
     let piece = take c.in-Ok.count c.read.new.buf in
     let output = watched g.W.Write.contents c.loop-run.writer c.show_piece.new.writer in
     let shown = piece_is run new piece output c.in-Ok-BadLength.field-0 piece_end.BadLength c.in-Ok-BadLength.field-0-is c.in-Ok-BadLength.ensures.shown in
@@ -86,17 +102,18 @@ returns-in-Ok-BadLength-clause-lines g c =
     let from : new.from ≡ c.args.from = c.show_piece.ensures.from ∙ c.loop-run.invariant.from in
     let is_left = subst (λ (r : Role). IsLeft r (read ++ piece) (BadLengthAt new.offset) (written ++ more)) from left in
     let w = piece_within run.taken c.args.budget c.in-Ok.count c.min-want.result read c.read.new.buf t.count c.in-Ok.ensures.bound.0 (search rules) c.min-want.ensures c.loop-run-test.true in
-    let earlier = earlier_lines c.args.from read piece written more w.1 (lines_of_frames c.args.from read run.offset run.partial written s) in
     let input = watched g.R.Read.remaining c.args.reader.now c.read.new.self in
+    let earlier = earlier_lines c.args.from c.args.budget input.new read piece written more w.1 (lines_of_frames c.args.from read run.offset run.partial written s) in
     let last = watched g.W.Write.contents c.show_piece.new.writer c.end_with-in-Ok-BadLength.new.writer in
-    let e = ended c.args.from c.args.budget (BadLengthAt new.offset) c.end_with-in-Ok-BadLength.result (read ++ piece) (written ++ more) input last tt is_left earlier c.end_with-in-Ok-BadLength.ensures in (
-      read ++ piece,
-      (written ++ more) ++ e.last,
-      Consumes-trans _ _ _ _ _ consumed c.in-Ok.ensures.bytes.0,
-      Appends-trans _ _ _ _ _ (Appends-trans _ _ _ _ _ appended wrote) e.was_written,
-      w.0,
-      e.shown,
-    )
+    let e = ended c.args.from c.args.budget (BadLengthAt new.offset) c.end_with-in-Ok-BadLength.result (read ++ piece) (written ++ more) input last tt is_left earlier c.end_with-in-Ok-BadLength.ensures in
+    record {
+      read = read ++ piece;
+      written = (written ++ more) ++ e.last;
+      has_read = Consumes-trans _ _ _ _ _ consumed c.in-Ok.ensures.bytes.0;
+      has_written = Appends-trans _ _ _ _ _ (Appends-trans _ _ _ _ _ appended wrote) e.was_written;
+      within = w.0;
+      shown = e.shown;
+    }
 
 pub loop-run-smaller : goal.loop-run-smaller
 loop-run-smaller g c =
@@ -131,6 +148,13 @@ pub returns-clause-lines : goal.returns-clause-lines
 returns-clause-lines g c =
     let run = c.loop-run.run in
     let (read, written, consumed, appended, t) = c.loop-run.invariant.told in
-    let s = stands_written run.from c.args.from read run.offset run.partial written run.lines t.stands c.loop-run.invariant.none_wait c.loop-run.invariant.from in
+    let s = all_written run.from c.args.from read run.offset run.partial written run.lines t.so_far c.loop-run.invariant.none_wait c.loop-run.invariant.from in
     let spent : length read ≡ c.args.budget = omega (arith, t.count, c.loop-run.invariant.within, c.loop-run-test.false) in
-    (read, written, consumed, appended, omega (arith, spent), (lines_of_frames c.args.from read run.offset run.partial written s, spent))
+    record {
+      read = read;
+      written = written;
+      has_read = consumed;
+      has_written = appended;
+      within = omega (arith, spent);
+      shown = (lines_of_frames c.args.from read run.offset run.partial written s, spent);
+    }

@@ -1,7 +1,7 @@
 use Rattle.std.proofs.Common.{◌≡◌, ◌≤◌, ◌-◌, false, List, [], ℕ}
 use Rattle.std.specs.Io.KnownBytes.{Appends, Consumes}
 use Rattle.ws_frame.specs.Watching.{has_failed, inner_of}
-use Rattle.ws_frame.specs.Showing.{HasTold}
+use Rattle.ws_frame.specs.InnerShowing.{HasTold}
 use Rattle.ws_frame.proofs.showing.show.Given as goal
 
 -- the lines of what was read are written

@@ -1,5 +1,6 @@
 use Rattle.std.proofs.Common.{refl, arith, inl, inr}
-use Rattle.ws_text.proofs.Characters.{character_1, one_unfinished, not_first}
+use Rattle.ws_text.proofs.Characters.{character_1, not_first}
+use Rattle.ws_text.proofs.UnfinishedCharacters.{one_unfinished}
 use Rattle.ws_text.proofs.unfinished.after_first.Goals as goal
 
 pub returns-in-0-to-127 : goal.returns-in-0-to-127

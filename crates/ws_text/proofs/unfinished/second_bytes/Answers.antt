@@ -1,5 +1,5 @@
 use Rattle.std.proofs.Common.{arith}
-use Rattle.ws_text.proofs.Characters.{second_range}
+use Rattle.ws_text.proofs.UnfinishedCharacters.{second_range}
 use Rattle.ws_text.proofs.unfinished.second_bytes.Goals as goal
 
 pub returns-in-224 : goal.returns-in-224

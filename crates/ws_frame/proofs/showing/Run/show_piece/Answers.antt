@@ -4,7 +4,7 @@ use Rattle.std.proofs.lemmas.List.{take_all}
 use Rattle.std.proofs.lemmas.Result.{err_from_is_err_and}
 use Rattle.std.proofs.KnownBytes.{Appends-nil, Appends-trans}
 use Rattle.ws_frame.specs.Devices.{watched}
-use Rattle.ws_frame.specs.declared.showing.ShowEnd.TheVariants.{BadLengthAt}
+use Rattle.ws_frame.specs.declared.showing.StreamEnd.TheVariants.{BadLengthAt}
 use Rattle.ws_frame.proofs.Written.{rest_length}
 use Rattle.ws_frame.proofs.Runs.{told_so, next_is, begins_so, left_so, whole_piece, more_of_piece, all_out, out_behind_two, end_told, end_begun, begins_left}
 use Rattle.ws_frame.proofs.showing.Run.show_piece.Goals as goal
@@ -102,7 +102,7 @@ returns-in_err-flush-clause-shown g c = λ taken written t.
     let self = c.loop-at.self in
     let (more, appended, told) = c.loop-at.invariant.told taken written t in
     let (front, behind, flushed, failed, due) = c.in_err-flush.ensures.written in
-    let begun = end_begun self.from taken piece written more self.lines front behind self.offset c.loop-at.at self.partial told.stands c.loop-at-test.false due in
+    let begun = end_begun self.from taken piece written more self.lines front behind self.offset c.loop-at.at self.partial told.so_far c.loop-at-test.false due in
     let p = err_from_is_err_and c.from_residual-in_err-flush.result c.from_residual-in_err-flush.ensures.1 in
     rw p.1 (more ++ front, Appends-trans _ _ _ _ _ appended flushed, (failed, begun))
 
@@ -119,7 +119,7 @@ returns-clause-shown g c = λ taken written t.
         c.in_ok-flush.ensures.empty,
         record {
           count = told.count ∙ ap (λ (l : List ℕ). length (taken ++ l)) (take_all c.loop-at.at piece c.loop-at-test.false);
-          stands = end_told self.from taken piece written more self.lines w c.flush-2.new.lines self.offset c.loop-at.at self.partial told.stands c.loop-at-test.false due;
+          so_far = end_told self.from taken piece written more self.lines w c.flush-2.new.lines self.offset c.loop-at.at self.partial told.so_far c.loop-at-test.false due;
         },
       ),
     )

@@ -1,7 +1,7 @@
 use Rattle.std.proofs.Common.{◌≡◌, ◌≤◌, ◌+◌, ◌-◌, ◌++◌, false, List, ℕ, length, take}
 use Rattle.std.specs.Io.KnownBytes.{Appends}
 use Rattle.ws_frame.specs.Watching.{has_failed, inner_of}
-use Rattle.ws_frame.specs.Showing.{HasTold}
+use Rattle.ws_frame.specs.InnerShowing.{HasTold}
 use Rattle.ws_frame.proofs.showing.Run.show_piece.Given as goal
 
 -- the lines of the frames up to `at` were written or wait

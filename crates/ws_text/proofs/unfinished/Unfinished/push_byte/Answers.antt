@@ -1,5 +1,6 @@
 use Rattle.std.proofs.Common.{◌≡◌, Bool, true, false, refl, arith, inl, inr}
-use Rattle.ws_text.proofs.Characters.{lead_of, two_of, three_of, is_second, is_third, is_fourth, character_2, character_3, character_4, two_unfinished, three_unfinished, later_in_range, in_range_later}
+use Rattle.ws_text.proofs.Characters.{is_second, is_third, is_fourth, character_2, character_3, character_4, later_in_range, in_range_later}
+use Rattle.ws_text.proofs.UnfinishedCharacters.{lead_of, two_of, three_of, two_unfinished, three_unfinished}
 use Rattle.ws_text.proofs.unfinished.Unfinished.push_byte.Goals as goal
 
 false_not_true : ◌≡◌ {A = Bool} false true → ⊥

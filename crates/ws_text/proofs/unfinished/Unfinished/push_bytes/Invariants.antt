@@ -1,6 +1,6 @@
 use Rattle.std.proofs.Common.{ℕ, List, ◌++◌, take}
 use Rattle.ws_text.specs.Text.{IsUnfinished, HasUnfinished}
-use Rattle.ws_text.specs.Step.{kept_bytes}
+use Rattle.ws_text.specs.InnerStep.{kept_bytes}
 use Rattle.ws_text.proofs.unfinished.Unfinished.push_bytes.Given as goal
 
 abbrev pub invariant-loop-i : goal.invariant-loop-i

@@ -3,12 +3,12 @@ use Rattle.std.specs.Prelude.{ℕ, List, [], ◌∷◌, codes}
 use Rattle.std.specs.List.{concat}
 use Rattle.std.specs.Fmt.{decimal}
 use Rattle.ws_frame.specs.Header.{HeaderFields}
-use Rattle.ws_frame.specs.Lines.{kind_word, bit_word, key_word, form_word}
+use Rattle.ws_frame.specs.Lines.{opcode_word, bit_word, key_word, form_word}
 
 -- where a frame begins, and what its first byte says
 abbrev pub bits_words : ℕ → HeaderFields → List ℕ
 bits_words offset header = concat (
-    decimal offset ∷ codes " " ∷ kind_word header.opcode
+    decimal offset ∷ codes " " ∷ opcode_word header.opcode
     ∷ codes " fin=" ∷ bit_word header.fin ∷ codes " rsv=" ∷ decimal header.rsv ∷ [])
 
 -- the masking key, and the payload length with its form

@@ -4,8 +4,10 @@ use Rattle.std.specs.Prelude.{◌⊎◌, ◌≡◌, ℕ, ◌+◌, ◌^◌, ◌�
 use Rattle.std.specs.Prelude.{List, [], ◌++◌, length, take, Option, Some, None, Result, Ok, Err}
 use Rattle.std.specs.List.{flat_map, AllByRecursion}
 use Rattle.ws_frame.specs.declared.role.Role.{Role}
+use Rattle.ws_frame.specs.declared.showing.StreamEnd.{StreamEnd}
+use Rattle.ws_frame.specs.declared.showing.StreamEnd.TheVariants as end
 use Rattle.ws_frame.specs.declared.showing.ShowEnd.{ShowEnd}
-use Rattle.ws_frame.specs.declared.showing.ShowEnd.TheVariants as end
+use Rattle.ws_frame.specs.declared.showing.ShowEnd.TheVariants as show_end
 use Rattle.ws_frame.specs.declared.showing.PieceEnd.{PieceEnd}
 use Rattle.ws_frame.specs.declared.showing.PieceEnd.TheVariants as piece_end
 use Rattle.ws_frame.specs.declared.showing.Run.{Run}
@@ -38,12 +40,13 @@ abbrev pub IsKeptAs : List ℕ → Option HeaderFields → List ℕ → ℕ → 
 IsKeptAs rest None first to_come = (rest ≡ first) × BeginsNoHeader first
 IsKeptAs rest (Some header) first to_come = IsPartOfPayload rest header first to_come
 
-abbrev pub IsKept : List ℕ → Partial → Type 0
-IsKept rest partial = IsKeptAs rest partial.header partial.first partial.to_come
+-- these bytes are the partial frame that is kept
+abbrev pub IsPartialFrame : List ℕ → Partial → Type 0
+IsPartialFrame rest partial = IsKeptAs rest partial.header partial.first partial.to_come
 
 -- some bytes are
-abbrev pub IsUnderWay : Partial → Type 0
-IsUnderWay partial = (rest : List ℕ) × AreBytes rest × IsKept rest partial
+abbrev pub KeepsPartialFrame : Partial → Type 0
+KeepsPartialFrame partial = (rest : List ℕ) × AreBytes rest × IsPartialFrame rest partial
 
 -- the bytes are a frame's, with this header and these first bytes of the payload on the wire
 pub record IsWhole (bytes : List ℕ) (header : HeaderFields) (first : List ℕ) : Type 0 where
@@ -61,27 +64,28 @@ UsesSome piece BadLength = ⊤
 
 -- what came of a piece behind the bytes that were kept
 abbrev pub IsTaken : List ℕ → List ℕ → Partial → Taken → Type 0
-IsTaken rest piece new (Part used) = IsKept (rest ++ take used piece) new
-IsTaken rest piece new (Whole header first used) = IsWhole (rest ++ take used piece) header first × IsKept [] new
+IsTaken rest piece new (Part used) = IsPartialFrame (rest ++ take used piece) new
+IsTaken rest piece new (Whole header first used) =
+    IsWhole (rest ++ take used piece) header first × IsPartialFrame [] new
 IsTaken rest piece new BadLength = BeginsBadLength (rest ++ piece)
 
 -- what a call does with a piece, whatever bytes are kept
 abbrev pub TakesPart : Partial → Partial → List ℕ → Taken → Type 0
 TakesPart old new piece result =
-    (rest : List ℕ) → AreBytes rest → IsKept rest old → IsTaken rest piece new result
+    (rest : List ℕ) → AreBytes rest → IsPartialFrame rest old → IsTaken rest piece new result
 
 -- a header is whole, and with it a frame without a payload
 abbrev pub BeginsPayload : HeaderFields → ℕ → Partial → Taken → Type 0
 BeginsPayload header used new (Part count) = (count ≡ used) × (new.header ≡ Some header) × (new.first ≡ [])
     × (new.to_come ≡ header.len) × (0 < header.len)
 BeginsPayload header used new (Whole of first count) = (count ≡ used) × (of ≡ header) × (first ≡ [])
-    × (header.len ≡ 0) × IsKept [] new
+    × (header.len ≡ 0) × IsPartialFrame [] new
 BeginsPayload header used new BadLength = ⊥
 
 -- ---- a run
 
 -- what was read are whole frames, whose lines these are, and less than a frame, which is kept and begins at this place
-pub record Stands (from : Role) (read : List ℕ) (offset : ℕ) (partial : Partial) (lines : List ℕ) : Type 0 where
+pub record AreLinesSoFar (from : Role) (read : List ℕ) (offset : ℕ) (partial : Partial) (lines : List ℕ) : Type 0 where
   pub are_bytes : AreBytes read
   pub frames : List WireFrame
   pub rest : List ℕ
@@ -89,19 +93,19 @@ pub record Stands (from : Role) (read : List ℕ) (offset : ℕ) (partial : Part
   pub parts : read ≡ flat_map wire_bytes frames ++ rest
   pub place : offset ≡ length (flat_map wire_bytes frames)
   pub are_lines : lines ≡ frame_lines from 0 frames
-  pub is_kept : IsKept rest partial
+  pub is_kept : IsPartialFrame rest partial
 
 -- a run that has taken these bytes: their lines were written or wait
 pub record HasTold (run : Run) (taken written : List ℕ) : Type 0 where
   pub count : run.taken ≡ length taken
-  pub stands : Stands run.from taken run.offset run.partial (written ++ run.lines)
+  pub so_far : AreLinesSoFar run.from taken run.offset run.partial (written ++ run.lines)
 
--- some bytes were taken so
-abbrev pub CanGoOn : Run → Type 0
-CanGoOn run = (taken : List ℕ) × (written : List ℕ) × HasTold run taken written
+-- some bytes were taken so, and more can be
+abbrev pub CanShowMore : Run → Type 0
+CanShowMore run = (taken : List ℕ) × (written : List ℕ) × HasTold run taken written
 
 -- these lines of the whole frames were written, and this is left
-pub record IsLeft (from : Role) (bytes : List ℕ) (left : ShowEnd) (written : List ℕ) : Type 0 where
+pub record IsLeft (from : Role) (bytes : List ℕ) (left : StreamEnd) (written : List ℕ) : Type 0 where
   pub frames : List WireFrame
   pub rest : List ℕ
   pub split : SplitsIntoAnyForm bytes frames rest
@@ -150,9 +154,15 @@ WritesSome due waiting output (Ok _) =
 WritesSome due waiting output (Err _) =
     (front : List ℕ) × (more : List ℕ) × HasWritten front output × (output.failed ≡ true) × (due ≡ front ++ more)
 
--- the line for this end was written; or a beginning of it
-abbrev pub EndsWith : ShowEnd → Device → ShowEnd → Type 0
+-- how a run ends that has written all lines of a stream that ends so
+abbrev pub run_end : StreamEnd → ShowEnd
+run_end end.Whole = show_end.Done
+run_end (end.CutAt place) = show_end.CutAt place
+run_end (end.BadLengthAt place) = show_end.BadLengthAt place
+
+-- the line for this end of the stream was written; or a beginning of it
+abbrev pub EndsWith : StreamEnd → Device → ShowEnd → Type 0
 EndsWith last output result =
-    ((result ≡ last) × HasWritten (last_line last) output × (output.failed ≡ false))
-    ⊎ ((result ≡ end.WriteFault) × (output.failed ≡ true)
+    ((result ≡ run_end last) × HasWritten (last_line last) output × (output.failed ≡ false))
+    ⊎ ((result ≡ show_end.WriteFault) × (output.failed ≡ true)
     × ((front : List ℕ) × (more : List ℕ) × HasWritten front output × (last_line last ≡ front ++ more)))
