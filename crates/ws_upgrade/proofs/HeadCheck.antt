@@ -1,18 +1,14 @@
 -- From the answer to a head at the front to what is said of the bytes.
-use Rattle.std.proofs.Common.{arith, ℕ, ◌≡◌, ◌≤◌, List, [], ◌∷◌, length, ap, sym, ◌∙◌, ◌+◌, take, drop, length-append, length-take, inl, inr}
+use Rattle.std.proofs.Common.{arith, ℕ, ◌≡◌, ◌≤◌, List, [], ◌∷◌, length, ap, sym, subst, ◌∙◌, ◌++◌, take, drop, length-append, length-take, inl, inr}
 use Rattle.std.specs.Prelude.{⊤}
 use Rattle.std.proofs.lemmas.List.{length-map}
 use Rattle.httparse.specs.Grammar.{Field, print_request, print_response}
 use Rattle.httparse.specs.Spans.{AreFieldsAt, header_bytes, name_and_value}
 use Rattle.httparse.specs.declared.spans.HeaderSpan.{HeaderSpan}
-use Rattle.ws_upgrade.specs.Heads.{RequestParts, ResponseParts, RequestMeets, ResponseMeets, request_order, response_order, request_parts, response_parts, IsFirstUnmet, IsRequestRefusal, IsResponseRefusal}
-use Rattle.ws_upgrade.specs.Reading.{head_part, HoldsRequest, HoldsResponse, ChecksRequest, RefusesRequest, IsRequestRead, ChecksResponse, RefusesResponse, IsResponseRead}
+use Rattle.ws_upgrade.specs.Heads.{HeadRules, IsFirstBroken, request_parts, request_rules, response_parts, response_rules}
+use Rattle.ws_upgrade.specs.Reading.{head_part, HeadKind, HeadRead, Need, Got, Refused, ChecksHead, IsHeadRead, HoldsHead, request_heads, response_heads}
 use Rattle.ws_upgrade.specs.declared.faults.HeadFault.{HeadFault}
-use Rattle.ws_upgrade.specs.declared.faults.HeadFault.TheVariants.{Head, TooLarge}
-use Rattle.ws_upgrade.specs.declared.requests.RequestRead.{RequestRead}
-use Rattle.ws_upgrade.specs.declared.requests.RequestRead.TheVariants.{Need as NeedRequest, Got as GotRequest, Refused as RefusedRequest}
-use Rattle.ws_upgrade.specs.declared.responses.ResponseRead.{ResponseRead}
-use Rattle.ws_upgrade.specs.declared.responses.ResponseRead.TheVariants.{Need as NeedResponse, Got as GotResponse, Refused as RefusedResponse}
+use Rattle.ws_upgrade.specs.declared.faults.HeadFault.TheVariants as fault
 
 -- a head has no more fields than headers that cover them
 pub few_fields : (buf : List ℕ) (headers : List HeaderSpan) (count : ℕ) (fields : List Field) → AreFieldsAt buf headers count fields
@@ -23,70 +19,60 @@ few_fields buf headers count fields at n =
     sym (length-map covered (header_bytes buf)) ∙ ap length at ∙ length-map fields name_and_value in
     omega (arith, same, n, length-take count headers)
 
--- the fault stands nowhere in the list
-Lacks : HeadFault → List HeadFault → Type 0
-Lacks fault [] = ⊤
-Lacks fault (first ∷ others) = ¬ (fault ≡ first) × Lacks fault others
+-- the fault is that of no rule
+Lacks : HeadFault → HeadRules → Type 0
+Lacks other [] = ⊤
+Lacks other (rule ∷ others) = ¬ (other ≡ rule.0) × Lacks other others
 
-no_refusal : (Meets : HeadFault → Type 0) (order : List HeadFault) (fault : HeadFault) → Lacks fault order → IsFirstUnmet Meets order fault → ⊥
+no_refusal : (rules : HeadRules) (other : HeadFault) → Lacks other rules → IsFirstBroken rules other → ⊥
 unfolding Lacks
-no_refusal Meets [] fault lacks refusal = refusal
-no_refusal Meets (first ∷ others) fault lacks refusal =
+no_refusal [] other lacks refusal = refusal
+no_refusal (rule ∷ others) other lacks refusal =
     elim refusal [
       | inl here ↦ lacks.0 here.0
-      | inr later ↦ no_refusal Meets others fault lacks.1 later.1
+      | inr later ↦ no_refusal others other lacks.1 later.1
     ]
 
-no_head_request : (request : RequestParts) → IsRequestRefusal request Head → ⊥
-unfolding Lacks
-no_head_request request = no_refusal (RequestMeets request) request_order Head ((λ e. cc), ((λ e. cc), ((λ e. cc), ((λ e. cc), ((λ e. cc), ((λ e. cc), ((λ e. cc), tt)))))))
-
-too_large_request : (request : RequestParts) → IsRequestRefusal request TooLarge → ⊥
-unfolding Lacks
-too_large_request request = no_refusal (RequestMeets request) request_order TooLarge ((λ e. cc), ((λ e. cc), ((λ e. cc), ((λ e. cc), ((λ e. cc), ((λ e. cc), ((λ e. cc), tt)))))))
-
-refuses_request : (known : List (List ℕ)) (bytes : List ℕ) (fault : HeadFault) → ChecksRequest known bytes (RefusedRequest fault) → RefusesRequest known bytes fault
-refuses_request known bytes Head checked = absurd (no_head_request (request_parts checked.0) checked.3)
-refuses_request known bytes TooLarge checked = absurd (too_large_request (request_parts checked.0) checked.3)
-refuses_request known bytes fault checked = checked
+-- what holds of a kind of heads: its rules have refusals of their own, and a head at the front is among the bytes
+pub record IsSound {Head Opened : Type 0} (kind : HeadKind Head Opened) : Type 0 where
+  pub not_head : (head : Head) → kind.IsRefusal head fault.Head → ⊥
+  pub not_large : (head : Head) → kind.IsRefusal head fault.TooLarge → ⊥
+  pub within : (bytes : List ℕ) (head : Head) (len : ℕ) → kind.Begins bytes head len → len ≤ length bytes
 
 -- the answer to a head at the front
-pub request_read : (known : List (List ℕ)) (bytes : List ℕ) (answer : RequestRead) → ChecksRequest known bytes answer → IsRequestRead known bytes answer
-request_read known bytes NeedRequest checked = absurd checked.3
-request_read known bytes (GotRequest upgrade used) checked = checked
-request_read known bytes (RefusedRequest fault) checked = refuses_request known bytes fault checked
+pub answered : {Head Opened : Type 0} (kind : HeadKind Head Opened) (sound : IsSound kind) (bytes : List ℕ) (head : Head) (len : ℕ)
+    (answer : HeadRead Opened) → kind.Begins (head_part bytes) head len → ChecksHead kind head len answer → IsHeadRead kind bytes answer
+answered kind sound bytes head len Need begins answers = absurd answers
+answered kind sound bytes head len (Got opened used) begins answers =
+    (head, subst (λ (n : ℕ). kind.Begins (head_part bytes) head n) (sym answers.0) begins, answers.1)
+answered kind sound bytes head len (Refused fault.Head) begins answers = absurd (sound.not_head head answers)
+answered kind sound bytes head len (Refused fault.TooLarge) begins answers = absurd (sound.not_large head answers)
+answered kind sound bytes head len (Refused other) begins answers = (head, len, begins, answers)
 
--- the head that is answered is among the bytes
-pub request_held : (known : List (List ℕ)) (bytes : List ℕ) (answer : RequestRead) → IsRequestRead known bytes answer → HoldsRequest bytes answer
-request_held known bytes NeedRequest read = tt
-request_held known bytes (GotRequest upgrade used) (head, len, begins, answers) =
-    let all : length (head_part bytes) ≡ length (print_request head) + length (drop len (head_part bytes)) = ap length begins.reads.1 ∙ length-append (print_request head) (drop len (head_part bytes)) in
-    omega (arith, answers.0, begins.whole, all, length-take 8192 bytes)
-request_held known bytes (RefusedRequest fault) read = tt
+-- a head that is accepted is among the bytes
+pub among : {Head Opened : Type 0} (kind : HeadKind Head Opened) (sound : IsSound kind) (bytes : List ℕ)
+    (answer : HeadRead Opened) → IsHeadRead kind bytes answer → HoldsHead bytes answer
+among kind sound bytes Need read = tt
+among kind sound bytes (Got opened used) (head, begins, opens) =
+    omega (arith, sound.within (head_part bytes) head used begins, length-take 8192 bytes)
+among kind sound bytes (Refused other) read = tt
 
-no_head_response : (nonce : List ℕ) (offers : List (List ℕ)) (response : ResponseParts) → IsResponseRefusal nonce offers response Head → ⊥
+-- some bytes and a rest are no fewer than the former
+front_within : (bytes front : List ℕ) (len : ℕ) → bytes ≡ front ++ drop len bytes → len ≡ length front → len ≤ length bytes
+front_within bytes front len whole same = omega (arith, same, ap length whole ∙ length-append front (drop len bytes))
+
+pub requests_sound : (known : List (List ℕ)) → IsSound (request_heads known)
 unfolding Lacks
-no_head_response nonce offers response = no_refusal (ResponseMeets nonce offers response) response_order Head ((λ e. cc), ((λ e. cc), ((λ e. cc), ((λ e. cc), ((λ e. cc), ((λ e. cc), ((λ e. cc), tt)))))))
+requests_sound known = record {
+  not_head = λ head. no_refusal (request_rules (request_parts head)) fault.Head ((λ e. cc), ((λ e. cc), ((λ e. cc), ((λ e. cc), ((λ e. cc), ((λ e. cc), ((λ e. cc), tt)))))));
+  not_large = λ head. no_refusal (request_rules (request_parts head)) fault.TooLarge ((λ e. cc), ((λ e. cc), ((λ e. cc), ((λ e. cc), ((λ e. cc), ((λ e. cc), ((λ e. cc), tt)))))));
+  within = λ bytes head len begins. front_within bytes (print_request head) len begins.reads.1 begins.whole;
+}
 
-too_large_response : (nonce : List ℕ) (offers : List (List ℕ)) (response : ResponseParts) → IsResponseRefusal nonce offers response TooLarge → ⊥
+pub responses_sound : (nonce : List ℕ) (offers : List (List ℕ)) → IsSound (response_heads nonce offers)
 unfolding Lacks
-too_large_response nonce offers response = no_refusal (ResponseMeets nonce offers response) response_order TooLarge ((λ e. cc), ((λ e. cc), ((λ e. cc), ((λ e. cc), ((λ e. cc), ((λ e. cc), ((λ e. cc), tt)))))))
-
-refuses_response : (nonce : List ℕ) (offers : List (List ℕ)) (bytes : List ℕ) (fault : HeadFault) → ChecksResponse nonce offers bytes (RefusedResponse fault) → RefusesResponse nonce offers bytes fault
-refuses_response nonce offers bytes Head checked = absurd (no_head_response nonce offers (response_parts checked.0) checked.3)
-refuses_response nonce offers bytes TooLarge checked = absurd (too_large_response nonce offers (response_parts checked.0) checked.3)
-refuses_response nonce offers bytes fault checked = checked
-
--- the answer to a head at the front
-pub response_read : (nonce : List ℕ) (offers : List (List ℕ)) (bytes : List ℕ) (answer : ResponseRead) → ChecksResponse nonce offers bytes answer → IsResponseRead nonce offers bytes answer
-response_read nonce offers bytes NeedResponse checked = absurd checked.3
-response_read nonce offers bytes (GotResponse used protocol) checked = checked
-response_read nonce offers bytes (RefusedResponse fault) checked = refuses_response nonce offers bytes fault checked
-
--- the head that is answered is among the bytes
-pub response_held : (nonce : List ℕ) (offers : List (List ℕ)) (bytes : List ℕ) (answer : ResponseRead) → IsResponseRead nonce offers bytes answer → HoldsResponse bytes answer
-response_held nonce offers bytes NeedResponse read = tt
-response_held nonce offers bytes (GotResponse used protocol) (head, len, begins, answers) =
-    let all : length (head_part bytes) ≡ length (print_response head) + length (drop len (head_part bytes)) = ap length begins.reads.1 ∙ length-append (print_response head) (drop len (head_part bytes)) in
-    omega (arith, answers.0, begins.whole, all, length-take 8192 bytes)
-response_held nonce offers bytes (RefusedResponse fault) read = tt
+responses_sound nonce offers = record {
+  not_head = λ head. no_refusal (response_rules nonce offers (response_parts head)) fault.Head ((λ e. cc), ((λ e. cc), ((λ e. cc), ((λ e. cc), ((λ e. cc), ((λ e. cc), ((λ e. cc), tt)))))));
+  not_large = λ head. no_refusal (response_rules nonce offers (response_parts head)) fault.TooLarge ((λ e. cc), ((λ e. cc), ((λ e. cc), ((λ e. cc), ((λ e. cc), ((λ e. cc), ((λ e. cc), tt)))))));
+  within = λ bytes head len begins. front_within bytes (print_response head) len begins.reads.1 begins.whole;
+}

@@ -11,7 +11,7 @@ use Rattle.httparse.specs.Grammar.{trim_ows}
 use Rattle.httparse.specs.Spans.{header_bytes}
 use Rattle.httparse.specs.declared.spans.HeaderSpan.{HeaderSpan}
 use Rattle.ws_upgrade.specs.Members.{HeaderPairs, comma, members_in, members_of, values_of}
-use Rattle.ws_upgrade.specs.Walking.{members_left}
+use Rattle.ws_upgrade.specs.InnerWalking.{members_left}
 
 pub members_in-nil : members_in [] ≡ []
 unfolding trim_ows

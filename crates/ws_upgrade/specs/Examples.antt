@@ -13,13 +13,13 @@ use Rattle.ws_upgrade.specs.declared.faults.HeadFault.TheVariants.{Head, Method,
 
 -- ---- the key and its accept value
 
-abbrev sample_nonce : List ℕ
+abbrev pub sample_nonce : List ℕ
 sample_nonce = codes "the sample nonce"
 
 abbrev sample_key : List ℕ
 sample_key = codes "dGhlIHNhbXBsZSBub25jZQ=="
 
-abbrev sample_accept : List ℕ
+abbrev pub sample_accept : List ℕ
 sample_accept = codes "s3pPLMBiTxaQ9kYGzzhZRbK+xOo="
 
 pub key_of_sample : key_of sample_nonce ≡ sample_key

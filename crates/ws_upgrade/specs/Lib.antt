@@ -6,4 +6,5 @@ pub mod Reading
 pub mod Texts
 pub mod Words
 pub mod Examples
-pub mod Walking
+pub mod ReadingExamples
+pub mod InnerWalking

@@ -1,6 +1,6 @@
 -- Subprotocols: RFC 6455 sections 1.9, 4.1 and 4.2.2.
 use Rattle.std.specs.Prelude.{◌≡◌, ℕ, ◌≤◌, List, [], ◌∷◌, ◌++◌, length, codes, Bool, ◌||◌, ◌==◌, All, IsTrue, Option}
-use Rattle.std.specs.Prelude.{Some, None, slice_get, ◌⊎◌, ⊤}
+use Rattle.std.specs.Prelude.{Some, None, slice_get, ◌⊎◌, IfSome}
 use Rattle.std.specs.List.{list_any, AllPairs, Contains}
 use Rattle.std.specs.Char.{is_ascii_alphanumeric}
 use Rattle.ws_upgrade.specs.Members.{HeaderPairs, members_of}
@@ -42,8 +42,7 @@ IsChoice known members (Some place) =
 
 -- what a response can be asked to name: nothing, or any name
 abbrev pub CanBeNamed : Option (List ℕ) → Type 0
-CanBeNamed None = ⊤
-CanBeNamed (Some name) = IsProtocolName name
+CanBeNamed name = IfSome name IsProtocolName
 
 -- what a response may name: nothing, or one subprotocol that was offered
 abbrev pub NamesOffered : List (List ℕ) → List (List ℕ) → Type 0

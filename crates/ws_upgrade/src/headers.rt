@@ -5,7 +5,7 @@ ghost use Rattle.std.specs.Prelude.{IsTrue, MatchResult, ◌↔◌};
 ghost use Rattle.httparse.specs.Spans.{header_bytes, IsHeaderWithin};
 ghost use Rattle.ws_upgrade.specs.Members.{IsOnlyValue, values_of, members_of, has_member};
 ghost use Rattle.ws_upgrade.specs.Protocols.{IsChoice, NamesOffered};
-ghost use Rattle.ws_upgrade.specs.Walking.{members_left};
+ghost use Rattle.ws_upgrade.specs.InnerWalking.{members_left};
 
 use crate::faults::HeadFault;
 use crate::members::{first_member, is_same_word};

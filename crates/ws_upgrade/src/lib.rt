@@ -1,4 +1,7 @@
 //! The heads of the opening handshake (RFC 6455 section 4): made, and accepted or refused by its rules.
+//!
+//! The layers above use the contracts of `read_request_with`, `read_response_with`, `request_with`, `response_with` and
+//! `refusal`, and of `are_offers`.
 #![tactic(auto)]
 
 mod accepting;

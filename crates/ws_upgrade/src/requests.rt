@@ -3,9 +3,9 @@
 ghost use Rattle.std.specs.Prelude.{◌≡◌, ℕ, List, [], MatchOption, MatchResult, map};
 ghost use Rattle.httparse.specs.Grammar.{RequestHead};
 ghost use Rattle.httparse.specs.Spans.{IsRequestAt, IsRequestWithin};
-ghost use Rattle.ws_upgrade.specs.Heads.{RequestParts, request_parts, IsOnlyKey, IsRequestRefusal};
-ghost use Rattle.ws_upgrade.specs.Reading.{head_part, OpensRequest, AnswersRequest, HoldsRequest, IsRequestRead};
-ghost use Rattle.ws_upgrade.specs.Reading.{ChecksEachRequest};
+ghost use Rattle.ws_upgrade.specs.Heads.{RequestParts, IsOnlyKey, IsRequestRefusal};
+ghost use Rattle.ws_upgrade.specs.Reading.{head_part, ChecksHead, OpensRequest, request_heads, request_read};
+ghost use Rattle.ws_upgrade.specs.Reading.{IsRequestRead, ChecksEachRequest, HoldsRequest};
 
 use crate::accepting::{accept_of, is_key};
 use crate::faults::HeadFault;
@@ -55,8 +55,8 @@ pub enum RequestRead<'a> {
 /// there are more than 64 headers, or a target doesn't end, either of the first two may come.
 /// Offers of extensions and subprotocols are ignored.
 pub fn read_request(bytes: &[u8]) -> RequestRead<'_>
-    // Of each head that stands at the front: it is accepted with its parts, or refused with the
-    // first requirement that it doesn't meet.
+    // Of each head that stands at the front: it is accepted with its parts, or refused for the first
+    // rule that it breaks.
     ensures checked { ChecksEachRequest [] bytes.now result }
 
     // What each answer says of the bytes.
@@ -71,7 +71,7 @@ pub fn read_request(bytes: &[u8]) -> RequestRead<'_>
 /// known. Names are compared byte for byte; no request is refused for what it offers.
 pub fn read_request_with<'b>(bytes: &'b [u8], known: &[&[u8]]) -> RequestRead<'b>
     // Of each head that stands at the front: it is accepted with its parts and the choice, or
-    // refused with the first requirement that it doesn't meet.
+    // refused for the first rule that it breaks.
     ensures checked { ChecksEachRequest (map (λ name. name.now) known.now) bytes.now result }
 
     // What each answer says of the bytes.
@@ -116,7 +116,7 @@ fn answer<'b>(
 ) -> RequestRead<'b>
     requires { IsRequestWithin front.now spans.now head }
     ensures { (grammar : RequestHead) → IsRequestAt front.now spans.now head grammar
-        → AnswersRequest (map (λ name. name.now) known.now) (request_parts grammar) head.len result }
+        → ChecksHead (request_heads (map (λ name. name.now) known.now)) grammar head.len (request_read result) }
 {
     let headers = Headers::new(front, &spans[..head.headers]);
     let (method, target) = (head.method.of(front), head.path.of(front));
@@ -129,7 +129,7 @@ fn answer<'b>(
     }
 }
 
-/// What a request asks for, or the first requirement that it doesn't meet.
+/// What a request asks for, or the refusal of the first rule that it breaks.
 fn check<'b>(
     method: &[u8],
     target: &'b [u8],

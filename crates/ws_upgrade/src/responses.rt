@@ -3,9 +3,9 @@
 ghost use Rattle.std.specs.Prelude.{[], MatchResult, map};
 ghost use Rattle.httparse.specs.Grammar.{ResponseHead};
 ghost use Rattle.httparse.specs.Spans.{IsResponseAt, IsResponseWithin};
-ghost use Rattle.ws_upgrade.specs.Heads.{ResponseParts, response_parts, IsResponseRefusal};
-ghost use Rattle.ws_upgrade.specs.Reading.{OpensResponse, AnswersResponse, HoldsResponse, IsResponseRead};
-ghost use Rattle.ws_upgrade.specs.Reading.{ChecksEachResponse};
+ghost use Rattle.ws_upgrade.specs.Heads.{ResponseParts, IsResponseRefusal};
+ghost use Rattle.ws_upgrade.specs.Reading.{ChecksHead, OpensResponse, response_heads, response_read};
+ghost use Rattle.ws_upgrade.specs.Reading.{IsResponseRead, ChecksEachResponse, HoldsResponse};
 
 use crate::accepting::{accept_of, key_text};
 use crate::faults::HeadFault;
@@ -42,8 +42,8 @@ pub enum ResponseRead {
 /// `Head`, `TooLarge`, `Status`, `Version`, `Upgrade`, `Connection`, `Accept`, `Extension`,
 /// `Protocol`; where there are more than 64 headers, either of the first two may come.
 pub fn read_response(bytes: &[u8], nonce: [u8; 16]) -> ResponseRead
-    // Of each head that stands at the front: it is accepted, or refused with the first requirement
-    // that it doesn't meet.
+    // Of each head that stands at the front: it is accepted, or refused for the first rule that it
+    // breaks.
     ensures checked { ChecksEachResponse nonce [] bytes.now result }
 
     // What each answer says of the bytes.
@@ -58,7 +58,7 @@ pub fn read_response(bytes: &[u8], nonce: [u8; 16]) -> ResponseRead
 /// offered, byte for byte.
 pub fn read_response_with(bytes: &[u8], nonce: [u8; 16], offers: &[&[u8]]) -> ResponseRead
     // Of each head that stands at the front: it is accepted with the place of what it names, or
-    // refused with the first requirement that it doesn't meet.
+    // refused for the first rule that it breaks.
     ensures checked { ChecksEachResponse nonce (map (λ name. name.now) offers.now) bytes.now result }
 
     // What each answer says of the bytes.
@@ -93,7 +93,8 @@ fn answer(
 ) -> ResponseRead
     requires { IsResponseWithin front.now spans.now head }
     ensures { (grammar : ResponseHead) → IsResponseAt front.now spans.now head grammar
-        → AnswersResponse nonce.now (map (λ name. name.now) offers.now) (response_parts grammar) head.len result }
+        → ChecksHead (response_heads nonce.now (map (λ name. name.now) offers.now)) grammar head.len
+        (response_read result) }
 {
     let headers = Headers::new(front, &spans[..head.headers]);
     match check(head.code, head.version, &headers, nonce, offers) {
@@ -105,8 +106,8 @@ fn answer(
     }
 }
 
-/// The place among the offers of what an accepting response names, or the first requirement that a
-/// response doesn't meet.
+/// The place among the offers of what an accepting response names, or the refusal of the first rule
+/// that a response breaks.
 fn check(
     status: u16,
     minor: u8,

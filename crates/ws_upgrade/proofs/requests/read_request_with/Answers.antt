@@ -1,19 +1,18 @@
 use Rattle.std.proofs.Common.{rules, arith, inr, map}
 use Rattle.httparse.specs.Spans.{IsRequestOf}
 use Rattle.httparse.specs.Grammar.{HasNoRequest, MayBecomeRequest}
-use Rattle.ws_upgrade.proofs.HeadCheck.{few_fields, request_held, request_read}
+use Rattle.ws_upgrade.specs.Reading.{request_heads, request_read}
+use Rattle.ws_upgrade.proofs.HeadCheck.{few_fields, answered, among, requests_sound}
 use Rattle.ws_upgrade.proofs.requests.read_request_with.Goals as goal
 
 pub returns-in-Ok-Complete-clause-read : goal.returns-in-Ok-Complete-clause-read
 returns-in-Ok-Complete-clause-read c =
+    let known = map (λ name. name.now) c.args.known.now in
     let found : IsRequestOf c.head_part-front.result.now c.parse_request.new.headers c.in-Ok-Complete.head = search rules in
     let at = found.1 in
-    request_read (map (λ name. name.now) c.args.known.now) c.args.bytes.now c.answer.result (
-      found.0,
-      c.in-Ok-Complete.head.len,
-      record { reads = rw (← c.head_part-front.ensures) at.reads; whole = at.len; headers = few_fields c.head_part-front.result.now c.parse_request.new.headers c.in-Ok-Complete.head.headers found.0.fields at.fields c.parse_request.auto.headers },
-      c.answer.ensures found.0 at,
-    )
+    answered (request_heads known) (requests_sound known) c.args.bytes.now found.0 c.in-Ok-Complete.head.len (request_read c.answer.result)
+    record { reads = rw (← c.head_part-front.ensures) at.reads; whole = at.len; headers = few_fields c.head_part-front.result.now c.parse_request.new.headers c.in-Ok-Complete.head.headers found.0.fields at.fields c.parse_request.auto.headers }
+    (c.answer.ensures found.0 at)
 
 pub returns-else-bytes-lt-MAX_HEAD-clause-read : goal.returns-else-bytes-lt-MAX_HEAD-clause-read
 returns-else-bytes-lt-MAX_HEAD-clause-read c =
@@ -23,4 +22,6 @@ returns-else-bytes-lt-MAX_HEAD-clause-read c =
     inr (omega arith, rw (← c.head_part-front.ensures) (none, may))
 
 pub returns-in-Ok-Complete-clause-within : goal.returns-in-Ok-Complete-clause-within
-returns-in-Ok-Complete-clause-within c = request_held (map (λ name. name.now) c.args.known.now) c.args.bytes.now c.answer.result (returns-in-Ok-Complete-clause-read c)
+returns-in-Ok-Complete-clause-within c =
+    let known = map (λ name. name.now) c.args.known.now in
+    among (request_heads known) (requests_sound known) c.args.bytes.now (request_read c.answer.result) (returns-in-Ok-Complete-clause-read c)

@@ -1,6 +1,6 @@
 use Rattle.std.proofs.Common.{List, ℕ, Bor, Some, None, map, subst, sym}
 use Rattle.ws_upgrade.specs.Protocols.{IsChoice}
-use Rattle.ws_upgrade.specs.Walking.{members_left}
+use Rattle.ws_upgrade.specs.InnerWalking.{members_left}
 use Rattle.ws_upgrade.proofs.MemberLemmas.{members_left-start}
 use Rattle.ws_upgrade.proofs.ProtocolLemmas.{choice_of-nothing, choice_of-first, choice_of-others, first_place, no_place}
 use Rattle.ws_upgrade.proofs.headers.Headers.first_known.Goals as goal

@@ -1,7 +1,7 @@
 use Rattle.std.proofs.Common.{ℕ, Option, length, map}
 use Rattle.ws_upgrade.specs.Members.{members_of}
 use Rattle.ws_upgrade.specs.Protocols.{IsChoice}
-use Rattle.ws_upgrade.specs.Walking.{members_left}
+use Rattle.ws_upgrade.specs.InnerWalking.{members_left}
 use Rattle.ws_upgrade.proofs.headers.Headers.first_known.Given as goal
 
 -- what is chosen of the members that are left is chosen of all

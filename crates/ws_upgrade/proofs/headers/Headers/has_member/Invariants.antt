@@ -1,6 +1,6 @@
 use Rattle.std.proofs.Common.{length, ◌≡◌}
 use Rattle.ws_upgrade.specs.Members.{has_member, has_word}
-use Rattle.ws_upgrade.specs.Walking.{members_left}
+use Rattle.ws_upgrade.specs.InnerWalking.{members_left}
 use Rattle.ws_upgrade.proofs.headers.Headers.has_member.Given as goal
 
 -- the members that were passed by are other words

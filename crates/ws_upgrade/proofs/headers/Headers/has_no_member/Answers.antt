@@ -1,6 +1,6 @@
 use Rattle.std.proofs.Common.{rules, ◌≡◌}
 use Rattle.std.specs.Prelude.{is_none}
-use Rattle.ws_upgrade.specs.Walking.{members_left}
+use Rattle.ws_upgrade.specs.InnerWalking.{members_left}
 use Rattle.ws_upgrade.proofs.MemberLemmas.{members_left-start, none_iff}
 use Rattle.ws_upgrade.proofs.headers.Headers.has_no_member.Goals as goal
 

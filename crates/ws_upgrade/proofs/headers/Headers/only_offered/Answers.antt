@@ -1,6 +1,6 @@
 use Rattle.std.proofs.Common.{rules, ◌≡◌, ◌∷◌, ◌∙◌, List, ℕ, Bor, map, sym, ap, refl, is_some}
 use Rattle.ws_upgrade.specs.Members.{members_of}
-use Rattle.ws_upgrade.specs.Walking.{members_left}
+use Rattle.ws_upgrade.specs.InnerWalking.{members_left}
 use Rattle.ws_upgrade.proofs.MemberLemmas.{members_left-start}
 use Rattle.ws_upgrade.proofs.ProtocolLemmas.{first_place, no_place, one_named, some_left, none_left, two_named, other_named}
 use Rattle.ws_upgrade.proofs.headers.Headers.only_offered.Goals as goal
