@@ -1,33 +1,31 @@
 -- More bytes of a payload, after those that came before.
-use Rattle.std.proofs.Common.{◌≡◌, ℕ, ◌+◌, ◌-◌, ◌<◌, ◌≤◌, true, false, List, [], ◌++◌, length, take, drop, Option, Some, None, refl, sym, ap, ◌∙◌, append_assoc, arith, inl, inr, subst}
+use Rattle.std.proofs.Common.{◌≡◌, ℕ, ◌+◌, ◌-◌, ◌<◌, ◌≤◌, true, List, ◌++◌, length, take, drop, Option, Some, None, refl, sym, ap, ◌∙◌, arith, inl, inr, subst}
 use Rattle.std.specs.Prelude.{min}
 use Rattle.std.proofs.lemmas.Bool.{cases_lt, lt-leb}
-use Rattle.std.proofs.lemmas.List.{length-append, take-append-drop, length-take-le, length-take, length-drop, drop-take, drop-drop, drop-append-le, take_all}
+use Rattle.std.proofs.lemmas.List.{length-append, take-append-drop, length-take-le, length-drop, drop-take, drop-drop, drop-append-le, take_all}
 use Rattle.std.proofs.Math.Seq.{take-append_seam, take-append-add}
 use Rattle.ws_frame.specs.Header.{HeaderFields}
 use Rattle.ws_text.specs.Text.{IsText, BeginsText}
-use Rattle.ws_text.specs.Stream.{HasRead, BreaksTextAt}
+use Rattle.ws_text.specs.Stream.{HasReadText, BreaksTextAt}
 use Rattle.ws_session.specs.declared.message.Kind.{Kind}
 use Rattle.ws_session.specs.declared.message.Message.{Message}
-use Rattle.ws_session.specs.declared.reason.Reason.{Reason}
 use Rattle.ws_session.specs.declared.reason.Reason.TheVariants.{NotText, TextCut}
 use Rattle.ws_session.specs.declared.receiver.under_way.UnderWay.{UnderWay}
 use Rattle.ws_session.specs.declared.receiver.under_way.UnderWay.TheVariants as under_way
 use Rattle.ws_session.specs.declared.receiver.frame_check.FrameCheck.{FrameCheck}
 use Rattle.ws_session.specs.declared.receiver.frame_check.FrameCheck.TheVariants as check
 use Rattle.ws_session.specs.declared.receiver.frame_check.Content.{Content}
-use Rattle.ws_session.specs.declared.receiver.frame_check.Content.TheVariants as content
 use Rattle.ws_session.specs.Messages.{kind_of}
 use Rattle.ws_session.specs.Validity.{OfText}
 use Rattle.ws_session.specs.Faults.{open_payload, IsOfText, IsControl}
-use Rattle.ws_session.specs.Assembly.{IsTextOf}
-use Rattle.ws_session.specs.Checking.{NoneInPayload, IsFirstInPayload, frame_with}
-use Rattle.ws_session.specs.NextFrame.{message_with}
-use Rattle.ws_session.specs.Masked.{masked_from}
-use Rattle.ws_session.specs.Receiving.{AssemblyValue, HasKept, IsJoined, frame_payload, first_bytes, arrived_payload, kind_with, message_kept, IsContentOf, IsNextOf, IsPayloadCheck, IsWithoutFault, IsTextFault, IsTextRead, IsWholeControl}
+use Rattle.ws_session.specs.InnerChecking.{IsFirstInPayload, frame_with}
+use Rattle.ws_session.specs.InnerNextFrame.{message_with}
+use Rattle.ws_session.specs.InnerMasked.{masked_from}
+use Rattle.ws_session.specs.InnerReceiving.{AssemblyValue, HasKept, IsJoined, frame_payload, first_bytes, arrived_payload, kind_with, IsContentOf, IsNextOf, IsPayloadCheck, IsWithoutFault, IsTextFault, IsTextRead, IsWholeControl}
 use Rattle.ws_session.proofs.MaskedParts.{length-masked_from}
 use Rattle.ws_session.proofs.Assembled.{first_is}
-use Rattle.ws_session.proofs.Payloads.{none_of_text, none_of_binary, none_of_part, text_is_cut, text_breaks, text_if, kind_is_text}
+use Rattle.ws_session.proofs.Payloads.{none_of_text, none_of_binary, text_is_cut, text_breaks, text_if, kind_is_text}
+use Rattle.ws_session.proofs.ControlPayloads.{none_of_part}
 
 -- no more than what is there
 pub take_min : (n here : ℕ) (l : List ℕ) → here ≡ min n (length l) → take here l ≡ take n l
@@ -95,10 +93,10 @@ module _ (a : AssemblyValue) (h : HeaderFields) (came : ℕ) (opcode : h.opcode 
       ∙ ap (λ k. take k a.payload) count ∙ sym (first_is a (came + n) joined)
 
   -- the stream goes on with what is new
-  pub read_all : (text : Option (List ℕ)) → HasRead text (first_bytes a came ++ drop came (frame_payload a)) → HasRead text a.payload
-  read_all text r = subst (λ (l : List ℕ). HasRead text l) new_is r
+  pub read_all : (text : Option (List ℕ)) → HasReadText text (first_bytes a came ++ drop came (frame_payload a)) → HasReadText text a.payload
+  read_all text r = subst (λ (l : List ℕ). HasReadText text l) new_is r
 
-  pub text_read : (text : Option (List ℕ)) → HasRead text a.payload → BeginsText (first_bytes a came ++ drop came (frame_payload a)) → (h.fin ≡ true → length (frame_payload a) ≡ h.len → (IsText a.payload → ⊥) → ⊥) → IsTextRead h a text
+  pub text_read : (text : Option (List ℕ)) → HasReadText text a.payload → BeginsText (first_bytes a came ++ drop came (frame_payload a)) → (h.fin ≡ true → length (frame_payload a) ≡ h.len → (IsText a.payload → ⊥) → ⊥) → IsTextRead h a text
   text_read text r begins whole = (
     λ of. r,
     none_of_text a.opened h (frame_payload a) opcode within (subst (λ (l : List ℕ). BeginsText l) (new_is ∙ sym joined) begins) (λ fin all never. whole fin all (λ t. never (subst (λ (l : List ℕ). IsText l) (sym joined) t))),
@@ -134,9 +132,9 @@ unfolding make_message
 kept_with None h p payload e = ap (λ (l : List ℕ). make_message (kind_of h.opcode) l) (sym e)
 kept_with (Some m) h p payload e = ap (λ (l : List ℕ). make_message m.kind l) (sym e)
 
-kept_text : (o : Option Message) (h : HeaderFields) (text : Option (List ℕ)) (payload : List ℕ) → h.opcode ≤ 2 → (1 ≤ h.opcode → o ≡ None) → (IsOfText o h → HasRead text payload) → OfText (kind_with o (kind_of h.opcode)) (HasRead text payload)
-kept_text None h text payload opcode begins read = text_if (kind_of h.opcode) (HasRead text payload) (λ e. read (inl (kind_is_text h.opcode e)))
-kept_text (Some m) h text payload opcode begins read = text_if m.kind (HasRead text payload) (λ e. read (inr (elim (cases_lt h.opcode 1) [ inl zero_only ↦ omega arith | inr one ↦ let no_open = begins one in absurd cc ], e)))
+kept_text : (o : Option Message) (h : HeaderFields) (text : Option (List ℕ)) (payload : List ℕ) → h.opcode ≤ 2 → (1 ≤ h.opcode → o ≡ None) → (IsOfText o h → HasReadText text payload) → OfText (kind_with o (kind_of h.opcode)) (HasReadText text payload)
+kept_text None h text payload opcode begins read = text_if (kind_of h.opcode) (HasReadText text payload) (λ e. read (inl (kind_is_text h.opcode e)))
+kept_text (Some m) h text payload opcode begins read = text_if m.kind (HasReadText text payload) (λ e. read (inr (elim (cases_lt h.opcode 1) [ inl zero_only ↦ omega arith | inr one ↦ let no_open = begins one in absurd cc ], e)))
 
 pub payload_without_fault : (a : AssemblyValue) (h : HeaderFields) (came start here : ℕ) (text : Option (List ℕ)) → h.opcode ≤ 2 → (1 ≤ h.opcode → a.opened ≡ None) → length (frame_payload a) ≡ came + here → length (frame_payload a) ≤ h.len → IsJoined a → IsTextRead h a text → (j : FrameCheck)
     → IsWithoutFault a h (came + here) (start + here) text j → IsPayloadCheck h came start a (frame_payload a) j
@@ -146,7 +144,7 @@ payload_without_fault a h came start here text opcode begins len within joined r
     let has : HasKept a (came + here) = omega (arith, total, len) in (
       omega (arith, w.0, len),
       read.1,
-      subst (λ (n : UnderWay). IsNextOf a h (frame_payload a) n same) (sym w.1) (refl, sym len, refl, opcode, has, λ of. subst (λ (t : Option (List ℕ)). HasRead t a.payload) (sym w.2) (read.0 of)),
+      subst (λ (n : UnderWay). IsNextOf a h (frame_payload a) n same) (sym w.1) (refl, sym len, refl, opcode, has, λ of. subst (λ (t : Option (List ℕ)). HasReadText t a.payload) (sym w.2) (read.0 of)),
     )
 payload_without_fault a h came start here text opcode begins len within joined read (check.Whole end x) w = (
   omega (arith, w.0, len, within),

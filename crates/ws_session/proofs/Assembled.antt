@@ -1,11 +1,11 @@
 -- The bytes of an assembly.
-use Rattle.std.proofs.Common.{◌≡◌, ℕ, zero, suc, ◌+◌, ◌-◌, ◌≤◌, List, [], ◌∷◌, ◌++◌, length, take, drop, Option, Some, None, refl, sym, ap, ◌∙◌, append_assoc, arith, subst}
+use Rattle.std.proofs.Common.{◌≡◌, ℕ, ◌+◌, List, ◌++◌, length, take, drop, Option, Some, None, refl, sym, ap, ◌∙◌}
 use Rattle.std.proofs.Math.Seq.{take-append-add}
-use Rattle.std.proofs.lemmas.List.{take-append-drop, length-append, length-take-le, length-drop, drop-take, take_all}
+use Rattle.std.proofs.lemmas.List.{take-append-drop, length-take-le}
 use Rattle.ws_session.specs.declared.message.Kind.{Kind}
 use Rattle.ws_session.specs.declared.message.Message.{Message}
 use Rattle.ws_session.specs.Faults.{open_payload}
-use Rattle.ws_session.specs.Receiving.{AssemblyValue, message_of_first, HasFirst, IsJoined, HasKept, frame_payload, first_bytes}
+use Rattle.ws_session.specs.InnerReceiving.{AssemblyValue, message_of_first, HasFirst, IsJoined, frame_payload, first_bytes}
 
 abbrev pub make_value : Option Message → List ℕ → Option (List ℕ) → AssemblyValue
 make_value opened payload text = record { opened = opened; payload = payload; text = text }

@@ -19,14 +19,14 @@ use Rattle.ws_session.specs.Validity.{AreValidFrames}
 use Rattle.ws_session.specs.Faults.{IsOpenText, open_payload}
 use Rattle.ws_session.specs.Events.{close_in, event_of, HasEvents}
 use Rattle.ws_session.specs.Replies.{message_frame, reply_to, echo_reply_to, echo_replies_of, until_close, has_close, key_for, under_key}
-use Rattle.ws_session.specs.NextFrame.{HasNoFaultOfNext, message_with, opened_with, event_behind}
+use Rattle.ws_session.specs.InnerNextFrame.{HasNoFaultOfNext, message_with, opened_with, event_behind}
 use Rattle.ws_session.proofs.ByteLists.{bytes_append}
 use Rattle.ws_session.proofs.OpenMessage.{open_snoc, event_snoc}
 use Rattle.ws_session.proofs.Payloads.{kind_is_text}
 use Rattle.ws_session.proofs.Frames.{none_or_some}
 use Rattle.ws_session.proofs.Within.{split_all}
 use Rattle.ws_session.proofs.Valid.{FrameOfText, IsValidNext, NoneCloses, valid_snoc, data_opcode}
-use Rattle.ws_session.proofs.FineFrames.{alone_is, fine_is_valid}
+use Rattle.ws_session.proofs.FaultlessFrames.{alone_is, fine_is_valid}
 use Rattle.ws_session.proofs.Decided.{text_told, begins_told}
 use Rattle.ws_session.proofs.SendsStayValid.{control_next, none_closes}
 use Rattle.ws_session.proofs.ToldFrames.{each_told}

@@ -13,7 +13,7 @@ use Rattle.ws_session.specs.declared.event.Event.TheVariants as event
 use Rattle.ws_session.specs.Limits.{LimitsValue}
 use Rattle.ws_session.specs.Faults.{frames_of}
 use Rattle.ws_session.specs.Events.{event_of, events_after, through_close, ending_before, events_of, IsFaultOf, HasEvents}
-use Rattle.ws_session.specs.NextFrame.{AreSent, BeginsNoFrame}
+use Rattle.ws_session.specs.InnerNextFrame.{AreSent, BeginsNoFrame}
 use Rattle.ws_session.proofs.Streams.{goes_on, ending_before_past, ending_before_stops, through_close_more}
 use Rattle.ws_session.proofs.Faults.{first_stays, fault_before, one_fault}
 

@@ -16,7 +16,7 @@ use Rattle.ws_session.proofs.Calls.{exchange_of, call_of}
 use Rattle.ws_session.proofs.EventsGoOn.{one_events}
 use Rattle.ws_session.proofs.Over.{replies-append}
 use Rattle.ws_session.proofs.Fresh.{no_events}
-use Rattle.ws_session.proofs.TakenPieces.{put_more, at_session}
+use Rattle.ws_session.proofs.PlacedEvents.{put_more, at_session}
 
 -- a new session took these bytes, told these events and put what is owed for them
 pub record HasFed (role : Role) (limits : LimitsValue) (key : List ℕ) (session : SessionValue) (events : List Event) (put bytes : List ℕ) : Type 0 where

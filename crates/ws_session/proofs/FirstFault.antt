@@ -18,7 +18,7 @@ use Rattle.ws_session.specs.Limits.{LimitsValue}
 use Rattle.ws_session.specs.Messages.{open_message_of, is_close}
 use Rattle.ws_session.specs.Faults.{number_of, frames_of, Applies, IsNoClose, IsFaultAt, IsNoLater, IsFirstFault}
 use Rattle.ws_session.specs.Events.{events_of, IsFaultOf, HasEvents}
-use Rattle.ws_session.specs.NextFrame.{AreSent}
+use Rattle.ws_session.specs.InnerNextFrame.{AreSent}
 use Rattle.ws_session.proofs.Decided.{Told, either_told, told_by, least_told}
 use Rattle.ws_session.proofs.DecidedReasons.{bool_told, applies_told, lowest_told}
 

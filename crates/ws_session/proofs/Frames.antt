@@ -16,7 +16,7 @@ use Rattle.ws_session.specs.declared.reason.Reason.{Reason}
 use Rattle.ws_session.specs.declared.reason.Reason.TheVariants.{ReservedBits, Opcode, MaskWrong, NotShortest, BadLength, ControlCut, ControlLong, NothingToContinue, MessageOpen, TooBig, FrameBig, NotText, TextCut, CloseOneByte, CloseCode, CloseReason}
 use Rattle.ws_session.specs.Limits.{LimitsValue}
 use Rattle.ws_session.specs.Faults.{number_of, open_payload, Applies, AppliesInPayload, IsNoLater}
-use Rattle.ws_session.specs.NextFrame.{header_of, IsFaultOfNext, HasNoFaultOfNext, IsFirstFaultOfNext, IsPartOfFrame}
+use Rattle.ws_session.specs.InnerNextFrame.{header_of, IsFaultOfNext, HasNoFaultOfNext, IsFirstFaultOfNext, IsPartOfFrame}
 use Rattle.std.specs.Prelude.{min}
 use Rattle.std.proofs.Common.{add-zero}
 use Rattle.std.proofs.lemmas.List.{take_all, take-take}
@@ -28,7 +28,7 @@ use Rattle.ws_frame.proofs.Masks.{masked_payload_twice, masked_payload_bytes}
 use Rattle.ws_frame.proofs.Splits.{rest_bytes}
 use Rattle.ws_frame.proofs.Frames.{no_wire_of_cut_payload, no_wire_without_header}
 use Rattle.ws_session.specs.Faults.{IsControl}
-use Rattle.ws_session.specs.Checking.{NoneAtHeader, IsFirstAtHeader, NoneInPayload, IsFirstInPayload, frame_with, IsRoomFor}
+use Rattle.ws_session.specs.InnerChecking.{NoneAtHeader, IsFirstAtHeader, NoneInPayload, IsFirstInPayload, frame_with, IsRoomFor}
 use Rattle.ws_session.proofs.HeaderReasons.{early_or_big}
 use Rattle.ws_session.proofs.Next.{length-frame_bytes}
 

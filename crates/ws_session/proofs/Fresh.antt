@@ -5,7 +5,7 @@ use Rattle.ws_session.specs.declared.message.Message.{Message}
 use Rattle.ws_session.specs.Limits.{LimitsValue}
 use Rattle.ws_session.specs.Faults.{HasNoFault}
 use Rattle.ws_session.specs.Events.{HasEvents}
-use Rattle.ws_session.specs.NextFrame.{IsPartOfFrame}
+use Rattle.ws_session.specs.InnerNextFrame.{IsPartOfFrame}
 use Rattle.ws_session.specs.declared.status.Status.TheVariants as status
 use Rattle.ws_session.specs.Exchange.{HasExchanged}
 use Rattle.ws_session.proofs.Next.{place_is, two_bytes}

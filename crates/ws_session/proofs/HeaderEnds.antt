@@ -1,5 +1,5 @@
 -- The end of a header, byte by byte.
-use Rattle.std.proofs.Common.{◌≡◌, ℕ, ◌+◌, ◌<◌, ◌≤◌, List, [], ◌∷◌, ◌++◌, length, take, drop, get_or, append_assoc, refl, sym, ap, ◌∙◌, arith, inl, inr, subst}
+use Rattle.std.proofs.Common.{◌≡◌, ℕ, ◌+◌, ◌<◌, List, [], ◌∷◌, ◌++◌, length, take, drop, get_or, append_assoc, sym, ap, ◌∙◌, arith, inl, inr, subst}
 use Rattle.std.proofs.lemmas.Bool.{cases_lt}
 use Rattle.std.proofs.lemmas.List.{length-append, take-append-drop, length-take-le, take-take, take_more}
 use Rattle.std.proofs.Math.Seq.{take-append-add}
@@ -7,7 +7,7 @@ use Rattle.ws_frame.specs.Header.{HeaderFields, IsHeaderOf, AreBytes}
 use Rattle.ws_frame.proofs.Numbers.{front_bytes}
 use Rattle.ws_session.proofs.ByteLists.{bytes_append}
 use Rattle.ws_frame.specs.Reading.{Begins, BeginsNoHeader}
-use Rattle.ws_session.specs.Receiving.{CompletesHeader}
+use Rattle.ws_session.specs.InnerReceiving.{CompletesHeader}
 
 -- with one byte more a header stands there, and it takes all of them
 pub header_ends : (kept piece : List ℕ) (i n : ℕ) (h : HeaderFields) → i < length piece → BeginsNoHeader (kept ++ take i piece) → Begins h n (kept ++ take (i + 1) piece) → CompletesHeader kept piece h (i + 1)

@@ -1,8 +1,8 @@
 -- What a receiving side keeps.
-use Rattle.std.proofs.Common.{◌≡◌, ℕ, ◌+◌, ◌-◌, ◌<◌, ◌≤◌, List, [], ◌∷◌, ◌++◌, length, take, drop, Option, Some, None, refl, sym, ap, ◌∙◌, arith}
+use Rattle.std.proofs.Common.{◌≡◌, ℕ, ◌+◌, ◌≤◌, List, [], ◌++◌, length, take, refl, ap, ◌∙◌, arith}
 use Rattle.std.proofs.lemmas.List.{length-append, length-take-le, length-drop}
 use Rattle.ws_frame.specs.declared.role.Role.{Role}
-use Rattle.ws_frame.specs.Header.{AreBytes, header_bytes}
+use Rattle.ws_frame.specs.Header.{header_bytes}
 use Rattle.ws_frame.specs.Masking.{masked_payload}
 use Rattle.ws_frame.specs.Reading.{BeginsNoHeader}
 use Rattle.ws_frame.proofs.Masks.{length-masked_payload}
@@ -10,9 +10,9 @@ use Rattle.ws_session.specs.declared.receiver.under_way.UnderWay.{UnderWay}
 use Rattle.ws_session.specs.declared.receiver.under_way.UnderWay.TheVariants as under_way
 use Rattle.ws_session.specs.Limits.{LimitsValue}
 use Rattle.ws_session.specs.Faults.{open_payload}
-use Rattle.ws_session.specs.Assembly.{HasReadOpen}
-use Rattle.ws_session.specs.Receiving.{AssemblyValue, IsJoined, frame_payload, partial_of, IsUnderWay}
-use Rattle.ws_session.specs.Receiver.{IsReceiving, NotBegun, length_so_far}
+use Rattle.ws_session.specs.InnerAssembly.{HasReadOpen}
+use Rattle.ws_session.specs.InnerReceiving.{AssemblyValue, IsJoined, frame_payload, partial_of, IsUnderWay}
+use Rattle.ws_session.specs.InnerReceiver.{IsReceiving, NotBegun, length_so_far}
 use Rattle.ws_session.proofs.Frames.{part_of_header}
 
 -- as many bytes of the frame under way are shown as have come

@@ -7,10 +7,12 @@ pub mod Places
 pub mod Next
 pub mod OpenMessage
 pub mod Statuses
+pub mod StatusReplies
 pub mod OneMoreFrame
 pub mod OneTake
 pub mod Fresh
 pub mod HeaderReasons
+pub mod ControlPayloads
 pub mod Payloads
 pub mod Frames
 pub mod MaskedParts
@@ -27,14 +29,17 @@ pub mod Owed
 pub mod SessionParts
 pub mod Over
 pub mod SomeExchange
+pub mod PlacedEvents
 pub mod TakenPieces
 pub mod FedPieces
 pub mod Valid
 pub mod FineFrames
+pub mod FaultlessFrames
 pub mod ValidStreams
 pub mod FinishedMessages
 pub mod Within
 pub mod Fitting
+pub mod SizePassed
 pub mod ValidTold
 pub mod Longest
 pub mod Decided
@@ -45,5 +50,6 @@ pub mod ToldFrames
 pub mod Replied
 pub mod EndIsLast
 pub mod EchoReplied
+pub mod DataSends
 pub mod SendCalls
 pub mod WorkedExamples

@@ -6,8 +6,8 @@ use Rattle.std.proofs.lemmas.List.{length-append, length-replicate}
 use Rattle.ws_frame.specs.Header.{HeaderFields}
 use Rattle.ws_frame.specs.Masking.{masked, masked_payload}
 use Rattle.ws_frame.proofs.Masks.{masked-append, masked_payload_twice, length-masked, length-masked_payload}
-use Rattle.ws_session.specs.Masked.{masked_from}
-use Rattle.ws_session.specs.Receiving.{arrived_payload}
+use Rattle.ws_session.specs.InnerMasked.{masked_from}
+use Rattle.ws_session.specs.InnerReceiving.{arrived_payload}
 
 -- the phase counts modulo 4
 masked_same : (key : List ℕ) (m n : ℕ) (p : List ℕ) → m % 4 ≡ n % 4 → masked key m p ≡ masked key n p

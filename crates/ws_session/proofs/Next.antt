@@ -14,7 +14,7 @@ use Rattle.ws_session.specs.declared.reason.Reason.{Reason}
 use Rattle.ws_session.specs.Limits.{LimitsValue}
 use Rattle.ws_session.specs.Messages.{open_message_of}
 use Rattle.ws_session.specs.Faults.{frames_of, Applies, IsNoClose, IsFaultAt, IsNoLater, IsFirstFault, HasNoFault}
-use Rattle.ws_session.specs.NextFrame.{AreSent, header_of, IsFaultOfNext, HasNoFaultOfNext, IsFirstFaultOfNext}
+use Rattle.ws_session.specs.InnerNextFrame.{AreSent, header_of, IsFaultOfNext, HasNoFaultOfNext, IsFirstFaultOfNext}
 use Rattle.ws_session.proofs.Places.{compare_frames, Within, fault_parts, PartOf, part_of}
 
 plain_sum : (n taken before head payload frame masked : ℕ) → taken ≡ n → taken ≡ before + frame → frame ≡ head + masked → masked ≡ payload → n ≡ before + (head + payload)

@@ -17,18 +17,19 @@ use Rattle.ws_session.specs.Limits.{LimitsValue}
 use Rattle.ws_session.specs.Messages.{is_close, open_message_of}
 use Rattle.ws_session.specs.Faults.{frames_of, IsNoClose, IsFaultAt, IsFirstFault, HasNoFault}
 use Rattle.ws_session.specs.Events.{event_of, events_after, through_close, ending_before, events_of, IsFaultOf, HasEvents}
-use Rattle.ws_session.specs.NextFrame.{BeginsNoFrame, HasNoFaultOfNext, IsFirstFaultOfNext, IsPartOfFrame, opened_with, event_behind, due_at, IsAfter}
+use Rattle.ws_session.specs.InnerNextFrame.{BeginsNoFrame, HasNoFaultOfNext, IsFirstFaultOfNext, IsPartOfFrame, opened_with, event_behind, due_at, IsAfter}
 use Rattle.ws_session.specs.declared.status.Status.{Status}
 use Rattle.ws_session.specs.declared.status.Status.TheVariants as status
 use Rattle.ws_session.specs.declared.session.Answering.{Answering}
-use Rattle.ws_session.specs.Inside.{reply_by, CanAnswer}
+use Rattle.ws_session.specs.InnerInvariant.{reply_by, CanAnswer}
 use Rattle.ws_session.specs.Replies.{replies_by}
 use Rattle.ws_session.specs.Exchange.{SessionValue, SendingValue, HasExchanged, IsSendingOf, is_over, status_after, status_of}
 use Rattle.ws_session.proofs.ByteLists.{bytes_append, back_are_bytes}
 use Rattle.ws_session.proofs.Faults.{fault_before}
 use Rattle.ws_session.proofs.EventsGoOn.{events_after-append, one_events}
 use Rattle.ws_session.proofs.OpenMessage.{open_snoc, event_snoc}
-use Rattle.ws_session.proofs.Statuses.{IsGoingOn, status_snoc, replies_at, owed_keeps, status_after_event}
+use Rattle.ws_session.proofs.Statuses.{IsGoingOn, status_snoc}
+use Rattle.ws_session.proofs.StatusReplies.{replies_at, owed_keeps, status_after_event}
 use Rattle.ws_session.proofs.Streams.{ending_before_past}
 use Rattle.ws_session.proofs.Next.{still_clean, first_of_next, within_front, two_bytes}
 use Rattle.ws_frame.proofs.Splits.{all-append, SomeSplit, some_split, split_goes_on}

@@ -17,9 +17,9 @@ use Rattle.ws_session.specs.declared.event.Event.TheVariants as event
 use Rattle.ws_session.specs.Limits.{LimitsValue}
 use Rattle.ws_session.specs.Faults.{IsNoLater}
 use Rattle.ws_session.specs.Events.{HasEvents}
-use Rattle.ws_session.specs.NextFrame.{IsFaultOfNext, HasNoFaultOfNext, IsFirstFaultOfNext, IsPartOfFrame, opened_with, event_behind, due_at, IsAfter}
+use Rattle.ws_session.specs.InnerNextFrame.{IsFaultOfNext, HasNoFaultOfNext, IsFirstFaultOfNext, IsPartOfFrame, opened_with, event_behind, due_at, IsAfter}
 use Rattle.ws_session.specs.declared.session.Answering.{Answering}
-use Rattle.ws_session.specs.Inside.{reply_by, CanAnswer}
+use Rattle.ws_session.specs.InnerInvariant.{reply_by, CanAnswer}
 use Rattle.ws_session.specs.Replies.{replies_by, under_key}
 use Rattle.ws_session.specs.Exchange.{SessionValue, HasExchanged, is_over}
 use Rattle.ws_session.specs.Taking.{Takes}
@@ -28,7 +28,8 @@ use Rattle.std.proofs.lemmas.List.{take_all}
 use Rattle.ws_session.proofs.ByteLists.{front_are_bytes}
 use Rattle.ws_frame.proofs.Numbers.{front_bytes}
 use Rattle.ws_session.proofs.Next.{within_front, next_later, next_earlier, drop_front}
-use Rattle.ws_session.proofs.Statuses.{IsGoingOn, is_going_on, replies_at, no_replies}
+use Rattle.ws_session.proofs.Statuses.{IsGoingOn, is_going_on}
+use Rattle.ws_session.proofs.StatusReplies.{replies_at, no_replies}
 use Rattle.ws_session.proofs.OneMoreFrame.{quiet_events, quiet_agrees, frame_events, frame_agrees, fault_events, fault_agrees, status_going}
 
 -- ---- shorter fronts

@@ -9,7 +9,7 @@ use Rattle.ws_session.specs.declared.message.Message.{Message}
 use Rattle.ws_session.specs.declared.event.Event.TheVariants as event
 use Rattle.ws_session.specs.Messages.{is_control, data_frames, Groups, before_first, with_frame, groups_of, kind_of, joined_payload, message_of, message_if_any, open_message_of}
 use Rattle.ws_session.specs.Events.{event_of_control, event_of}
-use Rattle.ws_session.specs.NextFrame.{message_with, opened_with, event_behind}
+use Rattle.ws_session.specs.InnerNextFrame.{message_with, opened_with, event_behind}
 use Rattle.std.proofs.lemmas.List.Elements.{filter-append}
 
 -- ---- groups

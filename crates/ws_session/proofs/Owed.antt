@@ -1,5 +1,5 @@
 -- When a call that takes bytes may want memory for an answer.
-use Rattle.std.proofs.Common.{◌≡◌, ◌≢◌, ℕ, ◌+◌, ◌<◌, ◌≤◌, ◌⊎◌, Bool, false, List, [], ◌∷◌, ◌++◌, length, take, drop, Option, Some, None, refl, sym, ap, ◌∙◌, arith, inl, inr, subst}
+use Rattle.std.proofs.Common.{◌≡◌, ◌≢◌, ℕ, ◌+◌, ◌⊎◌, false, List, [], ◌∷◌, ◌++◌, length, take, drop, Option, Some, None, refl, sym, ap, ◌∙◌, arith, inl, inr, subst}
 use Rattle.std.specs.Prelude.{option_to_list}
 use Rattle.std.proofs.lemmas.Bool.{cases_lt}
 use Rattle.std.proofs.lemmas.List.{length-append}
@@ -10,7 +10,6 @@ use Rattle.ws_session.specs.declared.reason.Reason.{Reason}
 use Rattle.ws_session.specs.declared.event.Event.{Event}
 use Rattle.ws_session.specs.declared.event.Event.TheVariants as event
 use Rattle.ws_session.specs.declared.event.Taken.{Taken}
-use Rattle.ws_session.specs.declared.status.Status.{Status}
 use Rattle.ws_session.specs.declared.replying.Replying.{Replying}
 use Rattle.ws_session.specs.declared.receiver.under_way.UnderWay.{UnderWay}
 use Rattle.ws_session.specs.declared.receiver.frame_check.Content.{Content}
@@ -19,15 +18,16 @@ use Rattle.ws_session.specs.Replies.{replies_by}
 use Rattle.ws_session.specs.Exchange.{SendingValue, SessionValue, Exchange, HasExchanged, is_over}
 use Rattle.ws_session.specs.Taking.{Takes}
 use Rattle.ws_session.specs.Memory.{WouldTake, HoldsData}
-use Rattle.ws_session.specs.NextFrame.{IsFirstFaultOfNext, due_at}
-use Rattle.ws_session.specs.Inside.{CanAnswer, reply_by}
-use Rattle.ws_session.specs.Receiving.{AssemblyValue, IsWholeFrame}
-use Rattle.ws_session.specs.Replying.{bytes_put}
-use Rattle.ws_session.specs.Receiver.{ReceiverValue, receiver_of, session_with, status_by, event_of_kept, opened_by, HasReceived, IsOwed}
+use Rattle.ws_session.specs.InnerNextFrame.{IsFirstFaultOfNext}
+use Rattle.ws_session.specs.InnerInvariant.{CanAnswer, reply_by}
+use Rattle.ws_session.specs.InnerReceiving.{AssemblyValue, IsWholeFrame}
+use Rattle.ws_session.specs.InnerReplying.{bytes_put}
+use Rattle.ws_session.specs.InnerReceiver.{ReceiverValue, receiver_of, session_with, status_by, event_of_kept, opened_by, HasReceived, IsOwed}
 use Rattle.ws_session.proofs.Calls.{exchange_of, call_of}
 use Rattle.ws_session.proofs.EventsGoOn.{one_events}
 use Rattle.ws_session.proofs.Receipts.{received_frame, received_fault}
-use Rattle.ws_session.proofs.Statuses.{is_going_on, replies_at}
+use Rattle.ws_session.proofs.Statuses.{is_going_on}
+use Rattle.ws_session.proofs.StatusReplies.{replies_at}
 
 same_back : (es a b : List Event) → es ++ a ≡ es ++ b → a ≡ b
 same_back es a b e = sym (drop-append_seam es a) ∙ ap (λ (l : List Event). drop (length es) l) e ∙ drop-append_seam es b

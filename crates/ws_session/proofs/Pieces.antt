@@ -1,25 +1,23 @@
 -- A piece after the frame that is under way.
-use Rattle.std.proofs.Common.{◌≡◌, ◌≢◌, ℕ, ◌+◌, ◌-◌, ◌<◌, ◌≤◌, List, [], ◌++◌, length, take, drop, Option, Some, None, refl, sym, ap, ◌∙◌, arith, inl, inr, subst}
+use Rattle.std.proofs.Common.{◌≡◌, ℕ, ◌+◌, ◌-◌, ◌<◌, ◌≤◌, List, [], ◌++◌, length, take, drop, Option, None, refl, sym, ap, ◌∙◌, arith, inl, inr, subst}
 use Rattle.std.proofs.lemmas.Bool.{cases_lt}
 use Rattle.std.proofs.lemmas.List.{length-append, length-take-le, length-drop, drop-take, append-nil, take_all}
 use Rattle.ws_frame.specs.declared.role.Role.{Role}
 use Rattle.ws_frame.specs.Header.{HeaderFields, AreBytes, header_bytes}
 use Rattle.ws_frame.specs.Masking.{masked_payload}
 use Rattle.ws_frame.specs.Reading.{Begins, BeginsNoHeader}
-use Rattle.ws_text.specs.Stream.{HasRead}
+use Rattle.ws_text.specs.Stream.{HasReadText}
 use Rattle.ws_session.specs.declared.message.Message.{Message}
 use Rattle.ws_session.specs.declared.reason.Reason.{Reason}
 use Rattle.ws_session.specs.declared.reason.Reason.TheVariants.{Opcode, ControlLong, MessageOpen}
-use Rattle.ws_session.specs.declared.receiver.under_way.UnderWay.{UnderWay}
 use Rattle.ws_session.specs.declared.receiver.under_way.UnderWay.TheVariants as under_way
 use Rattle.ws_session.specs.declared.receiver.frame_check.FrameCheck.{FrameCheck}
 use Rattle.ws_session.specs.declared.receiver.frame_check.FrameCheck.TheVariants as check
 use Rattle.ws_session.specs.Limits.{LimitsValue}
 use Rattle.ws_session.specs.Faults.{IsControl, IsOfText, open_payload}
-use Rattle.ws_session.specs.Assembly.{HasReadOpen}
-use Rattle.ws_session.specs.Checking.{NoneAtHeader, IsFirstAtHeader}
-use Rattle.ws_session.specs.Receiving.{AssemblyValue, with_text, frame_payload, first_bytes, HasKept, IsJoined, arrived_payload, partial_of, IsUnderWay, HasNewData, IsPayloadCheck, IsFrameCheck}
-use Rattle.ws_session.proofs.ByteLists.{bytes_append}
+use Rattle.ws_session.specs.InnerAssembly.{HasReadOpen}
+use Rattle.ws_session.specs.InnerChecking.{NoneAtHeader, IsFirstAtHeader}
+use Rattle.ws_session.specs.InnerReceiving.{AssemblyValue, with_text, frame_payload, first_bytes, HasKept, IsJoined, arrived_payload, partial_of, IsUnderWay, HasNewData, IsPayloadCheck, IsFrameCheck}
 use Rattle.ws_session.proofs.Frames.{none_or_some, one_or_two, at_header, part_of_header, room_for_header}
 use Rattle.ws_session.proofs.Payloads.{read_open}
 use Rattle.ws_session.proofs.Assembled.{first_is}
@@ -46,8 +44,8 @@ module _ (role : Role) (limits : LimitsValue) (opened : Option Message) (h : Hea
 pub kept_first : (a : AssemblyValue) → IsJoined a → HasKept a 0
 kept_first a joined = omega (arith, ap (λ (l : List ℕ). length l) joined, length-append (open_payload a.opened) (frame_payload a))
 
-pub read_first : (a : AssemblyValue) (h : HeaderFields) → IsJoined a → (1 ≤ h.opcode → a.opened ≡ None) → HasReadOpen a.opened a.text → IsOfText a.opened h → HasRead a.text (first_bytes a 0)
-read_first a h joined begins reads of = subst (λ (l : List ℕ). HasRead a.text l) (sym (append-nil (open_payload a.opened)) ∙ first_is a 0 joined) (read_open a.opened h a.text begins reads of)
+pub read_first : (a : AssemblyValue) (h : HeaderFields) → IsJoined a → (1 ≤ h.opcode → a.opened ≡ None) → HasReadOpen a.opened a.text → IsOfText a.opened h → HasReadText a.text (first_bytes a 0)
+read_first a h joined begins reads of = subst (λ (l : List ℕ). HasReadText a.text l) (sym (append-nil (open_payload a.opened)) ∙ first_is a 0 joined) (read_open a.opened h a.text begins reads of)
 
 -- the header isn't whole
 pub header_part : (role : Role) (limits : LimitsValue) (a : AssemblyValue) (k : ℕ) (bytes next : List ℕ) (text : Option (List ℕ)) → BeginsNoHeader bytes → AreBytes bytes → length bytes < 14 → IsJoined a → HasReadOpen a.opened a.text → next ≡ bytes → text ≡ a.text → IsFrameCheck role limits a k bytes (check.Need (under_way.Header next) text)
@@ -93,7 +91,7 @@ module _ (role : Role) (limits : LimitsValue) (a : AssemblyValue) (h : HeaderFie
       record {
         bytes = subst (λ (l : List ℕ). AreBytes l) (sym (same_partial b opened first)) u.bytes;
         joined = joined;
-        kept = (k.0, none, k.2, k.3, has, λ of. subst (λ (l : List ℕ). HasRead b.text l) (sym first) (subst (λ (t : Option (List ℕ)). HasRead t (first_bytes a came)) (sym text) (k.5 (subst (λ (o : Option Message). IsOfText o h) opened of))));
+        kept = (k.0, none, k.2, k.3, has, λ of. subst (λ (l : List ℕ). HasReadText b.text l) (sym first) (subst (λ (t : Option (List ℕ)). HasReadText t (first_bytes a came)) (sym text) (k.5 (subst (λ (o : Option Message). IsOfText o h) opened of))));
       }
 
 -- a piece of a control frame's payload

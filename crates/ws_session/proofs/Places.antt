@@ -12,7 +12,7 @@ use Rattle.ws_frame.proofs.Masks.{length-masked_payload, same_masked_payload}
 use Rattle.ws_session.specs.declared.reason.Reason.{Reason}
 use Rattle.ws_session.specs.Limits.{LimitsValue}
 use Rattle.ws_session.specs.Faults.{IsFaultAt}
-use Rattle.ws_session.specs.NextFrame.{AreSent, header_of}
+use Rattle.ws_session.specs.InnerNextFrame.{AreSent, header_of}
 
 pub record Before (xs ys : List KeyedFrame) (a b : List ℕ) : Type 0 where
   pub more : List KeyedFrame

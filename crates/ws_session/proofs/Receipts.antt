@@ -5,7 +5,6 @@ use Rattle.ws_frame.specs.declared.role.Role.{Role}
 use Rattle.ws_frame.specs.Header.{AreBytes}
 use Rattle.ws_frame.specs.Frame.{Frame, frame_bytes, stream_bytes}
 use Rattle.ws_text.specs.Close.{CloseValue}
-use Rattle.ws_session.specs.declared.message.Kind.{Kind}
 use Rattle.ws_session.specs.declared.message.Message.{Message}
 use Rattle.ws_session.specs.declared.reason.Reason.{Reason}
 use Rattle.ws_session.specs.declared.event.Event.{Event}
@@ -16,20 +15,18 @@ use Rattle.ws_session.specs.declared.replying.Replying.{Replying}
 use Rattle.ws_session.specs.declared.receiver.under_way.UnderWay.{UnderWay}
 use Rattle.ws_session.specs.declared.receiver.frame_check.Content.{Content}
 use Rattle.ws_session.specs.declared.receiver.frame_check.Content.TheVariants as content
-use Rattle.ws_session.specs.declared.receiver.frame_check.FrameCheck.{FrameCheck}
-use Rattle.ws_session.specs.declared.receiver.frame_check.FrameCheck.TheVariants as check
 use Rattle.ws_session.specs.Limits.{LimitsValue}
 use Rattle.ws_session.specs.Messages.{is_control}
 use Rattle.ws_session.specs.Events.{event_of_control, close_in}
 use Rattle.ws_session.specs.Replies.{under_key}
-use Rattle.ws_session.specs.Exchange.{SendingValue, SessionValue, HasExchanged, is_over}
+use Rattle.ws_session.specs.Exchange.{SendingValue, HasExchanged, is_over}
 use Rattle.ws_session.specs.Taking.{Takes}
-use Rattle.ws_session.specs.NextFrame.{IsPartOfFrame, HasNoFaultOfNext, IsFirstFaultOfNext, message_with, opened_with, event_behind, due_at, IsAfter}
-use Rattle.ws_session.specs.Inside.{CanAnswer, reply_by}
-use Rattle.ws_session.specs.Assembly.{HasReadOpen}
-use Rattle.ws_session.specs.Receiving.{AssemblyValue, IsContentOf, IsWholeFrame, IsFrameCheck, message_kept, FitsIn}
-use Rattle.ws_session.specs.Replying.{bytes_put}
-use Rattle.ws_session.specs.Receiver.{ReceiverValue, receiver_of, session_with, status_by, event_of_kept, opened_by, HasReceived, IsContentKept, FitsLimit, IsSoundReceiver}
+use Rattle.ws_session.specs.InnerNextFrame.{IsPartOfFrame, HasNoFaultOfNext, IsFirstFaultOfNext, message_with, opened_with, event_behind, due_at, IsAfter}
+use Rattle.ws_session.specs.InnerInvariant.{CanAnswer, reply_by}
+use Rattle.ws_session.specs.InnerAssembly.{HasReadOpen}
+use Rattle.ws_session.specs.InnerReceiving.{AssemblyValue, IsContentOf, IsWholeFrame, message_kept, FitsIn}
+use Rattle.ws_session.specs.InnerReplying.{bytes_put}
+use Rattle.ws_session.specs.InnerReceiver.{ReceiverValue, receiver_of, session_with, status_by, event_of_kept, opened_by, HasReceived, IsContentKept, FitsLimit}
 use Rattle.ws_session.proofs.Calls.{exchange_of, call_of}
 use Rattle.ws_session.proofs.OneTake.{takes_part, takes_frame, takes_fault, frame_behind_kept, fault_behind_kept, within_bytes}
 use Rattle.std.proofs.lemmas.List.{length-append}

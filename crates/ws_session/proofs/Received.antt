@@ -1,18 +1,16 @@
 -- From the check of a payload to the check of the frame that is under way.
-use Rattle.std.proofs.Common.{◌≡◌, ℕ, ◌+◌, ◌-◌, ◌<◌, ◌≤◌, false, List, [], ◌++◌, length, take, drop, Option, Some, None, refl, sym, ap, ◌∙◌, append_assoc, arith, inl, inr, subst}
-use Rattle.std.specs.Prelude.{min}
-use Rattle.std.proofs.lemmas.Bool.{cases_lt, leb-false, leb-true}
-use Rattle.std.proofs.lemmas.List.{length-append, take_all, length-take-le, drop-drop, length-drop}
+use Rattle.std.proofs.Common.{◌≡◌, ℕ, ◌+◌, ◌-◌, ◌<◌, ◌≤◌, List, [], ◌++◌, length, take, drop, Option, Some, None, refl, sym, ap, ◌∙◌, append_assoc, arith, subst}
+use Rattle.std.proofs.lemmas.Bool.{leb-false, leb-true}
+use Rattle.std.proofs.lemmas.List.{length-append, take_all, length-drop}
 use Rattle.ws_frame.specs.declared.role.Role.{Role}
 use Rattle.std.proofs.Math.Seq.{take-append_seam, drop-append_seam, drop-append-add}
 use Rattle.ws_frame.specs.Header.{HeaderFields, IsHeader, AreBytes, header_bytes}
 use Rattle.ws_frame.proofs.Masks.{length-masked_payload}
 use Rattle.ws_frame.specs.Masking.{masked_payload}
-use Rattle.ws_frame.specs.Reading.{Begins, BeginsNoHeader}
-use Rattle.ws_text.specs.Stream.{HasRead}
+use Rattle.ws_frame.specs.Reading.{Begins}
+use Rattle.ws_text.specs.Stream.{HasReadText}
 use Rattle.ws_session.specs.declared.message.Kind.{Kind}
 use Rattle.ws_session.specs.declared.message.Message.{Message}
-use Rattle.ws_session.specs.declared.reason.Reason.{Reason}
 use Rattle.ws_session.specs.declared.receiver.under_way.UnderWay.{UnderWay}
 use Rattle.ws_session.specs.declared.receiver.under_way.UnderWay.TheVariants as under_way
 use Rattle.ws_session.specs.declared.receiver.frame_check.Content.{Content}
@@ -21,12 +19,12 @@ use Rattle.ws_session.specs.declared.receiver.frame_check.FrameCheck.{FrameCheck
 use Rattle.ws_session.specs.declared.receiver.frame_check.FrameCheck.TheVariants as check
 use Rattle.ws_session.specs.Limits.{LimitsValue}
 use Rattle.ws_session.specs.Faults.{IsControl, IsOfText, open_payload}
-use Rattle.ws_session.specs.Assembly.{HasReadOpen}
-use Rattle.ws_session.specs.Checking.{NoneAtHeader, NoneInPayload, IsFirstInPayload, IsFirstAtHeader, frame_with, IsRoomFor}
-use Rattle.ws_session.specs.NextFrame.{IsPartOfFrame, IsFirstFaultOfNext, message_with}
-use Rattle.ws_session.specs.Receiving.{AssemblyValue, with_text, frame_payload, first_bytes, HasKept, IsJoined, partial_of, IsKept, IsUnderWay, message_kept, IsContentOf, FitsIn, IsNextOf, arrived_payload, IsPayloadCheck, IsWholeFrame, IsFrameCheck}
+use Rattle.ws_session.specs.InnerAssembly.{HasReadOpen}
+use Rattle.ws_session.specs.InnerChecking.{NoneAtHeader, frame_with}
+use Rattle.ws_session.specs.InnerNextFrame.{IsFirstFaultOfNext, message_with}
+use Rattle.ws_session.specs.InnerReceiving.{AssemblyValue, with_text, frame_payload, first_bytes, HasKept, IsJoined, partial_of, IsUnderWay, message_kept, IsContentOf, FitsIn, IsNextOf, arrived_payload, IsPayloadCheck, IsFrameCheck}
 use Rattle.ws_session.proofs.MaskedParts.{arrived_is}
-use Rattle.ws_session.proofs.Frames.{part_checked, part_room, payload_checked, whole_can, whole_front, whole_size, clean_by, data_fits, is_data, is_control_frame, parts, size, masked_back, length_p, within_len}
+use Rattle.ws_session.proofs.Frames.{part_checked, part_room, payload_checked, whole_can, whole_front, whole_size, clean_by, data_fits, is_data, is_control_frame, parts, masked_back, length_p}
 
 -- the header h stands at the front of some bytes, nothing is wrong in it, and p is the payload behind it as far as it has
 -- come
@@ -44,7 +42,7 @@ module _ (role : Role) (limits : LimitsValue) (a : AssemblyValue) (bytes : List 
   abbrev IsNext : UnderWay → Option (List ℕ) → Type 0
   IsNext next text = (partial_of a next ≡ bytes) × IsUnderWay role limits (with_text a text) next
 
-  next_data : (text : Option (List ℕ)) → length p < h.len → p ≡ frame_payload a → h.opcode ≤ 2 → HasKept a (length p) → (IsOfText a.opened h → HasRead text a.payload) → IsNext (under_way.Data h (length p)) text
+  next_data : (text : Option (List ℕ)) → length p < h.len → p ≡ frame_payload a → h.opcode ≤ 2 → HasKept a (length p) → (IsOfText a.opened h → HasReadText text a.payload) → IsNext (under_way.Data h (length p)) text
   next_data text short kept opcode has read =
       let payload : take (length p) (frame_payload a) ≡ p = ap (λ (l : List ℕ). take (length p) l) (sym kept) ∙ take_all (length p) p (omega arith) in
       let same : partial_of a (under_way.Data h (length p)) ≡ bytes = ap (λ (l : List ℕ). header_bytes h ++ masked_payload h.key l) payload ∙ all_of_part short in
@@ -55,7 +53,7 @@ module _ (role : Role) (limits : LimitsValue) (a : AssemblyValue) (bytes : List 
         record {
           bytes = subst (λ (l : List ℕ). AreBytes l) (sym same) are;
           joined = joined;
-          kept = (b.front.fields, none, opcode, short, has, λ of. subst (λ (l : List ℕ). HasRead text l) (sym all) (read of));
+          kept = (b.front.fields, none, opcode, short, has, λ of. subst (λ (l : List ℕ). HasReadText text l) (sym all) (read of));
         },
       )
 

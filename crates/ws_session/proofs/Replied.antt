@@ -21,10 +21,10 @@ use Rattle.ws_session.specs.Validity.{AreValidFrames}
 use Rattle.ws_session.specs.Faults.{expects_key, KeysFit}
 use Rattle.ws_session.specs.Events.{close_in, event_of, HasEvents}
 use Rattle.ws_session.specs.Replies.{close_code_of, close_frame, reply_to, until_close, has_close, replies_of, key_for, under_key}
-use Rattle.ws_session.specs.NextFrame.{HasNoFaultOfNext}
+use Rattle.ws_session.specs.InnerNextFrame.{HasNoFaultOfNext}
 use Rattle.ws_session.proofs.ToldFrames.{each_told}
 use Rattle.ws_session.proofs.Valid.{NoneCloses, valid_snoc}
-use Rattle.ws_session.proofs.FineFrames.{alone_is, not_never_code}
+use Rattle.ws_session.proofs.FaultlessFrames.{alone_is, not_never_code}
 use Rattle.ws_session.proofs.Within.{split_all}
 use Rattle.ws_session.proofs.Decided.{code_told}
 use Rattle.ws_session.proofs.SendsStayValid.{IsFineControl, control_next, none_closes}

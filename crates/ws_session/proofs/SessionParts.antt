@@ -1,5 +1,5 @@
 -- A session as its receiving side, its sending side and its status.
-use Rattle.std.proofs.Common.{◌≡◌, ◌∙◌, ℕ, ◌+◌, true, List, [], length, Option, None, refl, sym, ap, arith, subst}
+use Rattle.std.proofs.Common.{◌≡◌, ◌∙◌, ℕ, true, List, [], length, Option, None, ap, arith}
 use Rattle.ws_frame.specs.declared.role.Role.{Role}
 use Rattle.ws_session.specs.declared.message.Message.{Message}
 use Rattle.ws_session.specs.declared.status.Status.{Status}
@@ -7,8 +7,8 @@ use Rattle.ws_session.specs.declared.status.Status.TheVariants.{Open}
 use Rattle.ws_session.specs.Limits.{LimitsValue}
 use Rattle.ws_session.specs.Faults.{open_payload}
 use Rattle.ws_session.specs.Exchange.{SendingValue, SessionValue, is_over}
-use Rattle.ws_session.specs.Inside.{IsSound}
-use Rattle.ws_session.specs.Receiver.{ReceiverValue, IsSoundReceiver, session_with}
+use Rattle.ws_session.specs.InnerInvariant.{IsSound}
+use Rattle.ws_session.specs.InnerReceiver.{ReceiverValue, IsSoundReceiver, session_with}
 
 -- a sound receiving side that keeps nothing once all is over
 pub sound_session : (v : ReceiverValue) (sending : Option SendingValue) (status : Status) → IsSoundReceiver v → (is_over status ≡ true → (v.opened ≡ None) × (v.partial_frame ≡ [])) → IsSound (session_with v sending status)

@@ -6,7 +6,7 @@ use Rattle.ws_frame.specs.Frame.{KeyedFrame, frame_bytes, stream_bytes}
 use Rattle.ws_frame.proofs.Frames.{no_frame_begins}
 use Rattle.ws_session.specs.Messages.{is_close}
 use Rattle.ws_session.specs.Events.{through_close, ending_before}
-use Rattle.ws_session.specs.NextFrame.{AreSent, BeginsNoFrame}
+use Rattle.ws_session.specs.InnerNextFrame.{AreSent, BeginsNoFrame}
 
 -- a stream's frames are the first of those of a longer one
 pub record GoesOn (xs ys : List KeyedFrame) (a b : List ℕ) : Type 0 where

@@ -1,28 +1,25 @@
 -- A piece that is taken front by front.
-use Rattle.std.proofs.Common.{◌≡◌, ℕ, ◌+◌, ◌-◌, ◌<◌, ◌≤◌, true, false, cond, List, [], ◌∷◌, ◌++◌, length, take, drop, Option, Some, None, refl, sym, ap, ◌∙◌, append_assoc, arith, inl, inr, subst}
-use Rattle.std.specs.Prelude.{map, nat_le, option_to_list}
-use Rattle.std.specs.List.{AllByRecursion}
-use Rattle.std.proofs.Math.Seq.{take-append-add}
-use Rattle.std.proofs.lemmas.Bool.{cases_lt, le-leb, lt-leb}
-use Rattle.std.proofs.lemmas.List.{length-append, append-nil, map-append, take-append-le, take-take, drop-take, take-append-drop, length-take-le, take_all}
-use Rattle.std.proofs.lemmas.Grind.{flat_map-append}
+use Rattle.std.proofs.Common.{◌≡◌, ℕ, ◌+◌, ◌-◌, ◌<◌, ◌≤◌, true, false, List, [], ◌++◌, length, take, drop, None, refl, sym, ap, ◌∙◌, append_assoc, arith, inl, inr, subst}
+use Rattle.std.specs.Prelude.{map, option_to_list}
+use Rattle.std.proofs.lemmas.Bool.{cases_lt}
+use Rattle.std.proofs.lemmas.List.{length-append, append-nil, take-append-le, take-take, drop-take, take-append-drop, length-take-le, take_all}
 use Rattle.ws_frame.specs.declared.role.Role.{Role}
 use Rattle.ws_frame.specs.Header.{AreBytes}
-use Rattle.ws_frame.specs.Frame.{Frame, KeyedFrame, frame_bytes, stream_bytes}
+use Rattle.ws_frame.specs.Frame.{Frame, stream_bytes}
 use Rattle.ws_frame.proofs.Numbers.{front_bytes}
 use Rattle.ws_session.specs.declared.event.Event.{Event}
 use Rattle.ws_session.specs.declared.event.PlacedEvent.{PlacedEvent}
 use Rattle.ws_session.specs.declared.status.Status.TheVariants as status
-use Rattle.ws_session.specs.Limits.{LimitsValue}
 use Rattle.ws_session.specs.Events.{HasEvents}
 use Rattle.ws_session.specs.Replies.{replies_by, under_key}
 use Rattle.ws_session.specs.Exchange.{SessionValue, Exchange, HasExchanged, is_over}
 use Rattle.ws_session.specs.Taking.{TakeCall, Takes, HasTaken, events_in, ending_by, TakesAll, HasTakenAll}
-use Rattle.ws_session.specs.Inside.{placed_at, HasTakenFront}
+use Rattle.ws_session.specs.InnerInvariant.{placed_at, HasTakenFront}
 use Rattle.ws_session.proofs.Calls.{exchange_of, call_of}
 use Rattle.ws_session.proofs.ByteLists.{back_are_bytes}
 use Rattle.ws_session.proofs.Over.{over_events, over_agrees, not_lost, replies_by-append}
-use Rattle.ws_session.proofs.Statuses.{no_replies}
+use Rattle.ws_session.proofs.StatusReplies.{no_replies}
+use Rattle.ws_session.proofs.PlacedEvents.{EndWithin, all_ending, at_session, back_to, events_with, none_later, placed_within, put_more, take_past, within_append, within_more}
 
 -- ---- a call of a session that is over
 
@@ -49,57 +46,6 @@ open_not_lost v exchange unended h = not_lost v exchange.sent exchange.taken (su
 
 pub taken_over : (reply : Event → List Frame) (old : SessionValue) (call : TakeCall) → is_over old.status ≡ true → AreBytes call.piece → call.after ≡ call.before → HasTaken reply old old call (record { used = length call.piece; event = None })
 taken_over reply old call over bytes put exchange unended h = takes_over reply old exchange call h over (open_not_lost old exchange unended h) bytes put
-
--- ---- places
-
-abbrev EndWithin : ℕ → List PlacedEvent → Type 0
-EndWithin n told = AllByRecursion (λ (placed : PlacedEvent). placed.end ≤ n) told
-
-within_more : (n m : ℕ) (told : List PlacedEvent) → n ≤ m → EndWithin n told → EndWithin m told
-within_more n m [] le h = tt
-within_more n m (x ∷ told) le h = (omega (arith, h.0), within_more n m told le h.1)
-
-within_append : (n : ℕ) (told more : List PlacedEvent) → EndWithin n told → EndWithin n more → EndWithin n (told ++ more)
-within_append n [] more h k = k
-within_append n (x ∷ told) more h k = (h.0, within_append n told more h.1 k)
-
-placed_within : (end : ℕ) (o : Option Event) → EndWithin end (placed_at end o)
-placed_within end None = tt
-placed_within end (Some e) = (omega arith, tt)
-
--- where all end by there
-all_ending : (n : ℕ) (told : List PlacedEvent) → EndWithin n told → ending_by n told ≡ told
-all_ending n [] h = refl
-all_ending n (x ∷ told) h = ap (λ b. cond b (x ∷ ending_by n told) []) (le-leb x.end n h.0) ∙ ap (λ (l : List PlacedEvent). x ∷ l) (all_ending n told h.1)
-
--- one that ends later adds nothing
-none_later : (n : ℕ) (told : List PlacedEvent) (end : ℕ) (o : Option Event) → n < end → ending_by n (told ++ placed_at end o) ≡ ending_by n told
-none_later n told end None lt = ap (λ (l : List PlacedEvent). ending_by n l) (append-nil told)
-none_later n [] end (Some e) lt = ap (λ b. cond b (placed_at end (Some e)) []) (lt-leb end n lt)
-none_later n (x ∷ told) end (Some e) lt = ap (λ (l : List PlacedEvent). cond (nat_le x.end n) (x ∷ l) []) (none_later n told end (Some e) lt)
-
-event_at : (end : ℕ) (o : Option Event) → events_in (placed_at end o) ≡ option_to_list o
-event_at end None = refl
-event_at end (Some e) = refl
-
-events_with : (told : List PlacedEvent) (end : ℕ) (o : Option Event) → events_in (told ++ placed_at end o) ≡ events_in told ++ option_to_list o
-events_with told end o = map-append (λ (placed : PlacedEvent). placed.event) told (placed_at end o) ∙ ap (λ (l : List Event). events_in told ++ l) (event_at end o)
-
--- a front of two parts that reaches into the second
-take_past : (front rest : List ℕ) (n : ℕ) → length front < n → take n (front ++ rest) ≡ front ++ take (n - length front) rest
-take_past front rest n lt =
-    ap (λ k. take k (front ++ rest)) (omega arith) ∙ take-append-add front rest (n - length front)
-
-pub put_more : (role : Role) (key : List ℕ) (fs gs : List Frame) → stream_bytes (map (under_key role key) (fs ++ gs)) ≡ stream_bytes (map (under_key role key) fs) ++ stream_bytes (map (under_key role key) gs)
-put_more role key fs gs = ap (λ (l : List KeyedFrame). stream_bytes l) (map-append (under_key role key) fs gs) ∙ flat_map-append frame_bytes (map (under_key role key) fs) (map (under_key role key) gs)
-
--- the same events at an equal role and equal limits
-pub at_session : (v w : SessionValue) → (w.role ≡ v.role) × (w.limits ≡ v.limits) → (s : List ℕ) (es : List Event) → HasEvents v.role v.limits s es → HasEvents w.role w.limits s es
-at_session v w same s es has =
-    subst (λ (k : LimitsValue). HasEvents w.role k s es) (sym same.1) (subst (λ (k : Role). HasEvents k v.limits s es) (sym same.0) has)
-
-back_to : (v w : SessionValue) → (w.role ≡ v.role) × (w.limits ≡ v.limits) → (s : List ℕ) (es : List Event) → HasEvents w.role w.limits s es → HasEvents v.role v.limits s es
-back_to v w same s es has = at_session w v (sym same.0, sym same.1) s es has
 
 -- ---- nothing of a piece
 

@@ -16,7 +16,7 @@ use Rattle.ws_session.specs.Limits.{LimitsValue}
 use Rattle.ws_session.specs.Messages.{is_close, open_message_of}
 use Rattle.ws_session.specs.Faults.{frames_of, IsNoClose, IsFaultAt}
 use Rattle.ws_session.specs.Events.{event_of, events_after, through_close, ending_before, events_of, IsFaultOf, HasEvents}
-use Rattle.ws_session.specs.NextFrame.{AreSent, HasNoFaultOfNext}
+use Rattle.ws_session.specs.InnerNextFrame.{AreSent, HasNoFaultOfNext}
 use Rattle.ws_session.proofs.Next.{place_is, two_bytes, within_front, next_later, fault_of_next}
 use Rattle.ws_session.proofs.Within.{split_all}
 

@@ -17,7 +17,7 @@ use Rattle.ws_session.specs.Limits.{LimitsValue}
 use Rattle.ws_session.specs.Messages.{is_control, is_close, data_frames, groups_of, kind_of, joined_payload, message_of, message_if_any, open_message_of}
 use Rattle.ws_session.specs.Faults.{frames_of, expects_key, open_payload, IsNoClose, IsFaultAt, HasNoFault}
 use Rattle.ws_session.specs.Events.{event_of_control, events_after, through_close, ending_before, events_of, IsFaultOf, HasEvents, close_in}
-use Rattle.ws_session.specs.NextFrame.{AreSent, HasNoFaultOfNext}
+use Rattle.ws_session.specs.InnerNextFrame.{AreSent, HasNoFaultOfNext}
 use Rattle.ws_session.specs.Messages.{kind_of, joined_payload, message_if_any}
 use Rattle.ws_session.specs.Validity.{AreValidFrames, IsValidGroup, NothingAfterClose}
 use Rattle.ws_session.specs.Faults.{IsOpenText, KeysFit}
@@ -26,7 +26,8 @@ use Rattle.ws_session.proofs.Next.{still_clean, fault_of_next}
 use Rattle.ws_session.proofs.Fresh.{no_fault_in_nothing}
 use Rattle.ws_session.proofs.Payloads.{text_of}
 use Rattle.ws_session.proofs.Valid.{no_both, false_of, not_empty, all_before, NoneCloses, valid_front, valid_snoc, valid_nothing}
-use Rattle.ws_session.proofs.FineFrames.{valid_is_fine, fine_is_valid}
+use Rattle.ws_session.proofs.FineFrames.{valid_is_fine}
+use Rattle.ws_session.proofs.FaultlessFrames.{fine_is_valid}
 use Rattle.ws_session.specs.Exchange.{last_event}
 use Rattle.ws_session.proofs.Statuses.{last_snoc}
 

@@ -1,30 +1,26 @@
 -- When a call that takes bytes may want memory.
-use Rattle.std.proofs.Common.{◌≡◌, ◌≢◌, ℕ, suc, ◌+◌, ◌-◌, ◌<◌, ◌≤◌, ◌⊎◌, Bool, false, List, [], ◌∷◌, ◌++◌, length, take, drop, Option, Some, None, refl, sym, ap, ◌∙◌, append_assoc, arith, inl, inr, subst}
-use Rattle.std.specs.Prelude.{min, option_to_list, Result, Ok, Err, OnErr}
+use Rattle.std.proofs.Common.{◌≡◌, ℕ, ◌+◌, ◌-◌, ◌<◌, ◌≤◌, false, List, [], ◌∷◌, ◌++◌, length, take, drop, Option, Some, None, refl, sym, ap, ◌∙◌, append_assoc, arith, inl, inr, subst}
+use Rattle.std.specs.Prelude.{option_to_list, Result, Ok, Err, OnErr}
 use Rattle.std.proofs.lemmas.Bool.{cases_lt}
 use Rattle.std.proofs.lemmas.List.{length-append, append-nil, take-append-drop, length-take, length-take-le, length-drop, take-take, take_all, drop_all}
 use Rattle.std.proofs.Math.Seq.{take-append-add}
 use Rattle.ws_frame.specs.declared.role.Role.{Role}
 use Rattle.ws_frame.specs.Header.{HeaderFields, AreBytes, header_bytes}
 use Rattle.ws_frame.specs.Masking.{masked_payload}
-use Rattle.ws_frame.specs.Frame.{Frame, stream_bytes}
+use Rattle.ws_frame.specs.Frame.{stream_bytes}
 use Rattle.ws_frame.specs.Reading.{Begins}
-use Rattle.ws_frame.proofs.Headers.{header_parts}
 use Rattle.ws_frame.proofs.Masks.{masked_payload_twice, length-masked_payload}
 use Rattle.ws_frame.proofs.Numbers.{front_bytes}
 use Rattle.ws_session.specs.declared.message.Message.{Message}
-use Rattle.ws_session.specs.declared.reason.Reason.{Reason}
 use Rattle.ws_session.specs.declared.reason.Reason.TheVariants.{ReservedBits, Opcode, MaskWrong, NotShortest, BadLength, ControlCut, ControlLong, NothingToContinue, MessageOpen, TooBig, FrameBig, NotText, TextCut, CloseOneByte, CloseCode, CloseReason}
 use Rattle.ws_session.specs.declared.event.Event.{Event}
 use Rattle.ws_session.specs.declared.event.Taken.{Taken}
 use Rattle.ws_session.specs.Limits.{LimitsValue}
-use Rattle.ws_session.specs.Events.{HasEvents}
 use Rattle.ws_session.specs.Exchange.{SessionValue, Exchange, HasExchanged, is_over}
-use Rattle.ws_session.specs.Memory.{WouldTake, EndsInData, HoldsData}
-use Rattle.ws_session.specs.Checking.{NoneAtHeader, NoneInPayload}
-use Rattle.ws_session.specs.NextFrame.{IsPartOfFrame}
-use Rattle.ws_session.specs.Receiving.{HasNewData}
-use Rattle.ws_session.proofs.ByteLists.{bytes_append}
+use Rattle.ws_session.specs.Memory.{WouldTake, HoldsData}
+use Rattle.ws_session.specs.InnerChecking.{NoneAtHeader, NoneInPayload}
+use Rattle.ws_session.specs.InnerNextFrame.{IsPartOfFrame}
+use Rattle.ws_session.specs.InnerReceiving.{HasNewData}
 use Rattle.ws_session.proofs.EventsGoOn.{one_events}
 use Rattle.ws_session.proofs.Frames.{part_checked}
 use Rattle.ws_session.proofs.OneMoreFrame.{quiet_events}

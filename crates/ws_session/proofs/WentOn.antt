@@ -1,5 +1,5 @@
 -- A piece inside the payload of the frame under way.
-use Rattle.std.proofs.Common.{◌≡◌, ℕ, ◌+◌, ◌≤◌, ◌<◌, List, ◌++◌, length, take, Option, sym, ap, ◌∙◌, arith, subst}
+use Rattle.std.proofs.Common.{◌≡◌, ℕ, ◌+◌, ◌≤◌, ◌<◌, List, ◌++◌, length, take, Option, sym, ap, arith, subst}
 use Rattle.ws_frame.specs.declared.role.Role.{Role}
 use Rattle.ws_frame.specs.Header.{HeaderFields, AreBytes, header_bytes}
 use Rattle.ws_session.specs.declared.message.Message.{Message}
@@ -7,9 +7,9 @@ use Rattle.ws_session.specs.declared.receiver.under_way.UnderWay.TheVariants as 
 use Rattle.ws_session.specs.declared.receiver.frame_check.FrameCheck.TheVariants as check
 use Rattle.ws_session.specs.Limits.{LimitsValue}
 use Rattle.ws_session.specs.Faults.{open_payload}
-use Rattle.ws_session.specs.NextFrame.{IsPartOfFrame}
-use Rattle.ws_session.specs.Receiving.{AssemblyValue, with_text, frame_payload, first_bytes, HasKept, IsJoined, arrived_payload, partial_of, IsUnderWay, IsPayloadCheck, IsFrameCheck}
-use Rattle.ws_session.specs.Receiver.{receiver_of, length_so_far, IsSoundReceiver, IsReceiving}
+use Rattle.ws_session.specs.InnerNextFrame.{IsPartOfFrame}
+use Rattle.ws_session.specs.InnerReceiving.{AssemblyValue, with_text, frame_payload, first_bytes, HasKept, IsJoined, arrived_payload, partial_of, IsUnderWay, IsPayloadCheck, IsFrameCheck}
+use Rattle.ws_session.specs.InnerReceiver.{receiver_of, length_so_far, IsSoundReceiver, IsReceiving}
 use Rattle.ws_session.proofs.ByteLists.{bytes_append}
 use Rattle.ws_session.proofs.Kept.{partial_len}
 use Rattle.ws_session.proofs.Pieces.{piece_of_data, same_partial, still_data}

@@ -15,7 +15,7 @@ use Rattle.ws_session.specs.Messages.{is_close}
 use Rattle.ws_session.specs.Faults.{frames_of}
 use Rattle.ws_session.specs.Validity.{CloseIsLast, AreValidFrames}
 use Rattle.ws_session.specs.Replies.{has_close}
-use Rattle.ws_session.specs.NextFrame.{AreSent, header_of}
+use Rattle.ws_session.specs.InnerNextFrame.{AreSent, header_of}
 use Rattle.ws_session.specs.Reach.{passes_limit, size_reason, fitting_after, fitting, first_passing_after, first_passing, ending_within, frames_within, PassingFrame, reason_within, size_fault}
 use Rattle.ws_session.proofs.Next.{length-frame_bytes, two_bytes}
 use Rattle.ws_session.proofs.OneMoreFrame.{none_in_nothing}

@@ -19,7 +19,7 @@ use Rattle.ws_session.specs.Events.{HasEvents}
 use Rattle.ws_session.specs.Replies.{reply_to}
 use Rattle.ws_session.specs.Exchange.{SessionValue, HasExchanged}
 use Rattle.ws_session.specs.Taking.{Takes}
-use Rattle.ws_session.specs.NextFrame.{BeginsNoFrame, header_of}
+use Rattle.ws_session.specs.InnerNextFrame.{BeginsNoFrame, header_of}
 use Rattle.ws_session.proofs.Calls.{exchange_of, call_of}
 use Rattle.ws_session.proofs.EventsGoOn.{one_events}
 use Rattle.ws_session.proofs.Next.{place_is, two_bytes, length-frame_bytes}

@@ -119,8 +119,9 @@ abbrev pub IsNoClose : KeyedFrame → Type 0
 IsNoClose x = is_close x.frame ≡ false
 
 -- `bytes[..place]` is whole frames, none a close, then the complete header of one more frame, in any form, and some of
--- its payload; the reason applies to that frame, given the message that the frames leave open. Nothing is asked of the
--- frames before: a rule broken there is a fault at a smaller place
+-- its payload; the reason applies to that frame, given the message that the frames leave open. Of the frames before
+-- nothing more is asked than that they are whole, in the shortest form and no close: a rule broken there is a fault at
+-- a smaller place
 pub record IsFaultAt (role : Role) (limits : LimitsValue) (bytes : List ℕ) (place : ℕ) (reason : Reason) : Type 0 where
   pub before : List KeyedFrame
   pub sent : AllByRecursion FitsTheLayout before

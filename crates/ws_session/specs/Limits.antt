@@ -1,5 +1,5 @@
 -- What a session takes at most.
-use Rattle.std.specs.Prelude.{ℕ, ◌≡◌, ◌≤◌}
+use Rattle.std.specs.Prelude.{ℕ, ◌≤◌}
 
 -- the most payload bytes of one message, and of one data frame
 -- our choice: section 10.4 asks for such limits and leaves them to the endpoint

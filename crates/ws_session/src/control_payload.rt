@@ -1,7 +1,7 @@
 //! The payload of a control frame (RFC 6455 section 5.5).
 
 ghost use Rattle.std.specs.Prelude.{◌≡◌, ◌≤◌, ◌+◌, ◌-◌, ◌++◌, List, ℕ, length, drop, replicate};
-ghost use Rattle.ws_session.specs.Masked.{masked_from};
+ghost use Rattle.ws_session.specs.InnerMasked.{masked_from};
 
 use std::marker::Model;
 use ws_frame::mask;

@@ -39,7 +39,7 @@ pub struct Taken {
 #[derive(Drop)]
 pub struct PlacedEvent {
     pub event: Event,
-    /// How many bytes of the piece there are up to the last one of the event, counted from 1.
+    /// How many bytes of the piece the event takes, with its last one.
     pub end: usize,
 }
 

@@ -8,12 +8,13 @@ ghost use Rattle.ws_session.specs.Faults.{open_payload};
 ghost use Rattle.ws_session.specs.Exchange.{SendingValue, is_over};
 ghost use Rattle.ws_session.specs.Taking.{HasTaken};
 ghost use Rattle.ws_session.specs.Memory.{WantsMemory};
-ghost use Rattle.ws_session.specs.Inside.{CanAnswer, reply_by};
-ghost use Rattle.ws_session.specs.Receiver.{IsSoundReceiver, session_with, status_by};
+ghost use Rattle.ws_session.specs.InnerInvariant.{CanAnswer, reply_by};
+ghost use Rattle.ws_session.specs.InnerReceiver.{IsSoundReceiver, session_with, status_by};
 
 mod assembly;
 mod checking;
 mod control_frame;
+mod data_frame;
 mod data_payload;
 mod frame_check;
 mod frame_end;
@@ -46,7 +47,7 @@ pub(crate) struct Receiver {
 }
 
 impl Model for Receiver {
-    ghost use Rattle.ws_session.specs.Receiver.{ReceiverValue, receiver_of, IsReceiving};
+    ghost use Rattle.ws_session.specs.InnerReceiver.{ReceiverValue, receiver_of, IsReceiving};
 
     ghost Value = { ReceiverValue };
 
@@ -103,6 +104,43 @@ impl Receiver {
     /// Takes bytes from the front of a piece, up to the end of one frame or to a fault, and puts what is owed for that
     /// at the end of `out`. `NoMemory` leaves all as it was.
     pub(crate) fn take(
+        &mut self,
+        replying: &Replying,
+        piece: &[u8],
+        out: &mut Vec<u8>,
+    ) -> Result<Taken, NoMemory>
+        requires role { replying.now.role ≡ self.old.role }
+        requires going { is_over replying.now.status ≡ false }
+        ensures taken { (sending : Option SendingValue) → CanAnswer replying.now.answering sending
+            → IfOk result (λ taken. HasTaken (reply_by replying.now.answering)
+            (session_with self.old sending replying.now.status)
+            (session_with self.new sending (status_by replying.now.status taken.event))
+            (record { piece = piece.now; key = replying.now.key; before = out.old.items; after = out.new.items })
+            taken) }
+
+        // At least one byte is used where there is one.
+        ensures used { IfOk result (λ taken. (0 < length piece.now → 0 < taken.used)
+            × (taken.used ≤ length piece.now)) }
+        ensures sound { IsSoundReceiver self.new }
+        ensures role { self.new.role ≡ self.old.role }
+        ensures limits { self.new.limits ≡ self.old.limits }
+        ensures over { IfOk result (λ taken. is_over (status_by replying.now.status taken.event) ≡ true →
+            (self.new.opened ≡ None) × (self.new.partial_frame ≡ [])) }
+        ensures kept { OnErr result ((self.new.opened ≡ self.old.opened)
+            × (self.new.partial_frame ≡ self.old.partial_frame) × (out.new.items ≡ out.old.items)) }
+        ensures memory { (sending : Option SendingValue) → CanAnswer replying.now.answering sending
+            → OnErr result (WantsMemory (reply_by replying.now.answering)
+            (session_with self.old sending replying.now.status) piece.now) }
+    {
+        if let Some(taken) = self.take_data_frame(replying, piece, out)? {
+            return Ok(taken);
+        }
+        let taken = self.take_checked(replying, piece, out)?;
+        Ok(taken)
+    }
+
+    /// The same on the common way, whatever the piece holds.
+    fn take_checked(
         &mut self,
         replying: &Replying,
         piece: &[u8],

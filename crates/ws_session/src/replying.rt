@@ -4,9 +4,9 @@ ghost use Rattle.std.specs.Prelude.{◌≡◌, ◌≢◌, ◌≤◌, ◌<◌, �
 ghost use Rattle.ws_frame.specs.Frame.{Frame, FitsTheLayout, frame_bytes};
 ghost use Rattle.ws_session.specs.Replies.{control_frame, under_key};
 ghost use Rattle.ws_session.specs.declared.message.Message.{Message};
-ghost use Rattle.ws_session.specs.NextFrame.{due_at};
-ghost use Rattle.ws_session.specs.Inside.{reply_to_message};
-ghost use Rattle.ws_session.specs.Replying.{bytes_put};
+ghost use Rattle.ws_session.specs.InnerNextFrame.{due_at};
+ghost use Rattle.ws_session.specs.InnerInvariant.{reply_to_message};
+ghost use Rattle.ws_session.specs.InnerReplying.{bytes_put};
 
 use crate::message::Kind;
 use crate::session::Answering;

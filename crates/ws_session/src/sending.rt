@@ -2,12 +2,13 @@
 
 ghost use Rattle.std.specs.Prelude.{◌≡◌, ◌↔◌, ◌≤◌, ℕ, List, ◌++◌, length, is_some, if◌then◌else◌, MatchOption};
 ghost use Rattle.std.specs.Prelude.{MatchResult, OnOk, Option, None, Some};
-ghost use Rattle.ws_text.specs.Stream.{HasRead};
+ghost use Rattle.ws_text.specs.Stream.{HasReadText};
 ghost use Rattle.ws_session.specs.declared.message.Message.{Message};
 ghost use Rattle.ws_session.specs.declared.message.Kind.TheVariants as OfKind;
 ghost use Rattle.ws_session.specs.Exchange.{IsSendingOf};
 ghost use Rattle.ws_session.specs.Sends.{Begin, More, IsNoText};
-ghost use Rattle.ws_session.specs.Sending.{HasReadSome, IsSentBehind, IsRefusedBehind, IsSentWith, IsFirstWrongWith};
+ghost use Rattle.ws_session.specs.InnerSending.{HasReadSome, IsSentBehind, IsRefusedBehind, IsSentWith};
+ghost use Rattle.ws_session.specs.InnerSending.{IsFirstWrongWith};
 
 use crate::message::Kind;
 use crate::send_fault::SendFault;
@@ -36,7 +37,7 @@ impl Model for Sending {
 
     ghost Value = { Option SendingValue };
 
-    ghost use Rattle.ws_session.specs.Sending.{sending_of, CanGoOn};
+    ghost use Rattle.ws_session.specs.InnerSending.{sending_of, CanGoOn};
 
     ghost view = { λ s. sending_of s.open };
 
@@ -98,7 +99,7 @@ fn after_text(
     requires read { HasReadSome text }
     ensures short { OnOk result (length payload.now ≤ 16777216) }
     ensures checked { (message : Message) → message.kind ≡ OfKind.Text → size ≡ length message.payload →
-        HasRead text message.payload →
+        HasReadText text message.payload →
         MatchResult result (IsSentBehind message payload.now fin) (IsRefusedBehind message payload.now fin) }
 {
     let Some(text) = read(text, payload, fin) else {
@@ -121,9 +122,9 @@ fn after_text(
 /// The stream after one more payload of a text. `None` where the text can't go on so, or ends inside a
 /// character.
 fn read(text: Utf8Stream, payload: &[u8], fin: bool) -> Option<Utf8Stream>
-    ensures { (before : List ℕ) → HasRead text before →
+    ensures { (before : List ℕ) → HasReadText text before →
         MatchOption result (IsNoText fin (before ++ payload.now))
-        (λ new. HasRead new (before ++ payload.now) × (¬ IsNoText fin (before ++ payload.now))) }
+        (λ new. HasReadText new (before ++ payload.now) × (¬ IsNoText fin (before ++ payload.now))) }
 {
     let mut text = text;
     if text.push(payload).is_err() {

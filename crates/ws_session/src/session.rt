@@ -9,7 +9,7 @@ ghost use Rattle.ws_session.specs.Replies.{reply_to};
 ghost use Rattle.ws_session.specs.Exchange.{HasExchanged, HasSomeExchange, is_over};
 ghost use Rattle.ws_session.specs.Taking.{HasTaken, TakesNothing};
 ghost use Rattle.ws_session.specs.Memory.{WantsMemory};
-ghost use Rattle.ws_session.specs.Inside.{CanAnswer, reply_by};
+ghost use Rattle.ws_session.specs.InnerInvariant.{CanAnswer, reply_by};
 
 mod sends;
 mod state;
@@ -24,8 +24,13 @@ use std::marker::Model;
 use ws_base::NoMemory;
 use ws_frame::Role;
 
-/// One endpoint of a connection: it takes bytes and gives events and bytes. No stream, clock or
-/// random source is its own.
+/// One endpoint of a connection: it takes bytes and gives events and bytes. No stream, clock or random source is its
+/// own.
+///
+/// What `take` and the sends put at `out` is to be written to the other end, and then cleared. Once
+/// `status().is_over()`, write it and end the connection (RFC 6455 section 7.1.1). Call `end` where the stream ends.
+/// Section 5.3 asks a client for a fresh masking key for each frame, which nobody can guess: keys are handed in, and
+/// all that a call puts is masked under its one key.
 #[derive(Drop)]
 pub struct Session {
     state: State,

@@ -3,10 +3,10 @@
 
 ghost use Rattle.std.specs.Prelude.{◌≡◌, ◌↔◌, ◌≤◌, ◌<◌, ◌++◌, ◌∷◌, [], length, drop, is_some, IsTrue};
 ghost use Rattle.std.specs.Prelude.{OnOk, OnErr, Some, None};
-ghost use Rattle.ws_text.specs.Stream.{HasRead};
+ghost use Rattle.ws_text.specs.Stream.{HasReadText};
 ghost use Rattle.ws_session.specs.Faults.{open_payload, IsOpenText};
-ghost use Rattle.ws_session.specs.Masked.{masked_from};
-ghost use Rattle.ws_session.specs.Receiving.{HasKept, IsJoined, first_bytes, frame_payload, kind_with};
+ghost use Rattle.ws_session.specs.InnerMasked.{masked_from};
+ghost use Rattle.ws_session.specs.InnerReceiving.{HasKept, IsJoined, first_bytes, frame_payload, kind_with};
 
 use crate::message::{Kind, Message};
 use std::alloc::Global;
@@ -30,7 +30,7 @@ pub(crate) struct Assembly {
 }
 
 impl Model for Assembly {
-    ghost use Rattle.ws_session.specs.Receiving.{AssemblyValue, HasFirst, message_of_first};
+    ghost use Rattle.ws_session.specs.InnerReceiving.{AssemblyValue, HasFirst, message_of_first};
 
     ghost Value = { AssemblyValue };
 
@@ -48,7 +48,7 @@ impl Assembly {
     pub(crate) fn new(alloc: Global) -> Assembly
         ensures opened { result.opened ≡ None }
         ensures payload { result.payload ≡ [] }
-        ensures text { HasRead result.text [] }
+        ensures text { HasReadText result.text [] }
     {
         Assembly {
             alloc,
@@ -161,7 +161,7 @@ impl Assembly {
         ensures message { result ≡ record { kind = kind; payload = self.old.payload } }
         ensures opened { self.new.opened ≡ None }
         ensures payload { self.new.payload ≡ [] }
-        ensures text { HasRead self.new.text [] }
+        ensures text { HasReadText self.new.text [] }
     {
         let payload = replace(&mut self.payload, Vec::new(self.alloc));
         self.kind = None;
@@ -177,7 +177,7 @@ impl Assembly {
     pub(crate) fn clear(&mut self)
         ensures opened { self.new.opened ≡ None }
         ensures payload { self.new.payload ≡ [] }
-        ensures text { HasRead self.new.text [] }
+        ensures text { HasReadText self.new.text [] }
     {
         *self = Assembly::new(self.alloc);
     }

@@ -1,16 +1,18 @@
 //! What a piece makes of the frame under way, and of it alone: no byte behind that frame is looked at.
 
-ghost use Rattle.std.specs.Prelude.{◌≡◌, ◌++◌, length, IfOk, OnErr};
+ghost use Rattle.std.specs.Prelude.{◌≡◌, ◌++◌, length, IfOk, IfSome, OnErr};
 ghost use Rattle.ws_frame.specs.Header.{AreBytes};
+ghost use Rattle.ws_session.specs.declared.receiver.frame_check.FrameCheck.TheVariants as FrameCheck;
+ghost use Rattle.ws_session.specs.declared.receiver.frame_check.Content.TheVariants as Content;
 ghost use Rattle.ws_session.specs.declared.receiver.under_way.UnderWay.TheVariants as UnderWay;
-ghost use Rattle.ws_session.specs.Receiving.{IsUnderWay, IsJoined, HasNewData, partial_of, IsFrameCheck};
+ghost use Rattle.ws_session.specs.InnerReceiving.{IsUnderWay, IsJoined, HasNewData, partial_of, IsFrameCheck};
 
 use crate::control_payload::Small;
 use crate::limits::Limits;
 use crate::receiver::assembly::Assembly;
 use crate::receiver::control_frame::check_control;
-use crate::receiver::data_payload::check_data;
-use crate::receiver::frame_check::FrameCheck;
+use crate::receiver::data_payload::{check_data, check_whole};
+use crate::receiver::frame_check::{DataFrame, FrameCheck};
 use crate::receiver::header_end::complete_header;
 use crate::receiver::header_rules::reason_at_header;
 use crate::receiver::under_way::UnderWay;
@@ -53,6 +55,44 @@ pub(super) fn check_piece(
             Ok(check_control(assembly, header, payload, 0, piece))
         }
     }
+}
+
+/// Checks a data frame that stands whole at the front of the piece, where nothing of it came before. `None` where there
+/// is no such frame, or something is wrong with it: then `check_piece` tells what the piece is.
+pub(super) fn check_data_frame(
+    role: Role,
+    limits: Limits,
+    assembly: &mut Assembly,
+    kept: &Small,
+    piece: &[u8],
+) -> Result<Option<DataFrame>, NoMemory>
+    requires { IsUnderWay role limits assembly.old (UnderWay.Header kept.now) }
+    ensures checked { IfOk result (λ found. IfSome found (λ frame. IsFrameCheck role limits assembly.new
+        (length kept.now) (kept.now ++ piece.now)
+        (FrameCheck.Whole frame.used (Content.Data frame.fin frame.kind frame.text)))) }
+    ensures opened { assembly.new.opened ≡ assembly.old.opened }
+    ensures text { assembly.new.text ≡ assembly.old.text }
+    ensures joined { IsJoined assembly.new }
+    ensures wants { OnErr result (HasNewData role limits assembly.old.opened (length kept.now)
+        (kept.now ++ piece.now)) }
+{
+    if !kept.as_slice().is_empty() {
+        return Ok(None);
+    }
+    let Some(end) = complete_header(kept, piece) else {
+        return Ok(None);
+    };
+    let rest = &piece[end.used..];
+    if end.header.opcode() > 2 || end.header.payload_len() > rest.len() as u64 {
+        return Ok(None);
+    }
+    if let Some(_) = reason_at_header(role, limits, assembly, &end.header) {
+        return Ok(None);
+    }
+    let Some(frame) = check_whole(assembly, &end.header, end.used, rest)? else {
+        return Ok(None);
+    };
+    Ok(Some(frame))
 }
 
 /// Checks a piece after a part of a header.

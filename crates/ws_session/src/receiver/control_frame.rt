@@ -2,8 +2,8 @@
 
 ghost use Rattle.std.specs.Prelude.{◌≡◌, ◌+◌, ◌≤◌, ◌<◌, ◌^◌, length};
 ghost use Rattle.ws_session.specs.Faults.{IsControl};
-ghost use Rattle.ws_session.specs.Checking.{reason_of_close};
-ghost use Rattle.ws_session.specs.Receiving.{AssemblyValue, arrived_payload, IsPayloadCheck, IsWholeControl};
+ghost use Rattle.ws_session.specs.InnerChecking.{reason_of_close};
+ghost use Rattle.ws_session.specs.InnerReceiving.{AssemblyValue, arrived_payload, IsPayloadCheck, IsWholeControl};
 
 use crate::control_payload::Small;
 use crate::opcode::{CLOSE, PING};

@@ -2,20 +2,21 @@
 
 ghost use Rattle.std.specs.Prelude.{◌≡◌, ◌↔◌, ◌+◌, ◌≤◌, ◌<◌, ◌^◌, ℕ, List, length, take, true, IsTrue, IfOk, OnOk};
 ghost use Rattle.std.specs.Prelude.{MatchResult, OnErr, None, IfSome};
-ghost use Rattle.ws_session.specs.declared.receiver.frame_check.FrameCheck.TheVariants.{Need};
+ghost use Rattle.ws_session.specs.declared.receiver.frame_check.FrameCheck.TheVariants.{Need, Whole};
+ghost use Rattle.ws_session.specs.declared.receiver.frame_check.Content.TheVariants as ContentOf;
 ghost use Rattle.ws_session.specs.declared.receiver.under_way.UnderWay.TheVariants.{Data};
 ghost use Rattle.ws_text.specs.Text.{IsText};
-ghost use Rattle.ws_text.specs.Stream.{HasRead};
+ghost use Rattle.ws_text.specs.Stream.{HasReadText};
 ghost use Rattle.ws_session.specs.Messages.{kind_of};
 ghost use Rattle.ws_session.specs.Faults.{IsOfText};
-ghost use Rattle.ws_session.specs.Receiving.{HasKept, IsJoined, first_bytes, frame_payload, arrived_payload};
-ghost use Rattle.ws_session.specs.Receiving.{IsPayloadCheck, IsTextRead, IsTextFault, IsWithoutFault};
+ghost use Rattle.ws_session.specs.InnerReceiving.{HasKept, IsJoined, first_bytes, frame_payload, arrived_payload};
+ghost use Rattle.ws_session.specs.InnerReceiving.{IsPayloadCheck, IsTextRead, IsTextFault, IsWithoutFault};
 
 use crate::message::Kind;
 use crate::opcode::{CONTINUATION, TEXT};
 use crate::reason::Reason;
 use crate::receiver::assembly::Assembly;
-use crate::receiver::frame_check::{Content, FrameCheck};
+use crate::receiver::frame_check::{Content, DataFrame, FrameCheck};
 use crate::receiver::under_way::UnderWay;
 use ws_base::NoMemory;
 use ws_frame::Header;
@@ -35,7 +36,7 @@ pub(super) fn check_data(
     requires within { came ≤ header.now.len }
     requires kept { HasKept assembly.old came }
     requires read { IsOfText assembly.old.opened header.now →
-        HasRead assembly.old.text (first_bytes assembly.old came) }
+        HasReadText assembly.old.text (first_bytes assembly.old came) }
     requires room { start + length rest.now < 2 ^ 64 }
     ensures checked { IfOk result (λ check. IsPayloadCheck header.now came start assembly.new
         (frame_payload assembly.new) check) }
@@ -73,7 +74,7 @@ pub(super) fn check_inside(
     requires within { came + length piece.now < header.now.len }
     requires kept { HasKept assembly.old came }
     requires read { IsOfText assembly.old.opened header.now →
-        HasRead assembly.old.text (first_bytes assembly.old came) }
+        HasReadText assembly.old.text (first_bytes assembly.old came) }
     ensures checked { IfOk result (λ read. IfSome read (λ text. IsPayloadCheck header.now came 0 assembly.new
         (frame_payload assembly.new) (Need (Data header.now (came + length piece.now)) text))) }
     ensures payload { OnOk result (frame_payload assembly.new
@@ -89,6 +90,43 @@ pub(super) fn check_inside(
     match check_text(assembly, header, came) {
         Err(_) => Ok(None),
         Ok(text) => Ok(Some(text)),
+    }
+}
+
+/// Puts a whole payload into the assembly, and checks it: the frame, and `None` where something is wrong with the text.
+/// `rest` is what the piece has after its first `start` bytes, where the payload begins.
+pub(super) fn check_whole(
+    assembly: &mut Assembly,
+    header: &Header,
+    start: usize,
+    rest: &[u8],
+) -> Result<Option<DataFrame>, NoMemory>
+    requires opcode { header.now.opcode ≤ 2 }
+    requires begins { 1 ≤ header.now.opcode → assembly.old.opened ≡ None }
+    requires whole { header.now.len ≤ length rest.now }
+    requires kept { HasKept assembly.old 0 }
+    requires read { IsOfText assembly.old.opened header.now →
+        HasReadText assembly.old.text (first_bytes assembly.old 0) }
+    requires room { start + length rest.now < 2 ^ 64 }
+    ensures checked { IfOk result (λ found. IfSome found (λ frame. IsPayloadCheck header.now 0 start assembly.new
+        (frame_payload assembly.new) (Whole frame.used (ContentOf.Data frame.fin frame.kind frame.text)))) }
+    ensures payload { OnOk result (frame_payload assembly.new
+        ≡ arrived_payload header.now (take 0 (frame_payload assembly.old)) rest.now) }
+    ensures joined { IsJoined assembly.new }
+    ensures opened { assembly.new.opened ≡ assembly.old.opened }
+    ensures text { assembly.new.text ≡ assembly.old.text }
+    ensures wants { OnErr result (0 < header.now.len) }
+{
+    let here = header.payload_len() as usize;
+    assembly.add(0, header.key(), &rest[..here])?;
+    match check_text(assembly, header, 0) {
+        Err(_) => Ok(None),
+        Ok(text) => Ok(Some(DataFrame {
+            used: start + here,
+            fin: header.fin(),
+            kind: assembly.kind_with(kind_of_opcode(header)),
+            text,
+        })),
     }
 }
 
@@ -145,7 +183,7 @@ fn check_text(
     requires kept { HasKept assembly.now came }
     requires joined { IsJoined assembly.now }
     requires read { IsOfText assembly.now.opened header.now →
-        HasRead assembly.now.text (first_bytes assembly.now came) }
+        HasReadText assembly.now.text (first_bytes assembly.now came) }
     ensures { MatchResult result (λ text. IsTextRead header.now assembly.now text)
         (λ fault. IsTextFault header.now came assembly.now fault.0 fault.1) }
 {
@@ -173,7 +211,7 @@ fn is_of_text(assembly: &Assembly, header: &Header) -> bool
 
 /// Whether the message ends with these bytes of those that are left of the payload, and the text doesn't.
 fn is_cut(header: &Header, count: usize, left: u64, text: &Utf8Stream) -> bool
-    ensures { (read : List ℕ) → HasRead text.now read →
+    ensures { (read : List ℕ) → HasReadText text.now read →
         (IsTrue result ↔ ((header.now.fin ≡ true) × (count ≡ left) × ¬ (IsText read))) }
 {
     header.fin() && count as u64 == left && !text.is_whole()

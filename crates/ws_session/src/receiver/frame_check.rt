@@ -32,3 +32,15 @@ pub(crate) enum FrameCheck {
     /// The first fault is told at the last of the first `used` bytes of the piece.
     Fault { reason: Reason, used: usize },
 }
+
+/// A whole data frame in which nothing is wrong. Its payload stands in the assembly, read by the stream where it is
+/// text.
+#[derive(Drop)]
+pub(super) struct DataFrame {
+    /// How many bytes of the piece it ends with.
+    pub(super) used: usize,
+    pub(super) fin: bool,
+    /// The kind of its message.
+    pub(super) kind: Kind,
+    pub(super) text: Utf8Stream,
+}

@@ -3,9 +3,9 @@
 
 ghost use Rattle.std.specs.Prelude.{◌≡◌, ◌≤◌, length, if◌then◌else◌, IfOk, OnErr, Some, None};
 ghost use Rattle.ws_session.specs.declared.event.Event.TheVariants as Event;
-ghost use Rattle.ws_session.specs.Assembly.{IsTextOf, HasReadOpen};
-ghost use Rattle.ws_session.specs.Receiver.{HasReceived, IsContentKept, FitsLimit, event_of_kept, opened_by};
-ghost use Rattle.ws_session.specs.Receiver.{IsOwed, kept_message};
+ghost use Rattle.ws_session.specs.InnerAssembly.{IsTextOf, HasReadOpen};
+ghost use Rattle.ws_session.specs.InnerReceiver.{HasReceived, IsContentKept, FitsLimit, event_of_kept, opened_by};
+ghost use Rattle.ws_session.specs.InnerReceiver.{IsOwed, kept_message};
 
 use crate::control_payload::Small;
 use crate::event::Event;
@@ -56,7 +56,7 @@ impl Receiver {
     }
 
     /// A whole data frame has come: a fragment, or a message that is handed out as it stands in the assembly.
-    fn on_data(
+    pub(super) fn on_data(
         &mut self,
         fin: bool,
         kind: Kind,

@@ -3,7 +3,7 @@
 ghost use Rattle.std.specs.Prelude.{MatchOption, ◌++◌};
 ghost use Rattle.ws_frame.specs.Header.{AreBytes};
 ghost use Rattle.ws_frame.specs.Reading.{Begins, BeginsNoHeader};
-ghost use Rattle.ws_session.specs.Receiving.{CompletesHeader};
+ghost use Rattle.ws_session.specs.InnerReceiving.{CompletesHeader};
 
 use crate::control_payload::Small;
 use ws_frame::{Header, HeaderRead, laws, read_header};

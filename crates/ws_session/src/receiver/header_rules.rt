@@ -2,7 +2,7 @@
 
 ghost use Rattle.std.specs.Prelude.{◌+◌, ◌<◌, ◌↔◌, IsTrue, length, MatchOption};
 ghost use Rattle.ws_session.specs.Faults.{IsControl, open_payload, AppliesAtHeader};
-ghost use Rattle.ws_session.specs.Checking.{NoneAtHeader, IsFirstAtHeader};
+ghost use Rattle.ws_session.specs.InnerChecking.{NoneAtHeader, IsFirstAtHeader};
 
 use crate::limits::Limits;
 use crate::reason::Reason;
@@ -38,16 +38,35 @@ pub(super) fn reason_at_header(
     ensures { MatchOption result (NoneAtHeader role limits assembly.now.opened header.now)
         (IsFirstAtHeader role limits assembly.now.opened header.now) }
 {
+    if is_fine_data(role, limits, assembly, header) {
+        return None;
+    }
     for reason in HEADER_REASONS {
-        if applies(reason, role, limits, assembly, header) {
+        if applies(role, limits, assembly, header, reason) {
             return Some(reason);
         }
     }
     None
 }
 
+/// Whether it is the header of a data frame to which no reason applies, as most are: told without going through the
+/// reasons one by one.
+fn is_fine_data(role: Role, limits: Limits, assembly: &Assembly, header: &Header) -> bool
+    ensures { IsTrue result → NoneAtHeader role limits assembly.now.opened header.now }
+{
+    header.opcode() <= 2
+        && !applies(role, limits, assembly, header, Reason::ReservedBits)
+        && !applies(role, limits, assembly, header, Reason::MaskWrong)
+        && !applies(role, limits, assembly, header, Reason::NotShortest)
+        && !applies(role, limits, assembly, header, Reason::BadLength)
+        && !applies(role, limits, assembly, header, Reason::NothingToContinue)
+        && !applies(role, limits, assembly, header, Reason::MessageOpen)
+        && !applies(role, limits, assembly, header, Reason::TooBig)
+        && !applies(role, limits, assembly, header, Reason::FrameBig)
+}
+
 /// Whether the reason applies at the end of the header. The reasons of a payload never do.
-fn applies(reason: Reason, role: Role, limits: Limits, assembly: &Assembly, header: &Header) -> bool
+fn applies(role: Role, limits: Limits, assembly: &Assembly, header: &Header, reason: Reason) -> bool
     ensures { IsTrue result ↔ AppliesAtHeader role limits assembly.now.opened header.now reason }
 {
     match reason {

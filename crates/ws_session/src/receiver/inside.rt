@@ -2,9 +2,9 @@
 
 ghost use Rattle.std.specs.Prelude.{◌≡◌, ◌++◌, length, true, false, IfOk, OnErr};
 ghost use Rattle.ws_frame.specs.Header.{AreBytes};
-ghost use Rattle.ws_session.specs.NextFrame.{IsPartOfFrame};
-ghost use Rattle.ws_session.specs.Receiving.{HasNewData};
-ghost use Rattle.ws_session.specs.Receiver.{IsSoundReceiver};
+ghost use Rattle.ws_session.specs.InnerNextFrame.{IsPartOfFrame};
+ghost use Rattle.ws_session.specs.InnerReceiving.{HasNewData};
+ghost use Rattle.ws_session.specs.InnerReceiver.{IsSoundReceiver};
 
 use crate::receiver::Receiver;
 use crate::receiver::data_payload::check_inside;

@@ -2,7 +2,7 @@
 
 ghost use Rattle.std.specs.Prelude.{◌≡◌, ◌+◌, ◌^◌, ◌≤◌, ◌<◌, length};
 ghost use Rattle.ws_frame.specs.Header.{header_bytes};
-ghost use Rattle.ws_session.specs.Receiver.{NotBegun, HasRoom, length_so_far, after_more};
+ghost use Rattle.ws_session.specs.InnerReceiver.{NotBegun, HasRoom, length_so_far, after_more};
 
 use crate::control_payload::Small;
 use ws_frame::{Form, Header};

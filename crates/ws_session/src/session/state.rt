@@ -6,8 +6,8 @@ ghost use Rattle.ws_session.specs.Faults.{open_payload};
 ghost use Rattle.ws_session.specs.Exchange.{is_over};
 ghost use Rattle.ws_session.specs.Taking.{HasTaken, TakesNothing};
 ghost use Rattle.ws_session.specs.Memory.{WantsMemory};
-ghost use Rattle.ws_session.specs.Inside.{CanAnswer, reply_by};
-ghost use Rattle.ws_session.specs.Receiver.{status_by};
+ghost use Rattle.ws_session.specs.InnerInvariant.{CanAnswer, reply_by};
+ghost use Rattle.ws_session.specs.InnerReceiver.{status_by};
 
 mod sends;
 
@@ -37,8 +37,8 @@ impl Model for State {
 
     ghost Value = { SessionValue };
 
-    ghost use Rattle.ws_session.specs.Inside.{IsSound};
-    ghost use Rattle.ws_session.specs.Receiver.{session_with};
+    ghost use Rattle.ws_session.specs.InnerInvariant.{IsSound};
+    ghost use Rattle.ws_session.specs.InnerReceiver.{session_with};
 
     ghost view = { λ s. session_with s.receiver s.sending s.status };
 

@@ -4,7 +4,7 @@ ghost use Rattle.std.specs.Prelude.{◌≡◌, ◌+◌, ◌^◌, ◌≤◌, ◌<
 ghost use Rattle.ws_session.specs.Replies.{reply_to};
 ghost use Rattle.ws_session.specs.Exchange.{is_over};
 ghost use Rattle.ws_session.specs.Taking.{HasTakenAll, front_taken};
-ghost use Rattle.ws_session.specs.Inside.{CanAnswer, HasTakenFront, reply_by};
+ghost use Rattle.ws_session.specs.InnerInvariant.{CanAnswer, HasTakenFront, reply_by};
 
 use crate::event::{PlacedEvent, TakeStop, Taken};
 use crate::session::{Answering, Session};

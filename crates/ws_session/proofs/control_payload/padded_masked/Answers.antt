@@ -1,6 +1,6 @@
 use Rattle.std.proofs.Common.{ℕ, ◌-◌, ◌∙◌, ◌≡◌, List, ◌++◌, length, drop, replicate, ap, sym, append_assoc, arith}
 use Rattle.std.proofs.lemmas.List.{drop-replicate, length-append}
-use Rattle.ws_session.specs.Masked.{masked_from}
+use Rattle.ws_session.specs.InnerMasked.{masked_from}
 use Rattle.ws_session.proofs.MaskedParts.{masked_from_phase, length-masked_from}
 use Rattle.ws_session.proofs.control_payload.padded_masked.Goals as goal
 

@@ -8,7 +8,7 @@ ghost use Rattle.ws_session.specs.declared.send_fault.SendFault.TheVariants as S
 ghost use Rattle.ws_session.specs.declared.status.Status.TheVariants as Status;
 ghost use Rattle.ws_session.specs.Sends.{Begin, More, Ping, Pong, Close, close_given, send_of};
 ghost use Rattle.ws_session.specs.Sends.{IsRefusedBy, HasSent, HasTextReason};
-ghost use Rattle.ws_session.specs.Sending.{IsFineWith, IsFirstWrongWith};
+ghost use Rattle.ws_session.specs.InnerSending.{IsFineWith, IsFirstWrongWith};
 ghost use Rattle.ws_session.specs.Replies.{under_key};
 ghost use Rattle.ws_session.specs.declared.message.Message.{Message};
 

@@ -1,6 +1,6 @@
-use Rattle.std.proofs.Common.{ℕ, ◌+◌, ◌≤◌, ◌∙◌, ◌≡◌, List, ◌++◌, length, take, ap, sym, arith}
+use Rattle.std.proofs.Common.{ℕ, ◌+◌, ◌≤◌, ◌∙◌, ◌≡◌, List, ◌++◌, length, ap, sym, arith}
 use Rattle.std.proofs.lemmas.List.{length-append, length-take-le}
-use Rattle.ws_session.specs.Masked.{masked_from}
+use Rattle.ws_session.specs.InnerMasked.{masked_from}
 use Rattle.ws_session.proofs.MaskedParts.{length-masked_from, padded_front, padded_is}
 use Rattle.ws_session.proofs.control_payload.Small.with_masked.Goals as goal
 

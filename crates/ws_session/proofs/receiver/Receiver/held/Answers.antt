@@ -1,7 +1,7 @@
-use Rattle.std.proofs.Common.{◌≡◌, ◌∙◌, ◌+◌, ◌≤◌, length, ap, sym, arith}
+use Rattle.std.proofs.Common.{◌≡◌, ◌∙◌, ◌+◌, ◌≤◌, length, ap, arith}
 use Rattle.ws_session.specs.Faults.{open_payload}
-use Rattle.ws_session.specs.Receiving.{partial_of}
-use Rattle.ws_session.specs.Receiver.{ReceiverValue, length_so_far}
+use Rattle.ws_session.specs.InnerReceiving.{partial_of}
+use Rattle.ws_session.specs.InnerReceiver.{ReceiverValue}
 use Rattle.ws_session.proofs.Kept.{partial_len}
 use Rattle.ws_session.proofs.receiver.Receiver.held.Goals as goal
 

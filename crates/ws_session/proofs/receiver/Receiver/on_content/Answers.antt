@@ -1,9 +1,8 @@
-use Rattle.std.proofs.Common.{◌≡◌, ◌≤◌, length, sym, subst}
+use Rattle.std.proofs.Common.{sym, subst}
 use Rattle.ws_session.specs.declared.receiver.under_way.UnderWay.{UnderWay}
-use Rattle.ws_session.specs.Faults.{open_payload}
-use Rattle.ws_session.specs.Assembly.{HasReadOpen}
+use Rattle.ws_session.specs.InnerAssembly.{HasReadOpen}
 use Rattle.ws_session.specs.declared.receiver.frame_check.Content.{Content}
-use Rattle.ws_session.specs.Receiver.{ReceiverValue, IsReceiving, IsContentKept}
+use Rattle.ws_session.specs.InnerReceiver.{ReceiverValue, IsReceiving, IsContentKept}
 use Rattle.ws_session.proofs.Kept.{not_begun}
 use Rattle.ws_session.proofs.receiver.Receiver.on_content.Goals as goal
 

@@ -1,8 +1,7 @@
-use Rattle.std.proofs.Common.{◌≡◌, ◌≤◌, length, sym, subst}
+use Rattle.std.proofs.Common.{sym, subst}
 use Rattle.ws_session.specs.declared.receiver.under_way.UnderWay.{UnderWay}
-use Rattle.ws_session.specs.Faults.{open_payload}
-use Rattle.ws_session.specs.Assembly.{HasReadOpen}
-use Rattle.ws_session.specs.Receiver.{ReceiverValue, IsReceiving}
+use Rattle.ws_session.specs.InnerAssembly.{HasReadOpen}
+use Rattle.ws_session.specs.InnerReceiver.{ReceiverValue, IsReceiving}
 use Rattle.ws_session.proofs.Kept.{not_begun}
 use Rattle.ws_session.proofs.receiver.Receiver.on_ping.Goals as goal
 

@@ -4,9 +4,9 @@ use Rattle.ws_frame.specs.Header.{AreBytes}
 use Rattle.ws_session.specs.declared.receiver.under_way.UnderWay.{UnderWay}
 use Rattle.ws_session.specs.declared.receiver.under_way.UnderWay.TheVariants as under_way
 use Rattle.ws_session.specs.declared.receiver.frame_check.FrameCheck.TheVariants as check
-use Rattle.ws_session.specs.NextFrame.{IsPartOfFrame}
-use Rattle.ws_session.specs.Receiving.{AssemblyValue, with_text, frame_payload, partial_of, IsUnderWay, HasNewData, IsPayloadCheck}
-use Rattle.ws_session.specs.Receiver.{ReceiverValue, receiver_of, after_more, length_so_far, IsSoundReceiver, IsReceiving}
+use Rattle.ws_session.specs.InnerNextFrame.{IsPartOfFrame}
+use Rattle.ws_session.specs.InnerReceiving.{AssemblyValue, with_text, frame_payload, partial_of, IsUnderWay, HasNewData, IsPayloadCheck}
+use Rattle.ws_session.specs.InnerReceiver.{ReceiverValue, receiver_of, after_more, length_so_far, IsSoundReceiver, IsReceiving}
 use Rattle.ws_session.proofs.ByteLists.{bytes_append}
 use Rattle.ws_session.proofs.Pieces.{none_open, more_data}
 use Rattle.ws_session.proofs.WentOn.{part_inside, partial_inside, receives_inside, room_inside, partial_passed, receives_passed}

@@ -2,7 +2,7 @@ use Rattle.std.proofs.Common.{◌≡◌, ◌∙◌, ◌-◌, ◌≤◌, ◌<◌,
 use Rattle.std.proofs.lemmas.List.{length-append}
 use Rattle.ws_frame.specs.Header.{AreBytes}
 use Rattle.ws_session.specs.Faults.{IsControl}
-use Rattle.ws_session.specs.Receiving.{arrived_payload, IsPayloadCheck}
+use Rattle.ws_session.specs.InnerReceiving.{arrived_payload, IsPayloadCheck}
 use Rattle.ws_session.proofs.ByteLists.{bytes_append}
 use Rattle.ws_session.proofs.Pieces.{opcode_of_data, opcode_of_control, short_control, none_open, read_first, header_part, header_fault, left_of, first_of_data, first_of_control, first_data}
 use Rattle.ws_session.proofs.Wants.{on_err}

@@ -3,7 +3,7 @@ use Rattle.ws_frame.specs.Header.{AreBytes}
 use Rattle.ws_session.specs.declared.receiver.under_way.UnderWay.{UnderWay}
 use Rattle.ws_session.specs.declared.receiver.under_way.UnderWay.TheVariants as under_way
 use Rattle.ws_session.specs.declared.receiver.frame_check.FrameCheck.{FrameCheck}
-use Rattle.ws_session.specs.Receiving.{IsUnderWay, HasNewData, IsFrameCheck, partial_of}
+use Rattle.ws_session.specs.InnerReceiving.{IsUnderWay, HasNewData, IsFrameCheck, partial_of}
 use Rattle.ws_session.proofs.ByteLists.{bytes_append}
 use Rattle.ws_session.proofs.Pieces.{none_open, short_control, piece_of_data, piece_of_control, same_partial, still_data, more_data}
 use Rattle.ws_session.proofs.Wants.{on_err}

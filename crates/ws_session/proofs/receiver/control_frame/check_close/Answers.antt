@@ -1,7 +1,7 @@
 use Rattle.std.proofs.Common.{length, refl, sym, subst}
 use Rattle.ws_session.specs.declared.reason.Reason.{Reason}
-use Rattle.ws_session.specs.Checking.{IsFirstInPayload}
-use Rattle.ws_session.proofs.Payloads.{close_fault, close_fine}
+use Rattle.ws_session.specs.InnerChecking.{IsFirstInPayload}
+use Rattle.ws_session.proofs.ControlPayloads.{close_fault, close_fine}
 use Rattle.ws_session.proofs.receiver.control_frame.check_close.Goals as goal
 
 pub returns-in-Ok : goal.returns-in-Ok

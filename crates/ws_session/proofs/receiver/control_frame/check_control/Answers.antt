@@ -1,6 +1,6 @@
-use Rattle.std.proofs.Common.{◌≡◌, ◌∙◌, ◌+◌, ◌-◌, ◌++◌, length, take, List, ℕ, Option, sym, ap, arith}
+use Rattle.std.proofs.Common.{◌≡◌, ◌∙◌, ◌-◌, ◌++◌, length, take, List, ℕ, Option, ap, arith}
 use Rattle.std.specs.Prelude.{min}
-use Rattle.ws_session.specs.Masked.{masked_from}
+use Rattle.ws_session.specs.InnerMasked.{masked_from}
 use Rattle.ws_session.proofs.Arriving.{control_len, control_part, control_whole}
 use Rattle.ws_session.proofs.receiver.control_frame.check_control.Goals as goal
 

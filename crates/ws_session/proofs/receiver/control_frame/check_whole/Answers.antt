@@ -1,5 +1,5 @@
 use Rattle.std.proofs.Common.{List, ℕ, subst}
-use Rattle.ws_session.specs.Receiving.{IsWholeControl}
+use Rattle.ws_session.specs.InnerReceiving.{IsWholeControl}
 use Rattle.ws_session.proofs.receiver.control_frame.check_whole.Goals as goal
 
 pub returns-then-opcode-eq-CLOSE : goal.returns-then-opcode-eq-CLOSE

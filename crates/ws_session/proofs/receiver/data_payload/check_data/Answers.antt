@@ -1,7 +1,7 @@
 use Rattle.std.proofs.Common.{◌≡◌, ◌∙◌, ◌+◌, ◌-◌, ◌++◌, ◌≤◌, length, take, List, ℕ, Option, ap, arith}
 use Rattle.std.specs.Prelude.{min}
-use Rattle.ws_session.specs.Masked.{masked_from}
-use Rattle.ws_session.specs.Receiving.{first_bytes, frame_payload, IsTextRead, IsWithoutFault}
+use Rattle.ws_session.specs.InnerMasked.{masked_from}
+use Rattle.ws_session.specs.InnerReceiving.{first_bytes, frame_payload, IsTextRead, IsWithoutFault}
 use Rattle.ws_session.proofs.Arriving.{put_arrived, put_len, put_within, payload_without_fault}
 use Rattle.ws_session.proofs.receiver.data_payload.check_data.Goals as goal
 

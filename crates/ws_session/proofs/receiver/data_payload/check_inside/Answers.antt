@@ -1,6 +1,6 @@
 use Rattle.std.proofs.Common.{◌≡◌, ◌∙◌, ◌++◌, List, ℕ, Option, ap}
-use Rattle.ws_session.specs.Masked.{masked_from}
-use Rattle.ws_session.specs.Receiving.{first_bytes}
+use Rattle.ws_session.specs.InnerMasked.{masked_from}
+use Rattle.ws_session.specs.InnerReceiving.{first_bytes}
 use Rattle.ws_session.proofs.Arriving.{inside_arrived, inside_within, inside_checked}
 use Rattle.ws_session.proofs.receiver.data_payload.check_inside.Goals as goal
 

@@ -1,6 +1,6 @@
 use Rattle.std.proofs.Common.{[], refl}
 use Rattle.ws_session.specs.declared.message.Kind.TheVariants.{Text, Binary}
-use Rattle.ws_session.proofs.SendCalls.{begun_checked}
+use Rattle.ws_session.proofs.DataSends.{begun_checked}
 use Rattle.ws_session.proofs.sending.Sending.after_first.Goals as goal
 
 pub returns-in-Text-clause-checked : goal.returns-in-Text-clause-checked

@@ -1,7 +1,7 @@
 use Rattle.std.proofs.Common.{rules, ◌≡◌, Some}
 use Rattle.ws_session.specs.declared.sending.SentSoFar.TheVariants as so_far
-use Rattle.ws_session.specs.Sending.{sending_of, HasReadSome}
-use Rattle.ws_session.proofs.SendCalls.{text_checked}
+use Rattle.ws_session.specs.InnerSending.{sending_of, HasReadSome}
+use Rattle.ws_session.proofs.DataSends.{text_checked}
 use Rattle.ws_session.proofs.sending.Sending.after_next.Goals as goal
 
 pub returns-in-Some-Text-clause-checked : goal.returns-in-Some-Text-clause-checked

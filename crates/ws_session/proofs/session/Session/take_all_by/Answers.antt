@@ -2,7 +2,7 @@ use Rattle.std.proofs.Common.{◌≡◌, ◌-◌, ◌<◌, ◌∙◌, true, fals
 use Rattle.std.proofs.lemmas.List.{take_rest, length-drop}
 use Rattle.ws_session.specs.declared.status.Status.{Status}
 use Rattle.ws_session.specs.Exchange.{SessionValue, is_over}
-use Rattle.ws_session.specs.Inside.{reply_by}
+use Rattle.ws_session.specs.InnerInvariant.{reply_by}
 use Rattle.ws_session.proofs.TakenPieces.{nothing_taken, taken_to, taken_at_the_end, taken_whole}
 use Rattle.ws_session.proofs.session.Session.take_all_by.Goals as goal
 

@@ -1,7 +1,7 @@
 use Rattle.std.proofs.Common.{◌≡◌, ◌≤◌, ◌-◌, true, length, take}
 use Rattle.ws_session.specs.Exchange.{is_over}
 use Rattle.ws_session.specs.Taking.{HasTakenAll}
-use Rattle.ws_session.specs.Inside.{reply_by}
+use Rattle.ws_session.specs.InnerInvariant.{reply_by}
 use Rattle.ws_session.proofs.Calls.{call_of}
 use Rattle.ws_session.proofs.session.Session.take_all_by.Given as goal
 

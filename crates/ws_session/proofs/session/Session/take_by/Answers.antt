@@ -2,7 +2,7 @@ use Rattle.std.proofs.Common.{subst}
 use Rattle.ws_session.specs.Exchange.{SessionValue}
 use Rattle.ws_session.specs.Taking.{HasTaken}
 use Rattle.ws_session.specs.Memory.{WantsMemory}
-use Rattle.ws_session.specs.Inside.{reply_by}
+use Rattle.ws_session.specs.InnerInvariant.{reply_by}
 use Rattle.ws_session.proofs.Calls.{call_of}
 use Rattle.ws_session.proofs.SomeExchange.{after_take}
 use Rattle.ws_session.proofs.Wants.{on_err}

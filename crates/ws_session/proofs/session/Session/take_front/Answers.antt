@@ -3,7 +3,7 @@ use Rattle.ws_session.specs.declared.event.Event.{Event}
 use Rattle.ws_session.specs.declared.event.Taken.{Taken}
 use Rattle.ws_session.specs.declared.event.PlacedEvent.{PlacedEvent}
 use Rattle.ws_session.specs.Taking.{HasTaken}
-use Rattle.ws_session.specs.Inside.{reply_by, placed_at}
+use Rattle.ws_session.specs.InnerInvariant.{reply_by, placed_at}
 use Rattle.ws_session.proofs.Calls.{call_of}
 use Rattle.ws_session.proofs.session.Session.take_front.Goals as goal
 

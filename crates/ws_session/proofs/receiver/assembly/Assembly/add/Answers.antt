@@ -1,6 +1,6 @@
-use Rattle.std.proofs.Common.{◌≡◌, ◌∙◌, ◌++◌, ◌%◌, List, ℕ, ap}
-use Rattle.ws_session.specs.Masked.{masked_from}
-use Rattle.ws_session.specs.Receiving.{first_bytes}
+use Rattle.std.proofs.Common.{◌∙◌, ◌++◌, ◌%◌, List, ℕ, ap}
+use Rattle.ws_session.specs.InnerMasked.{masked_from}
+use Rattle.ws_session.specs.InnerReceiving.{first_bytes}
 use Rattle.ws_session.proofs.MaskedParts.{masked_from_phase}
 use Rattle.ws_session.proofs.Assembled.{first_by}
 use Rattle.ws_session.proofs.receiver.assembly.Assembly.add.Goals as goal

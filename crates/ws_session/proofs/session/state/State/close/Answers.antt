@@ -6,7 +6,7 @@ use Rattle.ws_session.specs.declared.message.Message.{Message}
 use Rattle.ws_session.specs.Messages.{open_message_of}
 use Rattle.ws_session.specs.Replies.{control_frame}
 use Rattle.ws_session.specs.Sends.{Close, close_given, frame_of, IsRefusedBy}
-use Rattle.ws_session.specs.Sending.{IsFirstWrongWith, IsFineWith}
+use Rattle.ws_session.specs.InnerSending.{IsFirstWrongWith, IsFineWith}
 use Rattle.ws_session.proofs.SendCalls.{close_sent, wrong_refusal, memory_refusal, empty_close_fine, close_bytes}
 use Rattle.ws_session.proofs.session.state.State.close.Goals as goal
 use Rattle.ws_session.proofs.session.state.State.close.Goals.{in-None+in_ok-put-in-None, in-Some+in_ok-fits_close-in-Some+in_ok-put-in-Some}

@@ -1,11 +1,11 @@
-use Rattle.std.proofs.Common.{◌≡◌, ◌∙◌, false, length, None, ap, sym, refl, subst, arith, inl, Option}
+use Rattle.std.proofs.Common.{◌≡◌, ◌∙◌, false, length, None, ap, sym, refl, subst, arith, inl}
 use Rattle.ws_frame.specs.Header.{AreBytes}
 use Rattle.ws_session.specs.declared.status.Status.{Status}
-use Rattle.ws_session.specs.Exchange.{SendingValue, SessionValue, is_over}
+use Rattle.ws_session.specs.Exchange.{SessionValue, is_over}
 use Rattle.ws_session.specs.Taking.{HasTaken}
 use Rattle.ws_session.specs.Memory.{WantsMemory}
-use Rattle.ws_session.specs.Inside.{CanAnswer, reply_by}
-use Rattle.ws_session.specs.Receiver.{session_with}
+use Rattle.ws_session.specs.InnerInvariant.{CanAnswer, reply_by}
+use Rattle.ws_session.specs.InnerReceiver.{session_with}
 use Rattle.ws_session.proofs.Calls.{call_of}
 use Rattle.ws_session.proofs.TakenPieces.{taken_over}
 use Rattle.ws_session.proofs.SessionParts.{same_session}

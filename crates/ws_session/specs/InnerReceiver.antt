@@ -16,11 +16,11 @@ use Rattle.ws_session.specs.declared.receiver.frame_check.Content.TheVariants as
 use Rattle.ws_session.specs.Limits.{LimitsValue}
 use Rattle.ws_session.specs.Faults.{open_payload}
 use Rattle.ws_session.specs.Exchange.{SendingValue, SessionValue}
-use Rattle.ws_session.specs.Assembly.{IsTextOf, HasReadOpen}
-use Rattle.ws_session.specs.NextFrame.{IsPartOfFrame, due_at, status_with}
-use Rattle.ws_session.specs.Inside.{reply_by}
-use Rattle.ws_session.specs.Receiving.{AssemblyValue, partial_of, IsUnderWay}
-use Rattle.ws_session.specs.Replying.{bytes_put}
+use Rattle.ws_session.specs.InnerAssembly.{IsTextOf, HasReadOpen}
+use Rattle.ws_session.specs.InnerNextFrame.{IsPartOfFrame, due_at, status_with}
+use Rattle.ws_session.specs.InnerInvariant.{reply_by}
+use Rattle.ws_session.specs.InnerReceiving.{AssemblyValue, partial_of, IsUnderWay}
+use Rattle.ws_session.specs.InnerReplying.{bytes_put}
 
 -- what contracts see: the open message, the bytes of the frame under way as they came, all payload bytes that are kept,
 -- and the stream that reads them

@@ -3,7 +3,7 @@ use Rattle.std.specs.Prelude.{ℕ, List, map}
 use Rattle.ws_frame.specs.Frame.{Frame, stream_bytes}
 use Rattle.ws_session.specs.declared.replying.Replying.{Replying}
 use Rattle.ws_session.specs.Replies.{under_key}
-use Rattle.ws_session.specs.NextFrame.{due_at}
+use Rattle.ws_session.specs.InnerNextFrame.{due_at}
 
 -- the bytes of frames that are owed
 abbrev pub bytes_put : Replying → List Frame → List ℕ

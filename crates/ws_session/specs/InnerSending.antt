@@ -1,7 +1,7 @@
 -- Inside the crate: the sending side as it is kept, and one send as it is checked, for contracts of private functions.
 -- A reader may skip this file.
 use Rattle.std.specs.Prelude.{◌≡◌, ℕ, ◌+◌, ◌≤◌, ◌<◌, Bool, if◌then◌else◌, List, [], ◌++◌, length, Option, Some, None}
-use Rattle.ws_text.specs.Stream.{HasRead}
+use Rattle.ws_text.specs.Stream.{HasReadText}
 use Rattle.ws_session.specs.declared.message.Kind.TheVariants.{Text, Binary}
 use Rattle.ws_session.specs.declared.message.Message.{Message}
 use Rattle.ws_session.specs.declared.sending.SentSoFar.{SentSoFar}
@@ -10,7 +10,7 @@ use Rattle.ws_session.specs.declared.send_fault.SendFault.{SendFault}
 use Rattle.ws_session.specs.declared.send_fault.SendFault.TheVariants.{NotText, TooLong}
 use Rattle.ws_session.specs.Faults.{IsLowest}
 use Rattle.ws_session.specs.Exchange.{SendingValue, IsSendingOf}
-use Rattle.ws_session.specs.NextFrame.{opened_with}
+use Rattle.ws_session.specs.InnerNextFrame.{opened_with}
 use Rattle.ws_session.specs.Sends.{Send, frame_of, most_sent, IsNoText, IsWrongWith, number_of_fault}
 
 -- ---- what is kept
@@ -27,7 +27,7 @@ sending_of (Some (so_far.Binary size)) = Some (record { kind = Binary; size = si
 
 -- nothing of the text was refused
 abbrev pub HasReadSome : Option (List ℕ) → Type 0
-HasReadSome text = (read : List ℕ) × HasRead text read
+HasReadSome text = (read : List ℕ) × HasReadText text read
 
 -- it is no larger than a message may be
 abbrev pub CanGoOn : Option SentSoFar → Type 0

@@ -5,14 +5,12 @@ use Rattle.std.specs.Prelude.{Some, None}
 use Rattle.ws_frame.specs.declared.role.Role.{Role}
 use Rattle.ws_frame.specs.Header.{HeaderFields, IsHeader, AreBytes, header_bytes}
 use Rattle.ws_frame.specs.Masking.{masked_payload}
-use Rattle.ws_frame.specs.Frame.{Frame, KeyedFrame, FitsTheLayout, frame_bytes, stream_bytes}
+use Rattle.ws_frame.specs.Frame.{Frame, KeyedFrame, FitsTheLayout, frame_bytes}
 use Rattle.ws_frame.specs.Reading.{Begins, BeginsNoHeader}
-use Rattle.ws_text.specs.Stream.{HasRead}
+use Rattle.ws_text.specs.Stream.{HasReadText}
 use Rattle.ws_session.specs.declared.message.Kind.{Kind}
 use Rattle.ws_session.specs.declared.message.Message.{Message}
 use Rattle.ws_session.specs.declared.reason.Reason.{Reason}
-use Rattle.ws_session.specs.declared.event.Event.{Event}
-use Rattle.ws_session.specs.declared.event.Event.TheVariants as event
 use Rattle.ws_session.specs.declared.receiver.under_way.UnderWay.{UnderWay}
 use Rattle.ws_session.specs.declared.receiver.under_way.UnderWay.TheVariants as under_way
 use Rattle.ws_session.specs.declared.receiver.frame_check.Content.{Content}
@@ -23,10 +21,10 @@ use Rattle.ws_session.specs.Limits.{LimitsValue}
 use Rattle.ws_session.specs.Messages.{is_control, kind_of}
 use Rattle.ws_session.specs.Faults.{IsControl, IsOfText, open_payload}
 use Rattle.ws_session.specs.Events.{close_in}
-use Rattle.ws_session.specs.Masked.{masked_from}
-use Rattle.ws_session.specs.Assembly.{IsTextOf, HasReadOpen}
-use Rattle.ws_session.specs.Checking.{NoneAtHeader, NoneInPayload, IsFirstInPayload, frame_with, IsRoomFor}
-use Rattle.ws_session.specs.NextFrame.{IsPartOfFrame, HasNoFaultOfNext, IsFirstFaultOfNext, message_with}
+use Rattle.ws_session.specs.InnerMasked.{masked_from}
+use Rattle.ws_session.specs.InnerAssembly.{IsTextOf, HasReadOpen}
+use Rattle.ws_session.specs.InnerChecking.{NoneAtHeader, NoneInPayload, IsFirstInPayload, frame_with, IsRoomFor}
+use Rattle.ws_session.specs.InnerNextFrame.{IsPartOfFrame, HasNoFaultOfNext, IsFirstFaultOfNext, message_with}
 
 -- ---- the open message, and the payload of the frame under way after it
 
@@ -87,7 +85,7 @@ abbrev pub IsKept : Role → LimitsValue → AssemblyValue → UnderWay → Type
 IsKept role limits a (under_way.Header bytes) = BeginsNoHeader bytes × HasReadOpen a.opened a.text
 IsKept role limits a (under_way.Data header came) = IsHeader header × NoneAtHeader role limits a.opened header
     × (header.opcode ≤ 2) × (came < header.len) × HasKept a came
-    × (IsOfText a.opened header → HasRead a.text (first_bytes a came))
+    × (IsOfText a.opened header → HasReadText a.text (first_bytes a came))
 IsKept role limits a (under_way.Control header payload) = IsHeader header × NoneAtHeader role limits a.opened header
     × IsControl header × (length payload < header.len) × HasReadOpen a.opened a.text
 
@@ -142,7 +140,7 @@ abbrev pub IsNextOf : AssemblyValue → HeaderFields → List ℕ → UnderWay �
 IsNextOf a header payload (under_way.Header bytes) text = ⊥
 IsNextOf a header payload (under_way.Data same came) text = (same ≡ header) × (came ≡ length payload)
     × (payload ≡ frame_payload a) × (header.opcode ≤ 2) × HasKept a came
-    × (IsOfText a.opened header → HasRead text a.payload)
+    × (IsOfText a.opened header → HasReadText text a.payload)
 IsNextOf a header payload (under_way.Control same bytes) text = (same ≡ header) × (bytes ≡ payload)
     × IsControl header × (text ≡ a.text)
 
@@ -159,7 +157,7 @@ IsPayloadCheck header came start a payload (check.Fault reason used) = (count : 
 
 -- nothing is wrong with the text, if it is one, and the stream has read it
 abbrev pub IsTextRead : HeaderFields → AssemblyValue → Option (List ℕ) → Type 0
-IsTextRead header a text = (IsOfText a.opened header → HasRead text a.payload)
+IsTextRead header a text = (IsOfText a.opened header → HasReadText text a.payload)
     × NoneInPayload a.opened header (frame_payload a)
 
 -- this is wrong first, after so many of the bytes that are new

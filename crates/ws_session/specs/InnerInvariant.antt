@@ -11,7 +11,7 @@ use Rattle.ws_session.specs.Taking.{TakeCall, HasTaken}
 use Rattle.ws_session.specs.declared.event.PlacedEvent.{PlacedEvent}
 use Rattle.ws_session.specs.declared.session.Answering.{Answering}
 use Rattle.ws_session.specs.declared.session.Answering.TheVariants.{Plain, Echoing}
-use Rattle.ws_session.specs.NextFrame.{IsPartOfFrame}
+use Rattle.ws_session.specs.InnerNextFrame.{IsPartOfFrame}
 
 -- what is kept is a part of one frame and a message within the limits, and nothing once all is over
 pub record IsSound (v : SessionValue) : Type 0 where
