@@ -7,7 +7,6 @@ use Rattle.ws_frame.specs.Frame.{Frame, stream_bytes}
 use Rattle.ws_session.specs.declared.event.Event.{Event}
 use Rattle.ws_session.specs.declared.event.Event.TheVariants as event
 use Rattle.ws_session.specs.declared.event.PlacedEvent.{PlacedEvent}
-use Rattle.ws_session.specs.declared.status.Status.{Status}
 use Rattle.ws_session.specs.Events.{HasEvents}
 use Rattle.ws_session.specs.Replies.{replies_by, under_key}
 use Rattle.ws_session.specs.Exchange.{Exchange, SessionValue, HasExchanged, is_over, last_event, status_after}
@@ -20,9 +19,9 @@ use Rattle.ws_calls.specs.declared.calls.EchoCall.{EchoCall}
 use Rattle.ws_calls.specs.declared.report.PlacedInStream.{PlacedInStream}
 use Rattle.ws_calls.specs.declared.report.CallAnswer.{CallAnswer}
 use Rattle.ws_calls.specs.declared.report.CallAnswer.TheVariants.{Taken}
-use Rattle.ws_calls.specs.Calls.{AreAnswered, Endpoint, IsAnswered, IsTakeAnswered, Keeps, count_taken, events_of, piece_of, placed_by}
+use Rattle.ws_calls.specs.Calls.{AreAnswered, Endpoint, IsCallAnswered, IsTakeAnswered, Keeps, count_taken, events_without_places, piece_of_call, placed_by}
 use Rattle.ws_calls.specs.Script.{as_call}
-use Rattle.ws_calls.specs.Steps.{Agrees, HasAnswered, placed_behind}
+use Rattle.ws_calls.specs.InnerSteps.{Agrees, HasAnsweredCall, placed_behind}
 use Rattle.ws_calls.proofs.Placed.{places_within, same_events, same_front_events}
 use Rattle.ws_calls.proofs.Sending.{endpoint_of, status_there}
 
@@ -80,7 +79,7 @@ module _ (reply : Event → List Frame) (exchange : Exchange) (start : ℕ) (old
               has_before = is.exchanged.has_events;
               within = subst (λ (m : ℕ). AllByRecursion (λ (x : PlacedInStream). x.place ≤ m + length piece) (map (placed_behind start) h.told)) is.count (places_within start (length piece) h.told h.within);
               by_place = λ n. subst (λ (l : List Event). HasEvents old.role old.limits (exchange.taken ++ take n piece) (is.exchanged.events ++ l))
-                  (sym (ap (λ (m : ℕ). events_of (placed_by (m + n) (map (placed_behind start) h.told))) (sym is.count) ∙ same_front_events start n h.told)) (t.places n is.exchanged.events is.exchanged.has_events);
+                  (sym (ap (λ (m : ℕ). events_without_places (placed_by (m + n) (map (placed_behind start) h.told))) (sym is.count) ∙ same_front_events start n h.told)) (t.places n is.exchanged.events is.exchanged.has_events);
             };
             is_put = t.put ∙ ap (λ (l : List Event). stream_bytes (map (under_key old.role key) (replies_by reply exchange.sent l))) (sym moved);
             next = ap (λ (l : List Event). record { sent = exchange.sent ++ replies_by reply exchange.sent l; taken = exchange.taken ++ piece; ended = exchange.ended }) (sym moved);
@@ -94,7 +93,7 @@ module _ (reply : Event → List Frame) (exchange : Exchange) (start : ℕ) (old
   pub take_call : (new : SessionValue) (slice before put put_told : List ℕ) (told_before told : List PlacedEvent) (placed : List PlacedInStream) (len : ℕ) → is_over old.status ≡ false
       → slice ≡ piece → before ≡ [] → told_before ≡ [] → HasTakenAll reply old new (record { piece = slice; key = key; before = before; after = put }) told_before told
       → placed ≡ map (placed_behind start) told → len ≡ length piece → put_told ≡ put
-      → HasAnswered (endpoint_of reply old) exchange (Take piece key) (Taken placed len put_told) (start + len) new
+      → HasAnsweredCall (endpoint_of reply old) exchange (Take piece key) (Taken placed len put_told) (start + len) new
   take_call new slice before put put_told told_before told placed len going same_piece none no_event h same_events same_len same_put =
       let h1 = subst (λ (l : List ℕ). HasTakenAll reply old new (record { piece = l; key = key; before = before; after = put }) told_before told) same_piece h in
       let h2 = subst (λ (l : List ℕ). HasTakenAll reply old new (record { piece = piece; key = key; before = l; after = put }) told_before told) none h1 in
@@ -124,8 +123,8 @@ held_there false v exchange held e h over is =
 
 -- one more call
 pub answered_added : (endpoint : Endpoint) (first next after : Exchange) (calls : List Call) (call : Call) (answers : List CallAnswer) (answer : CallAnswer)
-    → AreAnswered endpoint first calls answers next → IsAnswered endpoint next call answer after → AreAnswered endpoint first (calls ++ call ∷ []) (answers ++ answer ∷ []) after
-answered_added endpoint first next after [] call [] answer h is = (after, subst (λ (x : Exchange). IsAnswered endpoint x call answer after) h.1 is, (refl, refl))
+    → AreAnswered endpoint first calls answers next → IsCallAnswered endpoint next call answer after → AreAnswered endpoint first (calls ++ call ∷ []) (answers ++ answer ∷ []) after
+answered_added endpoint first next after [] call [] answer h is = (after, subst (λ (x : Exchange). IsCallAnswered endpoint x call answer after) h.1 is, (refl, refl))
 answered_added endpoint first next after [] call (a ∷ answers) answer h is = absurd (let e = h.0 in cc)
 answered_added endpoint first next after (c ∷ calls) call [] answer h is = absurd h
 answered_added endpoint first next after (c ∷ calls) call (a ∷ answers) answer (x, one, h) is = (x, one, answered_added endpoint x next after calls call answers answer h is)
@@ -136,8 +135,8 @@ pub one_more_as_call : (calls : List EchoCall) (call : EchoCall) → map as_call
 one_more_as_call [] call = refl
 one_more_as_call (first ∷ calls) call = ap (λ (l : List Call). as_call first ∷ l) (one_more_as_call calls call)
 
-pub count_as_calls : (calls : List EchoCall) → count_taken (map as_call calls) ≡ sum_by (λ (call : EchoCall). length (piece_of (as_call call))) calls
+pub count_as_calls : (calls : List EchoCall) → count_taken (map as_call calls) ≡ sum_by (λ (call : EchoCall). length (piece_of_call (as_call call))) calls
 count_as_calls [] = refl
 count_as_calls (call ∷ calls) =
-    sum_by-cons (λ (x : Call). length (piece_of x)) (as_call call) (map as_call calls) ∙ ap (λ (n : ℕ). length (piece_of (as_call call)) + n) (count_as_calls calls)
-    ∙ sym (sum_by-cons (λ (x : EchoCall). length (piece_of (as_call x))) call calls)
+    sum_by-cons (λ (x : Call). length (piece_of_call x)) (as_call call) (map as_call calls) ∙ ap (λ (n : ℕ). length (piece_of_call (as_call call)) + n) (count_as_calls calls)
+    ∙ sym (sum_by-cons (λ (x : EchoCall). length (piece_of_call (as_call x))) call calls)

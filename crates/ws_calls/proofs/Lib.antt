@@ -1,4 +1,5 @@
 mod PassedUp
+mod CallWords
 mod Placed
 mod Sending
 mod Answering

@@ -1,16 +1,16 @@
 -- The events of a piece at their places in all bytes taken.
-use Rattle.std.proofs.Common.{◌≡◌, ◌∙◌, ℕ, ◌+◌, ◌<◌, ◌≤◌, ◌^◌, nat_le, cond, Bool, true, false, List, [], ◌∷◌, ◌++◌, length, ap, ap₂, sym, refl, map, arith}
+use Rattle.std.proofs.Common.{◌≡◌, ◌∙◌, ℕ, ◌+◌, ◌<◌, ◌≤◌, ◌^◌, nat_le, cond, Bool, true, false, List, [], ◌∷◌, ap, ap₂, refl, map, arith}
 use Rattle.std.proofs.lemmas.Bool.Decides.{nat_tests}
 use Rattle.std.specs.List.{AllByRecursion}
 use Rattle.ws_session.specs.declared.event.Event.{Event}
 use Rattle.ws_session.specs.declared.event.PlacedEvent.{PlacedEvent}
 use Rattle.ws_session.specs.Taking.{ending_by, events_in}
 use Rattle.ws_calls.specs.declared.report.PlacedInStream.{PlacedInStream}
-use Rattle.ws_calls.specs.Calls.{events_of, placed_by}
-use Rattle.ws_calls.specs.Steps.{placed_behind}
+use Rattle.ws_calls.specs.Calls.{events_without_places, placed_by}
+use Rattle.ws_calls.specs.InnerSteps.{placed_behind}
 
 -- places move the events
-pub same_events : (start : ℕ) (told : List PlacedEvent) → events_of (map (placed_behind start) told) ≡ events_in told
+pub same_events : (start : ℕ) (told : List PlacedEvent) → events_without_places (map (placed_behind start) told) ≡ events_in told
 same_events start [] = refl
 same_events start (x ∷ told) = ap (λ (l : List Event). x.event ∷ l) (same_events start told)
 
@@ -26,8 +26,8 @@ same_front start n (x ∷ told) =
     either : (b : Bool) → cond b (placed_behind start x ∷ map (placed_behind start) (ending_by n told)) [] ≡ map (placed_behind start) (cond b (x ∷ ending_by n told) [])
     either b = elim b as (λ v. cond v (placed_behind start x ∷ map (placed_behind start) (ending_by n told)) [] ≡ map (placed_behind start) (cond v (x ∷ ending_by n told) [])) [ true ↦ refl | false ↦ refl ]
 
-pub same_front_events : (start n : ℕ) (told : List PlacedEvent) → events_of (placed_by (start + n) (map (placed_behind start) told)) ≡ events_in (ending_by n told)
-same_front_events start n told = ap (λ (l : List PlacedInStream). events_of l) (same_front start n told) ∙ same_events start (ending_by n told)
+pub same_front_events : (start n : ℕ) (told : List PlacedEvent) → events_without_places (placed_by (start + n) (map (placed_behind start) told)) ≡ events_in (ending_by n told)
+same_front_events start n told = ap (λ (l : List PlacedInStream). events_without_places l) (same_front start n told) ∙ same_events start (ending_by n told)
 
 pub places_within : (start most : ℕ) (told : List PlacedEvent) → AllByRecursion (λ (x : PlacedEvent). x.end ≤ most) told
     → AllByRecursion (λ (x : PlacedInStream). x.place ≤ start + most) (map (placed_behind start) told)

@@ -1,23 +1,25 @@
 -- What a send at a session answers.
-use Rattle.std.proofs.Common.{◌≡◌, ◌∙◌, ℕ, List, [], ◌∷◌, ◌++◌, ap, sym, refl, subst, OnOk, OnErr, IfErr, Result, Ok, Err}
+use Rattle.std.proofs.Common.{◌≡◌, ℕ, List, [], ◌∷◌, ap, sym, refl, subst, OnOk, OnErr, IfOk, IfErr, Result, Ok, Err}
 use Rattle.ws_frame.specs.Frame.{Frame}
 use Rattle.ws_session.specs.declared.event.Event.{Event}
 use Rattle.ws_session.specs.declared.send_fault.SendFault.{SendFault}
 use Rattle.ws_session.specs.declared.send_fault.SendFault.TheVariants as fault
+use Rattle.ws_session.specs.declared.keyed_send.KeyedSend.{KeyedSend}
+use Rattle.ws_session.specs.KeyedSends.{key_in, send_in}
 use Rattle.ws_session.specs.Exchange.{Exchange, SessionValue, HasExchanged}
 use Rattle.ws_session.specs.Sends.{Send, frame_of, HasSent, IsRefusedBy, IsFirstWrong}
-use Rattle.ws_calls.specs.declared.calls.Call.{Call}
+use Rattle.ws_calls.specs.declared.calls.Call.TheVariants as asked
 use Rattle.ws_calls.specs.declared.report.CallAnswer.{CallAnswer}
 use Rattle.ws_calls.specs.declared.report.CallAnswer.TheVariants.{Sent, Refused}
-use Rattle.ws_calls.specs.Calls.{Endpoint, HasStatus, IsAnswered, IsSendAnswered, with_sent}
-use Rattle.ws_calls.specs.Steps.{Agrees, HasAnswered, HasAnsweredSend, IsOutcome}
+use Rattle.ws_calls.specs.Calls.{Endpoint, IsStatusAfter, IsSendAnswered, after_sending}
+use Rattle.ws_calls.specs.InnerSteps.{Agrees, HasAnsweredCall, HasAnsweredSend, IsOutcome}
 
 -- a session as an endpoint that replies so
 abbrev pub endpoint_of : (Event → List Frame) → SessionValue → Endpoint
 endpoint_of reply v = record { role = v.role; limits = v.limits; reply = reply }
 
 -- the status of what a session has exchanged
-pub status_there : (reply : Event → List Frame) (exchange : Exchange) (taken : ℕ) (v : SessionValue) → Agrees exchange taken v → HasStatus (endpoint_of reply v) exchange v.status
+pub status_there : (reply : Event → List Frame) (exchange : Exchange) (taken : ℕ) (v : SessionValue) → Agrees exchange taken v → IsStatusAfter (endpoint_of reply v) exchange v.status
 status_there reply exchange taken v is = (is.exchanged.events, is.exchanged.has_events, is.exchanged.status)
 
 module _ (reply : Event → List Frame) (exchange : Exchange) (taken : ℕ) (old new : SessionValue) (what : Send) (key put : List ℕ) (is : Agrees exchange taken old) where
@@ -28,7 +30,7 @@ module _ (reply : Event → List Frame) (exchange : Exchange) (taken : ℕ) (old
   is_done : HasSent old new what key [] put → SendAnswered (Sent put)
   is_done h =
       let t = h exchange is.exchanged in (
-        with_sent exchange (frame_of what ∷ []),
+        after_sending exchange (frame_of what ∷ []),
         (old.status, status_there reply exchange taken old is, t.may, t.put, refl),
         record { exchanged = t.agrees; count = is.count },
         t.same,
@@ -69,10 +71,11 @@ has_sent reply exchange taken old new what key before put sent answer empty done
     let g = send_answered reply exchange taken old new what key put is sent answer (subst (λ (l : List ℕ). OnOk sent (HasSent old new what key l put)) empty done) refused (unchanged (new ≡ old) (put ≡ before) sent kept) outcome in
     record { after = g.0; answered = g.1; agrees = g.2; same = g.3 }
 
--- a call that sends this is answered as the send is
-pub send_call : (endpoint : Endpoint) (exchange : Exchange) (taken : ℕ) (new : SessionValue) (call : Call) (what given : Send) (key : List ℕ) (answer : CallAnswer) → given ≡ what
-    → ((a : CallAnswer) (after : Exchange) → IsSendAnswered endpoint exchange what key a after → IsAnswered endpoint exchange call a after)
-    → HasAnsweredSend endpoint exchange given key answer taken new → HasAnswered endpoint exchange call answer taken new
-send_call endpoint exchange taken new call what given key answer e as_send h =
-    let g = subst (λ (x : Send). HasAnsweredSend endpoint exchange x key answer taken new) e h in
-    record { after = g.after; answered = as_send answer g.after g.answered; agrees = g.agrees; same = g.same }
+-- a call that sends this is answered as the send is, whether the run goes on or memory ran out
+pub sends_call : {E : Type 0} (endpoint : Endpoint) (exchange : Exchange) (taken : ℕ) (new : SessionValue) (what : KeyedSend) (given : Send) (key : List ℕ) (result : Result CallAnswer E) → given ≡ send_in what → key ≡ key_in what
+    → IfOk result (λ answer. HasAnsweredSend endpoint exchange given key answer taken new) → IfOk result (λ answer. HasAnsweredCall endpoint exchange (asked.Send what) answer taken new)
+sends_call endpoint exchange taken new what given key (Ok answer) is under h =
+    let g = subst (λ (x : Send). HasAnsweredSend endpoint exchange x key answer taken new) is h in
+    let k = subst (λ (x : List ℕ). HasAnsweredSend endpoint exchange (send_in what) x answer taken new) under g in
+    record { after = k.after; answered = k.answered; agrees = k.agrees; same = k.same }
+sends_call endpoint exchange taken new what given key (Err why) is under h = tt

@@ -15,10 +15,10 @@ use Rattle.ws_session.specs.Faults.{frames_of, open_payload}
 use Rattle.ws_session.specs.Events.{HasEvents}
 use Rattle.ws_session.specs.Replies.{reply_to, echo_reply_to, replies_by, under_key}
 use Rattle.ws_session.specs.Exchange.{Exchange, status_of, is_over}
-use Rattle.ws_session.specs.Sends.{Send, frame_of, close_owned, MaySend, IsFirstWrong}
-use Rattle.ws_session.specs.Sends as send
+use Rattle.ws_session.specs.Sends.{Send, frame_of, MaySend, IsFirstWrong}
+use Rattle.ws_session.specs.KeyedSends.{key_in, send_in}
 use Rattle.ws_calls.specs.declared.calls.Call.{Call}
-use Rattle.ws_calls.specs.declared.calls.Call.TheVariants.{Begin, More, Ping, Pong, Close, Take, End}
+use Rattle.ws_calls.specs.declared.calls.Call.TheVariants as asked
 use Rattle.ws_calls.specs.declared.calls.EchoCall.{EchoCall}
 use Rattle.ws_calls.specs.declared.report.PlacedInStream.{PlacedInStream}
 use Rattle.ws_calls.specs.declared.report.CallAnswer.{CallAnswer}
@@ -44,33 +44,33 @@ abbrev pub new_exchange : Exchange
 new_exchange = record { sent = []; taken = []; ended = false }
 
 -- the status is that of the events of the bytes taken, of the frames sent and of the stream's end
-abbrev pub HasStatus : Endpoint → Exchange → Status → Type 0
-HasStatus endpoint exchange status = (events : List Event)
+abbrev pub IsStatusAfter : Endpoint → Exchange → Status → Type 0
+IsStatusAfter endpoint exchange status = (events : List Event)
     × HasEvents endpoint.role endpoint.limits exchange.taken events
     × (status ≡ status_of exchange.sent exchange.ended events)
 
 -- ---- a send
 
-abbrev pub with_sent : Exchange → List Frame → Exchange
-with_sent exchange frames = record exchange { sent = exchange.sent ++ frames }
+abbrev pub after_sending : Exchange → List Frame → Exchange
+after_sending exchange frames = record exchange { sent = exchange.sent ++ frames }
 
 -- The frame is sent where nothing is wrong with it, and its bytes are put, under the key of the call if this is a
 -- client. Else the first thing that is wrong is answered, and nothing changes.
 abbrev pub IsSendAnswered : Endpoint → Exchange → Send → List ℕ → CallAnswer → Exchange → Type 0
-IsSendAnswered endpoint exchange what key (Sent put) after = (status : Status) × HasStatus endpoint exchange status
+IsSendAnswered endpoint exchange what key (Sent put) after = (status : Status) × IsStatusAfter endpoint exchange status
     × MaySend exchange.sent status what
     × (put ≡ frame_bytes (under_key endpoint.role key (frame_of what)))
-    × (after ≡ with_sent exchange (frame_of what ∷ []))
-IsSendAnswered endpoint exchange what key (Refused fault) after = (status : Status) × HasStatus endpoint exchange status
-    × IsFirstWrong exchange.sent status what fault × (after ≡ exchange)
+    × (after ≡ after_sending exchange (frame_of what ∷ []))
+IsSendAnswered endpoint exchange what key (Refused fault) after = (status : Status)
+    × IsStatusAfter endpoint exchange status × IsFirstWrong exchange.sent status what fault × (after ≡ exchange)
 IsSendAnswered endpoint exchange what key (Taken events len put) after = ⊥
 IsSendAnswered endpoint exchange what key Ended after = ⊥
 
 -- ---- a piece
 
 -- the events without their places
-abbrev pub events_of : List PlacedInStream → List Event
-events_of events = map (λ (x : PlacedInStream). x.event) events
+abbrev pub events_without_places : List PlacedInStream → List Event
+events_without_places events = map (λ (x : PlacedInStream). x.event) events
 
 -- the events up to the first whose place is behind the first n bytes
 abbrev pub placed_by : ℕ → List PlacedInStream → List PlacedInStream
@@ -85,11 +85,11 @@ pub record AddsEvents (endpoint : Endpoint) (exchange : Exchange) (piece : List 
   pub has_before : HasEvents endpoint.role endpoint.limits exchange.taken before
   pub within : AllByRecursion (λ (x : PlacedInStream). x.place ≤ length exchange.taken + length piece) events
   pub by_place : (n : ℕ) → HasEvents endpoint.role endpoint.limits (exchange.taken ++ take n piece)
-      (before ++ events_of (placed_by (length exchange.taken + n) events))
+      (before ++ events_without_places (placed_by (length exchange.taken + n) events))
 
 -- the frames owed for events
 abbrev pub replies : Endpoint → Exchange → List PlacedInStream → List Frame
-replies endpoint exchange events = replies_by endpoint.reply exchange.sent (events_of events)
+replies endpoint exchange events = replies_by endpoint.reply exchange.sent (events_without_places events)
 
 -- the piece is taken whole, its events are told, and the frames owed for them are sent and put
 pub record TakesPiece (endpoint : Endpoint) (exchange : Exchange) (piece key : List ℕ) (events : List PlacedInStream)
@@ -103,7 +103,7 @@ pub record TakesPiece (endpoint : Endpoint) (exchange : Exchange) (piece key : L
   }
 
 -- once the endpoint is over a piece tells nothing, puts nothing and changes nothing
-pub record TakesNothing (exchange : Exchange) (events : List PlacedInStream) (put : List ℕ) (after : Exchange)
+pub record IgnoresPiece (exchange : Exchange) (events : List PlacedInStream) (put : List ℕ) (after : Exchange)
     : Type 0 where
   pub nothing : events ≡ []
   pub is_put : put ≡ []
@@ -111,8 +111,8 @@ pub record TakesNothing (exchange : Exchange) (events : List PlacedInStream) (pu
 
 abbrev pub IsTakeAnswered : Endpoint → Exchange → List ℕ → List ℕ → CallAnswer → Exchange → Type 0
 IsTakeAnswered endpoint exchange piece key (Taken events len put) after =
-    (status : Status) × HasStatus endpoint exchange status × (len ≡ length piece)
-    × MatchBool (is_over status) (TakesNothing exchange events put after)
+    (status : Status) × IsStatusAfter endpoint exchange status × (len ≡ length piece)
+    × MatchBool (is_over status) (IgnoresPiece exchange events put after)
     (TakesPiece endpoint exchange piece key events put after)
 IsTakeAnswered endpoint exchange piece key (Sent put) after = ⊥
 IsTakeAnswered endpoint exchange piece key (Refused fault) after = ⊥
@@ -120,26 +120,19 @@ IsTakeAnswered endpoint exchange piece key Ended after = ⊥
 
 -- ---- all calls
 
-abbrev pub IsAnswered : Endpoint → Exchange → Call → CallAnswer → Exchange → Type 0
-IsAnswered endpoint exchange (Begin kind payload fin key) answer after =
-    IsSendAnswered endpoint exchange (send.Begin kind payload fin) key answer after
-IsAnswered endpoint exchange (More payload fin key) answer after =
-    IsSendAnswered endpoint exchange (send.More payload fin) key answer after
-IsAnswered endpoint exchange (Ping payload key) answer after =
-    IsSendAnswered endpoint exchange (send.Ping payload) key answer after
-IsAnswered endpoint exchange (Pong payload key) answer after =
-    IsSendAnswered endpoint exchange (send.Pong payload) key answer after
-IsAnswered endpoint exchange (Close given key) answer after =
-    IsSendAnswered endpoint exchange (send.Close (close_owned given)) key answer after
-IsAnswered endpoint exchange (Take piece key) answer after = IsTakeAnswered endpoint exchange piece key answer after
-IsAnswered endpoint exchange End answer after = (answer ≡ Ended) × (after ≡ record exchange { ended = true })
+abbrev pub IsCallAnswered : Endpoint → Exchange → Call → CallAnswer → Exchange → Type 0
+IsCallAnswered endpoint exchange (asked.Send what) answer after =
+    IsSendAnswered endpoint exchange (send_in what) (key_in what) answer after
+IsCallAnswered endpoint exchange (asked.Take piece key) answer after =
+    IsTakeAnswered endpoint exchange piece key answer after
+IsCallAnswered endpoint exchange asked.End answer after = (answer ≡ Ended) × (after ≡ record exchange { ended = true })
 
 -- one call after the other
 abbrev pub AreAnswered : Endpoint → Exchange → List Call → List CallAnswer → Exchange → Type 0
 AreAnswered endpoint exchange [] answers after = (answers ≡ []) × (after ≡ exchange)
 AreAnswered endpoint exchange (call ∷ calls) [] after = ⊥
 AreAnswered endpoint exchange (call ∷ calls) (answer ∷ answers) after = (next : Exchange)
-    × IsAnswered endpoint exchange call answer next × AreAnswered endpoint next calls answers after
+    × IsCallAnswered endpoint exchange call answer next × AreAnswered endpoint next calls answers after
 
 -- ---- what is told last
 
@@ -152,7 +145,7 @@ pub record Keeps (taken : List ℕ) (held : ℕ) : Type 0 where
 
 -- once the endpoint is over it keeps none
 abbrev pub HasHeld : Endpoint → Exchange → ℕ → Type 0
-HasHeld endpoint exchange held = (status : Status) × HasStatus endpoint exchange status
+HasHeld endpoint exchange held = (status : Status) × IsStatusAfter endpoint exchange status
     × MatchBool (is_over status) (held ≡ 0) (Keeps exchange.taken held)
 
 -- the report of these calls at a session
@@ -161,7 +154,7 @@ pub record IsSessionReport (role : Role) (limits : LimitsValue) (calls : List Ca
   pub after : Exchange
   pub answers : AreAnswered (session_of role limits) new_exchange calls report.answers after
   pub held : (held : ℕ) × (report.held ≡ Some held) × HasHeld (session_of role limits) after held
-  pub status : HasStatus (session_of role limits) after report.status
+  pub status : IsStatusAfter (session_of role limits) after report.status
 
 -- the report of these calls at an echo, which doesn't tell the bytes kept
 pub record IsEchoReport (role : Role) (limits : LimitsValue) (calls : List EchoCall) (report : CallsReport)
@@ -169,14 +162,14 @@ pub record IsEchoReport (role : Role) (limits : LimitsValue) (calls : List EchoC
   pub after : Exchange
   pub answers : AreAnswered (echo_of role limits) new_exchange (map as_call calls) report.answers after
   pub held : report.held ≡ None
-  pub status : HasStatus (echo_of role limits) after report.status
+  pub status : IsStatusAfter (echo_of role limits) after report.status
 
 -- ---- all pieces
 
-abbrev pub piece_of : Call → List ℕ
-piece_of (Take piece key) = piece
-piece_of _ = []
+abbrev pub piece_of_call : Call → List ℕ
+piece_of_call (asked.Take piece key) = piece
+piece_of_call _ = []
 
 -- how many bytes the takes of these calls hand over
 abbrev pub count_taken : List Call → ℕ
-count_taken calls = sum_by (λ (call : Call). length (piece_of call)) calls
+count_taken calls = sum_by (λ (call : Call). length (piece_of_call call)) calls

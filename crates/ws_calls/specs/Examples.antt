@@ -1,5 +1,5 @@
 -- Worked examples of scripts of calls and of the lines that tell what came of them, each a theorem.
-use Rattle.std.specs.Prelude.{◌≡◌, ⊤, [], ◌∷◌, Some, None, codes, refl}
+use Rattle.std.specs.Prelude.{◌≡◌, ⊤, [], ◌∷◌, Some, codes, refl}
 use Rattle.std.specs.Fmt.{digits}
 use Rattle.ws_session.specs.declared.event.Event.TheVariants as event
 use Rattle.ws_session.specs.declared.reason.Reason.TheVariants.{TooBig}

@@ -2,5 +2,5 @@ pub mod Script
 pub mod Calls
 pub mod CallLines
 pub mod Examples
-pub mod Steps
-pub mod Printing
+pub mod InnerSteps
+pub mod InnerPrinting

@@ -2,9 +2,9 @@
 
 ghost use Rattle.std.specs.Prelude.{◌+◌, ◌^◌, ◌<◌, ◌≤◌, length, map, IfOk};
 ghost use Rattle.ws_session.specs.Exchange.{Exchange};
-ghost use Rattle.ws_calls.specs.Calls.{IsEchoReport, count_taken, echo_of, piece_of};
+ghost use Rattle.ws_calls.specs.Calls.{IsEchoReport, count_taken, echo_of, piece_of_call};
 ghost use Rattle.ws_calls.specs.Script.{as_call};
-ghost use Rattle.ws_calls.specs.Steps.{Agrees, HasAnswered};
+ghost use Rattle.ws_calls.specs.InnerSteps.{Agrees, HasAnsweredCall};
 ghost use Rattle.ws_calls.specs.declared.calls.Call.TheVariants.{Take};
 
 use crate::calls::EchoCall;
@@ -53,11 +53,12 @@ struct EchoCaller {
 impl EchoCaller {
     /// One call, and what came of it.
     fn call(&mut self, alloc: Global, call: &EchoCall) -> Result<CallAnswer, NoMemory>
-        requires room { self.old.taken + length (piece_of (as_call call.now)) < 2 ^ 64 }
+        requires room { self.old.taken + length (piece_of_call (as_call call.now)) < 2 ^ 64 }
         ensures answered { (exchange : Exchange) → Agrees exchange self.old.taken self.old.echo →
-            IfOk result (λ answer. HasAnswered (echo_of self.old.echo.role self.old.echo.limits) exchange
+            IfOk result (λ answer. HasAnsweredCall (echo_of self.old.echo.role self.old.echo.limits) exchange
             (as_call call.now) answer self.new.taken self.new.echo) }
-        ensures taken { IfOk result (λ answer. self.new.taken ≤ self.old.taken + length (piece_of (as_call call.now))) }
+        ensures taken { IfOk result (λ answer.
+            self.new.taken ≤ self.old.taken + length (piece_of_call (as_call call.now))) }
     {
         match call {
             EchoCall::Take { piece, key } => {
@@ -75,7 +76,7 @@ impl EchoCaller {
     fn take(&mut self, alloc: Global, piece: &Payload, key: [u8; 4]) -> Result<CallAnswer, NoMemory>
         requires room { self.old.taken + length piece.now < 2 ^ 64 }
         ensures answered { (exchange : Exchange) → Agrees exchange self.old.taken self.old.echo →
-            IfOk result (λ answer. HasAnswered (echo_of self.old.echo.role self.old.echo.limits) exchange
+            IfOk result (λ answer. HasAnsweredCall (echo_of self.old.echo.role self.old.echo.limits) exchange
             (Take piece.now key) answer self.new.taken self.new.echo) }
         ensures taken { IfOk result (λ answer. self.new.taken ≤ self.old.taken + length piece.now) }
     {

@@ -3,7 +3,7 @@
 ghost use Rattle.std.specs.Prelude.{◌≡◌, ◌≤◌, length, map, IfOk, MatchResult};
 ghost use Rattle.ws_base.specs.Lines.{Damages};
 ghost use Rattle.ws_base.specs.Reading.{Finds, Reads};
-ghost use Rattle.ws_calls.specs.Script.{AreEchoCallLines, AreWords, IsEchoCallLine, IsEchoCallOf, as_call};
+ghost use Rattle.ws_calls.specs.Script.{AreEchoCallLines, AreEchoCallWords, IsEchoCallLine, IsEchoCallOf, as_call};
 ghost use Rattle.ws_calls.specs.Script.{echo_name_word};
 ghost use Rattle.ws_calls.specs.Calls.{count_taken};
 
@@ -36,7 +36,7 @@ impl Line for EchoCall {
 
 /// The call of an echo that words tell.
 fn read_echo_words(alloc: Global, words: &[&[u8]]) -> Result<EchoCall, LineFault>
-    ensures { Reads result (λ found. AreWords (as_call found) (map (λ w. w.now) words.now)) }
+    ensures { Reads result (λ found. AreEchoCallWords found (map (λ w. w.now) words.now)) }
 {
     let [name, fields @ ..] = words else {
         return Err(LineFault::Damaged);
@@ -50,13 +50,13 @@ fn read_echo_words(alloc: Global, words: &[&[u8]]) -> Result<EchoCall, LineFault
 
 /// What the first word of an echo's call is.
 #[derive(Clone, Copy)]
-enum EchoName {
+pub(crate) enum EchoName {
     Take,
     End,
 }
 
 /// The first word of an echo's call.
-fn read_echo_name(word: &[u8]) -> Option<EchoName>
+pub(crate) fn read_echo_name(word: &[u8]) -> Option<EchoName>
     ensures { Finds result (λ name. word.now ≡ echo_name_word name) }
 {
     match word {
@@ -67,7 +67,11 @@ fn read_echo_name(word: &[u8]) -> Option<EchoName>
 }
 
 /// The call of an echo of this name, by the words behind it.
-fn read_echo_fields(alloc: Global, name: EchoName, fields: &[&[u8]]) -> Result<EchoCall, LineFault>
+pub(crate) fn read_echo_fields(
+    alloc: Global,
+    name: EchoName,
+    fields: &[&[u8]],
+) -> Result<EchoCall, LineFault>
     ensures { Reads result (λ found. IsEchoCallOf name found (map (λ w. w.now) fields.now)) }
 {
     match name {

@@ -3,7 +3,7 @@
 ghost use Rattle.std.specs.Prelude.{◌≡◌, ◌+◌, ◌^◌, ◌<◌, map, IfOk};
 ghost use Rattle.std.specs.List.{AllByRecursion};
 ghost use Rattle.ws_session.specs.declared.event.PlacedEvent.{PlacedEvent};
-ghost use Rattle.ws_calls.specs.Steps.{placed_behind};
+ghost use Rattle.ws_calls.specs.InnerSteps.{placed_behind};
 
 use crate::report::PlacedInStream;
 use std::alloc::Global;

@@ -2,7 +2,7 @@
 
 ghost use Rattle.std.specs.Prelude.{◌≡◌, IfOk, Some, string_bytes};
 ghost use Rattle.ws_calls.specs.CallLines.{calls_lines};
-ghost use Rattle.ws_calls.specs.Printing.{printed_answer, printed_event, printed_report, printed_words};
+ghost use Rattle.ws_calls.specs.InnerPrinting.{printed_answer, printed_event, printed_report, printed_words};
 
 use crate::report::{CallAnswer, CallsReport, PlacedInStream};
 use std::alloc::Global;

@@ -3,8 +3,8 @@
 ghost use Rattle.std.specs.Prelude.{◌≡◌, ◌+◌, ◌^◌, ◌<◌, ◌≤◌, length, IfOk};
 ghost use Rattle.ws_session.specs.Exchange.{Exchange};
 ghost use Rattle.ws_session.specs.Sends.{send_of};
-ghost use Rattle.ws_calls.specs.Calls.{IsSessionReport, count_taken, piece_of, session_of};
-ghost use Rattle.ws_calls.specs.Steps.{Agrees, HasAnswered, HasAnsweredSend, IsOutcome};
+ghost use Rattle.ws_calls.specs.Calls.{IsSessionReport, count_taken, piece_of_call, session_of};
+ghost use Rattle.ws_calls.specs.InnerSteps.{Agrees, HasAnsweredCall, HasAnsweredSend, IsOutcome};
 ghost use Rattle.ws_calls.specs.declared.calls.Call.TheVariants.{Take};
 
 use crate::calls::Call;
@@ -53,51 +53,15 @@ struct Caller {
 impl Caller {
     /// One call, and what came of it.
     fn call(&mut self, alloc: Global, call: &Call) -> Result<CallAnswer, NoMemory>
-        requires room { self.old.taken + length (piece_of call.now) < 2 ^ 64 }
+        requires room { self.old.taken + length (piece_of_call call.now) < 2 ^ 64 }
         ensures answered { (exchange : Exchange) → Agrees exchange self.old.taken self.old.session →
-            IfOk result (λ answer. HasAnswered (session_of self.old.session.role self.old.session.limits) exchange
+            IfOk result (λ answer. HasAnsweredCall (session_of self.old.session.role self.old.session.limits) exchange
             call.now answer self.new.taken self.new.session) }
-        ensures taken { IfOk result (λ answer. self.new.taken ≤ self.old.taken + length (piece_of call.now)) }
+        ensures taken { IfOk result (λ answer. self.new.taken ≤ self.old.taken + length (piece_of_call call.now)) }
     {
         match call {
-            Call::Begin {
-                kind,
-                payload,
-                fin,
-                key,
-            } => {
-                let frame = Outgoing::Begin {
-                    kind: *kind,
-                    payload: payload.as_slice(),
-                    fin: *fin,
-                };
-                let answer = self.send(alloc, &frame, *key)?;
-                Ok(answer)
-            }
-            Call::More { payload, fin, key } => {
-                let frame = Outgoing::More {
-                    payload: payload.as_slice(),
-                    fin: *fin,
-                };
-                let answer = self.send(alloc, &frame, *key)?;
-                Ok(answer)
-            }
-            Call::Ping { payload, key } => {
-                let answer = self.send(alloc, &Outgoing::Ping(payload.as_slice()), *key)?;
-                Ok(answer)
-            }
-            Call::Pong { payload, key } => {
-                let answer = self.send(alloc, &Outgoing::Pong(payload.as_slice()), *key)?;
-                Ok(answer)
-            }
-            Call::Close { given, key } => {
-                let answer = self.send(alloc, &Outgoing::close(given), *key)?;
-                Ok(answer)
-            }
-            Call::Take { piece, key } => {
-                let answer = self.take(alloc, piece, *key)?;
-                Ok(answer)
-            }
+            Call::Send(send) => self.send(alloc, &send.outgoing(), send.key()),
+            Call::Take { piece, key } => self.take(alloc, piece, *key),
             Call::End => {
                 self.session.end();
                 Ok(CallAnswer::Ended)
@@ -127,7 +91,7 @@ impl Caller {
     fn take(&mut self, alloc: Global, piece: &Payload, key: [u8; 4]) -> Result<CallAnswer, NoMemory>
         requires room { self.old.taken + length piece.now < 2 ^ 64 }
         ensures answered { (exchange : Exchange) → Agrees exchange self.old.taken self.old.session →
-            IfOk result (λ answer. HasAnswered (session_of self.old.session.role self.old.session.limits) exchange
+            IfOk result (λ answer. HasAnsweredCall (session_of self.old.session.role self.old.session.limits) exchange
             (Take piece.now key) answer self.new.taken self.new.session) }
         ensures taken { IfOk result (λ answer. self.new.taken ≤ self.old.taken + length piece.now) }
     {

@@ -1,11 +1,11 @@
 -- One move at an end of a link.
-use Rattle.std.proofs.Common.{◌≡◌, ℕ, ◌+◌, ◌-◌, Bool, List, [], ◌∷◌, ◌++◌, length, take, min, cond, Option, Some, None, Result, Ok, Err, refl, sym, ap, ◌∙◌, subst}
-use Rattle.std.specs.Prelude.{map, OnOk, OnErr, IfErr}
+use Rattle.std.proofs.Common.{◌≡◌, ℕ, ◌+◌, ◌-◌, List, [], ◌∷◌, length, take, min, cond, Result, Ok, Err, refl, sym, ap, ◌∙◌, subst}
+use Rattle.std.specs.Prelude.{map, OnOk, OnErr, IfOk, IfErr}
 use Rattle.std.specs.declared.alloc.Global.{Global}
 use Rattle.std.specs.declared.vec.Vec.{Vec}
 use Rattle.ws_session.specs.declared.session.Session.{Session}
 use Rattle.std.proofs.lemmas.List.{append-nil}
-use Rattle.ws_frame.specs.Frame.{Frame, KeyedFrame, stream_bytes}
+use Rattle.ws_frame.specs.Frame.{KeyedFrame, stream_bytes}
 use Rattle.ws_session.specs.declared.status.Status.{Status}
 use Rattle.ws_session.specs.declared.send_fault.SendFault.{SendFault}
 use Rattle.ws_session.specs.declared.send_fault.SendFault.TheVariants as fault
@@ -20,9 +20,9 @@ use Rattle.ws_pair.specs.declared.moves.Move.TheVariants.{Arrive, Cut}
 use Rattle.ws_pair.specs.declared.report.Answer.{Answer}
 use Rattle.ws_pair.specs.declared.report.Answer.TheVariants as outcome
 use Rattle.ws_pair.specs.declared.endpoint.Endpoint.{Endpoint}
-use Rattle.ws_pair.specs.Link.{LinkEnd, Link, BothLimits, other, role_of, end_of, limits_of, with_end, status_at}
-use Rattle.ws_pair.specs.Moves.{side_of, with_sent, IsSendAnswered, newly_told, count_arriving, with_cut, IsAnswered}
-use Rattle.ws_pair.specs.Playing.{IsToldOf, peer, AreSentBy, IsEnd, grown, Stands, HasSentMove, HasMoved, SessionLaws}
+use Rattle.ws_pair.specs.Link.{LinkEnd, Link, BothLimits, other, role_at, end_of, limits_at, with_end, status_at}
+use Rattle.ws_pair.specs.Moves.{side_of, with_sent, IsSendMoveAnswered, newly_told, count_arriving, with_cut, IsMoveAnswered}
+use Rattle.ws_pair.specs.InnerPlaying.{IsToldOf, peer, AreSentBy, IsEnd, grown, IsEndAt, HasSentMove, HasMoved, LawsOfEachSession}
 use Rattle.ws_pair.proofs.Ends.{status_is, sent_by, unchanged}
 
 same_link : (link : Link) (side : End) → with_end link side (end_of link side) ≡ link
@@ -30,14 +30,19 @@ same_link link Client = refl
 same_link link Server = refl
 
 -- the endpoint stands as the end of the link after the move
-pub stands_at : (limits : BothLimits) (link : Link) (side : End) (x : LinkEnd) (w : Endpoint) → IsEnd (role_of side) (limits_of limits side) x (end_of link (other side)).sent w → Stands limits (with_end link side x) side w
+pub stands_at : (limits : BothLimits) (link : Link) (side : End) (x : LinkEnd) (w : Endpoint) → IsEnd (role_at side) (limits_at limits side) x (end_of link (other side)).sent w → IsEndAt limits (with_end link side x) side w
 stands_at limits link Client x w h = h
 stands_at limits link Server x w h = h
 
 -- what a move at an end promises
 abbrev pub Acts : Endpoint → Endpoint → List ℕ → Answer → Move → Type 0
-Acts v w others answer move = (limits : BothLimits) (link : Link) → Stands limits link (side_of move) v → AreSentBy (peer (role_of (side_of move))) (end_of link (other (side_of move))).sent
+Acts v w others answer move = (limits : BothLimits) (link : Link) → IsEndAt limits link (side_of move) v → AreSentBy (peer (role_at (side_of move))) (end_of link (other (side_of move))).sent
     → others ≡ stream_bytes (end_of link (other (side_of move))).sent → HasMoved limits link move answer w
+
+-- the same, where the run goes on
+abbrev pub ActsIfOk : {E : Type 0} → Endpoint → Endpoint → List ℕ → Result Answer E → Move → Type 0
+ActsIfOk v w others result move = (limits : BothLimits) (link : Link) → IsEndAt limits link (side_of move) v → AreSentBy (peer (role_at (side_of move))) (end_of link (other (side_of move))).sent
+    → others ≡ stream_bytes (end_of link (other (side_of move))).sent → IfOk result (λ answer. HasMoved limits link move answer w)
 
 -- ---- a send
 
@@ -55,7 +60,7 @@ pub record HasCalled {X : Type 0} (v w : Endpoint) (what : Send) (key : List ℕ
   pub delivered : w.delivered ≡ v.delivered
   pub is_cut : w.is_cut ≡ v.is_cut
 
-module _ (laws : SessionLaws) (limits : BothLimits) (link : Link) (side : End) (what : Send) (key : List ℕ) (v w : Endpoint) (is : Stands limits link side v) (peers : AreSentBy (peer (role_of side)) (end_of link (other side)).sent) where
+module _ (laws : LawsOfEachSession) (limits : BothLimits) (link : Link) (side : End) (what : Send) (key : List ℕ) (v w : Endpoint) (is : IsEndAt limits link side v) (peers : AreSentBy (peer (role_at side)) (end_of link (other side)).sent) where
   abbrev here : Exchange
   here = record {
     sent = frames_of (end_of link side).sent;
@@ -64,17 +69,17 @@ module _ (laws : SessionLaws) (limits : BothLimits) (link : Link) (side : End) (
   }
 
   status_here : v.session.status ≡ status_at limits link side
-  status_here = status_is laws (role_of side) (limits_of limits side) (end_of link (other side)).sent peers (end_of link side) v is
+  status_here = status_is laws (role_at side) (limits_at limits side) (end_of link (other side)).sent peers (end_of link side) v is
 
   is_done : {X : Type 0} (done : X) → HasCalled {X = X} v w what key (Ok done) → HasSentMove limits link side what key outcome.Did w
   is_done done h =
       let x : LinkEnd = end_of link side in
-      let one : List KeyedFrame = under_key (role_of side) key (frame_of what) ∷ [] in
+      let one : List KeyedFrame = under_key (role_at side) key (frame_of what) ∷ [] in
       let t = h.done here is.exchanged in
       record {
         end = with_sent x one;
         answered = (subst (λ (s : Status). MaySend (frames_of x.sent) s what) status_here t.may, refl);
-        stands = stands_at limits link side (with_sent x one) w (sent_by laws (role_of side) (limits_of limits side) (end_of link (other side)).sent peers x v is what key w t h.text h.reached (ap (λ d. d.items) h.delivered) h.is_cut);
+        stands = stands_at limits link side (with_sent x one) w (sent_by laws (role_at side) (limits_at limits side) (end_of link (other side)).sent peers x v is what key w t h.text h.reached (ap (λ d. d.items) h.delivered) h.is_cut);
         more = one;
         sent = refl;
       }
@@ -85,7 +90,7 @@ module _ (laws : SessionLaws) (limits : BothLimits) (link : Link) (side : End) (
       record {
         end = x;
         answered = (subst (λ (s : Status). IsFirstWrong (frames_of x.sent) s what why) status_here first, same_link link side);
-        stands = stands_at limits link side x w (unchanged (role_of side) (limits_of limits side) x (end_of link (other side)).sent v w is h.kept.0 h.kept.1 h.reached (ap (λ d. d.items) h.delivered) h.is_cut);
+        stands = stands_at limits link side x w (unchanged (role_at side) (limits_at limits side) x (end_of link (other side)).sent v w is h.kept.0 h.kept.1 h.reached (ap (λ d. d.items) h.delivered) h.is_cut);
         more = [];
         sent = sym (append-nil x.sent);
       }
@@ -105,36 +110,44 @@ module _ (laws : SessionLaws) (limits : BothLimits) (link : Link) (side : End) (
   send_moved (Err fault.BadCode) answer h e = at_answer (outcome.Refused fault.BadCode) answer e (is_refused fault.BadCode h (h.refused here is.exchanged))
 
 -- a send is a move, where the move is answered as the send is
-pub send_acts : (v w : Endpoint) (others : List ℕ) (answer : Answer) (move : Move) (what given : Send) (key : List ℕ) → given ≡ what
-    → ((limits : BothLimits) (link after : Link) → IsSendAnswered limits link (side_of move) what key answer after → IsAnswered limits link move answer after)
-    → ((limits : BothLimits) (link : Link) (side : End) → Stands limits link side v → AreSentBy (peer (role_of side)) (end_of link (other side)).sent → HasSentMove limits link side given key answer w)
+send_acts : (v w : Endpoint) (others : List ℕ) (answer : Answer) (move : Move) (what given : Send) (key : List ℕ) → given ≡ what
+    → ((limits : BothLimits) (link after : Link) → IsSendMoveAnswered limits link (side_of move) what key answer after → IsMoveAnswered limits link move answer after)
+    → ((limits : BothLimits) (link : Link) (side : End) → IsEndAt limits link side v → AreSentBy (peer (role_at side)) (end_of link (other side)).sent → HasSentMove limits link side given key answer w)
     → Acts v w others answer move
 send_acts v w others answer move what given key e same sends limits link is peers all =
     let m = subst (λ (x : Send). HasSentMove limits link (side_of move) x key answer w) e (sends limits link (side_of move) is peers) in
     record { end = m.end; answered = same limits link (with_end link (side_of move) m.end) m.answered; stands = m.stands; more = m.more; sent = m.sent }
 
+-- the same, whether the run goes on or memory ran out
+pub sends_act : {E : Type 0} (v w : Endpoint) (others : List ℕ) (result : Result Answer E) (move : Move) (what given : Send) (key : List ℕ) → given ≡ what
+    → ((limits : BothLimits) (link after : Link) (answer : Answer) → IsSendMoveAnswered limits link (side_of move) what key answer after → IsMoveAnswered limits link move answer after)
+    → ((limits : BothLimits) (link : Link) (side : End) → IsEndAt limits link side v → AreSentBy (peer (role_at side)) (end_of link (other side)).sent → IfOk result (λ answer. HasSentMove limits link side given key answer w))
+    → ActsIfOk v w others result move
+sends_act v w others (Ok answer) move what given key e same sends = send_acts v w others answer move what given key e (λ limits link after h. same limits link after answer h) sends
+sends_act v w others (Err why) move what given key e same sends = λ limits link is peers all. tt
+
 -- ---- bytes that arrive, and a cut
 
 pub arrive_acts : (v w : Endpoint) (others : List ℕ) (side : End) (bytes count : ℕ) (key : List ℕ) → count ≡ cond v.is_cut 0 (min bytes (length others - v.reached))
-    → ((limits : BothLimits) (link : Link) → Stands limits link side v → AreSentBy (peer (role_of side)) (end_of link (other side)).sent → others ≡ stream_bytes (end_of link (other side)).sent
-    → IsEnd (role_of side) (limits_of limits side) (grown (role_of side) (limits_of limits side) (end_of link side) (end_of link (other side)).sent count key) (end_of link (other side)).sent w)
+    → ((limits : BothLimits) (link : Link) → IsEndAt limits link side v → AreSentBy (peer (role_at side)) (end_of link (other side)).sent → others ≡ stream_bytes (end_of link (other side)).sent
+    → IsEnd (role_at side) (limits_at limits side) (grown (role_at side) (limits_at limits side) (end_of link side) (end_of link (other side)).sent count key) (end_of link (other side)).sent w)
     → Acts v w others (outcome.Arrived count) (Arrive side bytes key)
 arrive_acts v w others side bytes count key is_count came limits link is peers all =
     let x : LinkEnd = end_of link side in
     let xs : List KeyedFrame = (end_of link (other side)).sent in
     let same : count ≡ count_arriving link side bytes =
     is_count ∙ ap (λ b. cond b 0 (min bytes (length others - v.reached))) is.is_cut ∙ ap (λ k. cond x.is_cut 0 (min bytes (length others - k))) is.reached ∙ ap (λ (l : List ℕ). cond x.is_cut 0 (min bytes (length l - x.reached))) all in
-    let next : LinkEnd = grown (role_of side) (limits_of limits side) x xs count key in
+    let next : LinkEnd = grown (role_at side) (limits_at limits side) x xs count key in
     record {
       end = next;
-      answered = (ap (λ k. outcome.Arrived k) same, ap (λ k. with_end link side (grown (role_of side) (limits_of limits side) x xs k key)) same);
+      answered = (ap (λ k. outcome.Arrived k) same, ap (λ k. with_end link side (grown (role_at side) (limits_at limits side) x xs k key)) same);
       stands = stands_at limits link side next w (came limits link is peers all);
-      more = map (under_key (role_of side) key) (replies_of (frames_of x.sent) (newly_told (limits_of limits side) xs x.reached (x.reached + count)));
+      more = map (under_key (role_at side) key) (replies_of (frames_of x.sent) (newly_told (limits_at limits side) xs x.reached (x.reached + count)));
       sent = refl;
     }
 
 pub cut_acts : (v w : Endpoint) (others : List ℕ) (side : End)
-    → ((limits : BothLimits) (link : Link) → Stands limits link side v → IsEnd (role_of side) (limits_of limits side) (with_cut (end_of link side)) (end_of link (other side)).sent w)
+    → ((limits : BothLimits) (link : Link) → IsEndAt limits link side v → IsEnd (role_at side) (limits_at limits side) (with_cut (end_of link side)) (end_of link (other side)).sent w)
     → Acts v w others outcome.Cut (Cut side)
 cut_acts v w others side ends limits link is peers all = record {
   end = with_cut (end_of link side);

@@ -2,7 +2,7 @@
 use Rattle.std.proofs.Common.{◌≡◌, ℕ, ◌+◌, ◌-◌, ◌≤◌, ◌<◌, Bool, true, false, cond, min, List, [], ◌∷◌, ◌++◌, length, take, drop, refl, sym, ap, ◌∙◌, arith, inl, inr}
 use Rattle.std.specs.Prelude.{map}
 use Rattle.std.specs.List.{AllByRecursion}
-use Rattle.std.proofs.lemmas.List.{map-append, take-take, take-append-drop, drop-take, drop-drop, take-append-le, length-drop, length-take, get_or-take, get_or_past}
+use Rattle.std.proofs.lemmas.List.{map-append, take-take, take-append-drop, drop-take, take-append-le, length-drop, length-take, get_or-take, get_or_past}
 use Rattle.std.proofs.lemmas.Bool.{cases_lt}
 use Rattle.std.proofs.lemmas.Grind.{flat_map-append}
 use Rattle.ws_frame.specs.declared.role.Role.{Role}
@@ -10,7 +10,7 @@ use Rattle.ws_frame.specs.Header.{AreBytes}
 use Rattle.ws_frame.specs.Frame.{Frame, KeyedFrame, frame_bytes, stream_bytes}
 use Rattle.ws_session.specs.Faults.{frames_of}
 use Rattle.ws_session.specs.Replies.{under_key}
-use Rattle.ws_pair.specs.Playing.{IsNextIn}
+use Rattle.ws_pair.specs.InnerPlaying.{IsNextIn}
 
 pub take_plus : (n u : ℕ) (s : List ℕ) → take n s ++ take u (drop n s) ≡ take (n + u) s
 take_plus n u s =

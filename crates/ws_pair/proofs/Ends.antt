@@ -1,15 +1,14 @@
 -- An endpoint that stands as an end: what it is told, and each step of it.
-use Rattle.std.proofs.Common.{◌≡◌, ℕ, ◌+◌, ◌≤◌, ◌<◌, Bool, true, false, List, [], ◌∷◌, ◌++◌, length, take, drop, Option, Some, refl, sym, ap, ◌∙◌, arith, subst}
+use Rattle.std.proofs.Common.{◌≡◌, ℕ, ◌+◌, ◌≤◌, ◌<◌, Bool, true, false, List, [], ◌∷◌, ◌++◌, length, take, drop, Some, refl, sym, ap, ◌∙◌, arith, subst}
 use Rattle.std.specs.Prelude.{map}
 use Rattle.std.proofs.lemmas.List.{append-nil, length-append, drop_at, take_all}
 use Rattle.ws_frame.specs.declared.role.Role.{Role}
 use Rattle.ws_frame.specs.declared.role.Role.TheVariants as role
-use Rattle.ws_frame.specs.Header.{AreBytes, IsMaskingKey, is_masked}
+use Rattle.ws_frame.specs.Header.{IsMaskingKey, is_masked}
 use Rattle.ws_frame.specs.Frame.{Frame, KeyedFrame, FitsTheLayout, frame_bytes, stream_bytes}
 use Rattle.ws_session.specs.declared.message.Message.{Message}
 use Rattle.ws_session.specs.declared.event.Event.{Event}
 use Rattle.ws_session.specs.declared.event.PlacedEvent.{PlacedEvent}
-use Rattle.ws_session.specs.declared.status.Status.{Status}
 use Rattle.ws_session.specs.Limits.{LimitsValue}
 use Rattle.ws_session.specs.Messages.{messages_of}
 use Rattle.ws_session.specs.Validity.{AreValidFrames}
@@ -23,7 +22,7 @@ use Rattle.ws_session.specs.Reach.{events_within}
 use Rattle.ws_pair.specs.declared.endpoint.Endpoint.{Endpoint}
 use Rattle.ws_pair.specs.Link.{LinkEnd}
 use Rattle.ws_pair.specs.Moves.{with_sent, newly_told}
-use Rattle.ws_pair.specs.Playing.{peer, AreSentBy, IsEnd, grown, SessionLaws, IsNextIn}
+use Rattle.ws_pair.specs.InnerPlaying.{peer, AreSentBy, IsEnd, grown, LawsOfEachSession, IsNextIn}
 use Rattle.ws_pair.proofs.Bytes.{front_of_next, frames_append, frames_under, stream_append, all_append, front_stays}
 use Rattle.ws_pair.proofs.Told.{nothing_owed, status_by, status_told, messages-append, messages_within}
 
@@ -45,7 +44,7 @@ fitting_keys role key (f ∷ fs) = (fitting_key role key f, fitting_keys role ke
 
 -- ---- what is told
 
-module _ (laws : SessionLaws) (role : Role) (limits : LimitsValue) (ys : List KeyedFrame) (peers : AreSentBy (peer role) ys) where
+module _ (laws : LawsOfEachSession) (role : Role) (limits : LimitsValue) (ys : List KeyedFrame) (peers : AreSentBy (peer role) ys) where
   pub told_at : (n : ℕ) → n ≤ length (stream_bytes ys) → HasEvents role limits (take n (stream_bytes ys)) (events_within limits n ys)
   told_at n le = laws.told role limits most_limits n ys peers.can (subst (λ (r : Role). KeysFit r ys) (back role) peers.keys) peers.valid
 
@@ -57,7 +56,7 @@ at_role role limits v bytes events e f h = subst (λ (k : LimitsValue). HasEvent
 at_own : (role : Role) (limits : LimitsValue) (v : SessionValue) (bytes : List ℕ) (events : List Event) → v.role ≡ role → v.limits ≡ limits → HasEvents role limits bytes events → HasEvents v.role v.limits bytes events
 at_own role limits v bytes events e f h = subst (λ (k : LimitsValue). HasEvents v.role k bytes events) (sym f) (subst (λ (r : Role). HasEvents r limits bytes events) (sym e) h)
 
-module _ (laws : SessionLaws) (role : Role) (limits : LimitsValue) (ys : List KeyedFrame) (peers : AreSentBy (peer role) ys) (x : LinkEnd) (v : Endpoint) (is : IsEnd role limits x ys v) where
+module _ (laws : LawsOfEachSession) (role : Role) (limits : LimitsValue) (ys : List KeyedFrame) (peers : AreSentBy (peer role) ys) (x : LinkEnd) (v : Endpoint) (is : IsEnd role limits x ys v) where
   pub status_is : v.session.status ≡ status_by limits x ys
   status_is =
       is.exchanged.status
@@ -169,7 +168,7 @@ module _ (laws : SessionLaws) (role : Role) (limits : LimitsValue) (ys : List Ke
 -- ---- the other end
 
 -- frames that the other end sends leave this end
-pub beside : (laws : SessionLaws) (role : Role) (limits : LimitsValue) (x : LinkEnd) (ys more : List KeyedFrame) (v : Endpoint) → IsEnd role limits x ys v → IsEnd role limits x (ys ++ more) v
+pub beside : (laws : LawsOfEachSession) (role : Role) (limits : LimitsValue) (x : LinkEnd) (ys more : List KeyedFrame) (v : Endpoint) → IsEnd role limits x ys v → IsEnd role limits x (ys ++ more) v
 beside laws role limits x ys more v is = record {
   role_kept = is.role_kept;
   limits_kept = is.limits_kept;
@@ -231,7 +230,7 @@ no_piece (b ∷ piece) cut e going =
     absurd cc
 
 -- the endpoint stands as the end to which the piece has come
-pub delivered_by : (laws : SessionLaws) (role : Role) (limits : LimitsValue) (ys : List KeyedFrame) (peers : AreSentBy (peer role) ys) (x : LinkEnd) (v : Endpoint) (is : IsEnd role limits x ys v)
+pub delivered_by : (laws : LawsOfEachSession) (role : Role) (limits : LimitsValue) (ys : List KeyedFrame) (peers : AreSentBy (peer role) ys) (x : LinkEnd) (v : Endpoint) (is : IsEnd role limits x ys v)
     (key piece : List ℕ) (next : IsNextIn (stream_bytes ys) x.reached piece) (placed : List PlacedEvent) (w : Endpoint)
     → HasTakenAll reply_to v.session w.session (record { piece = piece; key = key; before = v.put.items; after = w.put.items }) [] placed
     → (is_over v.session.status ≡ true → (w.session ≡ v.session) × (w.put.items ≡ v.put.items) × (placed ≡ []))

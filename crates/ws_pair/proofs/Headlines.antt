@@ -12,10 +12,10 @@ use Rattle.ws_pair.specs.declared.moves.Move.{Move}
 use Rattle.ws_pair.specs.declared.report.EndReport.{EndReport}
 use Rattle.ws_pair.specs.declared.report.Report.{Report}
 use Rattle.ws_pair.specs.declared.endpoint.Endpoint.{Endpoint}
-use Rattle.ws_pair.specs.Link.{Link, BothLimits, new_link, other, role_of, end_of, limits_of}
+use Rattle.ws_pair.specs.Link.{Link, BothLimits, new_link, other, role_at, end_of, limits_at}
 use Rattle.ws_pair.specs.Moves.{Plays}
 use Rattle.ws_pair.specs.Headline.{HasDelivered, IsWholeWhereClean, HasPut, HasReached, HasStatus, HasSession, AtEachEnd, HasNothingAfterClose}
-use Rattle.ws_pair.specs.Playing.{peer, AreSentBy, Stands, AreJoined, SessionLaws}
+use Rattle.ws_pair.specs.InnerPlaying.{peer, AreSentBy, IsEndAt, AreJoined, LawsOfEachSession}
 use Rattle.ws_pair.proofs.OnePlay.{plays_are_one}
 use Rattle.ws_pair.proofs.Told.{clean_is_whole}
 use Rattle.ws_pair.proofs.Ends.{status_is}
@@ -30,7 +30,7 @@ pub record IsReportOf (v : Endpoint) (report : EndReport) : Type 0 where
 
 -- ---- one end
 
-module _ (laws : SessionLaws) (limits : BothLimits) (link : Link) (side : End) (v : Endpoint) (is : Stands limits link side v) (peers : AreSentBy (peer (role_of side)) (end_of link (other side)).sent) (report : EndReport) (of : IsReportOf v report) where
+module _ (laws : LawsOfEachSession) (limits : BothLimits) (link : Link) (side : End) (v : Endpoint) (is : IsEndAt limits link side v) (peers : AreSentBy (peer (role_at side)) (end_of link (other side)).sent) (report : EndReport) (of : IsReportOf v report) where
   pub has_delivered : HasDelivered limits link side report
   has_delivered = ap (λ d. d.items) of.delivered ∙ is.delivered
 
@@ -41,7 +41,7 @@ module _ (laws : SessionLaws) (limits : BothLimits) (link : Link) (side : End) (
   has_reached = of.reached ∙ is.reached
 
   pub has_status : HasStatus limits link side report
-  has_status = of.status ∙ status_is laws (role_of side) (limits_of limits side) (end_of link (other side)).sent peers (end_of link side) v is
+  has_status = of.status ∙ status_is laws (role_at side) (limits_at limits side) (end_of link (other side)).sent peers (end_of link side) v is
 
   pub has_session : HasSession limits link side report
   has_session = record {
@@ -52,7 +52,7 @@ module _ (laws : SessionLaws) (limits : BothLimits) (link : Link) (side : End) (
 
   pub is_whole_where_clean : IsWholeWhereClean limits link side report
   is_whole_where_clean code clean =
-      let all = clean_is_whole laws (limits_of limits side) (end_of link (other side)).sent peers.valid (end_of link side) code (sym has_status ∙ clean) in
+      let all = clean_is_whole laws (limits_at limits side) (end_of link (other side)).sent peers.valid (end_of link side) code (sym has_status ∙ clean) in
       (has_delivered ∙ ap (λ (l : List KeyedFrame). messages_of (frames_of l)) all.0, all.1)
 
 -- ---- what an end has put
@@ -67,7 +67,7 @@ some_bytes x = grind arith
 nothing_begins : (x : KeyedFrame) (more : List ℕ) → FitsTheLayout x → [] ≡ frame_bytes x ++ more → ⊥
 nothing_begins x more can e = absurd (omega (arith, some_bytes x, length-append (frame_bytes x) more, ap (λ (l : List ℕ). length l) e))
 
-pub has_nothing_after_close : (limits : BothLimits) (link : Link) (side : End) (v : Endpoint) (report : EndReport) → IsReportOf v report → Stands limits link side v → HasNothingAfterClose report.put.items
+pub has_nothing_after_close : (limits : BothLimits) (link : Link) (side : End) (v : Endpoint) (report : EndReport) → IsReportOf v report → IsEndAt limits link side v → HasNothingAfterClose report.put.items
 has_nothing_after_close limits link side v report of is = record {
   frames = (end_of link side).sent;
   split = record {
@@ -90,10 +90,10 @@ pub record AreClaimed (limits : BothLimits) (moves : List Move) (report : Report
   pub status : AtEachEnd HasStatus limits moves report
   pub session : AtEachEnd HasSession limits moves report
 
-module _ (laws : SessionLaws) (limits : BothLimits) (moves : List Move) (client server : Endpoint) (report : Report) (of_client : IsReportOf client report.client) (of_server : IsReportOf server report.server) (link : Link) (plays : Plays limits new_link moves report.answers.items link) (j : AreJoined limits link client server) where
+module _ (laws : LawsOfEachSession) (limits : BothLimits) (moves : List Move) (client server : Endpoint) (report : Report) (of_client : IsReportOf client report.client) (of_server : IsReportOf server report.server) (link : Link) (plays : Plays limits new_link moves report.answers.items link) (j : AreJoined limits link client server) where
   -- what holds of each end in this link holds at each end, since the moves lead to this link alone
   at_both : (Holds : BothLimits → Link → End → EndReport → Type 0)
-      → ((side : End) (v : Endpoint) → Stands limits link side v → AreSentBy (peer (role_of side)) (end_of link (other side)).sent → (report : EndReport) → IsReportOf v report → Holds limits link side report)
+      → ((side : End) (v : Endpoint) → IsEndAt limits link side v → AreSentBy (peer (role_at side)) (end_of link (other side)).sent → (report : EndReport) → IsReportOf v report → Holds limits link side report)
       → AtEachEnd Holds limits moves report
   at_both Holds holds after p =
       subst (λ (l : Link). Holds limits l Client report.client × Holds limits l Server report.server) (plays_are_one limits new_link moves report.answers.items report.answers.items link after plays p).1

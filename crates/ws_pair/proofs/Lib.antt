@@ -1,4 +1,5 @@
 mod PassedUp
+mod MoveWords
 mod OnePlay
 mod Told
 mod Bytes

@@ -14,7 +14,7 @@ use Rattle.ws_pair.specs.declared.moves.Move.TheVariants.{Begin, More, Ping, Pon
 use Rattle.ws_pair.specs.declared.report.Answer.{Answer}
 use Rattle.ws_pair.specs.declared.report.Answer.TheVariants as outcome
 use Rattle.ws_pair.specs.Link.{end_of, Link, BothLimits, status_at}
-use Rattle.ws_pair.specs.Moves.{IsSendAnswered, IsAnswered, Plays}
+use Rattle.ws_pair.specs.Moves.{IsSendMoveAnswered, IsMoveAnswered, Plays}
 
 -- ---- one refusal
 
@@ -43,7 +43,7 @@ abbrev AreOne : Answer → Answer → Link → Link → Type 0
 AreOne a b x y = (a ≡ b) × (x ≡ y)
 
 module _ (limits : BothLimits) (link : Link) where
-  one_send : (side : End) (what : Send) (key : List ℕ) (a b : Answer) (x y : Link) → IsSendAnswered limits link side what key a x → IsSendAnswered limits link side what key b y → AreOne a b x y
+  one_send : (side : End) (what : Send) (key : List ℕ) (a b : Answer) (x y : Link) → IsSendMoveAnswered limits link side what key a x → IsSendMoveAnswered limits link side what key b y → AreOne a b x y
   one_send side what key outcome.Did outcome.Did x y p q = (refl, p.1 ∙ sym q.1)
   one_send side what key outcome.Did (outcome.Refused fault) x y p q = absurd (p.0 fault q.0.wrong)
   one_send side what key outcome.Did (outcome.Arrived n) x y p q = absurd q
@@ -56,7 +56,7 @@ module _ (limits : BothLimits) (link : Link) where
   one_send side what key (outcome.Arrived n) b x y p q = absurd p
   one_send side what key outcome.Cut b x y p q = absurd p
 
-  one_answer : (move : Move) (a b : Answer) (x y : Link) → IsAnswered limits link move a x → IsAnswered limits link move b y → AreOne a b x y
+  one_answer : (move : Move) (a b : Answer) (x y : Link) → IsMoveAnswered limits link move a x → IsMoveAnswered limits link move b y → AreOne a b x y
   one_answer (Begin side kind payload fin key) a b x y p q = one_send side (send.Begin kind payload fin) key a b x y p q
   one_answer (More side payload fin key) a b x y p q = one_send side (send.More payload fin) key a b x y p q
   one_answer (Ping side payload key) a b x y p q = one_send side (send.Ping payload) key a b x y p q
@@ -79,9 +79,9 @@ plays_are_one limits link (move ∷ moves) (a ∷ answers) (b ∷ others) x y p 
 -- ---- one move more
 
 pub plays_more : (limits : BothLimits) (link : Link) (moves : List Move) (move : Move) (answers : List Answer) (answer : Answer) (between after : Link)
-    → Plays limits link moves answers between → IsAnswered limits between move answer after → Plays limits link (moves ++ move ∷ []) (answers ++ answer ∷ []) after
+    → Plays limits link moves answers between → IsMoveAnswered limits between move answer after → Plays limits link (moves ++ move ∷ []) (answers ++ answer ∷ []) after
 plays_more limits link [] move answers answer between after p a =
     subst (λ (l : List Answer). Plays limits link (move ∷ []) (l ++ answer ∷ []) after) (sym p.0)
-    (after, subst (λ (l : Link). IsAnswered limits l move answer after) p.1 a, (refl, refl))
+    (after, subst (λ (l : Link). IsMoveAnswered limits l move answer after) p.1 a, (refl, refl))
 plays_more limits link (m ∷ moves) move [] answer between after p a = absurd p
 plays_more limits link (m ∷ moves) move (b ∷ answers) answer between after p a = (p.0, p.1, plays_more limits p.0 moves move answers answer between after p.2 a)

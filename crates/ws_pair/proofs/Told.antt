@@ -1,5 +1,5 @@
 -- What an end is told by some first bytes of the other's frames, and its status by that.
-use Rattle.std.proofs.Common.{◌≡◌, ℕ, ◌≤◌, ◌⊎◌, suc, Bool, true, false, cond, List, [], ◌∷◌, ◌++◌, length, Option, Some, None, refl, sym, ap, ◌∙◌, arith, inl, inr, subst, if◌then◌else◌}
+use Rattle.std.proofs.Common.{◌≡◌, ℕ, ◌≤◌, ◌⊎◌, suc, Bool, true, false, cond, List, [], ◌∷◌, ◌++◌, length, Option, Some, None, refl, sym, ap, ◌∙◌, arith, inl, inr, subst}
 use Rattle.std.specs.Prelude.{◌==◌, ◌||◌, nat_le}
 use Rattle.std.proofs.lemmas.List.{append-nil}
 use Rattle.std.proofs.lemmas.Grind.{flat_map-append}
@@ -16,11 +16,11 @@ use Rattle.ws_session.specs.Validity.{CloseIsLast, AreValidFrames}
 use Rattle.ws_session.specs.Faults.{frames_of}
 use Rattle.ws_session.specs.Events.{close_in, event_of, events_after, message_in, messages_in}
 use Rattle.ws_session.specs.Replies.{has_close, replies_of}
-use Rattle.ws_session.specs.Exchange.{last_event, code_if_any, status_before_close, status_after, status_of, is_over}
+use Rattle.ws_session.specs.Exchange.{last_event, code_if_any, status_before_close, status_after, status_of}
 use Rattle.ws_session.specs.Reach.{frames_within, size_fault, events_of_fault, events_within}
 use Rattle.ws_session.specs.Sends.{most_limits}
 use Rattle.ws_pair.specs.Link.{LinkEnd, close_code_in, status_by_close, status_by_size}
-use Rattle.ws_pair.specs.Playing.{SessionLaws}
+use Rattle.ws_pair.specs.InnerPlaying.{LawsOfEachSession}
 
 -- ---- the status by the frames that have come
 
@@ -116,7 +116,7 @@ not_clean false false code e = no_both true refl (sym (ap is_clean e))
 failed_is_not_clean : (reason : Reason) (code : Option ℕ) → status.Failed reason ≡ status.Clean code → ⊥
 failed_is_not_clean reason code e = no_both true refl (sym (ap is_clean e))
 
-module _ (laws : SessionLaws) (limits : LimitsValue) (xs : List KeyedFrame) (valid : AreValidFrames most_limits (frames_of xs)) where
+module _ (laws : LawsOfEachSession) (limits : LimitsValue) (xs : List KeyedFrame) (valid : AreValidFrames most_limits (frames_of xs)) where
   close_is_last : (n : ℕ) → CloseIsLast (frames_of (frames_within limits n xs))
   close_is_last n = elim (true_or_false (has_close (frames_of (frames_within limits n xs)))) [
     | inl e ↦
@@ -165,7 +165,7 @@ no_message (Some reason) = refl
 no_message None = refl
 
 -- the messages of the frames that have come are those that were told
-pub messages_within : (laws : SessionLaws) (limits : LimitsValue) (n : ℕ) (xs : List KeyedFrame) → messages_in (events_within limits n xs) ≡ messages_of (frames_of (frames_within limits n xs))
+pub messages_within : (laws : LawsOfEachSession) (limits : LimitsValue) (n : ℕ) (xs : List KeyedFrame) → messages_in (events_within limits n xs) ≡ messages_of (frames_of (frames_within limits n xs))
 messages_within laws limits n xs =
     let frames : List Frame = frames_of (frames_within limits n xs) in
     messages-append (events_after [] frames) (events_of_fault (size_fault limits n xs))

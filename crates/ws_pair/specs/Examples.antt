@@ -8,7 +8,7 @@ use Rattle.ws_session.specs.Messages.{messages_of}
 use Rattle.ws_session.specs.Faults.{frames_of}
 use Rattle.ws_session.specs.Replies.{control_frame, close_frame, under_key}
 use Rattle.ws_pair.specs.declared.moves.End.TheVariants.{Client, Server}
-use Rattle.ws_pair.specs.Link.{Link, BothLimits, new_link, role_of, frames_reached, size_fault_at, status_at}
+use Rattle.ws_pair.specs.Link.{Link, BothLimits, new_link, role_at, frames_reached, size_fault_at, status_at}
 use Rattle.ws_pair.specs.Moves.{count_arriving, with_arrived, with_cut}
 
 abbrev key : List ℕ
@@ -32,8 +32,8 @@ nothing_has_happened = refl
 -- the client closed with 1000, of which all has come, and the server with 1001, of which three bytes have
 abbrev crossing : Link
 crossing = record {
-  client = record { sent = under_key (role_of Client) key (close_frame 1000) ∷ []; reached = 3; is_cut = false };
-  server = record { sent = under_key (role_of Server) key (close_frame 1001) ∷ []; reached = 8; is_cut = false };
+  client = record { sent = under_key (role_at Client) key (close_frame 1000) ∷ []; reached = 3; is_cut = false };
+  server = record { sent = under_key (role_at Server) key (close_frame 1001) ∷ []; reached = 8; is_cut = false };
 }
 
 the_servers_close : stream_bytes crossing.server.sent ≡ 0x88 ∷ 0x02 ∷ 0x03 ∷ 0xe9 ∷ []
@@ -102,14 +102,14 @@ abbrev pinged : Link
 pinged = record {
   client = record { sent = []; reached = 0; is_cut = false };
   server = record {
-    sent = under_key (role_of Server) key (control_frame 9 (7 ∷ [])) ∷ [];
+    sent = under_key (role_at Server) key (control_frame 9 (7 ∷ [])) ∷ [];
     reached = 0;
     is_cut = false;
   };
 }
 
 answered_on_the_way : (with_arrived limits pinged Client 3 key).sent
-    ≡ under_key (role_of Client) key (control_frame 10 (7 ∷ [])) ∷ []
+    ≡ under_key (role_at Client) key (control_frame 10 (7 ∷ [])) ∷ []
 answered_on_the_way = refl
 
 not_answered_before_it_is_whole : (with_arrived limits pinged Client 2 key).sent ≡ []

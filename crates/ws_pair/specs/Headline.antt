@@ -14,7 +14,7 @@ use Rattle.ws_pair.specs.declared.moves.End.TheVariants.{Client, Server}
 use Rattle.ws_pair.specs.declared.moves.Move.{Move}
 use Rattle.ws_pair.specs.declared.report.EndReport.{EndReport}
 use Rattle.ws_pair.specs.declared.report.Report.{Report}
-use Rattle.ws_pair.specs.Link.{Link, BothLimits, new_link, other, role_of, end_of, limits_of, frames_reached}
+use Rattle.ws_pair.specs.Link.{Link, BothLimits, new_link, other, role_at, end_of, limits_at, frames_reached}
 use Rattle.ws_pair.specs.Link.{close_code_in, status_at}
 use Rattle.ws_pair.specs.Moves.{Plays}
 
@@ -47,8 +47,8 @@ HasStatus limits link side report = report.status ≡ status_at limits link side
 
 -- its own session, of its role and limits, has sent these frames and taken the bytes that have reached it
 pub record HasSession (limits : BothLimits) (link : Link) (side : End) (report : EndReport) : Type 0 where
-  pub role : report.session.role ≡ role_of side
-  pub limits_kept : report.session.limits ≡ limits_of limits side
+  pub role : report.session.role ≡ role_at side
+  pub limits_kept : report.session.limits ≡ limits_at limits side
   pub exchanged : HasExchanged report.session (frames_of (end_of link side).sent)
       (take (end_of link side).reached (stream_bytes (end_of link (other side)).sent)) (end_of link side).is_cut
 

@@ -5,5 +5,5 @@ pub mod Script
 pub mod ReportLines
 pub mod Examples
 pub mod ScriptExamples
-pub mod Playing
-pub mod Printing
+pub mod InnerPlaying
+pub mod InnerPrinting

@@ -44,17 +44,17 @@ abbrev pub other : End → End
 other Client = Server
 other Server = Client
 
-abbrev pub role_of : End → Role
-role_of Client = role.Client
-role_of Server = role.Server
+abbrev pub role_at : End → Role
+role_at Client = role.Client
+role_at Server = role.Server
 
 abbrev pub end_of : Link → End → LinkEnd
 end_of link Client = link.client
 end_of link Server = link.server
 
-abbrev pub limits_of : BothLimits → End → LimitsValue
-limits_of limits Client = limits.client
-limits_of limits Server = limits.server
+abbrev pub limits_at : BothLimits → End → LimitsValue
+limits_at limits Client = limits.client
+limits_at limits Server = limits.server
 
 abbrev pub with_end : Link → End → LinkEnd → Link
 with_end link Client x = record { client = x; server = link.server }
@@ -65,13 +65,13 @@ with_end link Server x = record { client = link.client; server = x }
 -- the other's frames that have reached an end, none of which passes its limits
 abbrev pub frames_reached : BothLimits → Link → End → List KeyedFrame
 frames_reached limits link side =
-    frames_within (limits_of limits side) (end_of link side).reached (end_of link (other side)).sent
+    frames_within (limits_at limits side) (end_of link side).reached (end_of link (other side)).sent
 
 -- what the end tells of a frame whose size it does not take, once its header has come: it takes its message above the
 -- end's limit, or else it is above the end's limit of a frame
 abbrev pub size_fault_at : BothLimits → Link → End → Option Reason
 size_fault_at limits link side =
-    size_fault (limits_of limits side) (end_of link side).reached (end_of link (other side)).sent
+    size_fault (limits_at limits side) (end_of link side).reached (end_of link (other side)).sent
 
 -- failed by a size fault, if there is one
 abbrev pub status_by_size : Option Reason → Status → Status

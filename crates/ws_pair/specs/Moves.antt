@@ -13,7 +13,7 @@ use Rattle.ws_pair.specs.declared.moves.Move.{Move}
 use Rattle.ws_pair.specs.declared.moves.Move.TheVariants.{Begin, More, Ping, Pong, Close, Arrive, Cut}
 use Rattle.ws_pair.specs.declared.report.Answer.{Answer}
 use Rattle.ws_pair.specs.declared.report.Answer.TheVariants as outcome
-use Rattle.ws_pair.specs.Link.{LinkEnd, Link, BothLimits, other, role_of, end_of, limits_of, with_end, status_at}
+use Rattle.ws_pair.specs.Link.{LinkEnd, Link, BothLimits, other, role_at, end_of, limits_at, with_end, status_at}
 
 -- ---- a send
 
@@ -21,13 +21,13 @@ abbrev pub with_sent : LinkEnd → List KeyedFrame → LinkEnd
 with_sent x frames = record x { sent = x.sent ++ frames }
 
 -- the frame is sent where nothing is wrong with it, else the first thing that is wrong is answered and nothing changes
-abbrev pub IsSendAnswered : BothLimits → Link → End → Send → List ℕ → Answer → Link → Type 0
-IsSendAnswered limits link side what key outcome.Did after =
+abbrev pub IsSendMoveAnswered : BothLimits → Link → End → Send → List ℕ → Answer → Link → Type 0
+IsSendMoveAnswered limits link side what key outcome.Did after =
     MaySend (frames_of (end_of link side).sent) (status_at limits link side) what
-    × (after ≡ with_end link side (with_sent (end_of link side) (under_key (role_of side) key (frame_of what) ∷ [])))
-IsSendAnswered limits link side what key (outcome.Refused fault) after =
+    × (after ≡ with_end link side (with_sent (end_of link side) (under_key (role_at side) key (frame_of what) ∷ [])))
+IsSendMoveAnswered limits link side what key (outcome.Refused fault) after =
     IsFirstWrong (frames_of (end_of link side).sent) (status_at limits link side) what fault × (after ≡ link)
-IsSendAnswered limits link side what key _ after = ⊥
+IsSendMoveAnswered limits link side what key _ after = ⊥
 
 -- ---- bytes that arrive
 
@@ -46,9 +46,9 @@ abbrev pub with_arrived : BothLimits → Link → End → ℕ → List ℕ → L
 with_arrived limits link side count key =
     let x : LinkEnd = end_of link side
     in let told : List Event =
-    newly_told (limits_of limits side) (end_of link (other side)).sent x.reached (x.reached + count)
+    newly_told (limits_at limits side) (end_of link (other side)).sent x.reached (x.reached + count)
     in record {
-      sent = x.sent ++ map (under_key (role_of side) key) (replies_of (frames_of x.sent) told);
+      sent = x.sent ++ map (under_key (role_at side) key) (replies_of (frames_of x.sent) told);
       reached = x.reached + count;
       is_cut = x.is_cut;
     }
@@ -68,21 +68,21 @@ side_of (Close side given key) = side
 side_of (Arrive side bytes key) = side
 side_of (Cut side) = side
 
-abbrev pub IsAnswered : BothLimits → Link → Move → Answer → Link → Type 0
-IsAnswered limits link (Begin side kind payload fin key) answer after =
-    IsSendAnswered limits link side (send.Begin kind payload fin) key answer after
-IsAnswered limits link (More side payload fin key) answer after =
-    IsSendAnswered limits link side (send.More payload fin) key answer after
-IsAnswered limits link (Ping side payload key) answer after =
-    IsSendAnswered limits link side (send.Ping payload) key answer after
-IsAnswered limits link (Pong side payload key) answer after =
-    IsSendAnswered limits link side (send.Pong payload) key answer after
-IsAnswered limits link (Close side given key) answer after =
-    IsSendAnswered limits link side (send.Close (close_owned given)) key answer after
-IsAnswered limits link (Arrive side bytes key) answer after =
+abbrev pub IsMoveAnswered : BothLimits → Link → Move → Answer → Link → Type 0
+IsMoveAnswered limits link (Begin side kind payload fin key) answer after =
+    IsSendMoveAnswered limits link side (send.Begin kind payload fin) key answer after
+IsMoveAnswered limits link (More side payload fin key) answer after =
+    IsSendMoveAnswered limits link side (send.More payload fin) key answer after
+IsMoveAnswered limits link (Ping side payload key) answer after =
+    IsSendMoveAnswered limits link side (send.Ping payload) key answer after
+IsMoveAnswered limits link (Pong side payload key) answer after =
+    IsSendMoveAnswered limits link side (send.Pong payload) key answer after
+IsMoveAnswered limits link (Close side given key) answer after =
+    IsSendMoveAnswered limits link side (send.Close (close_owned given)) key answer after
+IsMoveAnswered limits link (Arrive side bytes key) answer after =
     (answer ≡ outcome.Arrived (count_arriving link side bytes))
     × (after ≡ with_end link side (with_arrived limits link side (count_arriving link side bytes) key))
-IsAnswered limits link (Cut side) answer after =
+IsMoveAnswered limits link (Cut side) answer after =
     (answer ≡ outcome.Cut) × (after ≡ with_end link side (with_cut (end_of link side)))
 
 -- one move after the other
@@ -90,4 +90,4 @@ abbrev pub Plays : BothLimits → Link → List Move → List Answer → Link �
 Plays limits link [] answers after = (answers ≡ []) × (after ≡ link)
 Plays limits link (move ∷ moves) [] after = ⊥
 Plays limits link (move ∷ moves) (answer ∷ answers) after =
-    (next : Link) × IsAnswered limits link move answer next × Plays limits next moves answers after
+    (next : Link) × IsMoveAnswered limits link move answer next × Plays limits next moves answers after

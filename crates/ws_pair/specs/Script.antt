@@ -1,64 +1,47 @@
 -- Scripts of moves: what happens at two joined sessions, one move a line. The words of a line are parted by one space,
 -- and every line ends with LF.
 use Rattle.std.specs.Prelude.{◌≡◌, ℕ, List, [], ◌∷◌, codes}
-use Rattle.ws_base.specs.Words.{IsHexWord, IsKeyOrDash, IsNumberWord, AreCloseWords, fin_word, words_of}
+use Rattle.ws_base.specs.Words.{IsKeyOrDash, IsNumberWord, words_of}
 use Rattle.ws_base.specs.Lines.{HasLineForEach}
-use Rattle.ws_session.specs.Words.{kind_word}
+use Rattle.ws_session.specs.declared.keyed_send.KeyedSend.{KeyedSend}
+use Rattle.ws_session.specs.declared.keyed_send.KeyedSend.TheVariants as send
+use Rattle.ws_session.specs.KeyedSends.{AreSendWords}
 use Rattle.ws_pair.specs.declared.moves.End.{End}
 use Rattle.ws_pair.specs.declared.moves.End.TheVariants.{Client, Server}
 use Rattle.ws_pair.specs.declared.moves.Move.{Move}
 use Rattle.ws_pair.specs.declared.moves.Move.TheVariants.{Begin, More, Ping, Pong, Close, Arrive, Cut}
-use Rattle.ws_pair.specs.declared.script.Name.{Name}
-use Rattle.ws_pair.specs.declared.script.Name.TheVariants as name
+use Rattle.ws_pair.specs.declared.script.MoveName.{MoveName}
+use Rattle.ws_pair.specs.declared.script.MoveName.TheVariants as name
 use Rattle.ws_pair.specs.Moves.{side_of}
 
 abbrev pub end_word : End → List ℕ
 end_word Client = codes "client"
 end_word Server = codes "server"
 
-abbrev pub name_of : Move → Name
-name_of (Begin side kind payload fin key) = name.Begin
-name_of (More side payload fin key) = name.More
-name_of (Ping side payload key) = name.Ping
-name_of (Pong side payload key) = name.Pong
-name_of (Close side given key) = name.Close
-name_of (Arrive side bytes key) = name.Arrive
-name_of (Cut side) = name.Cut
+-- the first word of a move that sends nothing
+abbrev pub move_name_word : MoveName → List ℕ
+move_name_word name.Arrive = codes "arrive"
+move_name_word name.Cut = codes "cut"
 
--- the first word of a move
-abbrev pub name_word : Name → List ℕ
-name_word name.Begin = codes "begin"
-name_word name.More = codes "more"
-name_word name.Ping = codes "ping"
-name_word name.Pong = codes "pong"
-name_word name.Close = codes "close"
-name_word name.Arrive = codes "arrive"
-name_word name.Cut = codes "cut"
-
--- its words from the third on: `a` and `b` spell the payload, the code and the reason or the number, `k` the key
-abbrev pub AreFields : Move → List (List ℕ) → Type 0
-AreFields (Begin side kind payload fin key) fields = (a k : List ℕ)
-    × (fields ≡ kind_word kind ∷ fin_word fin ∷ a ∷ k ∷ []) × IsHexWord payload a × IsKeyOrDash key k
-AreFields (More side payload fin key) fields = (a k : List ℕ)
-    × (fields ≡ fin_word fin ∷ a ∷ k ∷ []) × IsHexWord payload a × IsKeyOrDash key k
-AreFields (Ping side payload key) fields = (a k : List ℕ)
-    × (fields ≡ a ∷ k ∷ []) × IsHexWord payload a × IsKeyOrDash key k
-AreFields (Pong side payload key) fields = (a k : List ℕ)
-    × (fields ≡ a ∷ k ∷ []) × IsHexWord payload a × IsKeyOrDash key k
-AreFields (Close side given key) fields = (a b k : List ℕ)
-    × (fields ≡ a ∷ b ∷ k ∷ []) × AreCloseWords given a b × IsKeyOrDash key k
-AreFields (Arrive side bytes key) fields = (a k : List ℕ)
+-- its name, and its words from the third on: of a send those of any script, else `a` spells the number and `k` the key
+abbrev pub AreMoveFields : Move → List ℕ → List (List ℕ) → Type 0
+AreMoveFields (Begin side kind payload fin key) word fields = AreSendWords (send.Begin kind payload fin key) word fields
+AreMoveFields (More side payload fin key) word fields = AreSendWords (send.More payload fin key) word fields
+AreMoveFields (Ping side payload key) word fields = AreSendWords (send.Ping payload key) word fields
+AreMoveFields (Pong side payload key) word fields = AreSendWords (send.Pong payload key) word fields
+AreMoveFields (Close side given key) word fields = AreSendWords (send.Close given key) word fields
+AreMoveFields (Arrive side bytes key) word fields = (word ≡ move_name_word name.Arrive) × (a : List ℕ) × (k : List ℕ)
     × (fields ≡ a ∷ k ∷ []) × IsNumberWord 4294967295 bytes a × IsKeyOrDash key k
-AreFields (Cut side) fields = fields ≡ []
+AreMoveFields (Cut side) word fields = (word ≡ move_name_word name.Cut) × (fields ≡ [])
 
 -- the words of a move: its name, the end at which it happens, and the others
-abbrev pub AreWords : Move → List (List ℕ) → Type 0
-AreWords move words = (fields : List (List ℕ))
-    × AreFields move fields × (words ≡ name_word (name_of move) ∷ end_word (side_of move) ∷ fields)
+abbrev pub AreMoveWords : Move → List (List ℕ) → Type 0
+AreMoveWords move words = (word : List ℕ) × (fields : List (List ℕ))
+    × AreMoveFields move word fields × (words ≡ word ∷ end_word (side_of move) ∷ fields)
 
 -- the line of a move, without its LF
 abbrev pub IsMoveLine : Move → List ℕ → Type 0
-IsMoveLine move line = AreWords move (words_of line)
+IsMoveLine move line = AreMoveWords move (words_of line)
 
 -- the script of these moves
 abbrev pub AreMoveLines : List Move → List ℕ → Type 0
@@ -66,8 +49,22 @@ AreMoveLines moves text = HasLineForEach IsMoveLine moves text
 
 -- ---- reading: a reader may skip what follows
 
--- the move has this name and this end, and these further words
-pub record IsMoveOf (called : Name) (side : End) (move : Move) (fields : List (List ℕ)) : Type 0 where
-  pub called_so : name_of move ≡ called
+-- the move happens at this end, and this name and these further words tell it
+pub record IsMoveAt (side : End) (move : Move) (word : List ℕ) (fields : List (List ℕ)) : Type 0 where
   pub there : side_of move ≡ side
-  pub spelled : AreFields move fields
+  pub told : AreMoveFields move word fields
+
+abbrev pub IsArriveOf : End → Move → List (List ℕ) → Type 0
+IsArriveOf side move fields = (bytes : ℕ) × (key : List ℕ) × (a : List ℕ) × (k : List ℕ)
+    × (move ≡ Arrive side bytes key) × (fields ≡ a ∷ k ∷ []) × IsNumberWord 4294967295 bytes a × IsKeyOrDash key k
+
+abbrev pub IsCutOf : End → Move → List (List ℕ) → Type 0
+IsCutOf side move fields = (move ≡ Cut side) × (fields ≡ [])
+
+-- a send at this end
+abbrev pub move_of : End → KeyedSend → Move
+move_of side (send.Begin kind payload fin key) = Begin side kind payload fin key
+move_of side (send.More payload fin key) = More side payload fin key
+move_of side (send.Ping payload key) = Ping side payload key
+move_of side (send.Pong payload key) = Pong side payload key
+move_of side (send.Close given key) = Close side given key

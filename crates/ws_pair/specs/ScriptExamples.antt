@@ -1,5 +1,5 @@
 -- Worked examples of scripts and reports, each a theorem.
-use Rattle.std.specs.Prelude.{◌≡◌, ⊤, [], ◌∷◌, codes, refl}
+use Rattle.std.specs.Prelude.{◌≡◌, ⊤, [], codes, refl}
 use Rattle.std.specs.Fmt.{digits}
 use Rattle.ws_session.specs.declared.send_fault.SendFault.TheVariants.{Busy}
 use Rattle.ws_pair.specs.declared.moves.End.TheVariants.{Client}
@@ -15,7 +15,7 @@ on_numbers = tt
 
 -- a line is the words of its move, parted by one space
 pub cut_line : IsMoveLine (Cut Client) (codes "cut client")
-cut_line = ([], refl, refl)
+cut_line = (codes "cut", [], (refl, refl), refl)
 
 -- the lines of what came of moves
 pub eight_arrived : answer_line (Arrived 8) ≡ codes "arrived 8\n"

@@ -8,9 +8,9 @@ ghost use Rattle.ws_session.specs.Limits.{LimitsValue};
 ghost use Rattle.ws_session.specs.Events.{messages_in};
 ghost use Rattle.ws_session.specs.Taking.{events_in};
 ghost use Rattle.ws_pair.specs.declared.moves.End.{End};
-ghost use Rattle.ws_pair.specs.Link.{LinkEnd, Link, BothLimits, new_end, end_of, other, role_of};
-ghost use Rattle.ws_pair.specs.Playing.{AreSentBy, HasMoved, HasSentMove, IsEnd, IsNextIn, IsToldOf, Stands};
-ghost use Rattle.ws_pair.specs.Playing.{grown, peer};
+ghost use Rattle.ws_pair.specs.Link.{LinkEnd, Link, BothLimits, new_end, end_of, other, role_at};
+ghost use Rattle.ws_pair.specs.InnerPlaying.{AreSentBy, HasMoved, HasSentMove, IsEnd, IsNextIn, IsToldOf, IsEndAt};
+ghost use Rattle.ws_pair.specs.InnerPlaying.{grown, peer};
 ghost use Rattle.ws_session.specs.Sends.{send_of};
 ghost use Rattle.ws_pair.specs.Moves.{with_cut, side_of};
 
@@ -74,8 +74,8 @@ impl Endpoint {
         next: &Move,
     ) -> Result<Answer, NoMemory>
         requires reached { self.old.reached ≤ length others.now }
-        ensures moved { (limits : BothLimits) (link : Link) → Stands limits link (side_of next.now) self.old →
-            AreSentBy (peer (role_of (side_of next.now))) (end_of link (other (side_of next.now))).sent →
+        ensures moved { (limits : BothLimits) (link : Link) → IsEndAt limits link (side_of next.now) self.old →
+            AreSentBy (peer (role_at (side_of next.now))) (end_of link (other (side_of next.now))).sent →
             others.now ≡ stream_bytes (end_of link (other (side_of next.now))).sent →
             IfOk result (λ answer. HasMoved limits link next.now answer self.new) }
     {
@@ -92,8 +92,7 @@ impl Endpoint {
                     payload: payload.as_slice(),
                     fin: *fin,
                 };
-                let answer = self.send(&frame, *key)?;
-                Ok(answer)
+                self.send(&frame, *key)
             }
             Move::More {
                 payload,
@@ -105,21 +104,11 @@ impl Endpoint {
                     payload: payload.as_slice(),
                     fin: *fin,
                 };
-                let answer = self.send(&frame, *key)?;
-                Ok(answer)
+                self.send(&frame, *key)
             }
-            Move::Ping { payload, key, .. } => {
-                let answer = self.send(&Outgoing::Ping(payload.as_slice()), *key)?;
-                Ok(answer)
-            }
-            Move::Pong { payload, key, .. } => {
-                let answer = self.send(&Outgoing::Pong(payload.as_slice()), *key)?;
-                Ok(answer)
-            }
-            Move::Close { given, key, .. } => {
-                let answer = self.send(&Outgoing::close(given), *key)?;
-                Ok(answer)
-            }
+            Move::Ping { payload, key, .. } => self.send(&Outgoing::Ping(payload.as_slice()), *key),
+            Move::Pong { payload, key, .. } => self.send(&Outgoing::Pong(payload.as_slice()), *key),
+            Move::Close { given, key, .. } => self.send(&Outgoing::close(given), *key),
             Move::Arrive { bytes, key, .. } => {
                 let count = self.arrive(alloc, others, *bytes, *key)?;
                 Ok(Answer::Arrived(count))
@@ -133,8 +122,8 @@ impl Endpoint {
 
     /// A frame is sent at this end. Want of memory ends the run.
     fn send(&mut self, frame: &Outgoing<'_>, key: [u8; 4]) -> Result<Answer, NoMemory>
-        ensures { (limits : BothLimits) (link : Link) (side : End) → Stands limits link side self.old →
-            AreSentBy (peer (role_of side)) (end_of link (other side)).sent →
+        ensures { (limits : BothLimits) (link : Link) (side : End) → IsEndAt limits link side self.old →
+            AreSentBy (peer (role_at side)) (end_of link (other side)).sent →
             IfOk result (λ answer. HasSentMove limits link side (send_of frame.now) key answer self.new) }
     {
         session_laws();

@@ -2,7 +2,7 @@
 
 ghost use Rattle.std.specs.Prelude.{Some};
 ghost use Rattle.ws_frame.specs.Header.{IsMaskingKey};
-ghost use Rattle.ws_pair.specs.Playing.{SessionLaws};
+ghost use Rattle.ws_pair.specs.InnerPlaying.{LawsOfEachSession};
 
 use ws_session::laws;
 
@@ -13,7 +13,7 @@ pub(crate) fn has_key_bytes(key: [u8; 4])
 
 /// The laws of the layer below that serve here.
 pub(crate) fn session_laws()
-    ensures { SessionLaws }
+    ensures { LawsOfEachSession }
 {
     laws::one_list_of_events();
     laws::ended_streams_are_over();

@@ -3,7 +3,7 @@
 ghost use Rattle.std.specs.Prelude.{◌≡◌, IfOk, Some, string_bytes};
 ghost use Rattle.ws_pair.specs.Script.{end_word};
 ghost use Rattle.ws_pair.specs.ReportLines.{answer_line, report_lines};
-ghost use Rattle.ws_pair.specs.Printing.{printed_end, printed_message};
+ghost use Rattle.ws_pair.specs.InnerPrinting.{printed_end, printed_message};
 
 use crate::moves::End;
 use crate::report::{Answer, EndReport, Report};

@@ -2,10 +2,10 @@
 
 ghost use Rattle.std.specs.Prelude.{◌≡◌, ◌≤◌, length, IfOk};
 ghost use Rattle.ws_pair.specs.Link.{Link, BothLimits, new_link};
-ghost use Rattle.ws_pair.specs.Moves.{IsAnswered, Plays};
+ghost use Rattle.ws_pair.specs.Moves.{IsMoveAnswered, Plays};
 ghost use Rattle.ws_pair.specs.Headline.{both_limits, AtEachEnd, HasDelivered, IsWholeWhereClean, HasPut, HasReached};
 ghost use Rattle.ws_pair.specs.Headline.{HasStatus, HasSession, HasNothingAfterClose};
-ghost use Rattle.ws_pair.specs.Playing.{AreJoined};
+ghost use Rattle.ws_pair.specs.InnerPlaying.{AreJoined};
 
 use crate::endpoint::Endpoint;
 use crate::lemmas::session_laws;
@@ -19,8 +19,8 @@ use ws_session::Limits;
 /// Plays the moves, one after the other, at a new client and a new server that are joined by two ordered streams of
 /// bytes. `client` and `server` are what each takes at most. Each end has delivered, in order, exactly the other's
 /// messages whose last byte has reached it before it reported a size fault; an end that reports a clean close has
-/// delivered all that the other sent and reports its close code; and no end has put a frame behind its close (RFC 6455
-/// sections 5 to 7). `NoMemory` where a growth was refused, also of a send: then the run stops.
+/// delivered every message the other sent and reports its close code; and no end has put a frame behind its close
+/// (RFC 6455 sections 5 to 7). `NoMemory` where a growth was refused, also of a send: then the run stops.
 pub fn run_pair(
     alloc: Global,
     client: Limits,
@@ -68,7 +68,7 @@ fn play(
     requires client { client.old.reached ≤ length server.old.put.items }
     requires server { server.old.reached ≤ length client.old.put.items }
     ensures { (limits : BothLimits) (link : Link) → AreJoined limits link client.old server.old →
-        IfOk result (λ answer. (after : Link) × IsAnswered limits link next.now answer after
+        IfOk result (λ answer. (after : Link) × IsMoveAnswered limits link next.now answer after
         × AreJoined limits after client.new server.new) }
 {
     session_laws();

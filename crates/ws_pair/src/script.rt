@@ -3,16 +3,15 @@
 ghost use Rattle.std.specs.Prelude.{◌≡◌, map, MatchResult};
 ghost use Rattle.ws_base.specs.Lines.{Damages};
 ghost use Rattle.ws_base.specs.Reading.{Finds, Reads};
-ghost use Rattle.ws_pair.specs.Script.{AreMoveLines, AreWords, IsMoveLine, IsMoveOf, end_word, name_word};
-ghost use Rattle.ws_pair.specs.declared.script.Name.TheVariants.{Begin, More, Ping, Pong, Close, Arrive, Cut};
+ghost use Rattle.ws_pair.specs.Script.{AreMoveLines, AreMoveWords, IsArriveOf, IsCutOf, IsMoveAt, IsMoveLine};
+ghost use Rattle.ws_pair.specs.Script.{end_word, move_name_word, move_of};
 
 use crate::moves::{End, Move};
 use std::alloc::Global;
 use ws_base::{
-    Line, LineFault, Sequence, TextFault, read_close, read_fin, read_hex, read_key_or_dash,
-    read_lines, read_u32, words_of,
+    Line, LineFault, Sequence, TextFault, read_key_or_dash, read_lines, read_u32, words_of,
 };
-use ws_session::Kind;
+use ws_session::{KeyedSend, read_send};
 
 /// The moves of a script, which has a line for each. Every line ends with LF, and its words are parted by one space:
 /// `begin END text|binary fin|part HEX KEY`, `more END fin|part HEX KEY`, `ping END HEX KEY`, `pong END HEX KEY`,
@@ -35,12 +34,9 @@ impl Line for Move {
 
 /// The move that words tell.
 fn read_words(alloc: Global, words: &[&[u8]]) -> Result<Move, LineFault>
-    ensures { Reads result (λ found. AreWords found (map (λ w. w.now) words.now)) }
+    ensures { Reads result (λ found. AreMoveWords found (map (λ w. w.now) words.now)) }
 {
     let [name, end, fields @ ..] = words else {
-        return Err(LineFault::Damaged);
-    };
-    let Some(name) = read_name(name) else {
         return Err(LineFault::Damaged);
     };
     let Some(side) = read_end(end) else {
@@ -48,34 +44,6 @@ fn read_words(alloc: Global, words: &[&[u8]]) -> Result<Move, LineFault>
     };
     let found = read_fields(alloc, name, side, fields)?;
     Ok(found)
-}
-
-/// What a move's first word is.
-#[derive(Clone, Copy)]
-enum Name {
-    Begin,
-    More,
-    Ping,
-    Pong,
-    Close,
-    Arrive,
-    Cut,
-}
-
-/// The first word of a move.
-fn read_name(word: &[u8]) -> Option<Name>
-    ensures { Finds result (λ name. word.now ≡ name_word name) }
-{
-    match word {
-        b"begin" => Some(Name::Begin),
-        b"more" => Some(Name::More),
-        b"ping" => Some(Name::Ping),
-        b"pong" => Some(Name::Pong),
-        b"close" => Some(Name::Close),
-        b"arrive" => Some(Name::Arrive),
-        b"cut" => Some(Name::Cut),
-        _ => None,
-    }
 }
 
 /// The end that a word names.
@@ -89,114 +57,46 @@ fn read_end(word: &[u8]) -> Option<End>
     }
 }
 
-/// The move of this name at this end, by the words behind them.
-fn read_fields(alloc: Global, name: Name, side: End, fields: &[&[u8]]) -> Result<Move, LineFault>
-    ensures { Reads result (λ found. IsMoveOf name side found (map (λ w. w.now) fields.now)) }
+/// The move at this end that a name and the words behind the end tell.
+fn read_fields(alloc: Global, name: &[u8], side: End, fields: &[&[u8]]) -> Result<Move, LineFault>
+    ensures { Reads result (λ found. IsMoveAt side found name.now (map (λ w. w.now) fields.now)) }
 {
-    match name {
-        Name::Begin => read_begin(alloc, side, fields),
-        Name::More => read_more(alloc, side, fields),
-        Name::Ping => read_ping(alloc, side, fields),
-        Name::Pong => read_pong(alloc, side, fields),
-        Name::Close => read_close_move(alloc, side, fields),
-        Name::Arrive => match read_arrive(side, fields) {
+    match read_name(name) {
+        Some(MoveName::Arrive) => match read_arrive(side, fields) {
             Some(found) => Ok(found),
             None => Err(LineFault::Damaged),
         },
-        Name::Cut => match read_cut(side, fields) {
+        Some(MoveName::Cut) => match read_cut(side, fields) {
             Some(found) => Ok(found),
             None => Err(LineFault::Damaged),
         },
+        None => {
+            let send = read_send(alloc, name, fields)?;
+            Ok(move_of(side, send))
+        }
     }
 }
 
-fn read_begin(alloc: Global, side: End, fields: &[&[u8]]) -> Result<Move, LineFault>
-    ensures { Reads result (λ found. IsMoveOf Begin side found (map (λ w. w.now) fields.now)) }
-{
-    let [kind, fin, payload, key] = fields else {
-        return Err(LineFault::Damaged);
-    };
-    let Some(kind) = Kind::from_word(kind) else {
-        return Err(LineFault::Damaged);
-    };
-    let Some(fin) = read_fin(fin) else {
-        return Err(LineFault::Damaged);
-    };
-    let payload = read_hex(alloc, payload)?;
-    let Some(key) = read_key_or_dash(key) else {
-        return Err(LineFault::Damaged);
-    };
-    Ok(Move::Begin {
-        side,
-        kind,
-        payload,
-        fin,
-        key,
-    })
+/// What the first word of a move is that sends nothing.
+#[derive(Clone, Copy)]
+enum MoveName {
+    Arrive,
+    Cut,
 }
 
-fn read_more(alloc: Global, side: End, fields: &[&[u8]]) -> Result<Move, LineFault>
-    ensures { Reads result (λ found. IsMoveOf More side found (map (λ w. w.now) fields.now)) }
+/// The first word of a move that sends nothing.
+fn read_name(word: &[u8]) -> Option<MoveName>
+    ensures { Finds result (λ name. word.now ≡ move_name_word name) }
 {
-    let [fin, payload, key] = fields else {
-        return Err(LineFault::Damaged);
-    };
-    let Some(fin) = read_fin(fin) else {
-        return Err(LineFault::Damaged);
-    };
-    let payload = read_hex(alloc, payload)?;
-    let Some(key) = read_key_or_dash(key) else {
-        return Err(LineFault::Damaged);
-    };
-    Ok(Move::More {
-        side,
-        payload,
-        fin,
-        key,
-    })
-}
-
-fn read_ping(alloc: Global, side: End, fields: &[&[u8]]) -> Result<Move, LineFault>
-    ensures { Reads result (λ found. IsMoveOf Ping side found (map (λ w. w.now) fields.now)) }
-{
-    let [payload, key] = fields else {
-        return Err(LineFault::Damaged);
-    };
-    let payload = read_hex(alloc, payload)?;
-    let Some(key) = read_key_or_dash(key) else {
-        return Err(LineFault::Damaged);
-    };
-    Ok(Move::Ping { side, payload, key })
-}
-
-fn read_pong(alloc: Global, side: End, fields: &[&[u8]]) -> Result<Move, LineFault>
-    ensures { Reads result (λ found. IsMoveOf Pong side found (map (λ w. w.now) fields.now)) }
-{
-    let [payload, key] = fields else {
-        return Err(LineFault::Damaged);
-    };
-    let payload = read_hex(alloc, payload)?;
-    let Some(key) = read_key_or_dash(key) else {
-        return Err(LineFault::Damaged);
-    };
-    Ok(Move::Pong { side, payload, key })
-}
-
-fn read_close_move(alloc: Global, side: End, fields: &[&[u8]]) -> Result<Move, LineFault>
-    ensures { Reads result (λ found. IsMoveOf Close side found (map (λ w. w.now) fields.now)) }
-{
-    let [code, reason, key] = fields else {
-        return Err(LineFault::Damaged);
-    };
-    let given = read_close(alloc, code, reason)?;
-    let Some(key) = read_key_or_dash(key) else {
-        return Err(LineFault::Damaged);
-    };
-    Ok(Move::Close { side, given, key })
+    match word {
+        b"arrive" => Some(MoveName::Arrive),
+        b"cut" => Some(MoveName::Cut),
+        _ => None,
+    }
 }
 
 fn read_arrive(side: End, fields: &[&[u8]]) -> Option<Move>
-    ensures { Finds result (λ found. IsMoveOf Arrive side found (map (λ w. w.now) fields.now)) }
+    ensures { Finds result (λ found. IsArriveOf side found (map (λ w. w.now) fields.now)) }
 {
     let [bytes, key] = fields else {
         return None;
@@ -207,11 +107,40 @@ fn read_arrive(side: End, fields: &[&[u8]]) -> Option<Move>
 }
 
 fn read_cut(side: End, fields: &[&[u8]]) -> Option<Move>
-    ensures { Finds result (λ found. IsMoveOf Cut side found (map (λ w. w.now) fields.now)) }
+    ensures { Finds result (λ found. IsCutOf side found (map (λ w. w.now) fields.now)) }
 {
     if fields.is_empty() {
         Some(Move::Cut { side })
     } else {
         None
+    }
+}
+
+/// A send at this end.
+fn move_of(side: End, send: KeyedSend) -> Move
+    ensures { result ≡ move_of side send }
+{
+    match send {
+        KeyedSend::Begin {
+            kind,
+            payload,
+            fin,
+            key,
+        } => Move::Begin {
+            side,
+            kind,
+            payload,
+            fin,
+            key,
+        },
+        KeyedSend::More { payload, fin, key } => Move::More {
+            side,
+            payload,
+            fin,
+            key,
+        },
+        KeyedSend::Ping { payload, key } => Move::Ping { side, payload, key },
+        KeyedSend::Pong { payload, key } => Move::Pong { side, payload, key },
+        KeyedSend::Close { given, key } => Move::Close { side, given, key },
     }
 }

@@ -2,7 +2,7 @@ use Rattle.std.proofs.Common.{◌≡◌, ◌≤◌, map, take}
 use Rattle.ws_session.specs.Exchange.{Exchange}
 use Rattle.ws_calls.specs.Calls.{AreAnswered, count_taken, new_exchange, echo_of}
 use Rattle.ws_calls.specs.Script.{as_call}
-use Rattle.ws_calls.specs.Steps.{Agrees}
+use Rattle.ws_calls.specs.InnerSteps.{Agrees}
 use Rattle.ws_calls.proofs.echo_running.run_echo_calls.Given as goal
 
 -- the calls so far were answered, and the echo agrees with what it has then exchanged

@@ -1,7 +1,7 @@
 use Rattle.std.proofs.Common.{◌≡◌, ◌+◌, ◌^◌, ◌<◌, ◌++◌, map}
 use Rattle.std.specs.List.{AllByRecursion}
 use Rattle.ws_session.specs.declared.event.PlacedEvent.{PlacedEvent}
-use Rattle.ws_calls.specs.Steps.{placed_behind}
+use Rattle.ws_calls.specs.InnerSteps.{placed_behind}
 use Rattle.ws_calls.proofs.placing.placed_behind.Given as goal
 
 -- the events so far are placed, and those that are left have room

@@ -1,7 +1,7 @@
 use Rattle.std.proofs.Common.{◌≡◌, ◌≤◌, take}
 use Rattle.ws_session.specs.Exchange.{Exchange}
 use Rattle.ws_calls.specs.Calls.{AreAnswered, count_taken, new_exchange, session_of}
-use Rattle.ws_calls.specs.Steps.{Agrees}
+use Rattle.ws_calls.specs.InnerSteps.{Agrees}
 use Rattle.ws_calls.proofs.running.run_calls.Given as goal
 
 -- the calls so far were answered, and the session agrees with what it has then exchanged

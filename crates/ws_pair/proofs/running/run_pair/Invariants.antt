@@ -2,7 +2,7 @@ use Rattle.std.proofs.Common.{take}
 use Rattle.ws_pair.specs.Link.{Link, new_link}
 use Rattle.ws_pair.specs.Moves.{Plays}
 use Rattle.ws_pair.specs.Headline.{both_limits}
-use Rattle.ws_pair.specs.Playing.{AreJoined}
+use Rattle.ws_pair.specs.InnerPlaying.{AreJoined}
 use Rattle.ws_pair.proofs.running.run_pair.Given as goal
 
 -- the moves so far lead to a link as whose ends the two endpoints stand

@@ -3,13 +3,13 @@ use Rattle.ws_session.specs.Replies.{echo_reply_to}
 use Rattle.ws_calls.specs.declared.calls.EchoCall.{EchoCall}
 use Rattle.ws_calls.specs.declared.report.CallAnswer.TheVariants.{Ended}
 use Rattle.ws_calls.specs.Script.{as_call}
-use Rattle.ws_calls.specs.Steps.{HasAnswered}
+use Rattle.ws_calls.specs.InnerSteps.{HasAnsweredCall}
 use Rattle.ws_calls.proofs.Sending.{endpoint_of}
 use Rattle.ws_calls.proofs.echo_running.EchoCaller.call.Goals as goal
 
 pub returns-in-End-clause-answered : goal.returns-in-End-clause-answered
 returns-in-End-clause-answered c = λ exchange is.
-    subst (λ (call : EchoCall). HasAnswered (endpoint_of echo_reply_to c.args.self.now.echo) exchange (as_call call) Ended c.args.self.now.taken c.end.new.self) (sym c.in-End.is)
+    subst (λ (call : EchoCall). HasAnsweredCall (endpoint_of echo_reply_to c.args.self.now.echo) exchange (as_call call) Ended c.args.self.now.taken c.end.new.self) (sym c.in-End.is)
     (record {
       after = record exchange { ended = true };
       answered = (refl, refl);

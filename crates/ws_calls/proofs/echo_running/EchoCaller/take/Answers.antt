@@ -1,4 +1,4 @@
-use Rattle.std.proofs.Common.{rules, ◌≡◌, false, ap, sym, ◌∙◌}
+use Rattle.std.proofs.Common.{rules, ◌≡◌, false}
 use Rattle.ws_session.specs.Exchange.{is_over}
 use Rattle.ws_session.specs.Replies.{echo_reply_to}
 use Rattle.ws_calls.proofs.Answering.{take_call}

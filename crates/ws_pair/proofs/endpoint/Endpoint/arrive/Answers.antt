@@ -1,5 +1,5 @@
 use Rattle.std.proofs.Common.{ℕ, ◌+◌, ◌-◌, ◌≤◌, List, sym, ◌∙◌, arith, subst, length, take, drop}
-use Rattle.ws_pair.specs.Playing.{IsEnd, IsNextIn, grown}
+use Rattle.ws_pair.specs.InnerPlaying.{IsEnd, IsNextIn, grown}
 use Rattle.ws_pair.proofs.Bytes.{slice_is_next, comes_within, comes_uncut}
 use Rattle.ws_pair.proofs.endpoint.Endpoint.arrive.Goals as goal
 

@@ -1,16 +1,16 @@
 use Rattle.std.proofs.Common.{◌≡◌, ◌∙◌, ap, sym, subst, map, List, ℕ}
 use Rattle.std.specs.Borrow.{Bor}
 use Rattle.ws_base.specs.Words.{words_of}
-use Rattle.ws_pair.specs.Script.{AreWords}
+use Rattle.ws_pair.specs.Script.{AreMoveWords}
 use Rattle.ws_pair.proofs.PassedUp.{passed_up}
 use Rattle.ws_pair.proofs.script.MoveLine.read.Goals as goal
 
 pub returns-in_err-found : goal.returns-in_err-found
 returns-in_err-found c =
     let same : map (λ w. w.now) c.deref.result.now ≡ words_of c.args.line.now = ap (λ (ws : List (Bor (List ℕ))). map (λ w. w.now) ws) c.deref.ensures.value ∙ c.in_ok-words.ensures in
-    passed_up (λ found. AreWords found (map (λ w. w.now) c.deref.result.now)) _ c.from_residual-in_err-found.result c.in_err-found.field-0.0 c.from_residual-in_err-found.ensures.1 c.in_err-found.ensures (λ found h. (found, subst (AreWords found) (sym same) h))
+    passed_up (λ found. AreMoveWords found (map (λ w. w.now) c.deref.result.now)) _ c.from_residual-in_err-found.result c.in_err-found.field-0.0 c.from_residual-in_err-found.ensures.1 c.in_err-found.ensures (λ found h. (found, subst (AreMoveWords found) (sym same) h))
 
 pub returns : goal.returns
 returns c =
     let same : map (λ w. w.now) c.deref.result.now ≡ words_of c.args.line.now = ap (λ (ws : List (Bor (List ℕ))). map (λ w. w.now) ws) c.deref.ensures.value ∙ c.in_ok-words.ensures in
-    subst (AreWords c.in_ok-found.found) same c.in_ok-found.ensures
+    subst (AreMoveWords c.in_ok-found.found) same c.in_ok-found.ensures

@@ -1,5 +1,5 @@
 -- Inside the crate: an endpoint as an end of a link, for contracts of private functions. A reader may skip this file.
-use Rattle.std.specs.Prelude.{◌≡◌, ℕ, ◌+◌, ◌≤◌, true, false, List, [], ◌∷◌, ◌++◌, length, take, drop, map, Result, Ok}
+use Rattle.std.specs.Prelude.{◌≡◌, ℕ, ◌+◌, ◌≤◌, true, List, [], ◌∷◌, ◌++◌, length, take, drop, map, Result, Ok}
 use Rattle.std.specs.Prelude.{Err, None}
 use Rattle.std.specs.List.{AllByRecursion}
 use Rattle.ws_frame.specs.declared.role.Role.{Role}
@@ -22,12 +22,11 @@ use Rattle.ws_session.specs.Reach.{frames_within, size_fault, events_within}
 use Rattle.ws_pair.specs.declared.moves.End.{End}
 use Rattle.ws_pair.specs.declared.moves.End.TheVariants.{Client, Server}
 use Rattle.ws_pair.specs.declared.moves.Move.{Move}
-use Rattle.ws_pair.specs.declared.moves.Move.TheVariants.{Begin, More, Ping, Pong, Close, Arrive, Cut}
 use Rattle.ws_pair.specs.declared.report.Answer.{Answer}
 use Rattle.ws_pair.specs.declared.report.Answer.TheVariants as outcome
 use Rattle.ws_pair.specs.declared.endpoint.Endpoint.{Endpoint}
-use Rattle.ws_pair.specs.Link.{LinkEnd, Link, BothLimits, other, role_of, end_of, limits_of, with_end}
-use Rattle.ws_pair.specs.Moves.{newly_told, side_of, IsSendAnswered, IsAnswered}
+use Rattle.ws_pair.specs.Link.{LinkEnd, Link, BothLimits, other, role_at, end_of, limits_at, with_end}
+use Rattle.ws_pair.specs.Moves.{newly_told, side_of, IsSendMoveAnswered, IsMoveAnswered}
 
 -- ---- sends
 
@@ -72,36 +71,36 @@ grown role limits x others count key = record {
 }
 
 -- the endpoint stands as the end on this side of a link
-abbrev pub Stands : BothLimits → Link → End → Endpoint → Type 0
-Stands limits link side v =
-    IsEnd (role_of side) (limits_of limits side) (end_of link side) (end_of link (other side)).sent v
+abbrev pub IsEndAt : BothLimits → Link → End → Endpoint → Type 0
+IsEndAt limits link side v =
+    IsEnd (role_at side) (limits_at limits side) (end_of link side) (end_of link (other side)).sent v
 
 -- the endpoint stands as the end after a send on this side, and nothing that was sent is taken back
 pub record HasSentMove (limits : BothLimits) (link : Link) (side : End) (what : Send) (key : List ℕ) (answer : Answer)
     (v : Endpoint) : Type 0 where
   pub end : LinkEnd
-  pub answered : IsSendAnswered limits link side what key answer (with_end link side end)
-  pub stands : Stands limits (with_end link side end) side v
+  pub answered : IsSendMoveAnswered limits link side what key answer (with_end link side end)
+  pub stands : IsEndAt limits (with_end link side end) side v
   pub more : List KeyedFrame
   pub sent : end.sent ≡ (end_of link side).sent ++ more
 
 -- the endpoint stands as the end after a move on its side, and nothing that was sent is taken back
 pub record HasMoved (limits : BothLimits) (link : Link) (move : Move) (answer : Answer) (v : Endpoint) : Type 0 where
   pub end : LinkEnd
-  pub answered : IsAnswered limits link move answer (with_end link (side_of move) end)
-  pub stands : Stands limits (with_end link (side_of move) end) (side_of move) v
+  pub answered : IsMoveAnswered limits link move answer (with_end link (side_of move) end)
+  pub stands : IsEndAt limits (with_end link (side_of move) end) (side_of move) v
   pub more : List KeyedFrame
   pub sent : end.sent ≡ (end_of link (side_of move)).sent ++ more
 
 -- both endpoints stand as the ends of a link
 pub record AreJoined (limits : BothLimits) (link : Link) (client server : Endpoint) : Type 0 where
-  pub client_stands : Stands limits link Client client
-  pub server_stands : Stands limits link Server server
+  pub client_stands : IsEndAt limits link Client client
+  pub server_stands : IsEndAt limits link Server server
 
 -- ---- laws of sessions
 
 -- the laws of the layer below, as far as they serve here
-pub record SessionLaws : Type 0 where
+pub record LawsOfEachSession : Type 0 where
   pub one_list : (role : Role) (limits : LimitsValue) (bytes : List ℕ) (events others : List Event)
       → HasEvents role limits bytes events → HasEvents role limits bytes others → events ≡ others
   pub over_at_end : (session : SessionValue) (sent : List Frame) (bytes : List ℕ)

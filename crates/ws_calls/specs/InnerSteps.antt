@@ -1,5 +1,5 @@
 -- Inside the crate: an endpoint between two calls, for contracts of private functions. A reader may skip this file.
-use Rattle.std.specs.Prelude.{◌≡◌, ℕ, List, [], ◌++◌, map, length, ◌+◌, Result, Ok, Err}
+use Rattle.std.specs.Prelude.{◌≡◌, ℕ, List, length, ◌+◌, Result, Ok, Err}
 use Rattle.ws_session.specs.declared.event.PlacedEvent.{PlacedEvent}
 use Rattle.ws_session.specs.declared.send_fault.SendFault.{SendFault}
 use Rattle.ws_session.specs.declared.send_fault.SendFault.TheVariants as fault
@@ -8,8 +8,8 @@ use Rattle.ws_session.specs.Sends.{Send}
 use Rattle.ws_calls.specs.declared.calls.Call.{Call}
 use Rattle.ws_calls.specs.declared.report.PlacedInStream.{PlacedInStream}
 use Rattle.ws_calls.specs.declared.report.CallAnswer.{CallAnswer}
-use Rattle.ws_calls.specs.declared.report.CallAnswer.TheVariants.{Sent, Refused, Taken, Ended}
-use Rattle.ws_calls.specs.Calls.{Endpoint, IsSendAnswered, IsAnswered}
+use Rattle.ws_calls.specs.declared.report.CallAnswer.TheVariants.{Sent, Refused}
+use Rattle.ws_calls.specs.Calls.{Endpoint, IsSendAnswered, IsCallAnswered}
 
 -- the session has exchanged this, and so many bytes of it are counted as taken
 pub record Agrees (exchange : Exchange) (taken : ℕ) (session : SessionValue) : Type 0 where
@@ -27,10 +27,10 @@ abbrev pub placed_behind : ℕ → PlacedEvent → PlacedInStream
 placed_behind start x = record { place = start + x.end; event = x.event }
 
 -- the call was answered so, and the session agrees with what it has then exchanged
-pub record HasAnswered (endpoint : Endpoint) (exchange : Exchange) (call : Call) (answer : CallAnswer) (taken : ℕ)
+pub record HasAnsweredCall (endpoint : Endpoint) (exchange : Exchange) (call : Call) (answer : CallAnswer) (taken : ℕ)
     (session : SessionValue) : Type 0 where
   pub after : Exchange
-  pub answered : IsAnswered endpoint exchange call answer after
+  pub answered : IsCallAnswered endpoint exchange call answer after
   pub agrees : Agrees after taken session
   pub same : (session.role ≡ endpoint.role) × (session.limits ≡ endpoint.limits)
 
