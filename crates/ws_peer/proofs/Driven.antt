@@ -8,9 +8,9 @@ use Rattle.ws_session.specs.Limits.{LimitsValue}
 use Rattle.ws_frame.specs.Devices.{Device, HasRead, HasWritten}
 use Rattle.ws_session.specs.Exchange.{SessionValue, is_over}
 use Rattle.ws_peer.specs.Echoes.{IsEchoAfter}
-use Rattle.ws_peer.specs.EchoLaws.{EchoLaws}
-use Rattle.ws_peer.specs.Driving.{DriveCall, Echoes, HasAnswered, BeginsAnswers, ReadsInTurn, Drives, IsFairDriveEnd}
-use Rattle.ws_peer.specs.Steps.{Stands, AnswersPiece, end_of_stop}
+use Rattle.ws_peer.specs.InnerEchoLaws.{EchoLaws}
+use Rattle.ws_peer.specs.Driving.{DriveCall, Echoes, HasAnsweredAll, BeginsAnswers, ReadsInTurn, Drives, IsFairDriveEnd}
+use Rattle.ws_peer.specs.InnerSteps.{IsEchoOfCall, AnswersPiece, end_of_stop}
 use Rattle.ws_peer.specs.declared.driving.DriveEnd.{DriveEnd}
 use Rattle.ws_peer.specs.declared.driving.DriveEnd.TheVariants as end
 use Rattle.ws_peer.specs.declared.driving.Stop.{Stop}
@@ -28,7 +28,7 @@ pub record HasDriven (call : DriveCall) (left : ℕ) (session : SessionValue) (i
   pub has_written : Appends o0 o1 written
   pub spent : length read + left ≡ call.budget
   pub in_turn : ReadsInTurn call read written
-  pub stands : Stands call (call.first ++ read) written session
+  pub stands : IsEchoOfCall call (call.first ++ read) written session
 
 -- nothing was read
 nothing_read : (call : DriveCall) (written : List ℕ) → ReadsInTurn call [] written
@@ -53,7 +53,7 @@ first_alone call = sym (append-nil call.first)
 -- ---- steps
 
 -- `first` was answered
-pub has_begun : (call : DriveCall) (session : SessionValue) (i0 o0 o1 : Option (List ℕ)) (more : List ℕ) → Appends o0 o1 more → Stands call call.first more session
+pub has_begun : (call : DriveCall) (session : SessionValue) (i0 o0 o1 : Option (List ℕ)) (more : List ℕ) → Appends o0 o1 more → IsEchoOfCall call call.first more session
     → HasDriven call call.budget session i0 i0 o0 o1
 has_begun call session i0 o0 o1 more wrote stands = record {
   read = [];
@@ -62,12 +62,12 @@ has_begun call session i0 o0 o1 more wrote stands = record {
   has_written = wrote;
   spent = omega arith;
   in_turn = nothing_read call more;
-  stands = subst (λ (l : List ℕ). Stands call l more session) (first_alone call) stands;
+  stands = subst (λ (l : List ℕ). IsEchoOfCall call l more session) (first_alone call) stands;
 }
 
 module _ (laws : EchoLaws) (call : DriveCall) (rest : ℕ) (old : SessionValue) (i0 i1 o0 o1 : Option (List ℕ)) (h : HasDriven call rest old i0 i1 o0 o1) where
   -- all that is due was written
-  answered : is_over old.status ≡ false → HasAnswered call h.read h.written
+  answered : is_over old.status ≡ false → HasAnsweredAll call h.read h.written
   answered going = (old.status, has_echoed laws call.role call.limits call.key old (call.first ++ h.read) h.written false h.stands, going)
 
   read_more : is_over old.status ≡ false → (piece more : List ℕ) → length piece ≤ 4096 → ReadsInTurn call (h.read ++ piece) (h.written ++ more)
@@ -84,7 +84,7 @@ module _ (laws : EchoLaws) (call : DriveCall) (rest : ℕ) (old : SessionValue) 
 
   -- one more read was answered
   pub has_driven_more : is_over old.status ≡ false → (new : SessionValue) (i2 o2 : Option (List ℕ)) (piece more : List ℕ) (after : ℕ) → Consumes i1 i2 piece → length piece ≤ 4096 → length piece + after ≡ rest
-      → Appends o1 o2 more → Stands call ((call.first ++ h.read) ++ piece) (h.written ++ more) new → HasDriven call after new i0 i2 o0 o2
+      → Appends o1 o2 more → IsEchoOfCall call ((call.first ++ h.read) ++ piece) (h.written ++ more) new → HasDriven call after new i0 i2 o0 o2
   has_driven_more going new i2 o2 piece more after consumed bound spent wrote stands = record {
     read = h.read ++ piece;
     written = h.written ++ more;
@@ -92,13 +92,13 @@ module _ (laws : EchoLaws) (call : DriveCall) (rest : ℕ) (old : SessionValue) 
     has_written = Appends-trans o0 o1 o2 h.written more h.has_written wrote;
     spent = omega (arith, length-append h.read piece, h.spent, spent);
     in_turn = read_more going piece more bound;
-    stands = subst (λ (l : List ℕ). Stands call l (h.written ++ more) new) (append_assoc call.first h.read piece) stands;
+    stands = subst (λ (l : List ℕ). IsEchoOfCall call l (h.written ++ more) new) (append_assoc call.first h.read piece) stands;
   }
 
 -- ---- how a run ends
 
 -- a beginning of the replies to a front of what it was fed was written
-begins_answers : EchoLaws → (call : DriveCall) (session : SessionValue) (read written front later more : List ℕ) → call.first ++ read ≡ front ++ later → Stands call front (written ++ more) session
+begins_answers : EchoLaws → (call : DriveCall) (session : SessionValue) (read written front later more : List ℕ) → call.first ++ read ≡ front ++ later → IsEchoOfCall call front (written ++ more) session
     → BeginsAnswers call read written
 begins_answers laws call session read written front later more parts stands =
     let echoed : Echoes call front false (written ++ more) session.status = has_echoed laws call.role call.limits call.key session front (written ++ more) false stands in
@@ -171,7 +171,7 @@ module _ (laws : EchoLaws) (call : DriveCall) (rest : ℕ) (old : SessionValue) 
 
 -- a run that stops, once it is known what was taken and what was written of the replies to that
 stops_so : EchoLaws → (call : DriveCall) (why : Stop) (session : SessionValue) (input output : Device) (read written front later more : List ℕ) → HasRead read input → HasWritten written output
-    → length read ≤ call.budget → ReadsInTurn call read written → call.first ++ read ≡ front ++ later → (why ≡ stop.WriteFault → later ≡ []) → Stands call front (written ++ more) session
+    → length read ≤ call.budget → ReadsInTurn call read written → call.first ++ read ≡ front ++ later → (why ≡ stop.WriteFault → later ≡ []) → IsEchoOfCall call front (written ++ more) session
     → Drives call (end_of_stop why) session input output
 stops_so laws call stop.WriteFault session input output read written front later more reads writes within in_turn parts whole stands = record {
   read = read;
@@ -181,7 +181,7 @@ stops_so laws call stop.WriteFault session input output read written front later
   within = within;
   in_turn = in_turn;
   driven = begins_answers laws call session read written front later more parts stands;
-  left = (more, subst (λ (l : List ℕ). Stands call l (written ++ more) session) (sym (parts ∙ ap (λ (l : List ℕ). front ++ l) (whole refl) ∙ append-nil front)) stands);
+  left = (more, subst (λ (l : List ℕ). IsEchoOfCall call l (written ++ more) session) (sym (parts ∙ ap (λ (l : List ℕ). front ++ l) (whole refl) ∙ append-nil front)) stands);
 }
 stops_so laws call stop.NoMemory session input output read written front later more reads writes within in_turn parts whole stands = record {
   read = read;
@@ -206,16 +206,16 @@ stops_at_first laws call stop.NoMemory session input output same (failed, wrote,
 moved : (a b c d : Option (List ℕ)) (bytes : List ℕ) → a ≡ c → b ≡ d → Appends a b bytes → Appends c d bytes
 moved a b c d bytes e f h = subst (λ (x : Option (List ℕ)). Appends c x bytes) f (subst (λ (x : Option (List ℕ)). Appends x b bytes) e h)
 
-regrouped : (call : DriveCall) (session : SessionValue) (a b c d e f : List ℕ) → Stands call ((a ++ b) ++ c) (d ++ (e ++ f)) session → Stands call (a ++ (b ++ c)) ((d ++ e) ++ f) session
+regrouped : (call : DriveCall) (session : SessionValue) (a b c d e f : List ℕ) → IsEchoOfCall call ((a ++ b) ++ c) (d ++ (e ++ f)) session → IsEchoOfCall call (a ++ (b ++ c)) ((d ++ e) ++ f) session
 regrouped call session a b c d e f h =
-    subst (λ (l : List ℕ). Stands call l ((d ++ e) ++ f) session) (append_assoc a b c)
-    (subst (λ (l : List ℕ). Stands call ((a ++ b) ++ c) l session) (sym (append_assoc d e f)) h)
+    subst (λ (l : List ℕ). IsEchoOfCall call l ((d ++ e) ++ f) session) (append_assoc a b c)
+    (subst (λ (l : List ℕ). IsEchoOfCall call ((a ++ b) ++ c) l session) (sym (append_assoc d e f)) h)
 
 -- at a read
 pub stops_at_read : EchoLaws → (call : DriveCall) (rest : ℕ) (old new : SessionValue) (input output last : Device) (i1 o1 : Option (List ℕ)) (piece : List ℕ) (why : Stop)
     → HasDriven call rest old input.old i1 output.old o1 → is_over old.status ≡ false → Consumes i1 input.new piece → length piece ≤ 4096 → length piece ≤ rest
     → last.old ≡ o1 → last.new ≡ output.new
-    → ((bytes put : List ℕ) → Stands call bytes put old → AnswersPiece call bytes put piece new last (Err why)) → Drives call (end_of_stop why) new input output
+    → ((bytes put : List ℕ) → IsEchoOfCall call bytes put old → AnswersPiece call bytes put piece new last (Err why)) → Drives call (end_of_stop why) new input output
 stops_at_read laws call rest old new input output last i1 o1 piece stop.WriteFault h going consumed bound fits before after answers =
     let (failed, front, more, wrote, stands) = answers (call.first ++ h.read) h.written h.stands in
     let wrote_all : Appends output.old output.new (h.written ++ front) = Appends-trans output.old o1 output.new h.written front h.has_written (moved last.old last.new o1 output.new front before after wrote) in
@@ -228,7 +228,7 @@ stops_at_read laws call rest old new input output last i1 o1 piece stop.NoMemory
     stops_so laws call stop.NoMemory new input output (h.read ++ piece) (h.written ++ []) ((call.first ++ h.read) ++ front) later more (Consumes-trans input.old i1 input.new h.read piece h.has_read consumed)
     wrote_all (omega (arith, length-append h.read piece, h.spent)) (read_more laws call rest old input.old i1 output.old o1 h going piece [] bound)
     (sym (append_assoc call.first h.read piece) ∙ ap (λ (l : List ℕ). (call.first ++ h.read) ++ l) parts ∙ sym (append_assoc (call.first ++ h.read) front later)) (λ e. absurd cc)
-    (subst (λ (l : List ℕ). Stands call ((call.first ++ h.read) ++ front) (l ++ more) new) (sym (append-nil h.written)) stands)
+    (subst (λ (l : List ℕ). IsEchoOfCall call ((call.first ++ h.read) ++ front) (l ++ more) new) (sym (append-nil h.written)) stands)
 
 -- which device has failed then
 pub fair_stop : (call : DriveCall) (bytes put piece : List ℕ) (session : SessionValue) (why : Stop) (ended : DriveEnd) (input output last : Device) → ended ≡ end_of_stop why → AnswersPiece call bytes put piece session last (Err why)

@@ -1,6 +1,6 @@
 -- The talks that an echo may have had, call after call.
 use Rattle.std.proofs.Common.{◌≡◌, ℕ, ◌+◌, ◌↔◌, true, false, List, [], ◌∷◌, ◌++◌, length, take, drop, refl, sym, ap, ◌∙◌, subst, append-nil, arith, length-append, inl, inr}
-use Rattle.std.specs.Prelude.{Option, Some, None}
+use Rattle.std.specs.Prelude.{Option, Some, None, IfSome}
 use Rattle.std.specs.List.{last_or}
 use Rattle.std.specs.Io.{StartsWith}
 use Rattle.std.proofs.lemmas.Bool.{cases_lt}
@@ -16,7 +16,7 @@ use Rattle.ws_peer.specs.declared.peer.Going.{Going}
 use Rattle.ws_peer.specs.declared.peer.Going.TheVariants.{Ended}
 use Rattle.ws_peer.specs.Talks.{Entry, Fed, Finished, Says, fed_in, appended_in}
 use Rattle.ws_peer.specs.Echoes.{IsEchoAfter}
-use Rattle.ws_peer.specs.EchoLaws.{EchoLaws}
+use Rattle.ws_peer.specs.InnerEchoLaws.{EchoLaws}
 use Rattle.ws_peer.specs.EchoTalks.{HasEchoedTalk, HasTakenSomething, IsAnsweredBy, IsEchoTalk, MayHaveHad}
 use Rattle.ws_peer.proofs.Talking.{fed_in-more, appended_in-more}
 use Rattle.ws_peer.proofs.Echoing.{Grown, call_of, echo_more, echo_new, has_echoed}
@@ -85,12 +85,12 @@ talk_more talk entry so_far now n less =
     ]
 
 had_more : EchoLaws → (session : SessionValue) (talk : List Entry) (entry : Entry) → IsEchoTalk talk → IsEchoAfter Server most_limits [] (fed_in (talk ++ entry ∷ [])) false (appended_in (talk ++ entry ∷ [])) session
-    → IsAnsweredBy session.status (Some entry) → MayHaveHad session (talk ++ entry ∷ [])
+    → IsAnsweredBy session.status entry → MayHaveHad session (talk ++ entry ∷ [])
 had_more laws session talk entry so_far is answered = record {
   is_echo = talk_more talk entry so_far (record {
     status = session.status;
     echoed = has_echoed laws Server most_limits [] session (fed_in (talk ++ entry ∷ [])) (appended_in (talk ++ entry ∷ [])) false is;
-    answered = subst (λ (o : Option Entry). IsAnsweredBy session.status o) (sym (last_more None talk entry)) answered;
+    answered = subst (λ (o : Option Entry). IfSome o (IsAnsweredBy session.status)) (sym (last_more None talk entry)) answered;
   });
   after = is;
 }

@@ -1,5 +1,5 @@
 -- The transcript of a run over an echo: after each turn, what was got is what the echo puts for what was sent.
-use Rattle.std.proofs.Common.{◌≡◌, ◌∙◌, ℕ, zero, suc, ◌<◌, ◌≤◌, Bool, true, false, cond, List, [], ◌∷◌, ◌++◌, length, map, take, drop, Option, Some, None, ap, ap₂, sym, refl, subst, inl, inr, arith, append_assoc, append-nil}
+use Rattle.std.proofs.Common.{◌≡◌, ◌∙◌, ℕ, zero, suc, ◌<◌, ◌≤◌, Bool, true, false, cond, List, [], ◌∷◌, ◌++◌, length, map, take, drop, Option, Some, None, IfSome, ap, ap₂, sym, refl, subst, inl, inr, arith, append_assoc, append-nil}
 use Rattle.std.specs.List.{AllByRecursion, concat, last_or}
 use Rattle.std.proofs.lemmas.Grind.{flat_map-append}
 use Rattle.std.proofs.lemmas.List.{length-append, length-map, take_all, take-append-le}
@@ -21,9 +21,9 @@ use Rattle.ws_suite.specs.Fairness.{IsEchoTranscript, ends_echo}
 use Rattle.ws_peer.specs.declared.peer.Going.{Going}
 use Rattle.ws_peer.specs.declared.peer.Going.TheVariants.{More, Ended}
 use Rattle.ws_peer.specs.Talks.{Entry, Fed, Finished, appended_by, appended_in, fed_by, fed_in}
-use Rattle.ws_peer.specs.EchoLaws.{EchoLaws}
+use Rattle.ws_peer.specs.InnerEchoLaws.{EchoLaws}
 use Rattle.ws_peer.specs.EchoTalks.{HasEchoedTalk, IsAnsweredBy, IsEchoTalk, last_call}
-use Rattle.ws_peer.specs.Runs.{EndsByPeer, EndsByTester, GoesOn, IsRunOf, joined_talk, pieces_by_turn, pieces_in, turn_of, with_finish}
+use Rattle.ws_peer.specs.Runs.{EndsByPeer, EndsByTester, PeerGoesOn, IsRunOf, joined_talk, pieces_by_turn, pieces_in, turn_of, with_finish}
 use Rattle.ws_peer.proofs.Talking.{fed_in-more}
 use Rattle.ws_peer.proofs.EchoTalkLemmas.{last_more}
 
@@ -61,23 +61,23 @@ after_turns talk rest parts is echo n =
 
 -- ---- an echo that goes on
 
-last_goes : (first : Entry) (talk : List Entry) → GoesOn first → AllByRecursion GoesOn talk → (piece : List ℕ) × (appended : List ℕ) × (last_or (Some first) talk ≡ Some (Fed piece appended More))
+last_goes : (first : Entry) (talk : List Entry) → PeerGoesOn first → AllByRecursion PeerGoesOn talk → (piece : List ℕ) × (appended : List ℕ) × (last_or (Some first) talk ≡ Some (Fed piece appended More))
 last_goes (Fed piece appended going) [] is h = (piece, appended, ap (λ (g : Going). Some (Fed piece appended g)) is)
 last_goes (Finished appended) [] is h = absurd is
 last_goes first (next ∷ talk) is h = last_goes next talk h.0 h.1
 
-not_over : (status : Status) (b : Bool) → is_over status ≡ b → IsAnsweredBy status (Some (Fed [] [] More)) → b ≡ false
+not_over : (status : Status) (b : Bool) → is_over status ≡ b → IsAnsweredBy status (Fed [] [] More) → b ≡ false
 not_over status true e answered = absurd (let wrong : More ≡ Ended = answered.1 e in cc)
 not_over status false e answered = refl
 
 -- after calls after each of which it went on, its session isn't over
-still_goes : EchoLaws → (talk : List Entry) (h : HasEchoedTalk talk) → AllByRecursion GoesOn talk → is_over h.status ≡ false
+still_goes : EchoLaws → (talk : List Entry) (h : HasEchoedTalk talk) → AllByRecursion PeerGoesOn talk → is_over h.status ≡ false
 still_goes laws [] h goes =
     let none : h.echoed.events ≡ [] = laws.one_list Server most_limits [] h.echoed.events [] h.echoed.has_events (laws.nothing Server most_limits) in
     ap (λ (s : Status). is_over s) h.echoed.is_status ∙ ap (λ (l : List Event). is_over (status_of (echo_replies_of [] l) false l)) none
 still_goes laws (first ∷ talk) h goes =
     let last = last_goes first talk goes.0 goes.1 in
-    not_over h.status (is_over h.status) refl (subst (λ (o : Option Entry). IsAnsweredBy h.status o) last.2 h.answered)
+    not_over h.status (is_over h.status) refl (subst (λ (o : Option Entry). IfSome o (IsAnsweredBy h.status)) last.2 h.answered)
 
 -- ---- the transcript of turns
 
@@ -85,7 +85,7 @@ abbrev recorded : List (List Entry) → HowEnded → Transcript
 recorded parts ended = record { turns = map turn_of parts; ended = ended }
 
 of_parts : EchoLaws → (parts : List (List Entry)) (ended : HowEnded) → AreBytes (fed_in (joined_talk parts)) → (echoed : (n : ℕ) → HasEchoedTalk (joined_talk (take n parts)))
-    → ((n : ℕ) → n < length parts → AllByRecursion GoesOn (joined_talk (take n parts))) → ended ≡ cond (is_over (echoed (length parts)).status) Peer Tester → IsEchoTranscript (recorded parts ended)
+    → ((n : ℕ) → n < length parts → AllByRecursion PeerGoesOn (joined_talk (take n parts))) → ended ≡ cond (is_over (echoed (length parts)).status) Peer Tester → IsEchoTranscript (recorded parts ended)
 of_parts laws parts ended bytes echoed goes last =
     let count : length (map turn_of parts) ≡ length parts = length-map parts turn_of in
     let over : (n : ℕ) → ends_echo (echoed n).echoed.events ≡ is_over (echoed n).status = λ n. ap (λ (s : Status). is_over s) (sym (echoed n).echoed.is_status) in
@@ -109,22 +109,22 @@ finish_nothing [] = refl
 finish_nothing (turn ∷ []) = ap (λ (l : List ℕ). record { sent = turn.sent; got = l } ∷ []) (append-nil turn.got)
 finish_nothing (turn ∷ next ∷ turns) = ap (λ (l : List Turn). turn ∷ l) (finish_nothing (next ∷ turns))
 
-all_taken : (n : ℕ) (talk : List Entry) → AllByRecursion GoesOn talk → AllByRecursion GoesOn (take n talk)
+all_taken : (n : ℕ) (talk : List Entry) → AllByRecursion PeerGoesOn talk → AllByRecursion PeerGoesOn (take n talk)
 all_taken zero talk h = tt
 all_taken (suc n) [] h = tt
 all_taken (suc n) (entry ∷ talk) h = (h.0, all_taken n talk h.1)
 
-front_goes : (n : ℕ) (parts : List (List Entry)) → AllByRecursion GoesOn (joined_talk parts) → AllByRecursion GoesOn (joined_talk (take n parts))
+front_goes : (n : ℕ) (parts : List (List Entry)) → AllByRecursion PeerGoesOn (joined_talk parts) → AllByRecursion PeerGoesOn (joined_talk (take n parts))
 front_goes n parts h =
     let front = joined_talk (take n parts) in
     let later = joined_talk (drop n parts) in
-    subst (λ (l : List Entry). AllByRecursion GoesOn l) (ap (λ (l : List Entry). take (length front) l) (talk_parts n parts) ∙ take-append_seam front later) (all_taken (length front) (joined_talk parts) h)
+    subst (λ (l : List Entry). AllByRecursion PeerGoesOn l) (ap (λ (l : List Entry). take (length front) l) (talk_parts n parts) ∙ take-append_seam front later) (all_taken (length front) (joined_talk parts) h)
 
 by_tester : EchoLaws → (turns : List (List (List ℕ))) (talk : List Entry) (transcript : Transcript) → EndsByTester turns talk transcript → IsEchoTalk talk → AreBytes (fed_in talk) → IsEchoTranscript transcript
 by_tester laws turns talk transcript r echo bytes =
     let finish = Finished r.left ∷ [] in
     let whole : HasEchoedTalk (joined_talk r.parts ++ finish) = subst (λ (l : List Entry). HasEchoedTalk l) (take_all (length talk) talk (omega arith) ∙ r.talk_is) (echo (length talk) (omega arith)) in
-    let none : r.left ≡ [] = subst (λ (o : Option Entry). IsAnsweredBy whole.status o) (last_more None (joined_talk r.parts) (Finished r.left)) whole.answered in
+    let none : r.left ≡ [] = subst (λ (o : Option Entry). IfSome o (IsAnsweredBy whole.status)) (last_more None (joined_talk r.parts) (Finished r.left)) whole.answered in
     let fed : fed_in talk ≡ fed_in (joined_talk r.parts) = ap (λ (l : List Entry). fed_in l) r.talk_is ∙ (fed_in-more (joined_talk r.parts) (Finished r.left) ∙ append-nil (fed_in (joined_talk r.parts))) in
     let echoed : (n : ℕ) → HasEchoedTalk (joined_talk (take n r.parts)) = after_turns talk finish r.parts r.talk_is echo in
     let count = length r.parts in
@@ -161,15 +161,15 @@ fewer_calls (suc n) (part ∷ parts) (y ∷ before) first e some less =
     omega (arith, fewer_calls n parts before first tail some (omega (arith, less)), length-append part (joined_talk parts), length-append part (joined_talk (take n parts)))
 
 -- in the turns before the last one it went on
-goes_before : (n : ℕ) (parts : List (List Entry)) (before : List Entry) (last : Entry) → joined_talk parts ≡ before ++ last ∷ [] → length (joined_talk (take n parts)) < length (joined_talk parts) → AllByRecursion GoesOn before
-    → AllByRecursion GoesOn (joined_talk (take n parts))
+goes_before : (n : ℕ) (parts : List (List Entry)) (before : List Entry) (last : Entry) → joined_talk parts ≡ before ++ last ∷ [] → length (joined_talk (take n parts)) < length (joined_talk parts) → AllByRecursion PeerGoesOn before
+    → AllByRecursion PeerGoesOn (joined_talk (take n parts))
 goes_before n parts before last is less goes =
     let front = joined_talk (take n parts) in
     let size = length front in
     let short : size ≤ length before = omega (arith, less, ap (λ (l : List Entry). length l) is, length-append before (last ∷ [])) in
     let same : take size before ≡ front =
     sym (take-append-le size before (last ∷ []) short) ∙ (ap (λ (l : List Entry). take size l) (sym is ∙ talk_parts n parts) ∙ take-append_seam front (joined_talk (drop n parts))) in
-    subst (λ (l : List Entry). AllByRecursion GoesOn l) same (all_taken size before goes)
+    subst (λ (l : List Entry). AllByRecursion PeerGoesOn l) same (all_taken size before goes)
 
 by_peer : EchoLaws → (turns : List (List (List ℕ))) (talk : List Entry) (transcript : Transcript) → EndsByPeer turns talk transcript → IsEchoTalk talk → AreBytes (fed_in talk) → IsEchoTranscript transcript
 by_peer laws turns talk transcript r echo bytes =
@@ -177,7 +177,7 @@ by_peer laws turns talk transcript r echo bytes =
     let count = length r.parts in
     let whole : joined_talk (take count r.parts) ≡ r.before ++ Fed r.piece r.appended Ended ∷ [] = ap (λ (l : List (List Entry)). joined_talk l) (take_all count r.parts (omega arith)) ∙ (sym r.talk_is ∙ r.last) in
     let last : last_call (joined_talk (take count r.parts)) ≡ Some (Fed r.piece r.appended Ended) = ap (λ (l : List Entry). last_call l) whole ∙ last_more None r.before (Fed r.piece r.appended Ended) in
-    let answered : IsAnsweredBy (echoed count).status (Some (Fed r.piece r.appended Ended)) = subst (λ (o : Option Entry). IsAnsweredBy (echoed count).status o) last (echoed count).answered in
+    let answered : IsAnsweredBy (echoed count).status (Fed r.piece r.appended Ended) = subst (λ (o : Option Entry). IfSome o (IsAnsweredBy (echoed count).status)) last (echoed count).answered in
     let over : is_over (echoed count).status ≡ true = answered.0 refl in
     let all : joined_talk r.parts ≡ r.before ++ Fed r.piece r.appended Ended ∷ [] = sym r.talk_is ∙ r.last in
     same_transcript transcript r.parts Peer r.recorded r.ended

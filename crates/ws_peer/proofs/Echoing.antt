@@ -15,7 +15,7 @@ use Rattle.ws_session.specs.Taking.{TakeCall, TakesAll, HasTakenAll, events_in}
 use Rattle.ws_session.specs.Sends.{most_limits}
 use Rattle.ws_session.specs.Validity.{AreValidFrames}
 use Rattle.ws_peer.specs.Echoes.{HasEchoed, IsEchoAfter, reply_bytes}
-use Rattle.ws_peer.specs.EchoLaws.{EchoLaws}
+use Rattle.ws_peer.specs.InnerEchoLaws.{EchoLaws}
 
 pub nothing_is_valid : AreValidFrames most_limits []
 nothing_is_valid = record {

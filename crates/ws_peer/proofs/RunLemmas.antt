@@ -10,8 +10,8 @@ use Rattle.ws_suite.specs.declared.transcript.Ended.TheVariants.{Tester, Peer}
 use Rattle.ws_peer.specs.declared.peer.Going.{Going}
 use Rattle.ws_peer.specs.declared.peer.Going.TheVariants.{More, Ended}
 use Rattle.ws_peer.specs.Talks.{Entry, Fed, Finished, Says, fed_in, appended_in}
-use Rattle.ws_peer.specs.Runs.{GoesOn, Talked, IsRunOf, joined_talk, pieces_in, pieces_by_turn, turn_of, with_finish}
-use Rattle.ws_peer.specs.TurnRuns.{IsTurnRun}
+use Rattle.ws_peer.specs.Runs.{PeerGoesOn, Talked, IsRunOf, joined_talk, pieces_in, pieces_by_turn, turn_of, with_finish}
+use Rattle.ws_peer.specs.InnerTurnRuns.{IsTurnRun}
 use Rattle.ws_peer.proofs.Talking.{fed_in-more, appended_in-more, pieces_in-more, talked_nothing, talked_more, said, goes_on_more, goes_on_both}
 
 -- ---- a turn
@@ -22,7 +22,7 @@ pub record HasFedPieces {P : Type 0} (agrees : P → List Entry → Type 0) (old
   pub sent_is : sent ≡ fed_in part
   pub got_is : got ≡ appended_in part
   pub fed : pieces_in part ≡ pieces
-  pub goes_on : AllByRecursion GoesOn part
+  pub goes_on : AllByRecursion PeerGoesOn part
   pub talked : Talked agrees old new part
 
 pub fed_none : {P : Type 0} (agrees : P → List Entry → Type 0) (p : P) (sent got : List ℕ) → sent ≡ [] → got ≡ [] → HasFedPieces agrees p p [] sent got
@@ -113,7 +113,7 @@ pub record HasRunTurns {P : Type 0} (agrees : P → List Entry → Type 0) (old 
   pub parts : List (List Entry)
   pub recorded_is : recorded ≡ map turn_of parts
   pub pieces : pieces_by_turn parts ≡ turns
-  pub goes_on : AllByRecursion GoesOn (joined_talk parts)
+  pub goes_on : AllByRecursion PeerGoesOn (joined_talk parts)
   pub talked : Talked agrees old new (joined_talk parts)
 
 pub run_none : {P : Type 0} (agrees : P → List Entry → Type 0) (p : P) (recorded : List Turn) → recorded ≡ [] → HasRunTurns agrees p p [] recorded
@@ -137,7 +137,7 @@ run_more agrees old mid new turns pieces recorded after turn going h t more a =
       parts = h.parts ++ t.part ∷ [];
       recorded_is = recorded-more h.parts t.part recorded after turn h.recorded_is r.recorded a;
       pieces = map-append pieces_in h.parts (t.part ∷ []) ∙ ap (λ (l : List (List (List ℕ))). l ++ pieces_in t.part ∷ []) h.pieces ∙ ap (λ (l : List (List ℕ)). turns ++ l ∷ []) r.ends.all;
-      goes_on = subst (λ (l : List Entry). AllByRecursion GoesOn l) (sym (joined-more h.parts t.part)) (goes_on_both (joined_talk h.parts) t.part h.goes_on r.ends.goes_on);
+      goes_on = subst (λ (l : List Entry). AllByRecursion PeerGoesOn l) (sym (joined-more h.parts t.part)) (goes_on_both (joined_talk h.parts) t.part h.goes_on r.ends.goes_on);
       talked = talked-more agrees old mid new h.parts t.part h.talked t.talked;
     }
 

@@ -3,7 +3,7 @@ use Rattle.std.proofs.Common.{◌≡◌, ℕ, List, [], ◌∷◌, ◌++◌, sym
 use Rattle.std.specs.List.{AllByRecursion, flat_map}
 use Rattle.std.proofs.lemmas.Grind.{flat_map-append}
 use Rattle.ws_peer.specs.Talks.{Entry, Says, fed_by, appended_by, fed_in, appended_in}
-use Rattle.ws_peer.specs.Runs.{GoesOn, Talked, piece_of, pieces_in}
+use Rattle.ws_peer.specs.Runs.{PeerGoesOn, Talked, piece_fed, pieces_in}
 
 one_more : {A : Type 0} (f : Entry → List A) (talk : List Entry) (entry : Entry) → flat_map f (talk ++ entry ∷ []) ≡ flat_map f talk ++ f entry
 one_more f talk entry = flat_map-append f talk (entry ∷ []) ∙ ap (λ l. flat_map f talk ++ l) (append-nil (f entry))
@@ -14,8 +14,8 @@ fed_in-more talk entry = one_more fed_by talk entry
 pub appended_in-more : (talk : List Entry) (entry : Entry) → appended_in (talk ++ entry ∷ []) ≡ appended_in talk ++ appended_by entry
 appended_in-more talk entry = one_more appended_by talk entry
 
-pub pieces_in-more : (talk : List Entry) (entry : Entry) → pieces_in (talk ++ entry ∷ []) ≡ pieces_in talk ++ piece_of entry
-pieces_in-more talk entry = one_more piece_of talk entry
+pub pieces_in-more : (talk : List Entry) (entry : Entry) → pieces_in (talk ++ entry ∷ []) ≡ pieces_in talk ++ piece_fed entry
+pieces_in-more talk entry = one_more piece_fed talk entry
 
 -- nothing said
 pub talked_nothing : {P : Type 0} (agrees : P → List Entry → Type 0) (p : P) → Talked agrees p p []
@@ -30,10 +30,10 @@ pub said : {P : Type 0} (agrees : P → List Entry → Type 0) (p q : P) (entry 
 said agrees p q entry before after h talk a = h.leads talk a
 
 -- it goes on
-pub goes_on_more : (talk : List Entry) (entry : Entry) → AllByRecursion GoesOn talk → GoesOn entry → AllByRecursion GoesOn (talk ++ entry ∷ [])
+pub goes_on_more : (talk : List Entry) (entry : Entry) → AllByRecursion PeerGoesOn talk → PeerGoesOn entry → AllByRecursion PeerGoesOn (talk ++ entry ∷ [])
 goes_on_more [] entry h is = (is, tt)
 goes_on_more (x ∷ talk) entry h is = (h.0, goes_on_more talk entry h.1 is)
 
-pub goes_on_both : (a b : List Entry) → AllByRecursion GoesOn a → AllByRecursion GoesOn b → AllByRecursion GoesOn (a ++ b)
+pub goes_on_both : (a b : List Entry) → AllByRecursion PeerGoesOn a → AllByRecursion PeerGoesOn b → AllByRecursion PeerGoesOn (a ++ b)
 goes_on_both [] b h is = is
 goes_on_both (x ∷ a) b h is = (h.0, goes_on_both a b h.1 is)

@@ -30,8 +30,8 @@ EndsDriving call false status read unread = is_over status ≡ true
 EndsDriving call true status read unread = IsAtEnd unread × (length read < call.budget)
 
 -- all that is due for what was read was written, and the session goes on
-abbrev pub HasAnswered : DriveCall → List ℕ → List ℕ → Type 0
-HasAnswered call read written =
+abbrev pub HasAnsweredAll : DriveCall → List ℕ → List ℕ → Type 0
+HasAnsweredAll call read written =
     (status : Status) × Echoes call (call.first ++ read) false written status × (is_over status ≡ false)
 
 -- A beginning of what is due for what was read was written: the echo took a front of what it was fed, and this is a
@@ -50,8 +50,8 @@ pub record BeginsAnswers (call : DriveCall) (read written : List ℕ) : Type 0 w
 abbrev pub IsDrivenTo : DriveCall → DriveEnd → Option (List ℕ) → List ℕ → List ℕ → Type 0
 IsDrivenTo call (Done status) unread read written = (ended : Bool)
     × Echoes call (call.first ++ read) ended written status × EndsDriving call ended status read unread
-IsDrivenTo call Budget unread read written = HasAnswered call read written × (length read ≡ call.budget)
-IsDrivenTo call ReadFault unread read written = HasAnswered call read written × (length read < call.budget)
+IsDrivenTo call Budget unread read written = HasAnsweredAll call read written × (length read ≡ call.budget)
+IsDrivenTo call ReadFault unread read written = HasAnsweredAll call read written × (length read < call.budget)
 IsDrivenTo call WriteFault unread read written = BeginsAnswers call read written
 IsDrivenTo call NoMemory unread read written = BeginsAnswers call read written
 
@@ -65,7 +65,7 @@ pub record ReadsInTurn (call : DriveCall) (read written : List ℕ) : Type 0 whe
   pub put : List ℕ
   pub later : List ℕ
   pub begins : written ≡ put ++ later
-  pub answered : 0 < length read → HasAnswered call before put
+  pub answered : 0 < length read → HasAnsweredAll call before put
 
 -- the echo's session at the end: it took `first` and all that was read; where memory ran out, a beginning of that
 abbrev pub LeavesEcho : DriveCall → DriveEnd → List ℕ → List ℕ → SessionValue → Type 0

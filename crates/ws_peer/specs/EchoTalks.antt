@@ -1,5 +1,5 @@
 -- The talks that a tester may have with an echo at the server's end: RFC 6455 sections 5.4 to 5.6 and 7.1.
-use Rattle.std.specs.Prelude.{◌≡◌, ℕ, ◌≤◌, ◌↔◌, ⊤, Bool, true, false, List, [], length, take, Option, Some, None}
+use Rattle.std.specs.Prelude.{◌≡◌, ℕ, ◌≤◌, ◌↔◌, Bool, true, false, List, [], length, take, Option, None, IfSome}
 use Rattle.std.specs.List.{last_or}
 use Rattle.ws_frame.specs.declared.role.Role.TheVariants.{Server}
 use Rattle.ws_session.specs.declared.status.Status.{Status}
@@ -9,22 +9,22 @@ use Rattle.ws_peer.specs.declared.peer.Going.TheVariants.{Ended}
 use Rattle.ws_peer.specs.Talks.{Entry, Fed, Finished, fed_in, appended_in}
 use Rattle.ws_peer.specs.Echoes.{HasEchoed, IsEchoAfter}
 
--- The last call, after which the echo has this status: it has ended exactly where its session is over; and it appends
--- nothing where it is told that no more comes.
-abbrev pub IsAnsweredBy : Status → Option Entry → Type 0
-IsAnsweredBy status None = ⊤
-IsAnsweredBy status (Some (Fed piece appended going)) = (going ≡ Ended) ↔ (is_over status ≡ true)
-IsAnsweredBy status (Some (Finished appended)) = appended ≡ []
+-- A call, after which the echo has this status: it has ended exactly where its session is over; and it appends nothing
+-- where it is told that no more comes.
+abbrev pub IsAnsweredBy : Status → Entry → Type 0
+IsAnsweredBy status (Fed piece appended going) = (going ≡ Ended) ↔ (is_over status ≡ true)
+IsAnsweredBy status (Finished appended) = appended ≡ []
 
 abbrev pub last_call : List Entry → Option Entry
 last_call talk = last_or None talk
 
 -- After these calls all that was appended is what a server that takes the largest messages puts for all that was fed:
--- its replies and each message again. And it answered the last call by its status. The key is a client's alone.
+-- its replies and each message again. And it answered the last call, if there was one, by its status. The key is a
+-- client's alone.
 pub record HasEchoedTalk (talk : List Entry) : Type 0 where
   pub status : Status
   pub echoed : HasEchoed Server most_limits [] (fed_in talk) false (appended_in talk) status
-  pub answered : IsAnsweredBy status (last_call talk)
+  pub answered : IfSome (last_call talk) (IsAnsweredBy status)
 
 -- it is so after each call
 abbrev pub IsEchoTalk : List Entry → Type 0

@@ -1,5 +1,5 @@
 -- Worked examples of transcripts and of runs, each a theorem.
-use Rattle.std.specs.Prelude.{◌≡◌, [], ◌∷◌, Some, None, refl}
+use Rattle.std.specs.Prelude.{◌≡◌, [], ◌∷◌, None, refl}
 use Rattle.std.proofs.Common.{arith}
 use Rattle.ws_session.specs.declared.status.Status.TheVariants.{Clean, Closing}
 use Rattle.ws_suite.specs.declared.transcript.Ended.TheVariants.{Tester, Peer}
@@ -79,9 +79,9 @@ the_peer_ends = record {
 
 -- ---- answers
 
--- an echo whose session waits for the other's close goes on, and one that is clean has ended
-pub finished_by_nothing : IsAnsweredBy Closing (Some (Finished []))
+-- an echo that is told that no more comes appends nothing, and one that is clean has ended
+pub finished_by_nothing : IsAnsweredBy Closing (Finished [])
 finished_by_nothing = refl
 
-pub before_any_call : IsAnsweredBy (Clean None) None
-before_any_call = tt
+pub ended_where_clean : IsAnsweredBy (Clean None) (Fed (1 ∷ []) [] Ended)
+ended_where_clean = (λ e. refl, λ e. refl)

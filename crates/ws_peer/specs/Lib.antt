@@ -5,6 +5,6 @@ pub mod Runs
 pub mod EchoRuns
 pub mod Driving
 pub mod Examples
-pub mod EchoLaws
-pub mod TurnRuns
-pub mod Steps
+pub mod InnerEchoLaws
+pub mod InnerTurnRuns
+pub mod InnerSteps

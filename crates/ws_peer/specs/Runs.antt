@@ -13,21 +13,21 @@ use Rattle.ws_peer.specs.Talks.{Entry, Fed, Finished, fed_in, appended_in}
 abbrev pub joined_talk : List (List Entry) → List Entry
 joined_talk parts = flat_map (λ (part : List Entry). part) parts
 
-abbrev pub piece_of : Entry → List (List ℕ)
-piece_of (Fed piece appended going) = piece ∷ []
-piece_of (Finished appended) = []
+abbrev pub piece_fed : Entry → List (List ℕ)
+piece_fed (Fed piece appended going) = piece ∷ []
+piece_fed (Finished appended) = []
 
 -- the pieces that were fed, in order
 abbrev pub pieces_in : List Entry → List (List ℕ)
-pieces_in part = flat_map piece_of part
+pieces_in part = flat_map piece_fed part
 
 abbrev pub pieces_by_turn : List (List Entry) → List (List (List ℕ))
 pieces_by_turn parts = map pieces_in parts
 
 -- a piece was fed, and the peer goes on
-abbrev pub GoesOn : Entry → Type 0
-GoesOn (Fed piece appended going) = going ≡ More
-GoesOn (Finished appended) = ⊥
+abbrev pub PeerGoesOn : Entry → Type 0
+PeerGoesOn (Fed piece appended going) = going ≡ More
+PeerGoesOn (Finished appended) = ⊥
 
 -- ---- the transcript
 
@@ -52,7 +52,7 @@ pub record EndsByTester (turns : List (List (List ℕ))) (talk : List Entry) (tr
   pub parts : List (List Entry)
   pub left : List ℕ
   pub talk_is : talk ≡ joined_talk parts ++ Finished left ∷ []
-  pub goes_on : AllByRecursion GoesOn (joined_talk parts)
+  pub goes_on : AllByRecursion PeerGoesOn (joined_talk parts)
   pub pieces : pieces_by_turn parts ≡ turns
   pub recorded : transcript.turns ≡ with_finish (map turn_of parts) left
 
@@ -76,7 +76,7 @@ pub record EndsByPeer (turns : List (List (List ℕ))) (talk : List Entry) (tran
   pub piece : List ℕ
   pub appended : List ℕ
   pub last : talk ≡ before ++ Fed piece appended Ended ∷ []
-  pub goes_on : AllByRecursion GoesOn before
+  pub goes_on : AllByRecursion PeerGoesOn before
   pub pieces : AreFirstPieces (pieces_by_turn parts) turns
   pub recorded : transcript.turns ≡ map turn_of parts
 

@@ -5,7 +5,7 @@ ghost use Rattle.ws_frame.specs.Devices.{watched};
 ghost use Rattle.ws_frame.specs.Watching.{has_failed};
 ghost use Rattle.ws_session.specs.Exchange.{HasExchanged};
 ghost use Rattle.ws_peer.specs.Driving.{DriveCall, Drives, IsFairDriveEnd};
-ghost use Rattle.ws_peer.specs.Steps.{AnswersPiece, Stands, end_of_stop};
+ghost use Rattle.ws_peer.specs.InnerSteps.{AnswersPiece, IsEchoOfCall, end_of_stop};
 
 use crate::lemmas::echo_laws;
 use std::alloc::Global;
@@ -56,8 +56,8 @@ impl Stop {
 /// takes them so. `first` is not counted. `key` masks what a client sends.
 ///
 /// Once the session is over nothing more is read, and a budget that is used up then is not told. At `WriteFault` and at
-/// `NoMemory` a beginning of what was due is written: at least the replies to all but the last read. Memory is taken
-/// for the replies to one read at a time.
+/// `NoMemory` a beginning of what was due is written: at least the replies to all but at most the last 4096 bytes.
+/// Memory is taken for the replies to one read at a time.
 pub fn drive<R: Read, W: Write>(
     alloc: Global,
     first: &[u8],
@@ -119,7 +119,7 @@ fn answer<W: Write>(
     key: [u8; 4],
 ) -> Result<(), Stop>
     requires { has_failed writer.old ≡ false }
-    ensures { (call : DriveCall) (bytes put : List ℕ) → call.key ≡ key → Stands call bytes put echo.old →
+    ensures { (call : DriveCall) (bytes put : List ℕ) → call.key ≡ key → IsEchoOfCall call bytes put echo.old →
         AnswersPiece call bytes put piece.now echo.new (watched W.contents writer.old writer.new) result }
 {
     echo_laws();

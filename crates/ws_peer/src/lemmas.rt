@@ -1,6 +1,6 @@
 //! What the layer below says, called where a proof stands on it. Nothing runs here.
 
-ghost use Rattle.ws_peer.specs.EchoLaws.{EchoLaws};
+ghost use Rattle.ws_peer.specs.InnerEchoLaws.{EchoLaws};
 
 use ws_session::laws;
 

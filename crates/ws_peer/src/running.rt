@@ -5,7 +5,7 @@ ghost use Rattle.std.specs.Prelude.{◌≡◌, ℕ, List, [], ◌∷◌, IfOk, O
 ghost use Rattle.ws_suite.specs.Scripts.{AreTurns, CanBeRun};
 ghost use Rattle.ws_peer.specs.Talks.{Entry, Finished};
 ghost use Rattle.ws_peer.specs.Runs.{IsRunOf, Talked, with_finish};
-ghost use Rattle.ws_peer.specs.TurnRuns.{IsTurnRun};
+ghost use Rattle.ws_peer.specs.InnerTurnRuns.{IsTurnRun};
 
 use crate::peer::{Going, Peer};
 use std::alloc::Global;

@@ -15,9 +15,9 @@ use Rattle.ws_suite.specs.declared.evidence.Reply.TheVariants as reply
 use Rattle.ws_suite.specs.declared.evidence.Ending.{Ending}
 use Rattle.ws_suite.specs.declared.evidence.Ending.TheVariants.{Closed, Failed}
 use Rattle.ws_suite.specs.Evidence.{by_turn, due_for, ending_in, got_in, joined_events}
-use Rattle.ws_suite.specs.Verdicts.{code_due_for}
-use Rattle.ws_suite.specs.Collecting.{at_turn}
-use Rattle.ws_suite.specs.EchoReplyLaws.{EchoReplyLaws}
+use Rattle.ws_suite.specs.Matching.{code_due_for}
+use Rattle.ws_suite.specs.InnerCollecting.{at_turn}
+use Rattle.ws_suite.specs.InnerEchoReplyLaws.{EchoReplyLaws}
 use Rattle.ws_suite.proofs.ValidDirections.{events_by, joined_frames}
 use Rattle.ws_suite.proofs.AnsweredEvents.{AllWhole, OnlyLastEnds, all_both, close_after, close_answers_end, empty_back, empty_front, end_stops, event_back, has_end, only_back, only_front, plain_answers, told_back, whole_answers}
 

@@ -4,6 +4,8 @@ use Rattle.std.proofs.lemmas.Grind.{flat_map-append}
 use Rattle.std.proofs.lemmas.List.{length-append, length-map, length-take, map-append, take-append-drop}
 use Rattle.std.specs.List.{AllByRecursion}
 use Rattle.ws_base.specs.Words.{hex}
+use Rattle.std.specs.Prelude.{IfSome}
+use Rattle.ws_base.specs.Words.{AreFourBytes}
 use Rattle.ws_base.specs.Lines.{IsDamagedAt, IsLine, ended}
 use Rattle.ws_suite.specs.declared.transcript.Turn.{Turn}
 use Rattle.ws_suite.specs.declared.transcript.Ended.{Ended}
@@ -13,13 +15,14 @@ use Rattle.ws_suite.specs.declared.capture.Capture.{Capture}
 use Rattle.ws_suite.specs.declared.capture.TurnLine.{TurnLine}
 use Rattle.ws_suite.specs.declared.capture.TurnLine.TheVariants.{Begin, Data, End}
 use Rattle.ws_suite.specs.Captures.{AreOfBytes}
-use Rattle.ws_suite.specs.Captures2.{AreTurnWordsOf, Extends, HasTurnLineBytes, HoldsBytes, IsCapture2Of, IsKeyIfAny, IsKeyLine, capture2_lines, end_words2, first_words2, key_words, turn_line_words, turn_lines}
-use Rattle.ws_suite.specs.Capturing2.{IsNoEnd}
+use Rattle.ws_suite.specs.Captures2.{AreTurnWordsOf, Extends, HasTurnLineBytes, HoldsBytes, IsCapture2Of, IsKeyLine, capture2_lines, end_words2, first_words2, key_words, turn_line_words, turn_lines}
+use Rattle.ws_suite.specs.InnerCapturing2.{IsNoEnd}
 use Rattle.ws_suite.proofs.TurnLemmas.{all_taken}
 use Rattle.ws_suite.proofs.LineLemmas.{ended_cons, ended_first, front_of_lines, hex_no_feed, line_after, line_of, no_feeds_by}
 use Rattle.ws_suite.proofs.CaptureLemmas.{last_ended, words_are_line}
 use Rattle.ws_suite.proofs.OneCapture.{SpellsOne}
-use Rattle.ws_suite.proofs.Capture2Lines.{all_joined, all_parted, end_is_last, extended, line_there, lines_of_turns, may_follow, no_end_in_turns, same_turn_line, same_turn_lines, turns_have_bytes}
+use Rattle.ws_suite.proofs.Capture2Lines.{all_joined, all_parted, end_has, end_is_last, extended, lines_of_turns, may_follow, no_end_in_turns, turns_have_bytes}
+use Rattle.ws_suite.proofs.Capture2Words.{line_there, same_turn_line, same_turn_lines}
 
 -- the lines of a capture before its last
 abbrev pub keyed_front : Option (List ℕ) → List Turn → List (List ℕ)
@@ -36,7 +39,7 @@ empty_capture = capture_of None [] Peer
 pub first2_is_line : IsLine first_words2
 first2_is_line = line_of first_words2 (no_feeds_by first_words2 refl)
 
-pub key_is_line : (key : Option (List ℕ)) → IsKeyIfAny key → IsLine (key_words key)
+pub key_is_line : (key : Option (List ℕ)) → IfSome key AreFourBytes → IsLine (key_words key)
 key_is_line None is = line_of (key_words None) (no_feeds_by (key_words None) refl)
 key_is_line (Some key) is = line_of (107 ∷ 101 ∷ 121 ∷ 32 ∷ hex key) (omega arith, (omega arith, (omega arith, (omega arith, hex_no_feed key is.1))))
 
@@ -47,18 +50,18 @@ end2_is_line Broken = line_of (end_words2 Broken) (no_feeds_by (end_words2 Broke
 
 turn_line_is_line : (line : TurnLine) → HasTurnLineBytes line → IsLine (turn_line_words line)
 turn_line_is_line Begin h = line_of (turn_line_words Begin) (no_feeds_by (turn_line_words Begin) refl)
-turn_line_is_line (Data line) h = words_are_line line h
+turn_line_is_line (Data line) h = words_are_line line (h line refl)
 turn_line_is_line (End end) h = end2_is_line end
 
 turn_lines_are_lines : (lines : List TurnLine) → AllByRecursion HasTurnLineBytes lines → AllByRecursion IsLine (map turn_line_words lines)
 turn_lines_are_lines [] h = tt
 turn_lines_are_lines (line ∷ lines) h = (turn_line_is_line line h.0, turn_lines_are_lines lines h.1)
 
-pub front2_are_lines : (key : Option (List ℕ)) (turns : List Turn) → IsKeyIfAny key → AllByRecursion AreOfBytes turns → AllByRecursion IsLine (keyed_front key turns)
+pub front2_are_lines : (key : Option (List ℕ)) (turns : List Turn) → IfSome key AreFourBytes → AllByRecursion AreOfBytes turns → AllByRecursion IsLine (keyed_front key turns)
 front2_are_lines key turns is h = (first2_is_line, (key_is_line key is, turn_lines_are_lines (lines_of_turns turns) (turns_have_bytes turns h)))
 
 pub lines_have_bytes2 : (transcript : Transcript) → AllByRecursion AreOfBytes transcript.turns → AllByRecursion HasTurnLineBytes (turn_lines transcript)
-lines_have_bytes2 transcript h = all_joined HasTurnLineBytes (lines_of_turns transcript.turns) (End transcript.ended ∷ []) (turns_have_bytes transcript.turns h) (tt, tt)
+lines_have_bytes2 transcript h = all_joined HasTurnLineBytes (lines_of_turns transcript.turns) (End transcript.ended ∷ []) (turns_have_bytes transcript.turns h) (end_has transcript.ended, tt)
 
 pub capture2_are_lines : (capture : Capture) → HoldsBytes capture → AllByRecursion IsLine (capture2_lines capture)
 capture2_are_lines capture h = (first2_is_line, (key_is_line capture.key h.0, turn_lines_are_lines (turn_lines capture.transcript) (lines_have_bytes2 capture.transcript h.1)))
@@ -72,7 +75,7 @@ pub front_and_end : (key : Option (List ℕ)) (turns : List Turn) (end : Ended) 
 front_and_end key turns end = ap (λ (l : List (List ℕ)). first_words2 ∷ key_words key ∷ l) (map-append turn_line_words (lines_of_turns turns) (End end ∷ []))
 
 -- the lines of a key and turns, and a last one, are a capture
-pub is_capture2 : (key : Option (List ℕ)) (turns : List Turn) (end : Ended) (text : List ℕ) → IsKeyIfAny key → AllByRecursion AreOfBytes turns
+pub is_capture2 : (key : Option (List ℕ)) (turns : List Turn) (end : Ended) (text : List ℕ) → IfSome key AreFourBytes → AllByRecursion AreOfBytes turns
     → text ≡ ended (keyed_front key turns) ++ (end_words2 end ++ 10 ∷ []) → IsCapture2Of (capture_of key turns end) text
 is_capture2 key turns end text is h e = (
   capture2_lines (capture_of key turns end),
@@ -165,10 +168,10 @@ module _ (one : SpellsOne) where
       → map turn_line_words (lines_of_turns others ++ End end ∷ []) ≡ map turn_line_words (lines_of_turns turns) → ⊥
   no_end_no_capture2 turns others end h i e =
       let same = same_turn_lines one (lines_of_turns others ++ End end ∷ []) (lines_of_turns turns) (lines_have_bytes2 (record { turns = others; ended = end }) i) (turns_have_bytes turns h) e in
-      (all_parted IsNoEnd (lines_of_turns others) (End end ∷ []) (subst (λ (l : List TurnLine). AllByRecursion IsNoEnd l) (sym same) (no_end_in_turns turns))).1.0
+      (all_parted IsNoEnd (lines_of_turns others) (End end ∷ []) (subst (λ (l : List TurnLine). AllByRecursion IsNoEnd l) (sym same) (no_end_in_turns turns))).1.0 end refl
 
   -- the line after these may not stand there
-  pub damaged_line2 : (key : Option (List ℕ)) (turns : List Turn) (rest text : List ℕ) (n : ℕ) → IsKeyIfAny key → AllByRecursion AreOfBytes turns
+  pub damaged_line2 : (key : Option (List ℕ)) (turns : List Turn) (rest text : List ℕ) (n : ℕ) → IfSome key AreFourBytes → AllByRecursion AreOfBytes turns
       → text ≡ ended (keyed_front key turns) ++ rest → n ≡ length (lines_of_turns turns) + 3
       → ((x after : List ℕ) (line : TurnLine) (others : List Turn) → rest ≡ x ++ 10 ∷ after → IsLine x → AreTurnWordsOf line x → Extends line turns others → ⊥)
       → IsDamagedAt IsCapture2Of n text
@@ -189,13 +192,13 @@ module _ (one : SpellsOne) where
   none_after_end2 turns others end other_end x left h i e =
       let (line, more, f, words, later, has) = line_there one (lines_of_turns others ++ End other_end ∷ []) (lines_of_turns turns) (end_words2 end) (x ∷ left)
       (lines_have_bytes2 (record { turns = others; ended = other_end }) i) (turns_have_bytes turns h) e in
-      let same : line ≡ End end = same_turn_line one line (End end) has tt (sym words) in
+      let same : line ≡ End end = same_turn_line one line (End end) has (end_has end) (sym words) in
       let last = end_is_last (lines_of_turns others) (lines_of_turns turns) more other_end end (no_end_in_turns others) (f ∙ ap (λ (l : TurnLine). lines_of_turns turns ++ l ∷ more) same) in
       let none : x ∷ left ≡ [] = later ∙ ap (λ (l : List TurnLine). map turn_line_words l) last.0 in
       absurd cc
 
   -- something stands after the last line
-  pub damaged_end2 : (key : Option (List ℕ)) (turns : List Turn) (end : Ended) (after text : List ℕ) (n : ℕ) → IsKeyIfAny key → AllByRecursion AreOfBytes turns
+  pub damaged_end2 : (key : Option (List ℕ)) (turns : List Turn) (end : Ended) (after text : List ℕ) (n : ℕ) → IfSome key AreFourBytes → AllByRecursion AreOfBytes turns
       → text ≡ ended (keyed_front key turns) ++ (end_words2 end ++ 10 ∷ after) → 0 < length after → n ≡ length (lines_of_turns turns) + 4 → IsDamagedAt IsCapture2Of n text
   damaged_end2 key turns end after text n is h split some number =
       let front = keyed_front key turns ++ end_words2 end ∷ [] in

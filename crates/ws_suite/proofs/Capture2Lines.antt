@@ -1,20 +1,18 @@
 -- The lines of turns in format 2, and which line may stand after them.
-use Rattle.std.proofs.Common.{◌≡◌, ◌∙◌, ℕ, ◌<◌, List, [], ◌∷◌, ◌++◌, map, flat_map, ap, ap₂, sym, refl, subst, arith, append_assoc, append-nil, slice_index}
+use Rattle.std.proofs.Common.{◌≡◌, ◌∙◌, ℕ, ◌<◌, List, [], ◌∷◌, ◌++◌, map, flat_map, ap, sym, refl, subst, arith, append_assoc, append-nil}
 use Rattle.std.proofs.lemmas.Grind.{flat_map-append}
 use Rattle.std.specs.List.{AllByRecursion}
 use Rattle.ws_base.specs.Words.{AreBytes}
 use Rattle.ws_suite.specs.declared.transcript.Turn.{Turn}
 use Rattle.ws_suite.specs.declared.transcript.Ended.{Ended}
-use Rattle.ws_suite.specs.declared.transcript.Ended.TheVariants.{Tester, Peer, Broken}
 use Rattle.ws_suite.specs.declared.capture.Line.{Line}
 use Rattle.ws_suite.specs.declared.capture.Line.TheVariants.{Sent, Got}
 use Rattle.ws_suite.specs.declared.capture.TurnLine.{TurnLine}
 use Rattle.ws_suite.specs.declared.capture.TurnLine.TheVariants.{Begin, Data, End}
-use Rattle.ws_suite.specs.Captures.{AreOfBytes, line_if_any}
-use Rattle.ws_suite.specs.Captures2.{Extends, HasTurnLineBytes, marked_turn, turn_line_words}
-use Rattle.ws_suite.specs.Capturing2.{IsNoEnd}
+use Rattle.ws_suite.specs.Captures.{AreOfBytes, HasLineBytes, line_if_any}
+use Rattle.ws_suite.specs.Captures2.{Extends, HasTurnLineBytes, marked_turn}
+use Rattle.ws_suite.specs.InnerCapturing2.{IsNoEnd}
 use Rattle.ws_suite.proofs.TurnLemmas.{all_added}
-use Rattle.ws_suite.proofs.OneCapture.{SpellsOne, same_line}
 
 abbrev pub lines_of_turns : List Turn → List TurnLine
 lines_of_turns turns = flat_map marked_turn turns
@@ -39,25 +37,40 @@ all_parted P (x ∷ xs) ys h =
 
 -- ---- what the lines hold
 
+data_has : (line : Line) → HasLineBytes line → HasTurnLineBytes (Data line)
+data_has line h other e = let same : line ≡ other = cc in subst (λ (l : Line). HasLineBytes l) same h
+
+begin_has : HasTurnLineBytes Begin
+begin_has line e = absurd cc
+
+pub end_has : (end : Ended) → HasTurnLineBytes (End end)
+end_has end line e = absurd cc
+
 line_has_bytes : (sent got : List ℕ) → AreBytes sent → AreBytes got → AllByRecursion HasTurnLineBytes (data_lines sent got)
 line_has_bytes [] [] h i = tt
-line_has_bytes [] (b ∷ got) h i = ((omega arith, i), tt)
-line_has_bytes (a ∷ sent) [] h i = ((omega arith, h), tt)
-line_has_bytes (a ∷ sent) (b ∷ got) h i = ((omega arith, h), ((omega arith, i), tt))
+line_has_bytes [] (b ∷ got) h i = (data_has (Got (b ∷ got)) (omega arith, i), tt)
+line_has_bytes (a ∷ sent) [] h i = (data_has (Sent (a ∷ sent)) (omega arith, h), tt)
+line_has_bytes (a ∷ sent) (b ∷ got) h i = (data_has (Sent (a ∷ sent)) (omega arith, h), (data_has (Got (b ∷ got)) (omega arith, i), tt))
 
 pub turns_have_bytes : (turns : List Turn) → AllByRecursion AreOfBytes turns → AllByRecursion HasTurnLineBytes (lines_of_turns turns)
 turns_have_bytes [] h = tt
-turns_have_bytes (turn ∷ turns) h = (tt, all_joined HasTurnLineBytes (data_lines turn.sent turn.got) (lines_of_turns turns) (line_has_bytes turn.sent turn.got h.0.0 h.0.1) (turns_have_bytes turns h.1))
+turns_have_bytes (turn ∷ turns) h = (begin_has, all_joined HasTurnLineBytes (data_lines turn.sent turn.got) (lines_of_turns turns) (line_has_bytes turn.sent turn.got h.0.0 h.0.1) (turns_have_bytes turns h.1))
+
+no_end_at_begin : IsNoEnd Begin
+no_end_at_begin end e = absurd cc
+
+no_end_at_data : (line : Line) → IsNoEnd (Data line)
+no_end_at_data line end e = absurd cc
 
 no_end_in_data : (sent got : List ℕ) → AllByRecursion IsNoEnd (data_lines sent got)
 no_end_in_data [] [] = tt
-no_end_in_data [] (b ∷ got) = (tt, tt)
-no_end_in_data (a ∷ sent) [] = (tt, tt)
-no_end_in_data (a ∷ sent) (b ∷ got) = (tt, (tt, tt))
+no_end_in_data [] (b ∷ got) = (no_end_at_data (Got (b ∷ got)), tt)
+no_end_in_data (a ∷ sent) [] = (no_end_at_data (Sent (a ∷ sent)), tt)
+no_end_in_data (a ∷ sent) (b ∷ got) = (no_end_at_data (Sent (a ∷ sent)), (no_end_at_data (Got (b ∷ got)), tt))
 
 pub no_end_in_turns : (turns : List Turn) → AllByRecursion IsNoEnd (lines_of_turns turns)
 no_end_in_turns [] = tt
-no_end_in_turns (turn ∷ turns) = (tt, all_joined IsNoEnd (data_lines turn.sent turn.got) (lines_of_turns turns) (no_end_in_data turn.sent turn.got) (no_end_in_turns turns))
+no_end_in_turns (turn ∷ turns) = (no_end_at_begin, all_joined IsNoEnd (data_lines turn.sent turn.got) (lines_of_turns turns) (no_end_in_data turn.sent turn.got) (no_end_in_turns turns))
 
 -- an end stands last alone
 pub end_is_last : (xs zs more : List TurnLine) (a b : Ended) → AllByRecursion IsNoEnd xs → xs ++ End a ∷ [] ≡ zs ++ End b ∷ more → (more ≡ []) × (a ≡ b)
@@ -66,7 +79,7 @@ end_is_last [] (z ∷ []) more a b h e = absurd cc
 end_is_last [] (z ∷ y ∷ zs) more a b h e = absurd cc
 end_is_last (x ∷ xs) [] more a b h e =
     let same : x ≡ End b = cc in
-    absurd (subst (λ (l : TurnLine). IsNoEnd l) same h.0)
+    absurd (h.0 b same)
 end_is_last (x ∷ xs) (z ∷ zs) more a b h e =
     let tail : xs ++ End a ∷ [] ≡ zs ++ End b ∷ more = cc in
     end_is_last xs zs more a b h.1 tail
@@ -89,15 +102,15 @@ longer front old new line e =
 
 pub extended : (line : TurnLine) (old new : List Turn) → IsNoEnd line → HasTurnLineBytes line → Extends line old new → lines_of_turns new ≡ lines_of_turns old ++ line ∷ []
 extended Begin old new goes h e = ap (λ (l : List Turn). lines_of_turns l) e ∙ snoc old (turn_of [] [])
-extended (Data (Sent [])) old new goes h e = absurd (let none : 0 < 0 = h.0 in omega arith)
+extended (Data (Sent [])) old new goes h e = absurd (let none : 0 < 0 = (h (Sent []) refl).0 in omega arith)
 extended (Data (Sent (b ∷ bytes))) old new goes h e =
     ap (λ (l : List Turn). lines_of_turns l) e.2
     ∙ (longer e.0 (turn_of [] []) (turn_of (b ∷ bytes) []) (Data (Sent (b ∷ bytes))) refl ∙ ap (λ (l : List Turn). lines_of_turns l ++ Data (Sent (b ∷ bytes)) ∷ []) (sym e.1))
-extended (Data (Got [])) old new goes h e = absurd (let none : 0 < 0 = h.0 in omega arith)
+extended (Data (Got [])) old new goes h e = absurd (let none : 0 < 0 = (h (Got []) refl).0 in omega arith)
 extended (Data (Got (b ∷ bytes))) old new goes h e =
     ap (λ (l : List Turn). lines_of_turns l) e.3
     ∙ (longer e.0 (turn_of e.1 []) (turn_of e.1 (b ∷ bytes)) (Data (Got (b ∷ bytes))) (got_added e.1 b bytes) ∙ ap (λ (l : List Turn). lines_of_turns l ++ Data (Got (b ∷ bytes)) ∷ []) (sym e.2))
-extended (End end) old new goes h e = absurd goes
+extended (End end) old new goes h e = absurd (goes end refl)
 
 no_bytes : AreBytes []
 no_bytes i = omega arith
@@ -106,10 +119,10 @@ pub extended_bytes : (line : TurnLine) (old new : List Turn) → HasTurnLineByte
 extended_bytes Begin old new h e all = subst (λ (l : List Turn). AllByRecursion AreOfBytes l) (sym e) (all_added AreOfBytes old (turn_of [] []) all (no_bytes, no_bytes))
 extended_bytes (Data (Sent bytes)) old new h e all =
     let both = all_parted AreOfBytes e.0 (turn_of [] [] ∷ []) (subst (λ (l : List Turn). AllByRecursion AreOfBytes l) e.1 all) in
-    subst (λ (l : List Turn). AllByRecursion AreOfBytes l) (sym e.2) (all_added AreOfBytes e.0 (turn_of bytes []) both.0 (h.1, no_bytes))
+    subst (λ (l : List Turn). AllByRecursion AreOfBytes l) (sym e.2) (all_added AreOfBytes e.0 (turn_of bytes []) both.0 ((h (Sent bytes) refl).1, no_bytes))
 extended_bytes (Data (Got bytes)) old new h e all =
     let both = all_parted AreOfBytes e.0 (turn_of e.1 [] ∷ []) (subst (λ (l : List Turn). AllByRecursion AreOfBytes l) e.2 all) in
-    subst (λ (l : List Turn). AllByRecursion AreOfBytes l) (sym e.3) (all_added AreOfBytes e.0 (turn_of e.1 bytes) both.0 (both.1.0.0, h.1))
+    subst (λ (l : List Turn). AllByRecursion AreOfBytes l) (sym e.3) (all_added AreOfBytes e.0 (turn_of e.1 bytes) both.0 (both.1.0.0, (h (Got bytes) refl).1))
 extended_bytes (End end) old new h e all = subst (λ (l : List Turn). AllByRecursion AreOfBytes l) (sym e) all
 
 -- ---- which line may stand there
@@ -177,72 +190,3 @@ may_follow (turn ∷ turns) (other ∷ others) end x left e =
     let own = append_assoc (marked_turn turn) (lines_of_turns turns) (x ∷ left) in
     let whole = append_assoc (marked_turn other) (lines_of_turns others) (End end ∷ []) in
     follows_within turns others end x left (λ f. may_follow turns others end x left f) turn.sent turn.got other.sent other.got (sym whole ∙ (e ∙ own))
-
--- ---- words
-
-abbrev lead : List ℕ → ℕ
-lead words = slice_index words 0
-
-both_there : (x y : TurnLine) (xs ys : List TurnLine) → x ≡ y → xs ≡ ys → x ∷ xs ≡ y ∷ ys
-both_there x y xs ys e f = ap₂ (λ (z : TurnLine) (zs : List TurnLine). z ∷ zs) e f
-
-module _ (one : SpellsOne) where
-  pub same_turn_line : (a b : TurnLine) → HasTurnLineBytes a → HasTurnLineBytes b → turn_line_words a ≡ turn_line_words b → a ≡ b
-  same_turn_line Begin Begin h i e = refl
-  same_turn_line Begin (Data (Sent y)) h i e = absurd (let wrong : 116 ≡ 62 = ap lead e in omega arith)
-  same_turn_line Begin (Data (Got y)) h i e = absurd (let wrong : 116 ≡ 60 = ap lead e in omega arith)
-  same_turn_line Begin (End Tester) h i e = absurd (let wrong : 116 ≡ 101 = ap lead e in omega arith)
-  same_turn_line Begin (End Peer) h i e = absurd (let wrong : 116 ≡ 101 = ap lead e in omega arith)
-  same_turn_line Begin (End Broken) h i e = absurd (let wrong : 116 ≡ 101 = ap lead e in omega arith)
-  same_turn_line (Data x) (Data y) h i e = ap Data (same_line one x y h i e)
-  same_turn_line (Data (Sent x)) Begin h i e = absurd (let wrong : 62 ≡ 116 = ap lead e in omega arith)
-  same_turn_line (Data (Got x)) Begin h i e = absurd (let wrong : 60 ≡ 116 = ap lead e in omega arith)
-  same_turn_line (Data (Sent x)) (End Tester) h i e = absurd (let wrong : 62 ≡ 101 = ap lead e in omega arith)
-  same_turn_line (Data (Sent x)) (End Peer) h i e = absurd (let wrong : 62 ≡ 101 = ap lead e in omega arith)
-  same_turn_line (Data (Sent x)) (End Broken) h i e = absurd (let wrong : 62 ≡ 101 = ap lead e in omega arith)
-  same_turn_line (Data (Got x)) (End Tester) h i e = absurd (let wrong : 60 ≡ 101 = ap lead e in omega arith)
-  same_turn_line (Data (Got x)) (End Peer) h i e = absurd (let wrong : 60 ≡ 101 = ap lead e in omega arith)
-  same_turn_line (Data (Got x)) (End Broken) h i e = absurd (let wrong : 60 ≡ 101 = ap lead e in omega arith)
-  same_turn_line (End Tester) Begin h i e = absurd (let wrong : 101 ≡ 116 = ap lead e in omega arith)
-  same_turn_line (End Peer) Begin h i e = absurd (let wrong : 101 ≡ 116 = ap lead e in omega arith)
-  same_turn_line (End Broken) Begin h i e = absurd (let wrong : 101 ≡ 116 = ap lead e in omega arith)
-  same_turn_line (End Tester) (Data (Sent y)) h i e = absurd (let wrong : 101 ≡ 62 = ap lead e in omega arith)
-  same_turn_line (End Peer) (Data (Sent y)) h i e = absurd (let wrong : 101 ≡ 62 = ap lead e in omega arith)
-  same_turn_line (End Broken) (Data (Sent y)) h i e = absurd (let wrong : 101 ≡ 62 = ap lead e in omega arith)
-  same_turn_line (End Tester) (Data (Got y)) h i e = absurd (let wrong : 101 ≡ 60 = ap lead e in omega arith)
-  same_turn_line (End Peer) (Data (Got y)) h i e = absurd (let wrong : 101 ≡ 60 = ap lead e in omega arith)
-  same_turn_line (End Broken) (Data (Got y)) h i e = absurd (let wrong : 101 ≡ 60 = ap lead e in omega arith)
-  same_turn_line (End Tester) (End Tester) h i e = refl
-  same_turn_line (End Tester) (End Peer) h i e = absurd (let wrong : 116 ≡ 112 = ap (λ (l : List ℕ). slice_index l 4) e in omega arith)
-  same_turn_line (End Tester) (End Broken) h i e = absurd (let wrong : 116 ≡ 98 = ap (λ (l : List ℕ). slice_index l 4) e in omega arith)
-  same_turn_line (End Peer) (End Tester) h i e = absurd (let wrong : 112 ≡ 116 = ap (λ (l : List ℕ). slice_index l 4) e in omega arith)
-  same_turn_line (End Peer) (End Peer) h i e = refl
-  same_turn_line (End Peer) (End Broken) h i e = absurd (let wrong : 112 ≡ 98 = ap (λ (l : List ℕ). slice_index l 4) e in omega arith)
-  same_turn_line (End Broken) (End Tester) h i e = absurd (let wrong : 98 ≡ 116 = ap (λ (l : List ℕ). slice_index l 4) e in omega arith)
-  same_turn_line (End Broken) (End Peer) h i e = absurd (let wrong : 98 ≡ 112 = ap (λ (l : List ℕ). slice_index l 4) e in omega arith)
-  same_turn_line (End Broken) (End Broken) h i e = refl
-
-  pub same_turn_lines : (xs ys : List TurnLine) → AllByRecursion HasTurnLineBytes xs → AllByRecursion HasTurnLineBytes ys → map turn_line_words xs ≡ map turn_line_words ys → xs ≡ ys
-  same_turn_lines [] [] h i e = refl
-  same_turn_lines [] (y ∷ ys) h i e = absurd cc
-  same_turn_lines (x ∷ xs) [] h i e = absurd cc
-  same_turn_lines (x ∷ xs) (y ∷ ys) h i e =
-      let head : turn_line_words x ≡ turn_line_words y = cc in
-      let tail : map turn_line_words xs ≡ map turn_line_words ys = cc in
-      ap₂ (λ (z : TurnLine) (zs : List TurnLine). z ∷ zs) (same_turn_line x y h.0 i.0 head) (same_turn_lines xs ys h.1 i.1 tail)
-
-  -- the line at which the words of some lines go on after those of others
-  pub line_there : (all front : List TurnLine) (x : List ℕ) (left : List (List ℕ)) → AllByRecursion HasTurnLineBytes all → AllByRecursion HasTurnLineBytes front
-      → map turn_line_words all ≡ map turn_line_words front ++ x ∷ left
-      → (line : TurnLine) × (more : List TurnLine) × (all ≡ front ++ line ∷ more) × (x ≡ turn_line_words line) × (left ≡ map turn_line_words more) × HasTurnLineBytes line
-  line_there [] [] x left h i e = absurd cc
-  line_there [] (y ∷ front) x left h i e = absurd cc
-  line_there (z ∷ all) [] x left h i e =
-      let same : x ≡ turn_line_words z = cc in
-      let later : left ≡ map turn_line_words all = cc in
-      (z, all, refl, same, later, h.0)
-  line_there (z ∷ all) (y ∷ front) x left h i e =
-      let head : turn_line_words z ≡ turn_line_words y = cc in
-      let tail : map turn_line_words all ≡ map turn_line_words front ++ x ∷ left = cc in
-      let (line, more, f, g, k, has) = line_there all front x left h.1 i.1 tail in
-      (line, more, both_there z y all (front ++ line ∷ more) (same_turn_line z y h.0 i.0 head) f, g, k, has)

@@ -12,8 +12,8 @@ use Rattle.ws_suite.specs.declared.capture.TurnLine.{TurnLine}
 use Rattle.ws_suite.specs.declared.capture.TurnLine.TheVariants.{Data, End}
 use Rattle.ws_suite.specs.Captures.{line_words, lines_of_turn}
 use Rattle.ws_suite.specs.Captures2.{end_words2, key_words, marked_turn, turn_line_words, turn_lines, written_capture2}
-use Rattle.ws_suite.specs.Capturing.{turn_text}
-use Rattle.ws_suite.specs.Capturing2.{capture2_text, key_text, last_text2, marked_turn_text}
+use Rattle.ws_suite.specs.InnerCapturing.{turn_text}
+use Rattle.ws_suite.specs.InnerCapturing2.{capture2_text, key_text, last_text2, marked_turn_text}
 use Rattle.ws_suite.proofs.CaptureTexts.{turn_is}
 use Rattle.ws_suite.proofs.Capture2Lines.{lines_of_turns}
 

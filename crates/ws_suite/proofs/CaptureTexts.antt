@@ -15,7 +15,7 @@ use Rattle.ws_suite.specs.declared.capture.Line.TheVariants.{Sent, Got}
 use Rattle.ws_suite.specs.declared.capture.CaptureLine.{CaptureLine}
 use Rattle.ws_suite.specs.declared.capture.CaptureLine.TheVariants.{Data, End}
 use Rattle.ws_suite.specs.Captures.{AreLineBytes, AreWordsOf, bytes_of, end_words, line_if_any, line_words, lines_of_turn, mark_of, written_capture}
-use Rattle.ws_suite.specs.Capturing.{capture_text, got_text, last_text, sent_text, turn_text}
+use Rattle.ws_suite.specs.InnerCapturing.{capture_text, got_text, last_text, sent_text, turn_text}
 
 -- ---- writing
 

@@ -15,7 +15,7 @@ use Rattle.ws_suite.specs.declared.evidence.InTurn.{InTurn}
 use Rattle.ws_suite.specs.declared.evidence.collecting.Way.{Way}
 use Rattle.ws_suite.specs.declared.evidence.collecting.Collected.{Collected}
 use Rattle.ws_suite.specs.Evidence.{AreEventsByTurn, HasRest, by_turn, ending_in, joined_events}
-use Rattle.ws_suite.specs.Collecting.{AreCollected, SessionLaws, at_turn, found_by, last_end}
+use Rattle.ws_suite.specs.InnerCollecting.{AreCollected, EventLaws, at_turn, found_by, last_end}
 use Rattle.ws_suite.proofs.TurnLemmas.{joined_more}
 
 -- ---- lists by turn
@@ -127,7 +127,7 @@ rest_is_there role before bytes events told less has = record {
 }
 
 -- it ends with the last byte: then no fewer bytes tell it
-pub no_rest_is_there : SessionLaws → (role : Role) (before bytes : List ℕ) (events : List Event) (told : List PlacedEvent) → 0 < length bytes → length bytes ≤ last_end told
+pub no_rest_is_there : EventLaws → (role : Role) (before bytes : List ℕ) (events : List Event) (told : List PlacedEvent) → 0 < length bytes → length bytes ≤ last_end told
     → HasEvents role most_limits before events
     → ((n : ℕ) → HasEvents role most_limits (before ++ take n bytes) (events ++ events_in (ending_by n told)))
     → HasRest role (before ++ bytes) (events ++ events_in told) → ⊥

@@ -21,7 +21,7 @@ use Rattle.ws_suite.specs.declared.evidence.Ending.{Ending}
 use Rattle.ws_suite.specs.Evidence.{AreEventsByTurn, HasRest, IsDirectionOf, IsEvidenceOf, by_turn, due_for, ending_in, got_in, got_turns, joined_events, sent_turns}
 use Rattle.ws_suite.specs.Verdicts.{IsVerdictOf}
 use Rattle.ws_suite.specs.Fairness.{IsEchoTranscript, echo_bytes, ends_echo, got_within, sent_within}
-use Rattle.ws_suite.specs.EchoReplyLaws.{EchoReplyLaws}
+use Rattle.ws_suite.specs.InnerEchoReplyLaws.{EchoReplyLaws}
 use Rattle.ws_suite.proofs.ValidDirections.{bytes_of_turns, events_by, joined_frames, valid_direction}
 use Rattle.ws_suite.proofs.AnsweredEvents.{OnlyLastEnds, has_end, over_by_end}
 use Rattle.ws_suite.proofs.AnsweredTurns.{answered, answers_by, answers_so_far, end_when_due, ends_nowhere, ends_somewhere, frames_unmasked, got_when_due, length-answers_by, told_by_turn, unmasked}

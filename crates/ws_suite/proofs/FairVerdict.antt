@@ -16,7 +16,8 @@ use Rattle.ws_suite.specs.declared.evidence.Reply.{Reply}
 use Rattle.ws_suite.specs.declared.evidence.Ending.{Ending}
 use Rattle.ws_suite.specs.declared.evidence.Ending.TheVariants.{Closed}
 use Rattle.ws_suite.specs.declared.evidence.Evidence.{Evidence}
-use Rattle.ws_suite.specs.Verdicts.{Fails, IsBeginningOf, IsLastPong, IsLoose, IsVerdictOn, IsWithSomeLeftOut, after_match, bare, code_due_for, has_payload_of, is_before, is_before_match, is_unmatched, matches_of, messages_of, payload_of, pongs_of}
+use Rattle.ws_suite.specs.Matching.{IsBeginningOf, IsLastPong, IsWithSomeLeftOut, after_match, bare, code_due_for, has_payload_of, matches_of, message_replies, payload_of, pong_replies}
+use Rattle.ws_suite.specs.Verdicts.{Fails, IsLoose, IsVerdictOn, is_before, is_before_match, is_unmatched}
 use Rattle.ws_suite.proofs.AnsweredTurns.{answer_in_turn}
 
 -- ---- lists against themselves
@@ -50,8 +51,8 @@ all_matched [] = refl
 all_matched (x ∷ xs) = all_matched xs
 
 none_left_out : (xs : List Reply) → IsWithSomeLeftOut xs xs
-none_left_out [] = tt
-none_left_out (x ∷ xs) = inl (refl, none_left_out xs)
+none_left_out [] = refl
+none_left_out (x ∷ xs) = inr (xs, refl, none_left_out xs)
 
 last_after : (x : InTurn Reply) (xs : List (InTurn Reply)) → (y : InTurn Reply) × (last_or (Some x) xs ≡ Some y)
 last_after x [] = (x, refl)
@@ -88,8 +89,8 @@ fully_answered replies due has_rest turns ended = record {
 }
 
 module _ (replies : List (InTurn Reply)) (has_rest : Bool) (turns : ℕ) (ended : Ended) where
-  messages_right : (b : Bool) → MatchBool b (IsBeginningOf (bare (messages_of replies)) (bare (messages_of replies)) → ⊥) (bare (messages_of replies) ≢ bare (messages_of replies)) → ⊥
-  messages_right true h = h ([], sym (append-nil (bare (messages_of replies))))
+  messages_right : (b : Bool) → MatchBool b (IsBeginningOf (bare (message_replies replies)) (bare (message_replies replies)) → ⊥) (bare (message_replies replies) ≢ bare (message_replies replies)) → ⊥
+  messages_right true h = h ([], sym (append-nil (bare (message_replies replies))))
   messages_right false h = h refl
 
   fails_nowhere : (due : Option (InTurn Ending)) → EndsRightly due turns ended → (why : FailWhy) → Fails (fully_answered replies due has_rest turns ended) why → ⊥
@@ -97,13 +98,13 @@ module _ (replies : List (InTurn Reply)) (has_rest : Bool) (turns : ℕ) (ended 
   fails_nowhere (Some due) right fail.NotFrames (inl h) = not_true false refl h
   fails_nowhere due right fail.NotFrames (inr (inl h)) = not_true false refl h.1
   fails_nowhere due right fail.NotFrames (inr (inr h)) = not_true false refl h.0
-  fails_nowhere due right fail.Early (inl h) = not_true _ (none_before (messages_of replies)) h
-  fails_nowhere due right fail.Early (inr (inl h)) = not_true _ (ap (λ l. list_any is_before_match l) (matched_with_itself (pongs_of replies)) ∙ no_early_match (pongs_of replies)) h
+  fails_nowhere due right fail.Early (inl h) = not_true _ (none_before (message_replies replies)) h
+  fails_nowhere due right fail.Early (inr (inl h)) = not_true _ (ap (λ l. list_any is_before_match l) (matched_with_itself (pong_replies replies)) ∙ no_early_match (pong_replies replies)) h
   fails_nowhere None right fail.Early (inr (inr h)) = h
   fails_nowhere (Some due) right fail.Early (inr (inr h)) = omega (arith, h.1)
   fails_nowhere due right fail.Messages h = messages_right _ h
-  fails_nowhere due right fail.Pongs (inl h) = not_true _ (ap (λ l. list_any is_unmatched l) (matched_with_itself (pongs_of replies)) ∙ all_matched (pongs_of replies)) h
-  fails_nowhere due right fail.Pongs (inr h) = h.2 (last_is_there (pongs_of replies) h.1)
+  fails_nowhere due right fail.Pongs (inl h) = not_true _ (ap (λ l. list_any is_unmatched l) (matched_with_itself (pong_replies replies)) ∙ all_matched (pong_replies replies)) h
+  fails_nowhere due right fail.Pongs (inr h) = h.2 (last_is_there (pong_replies replies) h.1)
   fails_nowhere None right fail.Close (inl h) = not_true false refl h.0
   fails_nowhere (Some due) right fail.Close (inl h) = not_true true h.1 refl
   fails_nowhere None right fail.Close (inr h) = not_true false refl h.1

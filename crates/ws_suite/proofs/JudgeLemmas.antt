@@ -5,8 +5,9 @@ use Rattle.std.proofs.lemmas.List.{drop_more, length-append, map-append, take_al
 use Rattle.std.specs.List.{drop-map, last_or, list_any, take-map, zip}
 use Rattle.ws_suite.specs.declared.evidence.InTurn.{InTurn}
 use Rattle.ws_suite.specs.declared.evidence.Reply.{Reply}
-use Rattle.ws_suite.specs.Judging.{IsAtFront, targets}
-use Rattle.ws_suite.specs.Verdicts.{IsBeginningOf, IsLastPong, IsWithSomeLeftOut, after_match, bare, due_after, has_payload_of, is_before, matches_of}
+use Rattle.ws_suite.specs.InnerJudging.{IsAtFront, targets}
+use Rattle.ws_suite.specs.Matching.{IsBeginningOf, IsLastPong, IsWithSomeLeftOut, after_match, bare, due_after, has_payload_of, matches_of}
+use Rattle.ws_suite.specs.Verdicts.{is_before}
 use Rattle.ws_suite.proofs.EvidenceLemmas.{last_joined}
 
 -- ---- what stands at a place
@@ -79,28 +80,27 @@ nothing_begins xs ys e = (ys, ap (λ (l : List Reply). l ++ ys) (sym e))
 -- ---- some left out
 
 front_left_out : (x : Reply) (xs all : List Reply) → IsWithSomeLeftOut (x ∷ xs) all → IsWithSomeLeftOut xs all
-front_left_out x xs [] h = absurd h
-front_left_out x xs (y ∷ all) (inl h) = more xs all h.1
-  where
-    more : (l k : List Reply) → IsWithSomeLeftOut l k → IsWithSomeLeftOut l (y ∷ k)
-    more [] k i = tt
-    more (z ∷ l) k i = inr i
-front_left_out x [] (y ∷ all) (inr h) = tt
-front_left_out x (z ∷ xs) (y ∷ all) (inr h) = inr (front_left_out x (z ∷ xs) all h)
+front_left_out x xs [] h = absurd cc
+front_left_out x xs (y ∷ all) (inl h) = inl (front_left_out x xs all h)
+front_left_out x xs (y ∷ all) (inr h) =
+    let same : h.0 ≡ xs = let both = h.1 in cc in
+    inl (subst (λ (l : List Reply). IsWithSomeLeftOut l all) same h.2)
 
 pub left_same : (x y : Reply) (xs all : List Reply) → x ≡ y → (IsWithSomeLeftOut (x ∷ xs) (y ∷ all) → IsWithSomeLeftOut xs all) × (IsWithSomeLeftOut xs all → IsWithSomeLeftOut (x ∷ xs) (y ∷ all))
-left_same x y xs all same = (on, λ h. inl (same, h))
+left_same x y xs all same = (on, λ h. inr (xs, ap (λ (z : Reply). z ∷ xs) same, h))
   where
     on : IsWithSomeLeftOut (x ∷ xs) (y ∷ all) → IsWithSomeLeftOut xs all
-    on (inl h) = h.1
-    on (inr h) = front_left_out x xs all h
+    on (inl h) = front_left_out x xs all h
+    on (inr h) =
+        let tail : h.0 ≡ xs = let both = h.1 in cc in
+        subst (λ (l : List Reply). IsWithSomeLeftOut l all) tail h.2
 
 pub left_other : (x y : Reply) (xs all : List Reply) → x ≢ y → (IsWithSomeLeftOut (x ∷ xs) (y ∷ all) → IsWithSomeLeftOut (x ∷ xs) all) × (IsWithSomeLeftOut (x ∷ xs) all → IsWithSomeLeftOut (x ∷ xs) (y ∷ all))
-left_other x y xs all not = (on, λ h. inr h)
+left_other x y xs all not = (on, λ h. inl h)
   where
     on : IsWithSomeLeftOut (x ∷ xs) (y ∷ all) → IsWithSomeLeftOut (x ∷ xs) all
-    on (inl h) = absurd (not h.0)
-    on (inr h) = h
+    on (inl h) = h
+    on (inr h) = let head : x ≡ y = let both = h.1 in cc in absurd (not head)
 
 -- ---- the last of a list
 
@@ -171,12 +171,12 @@ last_pong_differs dues gots due got r is_due is_got differs same = (λ e. absurd
 
 -- at the end nothing is left out of nothing but nothing
 pub none_left : (xs alls : List Reply) → alls ≡ [] → IsWithSomeLeftOut xs alls → length xs ≡ 0
-none_left [] alls e h = refl
-none_left (x ∷ xs) [] e h = absurd h
-none_left (x ∷ xs) (y ∷ alls) e h = absurd cc
+none_left xs [] e h = ap (λ (l : List Reply). length l) h
+none_left xs (y ∷ alls) e h = absurd cc
 
 pub empty_left : (xs alls : List Reply) → length xs ≡ 0 → IsWithSomeLeftOut xs alls
-empty_left [] alls e = tt
+empty_left [] [] e = refl
+empty_left [] (y ∷ alls) e = inl (empty_left [] alls refl)
 empty_left (x ∷ xs) alls e = absurd (omega arith)
 
 -- a beginning that is no shorter is all

@@ -8,7 +8,7 @@ use Rattle.ws_session.specs.declared.event.Event.{Event}
 use Rattle.ws_session.specs.Events.{HasEvents}
 use Rattle.ws_session.specs.Sends.{most_limits}
 use Rattle.ws_suite.specs.Evidence.{AreEventsByTurn, EndsWithByte, HoldsByte, StandsInTurn, joined_events}
-use Rattle.ws_suite.specs.Collecting.{SessionLaws}
+use Rattle.ws_suite.specs.InnerCollecting.{EventLaws}
 
 -- the bytes of the first turns, and those of the others
 turn_parts : (n : ℕ) (turns : List (List ℕ)) → concat turns ≡ concat (take n turns) ++ concat (drop n turns)
@@ -28,7 +28,7 @@ short_front : (n m : ℕ) (turns : List (List ℕ)) → m ≤ length (concat (ta
 short_front n m turns less =
     sym (ap (λ (l : List ℕ). take m l) (turn_parts n turns) ∙ take-append-le m (concat (take n turns)) (concat (drop n turns)) less)
 
-module _ (laws : SessionLaws) (role : Role) (turns : List (List ℕ)) (events : List (List Event)) (turn place n : ℕ)
+module _ (laws : EventLaws) (role : Role) (turns : List (List ℕ)) (events : List (List Event)) (turn place n : ℕ)
     (are : AreEventsByTurn role turns events) (stands : StandsInTurn events turn place) (ends : EndsWithByte role (concat turns) place n) where
   -- there is such a turn
   a_turn : turn < length turns

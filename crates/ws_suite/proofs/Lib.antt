@@ -10,8 +10,10 @@ mod LastBytes
 mod OneVerdict
 mod OneCapture
 mod ValidDirections
+mod WorkedFrames
 mod WorkedVerdicts
 mod Capture2Lines
+mod Capture2Words
 mod Capture2Lemmas
 mod Capture2Texts
 mod OneCapture2

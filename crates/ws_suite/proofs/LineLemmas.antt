@@ -5,7 +5,9 @@ use Rattle.std.proofs.lemmas.Fmt.{hex_one_digit}
 use Rattle.std.specs.Fmt.{digits, digit_glyph}
 use Rattle.std.specs.List.{AllByRecursion, list_all}
 use Rattle.ws_base.specs.Words.{AreBytes, hex}
-use Rattle.ws_base.specs.Lines.{IsLine, ended}
+use Rattle.ws_base.specs.Lines.{IsDamagedAt, IsLine, ended}
+use Rattle.ws_suite.specs.declared.capture.CaptureFault.TheVariants.{Damaged}
+use Rattle.ws_suite.specs.Captures.{DamagesCapture}
 
 -- ---- bytes that end no line
 
@@ -111,3 +113,9 @@ line_after (b ∷ front) (line ∷ lines) rest other p q len e =
     let same = one_line b line (ended front ++ rest) (ended lines ++ other) p.0 q.0 (sym (ended_cons b front rest) ∙ (e ∙ ended_cons line lines other)) in
     let (last, f, g, is) = line_after front lines rest other p.1 q.1 (omega arith) same.1 in
     (last, ap₂ (λ (z : List ℕ) (zs : List (List ℕ)). z ∷ zs) (sym same.0) f, g, is)
+
+-- ---- faults
+
+-- a fault that names the line at which the text is damaged
+pub names_line : {T : Type 0} (IsTextOf : T → List ℕ → Type 0) (line : ℕ) (text : List ℕ) → IsDamagedAt IsTextOf line text → DamagesCapture IsTextOf (Damaged line) text
+names_line IsTextOf line text damaged n told = let same : line ≡ n = cc in subst (λ (k : ℕ). IsDamagedAt IsTextOf k text) same damaged

@@ -2,7 +2,7 @@
 -- are.
 use Rattle.std.proofs.Common.{◌≡◌, ◌≢◌, ◌∙◌, ℕ, ◌<◌, inl, inr, List, [], ◌∷◌, ◌++◌, length, map, Option, Some, None, ap, ap₂, sym, refl, subst, arith, append_assoc, append-nil, codes, drop}
 use Rattle.std.proofs.lemmas.List.{append_cancel_left, length-append}
-use Rattle.std.specs.Prelude.{MatchResult, Result, Ok, Err}
+use Rattle.std.specs.Prelude.{IfSome, MatchResult, Result, Ok, Err}
 use Rattle.std.specs.List.{AllByRecursion}
 use Rattle.ws_base.specs.Words.{AreFourBytes, hex}
 use Rattle.ws_base.specs.Lines.{BeginsWithLines, IsDamagedAt, IsLine, ended}
@@ -12,17 +12,17 @@ use Rattle.ws_suite.specs.declared.transcript.Ended.TheVariants.{Broken}
 use Rattle.ws_suite.specs.declared.transcript.Transcript.{Transcript}
 use Rattle.ws_suite.specs.declared.capture.Capture.{Capture}
 use Rattle.ws_suite.specs.declared.capture.CaptureFault.{CaptureFault}
-use Rattle.ws_suite.specs.declared.capture.CaptureFault.TheVariants.{Damaged, NoMemory}
 use Rattle.ws_suite.specs.declared.capture.Line.TheVariants.{Sent, Got}
 use Rattle.ws_suite.specs.declared.capture.TurnLine.{TurnLine}
 use Rattle.ws_suite.specs.declared.capture.TurnLine.TheVariants.{Begin, Data, End}
-use Rattle.ws_suite.specs.Captures.{AreOfBytes, AreParted, Damages, IsCaptureOf, first_words, written_capture}
-use Rattle.ws_suite.specs.Captures2.{AreAnswered, Damages2, DamagesAny, HasLines2, IsAnyCaptureOf, IsCapture2Of, IsKeyIfAny, capture2_lines, first_words2, key_words, marked_turn, turn_line_words, turn_lines}
+use Rattle.ws_suite.specs.Captures.{AreOfBytes, AreParted, DamagesCapture, IsCaptureOf, first_words, written_capture}
+use Rattle.ws_suite.specs.Captures2.{AreAnsweredTurns, HasLines2, IsAnyCaptureOf, IsCapture2Of, capture2_lines, first_words2, key_words, marked_turn, turn_line_words, turn_lines}
 use Rattle.ws_suite.proofs.LineLemmas.{ended_cons, ended_first, front_of_lines, no_line_empty, one_line}
 use Rattle.ws_suite.proofs.CaptureLemmas.{first_is_line, heads_differ}
 use Rattle.ws_suite.proofs.CaptureTexts.{hex_two}
 use Rattle.ws_suite.proofs.OneCapture.{SpellsOne, one_transcript, parted_is_same, same_bytes, written_is_capture}
-use Rattle.ws_suite.proofs.Capture2Lines.{end_is_last, lines_of_turns, no_end_in_turns, same_turn_lines}
+use Rattle.ws_suite.proofs.Capture2Lines.{end_is_last, lines_of_turns, no_end_in_turns}
+use Rattle.ws_suite.proofs.Capture2Words.{same_turn_lines}
 use Rattle.ws_suite.proofs.Capture2Lemmas.{capture2_are_lines, first2_is_line, lines_have_bytes2, text_of}
 
 -- ---- the turns that lines tell
@@ -95,7 +95,7 @@ same_capture : (a b : Capture) → a.key ≡ b.key → a.transcript ≡ b.transc
 same_capture a b e f = ap₂ (λ (key : Option (List ℕ)) (transcript : Transcript). record { key = key; transcript = transcript }) e f
 
 module _ (one : SpellsOne) where
-  same_key : (a b : Option (List ℕ)) → IsKeyIfAny a → IsKeyIfAny b → key_words a ≡ key_words b → a ≡ b
+  same_key : (a b : Option (List ℕ)) → IfSome a AreFourBytes → IfSome b AreFourBytes → key_words a ≡ key_words b → a ≡ b
   same_key None None h i e = refl
   same_key None (Some y) h i e = absurd (dash_is_no_key y i (append_cancel_left (codes "key ") (codes "-") (hex y) e))
   same_key (Some x) None h i e = absurd (dash_is_no_key x h (append_cancel_left (codes "key ") (codes "-") (hex x) (sym e)))
@@ -219,30 +219,29 @@ damaged_in_2 n text not d = record {
         let (after, g) = begins_with first_words x b.lines b.rest b.more text (omega (arith, b.number, d.from_one)) b.are_lines first_is_line b.has f in
         not after g
 
-pub fault_in_1 : (fault : CaptureFault) (text after : List ℕ) → text ≡ first_words ++ 10 ∷ after → Damages fault text → DamagesAny fault text
-fault_in_1 (Damaged n) text after e d = damaged_in_1 n text after e d
-fault_in_1 NoMemory text after e d = tt
+pub fault_in_1 : (fault : CaptureFault) (text after : List ℕ) → text ≡ first_words ++ 10 ∷ after → DamagesCapture IsCaptureOf fault text → DamagesCapture IsAnyCaptureOf fault text
+fault_in_1 fault text after e d = λ n told. damaged_in_1 n text after e (d n told)
 
-fault_in_2 : (fault : CaptureFault) (text : List ℕ) → ((after : List ℕ) → text ≡ first_words ++ 10 ∷ after → ⊥) → Damages2 fault text → DamagesAny fault text
-fault_in_2 (Damaged n) text not d = damaged_in_2 n text not d
-fault_in_2 NoMemory text not d = tt
+fault_in_2 : (fault : CaptureFault) (text : List ℕ) → ((after : List ℕ) → text ≡ first_words ++ 10 ∷ after → ⊥) → DamagesCapture IsCapture2Of fault text → DamagesCapture IsAnyCaptureOf fault text
+fault_in_2 fault text not d = λ n told. damaged_in_2 n text not (d n told)
 
 pub result_in_2 : (result : Result Capture CaptureFault) (text : List ℕ) → ((after : List ℕ) → text ≡ first_words ++ 10 ∷ after → ⊥)
-    → MatchResult result (λ capture. IsCapture2Of capture text) (λ fault. Damages2 fault text) → MatchResult result (λ capture. IsAnyCaptureOf capture text) (λ fault. DamagesAny fault text)
+    → MatchResult result (λ capture. IsCapture2Of capture text) (λ fault. DamagesCapture IsCapture2Of fault text)
+    → MatchResult result (λ capture. IsAnyCaptureOf capture text) (λ fault. DamagesCapture IsAnyCaptureOf fault text)
 result_in_2 (Ok capture) text not is = inl is
 result_in_2 (Err fault) text not d = fault_in_2 fault text not d
 
 -- ---- what format 1 gives back
 
-first_sent : (turn : Turn) (turns : List Turn) → AreAnswered (turn ∷ turns) → 0 < length turn.sent
+first_sent : (turn : Turn) (turns : List Turn) → AreAnsweredTurns (turn ∷ turns) → 0 < length turn.sent
 first_sent turn [] h = h
 first_sent turn (next ∷ turns) h = h.0
 
-answered_are_parted : (turns : List Turn) → AreAnswered turns → AreParted turns
+answered_are_parted : (turns : List Turn) → AreAnsweredTurns turns → AreParted turns
 answered_are_parted [] h = tt
 answered_are_parted (turn ∷ []) h = omega (arith, h, length-append turn.sent turn.got)
 answered_are_parted (turn ∷ next ∷ turns) h = (h.1, first_sent next turns h.2, answered_are_parted (next ∷ turns) h.2)
 
-pub given_back : (transcript : Transcript) → AllByRecursion AreOfBytes transcript.turns → AreAnswered transcript.turns → transcript.ended ≢ Broken → IsCaptureOf transcript (written_capture transcript)
+pub given_back : (transcript : Transcript) → AllByRecursion AreOfBytes transcript.turns → AreAnsweredTurns transcript.turns → transcript.ended ≢ Broken → IsCaptureOf transcript (written_capture transcript)
 given_back transcript are answered not =
     subst (λ (t : Transcript). IsCaptureOf t (written_capture transcript)) (parted_is_same transcript (answered_are_parted transcript.turns answered) not) (written_is_capture transcript are)

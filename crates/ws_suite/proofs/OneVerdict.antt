@@ -21,7 +21,7 @@ use Rattle.ws_suite.specs.declared.evidence.Direction.{Direction}
 use Rattle.ws_suite.specs.declared.evidence.Evidence.{Evidence}
 use Rattle.ws_suite.specs.Evidence.{AreEventsByTurn, HasRest, IsDirectionOf, IsEvidenceOf, by_turn, ending_in, joined_events}
 use Rattle.ws_suite.specs.Verdicts.{IsLowestFail, IsLowestLoose, IsVerdictOf, IsVerdictOn, fail_number, loose_number}
-use Rattle.ws_suite.specs.Collecting.{SessionLaws}
+use Rattle.ws_suite.specs.InnerCollecting.{EventLaws}
 
 -- ---- one list of events
 
@@ -40,7 +40,7 @@ same_flags true y on back = sym (on refl)
 same_flags false true on back = back refl
 same_flags false false on back = refl
 
-module _ (laws : SessionLaws) where
+module _ (laws : EventLaws) where
   one_by_turn : (role : Role) (turns : List (List ℕ)) (events others : List (List Event)) → AreEventsByTurn role turns events → AreEventsByTurn role turns others → events ≡ others
   one_by_turn role turns events others p q =
       same_by_fronts events others (p.each ∙ sym q.each) (λ n less.
@@ -136,7 +136,7 @@ one_on_evidence x Pass (Fail b) p q = absurd (p.0 b q.0)
 one_on_evidence x Pass (Loose b) p q = absurd (p.1 b q.1.0)
 one_on_evidence x Pass Pass p q = refl
 
-pub one_verdict_of : SessionLaws → (transcript : Transcript) (one other : Verdict) → IsVerdictOf transcript one → IsVerdictOf transcript other → one ≡ other
+pub one_verdict_of : EventLaws → (transcript : Transcript) (one other : Verdict) → IsVerdictOf transcript one → IsVerdictOf transcript other → one ≡ other
 one_verdict_of laws transcript one other p q =
     let same = one_evidence laws transcript q.evidence p.evidence q.is_evidence p.is_evidence in
     one_on_evidence p.evidence one other p.is_verdict (subst (λ (x : Evidence). IsVerdictOn x other) same q.is_verdict)

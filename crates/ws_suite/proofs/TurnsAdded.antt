@@ -12,7 +12,7 @@ use Rattle.ws_session.specs.Sends.{most_limits}
 use Rattle.ws_suite.specs.declared.evidence.InTurn.{InTurn}
 use Rattle.ws_suite.specs.declared.evidence.Ending.{Ending}
 use Rattle.ws_suite.specs.Evidence.{HasRest, joined_events}
-use Rattle.ws_suite.specs.EchoReplyLaws.{EchoReplyLaws}
+use Rattle.ws_suite.specs.InnerEchoReplyLaws.{EchoReplyLaws}
 use Rattle.ws_suite.proofs.AnsweredEvents.{OnlyLastEnds, is_end}
 use Rattle.ws_suite.proofs.AnsweredTurns.{answer_in_turn}
 use Rattle.ws_suite.proofs.FairVerdict.{answered_end}

@@ -15,7 +15,7 @@ use Rattle.ws_session.specs.Sends.{most_limits}
 use Rattle.ws_suite.specs.declared.evidence.Reply.{Reply}
 use Rattle.ws_suite.specs.declared.evidence.Direction.{Direction}
 use Rattle.ws_suite.specs.Evidence.{AreEventsByTurn, HasRest, IsDirectionOf, by_turn, ending_in, joined_events}
-use Rattle.ws_suite.specs.Collecting.{FrameLaws}
+use Rattle.ws_suite.specs.InnerCollecting.{FrameLaws}
 
 -- ---- frames by turn
 

@@ -1,11 +1,6 @@
 -- Worked verdicts: a ping, and what is got for it.
 use Rattle.std.proofs.Common.{◌≡◌, ◌≢◌, ℕ, zero, suc, ◌<◌, true, false, List, [], ◌∷◌, ◌++◌, Some, None, refl, arith, inl, inr, lit≤}
 use Rattle.ws_frame.specs.declared.role.Role.TheVariants.{Client, Server}
-use Rattle.ws_frame.specs.Header.{AreBytes}
-use Rattle.ws_frame.specs.Frame.{KeyedFrame, FitsTheLayout}
-use Rattle.ws_session.specs.Validity.{AreValidFrames}
-use Rattle.ws_session.specs.Faults.{frames_of}
-use Rattle.ws_session.specs.Sends.{most_limits}
 use Rattle.ws_suite.specs.declared.transcript.Ended.{Ended}
 use Rattle.ws_suite.specs.declared.transcript.Ended.TheVariants.{Tester, Peer, Broken}
 use Rattle.ws_suite.specs.declared.verdict.Verdict.TheVariants.{Pass, Loose, Fail}
@@ -20,68 +15,9 @@ use Rattle.ws_suite.specs.declared.evidence.Evidence.{Evidence}
 use Rattle.ws_suite.specs.Evidence.{IsDirectionOf, due_for, got_in}
 use Rattle.ws_suite.specs.Verdicts.{Fails, HasOtherClose, HasOtherEnd, IsLoose, IsNotFrames, IsVerdictOf, fail_number, loose_number}
 use Rattle.ws_suite.specs.Examples.{in_one_turn, in_two_turns, ping_sent, pong, pong_got}
-use Rattle.ws_suite.specs.Collecting.{FrameLaws}
+use Rattle.ws_suite.specs.InnerCollecting.{FrameLaws}
 use Rattle.ws_suite.proofs.ValidDirections.{valid_direction}
-
--- ---- frames
-
-abbrev ping : KeyedFrame
-ping = record { frame = record { fin = true; rsv = 0; opcode = 9; payload = [] }; key = Some (0x00 ∷ 0x00 ∷ 0x00 ∷ 0x00 ∷ []) }
-
-abbrev answer : KeyedFrame
-answer = record { frame = record { fin = true; rsv = 0; opcode = 10; payload = [] }; key = None }
-
-no_bytes : AreBytes []
-no_bytes i = omega arith
-
-and_zero : (bytes : List ℕ) → AreBytes bytes → AreBytes (0 ∷ bytes)
-and_zero bytes are zero = lit≤ tt
-and_zero bytes are (suc i) = are i
-
-ping_fits : FitsTheLayout ping
-ping_fits = record {
-  rsv = lit≤ tt;
-  opcode = lit≤ tt;
-  key = (refl, and_zero (0 ∷ 0 ∷ 0 ∷ []) (and_zero (0 ∷ 0 ∷ []) (and_zero (0 ∷ []) (and_zero [] no_bytes))));
-  payload = no_bytes;
-  len = lit≤ tt;
-}
-
-answer_fits : FitsTheLayout answer
-answer_fits = record { rsv = lit≤ tt; opcode = lit≤ tt; key = tt; payload = no_bytes; len = lit≤ tt }
-
-none_valid : AreValidFrames most_limits []
-none_valid = record { each = tt; sizes = tt; close = tt; finished = tt; unfinished = record { frames = tt; size = lit≤ tt; text = tt } }
-
-ping_valid : AreValidFrames most_limits (frames_of (ping ∷ []))
-ping_valid = record {
-  each = (record { rsv = refl; opcode = inr (lit≤ tt, lit≤ tt); control = λ control. (refl, lit≤ tt) }, tt);
-  sizes = (λ small. lit≤ tt, tt);
-  close = (λ close. absurd cc, tt);
-  finished = tt;
-  unfinished = record { frames = tt; size = lit≤ tt; text = tt };
-}
-
-pings_valid : AreValidFrames most_limits (frames_of (ping ∷ ping ∷ []))
-pings_valid = record {
-  each = (
-    record { rsv = refl; opcode = inr (lit≤ tt, lit≤ tt); control = λ control. (refl, lit≤ tt) },
-    (record { rsv = refl; opcode = inr (lit≤ tt, lit≤ tt); control = λ control. (refl, lit≤ tt) }, tt),
-  );
-  sizes = (λ small. lit≤ tt, (λ small. lit≤ tt, tt));
-  close = (λ close. absurd cc, (λ close. absurd cc, tt));
-  finished = tt;
-  unfinished = record { frames = tt; size = lit≤ tt; text = tt };
-}
-
-answer_valid : AreValidFrames most_limits (frames_of (answer ∷ []))
-answer_valid = record {
-  each = (record { rsv = refl; opcode = inr (lit≤ tt, lit≤ tt); control = λ control. (refl, lit≤ tt) }, tt);
-  sizes = (λ small. lit≤ tt, tt);
-  close = (λ close. absurd cc, tt);
-  finished = tt;
-  unfinished = record { frames = tt; size = lit≤ tt; text = tt };
-}
+use Rattle.ws_suite.proofs.WorkedFrames.{answer, answer_fits, answer_valid, none_valid, ping, ping_fits, ping_valid, pings_valid}
 
 -- ---- evidence without a close, a fault or a rest
 
@@ -131,7 +67,7 @@ passes fail.End h = right_end (pong 0 [] ∷ []) (pong 0 [] ∷ []) 1 h
 
 nothing_loose : (why : LooseWhy) → IsLoose (answered Tester) why → ⊥
 nothing_loose loose.PongsSkipped h = omega (arith, h.0)
-nothing_loose loose.PongElsewhere h = h (inl (refl, tt))
+nothing_loose loose.PongElsewhere h = h (inr ([], refl, refl))
 nothing_loose loose.OtherCode (got, due, code, e, f, g, other) = absurd cc
 nothing_loose loose.LateEnd (due, e, less) = absurd cc
 nothing_loose loose.EchoShort h = absurd (let wrong : false ≡ true = h.0 in cc)

@@ -9,7 +9,7 @@ use Rattle.ws_suite.specs.declared.transcript.Ended.{Ended}
 use Rattle.ws_suite.specs.declared.transcript.Ended.TheVariants.{Tester, Peer, Broken}
 use Rattle.ws_suite.specs.declared.transcript.Transcript.{Transcript}
 use Rattle.ws_suite.specs.declared.capture.CaptureFault.{CaptureFault}
-use Rattle.ws_suite.specs.declared.capture.CaptureFault.TheVariants as fault
+use Rattle.ws_suite.specs.declared.capture.CaptureFault.TheVariants.{Damaged}
 use Rattle.ws_suite.specs.declared.capture.Line.{Line}
 use Rattle.ws_suite.specs.declared.capture.Line.TheVariants.{Sent, Got}
 use Rattle.ws_suite.specs.declared.capture.CaptureLine.{CaptureLine}
@@ -87,10 +87,10 @@ pub record IsCaptureOf (transcript : Transcript) (text : List ℕ) : Type 0 wher
   pub not_broken : transcript.ended ≢ Broken
   pub are_turns : transcript.turns ≡ turns_in lines
 
--- what a fault says of a text
-abbrev pub Damages : CaptureFault → List ℕ → Type 0
-Damages (fault.Damaged n) text = IsDamagedAt IsCaptureOf n text
-Damages fault.NoMemory text = ⊤
+-- what a fault tells of a text, in a format where `IsTextOf value text` says that the text tells the value: where the
+-- fault names a line, the text is damaged at that line
+abbrev pub DamagesCapture : {T : Type 0} → (T → List ℕ → Type 0) → CaptureFault → List ℕ → Type 0
+DamagesCapture IsTextOf fault text = (n : ℕ) → fault ≡ Damaged n → IsDamagedAt IsTextOf n text
 
 -- ---- what is read of what was written
 

@@ -1,17 +1,15 @@
 -- Captures that keep all, in format 2: a transcript with its masking key as lines of text, each of which ends with LF;
 -- and captures in either format.
 use Rattle.std.specs.Prelude.{◌≡◌, ◌⊎◌, ◌<◌, ⊤, ℕ, List, [], ◌∷◌, ◌++◌, length, map, flat_map, codes}
-use Rattle.std.specs.Prelude.{Option, Some, None}
+use Rattle.std.specs.Prelude.{Option, Some, None, IfSome}
 use Rattle.std.specs.List.{AllByRecursion}
 use Rattle.ws_base.specs.Words.{AreFourBytes, hex}
-use Rattle.ws_base.specs.Lines.{IsDamagedAt, ended}
+use Rattle.ws_base.specs.Lines.{ended}
 use Rattle.ws_suite.specs.declared.transcript.Turn.{Turn}
 use Rattle.ws_suite.specs.declared.transcript.Ended.{Ended}
 use Rattle.ws_suite.specs.declared.transcript.Ended.TheVariants.{Tester, Peer, Broken}
 use Rattle.ws_suite.specs.declared.transcript.Transcript.{Transcript}
 use Rattle.ws_suite.specs.declared.capture.Capture.{Capture}
-use Rattle.ws_suite.specs.declared.capture.CaptureFault.{CaptureFault}
-use Rattle.ws_suite.specs.declared.capture.CaptureFault.TheVariants as fault
 use Rattle.ws_suite.specs.declared.capture.Line.{Line}
 use Rattle.ws_suite.specs.declared.capture.Line.TheVariants.{Sent, Got}
 use Rattle.ws_suite.specs.declared.capture.TurnLine.{TurnLine}
@@ -52,13 +50,9 @@ capture2_lines capture =
 
 -- ---- captures
 
-abbrev pub IsKeyIfAny : Option (List ℕ) → Type 0
-IsKeyIfAny None = ⊤
-IsKeyIfAny (Some key) = AreFourBytes key
-
 -- what a capture holds is bytes, and its key, if it has one, is four of them
 abbrev pub HoldsBytes : Capture → Type 0
-HoldsBytes capture = IsKeyIfAny capture.key × AllByRecursion AreOfBytes capture.transcript.turns
+HoldsBytes capture = IfSome capture.key AreFourBytes × AllByRecursion AreOfBytes capture.transcript.turns
 
 -- the capture has these lines in format 2
 abbrev pub HasLines2 : Capture → List (List ℕ) → Type 0
@@ -77,34 +71,24 @@ abbrev pub IsAnyCaptureOf : Capture → List ℕ → Type 0
 IsAnyCaptureOf capture text =
     IsCapture2Of capture text ⊎ ((capture.key ≡ None) × IsCaptureOf capture.transcript text)
 
--- what a fault says of a text that is no capture in either format
-abbrev pub DamagesAny : CaptureFault → List ℕ → Type 0
-DamagesAny (fault.Damaged n) text = IsDamagedAt IsAnyCaptureOf n text
-DamagesAny fault.NoMemory text = ⊤
-
 -- ---- what format 1 gives back
 
 -- something was sent in each turn, and something was got in each but the last
-abbrev pub AreAnswered : List Turn → Type 0
-AreAnswered [] = ⊤
-AreAnswered (turn ∷ []) = 0 < length turn.sent
-AreAnswered (turn ∷ next ∷ turns) = (0 < length turn.sent) × (0 < length turn.got) × AreAnswered (next ∷ turns)
+abbrev pub AreAnsweredTurns : List Turn → Type 0
+AreAnsweredTurns [] = ⊤
+AreAnsweredTurns (turn ∷ []) = 0 < length turn.sent
+AreAnsweredTurns (turn ∷ next ∷ turns) =
+    (0 < length turn.sent) × (0 < length turn.got) × AreAnsweredTurns (next ∷ turns)
 
 -- ---- steps of reading: a reader may skip what follows
 
--- what a fault says of a text that is no capture in format 2
-abbrev pub Damages2 : CaptureFault → List ℕ → Type 0
-Damages2 (fault.Damaged n) text = IsDamagedAt IsCapture2Of n text
-Damages2 fault.NoMemory text = ⊤
-
 -- the second line tells this key
 abbrev pub IsKeyLine : Option (List ℕ) → List ℕ → Type 0
-IsKeyLine key line = IsKeyIfAny key × (line ≡ key_words key)
+IsKeyLine key line = IfSome key AreFourBytes × (line ≡ key_words key)
 
+-- where the line tells bytes, it tells at least one
 abbrev pub HasTurnLineBytes : TurnLine → Type 0
-HasTurnLineBytes Begin = ⊤
-HasTurnLineBytes (Data line) = HasLineBytes line
-HasTurnLineBytes (End end) = ⊤
+HasTurnLineBytes turn_line = (line : Line) → turn_line ≡ Data line → HasLineBytes line
 
 -- the words of a line after the second
 abbrev pub AreTurnWordsOf : TurnLine → List ℕ → Type 0

@@ -19,7 +19,7 @@ use Rattle.ws_suite.specs.declared.evidence.Reply.TheVariants as reply
 use Rattle.ws_suite.specs.Scripts.{ArePieces, turn_bytes, turns_of}
 use Rattle.ws_suite.specs.Captures.{run_together, turns_in, written_capture}
 use Rattle.ws_suite.specs.Captures2.{written_capture2}
-use Rattle.ws_suite.specs.Verdicts.{matches_of}
+use Rattle.ws_suite.specs.Matching.{matches_of}
 use Rattle.ws_suite.specs.Fairness.{echo_bytes, ends_echo}
 
 -- what is computed at numbers that are written out

@@ -11,21 +11,22 @@ use Rattle.ws_suite.specs.declared.script.Case.{Case}
 
 -- ---- what can be run
 
--- the frame has three reserved bits and four bits of opcode, so that `Header::shortest` accepts it
+-- where the step is a frame, it has three reserved bits and four bits of opcode, so that `Header::shortest` accepts it
 abbrev pub FitsAHeader : Step → Type 0
-FitsAHeader (Frame fin rsv opcode payload) = (rsv < 8) × (opcode < 16)
-FitsAHeader (Raw bytes) = ⊤
-FitsAHeader Wait = ⊤
+FitsAHeader step = (fin : Bool) (rsv opcode : ℕ) (payload : List ℕ) → step ≡ Frame fin rsv opcode payload
+    → (rsv < 8) × (opcode < 16)
 
--- pieces have at least one byte
+-- each frame of the steps is such a frame
+abbrev pub FitHeaders : List Step → Type 0
+FitHeaders steps = AllByRecursion FitsAHeader steps
+
+-- where pieces are cut by a number of bytes, it is at least one
 abbrev pub CutsOff : Chop → Type 0
-CutsOff Whole = ⊤
-CutsOff PerFrame = ⊤
-CutsOff (Octets n) = 0 < n
+CutsOff chop = (n : ℕ) → chop ≡ Octets n → 0 < n
 
 -- each frame can be sent, and each piece has bytes
 pub record CanBeRun (case : Case) : Type 0 where
-  pub frames : AllByRecursion FitsAHeader case.steps
+  pub frames : FitHeaders case.steps
   pub pieces : CutsOff case.chop
 
 -- ---- turns

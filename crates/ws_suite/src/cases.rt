@@ -8,6 +8,7 @@ mod hostile;
 mod opcodes;
 mod payloads;
 mod pings;
+mod pushing;
 mod reserved_bits;
 mod row;
 mod scripting;
@@ -16,7 +17,7 @@ mod utf8;
 
 ghost use Rattle.std.specs.Prelude.{◌≡◌, IfOk, IfSome, string_bytes, true};
 ghost use Rattle.std.specs.List.{list_all};
-ghost use Rattle.ws_suite.specs.Cases.{section_fits};
+ghost use Rattle.ws_suite.specs.InnerCases.{section_fits};
 ghost use Rattle.ws_suite.specs.Scripts.{CanBeRun};
 
 use crate::cases::row::Section;

@@ -2,8 +2,8 @@
 
 ghost use Rattle.std.specs.Prelude.{◌≡◌, ◌+◌, ◌<◌, ◌≤◌, ◌++◌, [], ◌∷◌, IfOk, OnOk, length, take, drop};
 ghost use Rattle.std.specs.List.{AllByRecursion};
-ghost use Rattle.ws_suite.specs.Scripts.{ArePieces, AreTurns, CanBeRun, CutsOff, FitsAHeader, IsAct};
-ghost use Rattle.ws_suite.specs.Scripts.{is_wait, step_bytes, turn_bytes, turns_of, without_empty};
+ghost use Rattle.ws_suite.specs.Scripts.{ArePieces, AreTurns, CanBeRun, CutsOff, FitHeaders, FitsAHeader};
+ghost use Rattle.ws_suite.specs.Scripts.{IsAct, is_wait, step_bytes, turn_bytes, turns_of, without_empty};
 ghost use Rattle.ws_frame.specs.Frame.{Frame, frame_bytes};
 ghost use Rattle.ws_suite.specs.declared.script.Chop.TheVariants.{Octets, PerFrame, Whole};
 ghost use Rattle.ws_suite.specs.declared.script.Step.TheVariants.{Wait};
@@ -39,8 +39,7 @@ fn first_turn(steps: &[Step]) -> (&[Step], &[Step])
     requires { 0 < length steps.now }
     ensures turns { turns_of steps.now ≡ result.0.now ∷ turns_of result.1.now }
     ensures fewer { length result.1.now < length steps.now }
-    ensures fit { AllByRecursion FitsAHeader steps.now →
-        AllByRecursion FitsAHeader result.0.now × AllByRecursion FitsAHeader result.1.now }
+    ensures fit { FitHeaders steps.now → FitHeaders result.0.now × FitHeaders result.1.now }
 {
     let at = first_wait(steps);
     if at < steps.len() {
@@ -80,7 +79,7 @@ fn pieces_of(
     key: [u8; 4],
     steps: &[Step],
 ) -> Result<Sequence<Payload>, NoMemory>
-    requires fit { AllByRecursion FitsAHeader steps.now }
+    requires fit { FitHeaders steps.now }
     requires cuts { CutsOff chop }
     ensures { IfOk result (λ pieces. ArePieces chop key steps.now pieces) }
 {
@@ -93,7 +92,7 @@ fn pieces_of(
 
 /// The bytes of a turn as one piece, or none where there are no bytes.
 fn one_piece(alloc: Global, key: [u8; 4], steps: &[Step]) -> Result<Sequence<Payload>, NoMemory>
-    requires { AllByRecursion FitsAHeader steps.now }
+    requires { FitHeaders steps.now }
     ensures { IfOk result (λ pieces. ArePieces Whole key steps.now pieces) }
 {
     let bytes = bytes_of(alloc, key, steps)?;
@@ -118,7 +117,7 @@ fn one_piece_a_step(
     key: [u8; 4],
     steps: &[Step],
 ) -> Result<Sequence<Payload>, NoMemory>
-    requires { AllByRecursion FitsAHeader steps.now }
+    requires { FitHeaders steps.now }
     ensures { IfOk result (λ pieces. ArePieces PerFrame key steps.now pieces) }
 {
     let mut pieces = Vec::new(alloc);
@@ -137,7 +136,7 @@ fn octets(
     key: [u8; 4],
     steps: &[Step],
 ) -> Result<Sequence<Payload>, NoMemory>
-    requires fit { AllByRecursion FitsAHeader steps.now }
+    requires fit { FitHeaders steps.now }
     requires cuts { 0 < n }
     ensures { IfOk result (λ pieces. ArePieces (Octets n) key steps.now pieces) }
 {
@@ -154,7 +153,7 @@ fn octets(
 
 /// The bytes of a turn.
 fn bytes_of(alloc: Global, key: [u8; 4], steps: &[Step]) -> Result<Vec<u8>, NoMemory>
-    requires { AllByRecursion FitsAHeader steps.now }
+    requires { FitHeaders steps.now }
     ensures { IfOk result (λ bytes. bytes.items ≡ turn_bytes key steps.now) }
 {
     let mut bytes = Vec::new(alloc);

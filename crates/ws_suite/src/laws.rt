@@ -12,7 +12,7 @@ ghost use Rattle.ws_suite.specs.declared.verdict.LooseWhy.TheVariants as loose;
 ghost use Rattle.ws_suite.specs.declared.verdict.Verdict.{Verdict};
 ghost use Rattle.ws_suite.specs.declared.verdict.Verdict.TheVariants.{Fail, Loose, Pass};
 ghost use Rattle.ws_suite.specs.Captures.{AreOfBytes, AreParted, IsCaptureOf, as_read, written_capture};
-ghost use Rattle.ws_suite.specs.Captures2.{AreAnswered, HasLines2, HoldsBytes, IsAnyCaptureOf, IsCapture2Of};
+ghost use Rattle.ws_suite.specs.Captures2.{AreAnsweredTurns, HasLines2, HoldsBytes, IsAnyCaptureOf, IsCapture2Of};
 ghost use Rattle.ws_suite.specs.Captures2.{written_capture2};
 ghost use Rattle.ws_suite.specs.Evidence.{AreEventsByTurn, EndsWithByte, StandsInTurn, HoldsByte};
 ghost use Rattle.ws_suite.specs.Examples.{in_one_turn, in_two_turns, ping_sent, pong_got};
@@ -100,10 +100,10 @@ pub fn one_capture_in_either_format()
 /// sent in each turn and something was got in each but the last.
 pub fn format_1_gives_back()
     ensures same { (transcript : Transcript) → AllByRecursion AreOfBytes transcript.turns →
-        AreAnswered transcript.turns → transcript.ended ≢ Broken →
+        AreAnsweredTurns transcript.turns → transcript.ended ≢ Broken →
         IsCaptureOf transcript (written_capture transcript) }
     ensures alone { (transcript other : Transcript) → AllByRecursion AreOfBytes transcript.turns →
-        AreAnswered transcript.turns → transcript.ended ≢ Broken →
+        AreAnsweredTurns transcript.turns → transcript.ended ≢ Broken →
         IsCaptureOf other (written_capture transcript) → other ≡ transcript }
 {
     a_word_spells_one_list_of_bytes();

@@ -1,13 +1,13 @@
 //! The laws of the layer below, for proofs.
 
-ghost use Rattle.ws_suite.specs.Collecting.{FrameLaws, SessionLaws};
-ghost use Rattle.ws_suite.specs.EchoReplyLaws.{EchoReplyLaws};
+ghost use Rattle.ws_suite.specs.InnerCollecting.{FrameLaws, EventLaws};
+ghost use Rattle.ws_suite.specs.InnerEchoReplyLaws.{EchoReplyLaws};
 
 use ws_session::laws;
 
 /// The laws of the layer below that serve here. Nothing runs.
 pub(crate) fn session_laws()
-    ensures { SessionLaws }
+    ensures { EventLaws }
 {
     laws::one_list_of_events();
     laws::events_go_on();

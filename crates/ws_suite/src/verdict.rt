@@ -43,7 +43,7 @@ pub enum LooseWhy {
     PongElsewhere = 2,
     /// A close was got with another code than is due.
     OtherCode = 3,
-    /// The connection went on for a turn after the close or the fault.
+    /// A turn follows that of the close or the fault.
     LateEnd = 4,
     /// Before a fault, fewer messages came than are due, or fewer pongs and not the last.
     EchoShort = 5,

@@ -3,7 +3,7 @@
 ghost use Rattle.std.specs.Prelude.{◌≡◌, ◌⊎◌, ◌++◌, MatchResult, IfOk, OnOk};
 ghost use Rattle.ws_suite.specs.declared.capture.CaptureLine.TheVariants.{Data};
 ghost use Rattle.ws_base.specs.Reading.{Reads};
-ghost use Rattle.ws_suite.specs.Captures.{AreLineBytes, AreWordsOf, Damages, IsCaptureOf, bytes_of, got_last};
+ghost use Rattle.ws_suite.specs.Captures.{AreLineBytes, AreWordsOf, DamagesCapture, IsCaptureOf, bytes_of, got_last};
 ghost use Rattle.ws_suite.specs.Captures.{mark_of, sent_last, with_line};
 
 use crate::capture::{CaptureFault, CaptureLine, Line};
@@ -16,7 +16,8 @@ pub(crate) const FIRST_LINE: &[u8] = b"wst-capture 1";
 
 /// The transcript of a capture in format 1.
 pub fn read_capture(alloc: Global, text: &[u8]) -> Result<Transcript, CaptureFault>
-    ensures { MatchResult result (λ transcript. IsCaptureOf transcript text.now) (λ fault. Damages fault text.now) }
+    ensures { MatchResult result (λ transcript. IsCaptureOf transcript text.now)
+        (λ fault. DamagesCapture IsCaptureOf fault text.now) }
 {
     let Some((first, after_first)) = cut_line(text) else {
         return Err(CaptureFault::Damaged(1));

@@ -3,9 +3,10 @@
 ghost use Rattle.std.specs.Prelude.{◌≡◌, ◌++◌, ◌∷◌, [], IfErr, MatchResult, OnOk};
 ghost use Rattle.ws_base.specs.declared.lines.LineFault.TheVariants.{NoMemory};
 ghost use Rattle.ws_base.specs.Reading.{Finds, Reads};
-ghost use Rattle.ws_suite.specs.Captures2.{AreTurnWordsOf, Damages2, DamagesAny, IsAnyCaptureOf, IsCapture2Of};
+ghost use Rattle.ws_suite.specs.Captures.{DamagesCapture};
+ghost use Rattle.ws_suite.specs.Captures2.{AreTurnWordsOf, IsAnyCaptureOf, IsCapture2Of};
 ghost use Rattle.ws_suite.specs.Captures2.{IsKeyLine};
-ghost use Rattle.ws_suite.specs.Capturing2.{PutsBytes, TakesLine};
+ghost use Rattle.ws_suite.specs.InnerCapturing2.{PutsBytes, TakesLine};
 
 use crate::capture::reading::{FIRST_LINE, read_capture, read_data};
 use crate::capture::{Capture, CaptureFault, Line, TurnLine};
@@ -19,7 +20,8 @@ const FIRST_LINE2: &[u8] = b"wst-capture 2";
 
 /// The capture that a text is, in format 2 or in format 1, which tells no key.
 pub fn read_capture2(alloc: Global, text: &[u8]) -> Result<Capture, CaptureFault>
-    ensures { MatchResult result (λ capture. IsAnyCaptureOf capture text.now) (λ fault. DamagesAny fault text.now) }
+    ensures { MatchResult result (λ capture. IsAnyCaptureOf capture text.now)
+        (λ fault. DamagesCapture IsAnyCaptureOf fault text.now) }
 {
     let Some((first, _)) = cut_line(text) else {
         return Err(CaptureFault::Damaged(1));
@@ -38,7 +40,8 @@ pub fn read_capture2(alloc: Global, text: &[u8]) -> Result<Capture, CaptureFault
 
 /// The capture that a text is in format 2.
 fn read_keyed(alloc: Global, text: &[u8]) -> Result<Capture, CaptureFault>
-    ensures { MatchResult result (λ capture. IsCapture2Of capture text.now) (λ fault. Damages2 fault text.now) }
+    ensures { MatchResult result (λ capture. IsCapture2Of capture text.now)
+        (λ fault. DamagesCapture IsCapture2Of fault text.now) }
 {
     let Some((first, after_first)) = cut_line(text) else {
         return Err(CaptureFault::Damaged(1));

@@ -2,7 +2,7 @@
 
 ghost use Rattle.std.specs.Prelude.{◌≡◌, IfOk, Some};
 ghost use Rattle.ws_suite.specs.Captures.{written_capture};
-ghost use Rattle.ws_suite.specs.Capturing.{capture_text, got_text, last_text, sent_text};
+ghost use Rattle.ws_suite.specs.InnerCapturing.{capture_text, got_text, last_text, sent_text};
 
 use crate::transcript::{Ended, Transcript, Turn};
 use std::alloc::Global;

@@ -2,7 +2,7 @@
 
 ghost use Rattle.std.specs.Prelude.{◌≡◌, IfOk, Some};
 ghost use Rattle.ws_suite.specs.Captures2.{written_capture2};
-ghost use Rattle.ws_suite.specs.Capturing2.{capture2_text, key_text, last_text2};
+ghost use Rattle.ws_suite.specs.InnerCapturing2.{capture2_text, key_text, last_text2};
 
 use crate::capture::Capture;
 use crate::capture::writing::{GotLine, SentLine};

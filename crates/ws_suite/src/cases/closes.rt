@@ -2,7 +2,7 @@
 
 ghost use Rattle.std.specs.Prelude.{◌≡◌, true};
 ghost use Rattle.std.specs.List.{list_all};
-ghost use Rattle.ws_suite.specs.Cases.{section_fits};
+ghost use Rattle.ws_suite.specs.InnerCases.{section_fits};
 
 use crate::cases::payloads::HELLO;
 use crate::cases::row::Act::{self, Fin, Part};

@@ -1,17 +1,14 @@
 //! From a row of the table to a script.
 
-ghost use Rattle.std.specs.Prelude.{◌≡◌, ◌<◌, length, IfOk, IfSome, OnOk, string_bytes, true};
-ghost use Rattle.std.specs.List.{AllByRecursion};
-ghost use Rattle.ws_suite.specs.Cases.{act_fits, row_fits, section_count, section_fits};
-ghost use Rattle.ws_suite.specs.Scripts.{CanBeRun, CutsOff, FitsAHeader};
+ghost use Rattle.std.specs.Prelude.{◌≡◌, ◌<◌, length, IfOk, IfSome, string_bytes, true};
+ghost use Rattle.ws_suite.specs.InnerCases.{row_fits, section_count, section_fits};
+ghost use Rattle.ws_suite.specs.Scripts.{CanBeRun, CutsOff, FitHeaders};
 
-use crate::cases::row::{Act, Data, Finish, Row, Section};
+use crate::cases::pushing::{push_act, push_close, push_frame};
+use crate::cases::row::{Finish, Row, Section};
 use crate::script::{Case, Chop, Step};
 use std::alloc::Global;
-use ws_base::{NoMemory, Payload, Sequence, read_u32};
-
-/// A close payload of code 1000 alone.
-const NORMAL_CLOSURE: &[u8] = b"\x03\xe8";
+use ws_base::{NoMemory, Sequence, read_u32};
 
 /// How many characters of each plane are its last two.
 const LAST_CHARACTERS: usize = 34;
@@ -120,7 +117,7 @@ fn chop_of(section: Section, place: usize) -> Chop
 fn steps_of(alloc: Global, section: Section, place: usize) -> Result<Vec<Step>, NoMemory>
     requires place { place < section_count section }
     requires fits { section_fits section ≡ true }
-    ensures { IfOk result (λ steps. AllByRecursion FitsAHeader steps.items) }
+    ensures { IfOk result (λ steps. FitHeaders steps.items) }
 {
     match section {
         Section::Rows(rows) => row_steps(alloc, &rows[place]),
@@ -135,7 +132,7 @@ fn steps_of(alloc: Global, section: Section, place: usize) -> Result<Vec<Step>, 
 /// The steps of a row.
 fn row_steps(alloc: Global, row: &Row) -> Result<Vec<Step>, NoMemory>
     requires { row_fits row.now ≡ true }
-    ensures { IfOk result (λ steps. AllByRecursion FitsAHeader steps.items) }
+    ensures { IfOk result (λ steps. FitHeaders steps.items) }
 {
     let mut steps = Vec::new(alloc);
     for act in row.3 {
@@ -150,7 +147,7 @@ fn row_steps(alloc: Global, row: &Row) -> Result<Vec<Step>, NoMemory>
 
 /// A text message of this payload. Where it is UTF-8, a close in a turn of its own follows.
 fn text_steps(alloc: Global, payload: Vec<u8>) -> Result<Vec<Step>, NoMemory>
-    ensures { IfOk result (λ steps. AllByRecursion FitsAHeader steps.items) }
+    ensures { IfOk result (λ steps. FitHeaders steps.items) }
 {
     let is_text = std::str::from_utf8(&payload).is_ok();
     let mut steps = Vec::new(alloc);
@@ -163,110 +160,11 @@ fn text_steps(alloc: Global, payload: Vec<u8>) -> Result<Vec<Step>, NoMemory>
 
 /// A close with this code and without a reason.
 fn close_steps(alloc: Global, code: u16) -> Result<Vec<Step>, NoMemory>
-    ensures { IfOk result (λ steps. AllByRecursion FitsAHeader steps.items) }
+    ensures { IfOk result (λ steps. FitHeaders steps.items) }
 {
     let mut steps = Vec::new(alloc);
     push_frame(true, 0, 8, code.to_be_bytes().to_vec(alloc)?, &mut steps)?;
     Ok(steps)
-}
-
-/// Puts what a row sends at the end of the steps.
-fn push_act(alloc: Global, act: Act, steps: &mut Vec<Step>) -> Result<(), NoMemory>
-    requires { act_fits act ≡ true }
-    ensures { AllByRecursion FitsAHeader steps.old.items → OnOk result (AllByRecursion FitsAHeader steps.new.items) }
-{
-    match act {
-        Act::Fin(opcode, data) => push_frame(true, 0, opcode, bytes_of(alloc, data)?, steps),
-        Act::Part(opcode, data) => push_frame(false, 0, opcode, bytes_of(alloc, data)?, steps),
-        Act::Reserved(rsv, opcode, data) => push_frame(
-            true,
-            rsv,
-            opcode,
-            bytes_of(alloc, data)?,
-            steps,
-        ),
-        Act::ByteByByte(bytes) => push_fragments(alloc, bytes, steps),
-        Act::Bare(bytes) => push_raw(bytes.to_vec(alloc)?, steps),
-        Act::Pause => push_wait(steps),
-    }
-}
-
-/// Puts a close with code 1000 at the end of the steps, in a turn of its own.
-fn push_close(alloc: Global, steps: &mut Vec<Step>) -> Result<(), NoMemory>
-    ensures { AllByRecursion FitsAHeader steps.old.items → OnOk result (AllByRecursion FitsAHeader steps.new.items) }
-{
-    push_wait(steps)?;
-    push_frame(true, 0, 8, NORMAL_CLOSURE.to_vec(alloc)?, steps)?;
-    Ok(())
-}
-
-/// Puts a text message at the end of the steps, each byte in a frame of its own.
-fn push_fragments(alloc: Global, bytes: &[u8], steps: &mut Vec<Step>) -> Result<(), NoMemory>
-    ensures { AllByRecursion FitsAHeader steps.old.items → OnOk result (AllByRecursion FitsAHeader steps.new.items) }
-{
-    for place in 0..bytes.len() {
-        let opcode = if place == 0 { 1 } else { 0 };
-        let fin = place + 1 == bytes.len();
-        push_frame(
-            fin,
-            0,
-            opcode,
-            bytes[place..place + 1].to_vec(alloc)?,
-            steps,
-        )?;
-    }
-    Ok(())
-}
-
-/// Puts a frame at the end of the steps.
-fn push_frame(
-    fin: bool,
-    rsv: u8,
-    opcode: u8,
-    payload: Vec<u8>,
-    steps: &mut Vec<Step>,
-) -> Result<(), NoMemory>
-    requires rsv { rsv < 8 }
-    requires opcode { opcode < 16 }
-    ensures { AllByRecursion FitsAHeader steps.old.items → OnOk result (AllByRecursion FitsAHeader steps.new.items) }
-{
-    steps.push(Step::Frame {
-        fin,
-        rsv,
-        opcode,
-        payload: Payload::from_vec(payload),
-    })?;
-    Ok(())
-}
-
-/// Puts bytes as they are at the end of the steps.
-fn push_raw(bytes: Vec<u8>, steps: &mut Vec<Step>) -> Result<(), NoMemory>
-    ensures { AllByRecursion FitsAHeader steps.old.items → OnOk result (AllByRecursion FitsAHeader steps.new.items) }
-{
-    steps.push(Step::Raw(Payload::from_vec(bytes)))?;
-    Ok(())
-}
-
-/// Ends the turn.
-fn push_wait(steps: &mut Vec<Step>) -> Result<(), NoMemory>
-    ensures { AllByRecursion FitsAHeader steps.old.items → OnOk result (AllByRecursion FitsAHeader steps.new.items) }
-{
-    steps.push(Step::Wait)?;
-    Ok(())
-}
-
-/// The payload of a frame.
-fn bytes_of(alloc: Global, data: Data) -> Result<Vec<u8>, NoMemory> {
-    let (front, byte, count) = match data {
-        Data::Bytes(bytes) => (bytes, 0, 0),
-        Data::Run(byte, count) => (b"".as_slice(), byte, count),
-        Data::BytesAndRun(bytes, byte, count) => (bytes, byte, count),
-    };
-    let mut bytes = front.to_vec(alloc)?;
-    for _ in 0..count {
-        bytes.push(byte)?;
-    }
-    Ok(bytes)
 }
 
 /// The payloads one after the other.

@@ -4,8 +4,8 @@ ghost use Rattle.std.specs.Prelude.{◌≡◌, ℕ, List, [], ◌∷◌, ◌++�
 ghost use Rattle.ws_session.specs.declared.event.Event.{Event};
 ghost use Rattle.ws_session.specs.Taking.{events_in};
 ghost use Rattle.ws_suite.specs.Evidence.{IsDirectionOf, IsEvidenceOf, ending_in};
-ghost use Rattle.ws_suite.specs.Collecting.{AreCollected, HasCollected, found_by, last_end};
-ghost use Rattle.ws_suite.specs.Collecting.{role_of, turn_by, turns_by};
+ghost use Rattle.ws_suite.specs.InnerCollecting.{AreCollected, HasCollected, found_by, last_end};
+ghost use Rattle.ws_suite.specs.InnerCollecting.{role_by, turn_by, turns_by};
 
 use crate::evidence::{Direction, Ending, Evidence, InTurn, Reply};
 use crate::lemmas::session_laws;
@@ -55,7 +55,7 @@ pub(crate) fn evidence_of(alloc: Global, transcript: &Transcript) -> Result<Evid
 
 /// What one direction says.
 fn direction_of(alloc: Global, way: Way, turns: &[Turn]) -> Result<Direction, NoMemory>
-    ensures { IfOk result (λ direction. IsDirectionOf (role_of way) (found_by way) (turns_by way turns.now) direction) }
+    ensures { IfOk result (λ direction. IsDirectionOf (role_by way) (found_by way) (turns_by way turns.now) direction) }
 {
     let Some(limits) = Limits::new(MAX_MESSAGE) else {
         unreachable!()
@@ -84,7 +84,7 @@ fn direction_of(alloc: Global, way: Way, turns: &[Turn]) -> Result<Direction, No
 
 /// The end that takes the bytes.
 fn role(way: Way) -> Role
-    ensures { result ≡ role_of way }
+    ensures { result ≡ role_by way }
 {
     match way {
         Way::Sent => Role::Server,

@@ -1,9 +1,10 @@
 //! The six Fails, in their order.
 
 ghost use Rattle.std.specs.Prelude.{◌≡◌, ◌↔◌, IsTrue};
-ghost use Rattle.ws_suite.specs.Judging.{AreListsOf, IsFirstFail};
-ghost use Rattle.ws_suite.specs.Verdicts.{HasOtherClose, HasOtherEnd, HasOtherMessages, HasOtherPongs, IsEarly};
-ghost use Rattle.ws_suite.specs.Verdicts.{IsEarlyClose, IsNotFrames, has_close, has_fault, is_close};
+ghost use Rattle.ws_suite.specs.InnerJudging.{AreListsOf, IsFirstFail};
+ghost use Rattle.ws_suite.specs.Matching.{ends_with_close, ends_with_fault, is_close_ending};
+ghost use Rattle.ws_suite.specs.Verdicts.{HasOtherClose, HasOtherEnd, HasOtherMessages, HasOtherPongs};
+ghost use Rattle.ws_suite.specs.Verdicts.{IsEarly, IsEarlyClose, IsNotFrames};
 
 use crate::evidence::{Ending, Evidence, InTurn};
 use crate::judging::pongs::{has_last_pong, match_pongs};
@@ -41,8 +42,8 @@ pub(super) fn first_fail(x: &Evidence, lists: &Lists<'_>) -> Option<FailWhy>
 fn is_not_frames(x: &Evidence) -> bool
     ensures { IsTrue result ↔ IsNotFrames x.now }
 {
-    has_fault(&x.got.ending)
-        || (x.got.has_rest && (has_close(&x.got.ending) || x.ended != Ended::Broken))
+    ends_with_fault(&x.got.ending)
+        || (x.got.has_rest && (ends_with_close(&x.got.ending) || x.ended != Ended::Broken))
 }
 
 /// Whether a message, a pong or the close was got before what it answers was sent.
@@ -60,7 +61,7 @@ fn is_early_close(got: &Option<InTurn<Ending>>, due: &Option<InTurn<Ending>>) ->
     ensures { IsTrue result ↔ IsEarlyClose got.now due.now }
 {
     match (got, due) {
-        (Some(got), Some(due)) => is_close(&got.what) && got.turn < due.turn,
+        (Some(got), Some(due)) => is_close_ending(&got.what) && got.turn < due.turn,
         _ => false,
     }
 }
@@ -73,7 +74,7 @@ fn has_other_messages(x: &Evidence, lists: &Lists<'_>) -> bool
     if !begins(&lists.got_messages, &lists.due_messages) {
         return true;
     }
-    !has_fault(&x.due.ending) && lists.got_messages.len() < lists.due_messages.len()
+    !ends_with_fault(&x.due.ending) && lists.got_messages.len() < lists.due_messages.len()
 }
 
 /// Whether a pong that was got has no match, or the last pong that is due isn't there.
@@ -84,7 +85,7 @@ fn has_other_pongs(x: &Evidence, lists: &Lists<'_>) -> bool
     if match_pongs(&lists.due_pongs, &lists.got_pongs).is_unmatched {
         return true;
     }
-    !has_fault(&x.due.ending)
+    !ends_with_fault(&x.due.ending)
         && !lists.due_pongs.is_empty()
         && !has_last_pong(&lists.due_pongs, &lists.got_pongs)
 }
@@ -93,10 +94,10 @@ fn has_other_pongs(x: &Evidence, lists: &Lists<'_>) -> bool
 fn has_other_close(x: &Evidence) -> bool
     ensures { IsTrue result ↔ HasOtherClose x.now }
 {
-    if has_close(&x.due.ending) {
-        !has_close(&x.got.ending)
+    if ends_with_close(&x.due.ending) {
+        !ends_with_close(&x.got.ending)
     } else {
-        x.due.ending.is_none() && has_close(&x.got.ending)
+        x.due.ending.is_none() && ends_with_close(&x.got.ending)
     }
 }
 
@@ -108,28 +109,28 @@ fn has_other_end(x: &Evidence) -> bool
 }
 
 /// Whether the events end with a fault.
-pub(super) fn has_fault(ending: &Option<InTurn<Ending>>) -> bool
-    ensures { result ≡ has_fault ending.now }
+pub(super) fn ends_with_fault(ending: &Option<InTurn<Ending>>) -> bool
+    ensures { result ≡ ends_with_fault ending.now }
 {
     match ending {
-        Some(ending) => !is_close(&ending.what),
+        Some(ending) => !is_close_ending(&ending.what),
         None => false,
     }
 }
 
 /// Whether they end with a close.
-fn has_close(ending: &Option<InTurn<Ending>>) -> bool
-    ensures { result ≡ has_close ending.now }
+fn ends_with_close(ending: &Option<InTurn<Ending>>) -> bool
+    ensures { result ≡ ends_with_close ending.now }
 {
     match ending {
-        Some(ending) => is_close(&ending.what),
+        Some(ending) => is_close_ending(&ending.what),
         None => false,
     }
 }
 
 /// Whether it is a close.
-pub(super) fn is_close(ending: &Ending) -> bool
-    ensures { result ≡ is_close ending.now }
+pub(super) fn is_close_ending(ending: &Ending) -> bool
+    ensures { result ≡ is_close_ending ending.now }
 {
     match ending {
         Ending::Closed(_) => true,

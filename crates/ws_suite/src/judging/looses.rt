@@ -1,11 +1,12 @@
 //! The six Looses, in their order.
 
 ghost use Rattle.std.specs.Prelude.{◌≡◌, ◌↔◌, IsTrue};
-ghost use Rattle.ws_suite.specs.Judging.{AreListsOf, IsFirstLoose};
-ghost use Rattle.ws_suite.specs.Verdicts.{EchoesShort, EndsLate, HasOtherCode, SkipsPongs, code_due_for};
+ghost use Rattle.ws_suite.specs.InnerJudging.{AreListsOf, IsFirstLoose};
+ghost use Rattle.ws_suite.specs.Matching.{code_due_for};
+ghost use Rattle.ws_suite.specs.Verdicts.{EchoesShort, EndsLate, HasOtherCode, SkipsPongs};
 
 use crate::evidence::{Ending, Evidence};
-use crate::judging::fails::has_fault;
+use crate::judging::fails::ends_with_fault;
 use crate::judging::pongs::has_last_pong;
 use crate::judging::replies::{Lists, are_left};
 use crate::transcript::Ended;
@@ -84,7 +85,7 @@ fn echoes_short(x: &Evidence, lists: &Lists<'_>) -> bool
     requires { AreListsOf x.now lists.now }
     ensures { IsTrue result ↔ EchoesShort x.now }
 {
-    if !has_fault(&x.due.ending) {
+    if !ends_with_fault(&x.due.ending) {
         return false;
     }
     if lists.got_messages.len() < lists.due_messages.len() {

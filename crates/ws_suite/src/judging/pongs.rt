@@ -2,9 +2,9 @@
 
 ghost use Rattle.std.specs.Prelude.{◌≡◌, ◌↔◌, ◌<◌, ◌≤◌, ◌||◌, IsTrue, None, drop, find, length, take};
 ghost use Rattle.std.specs.List.{list_any};
-ghost use Rattle.ws_suite.specs.Judging.{IsAtFront, targets};
-ghost use Rattle.ws_suite.specs.Verdicts.{IsLastPong, due_after, has_payload_of, is_before_match, is_unmatched};
-ghost use Rattle.ws_suite.specs.Verdicts.{matches_of, payload_of};
+ghost use Rattle.ws_suite.specs.InnerJudging.{IsAtFront, targets};
+ghost use Rattle.ws_suite.specs.Matching.{IsLastPong, due_after, has_payload_of, matches_of, payload_of};
+ghost use Rattle.ws_suite.specs.Verdicts.{is_before_match, is_unmatched};
 
 use crate::evidence::{InTurn, Reply};
 use crate::judging::replies::are_same;

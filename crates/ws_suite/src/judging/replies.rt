@@ -2,10 +2,11 @@
 
 ghost use Rattle.std.specs.Prelude.{◌≡◌, ◌↔◌, ◌∷◌, List, IfOk, IsTrue};
 ghost use Rattle.ws_suite.specs.declared.evidence.Reply.{Reply};
-ghost use Rattle.ws_suite.specs.Judging.{AreListsOf, targets};
+ghost use Rattle.ws_suite.specs.InnerJudging.{AreListsOf, targets};
 ghost use Rattle.std.specs.List.{list_any, zip};
-ghost use Rattle.ws_suite.specs.Verdicts.{IsBeginningOf, IsWithSomeLeftOut, bare, is_before, is_message};
-ghost use Rattle.ws_suite.specs.Verdicts.{messages_of, pongs_of};
+ghost use Rattle.ws_suite.specs.Matching.{IsBeginningOf, IsWithSomeLeftOut, bare, is_message};
+ghost use Rattle.ws_suite.specs.Matching.{message_replies, pong_replies};
+ghost use Rattle.ws_suite.specs.Verdicts.{is_before};
 
 use crate::evidence::{Evidence, InTurn, Reply};
 use std::alloc::Global;
@@ -41,7 +42,7 @@ fn messages<'a>(
     alloc: Global,
     replies: &'a [InTurn<Reply>],
 ) -> Result<Vec<&'a InTurn<Reply>>, NoMemory>
-    ensures { IfOk result (λ found. targets found.items ≡ messages_of replies.entry.now) }
+    ensures { IfOk result (λ found. targets found.items ≡ message_replies replies.entry.now) }
 {
     let mut found = Vec::new(alloc);
     for reply in replies {
@@ -57,7 +58,7 @@ fn pongs<'a>(
     alloc: Global,
     replies: &'a [InTurn<Reply>],
 ) -> Result<Vec<&'a InTurn<Reply>>, NoMemory>
-    ensures { IfOk result (λ found. targets found.items ≡ pongs_of replies.entry.now) }
+    ensures { IfOk result (λ found. targets found.items ≡ pong_replies replies.entry.now) }
 {
     let mut found = Vec::new(alloc);
     for reply in replies {

@@ -1,6 +1,6 @@
 use Rattle.std.proofs.Common.{rules, List, ℕ, ◌++◌, sym, refl, subst, take, drop, take-append-drop}
 use Rattle.std.proofs.KnownBytes.{Appends-nil}
-use Rattle.ws_peer.specs.Steps.{Stands}
+use Rattle.ws_peer.specs.InnerSteps.{IsEchoOfCall}
 use Rattle.ws_peer.proofs.Echoing.{piece_answered}
 use Rattle.ws_peer.proofs.driving.answer.Goals as goal
 
@@ -30,12 +30,12 @@ returns-in-Ok-write_whole g c call bytes put e is = (
 pub returns : goal.returns
 returns g c call bytes put e is =
     let (front, more, parts, begun) = c.in-Err-write_whole.ensures.begun in
-    let stands : Stands call (bytes ++ c.args.piece.now) (put ++ c.as_slice.result.now) c.take_all.new.self =
+    let stands : IsEchoOfCall call (bytes ++ c.args.piece.now) (put ++ c.as_slice.result.now) c.take_all.new.self =
     piece_answered c.echo_laws.ensures call.role call.limits call.key c.args.key c.args.echo.now c.take_all.new.self bytes put c.args.piece.now c.new-replies.result.items c.take_all.new.out.items c.as_slice.result.now _ _ e is
     c.in-Ok.ensures.taken c.new-replies.ensures.items c.as_slice.ensures.value in (
       search rules,
       front,
       more,
       begun,
-      subst (λ (l : List ℕ). Stands call (bytes ++ c.args.piece.now) (put ++ l) c.take_all.new.self) parts stands,
+      subst (λ (l : List ℕ). IsEchoOfCall call (bytes ++ c.args.piece.now) (put ++ l) c.take_all.new.self) parts stands,
     )

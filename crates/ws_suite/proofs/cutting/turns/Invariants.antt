@@ -1,12 +1,12 @@
 use Rattle.std.proofs.Common.{◌++◌, List, ℕ, length}
-use Rattle.std.specs.List.{AllByRecursion, AllZip}
-use Rattle.ws_suite.specs.Scripts.{ArePieces, FitsAHeader, turns_of}
+use Rattle.std.specs.List.{AllZip}
+use Rattle.ws_suite.specs.Scripts.{ArePieces, FitHeaders, turns_of}
 use Rattle.ws_suite.proofs.cutting.turns.Given as goal
 
 -- whatever pieces come for the rest, after the pieces so far they are those of the whole script
 abbrev pub invariant-loop-rest : goal.invariant-loop-rest
 invariant-loop-rest l = record {
-  frames : AllByRecursion FitsAHeader l.rest;
+  frames : FitHeaders l.rest;
   turns : (more : List (List (List ℕ))) → AllZip (ArePieces l.case.chop l.key) (turns_of l.rest) more
       → AllZip (ArePieces l.case.chop l.key) (turns_of l.case.steps) (l.turns.items ++ more);
 }

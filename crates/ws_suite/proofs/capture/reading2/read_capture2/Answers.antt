@@ -1,8 +1,8 @@
 use Rattle.std.proofs.Common.{◌≡◌, ◌≢◌, ◌∙◌, ◌++◌, ◌∷◌, List, ℕ, rules, ap, sym, subst}
 use Rattle.ws_base.specs.Lines.{IsLine}
 use Rattle.ws_suite.specs.Captures.{first_words}
-use Rattle.ws_suite.specs.Captures2.{first_words2}
-use Rattle.ws_suite.proofs.LineLemmas.{no_feed_in_line, one_line}
+use Rattle.ws_suite.specs.Captures2.{IsAnyCaptureOf, first_words2}
+use Rattle.ws_suite.proofs.LineLemmas.{names_line, no_feed_in_line, one_line}
 use Rattle.ws_suite.proofs.CaptureLemmas.{first_is_line}
 use Rattle.ws_suite.proofs.Capture2Lemmas.{damaged_first2}
 use Rattle.ws_suite.proofs.OneCapture2.{damaged_in_2, fault_in_1, result_in_2}
@@ -10,8 +10,9 @@ use Rattle.ws_suite.proofs.capture.reading2.read_capture2.Goals as goal
 
 pub returns-in_default : goal.returns-in_default
 returns-in_default c =
-    damaged_in_2 1 c.args.text.now (λ after e. no_feed_in_line first_words after (subst (λ (l : List ℕ). IsLine l) e c.in_default.ensures))
-    (damaged_first2 c.args.text.now (λ after e. no_feed_in_line first_words2 after (subst (λ (l : List ℕ). IsLine l) e c.in_default.ensures)))
+    names_line IsAnyCaptureOf _ c.args.text.now
+    (damaged_in_2 1 c.args.text.now (λ after e. no_feed_in_line first_words after (subst (λ (l : List ℕ). IsLine l) e c.in_default.ensures))
+    (damaged_first2 c.args.text.now (λ after e. no_feed_in_line first_words2 after (subst (λ (l : List ℕ). IsLine l) e c.in_default.ensures))))
 
 pub returns-then-ne : goal.returns-then-ne
 returns-then-ne c =

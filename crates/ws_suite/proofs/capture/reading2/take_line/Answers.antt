@@ -2,7 +2,7 @@ use Rattle.std.proofs.Common.{◌≡◌, ◌∙◌, sym, subst}
 use Rattle.ws_suite.specs.declared.capture.TurnLine.{TurnLine}
 use Rattle.ws_suite.specs.declared.capture.TurnLine.TheVariants.{Data}
 use Rattle.ws_suite.specs.Captures2.{Extends}
-use Rattle.ws_suite.proofs.Capture2Lines.{same_turn_line}
+use Rattle.ws_suite.proofs.Capture2Words.{same_turn_line}
 use Rattle.ws_suite.proofs.capture.reading2.take_line.Goals as goal
 
 pub returns-in-Err-put_bytes : goal.returns-in-Err-put_bytes

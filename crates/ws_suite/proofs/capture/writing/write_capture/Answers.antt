@@ -1,5 +1,5 @@
 use Rattle.std.proofs.Common.{◌≡◌, ◌∙◌, rules}
-use Rattle.ws_suite.specs.Capturing.{capture_text}
+use Rattle.ws_suite.specs.InnerCapturing.{capture_text}
 use Rattle.ws_suite.proofs.CaptureTexts.{written_as}
 use Rattle.ws_suite.proofs.capture.writing.write_capture.Goals as goal
 

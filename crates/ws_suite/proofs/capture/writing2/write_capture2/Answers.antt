@@ -1,5 +1,5 @@
 use Rattle.std.proofs.Common.{◌≡◌, ◌∙◌, rules}
-use Rattle.ws_suite.specs.Capturing2.{capture2_text}
+use Rattle.ws_suite.specs.InnerCapturing2.{capture2_text}
 use Rattle.ws_suite.proofs.Capture2Texts.{written2_as}
 use Rattle.ws_suite.proofs.capture.writing2.write_capture2.Goals as goal
 

@@ -1,7 +1,6 @@
-use Rattle.std.specs.List.{AllByRecursion}
-use Rattle.ws_suite.specs.Scripts.{FitsAHeader}
+use Rattle.ws_suite.specs.Scripts.{FitHeaders}
 use Rattle.ws_suite.proofs.cases.scripting.row_steps.Given as goal
 
 -- the steps so far can be sent
 abbrev pub invariant-loop-act : goal.invariant-loop-act
-invariant-loop-act l = AllByRecursion FitsAHeader l.steps.items
+invariant-loop-act l = FitHeaders l.steps.items

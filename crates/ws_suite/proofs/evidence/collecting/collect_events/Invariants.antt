@@ -1,7 +1,7 @@
 use Rattle.std.proofs.Common.{◌≡◌, ◌++◌, List, length, reverse}
 use Rattle.ws_session.specs.declared.event.Event.{Event}
 use Rattle.ws_session.specs.Taking.{events_in}
-use Rattle.ws_suite.specs.Collecting.{AreCollected}
+use Rattle.ws_suite.specs.InnerCollecting.{AreCollected}
 use Rattle.ws_suite.proofs.evidence.collecting.collect_events.Given as goal
 
 -- the events before those that are left are collected

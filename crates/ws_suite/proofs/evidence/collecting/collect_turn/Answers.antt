@@ -1,7 +1,7 @@
 use Rattle.std.proofs.Common.{◌≡◌, ◌∙◌, ◌<◌, ◌≤◌, [], List, ℕ, ap, subst, rules, length, nat_lt}
 use Rattle.ws_session.specs.declared.event.PlacedEvent.{PlacedEvent}
 use Rattle.ws_session.specs.Taking.{events_in}
-use Rattle.ws_suite.specs.Collecting.{AreCollected, last_end}
+use Rattle.ws_suite.specs.InnerCollecting.{AreCollected, last_end}
 use Rattle.ws_suite.proofs.TurnLemmas.{no_items}
 use Rattle.ws_suite.proofs.TurnsCollected.{make_collected, turn_taken, turn_without_bytes}
 use Rattle.ws_suite.proofs.evidence.collecting.collect_turn.Goals as goal

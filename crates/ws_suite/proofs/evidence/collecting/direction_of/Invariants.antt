@@ -1,6 +1,6 @@
 use Rattle.std.proofs.Common.{List, take}
 use Rattle.ws_session.specs.declared.event.Event.{Event}
-use Rattle.ws_suite.specs.Collecting.{HasCollected, turns_by}
+use Rattle.ws_suite.specs.InnerCollecting.{HasCollected, turns_by}
 use Rattle.ws_suite.proofs.evidence.collecting.direction_of.Given as goal
 
 -- the turns so far are collected

@@ -1,5 +1,5 @@
 use Rattle.std.proofs.Common.{◌≡◌, ◌≤◌, length, drop}
-use Rattle.ws_suite.specs.Collecting.{last_end}
+use Rattle.ws_suite.specs.InnerCollecting.{last_end}
 use Rattle.ws_suite.proofs.evidence.collecting.last_end.Given as goal
 
 -- the greatest place among the events from here on

@@ -2,8 +2,8 @@ use Rattle.std.proofs.Common.{◌≡◌, None, false, List, sym, subst, take, ru
 use Rattle.std.specs.List.{find}
 use Rattle.ws_suite.specs.declared.evidence.InTurn.{InTurn}
 use Rattle.ws_suite.specs.declared.evidence.Reply.{Reply}
-use Rattle.ws_suite.specs.Judging.{targets}
-use Rattle.ws_suite.specs.Verdicts.{has_payload_of}
+use Rattle.ws_suite.specs.InnerJudging.{targets}
+use Rattle.ws_suite.specs.Matching.{has_payload_of}
 use Rattle.ws_suite.proofs.JudgeLemmas.{none_passed, targets_more}
 use Rattle.ws_suite.proofs.judging.pongs.first_with.Goals as goal
 

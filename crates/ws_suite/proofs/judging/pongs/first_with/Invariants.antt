@@ -1,7 +1,7 @@
 use Rattle.std.proofs.Common.{◌≡◌, ◌-◌, ◌≤◌, None, length, take}
 use Rattle.std.specs.List.{find}
-use Rattle.ws_suite.specs.Judging.{targets}
-use Rattle.ws_suite.specs.Verdicts.{has_payload_of}
+use Rattle.ws_suite.specs.InnerJudging.{targets}
+use Rattle.ws_suite.specs.Matching.{has_payload_of}
 use Rattle.ws_suite.proofs.judging.pongs.first_with.Given as goal
 
 -- none so far has the payload

@@ -1,6 +1,6 @@
 use Rattle.std.proofs.Common.{◌≡◌, ◌<◌, length, rules}
 use Rattle.ws_suite.proofs.JudgeLemmas.{last_pong_decides, last_pong_differs, last_target}
-use Rattle.ws_suite.specs.Judging.{targets}
+use Rattle.ws_suite.specs.InnerJudging.{targets}
 use Rattle.ws_suite.proofs.judging.pongs.has_last_pong.Goals as goal
 
 pub returns-then-are_same : goal.returns-then-are_same

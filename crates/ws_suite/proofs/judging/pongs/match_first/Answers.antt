@@ -1,8 +1,9 @@
 use Rattle.std.proofs.Common.{◌∙◌, ap, sym, nat_lt, Option, Bor, if◌then◌else◌, is_some}
 use Rattle.ws_suite.specs.declared.evidence.InTurn.{InTurn}
 use Rattle.ws_suite.specs.declared.evidence.Reply.{Reply}
-use Rattle.ws_suite.specs.Judging.{targets}
-use Rattle.ws_suite.specs.Verdicts.{after_match, is_before_match, is_unmatched}
+use Rattle.ws_suite.specs.InnerJudging.{targets}
+use Rattle.ws_suite.specs.Matching.{after_match}
+use Rattle.ws_suite.specs.Verdicts.{is_before_match, is_unmatched}
 use Rattle.ws_suite.proofs.JudgeLemmas.{match_facts}
 use Rattle.ws_suite.proofs.judging.pongs.match_first.Goals as goal
 

@@ -2,8 +2,9 @@ use Rattle.std.proofs.Common.{◌≡◌, ◌∙◌, ◌+◌, List, Bor, find, ap
 use Rattle.std.proofs.lemmas.List.{drop-drop, length-drop, take_rest}
 use Rattle.ws_suite.specs.declared.evidence.InTurn.{InTurn}
 use Rattle.ws_suite.specs.declared.evidence.Reply.{Reply}
-use Rattle.ws_suite.specs.Judging.{targets}
-use Rattle.ws_suite.specs.Verdicts.{due_after, has_payload_of, is_before_match, is_unmatched}
+use Rattle.ws_suite.specs.InnerJudging.{targets}
+use Rattle.ws_suite.specs.Matching.{due_after, has_payload_of}
+use Rattle.ws_suite.specs.Verdicts.{is_before_match, is_unmatched}
 use Rattle.ws_suite.proofs.JudgeLemmas.{match_step, target_at}
 use Rattle.ws_suite.proofs.judging.pongs.match_pongs.Goals as goal
 

@@ -2,7 +2,7 @@ use Rattle.std.proofs.Common.{◌<◌, ◌≤◌, ap, arith, Bor}
 use Rattle.std.proofs.lemmas.List.{length-map}
 use Rattle.ws_suite.specs.declared.evidence.InTurn.{InTurn}
 use Rattle.ws_suite.specs.declared.evidence.Reply.{Reply}
-use Rattle.ws_suite.specs.Judging.{targets}
+use Rattle.ws_suite.specs.InnerJudging.{targets}
 use Rattle.ws_suite.proofs.JudgeLemmas.{any_ended, any_found, any_later, target_at}
 use Rattle.ws_suite.proofs.judging.replies.any_before.Goals as goal
 

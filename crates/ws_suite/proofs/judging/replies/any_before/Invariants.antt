@@ -1,6 +1,6 @@
 use Rattle.std.proofs.Common.{◌≡◌, ◌-◌, ◌≤◌, drop, length}
 use Rattle.std.specs.List.{list_any, zip}
-use Rattle.ws_suite.specs.Judging.{targets}
+use Rattle.ws_suite.specs.InnerJudging.{targets}
 use Rattle.ws_suite.specs.Verdicts.{is_before}
 use Rattle.ws_suite.proofs.judging.replies.any_before.Given as goal
 

@@ -2,7 +2,7 @@ use Rattle.std.proofs.Common.{◌≡◌, ◌∙◌, ◌+◌, true, length, List,
 use Rattle.std.proofs.lemmas.List.{length-map}
 use Rattle.ws_suite.specs.declared.evidence.InTurn.{InTurn}
 use Rattle.ws_suite.specs.declared.evidence.Reply.{Reply}
-use Rattle.ws_suite.specs.Verdicts.{IsWithSomeLeftOut, bare}
+use Rattle.ws_suite.specs.Matching.{IsWithSomeLeftOut, bare}
 use Rattle.ws_suite.proofs.JudgeLemmas.{dropped_all, empty_left, none_left, reply_at}
 use Rattle.ws_suite.proofs.judging.replies.are_left.Goals as goal
 

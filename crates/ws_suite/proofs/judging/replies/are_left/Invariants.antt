@@ -1,5 +1,5 @@
 use Rattle.std.proofs.Common.{drop}
-use Rattle.ws_suite.specs.Verdicts.{IsWithSomeLeftOut, bare}
+use Rattle.ws_suite.specs.Matching.{IsWithSomeLeftOut, bare}
 use Rattle.ws_suite.proofs.judging.replies.are_left.Given as goal
 
 -- what is left decides

@@ -2,8 +2,8 @@ use Rattle.std.proofs.Common.{◌≡◌, ◌≢◌, ◌+◌, ◌∷◌, List, Bo
 use Rattle.std.proofs.lemmas.List.{length-map}
 use Rattle.ws_suite.specs.declared.evidence.InTurn.{InTurn}
 use Rattle.ws_suite.specs.declared.evidence.Reply.{Reply}
-use Rattle.ws_suite.specs.Judging.{targets}
-use Rattle.ws_suite.specs.Verdicts.{IsBeginningOf, bare}
+use Rattle.ws_suite.specs.InnerJudging.{targets}
+use Rattle.ws_suite.specs.Matching.{IsBeginningOf, bare}
 use Rattle.ws_suite.proofs.JudgeLemmas.{bare_target_at, begins_head, begins_more, dropped_all, nothing_begins}
 use Rattle.ws_suite.proofs.judging.replies.begins.Goals as goal
 

@@ -1,6 +1,6 @@
 use Rattle.std.proofs.Common.{◌-◌, ◌≤◌, drop, length}
-use Rattle.ws_suite.specs.Judging.{targets}
-use Rattle.ws_suite.specs.Verdicts.{IsBeginningOf, bare}
+use Rattle.ws_suite.specs.InnerJudging.{targets}
+use Rattle.ws_suite.specs.Matching.{IsBeginningOf, bare}
 use Rattle.ws_suite.proofs.judging.replies.begins.Given as goal
 
 -- what is left decides

@@ -3,7 +3,7 @@ use Rattle.std.proofs.lemmas.List.{take_rest}
 use Rattle.std.specs.List.{drop-map}
 use Rattle.ws_suite.specs.declared.evidence.InTurn.{InTurn}
 use Rattle.ws_suite.specs.declared.evidence.Reply.{Reply}
-use Rattle.ws_suite.specs.Verdicts.{IsWithSomeLeftOut, bare}
+use Rattle.ws_suite.specs.Matching.{IsWithSomeLeftOut, bare}
 use Rattle.ws_suite.proofs.JudgeLemmas.{left_same, reply_at}
 use Rattle.ws_suite.proofs.judging.replies.without.Goals as goal
 

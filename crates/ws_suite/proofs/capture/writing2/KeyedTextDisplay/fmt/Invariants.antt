@@ -1,7 +1,7 @@
 use Rattle.std.proofs.Common.{take}
 use Rattle.std.specs.Fmt.{HasWritten, IsPlainFormatter}
 use Rattle.std.specs.List.{flat_map}
-use Rattle.ws_suite.specs.Capturing2.{marked_turn_text}
+use Rattle.ws_suite.specs.InnerCapturing2.{marked_turn_text}
 use Rattle.ws_suite.proofs.capture.writing2.KeyedTextDisplay.fmt.Given as goal
 
 -- the lines of the turns so far are written

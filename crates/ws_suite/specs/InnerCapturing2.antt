@@ -1,6 +1,6 @@
 -- Inside the crate: the parts of a written capture in format 2, as they are printed, and what a line that is read adds.
 -- A reader may skip this file.
-use Rattle.std.specs.Prelude.{◌≡◌, ⊤, ℕ, List, [], ◌∷◌, flat_map, Option, Some, None, Result, Ok, Err, codes}
+use Rattle.std.specs.Prelude.{◌≡◌, ◌≢◌, ⊤, ℕ, List, [], ◌∷◌, flat_map, Option, Some, None, Result, Ok, Err, codes}
 use Rattle.std.specs.List.{concat}
 use Rattle.ws_base.specs.Words.{hex}
 use Rattle.ws_base.specs.declared.lines.LineFault.{LineFault}
@@ -11,9 +11,9 @@ use Rattle.ws_suite.specs.declared.transcript.Ended.TheVariants.{Tester, Peer, B
 use Rattle.ws_suite.specs.declared.capture.Capture.{Capture}
 use Rattle.ws_suite.specs.declared.capture.Line.{Line}
 use Rattle.ws_suite.specs.declared.capture.TurnLine.{TurnLine}
-use Rattle.ws_suite.specs.declared.capture.TurnLine.TheVariants.{Begin, Data, End}
+use Rattle.ws_suite.specs.declared.capture.TurnLine.TheVariants.{End}
 use Rattle.ws_suite.specs.Captures2.{AreTurnWordsOf, Extends, GoesInto, end_words2}
-use Rattle.ws_suite.specs.Capturing.{got_text, sent_text}
+use Rattle.ws_suite.specs.InnerCapturing.{got_text, sent_text}
 
 -- ---- printing
 
@@ -40,10 +40,9 @@ abbrev pub PutsBytes : Line → List Turn → Result ⊤ LineFault → List Turn
 PutsBytes line old (Ok done) new = GoesInto line old new
 PutsBytes line old (Err fault) new = fault ≡ Damaged → (others : List Turn) → GoesInto line old others → ⊥
 
+-- the line isn't the last one
 abbrev pub IsNoEnd : TurnLine → Type 0
-IsNoEnd Begin = ⊤
-IsNoEnd (Data line) = ⊤
-IsNoEnd (End end) = ⊥
+IsNoEnd line = (end : Ended) → line ≢ End end
 
 -- what taking a line answers: the turns with it, or the end that it tells, or that it tells nothing that may stand
 -- there, or memory ran out

@@ -15,12 +15,12 @@ use Rattle.ws_session.specs.Faults.{KeysFit}
 use Rattle.ws_session.specs.Replies.{echo_replies_of, under_key}
 use Rattle.ws_session.specs.Validity.{AreValidFrames}
 use Rattle.ws_session.specs.Sends.{most_limits}
-use Rattle.ws_suite.specs.Collecting.{FrameLaws, SessionLaws}
+use Rattle.ws_suite.specs.InnerCollecting.{FrameLaws, EventLaws}
 
 -- of an echo at the server's end that takes the largest messages
 pub record EchoReplyLaws : Type 0 where
   pub frames : FrameLaws
-  pub session : SessionLaws
+  pub session : EventLaws
   pub some : (role : Role) (limits : LimitsValue) (bytes : List ℕ) → AreBytes bytes
       → (events : List Event) × HasEvents role limits bytes events
   pub close_last : (bytes : List ℕ) (events later : List Event) (close : Option CloseValue)

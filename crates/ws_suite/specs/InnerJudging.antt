@@ -7,8 +7,8 @@ use Rattle.ws_suite.specs.declared.evidence.InTurn.{InTurn}
 use Rattle.ws_suite.specs.declared.evidence.Reply.{Reply}
 use Rattle.ws_suite.specs.declared.evidence.Evidence.{Evidence}
 use Rattle.ws_suite.specs.declared.judging.replies.Lists.{Lists}
+use Rattle.ws_suite.specs.Matching.{due_messages, due_pongs, got_messages, got_pongs}
 use Rattle.ws_suite.specs.Verdicts.{FailsNowhere, IsLowestFail, IsLowestLoose, IsNowhereLoose}
-use Rattle.ws_suite.specs.Verdicts.{due_messages, due_pongs, got_messages, got_pongs}
 
 -- what references to replies point to
 abbrev pub targets : List (Bor (InTurn Reply)) → List (InTurn Reply)

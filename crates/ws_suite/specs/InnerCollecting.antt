@@ -22,9 +22,9 @@ use Rattle.ws_suite.specs.declared.evidence.collecting.Collected.{Collected}
 use Rattle.ws_suite.specs.Evidence.{AreEventsByTurn, HasRest, by_turn, due_for, ending_in, got_in, joined_events}
 
 -- a server takes what was sent, a client what was got
-abbrev pub role_of : Way → Role
-role_of Sent = Server
-role_of Got = Client
+abbrev pub role_by : Way → Role
+role_by Sent = Server
+role_by Got = Client
 
 abbrev pub found_by : Way → Event → List Reply
 found_by Sent e = due_for e
@@ -49,14 +49,14 @@ last_end (x ∷ xs) = max x.end (last_end xs)
 -- the turns so far have these events; the session has taken them, and what is collected is what they say
 pub record HasCollected (way : Way) (turns : List (List ℕ)) (events : List (List Event)) (session : SessionValue)
     (collected : Collected) : Type 0 where
-  pub are_events : AreEventsByTurn (role_of way) turns events
+  pub are_events : AreEventsByTurn (role_by way) turns events
   pub sent : List Frame
   pub exchanged : HasExchanged session sent (concat turns) false
-  pub role : session.role ≡ role_of way
+  pub role : session.role ≡ role_by way
   pub limits : session.limits ≡ most_limits
   pub replies : collected.replies.items ≡ by_turn (found_by way) 0 events
   pub ending : collected.ending ≡ last_or None (by_turn ending_in 0 events)
-  pub has_rest : (collected.has_rest ≡ true) ↔ HasRest (role_of way) (concat turns) (joined_events events)
+  pub has_rest : (collected.has_rest ≡ true) ↔ HasRest (role_by way) (concat turns) (joined_events events)
 
 -- events of one turn are collected after what was
 pub record AreCollected (way : Way) (turn : ℕ) (events : List Event) (old new : Collected) : Type 0 where
@@ -65,7 +65,7 @@ pub record AreCollected (way : Way) (turn : ℕ) (events : List Event) (old new 
   pub has_rest : new.has_rest ≡ old.has_rest
 
 -- the laws of the layer below that serve here
-pub record SessionLaws : Type 0 where
+pub record EventLaws : Type 0 where
   pub one_list : (role : Role) (limits : LimitsValue) (bytes : List ℕ) (events others : List Event)
       → HasEvents role limits bytes events → HasEvents role limits bytes others → events ≡ others
   pub go_on : (role : Role) (limits : LimitsValue) (bytes more : List ℕ) (events all : List Event)
