@@ -30,7 +30,7 @@ use Rattle.ws_connection.specs.declared.probe_end.Probe.TheVariants.{Ran, Refuse
 use Rattle.ws_connection.specs.declared.probing.turn.TurnStop.{TurnStop}
 use Rattle.ws_connection.specs.declared.probing.turn.TurnStop.TheVariants.{IsThere, End, Fault}
 use Rattle.ws_connection.specs.Probing.{EndsScript, EndsTurn, HasGotFirst, Probes, all_got, all_sent, bytes_by_turn, probe_nonce, request_to}
-use Rattle.ws_connection.specs.ProbeTurns.{AnswersProbe, GoesOnOrEnds, IsTurnStop, ReadsTurn, Records, RunsTurn, SendsTurn, end_of_turn}
+use Rattle.ws_connection.specs.InnerProbeTurns.{AnswersProbe, GoesOnOrEnds, IsTurnStop, ReadsTurn, Records, RunsTurn, SendsTurn, end_of_turn}
 
 -- a device after a run
 abbrev pub device : Bool → Option (List ℕ) → Option (List ℕ) → Device

@@ -1,13 +1,12 @@
 -- A connection that is served, from the head on.
-use Rattle.std.proofs.Common.{◌≡◌, ℕ, ◌≤◌, ◌⊎◌, inl, inr, true, false, List, [], ◌∷◌, ◌++◌, length, drop, Option, refl, sym, ap, ◌∙◌, subst}
+use Rattle.std.proofs.Common.{◌≡◌, ℕ, inl, inr, List, [], ◌∷◌, ◌++◌, drop, Option, sym, ◌∙◌, subst}
 use Rattle.std.specs.Io.KnownBytes.{Appends, Consumes, Keeps}
 use Rattle.std.proofs.KnownBytes.{Appends-trans, Consumes-trans, Consumes-kept}
 use Rattle.ws_frame.specs.declared.role.Role.{Role}
 use Rattle.ws_frame.specs.declared.role.Role.TheVariants.{Server}
-use Rattle.ws_frame.specs.Devices.{Device, HasRead, HasWritten, IsUntouched}
+use Rattle.ws_frame.specs.Devices.{Device, HasRead, IsUntouched}
 use Rattle.ws_session.specs.Limits.{LimitsValue}
 use Rattle.ws_session.specs.Exchange.{SessionValue}
-use Rattle.ws_upgrade.specs.Texts.{refusal_bytes}
 use Rattle.ws_upgrade.specs.declared.faults.HeadFault.{HeadFault}
 use Rattle.ws_peer.specs.Driving.{Drives, IsDrivenTo, IsFairDriveEnd}
 use Rattle.ws_peer.specs.declared.driving.DriveEnd.{DriveEnd}
@@ -19,7 +18,7 @@ use Rattle.ws_connection.specs.declared.request_head.RequestDecision.{RequestDec
 use Rattle.ws_connection.specs.declared.request_head.RequestDecision.TheVariants.{Accepted, Refused as RefusedHead}
 use Rattle.ws_connection.specs.declared.serving.Served.{Served}
 use Rattle.ws_connection.specs.declared.serving.Served.TheVariants.{Ended, Refused, Stopped}
-use Rattle.ws_connection.specs.Serving.{connection, ReadsRequest, ServesAccepted, Serves, DrivesAfter, AnswersAccepted, AnswersRefused, ServesDecision, response_of, served_by}
+use Rattle.ws_connection.specs.Serving.{connection, ReadsRequest, ServesAccepted, Serves, DrivesAfter, AnswersAccepted, ServesDecision, response_of, served_by}
 
 -- ---- the response and the echo
 
@@ -57,10 +56,10 @@ answered_by limits budget response first input output ended served e d = subst (
   where
     by : (ended : DriveEnd) → DrivesAfter limits budget response first ended input output → AnswersAccepted limits budget response first (served_by ended) input output
     by (end.Done status) d = d
-    by end.ReadFault d = inr (end.ReadFault, tt, d)
-    by end.WriteFault d = inr (end.WriteFault, tt, d)
-    by end.Budget d = inr (end.Budget, tt, d)
-    by end.NoMemory d = inr (end.NoMemory, tt, d)
+    by end.ReadFault d = inr (end.ReadFault, (λ status bad. absurd (cc)), d)
+    by end.WriteFault d = inr (end.WriteFault, (λ status bad. absurd (cc)), d)
+    by end.Budget d = inr (end.Budget, (λ status bad. absurd (cc)), d)
+    by end.NoMemory d = inr (end.NoMemory, (λ status bad. absurd (cc)), d)
 
 -- ---- after the head
 

@@ -3,5 +3,5 @@ pub mod Protocols
 pub mod Requests
 pub mod Responses
 pub mod Probing
-pub mod ProbeTurns
 pub mod Serving
+pub mod InnerProbeTurns

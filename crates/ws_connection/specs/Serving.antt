@@ -1,10 +1,11 @@
 -- One connection of a server: the opening handshake (RFC 6455 section 4.2), and then an echo over what comes after the
 -- head.
-use Rattle.std.specs.Prelude.{◌≡◌, ℕ, ◌≤◌, ◌⊎◌, ⊤, true, false, List, [], ◌∷◌, ◌++◌, length, drop, codes, Option}
+use Rattle.std.specs.Prelude.{◌≡◌, ◌≢◌, ℕ, ◌≤◌, ◌⊎◌, true, false, List, [], ◌∷◌, ◌++◌, length, drop, codes, Option}
 use Rattle.ws_frame.specs.declared.role.Role.TheVariants.{Server}
 use Rattle.ws_frame.specs.Devices.{Device, HasBegun, HasRead, HasWritten, IsUntouched}
 use Rattle.ws_session.specs.Limits.{LimitsValue}
 use Rattle.ws_session.specs.Words.{status_words}
+use Rattle.ws_session.specs.declared.status.Status.{Status}
 use Rattle.ws_upgrade.specs.Texts.{refusal_bytes, response_text}
 use Rattle.ws_upgrade.specs.Words.{head_fault_name}
 use Rattle.ws_upgrade.specs.declared.faults.HeadFault.{HeadFault}
@@ -14,7 +15,7 @@ use Rattle.ws_peer.specs.declared.driving.DriveEnd.TheVariants as end
 use Rattle.ws_connection.specs.Protocols.{name_chosen}
 use Rattle.ws_connection.specs.ReadingHeads.{ReadsHead, ReadsNoFurther}
 use Rattle.ws_connection.specs.Requests.{DecidesRequest, NeedsRequest}
-use Rattle.ws_connection.specs.declared.reading_head.HeadEnd.TheVariants.{Decided, Cut, ReadFault}
+use Rattle.ws_connection.specs.declared.reading_head.HeadEnd.TheVariants.{Cut, ReadFault}
 use Rattle.ws_connection.specs.declared.request_head.RequestDecision.{RequestDecision}
 use Rattle.ws_connection.specs.declared.request_head.RequestDecision.TheVariants.{Accepted, Refused as RefusedHead}
 use Rattle.ws_connection.specs.declared.serving.Served.{Served}
@@ -80,13 +81,9 @@ abbrev pub StopsAnswering : List (List ℕ) → Device → Device → Type 0
 StopsAnswering known input output = (head : List ℕ) × (decision : RequestDecision) × ReadsRequest known head decision
     × HasRead head input × (input.failed ≡ false) × BeginsAnswer known decision output
 
--- the run of the echo was stopped by a read, a write, the budget or memory
+-- the run of the echo was stopped: by a read, a write, the budget or memory
 abbrev pub IsStop : DriveEnd → Type 0
-IsStop (end.Done status) = ⊥
-IsStop end.ReadFault = ⊤
-IsStop end.WriteFault = ⊤
-IsStop end.Budget = ⊤
-IsStop end.NoMemory = ⊤
+IsStop ended = (status : Status) → ended ≢ end.Done status
 
 -- a connection that was served by an endpoint that knows these subprotocols, by how it ended
 abbrev pub Serves : LimitsValue → ℕ → List (List ℕ) → Served → Device → Device → Type 0

@@ -16,7 +16,7 @@ mod response_head;
 mod serving;
 
 pub use probe_end::Probe;
-pub use probing::probe;
+pub use probing::{NONCE, probe};
 pub use protocols::{Protocols, name_chosen, protocols_of};
 pub use reading_head::{HeadDecider, HeadEnd, HeadRoom, read_head};
 pub use request_head::{RequestDecision, RequestHead};

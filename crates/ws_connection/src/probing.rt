@@ -11,7 +11,7 @@ ghost use Rattle.ws_upgrade.specs.Protocols.{AreOffers};
 ghost use Rattle.ws_upgrade.specs.Texts.{IsHost};
 ghost use Rattle.ws_suite.specs.Scripts.{CanBeRun};
 ghost use Rattle.ws_connection.specs.Probing.{Probes, request_to};
-ghost use Rattle.ws_connection.specs.ProbeTurns.{AnswersProbe};
+ghost use Rattle.ws_connection.specs.InnerProbeTurns.{AnswersProbe};
 
 use crate::probe_end::Probe;
 use crate::probing::script::run_turns;
@@ -27,8 +27,8 @@ use ws_upgrade::{RequestFault, request_with};
 /// What a probe asks for.
 const PATH: &[u8] = b"/";
 
-/// The nonce of each probe, so that captures are repeatable.
-const NONCE: [u8; 16] = *b"the sample nonce";
+/// The nonce of each probe, 16 bytes: always the same, so that captures are repeatable.
+pub const NONCE: [u8; 16] = *b"the sample nonce";
 
 /// Asks a server for an upgrade, with an offer of these subprotocols, runs a script against it, its frames masked with
 /// `key`, and records what went over the connection. The pieces of each turn are sent in one write each where the

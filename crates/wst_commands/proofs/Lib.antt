@@ -1,3 +1,3 @@
-pub mod Handed
+pub mod RunLemmas
 pub mod TestLemmas
 pub mod PlanLemmas

@@ -8,7 +8,10 @@ use Rattle.std.specs.declared.alloc.Global.{Global}
 use Rattle.std.specs.declared.string.String.{String}
 use Rattle.ws_suite.specs.Scripts.{CanBeRun}
 use Rattle.ws_suite.specs.declared.script.Case.{Case}
-use Rattle.wst_commands.specs.Test.{AreCasesFor, AreCasesOf, GrowsByCase, names_of}
+use Rattle.ws_upgrade.specs.Texts.{IsHost}
+use Rattle.wst_commands.specs.Test.{AreCasesFor, AreCasesOf, GrowsByCase, HasHost, IsTargetOf, names_of}
+use Rattle.wst_commands.specs.declared.test.Target.{Target}
+use Rattle.wst_commands.specs.declared.test.Target.TheVariants.{Address, Memory}
 use Rattle.wst_filters.proofs.CaseLemmas.{next_name}
 
 -- one more name, and its case
@@ -58,3 +61,10 @@ pub next_listed : (names : List (String Global)) (i : ℕ) (name : String Global
 next_listed names i name old new within is before (case, runs, called, grown) =
     subst (λ (l : List (List ℕ)). AreCasesOf l new) (sym (next_name names i name within is))
     (one_more_case (map string_bytes (take i names)) (string_bytes name) old new case before runs called grown)
+
+-- the target that a word names has a host
+pub target_has_host : (word : List ℕ) (target : Target) → IsTargetOf word target → HasHost target
+target_has_host word (Memory server) is host same = absurd (cc)
+target_has_host word (Address at) (is, no_server, is_host) host same =
+    let e : at ≡ host = cc in
+    subst (λ (w : List ℕ). IsHost w) (sym is ∙ ap (λ (h : Bor (List ℕ)). h.now) e) is_host

@@ -10,7 +10,7 @@ use Rattle.ws_connection.specs.Serving.{served_words}
 use Rattle.ws_connection.specs.declared.serving.Served.{Served}
 use Rattle.wst_words.specs.declared.serve.ServeOptions.{ServeOptions}
 use Rattle.wst_filters.specs.Faults.{LacksMemory, TellsFault}
-use Rattle.wst_filters.specs.Limits.{limits_of}
+use Rattle.wst_filters.specs.Limits.{limits_given}
 use Rattle.wst_filters.specs.declared.exit.Exit.{Exit}
 use Rattle.wst_filters.specs.declared.exit.Exit.TheVariants.{Done, Failed}
 use Rattle.wst_filters.specs.declared.fault.Fault.{Fault}
@@ -25,7 +25,7 @@ use Rattle.wst_commands.specs.declared.serve.ServePlan.{ServePlan}
 -- which can be offered, and the rest is as it was given
 abbrev pub IsServePlan : ServeOptions → ServePlan → Type 0
 IsServePlan options plan =
-    (AreLimits (limits_of options.limit options.frame) × (plan.limits ≡ limits_of options.limit options.frame))
+    (AreLimits (limits_given options.limit options.frame) × (plan.limits ≡ limits_given options.limit options.frame))
     × (plan.budget ≡ options.budget) × (plan.address ≡ options.address) × (plan.count ≡ options.count)
     × (AreOffers (protocols_given options.protocols) × (plan.protocols ≡ protocols_given options.protocols))
 
@@ -34,7 +34,7 @@ IsServePlan options plan =
 abbrev pub CanNotServe : ServeOptions → Fault → Type 0
 CanNotServe options BadProtocols = ¬ (AreOffers (protocols_given options.protocols))
 CanNotServe options BadLimits =
-    AreOffers (protocols_given options.protocols) × ¬ (AreLimits (limits_of options.limit options.frame))
+    AreOffers (protocols_given options.protocols) × ¬ (AreLimits (limits_given options.limit options.frame))
 CanNotServe options fault = fault ≡ NoMemory
 
 -- ---- what is told

@@ -1,6 +1,6 @@
 -- A run of `test`: the cases that the words ask for are run over servers in memory, or handed back for a server at an
 -- address; or it is told why nothing is run.
-use Rattle.std.specs.Prelude.{◌≡◌, ◌≢◌, ◌⊎◌, ⊤, ℕ, ◌<◌, Bool, true, false, List, [], ◌∷◌, ◌++◌, Result, codes}
+use Rattle.std.specs.Prelude.{◌≡◌, ◌≢◌, ◌⊎◌, ℕ, ◌<◌, Bool, true, false, List, [], ◌∷◌, ◌++◌, Result, codes}
 use Rattle.std.specs.Prelude.{length, map, slice_index_or, string_bytes, take}
 use Rattle.std.specs.List.{All, concat}
 use Rattle.std.specs.Borrow.{Bor}
@@ -165,8 +165,7 @@ RunsTest options (ran.Serve plan) output faults = ⊥
 
 -- an address can be the host of a request
 abbrev pub HasHost : Target → Type 0
-HasHost (Memory server) = ⊤
-HasHost (Address host) = IsHost host.now
+HasHost target = (host : Bor (List ℕ)) → target ≡ Address host → IsHost host.now
 
 -- a case with this name was put at the end; or there is none
 abbrev pub GrowsByCase : List ℕ → Bool → List Case → List Case → Type 0

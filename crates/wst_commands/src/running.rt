@@ -6,8 +6,9 @@ ghost use Rattle.ws_frame.specs.Devices.{watched};
 ghost use Rattle.ws_frame.specs.Watching.{has_failed};
 ghost use Rattle.wst_words.specs.Words.{Places, wst_app};
 ghost use Rattle.wst_filters.specs.Devices.{Tells};
-ghost use Rattle.wst_filters.specs.Exits.{status_of};
-ghost use Rattle.wst_commands.specs.Run.{AnswersWords, EndsRun, EndsWithin, Runs, RunsTask, TellsOf};
+ghost use Rattle.wst_filters.specs.Exits.{exit_status};
+ghost use Rattle.wst_commands.specs.Run.{AnswersWords, CanBeServed, CanBeTestedAt, EndsRun, HasStatusUpTo};
+ghost use Rattle.wst_commands.specs.Run.{Runs, RunsTask, TellsOf};
 ghost use Rattle.wst_commands.specs.Serve.{RunsServe};
 ghost use Rattle.wst_commands.specs.Test.{RunsTest};
 
@@ -41,6 +42,7 @@ pub enum Ran<'a> {
 /// memory failed. Help and the version go to the writer with status 0. What is wrong with the words goes to
 /// `faults`, and then nothing is read or written. Want of memory is told there as `no memory`. What is
 /// to be served, and what is to be run over a server at an address, is handed back, where nothing is wrong with it.
+#[tactic(auto, using(crate::proofs::RunLemmas::status_up_to_3))]
 pub fn run<'a, R: Read, W: Write, F: Write>(
     alloc: Global,
     words: &'a [String],
@@ -50,11 +52,15 @@ pub fn run<'a, R: Read, W: Write, F: Write>(
 ) -> Ran<'a>
     requires reader_works { has_failed reader.old ≡ false }
     requires writer_works { has_failed writer.old ≡ false }
-    ensures status { EndsWithin 3 result }
+    ensures status { HasStatusUpTo 3 result }
     ensures runs { (places : Places) × Runs (wst_app places) (map string_bytes words.now) result
         (watched R.remaining reader.old reader.new)
         (watched W.contents writer.old writer.new)
         (watched F.contents faults.old faults.new) }
+
+    // What is handed back can be done.
+    ensures serve { CanBeServed result (watched W.contents writer.old writer.new) }
+    ensures test { CanBeTestedAt result (watched W.contents writer.old writer.new) }
 {
     match read_words(alloc, words) {
         Ok(task) => run_task(alloc, task, reader, writer, faults),
@@ -187,7 +193,7 @@ fn answer_error<W: Write, F: Write>(
 /// Tells that the words are no text, or that memory ran out before they were read, and answers how the
 /// run ended.
 pub fn words_are_no_text<F: Write>(alloc: Global, no_memory: bool, faults: &mut Watched<F>) -> Exit
-    ensures status { status_of result ≡ (if no_memory then 3 else 2) }
+    ensures status { exit_status result ≡ (if no_memory then 3 else 2) }
     ensures told { Tells (if no_memory then codes "no memory\n" else codes "error: the words are not UTF-8\n")
         (watched F.contents faults.old faults.new) }
 {

@@ -1,4 +1,5 @@
-//! What the command `serve` needs beside its sockets: the server that is asked for, and the lines that are told.
+//! What the command `serve` needs beside its sockets: the server that is asked for, and the lines that are told
+//! (docs/FORMATS.md).
 
 ghost use Rattle.std.specs.Prelude.{◌≡◌, MatchResult, false};
 ghost use Rattle.ws_frame.specs.Devices.{watched};

@@ -1,4 +1,5 @@
-//! What the command `test` needs beside its servers: what is to be run, and its run over servers of any kind.
+//! What the command `test` needs beside its servers: what is to be run, and its run over servers of any kind. Its lines
+//! are told in docs/FORMATS.md.
 
 ghost use Rattle.std.specs.Prelude.{◌≡◌, ◌≢◌, ◌⊎◌, IfOk, MatchResult, codes, false};
 ghost use Rattle.ws_frame.specs.Devices.{watched};
@@ -15,15 +16,12 @@ use crate::testing::{capture_case, test_cases};
 use std::alloc::Global;
 use std::io::Write;
 use ws_base::{NoMemory, read_key};
-use ws_connection::{Protocols, protocols_of};
+use ws_connection::{NONCE, Protocols, protocols_of};
 use ws_frame::Watched;
 use ws_suite::Case;
 use ws_upgrade::{RequestFault, request};
 use wst_filters::{Exit, Fault, end_run, tell, tell_fault};
 use wst_words::TestOptions;
-
-/// The nonce of each opening handshake.
-const NONCE: [u8; 16] = *b"the sample nonce";
 
 /// The server that cases are run over.
 #[derive(Clone, Copy)]
@@ -123,6 +121,7 @@ fn carry_out<S: CaseServer, W: Write>(
 }
 
 /// What the words ask for, or the first reason against it.
+#[tactic(auto, using(crate::proofs::PlanLemmas::target_has_host))]
 pub fn plan_test<'a>(
     alloc: Global,
     options: &TestOptions<'a>,

@@ -1,7 +1,8 @@
 -- A run of `convert`: a capture in either format is read whole and written in format 2.
 use Rattle.std.specs.Prelude.{◌≡◌, ◌⊎◌, ℕ, List, Result, Err, MatchResult}
 use Rattle.ws_frame.specs.Devices.{Device, IsUntouched}
-use Rattle.ws_suite.specs.Captures2.{DamagesAny, IsAnyCaptureOf, written_capture2}
+use Rattle.ws_suite.specs.Captures.{DamagesCapture}
+use Rattle.ws_suite.specs.Captures2.{IsAnyCaptureOf, written_capture2}
 use Rattle.ws_suite.specs.declared.capture.Capture.{Capture}
 use Rattle.ws_suite.specs.declared.capture.CaptureFault.{CaptureFault}
 use Rattle.wst_filters.specs.Devices.{Delivers}
@@ -23,7 +24,8 @@ WritesInFormat2 capture ended output = MatchResult ended
 abbrev pub ConvertsCapture : List ℕ → Result Exit Fault → Device → Type 0
 ConvertsCapture text ended output =
     ((capture : Capture) × IsAnyCaptureOf capture text × WritesInFormat2 capture ended output)
-    ⊎ ((fault : CaptureFault) × DamagesAny fault text × (ended ≡ Err (capture_fault fault)) × IsUntouched output)
+    ⊎ ((fault : CaptureFault) × DamagesCapture IsAnyCaptureOf fault text × (ended ≡ Err (capture_fault fault))
+    × IsUntouched output)
 
 -- a run of `convert`
 abbrev pub RunsConvert : Result Exit Fault → Device → Device → Type 0

@@ -3,8 +3,8 @@ use Rattle.std.specs.Prelude.{ℕ}
 use Rattle.wst_filters.specs.declared.exit.Exit.{Exit}
 use Rattle.wst_filters.specs.declared.exit.Exit.TheVariants.{Done, Damaged, WrongWords, Failed}
 
-abbrev pub status_of : Exit → ℕ
-status_of Done = 0
-status_of Damaged = 1
-status_of WrongWords = 2
-status_of Failed = 3
+abbrev pub exit_status : Exit → ℕ
+exit_status Done = 0
+exit_status Damaged = 1
+exit_status WrongWords = 2
+exit_status Failed = 3

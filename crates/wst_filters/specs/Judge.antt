@@ -1,7 +1,8 @@
 -- A run of `judge`: a capture is read whole and judged, and the verdict is written.
 use Rattle.std.specs.Prelude.{◌≡◌, ◌⊎◌, ℕ, List, ◌++◌, Result, Err, MatchResult, codes}
 use Rattle.ws_frame.specs.Devices.{Device, IsUntouched}
-use Rattle.ws_suite.specs.Captures2.{DamagesAny, IsAnyCaptureOf}
+use Rattle.ws_suite.specs.Captures.{DamagesCapture}
+use Rattle.ws_suite.specs.Captures2.{IsAnyCaptureOf}
 use Rattle.ws_suite.specs.Verdicts.{IsVerdictOf}
 use Rattle.ws_suite.specs.Words.{verdict_words}
 use Rattle.ws_suite.specs.declared.capture.Capture.{Capture}
@@ -44,7 +45,8 @@ capture_fault capture.NoMemory = NoMemory
 abbrev pub AnswersCapture : List ℕ → Result Exit Fault → Device → Type 0
 AnswersCapture text ended output =
     ((capture : Capture) × IsAnyCaptureOf capture text × TellsVerdict capture.transcript ended output)
-    ⊎ ((fault : CaptureFault) × DamagesAny fault text × (ended ≡ Err (capture_fault fault)) × IsUntouched output)
+    ⊎ ((fault : CaptureFault) × DamagesCapture IsAnyCaptureOf fault text × (ended ≡ Err (capture_fault fault))
+    × IsUntouched output)
 
 -- a run of `judge`
 abbrev pub RunsJudge : Result Exit Fault → Device → Device → Type 0

@@ -12,7 +12,7 @@ use Rattle.ws_pair.specs.ReportLines.{report_lines}
 use Rattle.ws_pair.specs.Script.{AreMoveLines}
 use Rattle.wst_words.specs.declared.pair.PairOptions.{PairOptions}
 use Rattle.wst_filters.specs.Devices.{Delivers}
-use Rattle.wst_filters.specs.Limits.{limits_of}
+use Rattle.wst_filters.specs.Limits.{limits_given}
 use Rattle.wst_filters.specs.ReadingWhole.{AnswersInput}
 use Rattle.wst_filters.specs.declared.exit.Exit.{Exit}
 use Rattle.wst_filters.specs.declared.exit.Exit.TheVariants.{Done}
@@ -21,8 +21,8 @@ use Rattle.wst_filters.specs.declared.fault.Fault.TheVariants.{BadLimits, NotAMo
 
 -- both ends can have the limits that the words give
 abbrev pub CanLimit : PairOptions → Type 0
-CanLimit options = AreLimits (limits_of options.limit_client options.frame_client)
-    × AreLimits (limits_of options.limit_server options.frame_server)
+CanLimit options = AreLimits (limits_given options.limit_client options.frame_client)
+    × AreLimits (limits_given options.limit_server options.frame_server)
 
 -- the moves were played, and the lines of their report were written; or memory ran out, and nothing was written
 abbrev pub PlaysMoves : LimitsValue → LimitsValue → List Move → Result Exit Fault → Device → Type 0
@@ -46,6 +46,6 @@ AnswersScript client server text ended output =
 abbrev pub RunsPair : PairOptions → Result Exit Fault → Device → Device → Type 0
 RunsPair options ended input output =
     (CanLimit options
-    × AnswersInput (AnswersScript (limits_of options.limit_client options.frame_client)
-    (limits_of options.limit_server options.frame_server)) ended input output)
+    × AnswersInput (AnswersScript (limits_given options.limit_client options.frame_client)
+    (limits_given options.limit_server options.frame_server)) ended input output)
     ⊎ (¬ (CanLimit options) × (ended ≡ Err BadLimits) × IsUntouched input × IsUntouched output)

@@ -14,7 +14,7 @@ use Rattle.ws_calls.specs.declared.calls.EchoCall.{EchoCall}
 use Rattle.ws_calls.specs.declared.report.CallsReport.{CallsReport}
 use Rattle.wst_words.specs.declared.session.SessionOptions.{SessionOptions}
 use Rattle.wst_filters.specs.Devices.{Delivers}
-use Rattle.wst_filters.specs.Limits.{limits_of}
+use Rattle.wst_filters.specs.Limits.{limits_given}
 use Rattle.wst_filters.specs.ReadingWhole.{AnswersInput}
 use Rattle.wst_filters.specs.declared.exit.Exit.{Exit}
 use Rattle.wst_filters.specs.declared.exit.Exit.TheVariants.{Done}
@@ -57,7 +57,7 @@ AnswersCalls options limits text ended output = MatchResult ended
 -- a run of `session`: limits that an endpoint can't have are told, and nothing is read or written
 abbrev pub RunsSession : SessionOptions → Result Exit Fault → Device → Device → Type 0
 RunsSession options ended input output =
-    (AreLimits (limits_of options.limit options.frame)
-    × AnswersInput (AnswersCalls options (limits_of options.limit options.frame)) ended input output)
-    ⊎ (¬ (AreLimits (limits_of options.limit options.frame)) × (ended ≡ Err BadLimits) × IsUntouched input
+    (AreLimits (limits_given options.limit options.frame)
+    × AnswersInput (AnswersCalls options (limits_given options.limit options.frame)) ended input output)
+    ⊎ (¬ (AreLimits (limits_given options.limit options.frame)) × (ended ≡ Err BadLimits) × IsUntouched input
     × IsUntouched output)

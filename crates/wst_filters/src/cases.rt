@@ -1,4 +1,4 @@
-//! The command `cases`.
+//! The command `cases`. Its lines are told in docs/FORMATS.md.
 
 ghost use Rattle.std.specs.Prelude.{◌≡◌, ◌++◌, MatchResult, false, map, string_bytes};
 ghost use Rattle.ws_frame.specs.Devices.{watched};

@@ -1,4 +1,4 @@
-//! The command `convert`.
+//! The command `convert`. Captures in both formats are told in docs/FORMATS.md.
 
 ghost use Rattle.std.specs.Prelude.{◌≡◌, false};
 ghost use Rattle.ws_frame.specs.Devices.{watched};

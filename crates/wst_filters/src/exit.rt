@@ -1,7 +1,7 @@
-//! How a run ends.
+//! How a run ends. Which exit tells what is listed in docs/FORMATS.md.
 
 ghost use Rattle.std.specs.Prelude.{◌≡◌, ◌≤◌};
-ghost use Rattle.wst_filters.specs.Exits.{status_of};
+ghost use Rattle.wst_filters.specs.Exits.{exit_status};
 
 /// How a run ended.
 #[derive(Clone, Copy)]
@@ -19,7 +19,7 @@ pub enum Exit {
 impl Exit {
     /// The exit status of the program.
     pub fn status(self) -> u8
-        ensures number { result ≡ status_of self }
+        ensures number { result ≡ exit_status self }
         ensures bound { result ≤ 3 }
     {
         match self {

@@ -1,4 +1,4 @@
-//! The command `head`.
+//! The command `head`. Its answers, and what a list of subprotocols is, are told in docs/FORMATS.md.
 
 ghost use Rattle.std.specs.Prelude.{◌≡◌, false, map};
 ghost use Rattle.ws_frame.specs.Devices.{watched};

@@ -1,4 +1,4 @@
-//! The command `judge`.
+//! The command `judge`. Captures are told in docs/FORMATS.md, and verdicts in docs/VERDICTS.md.
 
 ghost use Rattle.std.specs.Prelude.{◌≡◌, false};
 ghost use Rattle.ws_frame.specs.Devices.{watched};

@@ -1,4 +1,4 @@
-//! The command `pair`.
+//! The command `pair`. Its script and its report are told in docs/FORMATS.md.
 
 ghost use Rattle.std.specs.Prelude.{◌≡◌, false, IfOk, MatchOption, string_bytes};
 ghost use Rattle.ws_frame.specs.Devices.{watched};
@@ -6,7 +6,7 @@ ghost use Rattle.ws_frame.specs.Watching.{has_failed};
 ghost use Rattle.ws_pair.specs.Headline.{IsReportOf};
 ghost use Rattle.ws_pair.specs.ReportLines.{report_lines};
 ghost use Rattle.ws_pair.specs.declared.report.Report.{Report};
-ghost use Rattle.wst_filters.specs.Limits.{limits_of};
+ghost use Rattle.wst_filters.specs.Limits.{limits_given};
 ghost use Rattle.wst_filters.specs.Pairs.{AnswersScript, CanLimit, PlaysMoves, RunsPair, script_fault};
 
 use crate::exit::Exit;
@@ -47,8 +47,8 @@ pub fn run_moves<R: Read, W: Write>(
 /// The limits of the client and of the server. `None` where one is none.
 fn both_limits(options: PairOptions) -> Option<(Limits, Limits)>
     ensures { MatchOption result (¬ (CanLimit options)) (λ both. CanLimit options
-        × (both.0 ≡ limits_of options.limit_client options.frame_client)
-        × (both.1 ≡ limits_of options.limit_server options.frame_server)) }
+        × (both.0 ≡ limits_given options.limit_client options.frame_client)
+        × (both.1 ≡ limits_given options.limit_server options.frame_server)) }
 {
     let client = limits_given(options.limit_client, options.frame_client)?;
     let server = limits_given(options.limit_server, options.frame_server)?;

@@ -1,4 +1,4 @@
-//! The command `session`.
+//! The command `session`. Its script and its lines are told in docs/FORMATS.md.
 
 ghost use Rattle.std.specs.Prelude.{◌≡◌, ◌^◌, ◌<◌, false, length, map, IfOk, MatchResult, string_bytes};
 ghost use Rattle.ws_base.specs.Lines.{Damages};

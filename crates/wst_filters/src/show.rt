@@ -1,4 +1,4 @@
-//! The command `show`.
+//! The command `show`. Its lines are told in docs/FORMATS.md.
 
 ghost use Rattle.std.specs.Prelude.{◌≡◌, false};
 ghost use Rattle.ws_frame.specs.Devices.{watched};

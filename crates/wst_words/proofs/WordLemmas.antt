@@ -1,5 +1,5 @@
 -- From clap's clauses to what the words ask for.
-use Rattle.std.proofs.Common.{◌≡◌, ◌∙◌, ◌<◌, ◌^◌, ◌||◌, ℕ, Bool, true, false, zero, suc, List, [], ◌∷◌, Option, Some, None, Result, Ok, Err, IsErrAnd, arith, ap, ap₂, refl, sym, subst, inl, inr, length, map, codes, slice_index, slice_index_or}
+use Rattle.std.proofs.Common.{◌≡◌, ◌∙◌, ◌<◌, ◌^◌, ◌||◌, ℕ, Bool, true, false, zero, suc, List, [], ◌∷◌, Option, Some, None, Result, Ok, Err, IsErrAnd, arith, ap, ap₂, refl, sym, subst, inl, inr, length, map, codes, slice_index_or}
 use Rattle.std.specs.Borrow.{Bor}
 use Rattle.std.specs.Prelude.{Box, MatchOption, option_map, unwrap_or}
 use Rattle.std.specs.Box.{box_value}
@@ -12,14 +12,8 @@ use Rattle.clap.specs.declared.builder.value_parser.ValueParser.TheVariants.{Nam
 use Rattle.clap.specs.declared.error.Error.{Error}
 use Rattle.clap.specs.declared.error.kind.ErrorKind.TheVariants.{OutOfMemory}
 use Rattle.wst_words.specs.Options.{EndPlaces, GivesFlag, GivesNoEnd, GivesNoFlag, GivesNoNumber, GivesNoNumberOr, GivesNumber, GivesNumberOf, GivesNumberOr, end_names, end_rule}
-use Rattle.wst_words.specs.Pair.{AsksToPairNothing}
-use Rattle.wst_words.specs.Serve.{AsksToServeNothing}
-use Rattle.wst_words.specs.Session.{AsksForNoSession}
-use Rattle.wst_words.specs.Show.{AsksToShowNothing}
-use Rattle.wst_words.specs.Test.{AsksToTestNothing}
 use Rattle.wst_words.specs.Words.{AsksFor, AsksForNothing, CommandAsks, CommandAsksNothing, IsOfClap, IsRead, RefusesWords}
 use Rattle.wst_words.specs.declared.words.Task.{Task}
-use Rattle.wst_words.specs.declared.words.Task.TheVariants.{Cases, Convert, Head, Judge, Pair, Serve, Session, Show, Test}
 use Rattle.wst_words.specs.declared.words.WordsFault.{WordsFault}
 use Rattle.wst_words.specs.declared.words.WordsFault.TheVariants.{Clap, NoTask}
 
@@ -115,157 +109,6 @@ met_is (Some b) name rows named there =
     let same : name ≡ (out-SubCommand (box_value b)).name.now = ap (λ (o : Option Text). unwrap_or o name) named in
     let held : rows ≡ rows_of (found_of (out-SubCommand (box_value b)).matches) = ap (λ (o : Option (List Row)). unwrap_or o rows) there in
     sym (λ i. Some (same i, held i))
-
--- a command whose options ask for nothing asks for nothing
-pub no_show : (name : Text) (rows : List Row) → name ≡ codes "show" → AsksToShowNothing rows → CommandAsksNothing (Some (name, rows))
-no_show name rows is none = refuses
-  where
-    refuses : (task : Task) → CommandAsks (Some (name, rows)) task → ⊥
-    refuses (Show options) asks = none options asks.1
-    refuses (Pair options) asks =
-        let bad : ◌≡◌ {A = ℕ} 115 112 = ap (λ (l : List ℕ). slice_index l 0) (sym is ∙ asks.0) in
-        absurd (omega arith)
-    refuses (Head options) asks =
-        let bad : ◌≡◌ {A = ℕ} 115 104 = ap (λ (l : List ℕ). slice_index l 0) (sym is ∙ asks.0) in
-        absurd (omega arith)
-    refuses (Session options) asks =
-        let bad : ◌≡◌ {A = ℕ} 104 101 = ap (λ (l : List ℕ). slice_index l 1) (sym is ∙ asks.0) in
-        absurd (omega arith)
-    refuses Judge asks =
-        let bad : ◌≡◌ {A = ℕ} 115 106 = ap (λ (l : List ℕ). slice_index l 0) (sym is ∙ asks) in
-        absurd (omega arith)
-    refuses Convert asks =
-        let bad : ◌≡◌ {A = ℕ} 115 99 = ap (λ (l : List ℕ). slice_index l 0) (sym is ∙ asks) in
-        absurd (omega arith)
-    refuses Cases asks =
-        let bad : ◌≡◌ {A = ℕ} 115 99 = ap (λ (l : List ℕ). slice_index l 0) (sym is ∙ asks) in
-        absurd (omega arith)
-    refuses (Test options) asks =
-        let bad : ◌≡◌ {A = ℕ} 115 116 = ap (λ (l : List ℕ). slice_index l 0) (sym is ∙ asks.0) in
-        absurd (omega arith)
-    refuses (Serve options) asks =
-        let bad : ◌≡◌ {A = ℕ} 104 101 = ap (λ (l : List ℕ). slice_index l 1) (sym is ∙ asks.0) in
-        absurd (omega arith)
-
-pub no_pair : (name : Text) (rows : List Row) → name ≡ codes "pair" → AsksToPairNothing rows → CommandAsksNothing (Some (name, rows))
-no_pair name rows is none = refuses
-  where
-    refuses : (task : Task) → CommandAsks (Some (name, rows)) task → ⊥
-    refuses (Pair options) asks = none options asks.1
-    refuses (Show options) asks =
-        let bad : ◌≡◌ {A = ℕ} 112 115 = ap (λ (l : List ℕ). slice_index l 0) (sym is ∙ asks.0) in
-        absurd (omega arith)
-    refuses (Head options) asks =
-        let bad : ◌≡◌ {A = ℕ} 112 104 = ap (λ (l : List ℕ). slice_index l 0) (sym is ∙ asks.0) in
-        absurd (omega arith)
-    refuses (Session options) asks =
-        let bad : ◌≡◌ {A = ℕ} 112 115 = ap (λ (l : List ℕ). slice_index l 0) (sym is ∙ asks.0) in
-        absurd (omega arith)
-    refuses Judge asks =
-        let bad : ◌≡◌ {A = ℕ} 112 106 = ap (λ (l : List ℕ). slice_index l 0) (sym is ∙ asks) in
-        absurd (omega arith)
-    refuses Convert asks =
-        let bad : ◌≡◌ {A = ℕ} 112 99 = ap (λ (l : List ℕ). slice_index l 0) (sym is ∙ asks) in
-        absurd (omega arith)
-    refuses Cases asks =
-        let bad : ◌≡◌ {A = ℕ} 112 99 = ap (λ (l : List ℕ). slice_index l 0) (sym is ∙ asks) in
-        absurd (omega arith)
-    refuses (Test options) asks =
-        let bad : ◌≡◌ {A = ℕ} 112 116 = ap (λ (l : List ℕ). slice_index l 0) (sym is ∙ asks.0) in
-        absurd (omega arith)
-    refuses (Serve options) asks =
-        let bad : ◌≡◌ {A = ℕ} 112 115 = ap (λ (l : List ℕ). slice_index l 0) (sym is ∙ asks.0) in
-        absurd (omega arith)
-
-pub no_session : (name : Text) (rows : List Row) → name ≡ codes "session" → AsksForNoSession rows → CommandAsksNothing (Some (name, rows))
-no_session name rows is none = refuses
-  where
-    refuses : (task : Task) → CommandAsks (Some (name, rows)) task → ⊥
-    refuses (Session options) asks = none options asks.1
-    refuses (Show options) asks =
-        let bad : ◌≡◌ {A = ℕ} 101 104 = ap (λ (l : List ℕ). slice_index l 1) (sym is ∙ asks.0) in
-        absurd (omega arith)
-    refuses (Pair options) asks =
-        let bad : ◌≡◌ {A = ℕ} 115 112 = ap (λ (l : List ℕ). slice_index l 0) (sym is ∙ asks.0) in
-        absurd (omega arith)
-    refuses (Head options) asks =
-        let bad : ◌≡◌ {A = ℕ} 115 104 = ap (λ (l : List ℕ). slice_index l 0) (sym is ∙ asks.0) in
-        absurd (omega arith)
-    refuses Judge asks =
-        let bad : ◌≡◌ {A = ℕ} 115 106 = ap (λ (l : List ℕ). slice_index l 0) (sym is ∙ asks) in
-        absurd (omega arith)
-    refuses Convert asks =
-        let bad : ◌≡◌ {A = ℕ} 115 99 = ap (λ (l : List ℕ). slice_index l 0) (sym is ∙ asks) in
-        absurd (omega arith)
-    refuses Cases asks =
-        let bad : ◌≡◌ {A = ℕ} 115 99 = ap (λ (l : List ℕ). slice_index l 0) (sym is ∙ asks) in
-        absurd (omega arith)
-    refuses (Test options) asks =
-        let bad : ◌≡◌ {A = ℕ} 115 116 = ap (λ (l : List ℕ). slice_index l 0) (sym is ∙ asks.0) in
-        absurd (omega arith)
-    refuses (Serve options) asks =
-        let bad : ◌≡◌ {A = ℕ} 115 114 = ap (λ (l : List ℕ). slice_index l 2) (sym is ∙ asks.0) in
-        absurd (omega arith)
-
-pub no_serve : (name : Text) (rows : List Row) → name ≡ codes "serve" → AsksToServeNothing rows → CommandAsksNothing (Some (name, rows))
-no_serve name rows is none = refuses
-  where
-    refuses : (task : Task) → CommandAsks (Some (name, rows)) task → ⊥
-    refuses (Serve options) asks = none options asks.1
-    refuses (Show options) asks =
-        let bad : ◌≡◌ {A = ℕ} 101 104 = ap (λ (l : List ℕ). slice_index l 1) (sym is ∙ asks.0) in
-        absurd (omega arith)
-    refuses (Pair options) asks =
-        let bad : ◌≡◌ {A = ℕ} 115 112 = ap (λ (l : List ℕ). slice_index l 0) (sym is ∙ asks.0) in
-        absurd (omega arith)
-    refuses (Head options) asks =
-        let bad : ◌≡◌ {A = ℕ} 115 104 = ap (λ (l : List ℕ). slice_index l 0) (sym is ∙ asks.0) in
-        absurd (omega arith)
-    refuses (Session options) asks =
-        let bad : ◌≡◌ {A = ℕ} 114 115 = ap (λ (l : List ℕ). slice_index l 2) (sym is ∙ asks.0) in
-        absurd (omega arith)
-    refuses Judge asks =
-        let bad : ◌≡◌ {A = ℕ} 115 106 = ap (λ (l : List ℕ). slice_index l 0) (sym is ∙ asks) in
-        absurd (omega arith)
-    refuses Convert asks =
-        let bad : ◌≡◌ {A = ℕ} 115 99 = ap (λ (l : List ℕ). slice_index l 0) (sym is ∙ asks) in
-        absurd (omega arith)
-    refuses Cases asks =
-        let bad : ◌≡◌ {A = ℕ} 115 99 = ap (λ (l : List ℕ). slice_index l 0) (sym is ∙ asks) in
-        absurd (omega arith)
-    refuses (Test options) asks =
-        let bad : ◌≡◌ {A = ℕ} 115 116 = ap (λ (l : List ℕ). slice_index l 0) (sym is ∙ asks.0) in
-        absurd (omega arith)
-
-pub no_test : (rows : List Row) → AsksToTestNothing rows → CommandAsksNothing (Some (codes "test", rows))
-no_test rows none = refuses
-  where
-    refuses : (task : Task) → CommandAsks (Some (codes "test", rows)) task → ⊥
-    refuses (Test options) asks = none options asks.1
-    refuses (Show options) asks =
-        let bad : ◌≡◌ {A = ℕ} 116 115 = ap (λ (l : List ℕ). slice_index l 0) asks.0 in
-        absurd (omega arith)
-    refuses (Pair options) asks =
-        let bad : ◌≡◌ {A = ℕ} 116 112 = ap (λ (l : List ℕ). slice_index l 0) asks.0 in
-        absurd (omega arith)
-    refuses (Head options) asks =
-        let bad : ◌≡◌ {A = ℕ} 116 104 = ap (λ (l : List ℕ). slice_index l 0) asks.0 in
-        absurd (omega arith)
-    refuses (Session options) asks =
-        let bad : ◌≡◌ {A = ℕ} 116 115 = ap (λ (l : List ℕ). slice_index l 0) asks.0 in
-        absurd (omega arith)
-    refuses Judge asks =
-        let bad : ◌≡◌ {A = ℕ} 116 106 = ap (λ (l : List ℕ). slice_index l 0) asks in
-        absurd (omega arith)
-    refuses Convert asks =
-        let bad : ◌≡◌ {A = ℕ} 116 99 = ap (λ (l : List ℕ). slice_index l 0) asks in
-        absurd (omega arith)
-    refuses Cases asks =
-        let bad : ◌≡◌ {A = ℕ} 116 99 = ap (λ (l : List ℕ). slice_index l 0) asks in
-        absurd (omega arith)
-    refuses (Serve options) asks =
-        let bad : ◌≡◌ {A = ℕ} 116 115 = ap (λ (l : List ℕ). slice_index l 0) asks.0 in
-        absurd (omega arith)
 
 -- want of memory is an error of any words
 pub memory_read : (app : App) (words : List Text) (r : Result Task WordsFault) → IsErrAnd r (λ fault. IsOfClap (λ e. kind_of e ≡ OutOfMemory) fault)

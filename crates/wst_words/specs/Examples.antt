@@ -1,18 +1,16 @@
--- Worked examples of words and what they ask for, each a theorem, wherever the names of the ends lie in memory.
+-- Worked examples of words and the tasks that they ask for, each a theorem, wherever the names of the ends lie in
+-- memory.
 use Rattle.std.specs.Prelude.{◌≡◌, ⊤, true, false, List, [], ◌∷◌, Some, None, map, codes, option_map, refl}
 use Rattle.std.proofs.Common.{inr}
 use Rattle.std.specs.Char.{encode_utf8}
 use Rattle.std.specs.Str.{chars}
 use Rattle.std.specs.Str.Parse.{digits_value, without_leading_plus}
 use Rattle.clap.proofs.ValueTestLemmas.{accepts-Accepts}
-use Rattle.clap.specs.Words.{Row, Text, fault_of, first_of, one_of, subcommand_of, takes}
+use Rattle.clap.specs.Words.{Row, Text, first_of, one_of, subcommand_of, takes}
 use Rattle.clap.specs.ValueTests.{accepts}
 use Rattle.clap.specs.Walk.{bundle_met, walked}
 use Rattle.clap.specs.Takes.{flags_pass, walk_passes}
 use Rattle.clap.specs.Faults.{defaults_fault, flags_fault, walk_fault}
-use Rattle.clap.specs.declared.error.kind.ErrorKind.TheVariants.{DisplayHelp, DisplayVersion, InvalidSubcommand}
-use Rattle.clap.specs.declared.error.kind.ErrorKind.TheVariants.{InvalidValue, MissingRequiredArgument}
-use Rattle.clap.specs.declared.error.kind.ErrorKind.TheVariants.{MissingSubcommand, UnknownArgument, ValueValidation}
 use Rattle.clap.specs.declared.builder.value_parser.ValueParser.TheVariants.{Unsigned}
 use Rattle.ws_frame.specs.declared.role.Role.TheVariants.{Client, Server}
 use Rattle.wst_words.specs.Options.{GivesNumber}
@@ -21,12 +19,12 @@ use Rattle.wst_words.specs.Words.{AsksFor, Places, wst_app}
 use Rattle.wst_words.specs.declared.words.Task.TheVariants.{Cases, Convert, Head, Judge, Pair, Session, Show}
 
 -- what is computed at words that are written out
-unfoldable on_words : ⊤
+unfoldable pub on_words : ⊤
 unfolding walked bundle_met chars encode_utf8 flags_pass walk_passes flags_fault walk_fault defaults_fault
 on_words = tt
 
 -- the words with the program's name before them
-abbrev words : List Text → List Text
+abbrev pub words : List Text → List Text
 words others = codes "wst" ∷ others
 
 -- an option that has a numeral of 64 bits gives its number
@@ -36,8 +34,6 @@ numbered : (rows : List Row) (name word : Text) → one_of name rows ≡ Some wo
 numbered rows name word there passes =
     let number = accepts-Accepts false (Unsigned 0 18446744073709551615) word passes in
     record { word = word; has_word = there; numeral = number.0; value = refl; fits = number.1 }
-
--- ---- words that ask for a task
 
 -- `wst show` reads what a server sent, up to 1 GiB
 abbrev plain_words : List Text
@@ -234,85 +230,3 @@ pub asking_words_are_taken : (places : Places)
     ≡ true ∷ true ∷ true ∷ true ∷ true ∷ true ∷ true ∷ true ∷ true ∷ true ∷ true ∷ true ∷ []
 unfolding on_words
 asking_words_are_taken places = refl
-
--- ---- words that ask for none
-
--- `wst` alone
-pub no_command : (places : Places) → fault_of (wst_app places) (words []) ≡ MissingSubcommand ∷ []
-unfolding on_words
-no_command places = refl
-
--- `wst frames`: no such command
-pub unknown_command : (places : Places)
-    → fault_of (wst_app places) (words (codes "frames" ∷ [])) ≡ UnknownArgument ∷ InvalidSubcommand ∷ []
-unfolding on_words
-unknown_command places = refl
-
--- `wst show --budget x`: no number
-abbrev no_number : List Text
-no_number = words (codes "show" ∷ codes "--budget" ∷ codes "x" ∷ [])
-
-pub budget_no_number : (places : Places) → fault_of (wst_app places) no_number ≡ ValueValidation ∷ []
-unfolding on_words
-budget_no_number places = refl
-
--- `wst show --from nobody`: no end
-pub from_nobody : (places : Places)
-    → fault_of (wst_app places) (words (codes "show" ∷ codes "--from" ∷ codes "nobody" ∷ [])) ≡ InvalidValue ∷ []
-unfolding on_words
-from_nobody places = refl
-
--- `wst head --from client`: no such option
-pub head_with_an_option : (places : Places)
-    → fault_of (wst_app places) (words (codes "head" ∷ codes "--from" ∷ codes "client" ∷ [])) ≡ UnknownArgument ∷ []
-unfolding on_words
-head_with_an_option places = refl
-
--- `wst judge capture`: no such argument, since a capture comes by the standard input
-pub judge_with_a_file : (places : Places)
-    → fault_of (wst_app places) (words (codes "judge" ∷ codes "capture" ∷ [])) ≡ UnknownArgument ∷ []
-unfolding on_words
-judge_with_a_file places = refl
-
--- `wst test`: no server
-pub test_alone : (places : Places)
-    → fault_of (wst_app places) (words (codes "test" ∷ [])) ≡ MissingRequiredArgument ∷ []
-unfolding on_words
-test_alone places = refl
-
--- `wst serve localhost:9001`: no count
-pub serve_without_count : (places : Places)
-    → fault_of (wst_app places) (words (codes "serve" ∷ codes "localhost:9001" ∷ []))
-    ≡ MissingRequiredArgument ∷ []
-unfolding on_words
-serve_without_count places = refl
-
--- `wst serve localhost:9001 4294967296`: no number of 32 bits
-pub serve_too_often : (places : Places)
-    → fault_of (wst_app places) (words (codes "serve" ∷ codes "localhost:9001" ∷ codes "4294967296" ∷ []))
-    ≡ ValueValidation ∷ []
-unfolding on_words
-serve_too_often places = refl
-
--- `wst show --help` is answered with help
-pub show_help : (places : Places)
-    → fault_of (wst_app places) (words (codes "show" ∷ codes "--help" ∷ [])) ≡ DisplayHelp ∷ []
-unfolding on_words
-show_help places = refl
-
--- `wst --version` is answered with the version, and no command has one of its own
-pub version : (places : Places) → fault_of (wst_app places) (words (codes "--version" ∷ [])) ≡ DisplayVersion ∷ []
-unfolding on_words
-version places = refl
-
-pub show_version : (places : Places)
-    → fault_of (wst_app places) (words (codes "show" ∷ codes "--version" ∷ [])) ≡ UnknownArgument ∷ []
-unfolding on_words
-show_version places = refl
-
--- and none of them is taken
-pub faulty_words_are_not_taken : (places : Places)
-    → map (takes (wst_app places)) (words [] ∷ words (codes "frames" ∷ []) ∷ no_number ∷ [])
-    ≡ false ∷ false ∷ false ∷ []
-unfolding on_words
-faulty_words_are_not_taken places = refl

@@ -7,3 +7,4 @@ pub mod Test
 pub mod Serve
 pub mod Words
 pub mod Examples
+pub mod FaultExamples

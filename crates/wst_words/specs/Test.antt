@@ -1,7 +1,7 @@
 -- The command `test` as clap's data, and what its words give.
-use Rattle.std.specs.Prelude.{◌≡◌, true, List, [], ◌∷◌, Some, map, codes, unwrap_or}
+use Rattle.std.specs.Prelude.{◌≡◌, List, [], ◌∷◌, Some, map, codes, unwrap_or}
 use Rattle.clap.specs.Words.{App, Row, Rule, Text, all_of, first_of, new_app, new_rule, with_rule}
-use Rattle.clap.specs.declared.builder.action.ArgAction.TheVariants.{Append, Set}
+use Rattle.clap.specs.declared.builder.action.ArgAction.TheVariants.{Append}
 use Rattle.wst_words.specs.Options.{GivesFlag, GivesProtocols, flag_rule, free_word_rule, needed_word_rule}
 use Rattle.wst_words.specs.declared.test.TestOptions.{TestOptions}
 

@@ -9,7 +9,7 @@ use clap::Command;
 use std::alloc::{AllocError, Global};
 
 /// `cases`.
-pub fn cases_command<'a>(alloc: Global) -> Result<Command<'a>, AllocError>
+pub(crate) fn cases_command<'a>(alloc: Global) -> Result<Command<'a>, AllocError>
     ensures app { IfOk result (λ command. app_of command ≡ cases_app) }
     ensures local { IfOk result (λ command. (fields_of command).has_globals ≡ false) }
 {

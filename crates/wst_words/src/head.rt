@@ -17,7 +17,7 @@ pub struct HeadOptions<'a> {
 }
 
 /// `head` and its options.
-pub fn head_command<'a>(alloc: Global) -> Result<Command<'a>, AllocError>
+pub(crate) fn head_command<'a>(alloc: Global) -> Result<Command<'a>, AllocError>
     ensures app { IfOk result (λ command. app_of command ≡ head_app) }
     ensures local { IfOk result (λ command. (fields_of command).has_globals ≡ false) }
 {
@@ -29,7 +29,7 @@ pub fn head_command<'a>(alloc: Global) -> Result<Command<'a>, AllocError>
 }
 
 /// What the words give.
-pub fn head_options<'a>(options: &ArgMatches<'a>) -> HeadOptions<'a>
+pub(crate) fn head_options<'a>(options: &ArgMatches<'a>) -> HeadOptions<'a>
     ensures { AsksForHead (rows_of (found_of options.now)) result }
 {
     HeadOptions {
@@ -42,9 +42,9 @@ const PROTOCOLS: &str = "Subprotocols that the server knows, joined by commas";
 /// What `head` is for.
 const LONG_ABOUT: &str =
     "Reads the head of a request for an upgrade to WebSocket, and writes what a server answers: the
-response that accepts it, or the refusal, `426 Upgrade Required` where another version of the
-protocol is asked for and else `400 Bad Request`. It answers as soon as the head is decided; what
-follows it is ignored. Each line of a head ends in CR LF, and an empty line ends the head.
+response that accepts it, or the refusal, `426 Upgrade Required` where the request has not exactly
+one version, 13, and else `400 Bad Request`. It answers as soon as the head is decided; what follows
+it is ignored. Each line of a head ends in CR LF, and an empty line ends the head.
 
 With --protocols the response names the first subprotocol that the request offers and that is in
 LIST, byte for byte, whatever the order of LIST; where there is none it names none, and the request

@@ -9,7 +9,7 @@ use clap::Command;
 use std::alloc::{AllocError, Global};
 
 /// `judge`.
-pub fn judge_command<'a>(alloc: Global) -> Result<Command<'a>, AllocError>
+pub(crate) fn judge_command<'a>(alloc: Global) -> Result<Command<'a>, AllocError>
     ensures app { IfOk result (λ command. app_of command ≡ judge_app) }
     ensures local { IfOk result (λ command. (fields_of command).has_globals ≡ false) }
 {
@@ -40,11 +40,11 @@ one line, the first of these that applies:
   FAIL Messages        the messages that were got are not those that were sent
   FAIL Pongs           a pong answers no ping, or the last ping was not answered
   FAIL Close           a close was not answered, or one came without a close or a fault before it
-  FAIL End             the connection went on after a close or a fault, or ended without one
+  FAIL End             the client ended it after a close or a fault, or it ended without one
   LOOSE PongsSkipped   not every ping was answered, but the last one was
   LOOSE PongElsewhere  messages and pongs came in another order than what they answer
   LOOSE OtherCode      the close that was got has another code than the one that is due
-  LOOSE LateEnd        the client sent further turns after the close or the fault
+  LOOSE LateEnd        a turn follows that of the close or the fault
   LOOSE EchoShort      messages or pongs that are due before a fault did not come
   LOOSE BrokenEnd      the connection broke, which only format 2 tells
   PASS                 none of these

@@ -1,6 +1,8 @@
 //! The words of `wst`'s command line, read by `clap`: a file a command, with its words and its options as a struct.
 //!
 //! The layer above uses `read_words` alone: the task that the words ask for, or why there is none.
+//!
+//! What a command reads and writes is told whole in docs/FORMATS.md. Its help tells it in short.
 #![tactic(auto)]
 
 mod cases;

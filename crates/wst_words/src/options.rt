@@ -13,7 +13,7 @@ use std::alloc::Global;
 use ws_frame::Role;
 
 /// The option of this name for an end of the connection, the server where it is left out.
-pub fn end_option<'a>(alloc: Global, name: &'a str, help: &'a str) -> Arg<'a>
+pub(crate) fn end_option<'a>(alloc: Global, name: &'a str, help: &'a str) -> Arg<'a>
     ensures rule { (places : EndPlaces) × (rule_of result ≡ end_rule name.entry.now places) }
     ensures local { result.global ≡ false }
 {
@@ -27,7 +27,12 @@ pub fn end_option<'a>(alloc: Global, name: &'a str, help: &'a str) -> Arg<'a>
 }
 
 /// The option of this name for a number of 64 bits, and the number where it is left out.
-pub fn number_option<'a>(alloc: Global, name: &'a str, help: &'a str, default: &'a str) -> Arg<'a>
+pub(crate) fn number_option<'a>(
+    alloc: Global,
+    name: &'a str,
+    help: &'a str,
+    default: &'a str,
+) -> Arg<'a>
     ensures rule { rule_of result ≡ number_rule name.entry.now default.entry.now }
     ensures local { result.global ≡ false }
 {
@@ -41,7 +46,7 @@ pub fn number_option<'a>(alloc: Global, name: &'a str, help: &'a str, default: &
 }
 
 /// The option of this name for a number of 64 bits, which may be left out.
-pub fn optional_number<'a>(alloc: Global, name: &'a str, help: &'a str) -> Arg<'a>
+pub(crate) fn optional_number<'a>(alloc: Global, name: &'a str, help: &'a str) -> Arg<'a>
     ensures rule { rule_of result ≡ optional_number_rule name.entry.now }
     ensures local { result.global ≡ false }
 {
@@ -54,7 +59,7 @@ pub fn optional_number<'a>(alloc: Global, name: &'a str, help: &'a str) -> Arg<'
 }
 
 /// The word of this name for a count, a number of 32 bits that may not be left out.
-pub fn needed_count<'a>(alloc: Global, name: &'a str, help: &'a str) -> Arg<'a>
+pub(crate) fn needed_count<'a>(alloc: Global, name: &'a str, help: &'a str) -> Arg<'a>
     ensures rule { rule_of result ≡ needed_count_rule name.entry.now }
     ensures local { result.global ≡ false }
 {
@@ -67,7 +72,7 @@ pub fn needed_count<'a>(alloc: Global, name: &'a str, help: &'a str) -> Arg<'a>
 }
 
 /// The flag of this name.
-pub fn flag_option<'a>(alloc: Global, name: &'a str, help: &'a str) -> Arg<'a>
+pub(crate) fn flag_option<'a>(alloc: Global, name: &'a str, help: &'a str) -> Arg<'a>
     ensures rule { rule_of result ≡ flag_rule name.entry.now }
     ensures local { result.global ≡ false }
 {
@@ -78,7 +83,7 @@ pub fn flag_option<'a>(alloc: Global, name: &'a str, help: &'a str) -> Arg<'a>
 }
 
 /// The option for a list of subprotocols.
-pub fn protocols_option<'a>(alloc: Global, help: &'a str) -> Arg<'a>
+pub(crate) fn protocols_option<'a>(alloc: Global, help: &'a str) -> Arg<'a>
     ensures rule { rule_of result ≡ free_word_rule (codes "protocols") }
     ensures local { result.global ≡ false }
 {
@@ -90,7 +95,7 @@ pub fn protocols_option<'a>(alloc: Global, help: &'a str) -> Arg<'a>
 }
 
 /// The end that the option of this name gives. `None` where it gives none.
-pub fn end_of(options: &ArgMatches<'_>, name: &str) -> Option<Role>
+pub(crate) fn end_of(options: &ArgMatches<'_>, name: &str) -> Option<Role>
     ensures { MatchOption result (GivesNoEnd (rows_of (found_of options.now)) name.now)
         (GivesEnd (rows_of (found_of options.now)) name.now) }
 {
@@ -99,7 +104,7 @@ pub fn end_of(options: &ArgMatches<'_>, name: &str) -> Option<Role>
 }
 
 /// The number that the option of this name gives. `None` where it gives none.
-pub fn number_of(options: &ArgMatches<'_>, name: &str) -> Option<u64>
+pub(crate) fn number_of(options: &ArgMatches<'_>, name: &str) -> Option<u64>
     ensures { MatchOption result (GivesNoNumber (rows_of (found_of options.now)) name.now)
         (GivesNumber (rows_of (found_of options.now)) name.now) }
 {
@@ -107,7 +112,7 @@ pub fn number_of(options: &ArgMatches<'_>, name: &str) -> Option<u64>
 }
 
 /// The number that the option of this name gives, or the other one where it is left out. `None` where it gives none.
-pub fn number_or(options: &ArgMatches<'_>, name: &str, other: u64) -> Option<u64>
+pub(crate) fn number_or(options: &ArgMatches<'_>, name: &str, other: u64) -> Option<u64>
     ensures { MatchOption result (GivesNoNumberOr (rows_of (found_of options.now)) name.now)
         (GivesNumberOr other (rows_of (found_of options.now)) name.now) }
 {
@@ -118,7 +123,7 @@ pub fn number_or(options: &ArgMatches<'_>, name: &str, other: u64) -> Option<u64
 }
 
 /// The count that the word of this name gives. `None` where it gives none.
-pub fn count_of(options: &ArgMatches<'_>, name: &str) -> Option<u32>
+pub(crate) fn count_of(options: &ArgMatches<'_>, name: &str) -> Option<u32>
     ensures { MatchOption result (GivesNoCount (rows_of (found_of options.now)) name.now)
         (GivesCount (rows_of (found_of options.now)) name.now) }
 {
@@ -126,7 +131,7 @@ pub fn count_of(options: &ArgMatches<'_>, name: &str) -> Option<u32>
 }
 
 /// Whether the flag of this name is set. `None` where it has no value.
-pub fn flag_of(options: &ArgMatches<'_>, name: &str) -> Option<bool>
+pub(crate) fn flag_of(options: &ArgMatches<'_>, name: &str) -> Option<bool>
     ensures { MatchOption result (GivesNoFlag (rows_of (found_of options.now)) name.now)
         (GivesFlag (rows_of (found_of options.now)) name.now) }
 {
@@ -134,7 +139,7 @@ pub fn flag_of(options: &ArgMatches<'_>, name: &str) -> Option<bool>
 }
 
 /// The list of subprotocols that is given. `None` where none is.
-pub fn protocols_of<'a>(options: &ArgMatches<'a>) -> Option<&'a str>
+pub(crate) fn protocols_of<'a>(options: &ArgMatches<'a>) -> Option<&'a str>
     ensures { GivesProtocols (rows_of (found_of options.now)) result }
 {
     options.get_str("protocols")

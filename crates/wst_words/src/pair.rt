@@ -23,7 +23,7 @@ pub struct PairOptions {
 }
 
 /// `pair` and its options.
-pub fn pair_command<'a>(alloc: Global) -> Result<Command<'a>, AllocError>
+pub(crate) fn pair_command<'a>(alloc: Global) -> Result<Command<'a>, AllocError>
     ensures app { IfOk result (λ command. app_of command ≡ pair_app) }
     ensures local { IfOk result (λ command. (fields_of command).has_globals ≡ false) }
 {
@@ -40,7 +40,7 @@ pub fn pair_command<'a>(alloc: Global) -> Result<Command<'a>, AllocError>
 }
 
 /// The options that were met. `None` where one has no value.
-pub fn pair_options(options: &ArgMatches<'_>) -> Option<PairOptions>
+pub(crate) fn pair_options(options: &ArgMatches<'_>) -> Option<PairOptions>
     ensures { MatchOption result (AsksToPairNothing (rows_of (found_of options.now)))
         (AsksToPair (rows_of (found_of options.now))) }
 {

@@ -31,7 +31,7 @@ pub struct ServeOptions<'a> {
 }
 
 /// `serve` and its words.
-pub fn serve_command<'a>(alloc: Global) -> Result<Command<'a>, AllocError>
+pub(crate) fn serve_command<'a>(alloc: Global) -> Result<Command<'a>, AllocError>
     ensures app { IfOk result (λ command. app_of command ≡ serve_app) }
     ensures local { IfOk result (λ command. (fields_of command).has_globals ≡ false) }
 {
@@ -64,7 +64,7 @@ fn address_word<'a>(alloc: Global) -> Arg<'a>
 }
 
 /// What the words give. `None` where a word has no value.
-pub fn serve_options<'a>(options: &ArgMatches<'a>) -> Option<ServeOptions<'a>>
+pub(crate) fn serve_options<'a>(options: &ArgMatches<'a>) -> Option<ServeOptions<'a>>
     ensures { MatchOption result (AsksToServeNothing (rows_of (found_of options.now)))
         (AsksToServe (rows_of (found_of options.now))) }
 {

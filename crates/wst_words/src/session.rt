@@ -27,7 +27,7 @@ pub struct SessionOptions {
 }
 
 /// `session` and its options.
-pub fn session_command<'a>(alloc: Global) -> Result<Command<'a>, AllocError>
+pub(crate) fn session_command<'a>(alloc: Global) -> Result<Command<'a>, AllocError>
     ensures app { IfOk result (λ command. (places : EndPlaces) × (app_of command ≡ session_app places)) }
     ensures local { IfOk result (λ command. (fields_of command).has_globals ≡ false) }
 {
@@ -42,7 +42,7 @@ pub fn session_command<'a>(alloc: Global) -> Result<Command<'a>, AllocError>
 }
 
 /// The options that were met. `None` where one has no value.
-pub fn session_options(options: &ArgMatches<'_>) -> Option<SessionOptions>
+pub(crate) fn session_options(options: &ArgMatches<'_>) -> Option<SessionOptions>
     ensures { MatchOption result (AsksForNoSession (rows_of (found_of options.now)))
         (AsksForSession (rows_of (found_of options.now))) }
 {

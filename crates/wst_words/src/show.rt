@@ -21,7 +21,7 @@ pub struct ShowOptions {
 }
 
 /// `show` and its options.
-pub fn show_command<'a>(alloc: Global) -> Result<Command<'a>, AllocError>
+pub(crate) fn show_command<'a>(alloc: Global) -> Result<Command<'a>, AllocError>
     ensures app { IfOk result (λ command. (places : EndPlaces) × (app_of command ≡ show_app places)) }
     ensures local { IfOk result (λ command. (fields_of command).has_globals ≡ false) }
 {
@@ -34,7 +34,7 @@ pub fn show_command<'a>(alloc: Global) -> Result<Command<'a>, AllocError>
 }
 
 /// The options that were met. `None` where one has no value.
-pub fn show_options(options: &ArgMatches<'_>) -> Option<ShowOptions>
+pub(crate) fn show_options(options: &ArgMatches<'_>) -> Option<ShowOptions>
     ensures { MatchOption result (AsksToShowNothing (rows_of (found_of options.now)))
         (AsksToShow (rows_of (found_of options.now))) }
 {
@@ -51,7 +51,7 @@ a line for each frame:
   OFFSET KIND fin=0|1 rsv=R key=KEY len=LENGTH FORM DATA
 
   OFFSET  the place of the frame's first byte in the stream, counted from 0
-  KIND    cont, text, binary, close, ping or pong, or `op` and the number of a reserved opcode
+  KIND    cont, text, binary, close, ping or pong, or `op3` for the reserved opcode 3
   fin     1 where the frame is the last of its message
   R       the reserved bits as 4 * RSV1 + 2 * RSV2 + RSV3, 0 where no extension is in use
   KEY     the masking key as eight hexadecimal digits, or `-` where the frame is not masked

@@ -27,7 +27,7 @@ pub struct TestOptions<'a> {
 }
 
 /// `test` and its words.
-pub fn test_command<'a>(alloc: Global) -> Result<Command<'a>, AllocError>
+pub(crate) fn test_command<'a>(alloc: Global) -> Result<Command<'a>, AllocError>
     ensures app { IfOk result (λ command. app_of command ≡ test_app) }
     ensures local { IfOk result (λ command. (fields_of command).has_globals ≡ false) }
 {
@@ -81,7 +81,7 @@ fn id_words<'a>(alloc: Global) -> Arg<'a>
 }
 
 /// What the words give. `None` where a word has no value.
-pub fn test_options<'a>(
+pub(crate) fn test_options<'a>(
     alloc: Global,
     options: &ArgMatches<'a>,
 ) -> Result<Option<TestOptions<'a>>, AllocError>
@@ -156,7 +156,8 @@ A server that neither answers nor ends the connection keeps the command waiting;
 test ..` ends it. In parts: wst cases | cut -d' ' -f1 | xargs -n 30 wst test 127.0.0.1:9001
 
 Exit status: 0 no case is FAIL, 1 one is, 2 wrong words, also a word that is no LIST, no key, no ID
-or no host of a request, 3 there is no connection, the output failed or memory ran out.";
+or no host of a request, and --capture with other than one ID, 3 there is no connection, the output
+failed or memory ran out.";
 
 /// What stands at the end of the help of `test`.
 const AFTER_HELP: &str = "Example:

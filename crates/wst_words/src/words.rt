@@ -161,8 +161,8 @@ const AFTER_HELP: &str =
 what it reads and writes, with an example. In scripts HEX is bytes as lower-case pairs of
 hexadecimal digits, or `-` for none.
 
-Exit status: 0 done, 1 the input is damaged or refused or its verdict is FAIL, 2 wrong words, 3 the
-input, the output, the network, the budget or memory failed.
+Exit status: 0 done, 1 the input is damaged or refused or a verdict is FAIL, 2 wrong words, limits
+or lists, 3 the input, the output, the network, the budget or memory failed.
 
 Example:
   printf '\\201\\005Hello' | wst show

@@ -5,10 +5,10 @@ ghost use Rattle.std.specs.List.{concat};
 ghost use Rattle.ws_frame.specs.Devices.{watched};
 ghost use Rattle.ws_frame.specs.Watching.{has_failed};
 ghost use Rattle.ws_peer.specs.Runs.{with_finish};
-ghost use Rattle.ws_connection.specs.ProbeTurns.{Records};
+ghost use Rattle.ws_connection.specs.InnerProbeTurns.{Records};
 
 use crate::awaiting::Awaited;
-use crate::probing::turn::{run_turn, turn_of};
+use crate::probing::turn::run_turn;
 use std::alloc::Global;
 use std::io::{Read, Write};
 use ws_base::{NoMemory, Payload, Sequence};
@@ -69,7 +69,10 @@ fn without_turns(alloc: Global, got: Vec<u8>) -> Result<Vec<Turn>, NoMemory>
     if got.is_empty() {
         return Ok(turns);
     }
-    turns.push(turn_of(Vec::new(alloc), got))?;
+    turns.push(Turn {
+        sent: Payload::from_vec(Vec::new(alloc)),
+        got: Payload::from_vec(got),
+    })?;
     Ok(turns)
 }
 

@@ -4,7 +4,7 @@ ghost use Rattle.std.specs.Prelude.{◌≡◌, ◌≤◌, ◌<◌, false, true, 
 ghost use Rattle.std.specs.List.{concat};
 ghost use Rattle.ws_frame.specs.Devices.{HasWritten, watched};
 ghost use Rattle.ws_frame.specs.Watching.{has_failed};
-ghost use Rattle.ws_connection.specs.ProbeTurns.{ReadsTurn, RunsTurn, SendsTurn, end_of_turn};
+ghost use Rattle.ws_connection.specs.InnerProbeTurns.{ReadsTurn, RunsTurn, SendsTurn, end_of_turn};
 
 use crate::awaiting::Awaited;
 use std::alloc::Global;
@@ -38,18 +38,11 @@ pub fn run_turn<R: Read, W: Write>(
     awaited.on_got(before.as_slice())?;
     let mut got = before;
     let stop = read_turn(reader, waits, works, awaited, &mut got)?;
-    Ok((turn_of(sent, got), end_of_turn(works, stop)))
-}
-
-/// A turn in which this was sent and got.
-pub fn turn_of(sent: Vec<u8>, got: Vec<u8>) -> Turn
-    ensures sent { result.sent ≡ sent.items }
-    ensures got { result.got ≡ got.items }
-{
-    Turn {
+    let turn = Turn {
         sent: Payload::from_vec(sent),
         got: Payload::from_vec(got),
-    }
+    };
+    Ok((turn, end_of_turn(works, stop)))
 }
 
 /// Sends the pieces of a turn, one after the other. Answers what the writer took, and whether that is all of them.

@@ -6,7 +6,7 @@ use Rattle.ws_frame.specs.Devices.{watched}
 use Rattle.ws_frame.specs.Watching.{inner_of}
 use Rattle.ws_suite.specs.Scripts.{turns_of}
 use Rattle.ws_connection.specs.Probing.{bytes_by_turn, request_to}
-use Rattle.ws_connection.specs.ProbeTurns.{AnswersProbe}
+use Rattle.ws_connection.specs.InnerProbeTurns.{AnswersProbe}
 use Rattle.ws_connection.proofs.ProbingLemmas.{bytes_are, probes}
 use Rattle.ws_connection.proofs.probing.probe.Goals as goal
 

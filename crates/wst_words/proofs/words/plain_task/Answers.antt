@@ -1,7 +1,8 @@
 use Rattle.std.proofs.Common.{rules, ◌≡◌, List, Option, Some, codes}
 use Rattle.clap.specs.Words.{Row, Text, found_of, rows_of}
 use Rattle.wst_words.specs.Words.{CommandAsks, CommandAsksNothing}
-use Rattle.wst_words.proofs.WordLemmas.{none_from, no_pair, no_serve, no_session, no_show}
+use Rattle.wst_words.proofs.OtherTasks.{no_pair, no_serve, no_session, no_show}
+use Rattle.wst_words.proofs.WordLemmas.{none_from}
 use Rattle.wst_words.proofs.words.plain_task.Goals as goal
 
 pub returns-in_err-show_options-in-show : goal.returns-in_err-show_options-in-show
