@@ -12,7 +12,7 @@ use std::alloc::Global;
 use std::io::{Read, Write};
 use std::test::Fail;
 use ws_base::Sequence;
-use ws_connection::{Probe, probe};
+use ws_connection::{NONCE, Probe, probe};
 use ws_frame::Watched;
 use ws_frame::devices::{ByteReader, Failing};
 use ws_suite::{Case, Chop, Ended, Verdict, case, judge};
@@ -20,9 +20,6 @@ use ws_upgrade::{HeadFault, request_with};
 
 /// The host that is asked.
 pub const HOST: &[u8] = b"localhost:9001";
-
-/// The nonce of each probe.
-pub const NONCE: [u8; 16] = *b"the sample nonce";
 
 /// The key of each frame.
 const KEY: [u8; 4] = [0x37, 0xfa, 0x21, 0x3d];

@@ -3,12 +3,12 @@
 use crate::comparing::{same_answer, same_bytes};
 use crate::drives::limits;
 use crate::probe_faults::REQUEST;
-use crate::probes::{HOST, NONCE, RESPONSE, run_case_with};
+use crate::probes::{HOST, RESPONSE, run_case_with};
 use crate::serves::{BUDGET, CLOSED};
 use std::alloc::Global;
 use std::process::Abort;
 use std::test::Fail;
-use ws_connection::{Probe, Served, serve_one};
+use ws_connection::{NONCE, Probe, Served, serve_one};
 use ws_frame::Watched;
 use ws_upgrade::{HeadFault, request_with};
 
