@@ -35,6 +35,28 @@ mark_built() {
     mkdir -p "$root/out" && stamp_for "$1" "$2" >"$stamp.$$" && mv "$stamp.$$" "$stamp"
 }
 
+# Proves and builds programs. Where checks have left their work beside one of them, as a developer's do, that goes on
+# from it, one crate after the other; else all is built from nothing, side by side.
+make_programs() {
+    for name in "$@"; do
+        if [ -d "$root/crates/$name/out/incremental" ]; then
+            go_on "$@"
+            return
+        fi
+    done
+    "$root/tools/build" "$@"
+}
+
+# Has rt build the programs, and run each once: `wst` with a word that makes it end.
+go_on() {
+    for name in "$@"; do
+        case $name in
+        wst) (cd "$root/crates/$name" && rt run -- --help) ;;
+        *) (cd "$root/crates/$name" && rt run) ;;
+        esac || return 1
+    done
+}
+
 # Removes what was built of a program, and its stamp.
 remove_built() {
     built=$(program_of "$1")

@@ -47,8 +47,17 @@ def rows_of_built_programs_pass(clone):
     clone.add_check()
     assert clone.run("build", how=CHECK)[0] == 0
     rows_pass(clone)
-    built = [f"run -- --help\n{clone.top}/crates/ws_rows", f"run\n{clone.top}/crates/ws_refusals", "run\n"]
-    assert clone.builds.read_text().split(": ")[1:] == built, clone.builds.read_text()
+    begun = sorted(note.split()[0] for note in clone.notes() if " begins " in note)
+    assert begun == ["ws_refusals", "ws_rows", "wst"], clone.notes()
+
+
+def a_build_goes_on_from_what_checks_left(clone):
+    clone.add_check()
+    (clone.top / "crates/ws_rows/out/incremental").mkdir(parents=True)
+    assert clone.run("build", how=CHECK)[0] == 0
+    rows_pass(clone)
+    built = [f"{clone.top}/crates/{name}: run" for name in ("wst", "ws_rows", "ws_refusals")]
+    assert clone.notes() == [f"{built[0]} -- --help", *built[1:]], clone.notes()
 
 
 def rows_of_older_sources_fail(clone):
@@ -136,6 +145,7 @@ def wrong_words_run_nothing(clone):
 TESTS = [
     rows_of_no_programs_fail,
     rows_of_built_programs_pass,
+    a_build_goes_on_from_what_checks_left,
     rows_of_older_sources_fail,
     rows_of_another_program_fail,
     refusals_need_their_own_program,

@@ -16,6 +16,7 @@ REFUSALS_PROGRAM = "crates/ws_refusals/out/ws_refusals"
 # The stand-in for rt notes each call, takes a while, fails or builds nothing where a source says so, and changes a
 # source where it says so. `ci` notes the programs that it finds.
 STAND_IN = r"""#!/bin/sh
+[ "$*" = version ] && echo "stand-in" && exit
 echo "$PWD: $*" >>"$BUILDS"
 sleep "${BUILD_SECONDS:-0}"
 
@@ -34,7 +35,6 @@ build() {
 }
 
 case $1 in
-version) echo "stand-in" ;;
 run) build "${PWD##*/}" ;;
 ci)
     for name in wst ws_rows ws_refusals; do
@@ -45,6 +45,46 @@ ci)
     echo "5 passed, 0 failed"
     ;;
 esac
+"""
+
+# The stand-in for the toolchain's program rattle: it proves and compiles one crate. It notes when it begins and ends and
+# how many jobs it has, takes a while, fails where the source says so, and changes a source where it says so.
+RATTLE = r"""#!/bin/sh
+while [ $# -gt 0 ]; do
+    case $1 in
+    --crate-name) name=$2 ;;
+    --jobs) jobs=$2 ;;
+    --extern) [ -d "${2#*=}" ] || echo "$name lacks ${2%%=*}" >>"$BUILDS" ;;
+    -o) made=$2 ;;
+    src/*) source=$1 ;;
+    esac
+    shift
+done
+echo "$name begins with $jobs" >>"$BUILDS"
+sleep "${BUILD_SECONDS:-0}"
+read -r word <"$source"
+case $word in
+broken) echo "error: broken"; exit 1 ;;
+slow) sleep 30 ;;
+changing) echo "calm" >"$source" ;;
+esac
+case $source in
+src/lib.rt) mkdir "$made" ;;
+*) printf '#!/bin/sh\n[ "$*" = --version ] && echo "wst 0.1.0 (stand-in)" && exit\necho "%s $*"; cat; exit 3\n' "$word" >"$made" ;;
+esac
+echo "$name ends" >>"$BUILDS"
+"""
+
+# The stand-in for the toolchain's linker.
+LINKER = r"""#!/bin/sh
+while [ $# -gt 0 ]; do
+    case $1 in
+    -o) program=$2 ;;
+    *.o) made=$1 ;;
+    esac
+    shift
+done
+cp "$made" "$program" && chmod +x "$program"
 """
 
 # The stand-in for the rows, for the refusals of memory, for the clients over loopback, for the documents and for the
@@ -64,10 +104,13 @@ class Clone:
         self.top.mkdir()
         shutil.copy(ROOT / "wst", self.top)
         shutil.copytree(ROOT / "tools", self.top / "tools")
-        self.write("crates.txt", "wst:\n")
+        self.write("crates.txt", "wst:\nws_rows:\nws_refusals:\n")
         self.write("HANDLES", "Handles allowed: none.\n")
         self.write(SOURCE, "first\n")
         self.program("../bin/rt", STAND_IN)
+        self.program("../bin/rattle", RATTLE)
+        self.program("../bin/rattle-link", LINKER)
+        (self.folder / "rlibs/std.rlib").mkdir(parents=True)
 
     def add_check(self):
         """Adds the test command, with the sources of its two programs, and stand-ins for what it runs."""
@@ -103,6 +146,20 @@ class Clone:
         script = f'root={self.top.as_posix()!r}; . "$root/tools/built.sh"; {script}'
         return subprocess.run(["sh", "-c", script], capture_output=True, text=True, timeout=60).stdout.strip()
 
+    def notes(self):
+        """What the stand-ins noted, a line each."""
+        return self.builds.read_text().splitlines() if self.builds.exists() else []
+
     def count(self):
-        """How often the stand-in was called."""
-        return len(self.builds.read_text().splitlines()) if self.builds.exists() else 0
+        """How often a program was begun."""
+        return sum(note.endswith("run -- --help") or note.startswith("wst begins") for note in self.notes())
+
+    def crate(self, name, *below, text="calm"):
+        """Adds a library, which stands on these."""
+        self.write(f"crates/{name}/src/lib.rt", f"{text}\n")
+        self.write("crates.txt", f"{name}: {' '.join(below)}\n" + (self.top / "crates.txt").read_text())
+
+    def stand_on(self, *below):
+        """The program stands on these libraries."""
+        text = (self.top / "crates.txt").read_text()
+        self.write("crates.txt", text.replace("wst:", f"wst: {' '.join(below)}"))

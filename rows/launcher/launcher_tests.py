@@ -17,9 +17,16 @@ def builds_once(clone):
     status, out, faults = clone.run("show", "a b", text="input\n")
     assert (status, out) == (3, "first show a b\ninput\n"), (status, out)
     assert faults.startswith(BUILDING), faults
-    assert clone.builds.read_text() == f"{clone.top}/crates/wst: run -- --help\n"
+    assert [note.split()[:2] for note in clone.notes()] == [["wst", "begins"], ["wst", "ends"]], clone.notes()
     assert clone.run("show") == (3, "first show\n", "")
     assert clone.count() == 1
+
+
+def goes_on_from_what_checks_left(clone):
+    (clone.top / "crates/wst/out/incremental").mkdir(parents=True)
+    assert clone.run("show")[:2] == (3, "first show\n")
+    assert clone.notes() == [f"{clone.top}/crates/wst: run -- --help"], clone.notes()
+    assert clone.run("show") == (3, "first show\n", "")
 
 
 def two_at_a_time(clone):
@@ -35,7 +42,7 @@ def two_at_a_time(clone):
 
 def edits_are_seen(clone):
     clone.run()
-    for path, text in ((SOURCE, "second\n"), ("crates/low/specs/Lib.antt", "x"), ("crates.txt", "wst: low\n")):
+    for path, text in ((SOURCE, "second\n"), ("crates/low/specs/Lib.antt", "x"), ("crates.txt", "wst:\n# more\n")):
         clone.write(path, text)
         status, out, faults = clone.run()
         assert (status, out) == (3, "second \n") and faults.startswith(BUILDING), (path, out, faults)
@@ -137,6 +144,7 @@ def the_mark_of_the_test_command(clone):
 
 TESTS = [
     builds_once,
+    goes_on_from_what_checks_left,
     two_at_a_time,
     edits_are_seen,
     an_old_date_is_seen_through,
