@@ -49,8 +49,8 @@ def those_that_do_not_stand_on_each_other_are_built_at_once(clone):
 def each_is_told(clone):
     tower(clone)
     told = built(clone).splitlines()
-    assert len(told) == 4 and told[0] == "wst: crate 1 of 4, low, 0 min so far", told
-    assert told[3] == "wst: crate 4 of 4, wst, 0 min so far", told
+    assert len(told) == 4 and told[0] == "wst: crate 1 of 4, low, 0 min so far; it took 0 s of processors", told
+    assert told[3] == "wst: crate 4 of 4, wst, 0 min so far; it took 0 s of processors", told
 
 
 def what_has_not_changed_is_passed_over(clone):
