@@ -20,9 +20,9 @@ mod writing;
 mod writing_lines;
 
 pub use appending::append_frame;
-pub use devices::{InputEnd, Watched, WriteFault, read_input, write_whole};
+pub use devices::{InputEnd, READ_SIZE, Watched, WriteFault, read_input, write_whole};
 pub use header::{Form, Header};
-pub use masking::{mask, mask_plainly};
+pub use masking::{NO_KEY, mask, mask_plainly};
 pub use reading::{HeaderRead, read_header};
 pub use role::Role;
 pub use showing::{ShowEnd, StreamEnd, show};
