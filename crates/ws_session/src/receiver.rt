@@ -20,6 +20,7 @@ mod data_payload;
 mod frame_check;
 mod frame_end;
 mod header_end;
+mod header_kind;
 mod header_rules;
 mod inside;
 mod under_way;
