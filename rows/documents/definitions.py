@@ -39,8 +39,8 @@ def has_clause(contracts, name):
 
 
 def has_type(text, name):
-    """Whether sources have a type of this name."""
-    return re.search(rf"^ *pub(?:\(crate\))? (?:enum|struct|type|trait) {name}\b", text, re.MULTILINE) is not None
+    """Whether sources have a type, or a constant, of this name."""
+    return re.search(rf"^ *pub(?:\(crate\))? (?:enum|struct|type|trait|const) {name}\b", text, re.MULTILINE) is not None
 
 
 def has_definition(text, name):

@@ -10,8 +10,8 @@ use crate::sequence::Payload;
 use std::alloc::Global;
 use std::fmt;
 
-/// The key of a frame where a dash stands for it.
-const NO_KEY: [u8; 4] = [0; 4];
+/// The key that a dash stands for.
+const KEY_OF_A_DASH: [u8; 4] = [0; 4];
 
 /// Bytes as two digits each.
 #[derive(Drop)]
@@ -119,7 +119,7 @@ pub fn read_key_or_dash(word: &[u8]) -> Option<[u8; 4]>
     ensures { Finds result (λ key. IsKeyOrDash key word.now) }
 {
     if word == b"-".as_slice() {
-        Some(NO_KEY)
+        Some(KEY_OF_A_DASH)
     } else {
         read_key(word)
     }

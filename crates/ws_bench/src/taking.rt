@@ -6,14 +6,8 @@ use anyhow::{Context, Result, bail};
 use std::alloc::Global;
 use std::io::Read;
 use tungstenite::{NoMask, WebSocket};
-use ws_frame::Role;
-use ws_session::{Event, Limits, Session, Status};
-
-/// The most payload bytes of a message.
-const MAX_MESSAGE: u32 = 16_777_216;
-
-/// A server masks nothing.
-const NO_KEY: [u8; 4] = [0; 4];
+use ws_frame::{NO_KEY, Role};
+use ws_session::{Event, Limits, MAX_MESSAGE, Session, Status};
 
 /// Takes a stream of messages up to a close frame by a session.
 pub fn take<R: Read + Drop>(alloc: Global, mut pieces: Pieces<R>) -> Result<Counts> {

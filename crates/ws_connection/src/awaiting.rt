@@ -2,11 +2,8 @@
 
 use std::alloc::Global;
 use ws_base::NoMemory;
-use ws_frame::Role;
+use ws_frame::{NO_KEY, Role};
 use ws_session::{Event, Limits, PlacedEvent, Session};
-
-/// Neither endpoint here sends what it puts, so no key matters.
-const NO_KEY: [u8; 4] = [0; 4];
 
 /// The payload of a pong, and the turn in which it is owed or was got.
 #[derive(Drop)]

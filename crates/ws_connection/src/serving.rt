@@ -14,13 +14,10 @@ use crate::request_head::{RequestDecision, RequestHead};
 use std::alloc::Global;
 use std::fmt;
 use std::io::{Read, Write};
-use ws_frame::{Role, Watched, write_whole};
+use ws_frame::{NO_KEY, Role, Watched, write_whole};
 use ws_peer::{DriveEnd, drive};
 use ws_session::{Echo, Limits, Status};
 use ws_upgrade::{HeadFault, ResponseFault, refusal, response_with};
-
-/// A server masks nothing, whatever key it is handed (RFC 6455 section 5.1).
-const NO_KEY: [u8; 4] = [0; 4];
 
 /// How a connection that was served ended.
 #[derive(Clone, Copy, PartialEq, Eq)]

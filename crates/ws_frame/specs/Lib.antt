@@ -1,4 +1,5 @@
 pub mod Header
+pub mod Opcode
 pub mod Reading
 pub mod Masking
 pub mod Frame

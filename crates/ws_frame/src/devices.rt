@@ -11,6 +11,6 @@ mod writing_whole;
 pub use byte_devices::{ByteReader, ByteWriter, FullWriter};
 pub use counting::Counting;
 pub use failing::Failing;
-pub use reading_input::{InputEnd, read_input};
+pub use reading_input::{InputEnd, READ_SIZE, read_input};
 pub use watching::Watched;
 pub use writing_whole::{WriteFault, write_whole};

@@ -7,6 +7,7 @@ ghost use Rattle.ws_frame.specs.InnerPrinting.{bits_words, layout_words};
 
 use crate::first_bytes::SHOWN;
 use crate::header::{Form, Header};
+use crate::opcode::Opcode;
 use crate::role::Role;
 use crate::room::Room;
 use std::fmt;
@@ -65,16 +66,16 @@ fn push_kind(room: &mut Room, opcode: u8)
     ensures pushed { room.new ≡ room.old ++ opcode_word opcode }
     ensures len { length room.new ≤ length room.old + 22 }
 {
-    match opcode {
-        0 => room.push(b"cont"),
-        1 => room.push(b"text"),
-        2 => room.push(b"binary"),
-        8 => room.push(b"close"),
-        9 => room.push(b"ping"),
-        10 => room.push(b"pong"),
-        other => {
+    match Opcode::of(opcode) {
+        Opcode::Continuation => room.push(b"cont"),
+        Opcode::Text => room.push(b"text"),
+        Opcode::Binary => room.push(b"binary"),
+        Opcode::Close => room.push(b"close"),
+        Opcode::Ping => room.push(b"ping"),
+        Opcode::Pong => room.push(b"pong"),
+        Opcode::Reserved(number) => {
             room.push(b"op");
-            room.push_decimal(u64::from(other));
+            room.push_decimal(u64::from(number));
         }
     }
 }

@@ -5,6 +5,10 @@ ghost use Rattle.ws_frame.specs.Masking.{masked, IsMasked, AreKeyLanes};
 
 use std::simd::{u8x4, u8x32};
 
+/// The key of an endpoint that masks nothing: a server puts its frames without one (section 5.1), whatever key it is
+/// given.
+pub const NO_KEY: [u8; KEY] = [0; KEY];
+
 /// How many bytes are masked at once: a multiple of the key's four, so that each vector begins at
 /// the same phase.
 const LANES: usize = 32;

@@ -14,8 +14,8 @@ use crate::room::Room;
 use crate::writing_lines::{end_with, flush, put_line};
 use std::io::{Read, Write};
 
-/// How many bytes one read asks for at most.
-const READ_SIZE: usize = 65536;
+/// How many bytes one read of a stream that is shown asks for at most.
+const SHOW_READ_SIZE: usize = 65536;
 
 /// How a stream that has ended ends.
 #[derive(Clone, Copy)]
@@ -83,10 +83,10 @@ pub fn show<R: Read, W: Write>(
         (watched R.remaining reader.old reader.new) (watched W.contents writer.old writer.new) }
     ensures memory { result ≡ NoMemory → ⊥ }
 {
-    let mut room = [0; READ_SIZE];
+    let mut room = [0; SHOW_READ_SIZE];
     let mut run = Run::new(from);
     while run.taken < budget {
-        let want = (budget - run.taken).min(READ_SIZE as u64) as usize;
+        let want = (budget - run.taken).min(SHOW_READ_SIZE as u64) as usize;
         let buf = &mut room[..want];
         let count = match reader.read(buf) {
             Err(_) => return ShowEnd::ReadFault,

@@ -3,6 +3,7 @@ use Rattle.std.proofs.Common.{◌≡◌, ℕ, ◌+◌, ◌-◌, ◌<◌, ◌≤�
 use Rattle.std.proofs.lemmas.List.{length-take, length-take-le}
 use Rattle.std.specs.Io.KnownBytes.{Appends, Consumes, Keeps, IsAtEnd}
 use Rattle.std.proofs.KnownBytes.{Appends-trans, Consumes-nil, Consumes-trans, Consumes-kept}
+use Rattle.ws_frame.specs.declared.devices.reading_input.TheConstants.{READ_SIZE}
 use Rattle.ws_frame.specs.declared.role.Role.{Role}
 use Rattle.ws_session.specs.Limits.{LimitsValue}
 use Rattle.ws_frame.specs.Devices.{Device, HasRead, HasWritten}
@@ -70,7 +71,7 @@ module _ (laws : EchoLaws) (call : DriveCall) (rest : ℕ) (old : SessionValue) 
   answered : is_over old.status ≡ false → HasAnsweredAll call h.read h.written
   answered going = (old.status, has_echoed laws call.role call.limits call.key old (call.first ++ h.read) h.written false h.stands, going)
 
-  read_more : is_over old.status ≡ false → (piece more : List ℕ) → length piece ≤ 4096 → ReadsInTurn call (h.read ++ piece) (h.written ++ more)
+  read_more : is_over old.status ≡ false → (piece more : List ℕ) → length piece ≤ READ_SIZE → ReadsInTurn call (h.read ++ piece) (h.written ++ more)
   read_more going piece more bound = record {
     before = h.read;
     last = piece;
@@ -83,7 +84,7 @@ module _ (laws : EchoLaws) (call : DriveCall) (rest : ℕ) (old : SessionValue) 
   }
 
   -- one more read was answered
-  pub has_driven_more : is_over old.status ≡ false → (new : SessionValue) (i2 o2 : Option (List ℕ)) (piece more : List ℕ) (after : ℕ) → Consumes i1 i2 piece → length piece ≤ 4096 → length piece + after ≡ rest
+  pub has_driven_more : is_over old.status ≡ false → (new : SessionValue) (i2 o2 : Option (List ℕ)) (piece more : List ℕ) (after : ℕ) → Consumes i1 i2 piece → length piece ≤ READ_SIZE → length piece + after ≡ rest
       → Appends o1 o2 more → IsEchoOfCall call ((call.first ++ h.read) ++ piece) (h.written ++ more) new → HasDriven call after new i0 i2 o0 o2
   has_driven_more going new i2 o2 piece more after consumed bound spent wrote stands = record {
     read = h.read ++ piece;
@@ -213,7 +214,7 @@ regrouped call session a b c d e f h =
 
 -- at a read
 pub stops_at_read : EchoLaws → (call : DriveCall) (rest : ℕ) (old new : SessionValue) (input output last : Device) (i1 o1 : Option (List ℕ)) (piece : List ℕ) (why : Stop)
-    → HasDriven call rest old input.old i1 output.old o1 → is_over old.status ≡ false → Consumes i1 input.new piece → length piece ≤ 4096 → length piece ≤ rest
+    → HasDriven call rest old input.old i1 output.old o1 → is_over old.status ≡ false → Consumes i1 input.new piece → length piece ≤ READ_SIZE → length piece ≤ rest
     → last.old ≡ o1 → last.new ≡ output.new
     → ((bytes put : List ℕ) → IsEchoOfCall call bytes put old → AnswersPiece call bytes put piece new last (Err why)) → Drives call (end_of_stop why) new input output
 stops_at_read laws call rest old new input output last i1 o1 piece stop.WriteFault h going consumed bound fits before after answers =

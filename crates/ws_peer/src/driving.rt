@@ -10,11 +10,8 @@ ghost use Rattle.ws_peer.specs.InnerSteps.{AnswersPiece, IsEchoOfCall, end_of_st
 use crate::lemmas::echo_laws;
 use std::alloc::Global;
 use std::io::{Read, Write};
-use ws_frame::{Watched, write_whole};
+use ws_frame::{READ_SIZE, Watched, write_whole};
 use ws_session::{Echo, Status};
-
-/// How many bytes one read asks for at most.
-const READ_SIZE: usize = 4096;
 
 /// How a run of `drive` ended.
 #[derive(Clone, Copy, PartialEq, Eq)]
@@ -52,12 +49,12 @@ impl Stop {
 }
 
 /// Feeds `first` to a new echo and writes its replies, then what the reader gives, read by read: at most `budget`
-/// bytes, at most 4096 a read. The replies to a read are written before the next read, in one write where the writer
-/// takes them so. `first` is not counted. `key` masks what a client sends.
+/// bytes, at most `READ_SIZE` a read. The replies to a read are written before the next read, in one write where the
+/// writer takes them so. `first` is not counted. `key` masks what a client sends.
 ///
 /// Once the session is over nothing more is read, and a budget that is used up then is not told. At `WriteFault` and at
-/// `NoMemory` a beginning of what was due is written: at least the replies to all but at most the last 4096 bytes.
-/// Memory is taken for the replies to one read at a time.
+/// `NoMemory` a beginning of what was due is written: at least the replies to all but at most the last `READ_SIZE`
+/// bytes. Memory is taken for the replies to one read at a time.
 pub fn drive<R: Read, W: Write>(
     alloc: Global,
     first: &[u8],

@@ -10,14 +10,8 @@ use crate::peer::{Going, Peer};
 use std::alloc::Global;
 use std::marker::Model;
 use ws_base::NoMemory;
-use ws_frame::Role;
-use ws_session::{Echo, Limits};
-
-/// The most payload bytes of a message: what a session can take at most.
-const MAX_MESSAGE: u32 = 16_777_216;
-
-/// A server masks nothing.
-const NO_KEY: [u8; 4] = [0; 4];
+use ws_frame::{NO_KEY, Role};
+use ws_session::{Echo, Limits, MAX_MESSAGE};
 
 /// A server that sends each message back, answers what is owed, and ends the connection once its session is over.
 #[derive(Drop)]

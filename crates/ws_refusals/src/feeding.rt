@@ -5,11 +5,8 @@ use crate::streams::Stream;
 use crate::tally::Tally;
 use std::alloc::Global;
 use ws_base::NoMemory;
-use ws_frame::Role;
+use ws_frame::{NO_KEY, Role};
 use ws_session::{Limits, Run, feed_all};
-
-/// A server masks nothing.
-const NO_KEY: [u8; 4] = [0; 4];
 
 /// Feeds a stream to a session.
 pub fn feed(alloc: Global, stream: &Stream, tally: &mut Tally) -> Result<(), NoMemory> {

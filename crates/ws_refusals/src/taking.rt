@@ -7,11 +7,8 @@ use crate::streams::Stream;
 use crate::tally::Tally;
 use std::alloc::Global;
 use ws_base::NoMemory;
-use ws_frame::Role;
+use ws_frame::{NO_KEY, Role};
 use ws_session::{Echo, Limits, Session, Status, Taken};
-
-/// A server masks nothing.
-const NO_KEY: [u8; 4] = [0; 4];
 
 /// An endpoint that takes bytes.
 #[derive(Drop)]

@@ -8,7 +8,7 @@ use std::alloc::Global;
 use std::fmt::Write;
 use ws_base::{Hex, HexDigits};
 use ws_frame::Role;
-use ws_session::{Limits, Status, feed_all};
+use ws_session::{Limits, MAX_MESSAGE, Status, feed_all};
 use ws_suite::{Case, Chop, Step, case, ids, turns};
 
 /// Equal bytes that are so many, one after the other, are told as their number and one of them.
@@ -73,7 +73,7 @@ fn put_fault(alloc: Global, case: &Case, out: &mut String) -> Result<(), RowFaul
     requires { CanBeRun case.now }
 {
     let key = mask_key_of("37fa213d")?;
-    let Some(limits) = Limits::new(16_777_216) else {
+    let Some(limits) = Limits::new(MAX_MESSAGE) else {
         return Err(RowFault::NotARow);
     };
     let mut pieces = Vec::new(alloc);

@@ -6,6 +6,7 @@ use Rattle.ws_frame.specs.Header.{header_bytes}
 use Rattle.ws_frame.specs.Masking.{masked_payload}
 use Rattle.ws_frame.specs.Reading.{BeginsNoHeader}
 use Rattle.ws_frame.proofs.Masks.{length-masked_payload}
+use Rattle.ws_session.specs.declared.limits.TheConstants.{MAX_MESSAGE}
 use Rattle.ws_session.specs.declared.receiver.under_way.UnderWay.{UnderWay}
 use Rattle.ws_session.specs.declared.receiver.under_way.UnderWay.TheVariants as under_way
 use Rattle.ws_session.specs.Limits.{LimitsValue}
@@ -28,7 +29,7 @@ pub no_header_in_nothing : BeginsNoHeader []
 no_header_in_nothing h bytes rest is e = let no : [] ≡ header_bytes h ++ rest = e ∙ ap (λ (l : List ℕ). l ++ rest) is.layout in absurd cc
 
 -- nothing of the next frame has come
-pub not_begun : (role : Role) (limits : LimitsValue) (a : AssemblyValue) → IsJoined a → HasReadOpen a.opened a.text → limits.max_message ≤ 16777216 → length (open_payload a.opened) ≤ limits.max_message → IsReceiving role limits a NotBegun
+pub not_begun : (role : Role) (limits : LimitsValue) (a : AssemblyValue) → IsJoined a → HasReadOpen a.opened a.text → limits.max_message ≤ MAX_MESSAGE → length (open_payload a.opened) ≤ limits.max_message → IsReceiving role limits a NotBegun
 not_begun role limits a joined reads limit size = record {
   under_way = record { bytes = λ i. omega arith; joined = joined; kept = (no_header_in_nothing, reads) };
   sound = record { part = part_of_header role limits a.opened [] no_header_in_nothing; limit = limit; size = size; held = omega (arith, size) };

@@ -27,11 +27,11 @@ use Rattle.ws_session.proofs.Received.{begins_kept, kept_checked, first_checked}
 -- ---- a header that breaks no rule
 
 module _ (role : Role) (limits : LimitsValue) (opened : Option Message) (h : HeaderFields) (none : NoneAtHeader role limits opened h) where
-  pub opcode_of_data : h.opcode < 8 → h.opcode ≤ 2
-  opcode_of_data lt = elim (cases_lt h.opcode 3) [ inl small ↦ omega arith | inr big ↦ absurd (none Opcode (inl (big, omega arith))) ]
+  from_3 : 3 ≤ h.opcode → IsControl h
+  from_3 low = elim (cases_lt h.opcode 8) [ inl reserved ↦ absurd (none Opcode (inl (low, omega arith))) | inr eight ↦ elim (cases_lt h.opcode 11) [ inl small ↦ (eight, omega arith) | inr big ↦ absurd (none Opcode (inr big)) ] ]
 
-  pub opcode_of_control : 8 ≤ h.opcode → IsControl h
-  opcode_of_control le = elim (cases_lt h.opcode 11) [ inl small ↦ (le, omega arith) | inr big ↦ absurd (none Opcode (inr big)) ]
+  pub opcode_of_control : (h.opcode ≤ 2 → ⊥) → IsControl h
+  opcode_of_control more = elim (cases_lt h.opcode 3) [ inl small ↦ absurd (more (omega arith)) | inr low ↦ from_3 low ]
 
   pub short_control : IsControl h → h.len ≤ 125
   short_control control = elim (cases_lt 125 h.len) [ inl long ↦ absurd (none ControlLong (control, long)) | inr short ↦ short ]

@@ -5,6 +5,7 @@ use Rattle.std.proofs.lemmas.Bool.{cases_lt}
 use Rattle.ws_frame.specs.Frame.{Frame}
 use Rattle.ws_text.specs.Text.{IsText, BeginsText}
 use Rattle.ws_text.specs.Close.{CloseValue, IsClosePayload, CodeAllowed}
+use Rattle.ws_session.specs.declared.limits.TheConstants.{MAX_MESSAGE}
 use Rattle.ws_session.specs.declared.message.Kind.{Kind}
 use Rattle.ws_session.specs.declared.message.Kind.TheVariants.{Text, Binary}
 use Rattle.ws_session.specs.declared.message.Message.{Message}
@@ -15,7 +16,7 @@ use Rattle.ws_session.specs.Limits.{LimitsValue}
 use Rattle.ws_session.specs.Messages.{is_close, open_message_of}
 use Rattle.ws_session.specs.Validity.{AreValidFrames}
 use Rattle.ws_session.specs.Replies.{has_close, control_frame}
-use Rattle.ws_session.specs.Sends.{Send, Begin, More, Ping, Pong, Close, frame_of, most_sent, most_limits, HasTextReason, IsNoText, IsWrongWith, MaySend}
+use Rattle.ws_session.specs.Sends.{Send, Begin, More, Ping, Pong, Close, frame_of, most_limits, HasTextReason, IsNoText, IsWrongWith, MaySend}
 use Rattle.ws_session.proofs.Valid.{FrameOfText, IsValidNext, NoneCloses, valid_snoc, false_of}
 use Rattle.ws_session.proofs.Decided.{text_told, begins_told, code_told}
 
@@ -66,8 +67,8 @@ begin_next Text payload fin never = record {
   close = λ e. absurd cc;
   goes_on = λ e. absurd (omega (arith, e));
   begins = λ one two. refl;
-  size = λ le. omega (arith, at_most (length payload) most_sent (λ lt. never TooLong lt));
-  frame = λ le. at_most (length payload) most_sent (λ lt. never TooLong lt);
+  size = λ le. omega (arith, at_most (length payload) MAX_MESSAGE (λ lt. never TooLong lt));
+  frame = λ le. at_most (length payload) MAX_MESSAGE (λ lt. never TooLong lt);
   text = λ is. begins_text fin payload (λ n. never NotText (refl, n));
   whole = λ is end. whole_text fin payload (λ n. never NotText (refl, n)) end;
 }
@@ -76,8 +77,8 @@ begin_next Binary payload fin never = record {
   close = λ e. absurd cc;
   goes_on = λ e. absurd (omega (arith, e));
   begins = λ one two. refl;
-  size = λ le. omega (arith, at_most (length payload) most_sent (λ lt. never TooLong lt));
-  frame = λ le. at_most (length payload) most_sent (λ lt. never TooLong lt);
+  size = λ le. omega (arith, at_most (length payload) MAX_MESSAGE (λ lt. never TooLong lt));
+  frame = λ le. at_most (length payload) MAX_MESSAGE (λ lt. never TooLong lt);
   text = λ is. absurd (binary_of_text payload fin is);
   whole = λ is end. absurd (binary_of_text payload fin is);
 }
@@ -92,8 +93,8 @@ more_next m payload fin never = record {
   close = λ e. absurd cc;
   goes_on = λ e none. absurd cc;
   begins = λ one two. absurd (omega (arith, one));
-  size = λ le. at_most (length m.payload + length payload) most_sent (λ lt. never TooLong lt);
-  frame = λ le. omega (arith, at_most (length m.payload + length payload) most_sent (λ lt. never TooLong lt));
+  size = λ le. at_most (length m.payload + length payload) MAX_MESSAGE (λ lt. never TooLong lt);
+  frame = λ le. omega (arith, at_most (length m.payload + length payload) MAX_MESSAGE (λ lt. never TooLong lt));
   text = λ is. begins_text fin (m.payload ++ payload) (λ n. never NotText (more_of_text m payload fin is, n));
   whole = λ is end. whole_text fin (m.payload ++ payload) (λ n. never NotText (more_of_text m payload fin is, n)) end;
 }

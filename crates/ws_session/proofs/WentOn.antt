@@ -5,7 +5,7 @@ use Rattle.ws_frame.specs.Header.{HeaderFields, AreBytes, header_bytes}
 use Rattle.ws_session.specs.declared.message.Message.{Message}
 use Rattle.ws_session.specs.declared.receiver.under_way.UnderWay.TheVariants as under_way
 use Rattle.ws_session.specs.declared.receiver.frame_check.FrameCheck.TheVariants as check
-use Rattle.ws_session.specs.Limits.{LimitsValue}
+use Rattle.ws_session.specs.Limits.{LimitsValue, most_beside}
 use Rattle.ws_session.specs.Faults.{open_payload}
 use Rattle.ws_session.specs.InnerNextFrame.{IsPartOfFrame}
 use Rattle.ws_session.specs.InnerReceiving.{AssemblyValue, with_text, frame_payload, first_bytes, HasKept, IsJoined, arrived_payload, partial_of, IsUnderWay, IsPayloadCheck, IsFrameCheck}
@@ -45,7 +45,7 @@ module _ (role : Role) (limits : LimitsValue) (a : AssemblyValue) (h : HeaderFie
   pub room_inside : IsSoundReceiver (receiver_of role limits a (under_way.Data h came)) → length_so_far (under_way.Data h came) + length piece < 18446744073709551616
   room_inside sound =
       let r = receives_inside sound in
-      let held : length (open_payload b.opened) + length (partial_of b (under_way.Data h (came + length piece))) ≤ limits.max_message + 139 = r.sound.held in
+      let held : length (open_payload b.opened) + length (partial_of b (under_way.Data h (came + length piece))) ≤ limits.max_message + most_beside = r.sound.held in
       let len : length (partial_of b (under_way.Data h (came + length piece))) ≡ length (header_bytes h) + (came + length piece) = partial_len role limits (with_text b text) (under_way.Data h (came + length piece)) r.under_way in
       omega (arith, held, len, sound.limit)
 

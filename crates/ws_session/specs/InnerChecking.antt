@@ -9,7 +9,7 @@ use Rattle.ws_text.specs.declared.closing.CloseFault.TheVariants.{OneByte, BadCo
 use Rattle.ws_session.specs.declared.message.Message.{Message}
 use Rattle.ws_session.specs.declared.reason.Reason.{Reason}
 use Rattle.ws_session.specs.declared.reason.Reason.TheVariants.{CloseOneByte, CloseCode, CloseReason}
-use Rattle.ws_session.specs.Limits.{LimitsValue}
+use Rattle.ws_session.specs.Limits.{LimitsValue, most_beside}
 use Rattle.ws_session.specs.Faults.{open_payload, AppliesAtHeader, AppliesInPayload, IsFirstPlaced, IsLowest, number_of}
 
 -- ---- the header
@@ -49,4 +49,4 @@ frame_with header payload = record { fin = header.fin; rsv = header.rsv; opcode 
 -- what is kept of a message and a part of a frame: at most the limit, a header, and a control frame's payload
 pub record IsRoomFor (limits : LimitsValue) (opened : Option Message) (bytes : List ℕ) : Type 0 where
   pub held : length (open_payload opened) ≤ limits.max_message
-      → length (open_payload opened) + length bytes ≤ limits.max_message + 139
+      → length (open_payload opened) + length bytes ≤ limits.max_message + most_beside

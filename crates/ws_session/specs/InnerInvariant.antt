@@ -1,9 +1,11 @@
 -- Inside the crate: what holds of every session, for its invariant. A reader may skip this file.
 use Rattle.std.specs.Prelude.{◌≡◌, ℕ, ◌+◌, ◌≤◌, true, List, [], ◌∷◌, ◌++◌, length, Option, Some, None}
 use Rattle.ws_frame.specs.Frame.{Frame}
+use Rattle.ws_session.specs.declared.limits.TheConstants.{MAX_MESSAGE}
 use Rattle.ws_session.specs.declared.message.Message.{Message}
 use Rattle.ws_session.specs.declared.event.Event.{Event}
 use Rattle.ws_session.specs.declared.event.Event.TheVariants as event
+use Rattle.ws_session.specs.Limits.{most_beside}
 use Rattle.ws_session.specs.Faults.{open_payload}
 use Rattle.ws_session.specs.Replies.{reply_to, message_frame}
 use Rattle.ws_session.specs.Exchange.{SendingValue, SessionValue, is_over}
@@ -16,9 +18,9 @@ use Rattle.ws_session.specs.InnerNextFrame.{IsPartOfFrame}
 -- what is kept is a part of one frame and a message within the limits, and nothing once all is over
 pub record IsSound (v : SessionValue) : Type 0 where
   pub part : IsPartOfFrame v.role v.limits v.opened v.partial_frame
-  pub limit : v.limits.max_message ≤ 16777216
+  pub limit : v.limits.max_message ≤ MAX_MESSAGE
   pub size : length (open_payload v.opened) ≤ v.limits.max_message
-  pub held : length (open_payload v.opened) + length v.partial_frame ≤ v.limits.max_message + 139
+  pub held : length (open_payload v.opened) + length v.partial_frame ≤ v.limits.max_message + most_beside
   pub over : is_over v.status ≡ true → length (open_payload v.opened) + length v.partial_frame ≡ 0
 
 -- ---- replies

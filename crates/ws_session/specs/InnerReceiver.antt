@@ -3,6 +3,7 @@ use Rattle.std.specs.Prelude.{◌≡◌, ◌≢◌, ℕ, ◌+◌, ◌≤◌, ◌
 use Rattle.std.specs.Prelude.{Some, None}
 use Rattle.ws_frame.specs.declared.role.Role.{Role}
 use Rattle.ws_frame.specs.Header.{header_bytes}
+use Rattle.ws_session.specs.declared.limits.TheConstants.{MAX_MESSAGE}
 use Rattle.ws_session.specs.declared.message.Kind.{Kind}
 use Rattle.ws_session.specs.declared.message.Message.{Message}
 use Rattle.ws_session.specs.declared.event.Event.{Event}
@@ -13,7 +14,7 @@ use Rattle.ws_session.specs.declared.receiver.under_way.UnderWay.{UnderWay}
 use Rattle.ws_session.specs.declared.receiver.under_way.UnderWay.TheVariants as under_way
 use Rattle.ws_session.specs.declared.receiver.frame_check.Content.{Content}
 use Rattle.ws_session.specs.declared.receiver.frame_check.Content.TheVariants as content
-use Rattle.ws_session.specs.Limits.{LimitsValue}
+use Rattle.ws_session.specs.Limits.{LimitsValue, most_beside}
 use Rattle.ws_session.specs.Faults.{open_payload}
 use Rattle.ws_session.specs.Exchange.{SendingValue, SessionValue}
 use Rattle.ws_session.specs.InnerAssembly.{IsTextOf, HasReadOpen}
@@ -45,9 +46,9 @@ receiver_of role limits a frame = record {
 -- what is shown is a part of one frame and a message within the limits
 pub record IsSoundReceiver (v : ReceiverValue) : Type 0 where
   pub part : IsPartOfFrame v.role v.limits v.opened v.partial_frame
-  pub limit : v.limits.max_message ≤ 16777216
+  pub limit : v.limits.max_message ≤ MAX_MESSAGE
   pub size : length (open_payload v.opened) ≤ v.limits.max_message
-  pub held : length (open_payload v.opened) + length v.partial_frame ≤ v.limits.max_message + 139
+  pub held : length (open_payload v.opened) + length v.partial_frame ≤ v.limits.max_message + most_beside
 
 pub record IsReceiving (role : Role) (limits : LimitsValue) (a : AssemblyValue) (frame : UnderWay) : Type 0 where
   pub under_way : IsUnderWay role limits a frame

@@ -2,6 +2,7 @@
 -- A reader may skip this file.
 use Rattle.std.specs.Prelude.{◌≡◌, ℕ, ◌+◌, ◌≤◌, ◌<◌, Bool, if◌then◌else◌, List, [], ◌++◌, length, Option, Some, None}
 use Rattle.ws_text.specs.Stream.{HasReadText}
+use Rattle.ws_session.specs.declared.limits.TheConstants.{MAX_MESSAGE}
 use Rattle.ws_session.specs.declared.message.Kind.TheVariants.{Text, Binary}
 use Rattle.ws_session.specs.declared.message.Message.{Message}
 use Rattle.ws_session.specs.declared.sending.SentSoFar.{SentSoFar}
@@ -11,7 +12,7 @@ use Rattle.ws_session.specs.declared.send_fault.SendFault.TheVariants.{NotText, 
 use Rattle.ws_session.specs.Faults.{IsLowest}
 use Rattle.ws_session.specs.Exchange.{SendingValue, IsSendingOf}
 use Rattle.ws_session.specs.InnerNextFrame.{opened_with}
-use Rattle.ws_session.specs.Sends.{Send, frame_of, most_sent, IsNoText, IsWrongWith, number_of_fault}
+use Rattle.ws_session.specs.Sends.{Send, frame_of, IsNoText, IsWrongWith, number_of_fault}
 
 -- ---- what is kept
 
@@ -32,8 +33,8 @@ HasReadSome text = (read : List ℕ) × HasReadText text read
 -- it is no larger than a message may be
 abbrev pub CanGoOn : Option SentSoFar → Type 0
 CanGoOn None = Unit {0}
-CanGoOn (Some (so_far.Text size text)) = (size ≤ most_sent) × HasReadSome text
-CanGoOn (Some (so_far.Binary size)) = size ≤ most_sent
+CanGoOn (Some (so_far.Text size text)) = (size ≤ MAX_MESSAGE) × HasReadSome text
+CanGoOn (Some (so_far.Binary size)) = size ≤ MAX_MESSAGE
 
 -- ---- a payload after what was sent of its message
 
@@ -41,7 +42,7 @@ CanGoOn (Some (so_far.Binary size)) = size ≤ most_sent
 abbrev pub IsRefusedBehind : Message → List ℕ → Bool → SendFault → Type 0
 IsRefusedBehind message payload fin NotText = (message.kind ≡ Text) × IsNoText fin (message.payload ++ payload)
 IsRefusedBehind message payload fin TooLong = (message.kind ≡ Text → ¬ IsNoText fin (message.payload ++ payload))
-    × (most_sent < length message.payload + length payload)
+    × (MAX_MESSAGE < length message.payload + length payload)
 IsRefusedBehind message payload fin _ = ⊥
 
 -- the message that is open after it
@@ -52,7 +53,7 @@ sent_behind message payload fin = if fin then None
 -- it may be sent, and this is what is kept then
 pub record IsSentBehind (message : Message) (payload : List ℕ) (fin : Bool) (after : Option SendingValue) : Type 0 where
   pub text : message.kind ≡ Text → ¬ IsNoText fin (message.payload ++ payload)
-  pub size : length message.payload + length payload ≤ most_sent
+  pub size : length message.payload + length payload ≤ MAX_MESSAGE
   pub sending : IsSendingOf (sent_behind message payload fin) after
 
 -- ---- a send after an open message

@@ -6,6 +6,7 @@ use Rattle.std.specs.Borrow.{Bor}
 use Rattle.ws_frame.specs.Frame.{Frame, FitsTheLayout, frame_bytes}
 use Rattle.ws_text.specs.Text.{IsText, BeginsText}
 use Rattle.ws_text.specs.Close.{CloseValue, CodeAllowed, close_payload}
+use Rattle.ws_session.specs.declared.limits.TheConstants.{MAX_MESSAGE}
 use Rattle.ws_session.specs.declared.message.Kind.{Kind}
 use Rattle.ws_session.specs.declared.message.Kind.TheVariants.{Text}
 use Rattle.ws_session.specs.declared.message.Message.{Message}
@@ -61,13 +62,10 @@ HasTextReason _ = Unit {0}
 
 -- ---- refusals
 
--- our choice: the most payload bytes of a message that is sent (section 10.4 leaves it open)
-abbrev pub most_sent : ℕ
-most_sent = 16777216
-
 -- the limits that the frames of an endpoint keep to
+-- our choice: section 10.4 leaves them open
 abbrev pub most_limits : LimitsValue
-most_limits = record { max_message = most_sent; max_frame = most_sent }
+most_limits = record { max_message = MAX_MESSAGE; max_frame = MAX_MESSAGE }
 
 -- nothing makes these bytes of a message a text, or it ends with them and they are none
 abbrev pub IsNoText : Bool → List ℕ → Type 0
@@ -79,8 +77,8 @@ IsWrongWith opened (Begin kind payload fin) Busy = opened ≢ None
 IsWrongWith opened (More payload fin) NothingOpen = opened ≡ None
 IsWrongWith opened (Begin kind payload fin) NotText = (kind ≡ Text) × IsNoText fin payload
 IsWrongWith opened (More payload fin) NotText = IsOpenText opened × IsNoText fin (open_payload opened ++ payload)
-IsWrongWith opened (Begin kind payload fin) TooLong = most_sent < length payload
-IsWrongWith opened (More payload fin) TooLong = most_sent < length (open_payload opened) + length payload
+IsWrongWith opened (Begin kind payload fin) TooLong = MAX_MESSAGE < length payload
+IsWrongWith opened (More payload fin) TooLong = MAX_MESSAGE < length (open_payload opened) + length payload
 IsWrongWith opened (Ping payload) TooLong = 125 < length payload
 IsWrongWith opened (Pong payload) TooLong = 125 < length payload
 IsWrongWith opened (Close (Some close)) TooLong = 123 < length close.reason

@@ -33,7 +33,7 @@ pub use echo::Echo;
 pub use event::{Event, PlacedEvent, TakeStop, Taken};
 pub use feeding::{Run, feed_all};
 pub use keyed_send::{KeyedSend, read_send};
-pub use limits::Limits;
+pub use limits::{Limits, MAX_MESSAGE};
 pub use message::{Kind, Message};
 pub use outgoing::Outgoing;
 pub use reason::Reason;

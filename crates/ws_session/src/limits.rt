@@ -5,8 +5,9 @@ ghost use Rattle.ws_session.specs.Limits.{LimitsValue, AreLimits};
 
 use std::marker::Model;
 
-/// The most that a limit on a message's payload can be, in bytes.
-const MOST: u32 = 16_777_216;
+/// The most payload bytes of a message: no limit is above it, and no message that is sent has more. The number is
+/// ours: section 10.4 leaves it to the endpoint.
+pub const MAX_MESSAGE: u32 = 16_777_216;
 
 /// What a session takes at most: the payload bytes of one message, and of one data frame. A control frame has its own
 /// limit, 125 bytes (section 5.5).
@@ -29,7 +30,7 @@ impl Model for Limits {
 }
 
 impl Limits {
-    /// Messages of at most so many payload bytes, in frames of any size. `None` outside 1 to 16,777,216.
+    /// Messages of at most so many payload bytes, in frames of any size. `None` outside 1 to `MAX_MESSAGE`.
     pub fn new(max_message: u32) -> Option<Limits>
         ensures { let limits : LimitsValue = record { max_message = max_message; max_frame = max_message }
             in MatchOption result (¬ (AreLimits limits)) (λ l. (l ≡ limits) × AreLimits limits) }
@@ -38,12 +39,12 @@ impl Limits {
     }
 
     /// Messages of at most `max_message` payload bytes, in data frames of at most `max_frame` each. `None` where a
-    /// frame could have none or more than a message, or a message more than 16,777,216.
+    /// frame could have none or more than a message, or a message more than `MAX_MESSAGE`.
     pub fn with_frame(max_message: u32, max_frame: u32) -> Option<Limits>
         ensures { let limits : LimitsValue = record { max_message = max_message; max_frame = max_frame }
             in MatchOption result (¬ (AreLimits limits)) (λ l. (l ≡ limits) × AreLimits limits) }
     {
-        if max_frame == 0 || max_frame > max_message || max_message > MOST {
+        if max_frame == 0 || max_frame > max_message || max_message > MAX_MESSAGE {
             return None;
         }
         Some(Limits {
@@ -55,7 +56,7 @@ impl Limits {
     /// The most payload bytes of one message.
     pub fn max_message(&self) -> u32
         ensures value { result ≡ self.now.max_message }
-        ensures bound { result ≤ 16777216 }
+        ensures bound { result ≤ MAX_MESSAGE }
     {
         self.max_message
     }

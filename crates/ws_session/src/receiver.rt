@@ -4,6 +4,7 @@
 //! all as it was.
 
 ghost use Rattle.std.specs.Prelude.{◌≡◌, ◌+◌, ◌≤◌, ◌<◌, [], length, Option, None, true, false, IfOk, OnErr};
+ghost use Rattle.ws_session.specs.Limits.{most_beside};
 ghost use Rattle.ws_session.specs.Faults.{open_payload};
 ghost use Rattle.ws_session.specs.Exchange.{SendingValue, is_over};
 ghost use Rattle.ws_session.specs.Taking.{HasTaken};
@@ -19,6 +20,7 @@ mod data_payload;
 mod frame_check;
 mod frame_end;
 mod header_end;
+mod header_kind;
 mod header_rules;
 mod inside;
 mod under_way;
@@ -84,7 +86,7 @@ impl Receiver {
     /// The number of input bytes that are kept: those of the open message and of the frame under way.
     pub(crate) fn held(&self) -> usize
         ensures held { result ≡ length (open_payload self.now.opened) + length self.now.partial_frame }
-        ensures bound { result ≤ self.now.limits.max_message + 139 }
+        ensures bound { result ≤ self.now.limits.max_message + most_beside }
     {
         self.assembly.open_len() + self.frame.len()
     }

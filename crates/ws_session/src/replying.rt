@@ -2,6 +2,7 @@
 
 ghost use Rattle.std.specs.Prelude.{◌≡◌, ◌≢◌, ◌≤◌, ◌<◌, ◌∷◌, [], ◌++◌, length, OnOk, OnErr};
 ghost use Rattle.ws_frame.specs.Frame.{Frame, FitsTheLayout, frame_bytes};
+ghost use Rattle.ws_session.specs.declared.limits.TheConstants.{MAX_MESSAGE};
 ghost use Rattle.ws_session.specs.Replies.{control_frame, under_key};
 ghost use Rattle.ws_session.specs.declared.message.Message.{Message};
 ghost use Rattle.ws_session.specs.InnerNextFrame.{due_at};
@@ -34,7 +35,7 @@ impl Replying {
         out: &mut Vec<u8>,
     ) -> Result<(), NoMemory>
         requires opcode { opcode < 16 }
-        requires short { length payload.now ≤ 16777216 }
+        requires short { length payload.now ≤ MAX_MESSAGE }
         ensures put { OnOk result (out.new.items
             ≡ out.old.items ++ bytes_put self.now (control_frame opcode payload.now ∷ [])) }
         ensures kept { OnErr result (out.new.items ≡ out.old.items) }
@@ -54,7 +55,7 @@ impl Replying {
         payload: &[u8],
         out: &mut Vec<u8>,
     ) -> Result<(), NoMemory>
-        requires { length payload.now ≤ 16777216 }
+        requires { length payload.now ≤ MAX_MESSAGE }
         ensures put { let message : Message = record { kind = kind; payload = payload.now }
             in OnOk result (out.new.items
             ≡ out.old.items ++ bytes_put self.now (reply_to_message self.now.answering message)) }
@@ -80,7 +81,7 @@ pub(crate) fn put_frame(
     out: &mut Vec<u8>,
 ) -> Result<(), NoMemory>
     requires opcode { opcode < 16 }
-    requires short { length payload.now ≤ 16777216 }
+    requires short { length payload.now ≤ MAX_MESSAGE }
     ensures put { let frame : Frame = record { fin = fin; rsv = 0; opcode = opcode; payload = payload.now }
         in OnOk result ((out.new.items ≡ out.old.items ++ frame_bytes (under_key role key frame))
         × FitsTheLayout (under_key role key frame)) }

@@ -10,13 +10,11 @@ ghost use Rattle.ws_session.specs.Sends.{Begin, More, IsNoText};
 ghost use Rattle.ws_session.specs.InnerSending.{HasReadSome, IsSentBehind, IsRefusedBehind, IsSentWith};
 ghost use Rattle.ws_session.specs.InnerSending.{IsFirstWrongWith};
 
+use crate::limits::MAX_MESSAGE;
 use crate::message::Kind;
 use crate::send_fault::SendFault;
 use std::marker::Model;
 use ws_text::Utf8Stream;
-
-/// The most payload bytes of a message that is sent (section 10.4).
-const MOST: usize = 16_777_216;
 
 /// What is kept of an open message: its size so far, and where it is text the stream that has read it.
 #[derive(Drop)]
@@ -59,7 +57,7 @@ impl Sending {
         payload: &[u8],
         fin: bool,
     ) -> Result<Sending, SendFault>
-        ensures short { OnOk result (length payload.now ≤ 16777216) }
+        ensures short { OnOk result (length payload.now ≤ MAX_MESSAGE) }
         ensures checked { (opened : Option Message) → IsSendingOf opened self.now →
             MatchResult result (λ sending. IsSentWith opened (Begin kind payload.now fin) sending)
             (λ fault. IsFirstWrongWith opened (Begin kind payload.now fin) fault) }
@@ -75,7 +73,7 @@ impl Sending {
 
     /// What is kept once the next frame of the open message is sent, or why it isn't sent.
     pub(crate) fn after_next(&self, payload: &[u8], fin: bool) -> Result<Sending, SendFault>
-        ensures short { OnOk result (length payload.now ≤ 16777216) }
+        ensures short { OnOk result (length payload.now ≤ MAX_MESSAGE) }
         ensures checked { (opened : Option Message) → IsSendingOf opened self.now →
             MatchResult result (λ sending. IsSentWith opened (More payload.now fin) sending)
             (λ fault. IsFirstWrongWith opened (More payload.now fin) fault) }
@@ -95,9 +93,9 @@ fn after_text(
     payload: &[u8],
     fin: bool,
 ) -> Result<Sending, SendFault>
-    requires size { size ≤ 16777216 }
+    requires size { size ≤ MAX_MESSAGE }
     requires read { HasReadSome text }
-    ensures short { OnOk result (length payload.now ≤ 16777216) }
+    ensures short { OnOk result (length payload.now ≤ MAX_MESSAGE) }
     ensures checked { (message : Message) → message.kind ≡ OfKind.Text → size ≡ length message.payload →
         HasReadText text message.payload →
         MatchResult result (IsSentBehind message payload.now fin) (IsRefusedBehind message payload.now fin) }
@@ -105,7 +103,7 @@ fn after_text(
     let Some(text) = read(text, payload, fin) else {
         return Err(SendFault::NotText);
     };
-    if payload.len() > MOST - size {
+    if payload.len() > MAX_MESSAGE as usize - size {
         return Err(SendFault::TooLong);
     }
     if fin {
@@ -138,12 +136,12 @@ fn read(text: Utf8Stream, payload: &[u8], fin: bool) -> Option<Utf8Stream>
 
 /// What is kept of a binary message after one more payload, or why it isn't sent.
 fn after_binary(size: usize, payload: &[u8], fin: bool) -> Result<Sending, SendFault>
-    requires { size ≤ 16777216 }
-    ensures short { OnOk result (length payload.now ≤ 16777216) }
+    requires { size ≤ MAX_MESSAGE }
+    ensures short { OnOk result (length payload.now ≤ MAX_MESSAGE) }
     ensures checked { (message : Message) → message.kind ≡ OfKind.Binary → size ≡ length message.payload →
         MatchResult result (IsSentBehind message payload.now fin) (IsRefusedBehind message payload.now fin) }
 {
-    if payload.len() > MOST - size {
+    if payload.len() > MAX_MESSAGE as usize - size {
         return Err(SendFault::TooLong);
     }
     if fin {

@@ -4,6 +4,7 @@ ghost use Rattle.std.specs.Prelude.{◌≡◌, ◌+◌, ◌≤◌, ◌<◌, ℕ,
 ghost use Rattle.std.specs.Prelude.{IsOkAnd, OnErr};
 ghost use Rattle.ws_frame.specs.Frame.{Frame};
 ghost use Rattle.ws_session.specs.declared.status.Status.TheVariants.{Lost};
+ghost use Rattle.ws_session.specs.Limits.{most_beside};
 ghost use Rattle.ws_session.specs.Faults.{open_payload};
 ghost use Rattle.ws_session.specs.Replies.{reply_to};
 ghost use Rattle.ws_session.specs.Exchange.{HasExchanged, HasSomeExchange, is_over};
@@ -83,7 +84,7 @@ impl Session {
     /// at most 139 more than the limit of a message, and none once the session is over.
     pub fn held(&self) -> usize
         ensures held { result ≡ length (open_payload self.now.opened) + length self.now.partial_frame }
-        ensures bound { result ≤ self.now.limits.max_message + 139 }
+        ensures bound { result ≤ self.now.limits.max_message + most_beside }
         ensures over { is_over self.now.status ≡ true → result ≡ 0 }
     {
         self.state.held()

@@ -13,11 +13,8 @@ use std::alloc::Global;
 use std::io::{Read, Write};
 use ws_base::{NoMemory, Payload, Sequence};
 use ws_frame::Watched;
-use ws_session::Limits;
+use ws_session::{Limits, MAX_MESSAGE};
 use ws_suite::{Ended, Transcript, Turn};
-
-/// The largest messages that are told apart.
-const MOST: u32 = 16_777_216;
 
 /// Sends the turns and reads what comes for each. `first` came with the head.
 pub fn run_turns<R: Read, W: Write>(
@@ -78,7 +75,7 @@ fn without_turns(alloc: Global, got: Vec<u8>) -> Result<Vec<Turn>, NoMemory>
 
 /// The largest limits.
 fn most() -> Limits {
-    match Limits::new(MOST) {
+    match Limits::new(MAX_MESSAGE) {
         Some(limits) => limits,
         None => unreachable!(),
     }

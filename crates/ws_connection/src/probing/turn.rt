@@ -10,11 +10,8 @@ use crate::awaiting::Awaited;
 use std::alloc::Global;
 use std::io::{Read, Write};
 use ws_base::{NoMemory, Payload};
-use ws_frame::Watched;
+use ws_frame::{READ_SIZE, Watched};
 use ws_suite::{Ended, Turn};
-
-/// How many bytes one read asks for at most.
-const READ_SIZE: usize = 4096;
 
 /// Sends the pieces of a turn and reads what comes for it: where it `waits`, until what is owed has come, and else, as
 /// after a failed write, to the end of the stream. `before` came before it. Answers the turn, and how the script ended,

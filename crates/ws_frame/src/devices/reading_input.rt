@@ -9,8 +9,8 @@ use crate::devices::watching::Watched;
 use std::alloc::Global;
 use std::io::Read;
 
-/// How many bytes one read asks for at most.
-const READ_SIZE: usize = 4096;
+/// How many bytes one read of an input or of a connection asks for at most.
+pub const READ_SIZE: usize = 4096;
 
 /// How the reading of an input ended.
 #[derive(Clone, Copy)]
@@ -26,8 +26,8 @@ pub enum InputEnd {
 }
 
 /// Reads to the end, to a failed read, to the budget, or until memory runs out, and answers what was read. No read asks
-/// for more than 4096 bytes or than is left of the budget, which counts bytes; once it is used up nothing more is
-/// read. Without a budget the input is read to its end.
+/// for more than `READ_SIZE` bytes or than is left of the budget, which counts bytes; once it is used up nothing more
+/// is read. Without a budget the input is read to its end.
 pub fn read_input<R: Read>(
     alloc: Global,
     reader: &mut Watched<R>,

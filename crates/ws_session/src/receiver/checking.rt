@@ -14,6 +14,7 @@ use crate::receiver::control_frame::check_control;
 use crate::receiver::data_payload::{check_data, check_whole};
 use crate::receiver::frame_check::{DataFrame, FrameCheck};
 use crate::receiver::header_end::complete_header;
+use crate::receiver::header_kind::is_data;
 use crate::receiver::header_rules::reason_at_header;
 use crate::receiver::under_way::UnderWay;
 use ws_base::NoMemory;
@@ -83,7 +84,7 @@ pub(super) fn check_data_frame(
         return Ok(None);
     };
     let rest = &piece[end.used..];
-    if end.header.opcode() > 2 || end.header.payload_len() > rest.len() as u64 {
+    if !is_data(&end.header) || end.header.payload_len() > rest.len() as u64 {
         return Ok(None);
     }
     if let Some(_) = reason_at_header(role, limits, assembly, &end.header) {
@@ -126,7 +127,7 @@ fn check_header(
         });
     }
     let rest = &piece[end.used..];
-    if end.header.opcode() < 8 {
+    if is_data(&end.header) {
         let check = check_data(assembly, &end.header, 0, end.used, rest)?;
         return Ok(check);
     }

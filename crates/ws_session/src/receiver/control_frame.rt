@@ -6,12 +6,11 @@ ghost use Rattle.ws_session.specs.InnerChecking.{reason_of_close};
 ghost use Rattle.ws_session.specs.InnerReceiving.{AssemblyValue, arrived_payload, IsPayloadCheck, IsWholeControl};
 
 use crate::control_payload::Small;
-use crate::opcode::{CLOSE, PING};
 use crate::reason::Reason;
 use crate::receiver::assembly::Assembly;
 use crate::receiver::frame_check::{Content, FrameCheck};
 use crate::receiver::under_way::UnderWay;
-use ws_frame::Header;
+use ws_frame::{Header, Opcode};
 use ws_text::{CloseFault, ClosePayload};
 
 /// Checks what is there of the payload after the bytes that came before. `rest` is what the piece has after its first
@@ -52,13 +51,13 @@ fn check_whole(header: &Header, payload: &Small, used: usize) -> FrameCheck
     requires short { header.now.len ≤ 125 }
     ensures { (a : AssemblyValue) → IsWholeControl header.now used payload.now a result }
 {
-    if header.opcode() == CLOSE {
-        return check_close(header, payload.as_slice(), used);
-    }
-    let content = if header.opcode() == PING {
-        Content::Ping(*payload)
-    } else {
-        Content::Pong(*payload)
+    let content = match Opcode::of(header.opcode()) {
+        Opcode::Close => return check_close(header, payload.as_slice(), used),
+        Opcode::Ping => Content::Ping(*payload),
+        Opcode::Pong => Content::Pong(*payload),
+        Opcode::Continuation | Opcode::Text | Opcode::Binary | Opcode::Reserved(_) => {
+            unreachable!()
+        }
     };
     FrameCheck::Whole { used, content }
 }

@@ -13,10 +13,10 @@ ghost use Rattle.ws_session.specs.InnerReceiving.{HasKept, IsJoined, first_bytes
 ghost use Rattle.ws_session.specs.InnerReceiving.{IsPayloadCheck, IsTextRead, IsTextFault, IsWithoutFault};
 
 use crate::message::Kind;
-use crate::opcode::{CONTINUATION, TEXT};
 use crate::reason::Reason;
 use crate::receiver::assembly::Assembly;
 use crate::receiver::frame_check::{Content, DataFrame, FrameCheck};
+use crate::receiver::header_kind::{begins_text, continues_message};
 use crate::receiver::under_way::UnderWay;
 use ws_base::NoMemory;
 use ws_frame::Header;
@@ -163,7 +163,7 @@ fn without_fault(
 fn kind_of_opcode(header: &Header) -> Kind
     ensures { result ≡ kind_of header.now.opcode }
 {
-    if header.opcode() == TEXT {
+    if begins_text(header) {
         Kind::Text
     } else {
         Kind::Binary
@@ -206,7 +206,7 @@ fn check_text(
 fn is_of_text(assembly: &Assembly, header: &Header) -> bool
     ensures { IsTrue result ↔ IsOfText assembly.now.opened header.now }
 {
-    header.opcode() == TEXT || (header.opcode() == CONTINUATION && assembly.is_text())
+    begins_text(header) || (continues_message(header) && assembly.is_text())
 }
 
 /// Whether the message ends with these bytes of those that are left of the payload, and the text doesn't.

@@ -1,12 +1,15 @@
 //! The rules of a header after the open message, told at its last byte (RFC 6455 sections 5.1 to 5.5).
 
 ghost use Rattle.std.specs.Prelude.{◌+◌, ◌<◌, ◌↔◌, IsTrue, length, MatchOption};
-ghost use Rattle.ws_session.specs.Faults.{IsControl, open_payload, AppliesAtHeader};
+ghost use Rattle.ws_session.specs.Faults.{open_payload, AppliesAtHeader};
 ghost use Rattle.ws_session.specs.InnerChecking.{NoneAtHeader, IsFirstAtHeader};
 
 use crate::limits::Limits;
 use crate::reason::Reason;
 use crate::receiver::assembly::Assembly;
+use crate::receiver::header_kind::{
+    begins_message, continues_message, is_control, is_data, is_reserved,
+};
 use ws_frame::{Header, Role};
 use ws_text::MAX_CONTROL_PAYLOAD;
 
@@ -54,7 +57,7 @@ pub(super) fn reason_at_header(
 fn is_fine_data(role: Role, limits: Limits, assembly: &Assembly, header: &Header) -> bool
     ensures { IsTrue result → NoneAtHeader role limits assembly.now.opened header.now }
 {
-    header.opcode() <= 2
+    is_data(header)
         && !applies(role, limits, assembly, header, Reason::ReservedBits)
         && !applies(role, limits, assembly, header, Reason::MaskWrong)
         && !applies(role, limits, assembly, header, Reason::NotShortest)
@@ -71,18 +74,18 @@ fn applies(role: Role, limits: Limits, assembly: &Assembly, header: &Header, rea
 {
     match reason {
         Reason::ReservedBits => header.rsv() != 0,
-        Reason::Opcode => matches!(header.opcode(), 3..=7 | 11..),
+        Reason::Opcode => is_reserved(header),
         Reason::MaskWrong => header.key().is_some() != (role == Role::Server),
         Reason::NotShortest => header.is_longer_than_needed(),
         Reason::BadLength => header.payload_len() >= BAD_LENGTH,
         Reason::ControlCut => is_control(header) && !header.fin(),
         Reason::ControlLong => is_control(header)
             && header.payload_len() > MAX_CONTROL_PAYLOAD as u64,
-        Reason::NothingToContinue => header.opcode() == 0 && !assembly.is_open(),
-        Reason::MessageOpen => matches!(header.opcode(), 1 | 2) && assembly.is_open(),
-        Reason::TooBig => header.opcode() <= 2 && is_too_big(limits, assembly, header),
+        Reason::NothingToContinue => continues_message(header) && !assembly.is_open(),
+        Reason::MessageOpen => begins_message(header) && assembly.is_open(),
+        Reason::TooBig => is_data(header) && is_too_big(limits, assembly, header),
         Reason::FrameBig => {
-            header.opcode() <= 2 && header.payload_len() > u64::from(limits.max_frame())
+            is_data(header) && header.payload_len() > u64::from(limits.max_frame())
         }
         Reason::NotText
         | Reason::TextCut
@@ -90,13 +93,6 @@ fn applies(role: Role, limits: Limits, assembly: &Assembly, header: &Header, rea
         | Reason::CloseCode
         | Reason::CloseReason => false,
     }
-}
-
-/// Whether the opcode is that of a control frame (section 5.5).
-fn is_control(header: &Header) -> bool
-    ensures { IsTrue result ↔ IsControl header.now }
-{
-    matches!(header.opcode(), 8..=10)
 }
 
 /// Whether the frame takes the open message above the limit.

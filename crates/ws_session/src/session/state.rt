@@ -2,6 +2,7 @@
 
 ghost use Rattle.std.specs.Prelude.{◌≡◌, ◌+◌, ◌≤◌, ◌<◌, [], length, None, true, IfOk, IsOkAnd, OnErr};
 ghost use Rattle.ws_session.specs.declared.status.Status.TheVariants.{Open};
+ghost use Rattle.ws_session.specs.Limits.{most_beside};
 ghost use Rattle.ws_session.specs.Faults.{open_payload};
 ghost use Rattle.ws_session.specs.Exchange.{is_over};
 ghost use Rattle.ws_session.specs.Taking.{HasTaken, TakesNothing};
@@ -72,7 +73,7 @@ impl State {
 
     pub(super) fn held(&self) -> usize
         ensures held { result ≡ length (open_payload self.now.opened) + length self.now.partial_frame }
-        ensures bound { result ≤ self.now.limits.max_message + 139 }
+        ensures bound { result ≤ self.now.limits.max_message + most_beside }
         ensures over { is_over self.now.status ≡ true → result ≡ 0 }
     {
         self.receiver.held()

@@ -12,14 +12,8 @@ use crate::lemmas::session_laws;
 use crate::transcript::{Transcript, Turn};
 use std::alloc::Global;
 use ws_base::{NoMemory, Sequence};
-use ws_frame::Role;
-use ws_session::{Event, Limits, PlacedEvent, Session};
-
-/// The most payload bytes of a message: what a session can take at most.
-const MAX_MESSAGE: u32 = 16_777_216;
-
-/// The key for what a session puts, which nobody reads.
-const NO_KEY: [u8; 4] = [0; 4];
+use ws_frame::{NO_KEY, Role};
+use ws_session::{Event, Limits, MAX_MESSAGE, PlacedEvent, Session};
 
 /// One of the two directions.
 #[derive(Clone, Copy)]

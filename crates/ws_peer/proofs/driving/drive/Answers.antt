@@ -1,5 +1,6 @@
 use Rattle.std.proofs.Common.{rules, ◌≡◌, ℕ, [], false, true, ◌<◌, ◌≤◌, ◌++◌, ◌∙◌, length, sym, ap, refl, subst, arith, take}
 use Rattle.std.proofs.lemmas.List.{length-take}
+use Rattle.ws_frame.specs.declared.devices.reading_input.TheConstants.{READ_SIZE}
 use Rattle.ws_frame.specs.Devices.{Device, watched}
 use Rattle.ws_frame.specs.Watching.{has_failed}
 use Rattle.ws_session.specs.declared.status.Status.{Status}
@@ -79,10 +80,10 @@ returns-in-Err-answer-clause-driven g c =
     let output = watched g.W.Write.contents c.args.writer.now c.answer-in-Ok.new.writer in
     let last = watched g.W.Write.contents c.reads.writer c.answer-in-Ok.new.writer in
     let piece = take c.in-Ok.count c.read.new.buf in
-    let bound : length c.read.new.buf ≤ 4096 = omega (arith, length-take {A = ℕ}) in
+    let bound : length c.read.new.buf ≤ READ_SIZE = omega (arith, length-take {A = ℕ}) in
     let fits : length c.read.new.buf ≤ c.reads.left = omega (arith, length-take {A = ℕ}) in
     told call (end_of_stop c.in-Err-answer.stop) c.end-in-Err-answer.result c.answer-in-Ok.new.echo input output c.end-in-Err-answer.ensures
-    (stops_at_read c.echo_laws.ensures call c.reads.left c.reads.echo c.answer-in-Ok.new.echo input output last _ _ piece c.in-Err-answer.stop c.reads.invariant.driven going c.in-Ok.ensures.bytes.0 (gave_at_most c.in-Ok.count 4096 c.read.new.buf bound) (gave_at_most c.in-Ok.count c.reads.left c.read.new.buf fits) refl refl
+    (stops_at_read c.echo_laws.ensures call c.reads.left c.reads.echo c.answer-in-Ok.new.echo input output last _ _ piece c.in-Err-answer.stop c.reads.invariant.driven going c.in-Ok.ensures.bytes.0 (gave_at_most c.in-Ok.count READ_SIZE c.read.new.buf bound) (gave_at_most c.in-Ok.count c.reads.left c.read.new.buf fits) refl refl
     (λ bytes put stands. c.in-Err-answer.ensures call bytes put refl stands))
 
 pub returns-in-Err-answer-clause-fair : goal.returns-in-Err-answer-clause-fair
@@ -101,13 +102,13 @@ reads-preserved g c =
     let call = call_of_drive c.args.echo.now.role c.args.echo.now.limits c.args.key c.args.first.now c.args.budget in
     let h = c.reads.invariant.driven in
     let piece = take c.in-Ok.count c.read.new.buf in
-    let bound : length c.read.new.buf ≤ 4096 = omega (arith, length-take {A = ℕ}) in
+    let bound : length c.read.new.buf ≤ READ_SIZE = omega (arith, length-take {A = ℕ}) in
     let fits : length c.read.new.buf ≤ c.reads.left = omega (arith, length-take {A = ℕ}) in
     let (works, more, wrote, stands) = c.in_default-answer.ensures call _ h.written refl h.stands in
     record {
       reader_works = search rules;
       writer_works = works;
-      driven = has_driven_more c.echo_laws.ensures call c.reads.left c.reads.echo _ _ _ _ h going c.answer-in-Ok.new.echo _ _ piece more _ c.in-Ok.ensures.bytes.0 (gave_at_most c.in-Ok.count 4096 c.read.new.buf bound) (gave_all c.in-Ok.count c.reads.left c.read.new.buf (omega (arith, c.in-Ok.ensures.bound)) fits) wrote stands;
+      driven = has_driven_more c.echo_laws.ensures call c.reads.left c.reads.echo _ _ _ _ h going c.answer-in-Ok.new.echo _ _ piece more _ c.in-Ok.ensures.bytes.0 (gave_at_most c.in-Ok.count READ_SIZE c.read.new.buf bound) (gave_all c.in-Ok.count c.reads.left c.read.new.buf (omega (arith, c.in-Ok.ensures.bound)) fits) wrote stands;
     }
 
 pub returns-clause-driven : goal.returns-clause-driven

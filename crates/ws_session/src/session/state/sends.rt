@@ -4,6 +4,7 @@ ghost use Rattle.std.specs.Prelude.{◌≡◌, ◌≢◌, ◌≤◌, ◌<◌, le
 ghost use Rattle.std.specs.Prelude.{◌++◌};
 ghost use Rattle.ws_frame.specs.Frame.{Frame, FitsTheLayout, frame_bytes};
 ghost use Rattle.ws_text.specs.Close.{CloseValue};
+ghost use Rattle.ws_session.specs.declared.limits.TheConstants.{MAX_MESSAGE};
 ghost use Rattle.ws_session.specs.declared.send_fault.SendFault.TheVariants as SendFault;
 ghost use Rattle.ws_session.specs.declared.status.Status.TheVariants as Status;
 ghost use Rattle.ws_session.specs.Sends.{Begin, More, Ping, Pong, Close, close_given, send_of};
@@ -154,7 +155,7 @@ impl State {
         out: &mut Vec<u8>,
     ) -> Result<(), SendFault>
         requires opcode { opcode < 16 }
-        requires short { length payload.now ≤ 16777216 }
+        requires short { length payload.now ≤ MAX_MESSAGE }
         ensures put { let frame : Frame = record { fin = fin; rsv = 0; opcode = opcode; payload = payload.now }
             in OnOk result ((out.new.items ≡ out.old.items ++ frame_bytes (under_key self.now.role key frame))
             × FitsTheLayout (under_key self.now.role key frame)) }

@@ -1,4 +1,6 @@
 use Rattle.std.proofs.Common.{◌≡◌, ◌∙◌, ◌+◌, ◌≤◌, length, ap, arith}
+use Rattle.ws_session.specs.declared.limits.TheConstants.{MAX_MESSAGE}
+use Rattle.ws_session.specs.Limits.{most_beside}
 use Rattle.ws_session.specs.Faults.{open_payload}
 use Rattle.ws_session.specs.InnerReceiving.{partial_of}
 use Rattle.ws_session.specs.InnerReceiver.{ReceiverValue}
@@ -10,8 +12,8 @@ len-requires c =
     let i = c.self.inside in
     let size = partial_len i.role i.limits i.assembly i.frame c.self.invariant.under_way in
     let sound = c.self.invariant.sound in
-    let held : length (open_payload i.assembly.opened) + length (partial_of i.assembly i.frame) ≤ i.limits.max_message + 139 = sound.held in
-    let limit : i.limits.max_message ≤ 16777216 = sound.limit in
+    let held : length (open_payload i.assembly.opened) + length (partial_of i.assembly i.frame) ≤ i.limits.max_message + most_beside = sound.held in
+    let limit : i.limits.max_message ≤ MAX_MESSAGE = sound.limit in
     omega (arith, size, held, limit)
 
 pub overflow_add-result : goal.overflow_add-result
@@ -19,8 +21,8 @@ overflow_add-result c =
     let i = c.self.inside in
     let size = partial_len i.role i.limits i.assembly i.frame c.self.invariant.under_way in
     let sound = c.self.invariant.sound in
-    let held : length (open_payload i.assembly.opened) + length (partial_of i.assembly i.frame) ≤ i.limits.max_message + 139 = sound.held in
-    let limit : i.limits.max_message ≤ 16777216 = sound.limit in
+    let held : length (open_payload i.assembly.opened) + length (partial_of i.assembly i.frame) ≤ i.limits.max_message + most_beside = sound.held in
+    let limit : i.limits.max_message ≤ MAX_MESSAGE = sound.limit in
     omega (arith, size, held, limit, c.open_len.ensures, c.len.ensures)
 
 pub returns-clause-held : goal.returns-clause-held
@@ -35,6 +37,6 @@ returns-clause-bound c =
     let i = c.self.inside in
     let size = partial_len i.role i.limits i.assembly i.frame c.self.invariant.under_way in
     let sound = c.self.invariant.sound in
-    let held : length (open_payload i.assembly.opened) + length (partial_of i.assembly i.frame) ≤ i.limits.max_message + 139 = sound.held in
+    let held : length (open_payload i.assembly.opened) + length (partial_of i.assembly i.frame) ≤ i.limits.max_message + most_beside = sound.held in
     let max : i.limits.max_message ≡ c.args.self.now.limits.max_message = ap (λ (v : ReceiverValue). v.limits.max_message) c.self.view_is in
     omega (arith, size, held, max, c.open_len.ensures, c.len.ensures)

@@ -4,7 +4,8 @@ use Rattle.ws_frame.specs.Header.{AreBytes}
 use Rattle.ws_session.specs.Faults.{IsControl}
 use Rattle.ws_session.specs.InnerReceiving.{arrived_payload, IsPayloadCheck}
 use Rattle.ws_session.proofs.ByteLists.{bytes_append}
-use Rattle.ws_session.proofs.Pieces.{opcode_of_data, opcode_of_control, short_control, none_open, read_first, header_part, header_fault, left_of, first_of_data, first_of_control, first_data}
+use Rattle.ws_session.proofs.HeaderReasons.{not_both}
+use Rattle.ws_session.proofs.Pieces.{opcode_of_control, short_control, none_open, read_first, header_part, header_fault, left_of, first_of_data, first_of_control, first_data}
 use Rattle.ws_session.proofs.Wants.{on_err}
 use Rattle.ws_session.proofs.receiver.checking.check_header.Goals as goal
 
@@ -27,33 +28,33 @@ returns-in-Some-reason_at_header-clause-checked c =
     header_fault c.args.role c.args.limits c.args.assembly.now c.args.kept.now c.args.piece.now c.in-Some.end.header c.in-Some.end.used c.in-Some-reason_at_header.reason c.in-Some.ensures.begins are c.in-Some-reason_at_header.ensures
 
 pub check_data-requires-clause-opcode : goal.check_data-requires-clause-opcode
-check_data-requires-clause-opcode c = opcode_of_data c.args.role c.args.limits c.args.assembly.now.opened c.in-Some.end.header c.in_default-reason_at_header.ensures (omega (arith, c.opcode.ensures.value, c.if-opcode-lt8.true))
+check_data-requires-clause-opcode c = c.if-is_data.ensures.0 refl
 
 pub check_data-requires-clause-begins : goal.check_data-requires-clause-begins
 check_data-requires-clause-begins c = λ one.
-    let opcode = opcode_of_data c.args.role c.args.limits c.args.assembly.now.opened c.in-Some.end.header c.in_default-reason_at_header.ensures (omega (arith, c.opcode.ensures.value, c.if-opcode-lt8.true)) in
+    let opcode = c.if-is_data.ensures.0 refl in
     none_open c.args.role c.args.limits c.args.assembly.now.opened c.in-Some.end.header c.in_default-reason_at_header.ensures opcode one
 
 pub check_data-requires-clause-read : goal.check_data-requires-clause-read
 check_data-requires-clause-read c = λ of.
-    let opcode = opcode_of_data c.args.role c.args.limits c.args.assembly.now.opened c.in-Some.end.header c.in_default-reason_at_header.ensures (omega (arith, c.opcode.ensures.value, c.if-opcode-lt8.true)) in
+    let opcode = c.if-is_data.ensures.0 refl in
     read_first c.args.assembly.now c.in-Some.end.header c.requires.joined (λ one. none_open c.args.role c.args.limits c.args.assembly.now.opened c.in-Some.end.header c.in_default-reason_at_header.ensures opcode one) c.requires.kept.1 of
 
 pub check_control-requires-clause-opcode : goal.check_control-requires-clause-opcode
-check_control-requires-clause-opcode c = opcode_of_control c.args.role c.args.limits c.args.assembly.now.opened c.in-Some.end.header c.in_default-reason_at_header.ensures (omega (arith, c.opcode.ensures.value, c.if-opcode-lt8.false))
+check_control-requires-clause-opcode c = opcode_of_control c.args.role c.args.limits c.args.assembly.now.opened c.in-Some.end.header c.in_default-reason_at_header.ensures (not_both _ _ c.is_data.ensures c.if-is_data.false)
 
 pub check_control-requires-clause-short : goal.check_control-requires-clause-short
 check_control-requires-clause-short c =
-    let control : IsControl c.in-Some.end.header = opcode_of_control c.args.role c.args.limits c.args.assembly.now.opened c.in-Some.end.header c.in_default-reason_at_header.ensures (omega (arith, c.opcode.ensures.value, c.if-opcode-lt8.false)) in
+    let control : IsControl c.in-Some.end.header = opcode_of_control c.args.role c.args.limits c.args.assembly.now.opened c.in-Some.end.header c.in_default-reason_at_header.ensures (not_both _ _ c.is_data.ensures c.if-is_data.false) in
     short_control c.args.role c.args.limits c.args.assembly.now.opened c.in-Some.end.header c.in_default-reason_at_header.ensures control
 
-pub returns-then-opcode-lt8-clause-checked : goal.returns-then-opcode-lt8-clause-checked
-returns-then-opcode-lt8-clause-checked c =
+pub returns-then-is_data-clause-checked : goal.returns-then-is_data-clause-checked
+returns-then-is_data-clause-checked c =
     let h = c.in-Some.end.header in
     let used = c.in-Some.end.used in
     let piece = c.args.piece.now in
     let are : AreBytes (c.args.kept.now ++ piece) = bytes_append c.args.kept.now piece c.requires.bytes (λ i. omega (arith, c.type_inv.piece i)) in
-    let opcode = opcode_of_data c.args.role c.args.limits c.args.assembly.now.opened h c.in_default-reason_at_header.ensures (omega (arith, c.opcode.ensures.value, c.if-opcode-lt8.true)) in
+    let opcode = c.if-is_data.ensures.0 refl in
     first_of_data c.args.role c.args.limits c.args.assembly.now c.check_data.new.assembly h c.args.kept.now piece (take (length piece - used) (drop used piece)) used c.in-Some.ensures.begins are c.in_default-reason_at_header.ensures c.in_ok-check.ensures.opened c.in_ok-check.ensures.joined (left_of piece used)
     c.in_ok-check.check opcode c.in_ok-check.ensures.payload c.in_ok-check.ensures.checked
 
@@ -73,6 +74,6 @@ returns-in_err-check-clause-wants c =
     let h = c.in-Some.end.header in
     let used = c.in-Some.end.used in
     let piece = c.args.piece.now in
-    let opcode = opcode_of_data c.args.role c.args.limits c.args.assembly.now.opened h c.in_default-reason_at_header.ensures (omega (arith, c.opcode.ensures.value, c.if-opcode-lt8.true)) in
+    let opcode = c.if-is_data.ensures.0 refl in
     let wants = c.in_err-check.ensures.wants in
     on_err c.from_residual.result _ (first_data c.args.role c.args.limits c.args.assembly.now.opened h c.args.kept.now piece (take (length piece - used) (drop used piece)) used c.in-Some.ensures.begins c.in_default-reason_at_header.ensures opcode wants.0 (left_of piece used) wants.1)

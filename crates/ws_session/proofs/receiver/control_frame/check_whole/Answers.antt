@@ -2,5 +2,5 @@ use Rattle.std.proofs.Common.{List, ℕ, subst}
 use Rattle.ws_session.specs.InnerReceiving.{IsWholeControl}
 use Rattle.ws_session.proofs.receiver.control_frame.check_whole.Goals as goal
 
-pub returns-then-opcode-eq-CLOSE : goal.returns-then-opcode-eq-CLOSE
-returns-then-opcode-eq-CLOSE c = λ a. subst (λ (l : List ℕ). IsWholeControl c.args.header.now c.args.used l a c.check_close.result) c.as_slice.ensures.bytes (c.check_close.ensures a)
+pub returns-in-Close : goal.returns-in-Close
+returns-in-Close c = λ a. subst (λ (l : List ℕ). IsWholeControl c.args.header.now c.args.used l a c.check_close.result) c.as_slice.ensures.bytes (c.check_close.ensures a)

@@ -1,0 +1,55 @@
+//! What a frame is that begins with a header, by its opcode (RFC 6455 sections 5.2 and 5.4 to 5.6).
+
+ghost use Rattle.std.specs.Prelude.{◌≡◌, ◌≤◌, ◌⊎◌, ◌↔◌, IsTrue};
+ghost use Rattle.ws_session.specs.Faults.{IsControl};
+
+use ws_frame::{Header, Opcode};
+
+/// Whether it is a data frame (section 5.6).
+pub(super) fn is_data(header: &Header) -> bool
+    ensures { IsTrue result ↔ (header.now.opcode ≤ 2) }
+{
+    match Opcode::of(header.opcode()) {
+        Opcode::Continuation | Opcode::Text | Opcode::Binary => true,
+        Opcode::Close | Opcode::Ping | Opcode::Pong | Opcode::Reserved(_) => false,
+    }
+}
+
+/// Whether it is a control frame (section 5.5).
+pub(super) fn is_control(header: &Header) -> bool
+    ensures { IsTrue result ↔ IsControl header.now }
+{
+    match Opcode::of(header.opcode()) {
+        Opcode::Close | Opcode::Ping | Opcode::Pong => true,
+        Opcode::Continuation | Opcode::Text | Opcode::Binary | Opcode::Reserved(_) => false,
+    }
+}
+
+/// Whether its opcode is reserved (section 5.2).
+pub(super) fn is_reserved(header: &Header) -> bool
+    ensures { IsTrue result
+        ↔ (((3 ≤ header.now.opcode) × (header.now.opcode ≤ 7)) ⊎ (11 ≤ header.now.opcode)) }
+{
+    matches!(Opcode::of(header.opcode()), Opcode::Reserved(_))
+}
+
+/// Whether it goes on with a message (section 5.4).
+pub(super) fn continues_message(header: &Header) -> bool
+    ensures { IsTrue result ↔ (header.now.opcode ≡ 0) }
+{
+    matches!(Opcode::of(header.opcode()), Opcode::Continuation)
+}
+
+/// Whether it begins a message (section 5.4).
+pub(super) fn begins_message(header: &Header) -> bool
+    ensures { IsTrue result ↔ ((header.now.opcode ≡ 1) ⊎ (header.now.opcode ≡ 2)) }
+{
+    matches!(Opcode::of(header.opcode()), Opcode::Text | Opcode::Binary)
+}
+
+/// Whether it begins a text (section 5.6).
+pub(super) fn begins_text(header: &Header) -> bool
+    ensures { IsTrue result ↔ (header.now.opcode ≡ 1) }
+{
+    matches!(Opcode::of(header.opcode()), Opcode::Text)
+}
