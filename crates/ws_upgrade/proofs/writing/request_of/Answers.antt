@@ -1,5 +1,4 @@
 use Rattle.std.proofs.Common.{rules, codes, map}
-use Rattle.ws_upgrade.specs.Accept.{key_of}
 use Rattle.ws_upgrade.specs.Texts.{line_end, request_line, header_line, protocol_lines}
 use Rattle.ws_upgrade.proofs.Lines.{six_lines}
 use Rattle.ws_upgrade.proofs.writing.request_of.Goals as goal

@@ -1,5 +1,5 @@
 -- The name at a place of a list of names is one, and it is the one there.
-use Rattle.std.proofs.Common.{◌≡◌, ◌∙◌, sym, ap, subst, refl, List, ℕ, Bor, Some, None, map, slice_get}
+use Rattle.std.proofs.Common.{◌≡◌, ◌∙◌, sym, ap, subst, refl, List, ℕ, Bor, Some, None, slice_get}
 use Rattle.std.proofs.lemmas.Option.{slice_get-map, slice_get_past}
 use Rattle.ws_upgrade.specs.Protocols.{IsProtocolName}
 use Rattle.ws_upgrade.proofs.ProtocolLemmas.{All-unmap, text_at}
