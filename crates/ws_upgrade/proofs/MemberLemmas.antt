@@ -1,8 +1,8 @@
 -- Steps along headers and members.
-use Rattle.std.proofs.Common.{◌≡◌, ℕ, ◌<◌, ◌≤◌, ◌+◌, ◌==◌, Bool, true, false, not, List, [], ◌∷◌, ◌++◌, length, filter, map, take, drop, get_or, cond, refl, sym, ap, ◌∙◌, Option, Some, None, MatchOption, IsTrue, is_none, ◌↔◌, rules, arith, position}
+use Rattle.std.proofs.Common.{◌≡◌, ℕ, ◌<◌, ◌≤◌, ◌+◌, ◌==◌, Bool, true, false, not, List, [], ◌∷◌, ◌++◌, length, filter, map, take, drop, cond, refl, ap, ◌∙◌, Some, None, arith, position, All}
 use Rattle.std.specs.List.{slice_split, position_or_len}
 use Rattle.std.specs.Str.{str_eq_ignore_ascii_case}
-use Rattle.std.proofs.lemmas.List.{drop-map, at_drop_more}
+use Rattle.std.proofs.lemmas.List.Elements.{All-tail}
 use Rattle.std.proofs.lemmas.List.Quantifiers.{position-Some}
 use Rattle.std.proofs.lemmas.List.Sums.{position_or_len_is, fails_before_first}
 use Rattle.std.proofs.lemmas.Bool.Decides.{nat_tests}
@@ -10,8 +10,7 @@ use Rattle.std.proofs.lemmas.List.Splits.{slice_split_first, slice_split_none}
 use Rattle.httparse.specs.Grammar.{trim_ows}
 use Rattle.httparse.specs.Spans.{header_bytes}
 use Rattle.httparse.specs.declared.spans.HeaderSpan.{HeaderSpan}
-use Rattle.ws_upgrade.specs.Members.{HeaderPairs, comma, members_in, members_of, values_of}
-use Rattle.ws_upgrade.specs.InnerWalking.{members_left}
+use Rattle.ws_upgrade.specs.Members.{comma, members_in, values_of}
 
 pub members_in-nil : members_in [] ≡ []
 unfolding trim_ows
@@ -60,33 +59,12 @@ members_in-no_comma value none =
 
 -- ---- headers by name
 
-module _ (name bytes : List ℕ) (spans : List HeaderSpan) (i : ℕ) (d : HeaderSpan) (inside : i < length spans) where
-  step : values_of name (drop i (map (header_bytes bytes) spans))
-      ≡ values_of name (header_bytes bytes (get_or spans i d) ∷ drop (i + 1) (map (header_bytes bytes) spans))
-  step =
-      rw (drop-map (header_bytes bytes) i spans, drop-map (header_bytes bytes) (i + 1) spans)
-      (at_drop_more (λ (l : List HeaderSpan). values_of name (map (header_bytes bytes) l)) spans i d inside)
+-- what holds of each element holds of each after the first
+pub All-after : {X : Type 0} (P : X → Type 0) (xs : List X) (first : X) (others : List X) → xs ≡ first ∷ others → All P xs → All P others
+All-after P xs first others parts all = All-tail P first others (rw parts at all)
 
-  -- the header at i has the name
-  pub values_of-named : str_eq_ignore_ascii_case (header_bytes bytes (get_or spans i d)).0 name ≡ true
-      → values_of name (drop i (map (header_bytes bytes) spans))
-      ≡ (header_bytes bytes (get_or spans i d)).1 ∷ values_of name (drop (i + 1) (map (header_bytes bytes) spans))
-  values_of-named same = step ∙ rw same refl
-
-  -- the header at i has another name
-  pub values_of-other : str_eq_ignore_ascii_case (header_bytes bytes (get_or spans i d)).0 name ≡ false
-      → values_of name (drop i (map (header_bytes bytes) spans)) ≡ values_of name (drop (i + 1) (map (header_bytes bytes) spans))
-  values_of-other other = step ∙ rw other refl
-
--- the place before everything
-pub members_left-start : (name : List ℕ) (headers : HeaderPairs) → members_left name headers [] 0 ≡ members_of name headers
-members_left-start name headers = rw members_in-nil refl
-
-cons_nil : {x : List ℕ} {xs : List (List ℕ)} → x ∷ xs ≡ [] → ⊥
-cons_nil e = cc
-
--- whether a member was found, where it is said what finding none and finding one mean
-pub none_iff : {A : Type 0} (found : Option A) (left members : List (List ℕ)) (first : A → List ℕ) (others : A → List (List ℕ))
-    → MatchOption found (left ≡ []) (λ x. left ≡ first x ∷ others x) → left ≡ members → IsTrue (is_none found) ↔ (members ≡ [])
-none_iff None left members first others says same = ((λ t. sym same ∙ says), (λ e. search rules))
-none_iff (Some x) left members first others says same = ((λ t. cc), (λ e. absurd (cons_nil (sym says ∙ same ∙ e))))
+-- the first header has another name
+pub values_of-other : (name bytes : List ℕ) (spans : List HeaderSpan) (first : HeaderSpan) (others : List HeaderSpan) → spans ≡ first ∷ others
+    → str_eq_ignore_ascii_case (header_bytes bytes first).0 name ≡ false
+    → values_of name (map (header_bytes bytes) spans) ≡ values_of name (map (header_bytes bytes) others)
+values_of-other name bytes spans first others parts other = rw (parts, other) refl

@@ -1,5 +1,5 @@
 -- Places of names, names that differ, and the choice along the members of headers.
-use Rattle.std.proofs.Common.{◌≡◌, ℕ, ◌<◌, ◌≤◌, ◌+◌, Bool, true, false, List, [], ◌∷◌, length, map, get_or, refl, sym, ap, subst, ◌∙◌, is_some, Option, Some, None, MatchOption, IsTrue, ◌↔◌, All, Contains, arith, position, slice_get, inl, inr}
+use Rattle.std.proofs.Common.{◌≡◌, ℕ, ◌<◌, ◌≤◌, ◌+◌, Bool, false, List, [], ◌∷◌, length, map, get_or, refl, sym, ap, subst, ◌∙◌, Option, Some, None, MatchOption, IsTrue, ◌↔◌, All, Contains, arith, position, slice_get, inl, inr}
 use Rattle.std.specs.List.{position_or_len, AllPairs}
 use Rattle.std.specs.Str.{bytes_eq}
 use Rattle.std.proofs.lemmas.Bool.{cases_lt}
@@ -145,24 +145,7 @@ pub one_named : (offers members : List (List ℕ)) (name : List ℕ) (place : �
 one_named offers members name place only at =
     (inr (name, only, Contains-first offers name place at), subst (λ (l : List (List ℕ)). IsChoice offers l (Some place)) (sym only) (choice_of-first offers name [] place at))
 
--- a member was found
-pub some_left : {A : Type 0} (found : Option A) (left : List (List ℕ)) (first : A → List ℕ) (others : A → List (List ℕ))
-    → MatchOption found (left ≡ []) (λ x. left ≡ first x ∷ others x) → is_some found ≡ true → (second : List ℕ) × (rest : List (List ℕ)) × (left ≡ second ∷ rest)
-some_left None left first others says some = absurd cc
-some_left (Some x) left first others says some = (first x, others x, says)
-
--- none was found
-pub none_left : {A : Type 0} (found : Option A) (left : List (List ℕ)) (first : A → List ℕ) (others : A → List (List ℕ))
-    → MatchOption found (left ≡ []) (λ x. left ≡ first x ∷ others x) → is_some found ≡ false → left ≡ []
-none_left None left first others says none = says
-none_left (Some x) left first others says none = absurd cc
-
 module _ (offers members : List (List ℕ)) (first : List ℕ) (others : List (List ℕ)) (are : members ≡ first ∷ others) where
-  -- two members
-  pub two_named : (second : List ℕ) (rest : List (List ℕ)) → others ≡ second ∷ rest → ¬ (NamesOffered offers members)
-  two_named second rest more (inl none) = cons_of-nil (sym are ∙ none)
-  two_named second rest more (inr (name, only, offered)) = cons_of-nil (sym more ∙ (heads (sym are ∙ only)).1)
-
   -- a member that was not offered
   pub other_named : ¬ (Contains offers first) → ¬ (NamesOffered offers members)
   other_named unknown (inl none) = cons_of-nil (sym are ∙ none)

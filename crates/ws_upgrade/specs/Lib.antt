@@ -7,4 +7,3 @@ pub mod Texts
 pub mod Words
 pub mod Examples
 pub mod ReadingExamples
-pub mod InnerWalking

@@ -40,6 +40,11 @@ IsChoice known members (Some place) =
     (before : List (List ℕ)) × (member : List ℕ) × (after : List (List ℕ)) × (members ≡ before ++ member ∷ after)
     × All (λ other. ¬ (Contains known other)) before × IsFirstPlace known member place
 
+-- the name at the place that was chosen, if any was
+abbrev pub name_chosen : List (List ℕ) → Option ℕ → Option (List ℕ)
+name_chosen known None = None
+name_chosen known (Some place) = slice_get known place
+
 -- what a response can be asked to name: nothing, or any name
 abbrev pub CanBeNamed : Option (List ℕ) → Type 0
 CanBeNamed name = IfSome name IsProtocolName

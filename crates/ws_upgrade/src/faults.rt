@@ -3,9 +3,9 @@
 ghost use Rattle.std.specs.Prelude.{Some};
 ghost use Rattle.ws_upgrade.specs.Words.{head_fault_name, request_fault_name, response_fault_name};
 
-use std::alloc::AllocError;
 use std::error::Error;
 use std::fmt;
+use ws_base::NoMemory;
 
 /// Why a head is refused: the first of these that applies, in the order that `read_request` and
 /// `read_response` give.
@@ -80,13 +80,13 @@ pub enum RequestFault {
     BadProtocol = 4,
 }
 
-impl From<AllocError> for RequestFault {
+impl From<NoMemory> for RequestFault {
     ghost use Rattle.std.specs.Prelude.{◌≡◌};
     ghost use Rattle.ws_upgrade.specs.declared.faults.RequestFault.TheVariants.{NoMemory};
 
     ghost from_gives = { λ _ fault. fault ≡ NoMemory };
 
-    fn from(_error: AllocError) -> RequestFault {
+    fn from(_refused: NoMemory) -> RequestFault {
         RequestFault::NoMemory
     }
 }
@@ -117,13 +117,13 @@ pub enum ResponseFault {
     NoMemory = 2,
 }
 
-impl From<AllocError> for ResponseFault {
+impl From<NoMemory> for ResponseFault {
     ghost use Rattle.std.specs.Prelude.{◌≡◌};
     ghost use Rattle.ws_upgrade.specs.declared.faults.ResponseFault.TheVariants.{NoMemory};
 
     ghost from_gives = { λ _ fault. fault ≡ NoMemory };
 
-    fn from(_error: AllocError) -> ResponseFault {
+    fn from(_refused: NoMemory) -> ResponseFault {
         ResponseFault::NoMemory
     }
 }

@@ -1,11 +1,11 @@
 //! The lines of the heads that are written (RFC 6455 sections 4.1 and 4.2.2).
 
-ghost use Rattle.std.specs.Prelude.{◌≡◌, ◌++◌, OnOk, map, option_map, codes};
+ghost use Rattle.std.specs.Prelude.{◌≡◌, ◌++◌, OnOk, map, codes};
 ghost use Rattle.std.specs.List.{flat_map};
 ghost use Rattle.ws_upgrade.specs.Texts.{line_end, request_line, header_line, lines_bytes, protocol_lines};
 ghost use Rattle.ws_upgrade.specs.Texts.{chosen_names};
 
-use crate::protocols::PROTOCOL_HEADER;
+use crate::protocols::{PROTOCOL_HEADER, ProtocolName};
 use std::alloc::AllocError;
 
 /// Adds the first line of a request.
@@ -30,12 +30,15 @@ pub(crate) fn push_header(text: &mut Vec<u8>, name: &[u8], value: &[u8]) -> Resu
 }
 
 /// Adds the line of the subprotocol that was chosen, if any.
-pub(crate) fn push_chosen(text: &mut Vec<u8>, protocol: Option<&[u8]>) -> Result<(), AllocError>
+pub(crate) fn push_chosen(
+    text: &mut Vec<u8>,
+    protocol: Option<ProtocolName<'_>>,
+) -> Result<(), AllocError>
     ensures { OnOk result (text.new.items ≡ text.old.items
-        ++ lines_bytes (protocol_lines (chosen_names (option_map (λ name. name.now) protocol.entry)))) }
+        ++ lines_bytes (protocol_lines (chosen_names protocol.entry))) }
 {
     match protocol {
-        Some(name) => push_protocols(text, &[name]),
+        Some(name) => push_protocols(text, &[name.as_bytes()]),
         None => push_protocols(text, &[]),
     }
 }

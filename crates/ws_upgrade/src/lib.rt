@@ -9,6 +9,7 @@ mod faults;
 mod head_lines;
 mod headers;
 mod members;
+mod parts;
 mod protocols;
 mod requests;
 mod responses;
@@ -16,7 +17,10 @@ mod writing;
 
 pub use accepting::accept_of;
 pub use faults::{HeadFault, RequestFault, ResponseFault};
-pub use protocols::are_offers;
+pub use parts::{Host, Path, is_host, is_path};
+pub use protocols::{Offers, ProtocolName, are_offers, is_protocol_name};
 pub use requests::{MAX_HEAD, RequestRead, Upgrade, read_request, read_request_with};
 pub use responses::{ResponseRead, read_response, read_response_with};
-pub use writing::{refusal, request, request_with, response, response_with};
+pub use writing::{
+    refusal, request, request_of, request_with, response, response_of, response_with,
+};

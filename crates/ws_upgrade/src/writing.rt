@@ -1,23 +1,18 @@
 //! The heads that are written (RFC 6455 sections 4.1, 4.2.2 and 4.4).
 
-ghost use Rattle.std.specs.Prelude.{◌≡◌, ◌↔◌, IsTrue, IfOk, OnOk, IsErrOf, map, option_map};
+ghost use Rattle.std.specs.Prelude.{◌≡◌, ◌↔◌, IfOk, OnOk, IsErrOf, MatchResult, map, option_map};
 ghost use Rattle.ws_upgrade.specs.Accept.{key_of};
 ghost use Rattle.ws_upgrade.specs.Protocols.{AreOffers, CanBeNamed};
-ghost use Rattle.ws_upgrade.specs.Texts.{IsHost, is_path_byte, IsPath, request_text, request_bytes};
+ghost use Rattle.ws_upgrade.specs.Texts.{IsHost, IsPath, request_text, request_bytes};
 ghost use Rattle.ws_upgrade.specs.Texts.{response_text, response_bytes, refusal_bytes};
 
 use crate::accepting::key_text;
 use crate::faults::{HeadFault, RequestFault, ResponseFault};
 use crate::head_lines::{push_chosen, push_header, push_protocols, push_request_line};
-use crate::protocols::{are_offers, is_protocol_name};
-use std::alloc::{AllocError, Global};
+use crate::parts::{Host, Path};
+use crate::protocols::{Offers, ProtocolName};
+use std::alloc::Global;
 use ws_base::NoMemory;
-
-/// The most bytes that a host has: as many as a name of the domain name system.
-const MAX_HOST: usize = 255;
-
-/// The most bytes that a path has.
-const MAX_PATH: usize = 2048;
 
 /// What tells a client that only version 13 is spoken.
 const UPGRADE_REQUIRED: &[u8] = b"HTTP/1.1 426 Upgrade Required\r\n\
@@ -75,16 +70,38 @@ pub fn request_with(
     ensures memory { IsErrOf result RequestFault.NoMemory
         → (IsHost host.now × IsPath path.now × AreOffers (map (λ name. name.now) offers.now)) }
 {
-    if !is_host(host) {
+    let Some(host) = Host::new(host) else {
         return Err(RequestFault::BadHost);
-    }
-    if !is_path(path) {
+    };
+    let Some(path) = Path::new(path) else {
         return Err(RequestFault::BadPath);
-    }
-    if !are_offers(offers) {
+    };
+    let Some(offers) = Offers::new(offers) else {
         return Err(RequestFault::BadProtocol);
-    }
-    let text = request_text(alloc, host, path, &key_text(&nonce), offers)?;
+    };
+    let text = request_of(alloc, &host, &path, nonce, &offers)?;
+    Ok(text)
+}
+
+/// The head of `request_with`, made of parts that were proved fit: only memory can lack.
+pub fn request_of(
+    alloc: Global,
+    host: &Host<'_>,
+    path: &Path<'_>,
+    nonce: [u8; 16],
+    offers: &Offers<'_, '_>,
+) -> Result<Vec<u8>, NoMemory>
+    ensures { IfOk result (λ text. text.items ≡ request_text host.now path.now (key_of nonce) offers.now) }
+{
+    let mut text = Vec::new(alloc);
+    push_request_line(&mut text, path.as_bytes())?;
+    push_header(&mut text, b"Host", host.as_bytes())?;
+    push_header(&mut text, b"Upgrade", b"websocket")?;
+    push_header(&mut text, b"Connection", b"Upgrade")?;
+    push_header(&mut text, b"Sec-WebSocket-Key", &key_text(&nonce))?;
+    push_header(&mut text, b"Sec-WebSocket-Version", b"13")?;
+    push_protocols(&mut text, offers.as_slice())?;
+    text.extend_from_slice(b"\r\n")?;
     Ok(text)
 }
 
@@ -92,7 +109,7 @@ pub fn request_with(
 pub fn response(alloc: Global, accept: &[u8; 28]) -> Result<Vec<u8>, NoMemory>
     ensures { IfOk result (λ text. text.items ≡ response_bytes accept.now) }
 {
-    let text = response_text(alloc, accept, None)?;
+    let text = response_of(alloc, accept, None)?;
     Ok(text)
 }
 
@@ -113,10 +130,26 @@ pub fn response_with(
     ensures memory { IsErrOf result ResponseFault.NoMemory
         → CanBeNamed (option_map (λ name. name.now) protocol.entry) }
 {
-    if !can_be_named(protocol) {
-        return Err(ResponseFault::BadProtocol);
-    }
-    let text = response_text(alloc, accept, protocol)?;
+    let protocol = name_of(protocol)?;
+    let text = response_of(alloc, accept, protocol)?;
+    Ok(text)
+}
+
+/// The head of `response_with`, made of a name that was proved fit, if of any: only memory can lack.
+pub fn response_of(
+    alloc: Global,
+    accept: &[u8; 28],
+    protocol: Option<ProtocolName<'_>>,
+) -> Result<Vec<u8>, NoMemory>
+    ensures { IfOk result (λ text. text.items ≡ response_text accept.now protocol.entry) }
+{
+    let mut text = Vec::new(alloc);
+    text.extend_from_slice(b"HTTP/1.1 101 Switching Protocols\r\n")?;
+    push_header(&mut text, b"Upgrade", b"websocket")?;
+    push_header(&mut text, b"Connection", b"Upgrade")?;
+    push_header(&mut text, b"Sec-WebSocket-Accept", accept)?;
+    push_chosen(&mut text, protocol)?;
+    text.extend_from_slice(b"\r\n")?;
     Ok(text)
 }
 
@@ -130,79 +163,17 @@ pub fn refusal(fault: HeadFault) -> &'static [u8]
     }
 }
 
-/// Whether a host can be asked for.
-fn is_host(host: &[u8]) -> bool
-    ensures { IsTrue result ↔ IsHost host.now }
+/// The name of these bytes, if any are given. `BadProtocol` where they are no name.
+fn name_of(protocol: Option<&[u8]>) -> Result<Option<ProtocolName<'_>>, ResponseFault>
+    ensures { let given = option_map (λ name. name.now) protocol.entry
+        in MatchResult result (λ named. (named ≡ given) × CanBeNamed given)
+        (λ fault. (fault ≡ ResponseFault.BadProtocol) × ¬ (CanBeNamed given)) }
 {
-    !host.is_empty()
-        && host.len() <= MAX_HOST
-        && host.iter().all(|byte| matches!(*byte, 0x21..=0x7e))
-}
-
-/// Whether a path can be asked for.
-fn is_path(path: &[u8]) -> bool
-    ensures { IsTrue result ↔ IsPath path.now }
-{
-    path.first() == Some(&b'/')
-        && path.len() <= MAX_PATH
-        && path.iter().all(|byte| is_path_byte(*byte))
-}
-
-/// Whether a byte can stand in a path.
-fn is_path_byte(byte: u8) -> bool
-    ensures { result ≡ is_path_byte byte }
-{
-    byte.is_ascii_alphanumeric() || b"/-._~?=&%".contains(&byte)
-}
-
-/// Whether a response can name this subprotocol, if any.
-fn can_be_named(protocol: Option<&[u8]>) -> bool
-    ensures { IsTrue result ↔ CanBeNamed (option_map (λ name. name.now) protocol.entry) }
-{
-    match protocol {
-        Some(name) => is_protocol_name(name),
-        None => true,
+    let Some(bytes) = protocol else {
+        return Ok(None);
+    };
+    match ProtocolName::new(bytes) {
+        Some(name) => Ok(Some(name)),
+        None => Err(ResponseFault::BadProtocol),
     }
-}
-
-/// The request of a client with this key that offers these subprotocols.
-fn request_text(
-    alloc: Global,
-    host: &[u8],
-    path: &[u8],
-    key: &[u8],
-    offers: &[&[u8]],
-) -> Result<Vec<u8>, AllocError>
-    ensures { IfOk result (λ text. text.items
-        ≡ request_text host.now path.now key.now (map (λ name. name.now) offers.now)) }
-{
-    let mut text = Vec::new(alloc);
-    push_request_line(&mut text, path)?;
-    push_header(&mut text, b"Host", host)?;
-    push_header(&mut text, b"Upgrade", b"websocket")?;
-    push_header(&mut text, b"Connection", b"Upgrade")?;
-    push_header(&mut text, b"Sec-WebSocket-Key", key)?;
-    push_header(&mut text, b"Sec-WebSocket-Version", b"13")?;
-    push_protocols(&mut text, offers)?;
-    text.extend_from_slice(b"\r\n")?;
-    Ok(text)
-}
-
-/// The response with this accept value and this subprotocol, if any.
-fn response_text(
-    alloc: Global,
-    accept: &[u8; 28],
-    protocol: Option<&[u8]>,
-) -> Result<Vec<u8>, AllocError>
-    ensures { IfOk result (λ text. text.items
-        ≡ response_text accept.now (option_map (λ name. name.now) protocol.entry)) }
-{
-    let mut text = Vec::new(alloc);
-    text.extend_from_slice(b"HTTP/1.1 101 Switching Protocols\r\n")?;
-    push_header(&mut text, b"Upgrade", b"websocket")?;
-    push_header(&mut text, b"Connection", b"Upgrade")?;
-    push_header(&mut text, b"Sec-WebSocket-Accept", accept)?;
-    push_chosen(&mut text, protocol)?;
-    text.extend_from_slice(b"\r\n")?;
-    Ok(text)
 }

@@ -1,0 +1,21 @@
+-- What is said of all headers is said of those after the first.
+use Rattle.std.proofs.Common.{rules, ◌≡◌, ◌∷◌, ◌∙◌, sym, length, false}
+use Rattle.std.specs.Str.{str_eq_ignore_ascii_case}
+use Rattle.httparse.specs.Spans.{IsHeaderWithin}
+use Rattle.ws_upgrade.proofs.MemberLemmas.{All-after, values_of-other}
+use Rattle.ws_upgrade.proofs.members.ValuesIterator.next.Goals as goal
+
+pub invariant_of-self : goal.invariant_of-self
+invariant_of-self c =
+    let inside = c.loop-span.self-inside in
+    let parts : inside.spans.now ≡ c.in-Some.span.now ∷ c.in-Some.others.now = search rules in
+    All-after (IsHeaderWithin (length inside.bytes.now)) inside.spans.now c.in-Some.span.now c.in-Some.others.now parts c.loop-span.invariant.0
+
+pub loop-span-preserved : goal.loop-span-preserved
+loop-span-preserved c =
+    let inside = c.loop-span.self-inside in
+    let parts : inside.spans.now ≡ c.in-Some.span.now ∷ c.in-Some.others.now = search rules in
+    let other : str_eq_ignore_ascii_case c.of.result.now inside.name.now ≡ false = sym c.is_same_word.ensures ∙ c.if-is_same_word.false in (
+      All-after (IsHeaderWithin (length inside.bytes.now)) inside.spans.now c.in-Some.span.now c.in-Some.others.now parts c.loop-span.invariant.0,
+      c.loop-span.invariant.1 ∙ values_of-other inside.name.now inside.bytes.now inside.spans.now c.in-Some.span.now c.in-Some.others.now parts (rw c.of.ensures at other),
+    )
