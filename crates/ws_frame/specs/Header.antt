@@ -1,6 +1,6 @@
 -- A frame's header on the wire, from its fields to its bytes: RFC 6455 section 5.2.
 use Rattle.std.specs.Prelude.{◌≡◌, ℕ, ◌+◌, ◌*◌, ◌^◌, ◌<◌, ◌≤◌, Bool, true, false, cond, List, [], ◌∷◌, ◌++◌, length}
-use Rattle.std.specs.Prelude.{Option, Some, None}
+use Rattle.std.specs.Prelude.{Option, Some, None, codes}
 use Rattle.std.specs.Int.{w16, w64, to_be_bytes}
 use Rattle.ws_frame.specs.declared.header.Form.{Form}
 use Rattle.ws_frame.specs.declared.header.Form.TheVariants.{Short, Two, Eight}
@@ -85,3 +85,10 @@ header_bytes header =
 pub record IsHeaderOf (header : HeaderFields) (bytes : List ℕ) : Type 0 where
   pub fields : IsHeader header
   pub layout : bytes ≡ header_bytes header
+
+-- ---- the word for a form
+
+abbrev pub form_word : Form → List ℕ
+form_word Short = codes "short"
+form_word Two = codes "two"
+form_word Eight = codes "eight"

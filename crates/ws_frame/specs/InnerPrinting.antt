@@ -2,8 +2,8 @@
 use Rattle.std.specs.Prelude.{ℕ, List, [], ◌∷◌, codes}
 use Rattle.std.specs.List.{concat}
 use Rattle.std.specs.Fmt.{decimal}
-use Rattle.ws_frame.specs.Header.{HeaderFields}
-use Rattle.ws_frame.specs.Lines.{opcode_word, bit_word, key_word, form_word}
+use Rattle.ws_frame.specs.Header.{HeaderFields, form_word}
+use Rattle.ws_frame.specs.Lines.{opcode_word, bit_word, key_word}
 
 -- where a frame begins, and what its first byte says
 abbrev pub bits_words : ℕ → HeaderFields → List ℕ

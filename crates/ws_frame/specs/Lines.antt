@@ -8,12 +8,11 @@ use Rattle.std.specs.Io.KnownBytes.{IsAtEnd}
 use Rattle.ws_frame.specs.declared.role.Role.{Role}
 use Rattle.ws_frame.specs.declared.role.Role.TheVariants.{Client, Server}
 use Rattle.ws_frame.specs.declared.header.Form.{Form}
-use Rattle.ws_frame.specs.declared.header.Form.TheVariants.{Short, Two, Eight}
 use Rattle.ws_frame.specs.declared.showing.StreamEnd.{StreamEnd}
 use Rattle.ws_frame.specs.declared.showing.StreamEnd.TheVariants.{Whole, CutAt, BadLengthAt}
 use Rattle.ws_frame.specs.declared.showing.ShowEnd.{ShowEnd}
 use Rattle.ws_frame.specs.declared.showing.ShowEnd.TheVariants as show_end
-use Rattle.ws_frame.specs.Header.{HeaderFields}
+use Rattle.ws_frame.specs.Header.{HeaderFields, form_word}
 use Rattle.ws_frame.specs.Frame.{WireFrame, wire_bytes, is_longer_than_needed}
 use Rattle.ws_frame.specs.Stream.{SplitsIntoAnyForm}
 use Rattle.ws_frame.specs.Reading.{BeginsBadLength}
@@ -41,11 +40,6 @@ bit_word false = codes "0"
 abbrev pub key_word : Option (List ℕ) → List ℕ
 key_word None = codes "-"
 key_word (Some key) = hex key
-
-abbrev pub form_word : Form → List ℕ
-form_word Short = codes "short"
-form_word Two = codes "two"
-form_word Eight = codes "eight"
 
 -- of a payload of this length the first bytes, at most sixteen: a dash where there are none, and two dots after them
 -- where there are more

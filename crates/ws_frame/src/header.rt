@@ -1,9 +1,10 @@
 //! A frame's header (RFC 6455 section 5.2): its fields, and the forms of its length.
 
-ghost use Rattle.std.specs.Prelude.{◌≡◌, ◌<◌, ◌^◌, MatchOption, IfSome, Some, IsTrue, ◌↔◌};
-ghost use Rattle.ws_frame.specs.Header.{CanHold, HeaderFields, IsHeader, IsMaskingKey, IsShortestForm};
+ghost use Rattle.std.specs.Prelude.{◌≡◌, ◌<◌, ◌≤◌, ◌^◌, length, MatchOption, IfSome, Some, IsTrue, ◌↔◌};
+ghost use Rattle.ws_frame.specs.Header.{CanHold, HeaderFields, IsHeader, IsMaskingKey, IsShortestForm, form_word};
 ghost use Rattle.ws_frame.specs.Frame.{shortest_form, is_longer_than_needed};
 
+use std::fmt;
 use std::marker::Model;
 
 /// The most that a short form holds.
@@ -52,6 +53,26 @@ impl Form {
         } else {
             Form::Eight
         }
+    }
+
+    /// Its word: `short`, `two` or `eight`.
+    pub fn word(self) -> &'static str
+        ensures word { result.now ≡ form_word self }
+        ensures short { length result.now ≤ 5 }
+    {
+        match self {
+            Form::Short => "short",
+            Form::Two => "two",
+            Form::Eight => "eight",
+        }
+    }
+}
+
+impl fmt::Display for Form {
+    ghost output = { λ form. Some (form_word form) };
+
+    fn fmt<W: fmt::Write>(&self, f: &mut fmt::Formatter<W>) -> fmt::Result {
+        write!(f, "{}", self.word())
     }
 }
 

@@ -1,16 +1,15 @@
 //! The line that tells of one frame (RFC 6455 section 5.2).
 
-ghost use Rattle.std.specs.Prelude.{◌≡◌, ◌≤◌, ◌+◌, Some, ◌++◌, length};
-ghost use Rattle.ws_frame.specs.Lines.{opcode_word, bit_word, key_word, form_word, data_word, mask_mark, form_mark};
+ghost use Rattle.std.specs.Prelude.{◌≡◌, ◌≤◌, ◌+◌, ◌++◌, length};
+ghost use Rattle.ws_frame.specs.Lines.{opcode_word, bit_word, key_word, data_word, mask_mark, form_mark};
 ghost use Rattle.ws_frame.specs.Lines.{line_with};
 ghost use Rattle.ws_frame.specs.InnerPrinting.{bits_words, layout_words};
 
 use crate::first_bytes::SHOWN;
-use crate::header::{Form, Header};
+use crate::header::Header;
 use crate::opcode::Opcode;
 use crate::role::Role;
 use crate::room::Room;
-use std::fmt;
 
 /// No line has more bytes than this.
 pub(crate) const MAX_LINE: usize = 200;
@@ -56,7 +55,7 @@ fn push_layout(room: &mut Room, header: &Header)
     room.push(b" len=");
     room.push_decimal(header.payload_len());
     room.push(b" ");
-    room.push(form_of(header.form()).as_bytes());
+    room.push(header.form().word().as_bytes());
     room.push(b" ");
 }
 
@@ -115,26 +114,6 @@ fn bit_of(bit: bool) -> &'static str
     ensures short { length result.now ≤ 1 }
 {
     if bit { "1" } else { "0" }
-}
-
-/// The word for a form.
-fn form_of(form: Form) -> &'static str
-    ensures word { result.now ≡ form_word form }
-    ensures short { length result.now ≤ 5 }
-{
-    match form {
-        Form::Short => "short",
-        Form::Two => "two",
-        Form::Eight => "eight",
-    }
-}
-
-impl fmt::Display for Form {
-    ghost output = { λ form. Some (form_word form) };
-
-    fn fmt<W: fmt::Write>(&self, f: &mut fmt::Formatter<W>) -> fmt::Result {
-        write!(f, "{}", form_of(*self))
-    }
 }
 
 /// What a line adds where the frame is masked and should not be, or the other way round.
