@@ -4,3 +4,4 @@ pub mod NumberWords
 pub mod DamagedLines
 pub mod PartialTexts
 pub mod LineWords
+pub mod LetterLines

@@ -1,6 +1,7 @@
+-- A line has at least one byte, so a dash spells none.
 use Rattle.std.proofs.Common.{◌∙◌, sym}
-use Rattle.ws_suite.proofs.CaptureTexts.{dash_is_none, hex_of_bytes}
-use Rattle.ws_suite.proofs.capture.reading.read_bytes.Goals as goal
+use Rattle.ws_suite.proofs.CaptureWords.{dash_is_none, hex_of_bytes}
+use Rattle.ws_suite.proofs.capture.line.read_bytes.Goals as goal
 
 pub returns-then-len-eq0 : goal.returns-then-len-eq0
 returns-then-len-eq0 c = λ e bytes h. dash_is_none c.in-Ok.bytes bytes c.args.word.now (sym c.len.ensures ∙ c.if-len-eq0.true) c.in-Ok.ensures h
