@@ -23,6 +23,17 @@ HasLineForEach IsLineOf [] text = text ≡ []
 HasLineForEach IsLineOf (value ∷ values) text = (line : List ℕ) × (rest : List ℕ)
     × (text ≡ line ++ line_feed ∷ rest) × IsLine line × IsLineOf value line × HasLineForEach IsLineOf values rest
 
+-- ---- formats in which lines together tell a value: `Tell value lines` says that these lines tell it
+
+-- the text is lines that tell the value, each ended by LF
+abbrev pub IsTextOfLines : {T : Type 0} → (T → List (List ℕ) → Type 0) → T → List ℕ → Type 0
+IsTextOfLines Tell value text =
+    (lines : List (List ℕ)) × AllByRecursion IsLine lines × Tell value lines × (text ≡ ended lines)
+
+-- some lines tell a value
+abbrev pub CanBeTold : {T : Type 0} → (T → List (List ℕ) → Type 0) → Type 0
+CanBeTold {T = T} Tell = (value : T) × (lines : List (List ℕ)) × AllByRecursion IsLine lines × Tell value lines
+
 -- ---- damaged texts, in any format: `IsTextOf value text` says that the text tells the value
 
 -- The text has so many lines that are ended by LF, and some text of the format begins with them.

@@ -1,7 +1,8 @@
 -- What the readers of words and lines answer, and inside the crate their steps. A reader may skip all but the first
--- two.
+-- three.
 use Rattle.std.specs.Prelude.{◌≡◌, ℕ, ◌/◌, ◌%◌, ◌<◌, ◌⊎◌, false, List, ◌∷◌, ◌++◌, length, slice_index, Option}
 use Rattle.std.specs.Prelude.{Some, None, Result, Ok, Err}
+use Rattle.std.specs.List.{AllZip}
 use Rattle.std.specs.Fmt.{digit_glyph}
 use Rattle.std.specs.Borrow.{Bor}
 use Rattle.ws_base.specs.Words.{AreBytes, hex}
@@ -19,7 +20,21 @@ abbrev pub Reads : {T : Type 0} → Result T LineFault → (T → Type 0) → Ty
 Reads (Ok value) P = P value
 Reads {T = T} (Err fault) P = fault ≡ Damaged → (value : T) → P value → ⊥
 
+-- What taking a line into a part of a text answers, where `Tell part value lines` says that with these lines after the
+-- part the whole tells the value: a longer part, or that no text goes on so, or memory ran out. What follows the longer
+-- part tells the value with the line before it, and what the part goes on with after the line goes on after the longer.
+abbrev pub TakesLine : {P T : Type 0} → (P → T → List (List ℕ) → Type 0) → P → List ℕ → Result P LineFault → Type 0
+TakesLine {T = T} Tell part line (Ok longer) = (value : T) (more : List (List ℕ)) →
+    (Tell part value (line ∷ more) → (other : T) × Tell longer other more)
+    × (Tell longer value more → Tell part value (line ∷ more))
+TakesLine {T = T} Tell part line (Err fault) =
+    fault ≡ Damaged → (value : T) (more : List (List ℕ)) → Tell part value (line ∷ more) → ⊥
+
 -- ---- steps
+
+-- the values are the old ones and then one for each of the lines
+abbrev pub TellFurther : {T : Type 0} → (T → List ℕ → Type 0) → List T → List T → List (List ℕ) → Type 0
+TellFurther {T = T} IsLineOf old values lines = (new : List T) × (values ≡ old ++ new) × AllZip IsLineOf new lines
 
 -- two digits spell the byte
 abbrev pub IsPair : ℕ → ℕ → ℕ → Type 0

@@ -15,7 +15,7 @@ mod words;
 
 pub use closing::read_close;
 pub use hexadecimal::{Hex, HexDigits, read_hex, read_key, read_key_or_dash};
-pub use lines::{Line, LineFault, TextFault, cut_line, read_lines};
+pub use lines::{Line, LineFault, PartialText, TextFault, cut_line, read_by_lines, read_lines};
 pub use memory::NoMemory;
 pub use numbers::{read_u16, read_u32};
 pub use sequence::{Payload, Sequence};

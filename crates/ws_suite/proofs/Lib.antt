@@ -1,24 +1,21 @@
 mod TurnLemmas
-mod LineLemmas
-pub mod CaptureTurns
-mod CaptureLemmas
-mod CaptureTexts
 mod EvidenceLemmas
 mod TurnsCollected
 mod JudgeLemmas
 mod LastBytes
 mod OneVerdict
-mod OneCapture
 mod ValidDirections
 mod WorkedFrames
 mod WorkedVerdicts
-mod Capture2Lines
-mod Capture2Words
-mod Capture2Lemmas
-mod Capture2Texts
-mod OneCapture2
 mod AnsweredEvents
 mod AnsweredTurns
 mod FairVerdict
 mod TurnsAdded
 mod FairEvidence
+mod CaptureWords
+pub mod CaptureParts
+mod CaptureTurns
+mod CaptureTurns2
+mod CaptureTells
+mod CaptureLaws
+mod CaptureTexts

@@ -12,7 +12,7 @@ use Rattle.ws_suite.specs.declared.transcript.Turn.{Turn}
 use Rattle.ws_suite.specs.declared.transcript.Ended.{Ended}
 use Rattle.ws_suite.specs.declared.transcript.Ended.TheVariants.{Broken, Tester}
 use Rattle.ws_suite.specs.declared.transcript.Transcript.{Transcript}
-use Rattle.ws_suite.specs.declared.capture.Line.TheVariants.{Sent, Got}
+use Rattle.ws_suite.specs.declared.capture.line.Line.TheVariants.{Sent, Got}
 use Rattle.ws_suite.specs.declared.evidence.InTurn.{InTurn}
 use Rattle.ws_suite.specs.declared.evidence.Reply.{Reply}
 use Rattle.ws_suite.specs.declared.evidence.Reply.TheVariants as reply

@@ -3,6 +3,7 @@ pub mod Evidence
 pub mod Matching
 pub mod Verdicts
 pub mod Fairness
+pub mod CaptureLines
 pub mod Captures
 pub mod Captures2
 pub mod Words
@@ -10,6 +11,5 @@ pub mod Examples
 pub mod InnerCollecting
 pub mod InnerEchoReplyLaws
 pub mod InnerCapturing
-pub mod InnerCapturing2
 pub mod InnerJudging
 pub mod InnerCases

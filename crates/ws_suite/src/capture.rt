@@ -1,17 +1,15 @@
 //! Captures: a transcript as lines of text, in format 1, or in format 2 with its masking key.
 
+mod format1;
+mod format2;
+mod line;
 mod reading;
-mod reading2;
 mod writing;
-mod writing2;
 
-use crate::transcript::{Ended, Transcript};
-pub use reading::read_capture;
-pub use reading2::read_capture2;
+use crate::transcript::Transcript;
+pub use reading::{read_capture, read_capture2};
 use thiserror::Error;
-pub use writing::write_capture;
-pub use writing2::write_capture2;
-use ws_base::Payload;
+pub use writing::{write_capture, write_capture2};
 
 /// All that went over a connection, with the masking key of the tester.
 #[derive(Drop)]
@@ -31,31 +29,4 @@ pub enum CaptureFault {
     /// Memory ran out.
     #[error("no memory")]
     NoMemory,
-}
-
-/// A line with bytes.
-#[derive(Drop)]
-pub(crate) enum Line {
-    /// These bytes were sent.
-    Sent(Payload),
-    /// These bytes were got.
-    Got(Payload),
-}
-
-/// A line after the first, in format 1.
-#[derive(Drop)]
-pub(crate) enum CaptureLine {
-    Data(Line),
-    /// The connection ended so: the last line.
-    End(Ended),
-}
-
-/// A line after the second, in format 2.
-#[derive(Drop)]
-pub(crate) enum TurnLine {
-    /// A turn begins.
-    Begin,
-    Data(Line),
-    /// The connection ended so: the last line.
-    End(Ended),
 }

@@ -20,7 +20,6 @@ ghost use Rattle.ws_suite.specs.Fairness.{IsEchoTranscript};
 ghost use Rattle.ws_suite.specs.Verdicts.{IsVerdictOf};
 
 use crate::lemmas::{echo_reply_laws, frame_laws, session_laws};
-use ws_base::laws::a_word_spells_one_list_of_bytes;
 
 /// A transcript has one verdict.
 pub fn one_verdict()
@@ -49,9 +48,7 @@ pub fn events_stand_with_their_last_byte()
 /// A text is a capture of one transcript.
 pub fn one_capture()
     ensures { (text : List ℕ) (one other : Transcript) → IsCaptureOf one text → IsCaptureOf other text → one ≡ other }
-{
-    a_word_spells_one_list_of_bytes();
-}
+{}
 
 /// What is written is a capture: of the same turns, run together where nothing was got in the one or nothing sent in
 /// the next, and of one that broke as of one that the peer ended.
@@ -83,18 +80,14 @@ pub fn one_list_of_lines()
         HasLines2 capture others → lines ≡ others }
     ensures of_one { (one other : Capture) (lines : List (List ℕ)) → HasLines2 one lines →
         HasLines2 other lines → one ≡ other }
-{
-    a_word_spells_one_list_of_bytes();
-}
+{}
 
 /// No text is two captures, whatever their formats, and what is written in format 2 is the capture that was given.
 pub fn one_capture_in_either_format()
     ensures one { (text : List ℕ) (one other : Capture) → IsAnyCaptureOf one text → IsAnyCaptureOf other text →
         one ≡ other }
     ensures written { (capture : Capture) → HoldsBytes capture → IsCapture2Of capture (written_capture2 capture) }
-{
-    a_word_spells_one_list_of_bytes();
-}
+{}
 
 /// What format 1 gives back of a transcript is that transcript, and no other, where it did not break, something was
 /// sent in each turn and something was got in each but the last.
@@ -105,6 +98,4 @@ pub fn format_1_gives_back()
     ensures alone { (transcript other : Transcript) → AllByRecursion AreOfBytes transcript.turns →
         AreAnsweredTurns transcript.turns → transcript.ended ≢ Broken →
         IsCaptureOf other (written_capture transcript) → other ≡ transcript }
-{
-    a_word_spells_one_list_of_bytes();
-}
+{}

@@ -1,175 +1,271 @@
-//! Reading a capture.
+//! Reading a capture, in format 1 or in either format.
 
-ghost use Rattle.std.specs.Prelude.{◌≡◌, ◌⊎◌, ◌++◌, MatchResult, IfOk, OnOk};
-ghost use Rattle.ws_suite.specs.declared.capture.CaptureLine.TheVariants.{Data};
-ghost use Rattle.ws_base.specs.Reading.{Reads};
-ghost use Rattle.ws_suite.specs.Captures.{AreLineBytes, AreWordsOf, DamagesCapture, IsCaptureOf, bytes_of, got_last};
-ghost use Rattle.ws_suite.specs.Captures.{mark_of, sent_last, with_line};
+ghost use Rattle.std.specs.Prelude.{◌≡◌, ◌++◌, ◌∷◌, [], ℕ, IfErr, IfOk, MatchResult};
+ghost use Rattle.ws_base.specs.declared.lines.LineFault.TheVariants.{NoMemory};
+ghost use Rattle.ws_base.specs.declared.lines.TextFault.TheVariants as text_fault;
+ghost use Rattle.ws_suite.specs.Captures.{DamagesCapture, IsCaptureOf};
+ghost use Rattle.ws_suite.specs.Captures2.{IsAnyCaptureOf};
+ghost use Rattle.ws_suite.specs.InnerCapturing.{Adds, TellCapture, all_turns, begun_in, capture_goes_on};
+ghost use Rattle.ws_suite.specs.InnerCapturing.{data_in, end_in, ended_then};
+ghost use Rattle.ws_suite.specs.InnerCapturing.{first_with, no_turns, open_turns, part_with, second_with, turns_with};
 
-use crate::capture::{CaptureFault, CaptureLine, Line};
+use crate::capture::line::{CaptureLine, Format, Line, read_line};
+use crate::capture::{Capture, CaptureFault, format1, format2};
 use crate::transcript::{Ended, Transcript, Turn};
 use std::alloc::Global;
-use ws_base::{LineFault, NoMemory, Payload, Sequence, cut_line, read_hex};
-
-/// The first line.
-pub(crate) const FIRST_LINE: &[u8] = b"wst-capture 1";
+use ws_base::{LineFault, PartialText, Payload, Sequence, TextFault, read_by_lines};
 
 /// The transcript of a capture in format 1.
 pub fn read_capture(alloc: Global, text: &[u8]) -> Result<Transcript, CaptureFault>
     ensures { MatchResult result (λ transcript. IsCaptureOf transcript text.now)
         (λ fault. DamagesCapture IsCaptureOf fault text.now) }
 {
-    let Some((first, after_first)) = cut_line(text) else {
-        return Err(CaptureFault::Damaged(1));
-    };
-    if first != FIRST_LINE {
-        return Err(CaptureFault::Damaged(1));
+    match read_by_lines(alloc, PartialCapture::Nothing(false), text) {
+        Ok(capture) => Ok(capture.transcript),
+        Err(fault) => Err(capture_fault(fault)),
     }
-    let mut turns = Vec::new(alloc);
-    let mut rest = after_first;
-    let mut number = 2;
-    while let Some((line, after)) = cut_line(rest) {
+}
+
+/// The capture that a text is, in format 2 or in format 1, which tells no key.
+pub fn read_capture2(alloc: Global, text: &[u8]) -> Result<Capture, CaptureFault>
+    ensures { MatchResult result (λ capture. IsAnyCaptureOf capture text.now)
+        (λ fault. DamagesCapture IsAnyCaptureOf fault text.now) }
+{
+    match read_by_lines(alloc, PartialCapture::Nothing(true), text) {
+        Ok(capture) => Ok(capture),
+        Err(fault) => Err(capture_fault(fault)),
+    }
+}
+
+/// The same fault of a capture.
+fn capture_fault(fault: TextFault) -> CaptureFault
+    ensures { (n : ℕ) → result ≡ CaptureFault.Damaged n → fault ≡ text_fault.Damaged n }
+{
+    match fault {
+        TextFault::Damaged(line) => CaptureFault::Damaged(line),
+        TextFault::NoMemory => CaptureFault::NoMemory,
+    }
+}
+
+/// Turns of which the last may go on.
+#[derive(Drop)]
+pub(crate) struct OpenTurns {
+    /// Those before the last.
+    pub done: Sequence<Turn>,
+    /// The last, where there is any.
+    pub last: Option<Turn>,
+}
+
+/// What was read of a capture.
+#[derive(Drop)]
+pub(crate) enum PartialCapture {
+    /// No line: of a capture in either format, or else in format 1.
+    Nothing(bool),
+    /// The first line, in format 2.
+    FirstOfTwo,
+    /// The lines before those of the turns, and these turns.
+    Turns(Format, Option<[u8; 4]>, OpenTurns),
+    /// All lines.
+    Whole(Capture),
+}
+
+impl PartialText for PartialCapture {
+    type Value = Capture;
+
+    ghost tells = { TellCapture };
+
+    fn take_line(self, alloc: Global, line: &[u8]) -> Result<PartialCapture, LineFault> {
         match read_line(alloc, line) {
-            Ok(CaptureLine::Data(line)) => {
-                if add_line(alloc, line, &mut turns).is_err() {
-                    return Err(CaptureFault::NoMemory);
-                }
-            }
-            Ok(CaptureLine::End(ended)) => {
-                if !after.is_empty() {
-                    return Err(CaptureFault::Damaged(number + 1));
-                }
-                return Ok(Transcript {
-                    turns: Sequence::from_vec(turns),
-                    ended,
-                });
-            }
-            Err(LineFault::Damaged) => return Err(CaptureFault::Damaged(number)),
-            Err(LineFault::NoMemory) => return Err(CaptureFault::NoMemory),
+            Ok(line) => self.with(alloc, line),
+            Err(fault) => Err(fault),
         }
-        rest = after;
-        number += 1;
     }
-    Err(CaptureFault::Damaged(number))
-}
 
-/// A line after the first.
-fn read_line(alloc: Global, line: &[u8]) -> Result<CaptureLine, LineFault>
-    ensures { Reads result (λ read. AreWordsOf read line.now) }
-{
-    if line == b"end peer".as_slice() {
-        return Ok(CaptureLine::End(Ended::Peer));
-    }
-    if line == b"end tester".as_slice() {
-        return Ok(CaptureLine::End(Ended::Tester));
-    }
-    match read_data(alloc, line) {
-        Ok(line) => Ok(CaptureLine::Data(line)),
-        Err(fault) => Err(fault),
-    }
-}
-
-/// A line with bytes.
-pub(crate) fn read_data(alloc: Global, line: &[u8]) -> Result<Line, LineFault>
-    ensures { Reads result (λ read. AreWordsOf (Data read) line.now) }
-{
-    let [mark, space, word @ ..] = line else {
-        return Err(LineFault::Damaged);
-    };
-    if *space != b' ' || (*mark != b'>' && *mark != b'<') {
-        return Err(LineFault::Damaged);
-    }
-    match read_bytes(alloc, word) {
-        Ok(bytes) => Ok(marked(*mark, bytes)),
-        Err(fault) => Err(fault),
-    }
-}
-
-/// The line with this mark.
-fn marked(mark: u8, bytes: Payload) -> Line
-    requires { (mark ≡ 62) ⊎ (mark ≡ 60) }
-    ensures mark { mark_of result ≡ mark }
-    ensures bytes { bytes_of result ≡ bytes }
-{
-    if mark == b'>' {
-        Line::Sent(bytes)
-    } else {
-        Line::Got(bytes)
-    }
-}
-
-/// The bytes of a line, at least one.
-fn read_bytes(alloc: Global, word: &[u8]) -> Result<Payload, LineFault>
-    ensures { Reads result (λ bytes. AreLineBytes bytes word.now) }
-{
-    match read_hex(alloc, word) {
-        Ok(bytes) => {
-            if bytes.len() == 0 {
-                return Err(LineFault::Damaged);
-            }
-            Ok(bytes)
+    fn value(self) -> Option<Capture> {
+        match self {
+            PartialCapture::Whole(capture) => Some(capture),
+            _ => None,
         }
-        Err(fault) => Err(fault),
+    }
+
+    ghost goes_on = { capture_goes_on };
+}
+
+impl PartialCapture {
+    /// What is read with one more line, where it may stand there.
+    fn with(self, alloc: Global, line: CaptureLine<Payload>) -> Result<PartialCapture, LineFault>
+        ensures { Adds (part_with self line) result }
+    {
+        match self {
+            PartialCapture::Nothing(both) => after_nothing(alloc, both, line),
+            PartialCapture::FirstOfTwo => after_first(alloc, line),
+            PartialCapture::Turns(format, key, turns) => after_turns(
+                alloc, format, key, turns, line,
+            ),
+            PartialCapture::Whole(_) => Err(LineFault::Damaged),
+        }
     }
 }
 
-/// Puts the bytes of a line at the end of the turns.
-fn add_line(alloc: Global, line: Line, turns: &mut Vec<Turn>) -> Result<(), NoMemory>
-    ensures { OnOk result (turns.new.items ≡ with_line turns.old.items line) }
+/// What the first line makes.
+fn after_nothing(
+    alloc: Global,
+    both: bool,
+    line: CaptureLine<Payload>,
+) -> Result<PartialCapture, LineFault>
+    ensures { Adds (first_with both line) result }
 {
     match line {
-        Line::Sent(bytes) => add_sent(alloc, bytes, turns),
-        Line::Got(bytes) => add_got(alloc, bytes, turns),
+        CaptureLine::First(Format::One) => Ok(PartialCapture::Turns(
+            Format::One,
+            None,
+            OpenTurns::none(alloc),
+        )),
+        CaptureLine::First(Format::Two) => {
+            if both {
+                Ok(PartialCapture::FirstOfTwo)
+            } else {
+                Err(LineFault::Damaged)
+            }
+        }
+        _ => Err(LineFault::Damaged),
     }
 }
 
-/// Puts bytes that were sent at the end of the turns.
-#[tactic(auto, using(crate::proofs::CaptureTurns::sent_at_end, crate::proofs::CaptureTurns::sent_apart))]
-fn add_sent(alloc: Global, bytes: Payload, turns: &mut Vec<Turn>) -> Result<(), NoMemory>
-    ensures { OnOk result (turns.new.items ≡ sent_last bytes turns.old.items) }
+/// What the second line makes, in format 2.
+fn after_first(alloc: Global, line: CaptureLine<Payload>) -> Result<PartialCapture, LineFault>
+    ensures { Adds (second_with line) result }
 {
-    let Some(Turn { sent, got }) = turns.pop() else {
-        turns.push(Turn {
-            sent: bytes,
-            got: Payload::new(alloc),
-        })?;
-        return Ok(());
-    };
-    if got.len() == 0 {
-        let sent = joined(sent, bytes)?;
-        turns.push(Turn { sent, got })?;
-    } else {
-        turns.push(Turn { sent, got })?;
-        turns.push(Turn {
-            sent: bytes,
-            got: Payload::new(alloc),
-        })?;
+    match line {
+        CaptureLine::Key(key) => Ok(PartialCapture::Turns(
+            Format::Two,
+            key,
+            OpenTurns::none(alloc),
+        )),
+        _ => Err(LineFault::Damaged),
     }
-    Ok(())
 }
 
-/// Puts bytes that were got at the end of the turns.
-#[tactic(auto, using(crate::proofs::CaptureTurns::got_at_end))]
-fn add_got(alloc: Global, bytes: Payload, turns: &mut Vec<Turn>) -> Result<(), NoMemory>
-    ensures { OnOk result (turns.new.items ≡ got_last bytes turns.old.items) }
+/// What a line makes of turns.
+fn after_turns(
+    alloc: Global,
+    format: Format,
+    key: Option<[u8; 4]>,
+    turns: OpenTurns,
+    line: CaptureLine<Payload>,
+) -> Result<PartialCapture, LineFault>
+    ensures { Adds (turns_with format key turns line) result }
 {
-    let Some(Turn { sent, got }) = turns.pop() else {
-        turns.push(Turn {
-            sent: Payload::new(alloc),
-            got: bytes,
-        })?;
-        return Ok(());
+    match line {
+        CaptureLine::Begin => match begun(alloc, format, turns) {
+            Ok(turns) => Ok(PartialCapture::Turns(format, key, turns)),
+            Err(fault) => Err(fault),
+        },
+        CaptureLine::Data(line) => match with_data(alloc, format, turns, line) {
+            Ok(turns) => Ok(PartialCapture::Turns(format, key, turns)),
+            Err(fault) => Err(fault),
+        },
+        CaptureLine::End(ended) => whole(format, key, turns, ended),
+        _ => Err(LineFault::Damaged),
+    }
+}
+
+/// The turns, where a turn begins.
+fn begun(alloc: Global, format: Format, turns: OpenTurns) -> Result<OpenTurns, LineFault>
+    ensures { Adds (begun_in format turns) result }
+{
+    match format {
+        Format::One => Err(LineFault::Damaged),
+        Format::Two => format2::begun(alloc, turns),
+    }
+}
+
+/// The turns with one more line of bytes.
+fn with_data(
+    alloc: Global,
+    format: Format,
+    turns: OpenTurns,
+    line: Line<Payload>,
+) -> Result<OpenTurns, LineFault>
+    ensures { Adds (data_in format turns line) result }
+{
+    match format {
+        Format::One => format1::with_data(alloc, turns, line),
+        Format::Two => format2::with_data(turns, line),
+    }
+}
+
+/// The capture of these turns, after its last line.
+fn whole(
+    format: Format,
+    key: Option<[u8; 4]>,
+    turns: OpenTurns,
+    ended: Ended,
+) -> Result<PartialCapture, LineFault>
+    ensures { Adds (ended_then key (all_turns turns) (end_in format ended)) result }
+{
+    let Some(ended) = end_in(format, ended) else {
+        return Err(LineFault::Damaged);
     };
-    let got = joined(got, bytes)?;
-    turns.push(Turn { sent, got })?;
-    Ok(())
+    match turns.all() {
+        Ok(turns) => {
+            let transcript = Transcript { turns, ended };
+            Ok(PartialCapture::Whole(Capture { key, transcript }))
+        }
+        Err(fault) => Err(fault),
+    }
 }
 
-/// The bytes one after the other.
-fn joined(front: Payload, back: Payload) -> Result<Payload, NoMemory>
-    ensures { IfOk result (λ bytes. bytes ≡ front ++ back) }
+/// How the connection ended, where the format tells that.
+fn end_in(format: Format, ended: Ended) -> Option<Ended>
+    ensures { result ≡ end_in format ended }
 {
-    let mut bytes = front.into_vec();
-    bytes.extend_from_slice(back.as_slice())?;
-    Ok(Payload::from_vec(bytes))
+    match format {
+        Format::One => format1::end(ended),
+        Format::Two => Some(ended),
+    }
+}
+
+impl OpenTurns {
+    /// No turn.
+    fn none(alloc: Global) -> OpenTurns
+        ensures { result ≡ no_turns }
+    {
+        OpenTurns {
+            done: Sequence::new(alloc),
+            last: None,
+        }
+    }
+
+    /// These turns, of which the last begins so.
+    pub(crate) fn new(done: Sequence<Turn>, sent: Payload, got: Payload) -> OpenTurns
+        ensures { result ≡ open_turns done sent got }
+    {
+        let last = Some(Turn { sent, got });
+        OpenTurns { done, last }
+    }
+
+    /// All of them.
+    pub(crate) fn all(self) -> Result<Sequence<Turn>, LineFault>
+        ensures all { IfOk result (λ turns. turns ≡ all_turns self) }
+        ensures memory { IfErr result (λ fault. fault ≡ NoMemory) }
+    {
+        let OpenTurns { done, last } = self;
+        match last {
+            Some(turn) => with_turn(done, turn),
+            None => Ok(done),
+        }
+    }
+}
+
+/// The turns with one more.
+pub(crate) fn with_turn(turns: Sequence<Turn>, turn: Turn) -> Result<Sequence<Turn>, LineFault>
+    ensures longer { IfOk result (λ longer. longer ≡ turns ++ turn ∷ []) }
+    ensures memory { IfErr result (λ fault. fault ≡ NoMemory) }
+{
+    let mut turns = turns.into_vec();
+    match turns.push(turn) {
+        Ok(()) => Ok(Sequence::from_vec(turns)),
+        Err(_) => Err(LineFault::NoMemory),
+    }
 }

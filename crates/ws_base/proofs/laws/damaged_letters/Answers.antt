@@ -1,7 +1,10 @@
-use Rattle.std.proofs.Common.{◌≡◌, ℕ, zero, suc, List, [], ◌∷◌, ap, codes, refl, arith, slice_index}
+-- The second line of each text is no letter, or no line.
+use Rattle.std.proofs.Common.{◌≡◌, ◌∙◌, ◌<◌, ◌∷◌, ◌++◌, [], ap, arith, codes, length, List, ℕ, refl, slice_index, suc, zero}
+use Rattle.std.specs.List.{AllZip}
 use Rattle.ws_base.specs.Examples.{IsLetter}
-use Rattle.ws_base.specs.Lines.{IsLine}
-use Rattle.ws_base.proofs.DamagedLines.{damaged_behind, first_line_no_value, no_line_no_value}
+use Rattle.ws_base.specs.Lines.{HasLineForEach, IsDamagedAt, IsLine}
+use Rattle.ws_base.specs.Reading.{TellFurther}
+use Rattle.ws_base.proofs.PartialTexts.{damaged_after, damaged_each}
 use Rattle.ws_base.proofs.laws.damaged_letters.Goals as goal
 
 one : (b : ℕ) → (b ≡ 10 → ⊥) → IsLine (b ∷ [])
@@ -14,12 +17,23 @@ is_line = one 97 (λ e. absurd (omega (arith, e)))
 pub returns-clause-two_letters : goal.returns-clause-two_letters
 returns-clause-two_letters c = (codes "a", codes "a\n", refl, is_line, (refl, refl), (codes "a", [], refl, is_line, (refl, refl), refl))
 
+-- a line after the first one is the same letter
+second : (letters : List ℕ) (line : List ℕ) (left : List (List ℕ)) → AllZip IsLetter letters (codes "a" ∷ line ∷ left) → line ≡ codes "a"
+second [] line left zip = absurd zip
+second (x ∷ []) line left zip = absurd zip.1
+second (x ∷ y ∷ letters) line left zip = zip.1.0.1
+
+-- after one letter stands neither another nor the end
+damaged_second : (rest text : List ℕ) → text ≡ codes "a\n" ++ rest → 0 < length rest → ((after : List ℕ) → rest ≡ codes "a\n" ++ after → ⊥)
+    → IsDamagedAt (HasLineForEach IsLetter) 2 text
+damaged_second rest text split some wrong =
+    damaged_each IsLetter 2 text
+    (damaged_after (TellFurther IsLetter []) (codes "a" ∷ []) rest text 2 (97 ∷ []) [] (is_line, tt) tt split refl (97 ∷ [], refl, ((refl, refl), tt))
+    (λ v line left after told e is. wrong after (e ∙ ap (λ (l : List ℕ). l ++ 10 ∷ after) (second told.0 line left told.2)))
+    (λ v told e. omega (arith, some, ap (λ (l : List ℕ). length l) e)))
+
 pub returns-clause-another : goal.returns-clause-another
-returns-clause-another c =
-    damaged_behind IsLetter (97 ∷ []) (codes "a" ∷ []) (codes "a\nb\n") (codes "b\n") 2 (is_line, tt) refl (codes "a", [], refl, is_line, (refl, refl), refl) (omega arith)
-    (first_line_no_value IsLetter (codes "b\n") (codes "b") [] refl (one 98 (λ e. absurd (omega (arith, e)))) (λ value of. absurd (omega (arith, ap (λ (l : List ℕ). slice_index l 0) of.1)))) refl
+returns-clause-another c = damaged_second (codes "b\n") (codes "a\nb\n") refl (omega arith) (λ after e. omega (arith, ap (λ (l : List ℕ). slice_index l 0) e))
 
 pub returns-clause-no_feed : goal.returns-clause-no_feed
-returns-clause-no_feed c =
-    damaged_behind IsLetter (97 ∷ []) (codes "a" ∷ []) (codes "a\na") (codes "a") 2 (is_line, tt) refl (codes "a", [], refl, is_line, (refl, refl), refl) (omega arith)
-    (no_line_no_value IsLetter (codes "a") is_line) refl
+returns-clause-no_feed c = damaged_second (codes "a") (codes "a\na") refl (omega arith) (λ after e. omega (arith, ap (λ (l : List ℕ). length l) e))

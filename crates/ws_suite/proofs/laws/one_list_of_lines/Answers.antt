@@ -1,6 +1,8 @@
-use Rattle.std.proofs.Common.{◌∙◌, refl, sym}
+-- The lines of a capture are those of a text, and a text tells one capture.
+use Rattle.std.proofs.Common.{◌∙◌, refl, sym, true}
+use Rattle.ws_base.specs.Lines.{ended}
 use Rattle.ws_suite.specs.Captures2.{capture2_lines}
-use Rattle.ws_suite.proofs.OneCapture2.{lines_of_one}
+use Rattle.ws_suite.proofs.CaptureTells.{of_format_2, one_told}
 use Rattle.ws_suite.proofs.laws.one_list_of_lines.Goals as goal
 
 pub returns-clause-has : goal.returns-clause-has
@@ -10,4 +12,5 @@ pub returns-clause-one : goal.returns-clause-one
 returns-clause-one c = λ capture lines others own other. own.1 ∙ sym other.1
 
 pub returns-clause-of_one : goal.returns-clause-of_one
-returns-clause-of_one c = lines_of_one c.a_word_spells_one_list_of_bytes.ensures
+returns-clause-of_one c = λ one other lines p q.
+    one_told true (ended lines) one other (of_format_2 one (ended lines) (lines, p, refl)) (of_format_2 other (ended lines) (lines, q, refl))

@@ -1,4 +1,5 @@
-use Rattle.ws_suite.proofs.OneCapture.{parted_is_same, written_is_capture}
+-- The lines that are written are those of a capture of the turns run together.
+use Rattle.ws_suite.proofs.CaptureLaws.{parted_is_same, written_is_capture}
 use Rattle.ws_suite.proofs.laws.written_captures_are_read.Goals as goal
 
 pub returns-clause-read : goal.returns-clause-read

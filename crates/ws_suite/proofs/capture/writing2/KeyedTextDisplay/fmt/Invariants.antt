@@ -1,9 +1,0 @@
-use Rattle.std.proofs.Common.{take}
-use Rattle.std.specs.Fmt.{HasWritten, IsPlainFormatter}
-use Rattle.std.specs.List.{flat_map}
-use Rattle.ws_suite.specs.InnerCapturing2.{marked_turn_text}
-use Rattle.ws_suite.proofs.capture.writing2.KeyedTextDisplay.fmt.Given as goal
-
--- the lines of the turns so far are written
-abbrev pub invariant-loop-turn : goal.invariant-loop-turn
-invariant-loop-turn g l = IsPlainFormatter l.initial.f → HasWritten g.W.Write.write_str_gives l.initial.f (flat_map marked_turn_text (take l.turn-index l.turn-items)) l.f
