@@ -1,5 +1,5 @@
--- The subprotocols that words name (RFC 6455 section 1.9), and the name of the one that was chosen among them.
-use Rattle.std.specs.Prelude.{ℕ, ◌==◌, List, [], Option, None, Some, slice_get}
+-- The subprotocols that words name (RFC 6455 section 1.9).
+use Rattle.std.specs.Prelude.{ℕ, ◌==◌, List, [], Option, None, Some}
 use Rattle.std.specs.Borrow.{Bor}
 use Rattle.std.specs.List.{slice_split}
 use Rattle.ws_upgrade.specs.Members.{comma}
@@ -12,8 +12,3 @@ names_in list = slice_split (λ byte. byte == comma) list
 abbrev pub protocols_given : Option (Bor (List ℕ)) → List (List ℕ)
 protocols_given None = []
 protocols_given (Some list) = names_in list.now
-
--- the name at the place that was chosen, if any was
-abbrev pub name_chosen : List (List ℕ) → Option ℕ → Option (List ℕ)
-name_chosen known None = None
-name_chosen known (Some place) = slice_get known place

@@ -6,13 +6,13 @@ use Rattle.ws_frame.specs.Devices.{Device, HasBegun, HasRead, HasWritten, IsUnto
 use Rattle.ws_session.specs.Limits.{LimitsValue}
 use Rattle.ws_session.specs.Words.{status_words}
 use Rattle.ws_session.specs.declared.status.Status.{Status}
+use Rattle.ws_upgrade.specs.Protocols.{name_chosen}
 use Rattle.ws_upgrade.specs.Texts.{refusal_bytes, response_text}
 use Rattle.ws_upgrade.specs.Words.{head_fault_name}
 use Rattle.ws_upgrade.specs.declared.faults.HeadFault.{HeadFault}
 use Rattle.ws_peer.specs.Driving.{DriveCall, ReadsInTurn, IsDrivenTo, IsFairDriveEnd}
 use Rattle.ws_peer.specs.declared.driving.DriveEnd.{DriveEnd}
 use Rattle.ws_peer.specs.declared.driving.DriveEnd.TheVariants as end
-use Rattle.ws_connection.specs.Protocols.{name_chosen}
 use Rattle.ws_connection.specs.ReadingHeads.{ReadsHead, ReadsNoFurther}
 use Rattle.ws_connection.specs.Requests.{DecidesRequest, NeedsRequest}
 use Rattle.ws_connection.specs.declared.reading_head.HeadEnd.TheVariants.{Cut, ReadFault}

@@ -17,7 +17,7 @@ mod serving;
 
 pub use probe_end::Probe;
 pub use probing::{NONCE, probe};
-pub use protocols::{Protocols, name_chosen, protocols_of};
+pub use protocols::{Protocols, protocols_of};
 pub use reading_head::{HeadDecider, HeadEnd, HeadRoom, read_head};
 pub use request_head::{RequestDecision, RequestHead};
 pub use response_head::{ResponseDecision, ResponseHead};

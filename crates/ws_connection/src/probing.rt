@@ -22,10 +22,7 @@ use std::io::{Read, Write};
 use ws_base::{NoMemory, Payload, Sequence};
 use ws_frame::{Watched, write_whole};
 use ws_suite::{Case, turns};
-use ws_upgrade::{RequestFault, request_with};
-
-/// What a probe asks for.
-const PATH: &[u8] = b"/";
+use ws_upgrade::{Host, Offers, Path, request_of};
 
 /// The nonce of each probe, 16 bytes: always the same, so that captures are repeatable.
 pub const NONCE: [u8; 16] = *b"the sample nonce";
@@ -71,15 +68,9 @@ fn request_text(alloc: Global, host: &[u8], offers: &[&[u8]]) -> Result<Vec<u8>,
     requires offers { AreOffers (map (λ name. name.now) offers.now) }
     ensures { IfOk result (λ text. text.items ≡ request_to host.now (map (λ name. name.now) offers.now)) }
 {
-    match request_with(alloc, host, PATH, NONCE, offers) {
-        Ok(text) => Ok(text),
-        Err(
-            RequestFault::BadHost
-            | RequestFault::BadPath
-            | RequestFault::BadProtocol
-            | RequestFault::NoMemory,
-        ) => Err(NoMemory),
-    }
+    let (host, offers) = (Host::proved(host), Offers::proved(offers));
+    let text = request_of(alloc, &host, &Path::root(), NONCE, &offers)?;
+    Ok(text)
 }
 
 /// Reads the head of the answer, and where it accepts runs the turns.

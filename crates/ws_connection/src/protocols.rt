@@ -1,8 +1,8 @@
 //! The subprotocols that words name (RFC 6455 section 1.9).
 
-ghost use Rattle.std.specs.Prelude.{◌≡◌, IfOk, MatchOption, map, option_map};
+ghost use Rattle.std.specs.Prelude.{◌≡◌, IfOk, MatchOption, map};
 ghost use Rattle.ws_upgrade.specs.Protocols.{AreOffers};
-ghost use Rattle.ws_connection.specs.Protocols.{name_chosen, names_in, protocols_given};
+ghost use Rattle.ws_connection.specs.Protocols.{names_in, protocols_given};
 
 use std::alloc::{AllocError, Global};
 use std::marker::Model;
@@ -71,14 +71,4 @@ fn names_in(alloc: Global, list: &[u8]) -> Result<Vec<&[u8]>, AllocError>
     ensures { IfOk result (λ names. map (λ name. name.now) names.items ≡ names_in list.now) }
 {
     list.split(|byte| *byte == b',').collect(alloc)
-}
-
-/// The name at the place that was chosen, if any was.
-pub fn name_chosen<'a>(known: &[&'a [u8]], protocol: Option<usize>) -> Option<&'a [u8]>
-    ensures { option_map (λ name. name.now) result ≡ name_chosen (map (λ name. name.now) known.now) protocol }
-{
-    match protocol {
-        Some(place) => known.get(place).copied(),
-        None => None,
-    }
 }

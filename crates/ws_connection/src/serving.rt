@@ -8,16 +8,16 @@ ghost use Rattle.ws_connection.specs.Requests.{DecidesRequest};
 ghost use Rattle.ws_connection.specs.Serving.{AnswersAccepted, AnswersRefused, Serves, ServesDecision};
 ghost use Rattle.ws_connection.specs.Serving.{served_by, served_words};
 
-use crate::protocols::name_chosen;
 use crate::reading_head::{HeadEnd, HeadRoom, read_head};
 use crate::request_head::{RequestDecision, RequestHead};
 use std::alloc::Global;
 use std::fmt;
 use std::io::{Read, Write};
+use ws_base::NoMemory;
 use ws_frame::{NO_KEY, Role, Watched, write_whole};
 use ws_peer::{DriveEnd, drive};
 use ws_session::{Echo, Limits, Status};
-use ws_upgrade::{HeadFault, ResponseFault, refusal, response_with};
+use ws_upgrade::{HeadFault, Offers, refusal, response_of};
 
 /// How a connection that was served ended.
 #[derive(Clone, Copy, PartialEq, Eq)]
@@ -98,6 +98,7 @@ fn answer<R: Read, W: Write>(
 ) -> Served
     requires reader_works { has_failed reader.old ≡ false }
     requires writer_works { has_failed writer.old ≡ false }
+    requires known { AreOffers (map (λ name. name.now) known.now) }
     requires decides { DecidesRequest (map (λ name. name.now) known.now) head.now decision }
     ensures { ServesDecision bounds.limits bounds.budget (map (λ name. name.now) known.now) decision head.now result
         (watched R.remaining reader.old reader.new) (watched W.contents writer.old writer.new) }
@@ -107,12 +108,12 @@ fn answer<R: Read, W: Write>(
             accept,
             protocol,
             used,
-        } => match response_with(alloc, &accept, name_chosen(known, protocol)) {
+        } => match response_of(alloc, &accept, Offers::proved(known).chosen(protocol)) {
             Ok(response) => {
                 let (response, first) = (response.as_slice(), &head[used..]);
                 answer_accepted(alloc, response, first, reader, writer, bounds)
             }
-            Err(ResponseFault::BadProtocol | ResponseFault::NoMemory) => Served::Stopped,
+            Err(NoMemory) => Served::Stopped,
         },
         RequestDecision::Refused(fault) => answer_refused(fault, writer),
     }

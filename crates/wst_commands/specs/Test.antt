@@ -89,7 +89,6 @@ CanBeTested plan = All CanBeRun plan.cases.items × (plan.capture ≡ true → l
 -- what is wrong with the word of a target
 abbrev pub RefusesTarget : List ℕ → TestRefusal → Type 0
 RefusesTarget word refusal.BadAddress = IsNoMemoryServer word × ¬ (IsHost word)
-RefusesTarget word (refusal.Fault fault) = fault ≡ NoMemory
 RefusesTarget word _ = ⊥
 
 -- why there are no cases with these names: one has none, and those before it have, or memory ran out

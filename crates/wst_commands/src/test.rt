@@ -16,10 +16,10 @@ use crate::testing::{capture_case, test_cases};
 use std::alloc::Global;
 use std::io::Write;
 use ws_base::{NoMemory, read_key};
-use ws_connection::{NONCE, Protocols, protocols_of};
+use ws_connection::{Protocols, protocols_of};
 use ws_frame::Watched;
 use ws_suite::Case;
-use ws_upgrade::{RequestFault, request};
+use ws_upgrade::is_host;
 use wst_filters::{Exit, Fault, end_run, tell, tell_fault};
 use wst_words::TestOptions;
 
@@ -136,7 +136,7 @@ pub fn plan_test<'a>(
     let Some(key) = read_key(options.key.as_bytes()) else {
         return Err(TestRefusal::BadKey);
     };
-    let target = target_of(alloc, options.target)?;
+    let target = target_of(options.target)?;
     if options.capture && options.ids.len() != 1 {
         return Err(TestRefusal::NotOneCase);
     }
@@ -151,28 +151,26 @@ pub fn plan_test<'a>(
 }
 
 /// The server that a word names.
-fn target_of<'a>(alloc: Global, word: &'a str) -> Result<Target<'a>, TestRefusal<'a>>
+fn target_of(word: &str) -> Result<Target<'_>, TestRefusal<'_>>
     ensures { MatchResult result (IsTargetOf word.now) (RefusesTarget word.now) }
 {
     match word {
         "own" => Ok(Target::Memory(MemoryServer::Own)),
         "tung" => Ok(Target::Memory(MemoryServer::Tung)),
-        _ => address_of(alloc, word),
+        _ => address_of(word),
     }
 }
 
 /// The server at an address.
-fn address_of<'a>(alloc: Global, word: &'a str) -> Result<Target<'a>, TestRefusal<'a>>
+fn address_of(word: &str) -> Result<Target<'_>, TestRefusal<'_>>
     requires own { word.now ≢ codes "own" }
     requires tung { word.now ≢ codes "tung" }
     ensures { MatchResult result (IsTargetOf word.now) (RefusesTarget word.now) }
 {
-    match request(alloc, word.as_bytes(), b"/", NONCE) {
-        Ok(_) => Ok(Target::Address(word)),
-        Err(RequestFault::BadHost) => Err(TestRefusal::BadAddress),
-        Err(RequestFault::BadPath | RequestFault::BadProtocol | RequestFault::NoMemory) => {
-            Err(TestRefusal::Fault(Fault::NoMemory))
-        }
+    if is_host(word.as_bytes()) {
+        Ok(Target::Address(word))
+    } else {
+        Err(TestRefusal::BadAddress)
     }
 }
 

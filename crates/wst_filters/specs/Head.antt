@@ -1,11 +1,11 @@
 -- A run of `head`.
 use Rattle.std.specs.Prelude.{◌≡◌, ◌⊎◌, ℕ, List, Result, Ok, Err, MatchResult}
 use Rattle.ws_frame.specs.Devices.{Device, IsUntouched}
-use Rattle.ws_upgrade.specs.Protocols.{AreOffers}
+use Rattle.ws_upgrade.specs.Protocols.{AreOffers, name_chosen}
 use Rattle.ws_upgrade.specs.Texts.{refusal_bytes, response_text}
 use Rattle.wst_words.specs.declared.head.HeadOptions.{HeadOptions}
 use Rattle.wst_filters.specs.Devices.{Delivers}
-use Rattle.ws_connection.specs.Protocols.{name_chosen, protocols_given}
+use Rattle.ws_connection.specs.Protocols.{protocols_given}
 use Rattle.ws_connection.specs.ReadingHeads.{ReadsHead}
 use Rattle.ws_connection.specs.Requests.{DecidesRequest, NeedsRequest}
 use Rattle.wst_filters.specs.declared.exit.Exit.{Exit}

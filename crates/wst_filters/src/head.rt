@@ -11,11 +11,9 @@ use crate::fault::Fault;
 use crate::telling::deliver;
 use std::alloc::Global;
 use std::io::{Read, Write};
-use ws_connection::{
-    HeadEnd, HeadRoom, RequestDecision, RequestHead, name_chosen, protocols_of, read_head,
-};
+use ws_connection::{HeadEnd, HeadRoom, RequestDecision, RequestHead, protocols_of, read_head};
 use ws_frame::Watched;
-use ws_upgrade::{ResponseFault, refusal, response_with};
+use ws_upgrade::{Offers, refusal, response_of};
 use wst_words::HeadOptions;
 
 /// Reads the head of a request, and writes the response or the refusal. What follows the head is ignored. Where the
@@ -65,7 +63,8 @@ fn answer<W: Write>(
     decision: RequestDecision,
     writer: &mut Watched<W>,
 ) -> Result<Exit, Fault>
-    requires { has_failed writer.old ≡ false }
+    requires works { has_failed writer.old ≡ false }
+    requires known { AreOffers (map (λ name. name.now) known.now) }
     ensures { AnswersDecision (map (λ name. name.now) known.now) decision result
         (watched W.contents writer.old writer.new) }
 {
@@ -74,10 +73,11 @@ fn answer<W: Write>(
             accept,
             protocol,
             ..
-        } => match response_with(alloc, &accept, name_chosen(known, protocol)) {
-            Ok(text) => Ok(deliver(Exit::Done, text.as_slice(), writer)),
-            Err(ResponseFault::BadProtocol | ResponseFault::NoMemory) => Err(Fault::NoMemory),
-        },
+        } => {
+            let chosen = Offers::proved(known).chosen(protocol);
+            let text = response_of(alloc, &accept, chosen)?;
+            Ok(deliver(Exit::Done, text.as_slice(), writer))
+        }
         RequestDecision::Refused(fault) => Ok(deliver(Exit::Damaged, refusal(fault), writer)),
     }
 }

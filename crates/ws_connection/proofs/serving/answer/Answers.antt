@@ -3,6 +3,7 @@ use Rattle.std.proofs.lemmas.List.{take_rest}
 use Rattle.std.specs.Borrow.{Bor}
 use Rattle.std.specs.Prelude.{Option}
 use Rattle.ws_frame.specs.Devices.{watched}
+use Rattle.ws_upgrade.specs.Protocols.{name_chosen}
 use Rattle.ws_upgrade.specs.Texts.{response_text}
 use Rattle.ws_connection.specs.Serving.{AnswersAccepted, ServesDecision, response_of}
 use Rattle.ws_connection.specs.declared.request_head.RequestDecision.{RequestDecision}
@@ -19,7 +20,7 @@ returns-in-Ok g c =
     let served = c.answer_accepted.result in
     let input = watched g.R.Read.remaining c.args.reader.now c.answer_accepted.new.reader in
     let output = watched g.W.Write.contents c.args.writer.now c.answer_accepted.new.writer in
-    let text : c.as_slice-response.result.now ≡ response_of known accept c.in-Accepted.protocol = c.as_slice-response.ensures.value ∙ c.in-Ok.ensures.text ∙ ap (λ (name : Option (List ℕ)). response_text accept name) c.name_chosen.ensures in
+    let text : c.as_slice-response.result.now ≡ response_of known accept c.in-Accepted.protocol = c.as_slice-response.ensures.value ∙ c.in-Ok.ensures ∙ ap (λ (name : Option (List ℕ)). response_text accept name) (c.chosen.ensures ∙ ap (λ (names : List (List ℕ)). name_chosen names c.in-Accepted.protocol) c.proved.ensures) in
     let behind = subst (λ (first : List ℕ). AnswersAccepted limits budget c.as_slice-response.result.now first served input output) (take_rest head used) c.answer_accepted.ensures in
     let answers = subst (λ (response : List ℕ). AnswersAccepted limits budget response (drop used head) served input output) text behind in
     subst (λ (decision : RequestDecision). ServesDecision limits budget known decision head served input output) (sym c.in-Accepted.is) answers
