@@ -1,0 +1,245 @@
+"""Changes of the twin that are written by hand, and those that change no verdict, each with the reason."""
+
+HEADER_RULES = [
+    "header.rsv > 0",
+    "header.opcode not in (CONTINUATION, TEXT, BINARY, CLOSE, PING, PONG)",
+    "header.length < {0: 0, 2: 126, 8: 65536}[header.form]",
+    "header.length >= 2**63",
+    "is_control(header) and not header.fin",
+    "is_control(header) and header.length > 125",
+    "header.opcode == CONTINUATION and kind is None",
+    "header.opcode in (TEXT, BINARY) and kind is not None",
+]
+
+# The text that is replaced, which stands once in the twin, and what stands there instead, one at a time.
+BY_HAND = {
+    **{f"{rule},": [f"role == {role} and {rule}," for role in ("SERVER", "CLIENT")] for rule in HEADER_RULES},
+    "header.is_masked != (role == SERVER)": [
+        "role == SERVER and not header.is_masked",
+        "role == CLIENT and header.is_masked",
+    ],
+    "if not is_control(header) and size": [
+        "if role == SERVER and not is_control(header) and size",
+        "if role == CLIENT and not is_control(header) and size",
+    ],
+    "        return TOO_BIG": [
+        "        return TOO_BIG if kind is None else PROTOCOL_ERROR",
+    ],
+    "if kind == TEXT else": [
+        "if kind == TEXT and role == SERVER else",
+        "if kind == TEXT and role == CLIENT else",
+        "if header.opcode == TEXT else",
+    ],
+    "fault = close_fault(payload)": [
+        "fault = close_fault(payload) if role == SERVER else None",
+        "fault = close_fault(payload) if role == CLIENT else None",
+    ],
+    '"invalid start byte": error.start': [
+        '"invalid start byte": error.end',
+    ],
+    '"invalid continuation byte": error.end': [
+        '"invalid continuation byte": error.start',
+    ],
+    "yield Event(FAULT, fault, header.end - 1)": [
+        "yield Event(FAULT, fault, at)",
+        "yield Event(FAULT, fault, header.end + header.length - 1)",
+    ],
+    "header.end + bad - len(message))": [
+        "header.end - 1)",
+        "min(end, len(data)) - 1)",
+        "end - 1)",
+    ],
+    "yield Event(FAULT, NOT_TEXT, end - 1)": [
+        "yield Event(FAULT, NOT_TEXT, header.end - 1)",
+    ],
+    "yield Event(FAULT, fault, end - 1)": [
+        "yield Event(FAULT, fault, header.end - 1)",
+    ],
+    "Event(CLOSE, close_code(payload), end - 1)": [
+        "Event(CLOSE, close_code(payload), header.end - 1)",
+    ],
+    "yield Event(header.opcode, payload, end - 1)": [
+        "yield Event(header.opcode, payload, header.end - 1)",
+    ],
+    "yield Event(kind, message, end - 1)": [
+        "yield Event(kind, message, header.end - 1)",
+    ],
+    "bisect_right(ends, x.place)": [
+        "bisect_right(ends, x.place + 1)",
+        "bisect_right(ends, x.place - 1)",
+        "bisect_right(ends, x.place) + (role == SERVER)",
+        "bisect_right(ends, x.place) + (role == CLIENT)",
+    ],
+    "data[header.end : end], header.key)": [
+        "data[header.end : end], header.key[::-1])",
+        "data[header.end : end], b'' if is_control(header) else header.key)",
+        "data[header.end : end], (header.key * 2)[len(message) % 4 :][:4])",
+    ],
+    "len(turns), end)": [
+        "sum(bool(sent) for sent, _ in turns), end)",
+        "sum(bool(got) for _, got in turns), end)",
+        "sum(bool(sent or got) for sent, got in turns), end)",
+    ],
+    "x._replace(kind=PONG) if x.kind == PING else x": [
+        "x",
+    ],
+    "for x in sent if x.kind != PONG]": [
+        "for x in sent]",
+    ],
+    "return [(x.kind, x.value) for x in events]": [
+        "return [x.kind for x in events]",
+        "return [x.value for x in events]",
+    ],
+    "return next((x for x in events if x.kind in kinds)": [
+        "return next((x for x in events[-1:] if x.kind in kinds)",
+    ],
+    "range(at, len(due))": [
+        "range(len(due))",
+        "reversed(range(at, len(due)))",
+        "range(at, min(at + 1, len(due)))",
+    ],
+    "at = at if found is None else found + 1": [
+        "at = len(due) if found is None else found + 1",
+        "at = at + 1",
+        "at = at if found is None else at + 1",
+        "at = at if found is None else found",
+    ],
+    "if due[place].value == got.value": [
+        "if due[place].value == got.value and due[place].turn <= got.turn",
+        "if due[place].value[:1] == got.value[:1]",
+        "if len(due[place].value) == len(got.value)",
+    ],
+    "zip(pongs(x.got)[-1:], pongs(x.due)[-1:])": [
+        "zip(pongs(x.got), pongs(x.due))",
+        "[(got, due) for got in pongs(x.got) for due in pongs(x.due)[-1:]]",
+        "[(got, due) for got in pongs(x.got)[-1:] for due in pongs(x.due)]",
+        "matches(x)[-1:] and [p for p in matches(x)[-1:] if p[1] == pongs(x.due)[-1]]",
+    ],
+    "    return all(x in rest for x in some)": [
+        "    return all(x in every for x in some)",
+        "    return some == every",
+        "    return some == every[: len(some)]",
+        "    return len(some) <= len(every)",
+    ],
+    "bare(replies(x.got)), bare(replies(x.due))": [
+        "bare(replies(x.due)), bare(replies(x.got))",
+    ],
+    "zip(messages(x.got), messages(x.due))": [
+        "zip(messages(x.got)[:1], messages(x.due))",
+        "list(zip(messages(x.got), messages(x.due)))[-1:]",
+        "[pair for pair in zip(messages(x.got), messages(x.due)) if pair[0][:2] == pair[1][:2]]",
+    ],
+    "for got, due in matches(x))": [
+        "for got, due in matches(x)[:1])",
+        "for got, due in matches(x)[-1:])",
+        "for got, due in zip(pongs(x.got), pongs(x.due)))",
+    ],
+    "return got != (due[: len(got)] if": [
+        "return got != (due[len(due) - len(got) :] if",
+    ],
+    "return got != (due[: len(got)] if fault_of(x.due) else due)": [
+        "return got != due[: len(got)]",
+        "return got != due",
+        "return len(got) > len(due)",
+        "return got != (due[: len(got)] if ending_of(x.due) else due)",
+        "return not is_with_some_left_out(got, due) if fault_of(x.due) else got != due",
+        "return sorted(got, key=str) != sorted(due[: len(got)] if fault_of(x.due) else due, key=str)",
+    ],
+    "any(due is None for _, due in matches(x))": [
+        "not fault_of(x.due) and any(due is None for _, due in matches(x))",
+        "any(due is None for _, due in matches(x)[-1:])",
+        "any(due is None for _, due in matches(x)[:1])",
+        "len(pongs(x.got)) > len(pongs(x.due))",
+    ],
+    "and pongs(x.due) and not has_last_pong(x)": [
+        "and is_short(pongs, x)",
+        "and pongs(x.due) and not pongs(x.got)",
+        "and close_of(x.due) and pongs(x.due) and not has_last_pong(x)",
+    ],
+    "close_of(x.due) and not close_of(x.got)": [
+        "close_of(x.due) and not close_of(x.got) and x.end == PEER",
+        "close_of(x.due) and not close_of(x.got) and x.end != BROKEN",
+    ],
+    "not ending_of(x.due) and close_of(x.got)": [
+        "not ending_of(x.due) and close_of(x.got) and x.end == PEER",
+        "not ending_of(x.due) and close_of(x.got) and x.end == TESTER",
+    ],
+    "fault_of(x.got),\n": [
+        "fault_of(x.got) and x.end != BROKEN,\n",
+    ],
+    "close_of(x.got) and first([REST], x.got),": [
+        "close_of(x.got) and first([REST], x.got) and x.end != BROKEN,",
+    ],
+    "close.value != ending.value": [
+        "close.value % 256 != ending.value % 256",
+        "close.value // 256 != ending.value // 256",
+        "close.value and close.value != ending.value",
+        "ending.value and close.value != ending.value",
+        "ending.kind == CLOSE and close.value != ending.value",
+        "ending.kind == FAULT and close.value != ending.value",
+    ],
+    "return ending and ending.turn + 1 < x.turns": [
+        "return ending and ending.kind == CLOSE and ending.turn + 1 < x.turns",
+        "return ending and ending.kind == FAULT and ending.turn + 1 < x.turns",
+        "return close_of(x.got) and close_of(x.got).turn + 1 < x.turns",
+        "return ending and ending.turn + 1 < x.turns and not close_of(x.got)",
+        "return ending and ending.turn + 1 < x.turns and x.end == PEER",
+    ],
+    "return is_short(pongs, x) and has_last_pong(x)": [
+        "return is_short(pongs, x) and has_last_pong(x) and not fault_of(x.due)",
+        "return is_short(pongs, x) and has_last_pong(x) and close_of(x.due)",
+    ],
+    "(is_short(messages, x) or (": [
+        "(is_short(messages, x) and pongs(x.due) == [] or (",
+        "(is_short(messages, x) and is_short(pongs, x) or (",
+    ],
+    "return x.end == BROKEN": [
+        "return x.end == BROKEN and close_of(x.due)",
+        "return x.end == BROKEN and fault_of(x.due)",
+    ],
+    "due is not None and got.turn < due.turn for": [
+        "due is None or got.turn < due.turn for",
+    ],
+    "close and ending and close.turn < ending.turn": [
+        "close and (not ending or close.turn < ending.turn)",
+    ],
+    "close and ending and close.value != ending.value": [
+        "ending and (not close or close.value != ending.value)",
+    ],
+    "return [x for x in events if x.kind == PONG]": [
+        "return [x for x in events if x.kind in (PING, PONG)]",
+    ],
+    "if x.kind in (TEXT, BINARY, PONG)]": [
+        "if x.kind in (TEXT, BINARY, PING, PONG)]",
+    ],
+}
+
+GOT_FAULT = "a fault that was got is told before as NotFrames"
+SHORT = "without a fault each of the two is a Fail, which is told before"
+REPLIES = "more of either than are due is a Fail, and fewer pongs with the last one are PongsSkipped: told before"
+
+# The changes that change no verdict, by their names, and why.
+EQUAL = {
+    "header_at: 128 -> 127 (4)": "a first byte of 127 has reserved bits, and is a fault whatever its FIN is",
+    "header_fault: 0 -> -1 (3)": "no length is below 0",
+    "by hand: header.length >= 2**63, -> role == SERVER and header.length >= 2**63,": (
+        "what was got with such a length is at fault too as larger than a message may be, and its code is not asked"
+    ),
+    "close_fault: 2 -> 1": "a payload of one byte is told before",
+    "is_not_frames: close_of -> ending_of": GOT_FAULT,
+    "is_early: close_of -> ending_of": GOT_FAULT,
+    "has_other_close: close_of -> ending_of (2)": GOT_FAULT,
+    "has_other_close: close_of -> ending_of (3)": GOT_FAULT,
+    "has_other_code: close_of -> ending_of": GOT_FAULT,
+    "has_other_code: close and ending and close.value != ending.value -> ((close) and (close.value != ending.value))": (
+        "a close that was got where neither a close nor a fault was sent is told before as Close"
+    ),
+    "echoes_short: fault_of(x.due) and (is_short(messages, x) or (is_short(pongs, x) and not has_last_pong(x)))"
+    " -> ((is_short(messages, x) or (is_short(pongs, x) and not has_last_pong(x))))": SHORT,
+    "echoes_short: fault_of -> ending_of": SHORT,
+    "echoes_short: messages -> replies": REPLIES,
+    "echoes_short: pongs -> replies": REPLIES,
+    "echoes_short: is_short(pongs, x) and not has_last_pong(x) -> ((is_short(pongs, x)))": (
+        "fewer pongs with the last one are told before as PongsSkipped"
+    ),
+}
