@@ -60,11 +60,13 @@ members_in-no_comma value none =
 -- ---- headers by name
 
 -- what holds of each element holds of each after the first
-pub All-after : {X : Type 0} (P : X → Type 0) (xs : List X) (first : X) (others : List X) → xs ≡ first ∷ others → All P xs → All P others
+pub All-after : {X : Type 0} (P : X → Type 0) (xs : List X) (first : X) (others : List X) → xs ≡ first ∷ others
+    → All P xs → All P others
 All-after P xs first others parts all = All-tail P first others (rw parts at all)
 
 -- the first header has another name
-pub values_of-other : (name bytes : List ℕ) (spans : List HeaderSpan) (first : HeaderSpan) (others : List HeaderSpan) → spans ≡ first ∷ others
+pub values_of-other : (name bytes : List ℕ) (spans : List HeaderSpan) (first : HeaderSpan) (others : List HeaderSpan)
+    → spans ≡ first ∷ others
     → str_eq_ignore_ascii_case (header_bytes bytes first).0 name ≡ false
     → values_of name (map (header_bytes bytes) spans) ≡ values_of name (map (header_bytes bytes) others)
 values_of-other name bytes spans first others parts other = rw (parts, other) refl

@@ -1,7 +1,7 @@
 //! The heads of the opening handshake (RFC 6455 section 4): made, and accepted or refused by its rules.
 //!
-//! The layers above use the contracts of `read_request_with`, `read_response_with`, `request_with`, `response_with` and
-//! `refusal`, and of `are_offers`.
+//! The layers above use the contracts of `read_request_with`, `read_response_with`, `request_of`, `response_of` and
+//! `refusal`, and of `is_host`, `are_offers` and `Offers::chosen`.
 #![tactic(auto)]
 
 mod accepting;
@@ -11,6 +11,7 @@ mod headers;
 mod members;
 mod parts;
 mod protocols;
+mod reading;
 mod requests;
 mod responses;
 mod writing;
@@ -19,7 +20,8 @@ pub use accepting::accept_of;
 pub use faults::{HeadFault, RequestFault, ResponseFault};
 pub use parts::{Host, Path, is_host, is_path};
 pub use protocols::{Offers, ProtocolName, are_offers, is_protocol_name};
-pub use requests::{MAX_HEAD, RequestRead, Upgrade, read_request, read_request_with};
+pub use reading::MAX_HEAD;
+pub use requests::{RequestRead, Upgrade, read_request, read_request_with};
 pub use responses::{ResponseRead, read_response, read_response_with};
 pub use writing::{
     refusal, request, request_of, request_with, response, response_of, response_with,

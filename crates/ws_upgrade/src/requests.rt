@@ -1,24 +1,19 @@
 //! Reading the head of a request (RFC 6455 section 4.2.1).
 
-ghost use Rattle.std.specs.Prelude.{◌≡◌, ℕ, List, [], MatchOption, MatchResult, map};
+ghost use Rattle.std.specs.Prelude.{ℕ, List, [], MatchOption, MatchResult, map};
 ghost use Rattle.httparse.specs.Grammar.{RequestHead};
 ghost use Rattle.httparse.specs.Spans.{IsRequestAt, IsRequestWithin};
 ghost use Rattle.ws_upgrade.specs.Heads.{RequestParts, IsOnlyKey, IsRequestRefusal};
-ghost use Rattle.ws_upgrade.specs.Reading.{head_part, ChecksHead, OpensRequest, request_heads, request_read};
+ghost use Rattle.ws_upgrade.specs.Reading.{ChecksHead, OpensRequest, request_heads, request_read};
 ghost use Rattle.ws_upgrade.specs.Reading.{IsRequestRead, ChecksEachRequest, HoldsRequest};
 
 use crate::accepting::{accept_of, is_key};
 use crate::faults::HeadFault;
 use crate::headers::Headers;
 use crate::protocols::PROTOCOL_HEADER;
+use crate::reading::{MAX_HEAD, MAX_HEADERS, head_part};
 use httparse::spans::{EMPTY_HEADER_SPAN, HeaderSpan, RequestSpans, parse_request};
 use httparse::{Error, Status};
-
-/// A head is looked for in so many bytes.
-pub const MAX_HEAD: usize = 8192;
-
-/// The most headers that a head has.
-pub const MAX_HEADERS: usize = 64;
 
 /// What an accepted request asks for. The slices are parts of the bytes that were read.
 #[derive(Clone, Copy)]
@@ -93,17 +88,6 @@ pub fn read_request_with<'b>(bytes: &'b [u8], known: &[&[u8]]) -> RequestRead<'b
             Error::TooManyHeaders => RequestRead::Refused(HeadFault::TooLarge),
             _ => RequestRead::Refused(HeadFault::Head),
         },
-    }
-}
-
-/// The bytes in which a head is looked for.
-pub(crate) fn head_part(bytes: &[u8]) -> &[u8]
-    ensures { result.now ≡ head_part bytes.now }
-{
-    if bytes.len() < MAX_HEAD {
-        bytes
-    } else {
-        &bytes[..MAX_HEAD]
     }
 }
 

@@ -11,7 +11,7 @@ use crate::accepting::{accept_of, key_text};
 use crate::faults::HeadFault;
 use crate::headers::Headers;
 use crate::protocols::PROTOCOL_HEADER;
-use crate::requests::{MAX_HEAD, MAX_HEADERS, head_part};
+use crate::reading::{MAX_HEAD, MAX_HEADERS, head_part};
 use httparse::spans::{EMPTY_HEADER_SPAN, HeaderSpan, ResponseSpans, parse_response};
 use httparse::{Error, Status};
 

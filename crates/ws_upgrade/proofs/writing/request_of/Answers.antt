@@ -1,3 +1,4 @@
+-- The head is its lines, one after another, made of the parts that are given.
 use Rattle.std.proofs.Common.{rules, codes, map}
 use Rattle.ws_upgrade.specs.Texts.{line_end, request_line, header_line, protocol_lines}
 use Rattle.ws_upgrade.proofs.Lines.{six_lines}
