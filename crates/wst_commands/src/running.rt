@@ -4,7 +4,8 @@ ghost use Rattle.std.specs.Prelude.{◌≡◌, ◌≤◌, false, if◌then◌els
 ghost use Rattle.clap.specs.Words.{kind_of};
 ghost use Rattle.ws_frame.specs.Devices.{watched};
 ghost use Rattle.ws_frame.specs.Watching.{has_failed};
-ghost use Rattle.wst_words.specs.Words.{Places, wst_app};
+ghost use Rattle.wst_words.specs.Arguments.{Places};
+ghost use Rattle.wst_words.specs.Words.{wst_app};
 ghost use Rattle.wst_filters.specs.Devices.{Tells};
 ghost use Rattle.wst_filters.specs.Exits.{exit_status};
 ghost use Rattle.wst_commands.specs.Run.{AnswersWords, CanBeServed, CanBeTestedAt, EndsRun, HasStatusUpTo};

@@ -1,162 +1,133 @@
--- The words of one command ask for no task of another.
-use Rattle.std.proofs.Common.{◌≡◌, ◌∙◌, ℕ, List, Some, arith, ap, sym, codes, slice_index}
+-- A command one of whose arguments lacks its value asks for nothing: not for a task of its own, and not for one of
+-- another command.
+use Rattle.std.proofs.Common.{◌≡◌, ◌∙◌, List, true, false, Some, ap, sym, refl, codes, inl, inr}
+use Rattle.std.specs.Str.{bytes_eq}
 use Rattle.clap.specs.Words.{Row, Text}
-use Rattle.wst_words.specs.Pair.{AsksToPairNothing}
-use Rattle.wst_words.specs.Serve.{AsksToServeNothing}
-use Rattle.wst_words.specs.Session.{AsksForNoSession}
-use Rattle.wst_words.specs.Show.{AsksToShowNothing}
-use Rattle.wst_words.specs.Test.{AsksToTestNothing}
+use Rattle.wst_words.specs.Options.{LacksOneOf}
+use Rattle.wst_words.specs.Pair.{AsksToPair, pair_command}
+use Rattle.wst_words.specs.Serve.{AsksToServe, serve_command}
+use Rattle.wst_words.specs.Session.{AsksForSession, session_command}
+use Rattle.wst_words.specs.Show.{AsksToShow, show_command}
+use Rattle.wst_words.specs.Test.{AsksToTest, test_command}
 use Rattle.wst_words.specs.Words.{CommandAsks, CommandAsksNothing}
+use Rattle.wst_words.specs.declared.pair.PairOptions.{PairOptions}
+use Rattle.wst_words.specs.declared.serve.ServeOptions.{ServeOptions}
+use Rattle.wst_words.specs.declared.session.SessionOptions.{SessionOptions}
+use Rattle.wst_words.specs.declared.show.ShowOptions.{ShowOptions}
+use Rattle.wst_words.specs.declared.test.TestOptions.{TestOptions}
 use Rattle.wst_words.specs.declared.words.Task.{Task}
-use Rattle.wst_words.specs.declared.words.Task.TheVariants.{Cases, Convert, Head, Judge, Pair, Serve, Session, Show, Test}
+use Rattle.wst_words.specs.declared.words.Task.TheVariants.{Cases, Convert, Head, Judge, Pair, Serve, Session, Show}
+use Rattle.wst_words.specs.declared.words.Task.TheVariants.{Test}
+use Rattle.wst_words.proofs.WordLemmas.{no_word}
 
--- a command whose options ask for nothing asks for nothing
-pub no_show : (name : Text) (rows : List Row) → name ≡ codes "show" → AsksToShowNothing rows → CommandAsksNothing (Some (name, rows))
-no_show name rows is none = refuses
+-- the command that a task is asked for by
+abbrev task_name : Task → Text
+task_name (Show options) = codes "show"
+task_name (Pair options) = codes "pair"
+task_name (Head options) = codes "head"
+task_name (Session options) = codes "session"
+task_name Judge = codes "judge"
+task_name Convert = codes "convert"
+task_name Cases = codes "cases"
+task_name (Test options) = codes "test"
+task_name (Serve options) = codes "serve"
+
+called : (name : Text) (rows : List Row) (task : Task) → CommandAsks (Some (name, rows)) task → name ≡ task_name task
+called name rows (Show options) asks = asks.0
+called name rows (Pair options) asks = asks.0
+called name rows (Head options) asks = asks.0
+called name rows (Session options) asks = asks.0
+called name rows Judge asks = asks
+called name rows Convert asks = asks
+called name rows Cases asks = asks
+called name rows (Test options) asks = asks.0
+called name rows (Serve options) asks = asks.0
+
+-- a word is no other
+differs : (a b name : Text) → bytes_eq a a ≡ true → bytes_eq a b ≡ false → name ≡ a → name ≡ b → ⊥
+differs a b name same other is asks =
+    let bad : true ≡ false = sym same ∙ ap (λ (t : Text). bytes_eq a t) (sym is ∙ asks) ∙ other in
+    absurd (cc)
+
+show_lacks : (rows : List Row) (options : ShowOptions) → LacksOneOf rows show_command.arguments
+    → AsksToShow rows options → ⊥
+show_lacks rows options (inl from) asks = from options.from asks.0
+show_lacks rows options (inr (inl budget)) asks = budget options.budget asks.1
+show_lacks rows options (inr (inr none)) asks = absurd none
+
+pub no_show : (name : Text) (rows : List Row) → name ≡ codes "show" → LacksOneOf rows show_command.arguments
+    → CommandAsksNothing (Some (name, rows))
+no_show name rows is lacks = refuses
   where
     refuses : (task : Task) → CommandAsks (Some (name, rows)) task → ⊥
-    refuses (Show options) asks = none options asks.1
-    refuses (Pair options) asks =
-        let bad : ◌≡◌ {A = ℕ} 115 112 = ap (λ (l : List ℕ). slice_index l 0) (sym is ∙ asks.0) in
-        absurd (omega arith)
-    refuses (Head options) asks =
-        let bad : ◌≡◌ {A = ℕ} 115 104 = ap (λ (l : List ℕ). slice_index l 0) (sym is ∙ asks.0) in
-        absurd (omega arith)
-    refuses (Session options) asks =
-        let bad : ◌≡◌ {A = ℕ} 104 101 = ap (λ (l : List ℕ). slice_index l 1) (sym is ∙ asks.0) in
-        absurd (omega arith)
-    refuses Judge asks =
-        let bad : ◌≡◌ {A = ℕ} 115 106 = ap (λ (l : List ℕ). slice_index l 0) (sym is ∙ asks) in
-        absurd (omega arith)
-    refuses Convert asks =
-        let bad : ◌≡◌ {A = ℕ} 115 99 = ap (λ (l : List ℕ). slice_index l 0) (sym is ∙ asks) in
-        absurd (omega arith)
-    refuses Cases asks =
-        let bad : ◌≡◌ {A = ℕ} 115 99 = ap (λ (l : List ℕ). slice_index l 0) (sym is ∙ asks) in
-        absurd (omega arith)
-    refuses (Test options) asks =
-        let bad : ◌≡◌ {A = ℕ} 115 116 = ap (λ (l : List ℕ). slice_index l 0) (sym is ∙ asks.0) in
-        absurd (omega arith)
-    refuses (Serve options) asks =
-        let bad : ◌≡◌ {A = ℕ} 104 101 = ap (λ (l : List ℕ). slice_index l 1) (sym is ∙ asks.0) in
-        absurd (omega arith)
+    refuses (Show options) asks = show_lacks rows options lacks asks.1
+    refuses task asks = differs (codes "show") (task_name task) name refl refl is (called name rows task asks)
 
-pub no_pair : (name : Text) (rows : List Row) → name ≡ codes "pair" → AsksToPairNothing rows → CommandAsksNothing (Some (name, rows))
-no_pair name rows is none = refuses
+pair_lacks : (rows : List Row) (options : PairOptions) → LacksOneOf rows pair_command.arguments
+    → AsksToPair rows options → ⊥
+pair_lacks rows options (inl client) asks = client options.limit_client asks.0
+pair_lacks rows options (inr (inl server)) asks = server options.limit_server asks.1
+pair_lacks rows options (inr (inr (inl client))) asks = client options.limit_client options.frame_client asks.2
+pair_lacks rows options (inr (inr (inr (inl server)))) asks = server options.limit_server options.frame_server asks.3
+pair_lacks rows options (inr (inr (inr (inr none)))) asks = absurd none
+
+pub no_pair : (name : Text) (rows : List Row) → name ≡ codes "pair" → LacksOneOf rows pair_command.arguments
+    → CommandAsksNothing (Some (name, rows))
+no_pair name rows is lacks = refuses
   where
     refuses : (task : Task) → CommandAsks (Some (name, rows)) task → ⊥
-    refuses (Pair options) asks = none options asks.1
-    refuses (Show options) asks =
-        let bad : ◌≡◌ {A = ℕ} 112 115 = ap (λ (l : List ℕ). slice_index l 0) (sym is ∙ asks.0) in
-        absurd (omega arith)
-    refuses (Head options) asks =
-        let bad : ◌≡◌ {A = ℕ} 112 104 = ap (λ (l : List ℕ). slice_index l 0) (sym is ∙ asks.0) in
-        absurd (omega arith)
-    refuses (Session options) asks =
-        let bad : ◌≡◌ {A = ℕ} 112 115 = ap (λ (l : List ℕ). slice_index l 0) (sym is ∙ asks.0) in
-        absurd (omega arith)
-    refuses Judge asks =
-        let bad : ◌≡◌ {A = ℕ} 112 106 = ap (λ (l : List ℕ). slice_index l 0) (sym is ∙ asks) in
-        absurd (omega arith)
-    refuses Convert asks =
-        let bad : ◌≡◌ {A = ℕ} 112 99 = ap (λ (l : List ℕ). slice_index l 0) (sym is ∙ asks) in
-        absurd (omega arith)
-    refuses Cases asks =
-        let bad : ◌≡◌ {A = ℕ} 112 99 = ap (λ (l : List ℕ). slice_index l 0) (sym is ∙ asks) in
-        absurd (omega arith)
-    refuses (Test options) asks =
-        let bad : ◌≡◌ {A = ℕ} 112 116 = ap (λ (l : List ℕ). slice_index l 0) (sym is ∙ asks.0) in
-        absurd (omega arith)
-    refuses (Serve options) asks =
-        let bad : ◌≡◌ {A = ℕ} 112 115 = ap (λ (l : List ℕ). slice_index l 0) (sym is ∙ asks.0) in
-        absurd (omega arith)
+    refuses (Pair options) asks = pair_lacks rows options lacks asks.1
+    refuses task asks = differs (codes "pair") (task_name task) name refl refl is (called name rows task asks)
 
-pub no_session : (name : Text) (rows : List Row) → name ≡ codes "session" → AsksForNoSession rows → CommandAsksNothing (Some (name, rows))
-no_session name rows is none = refuses
+session_lacks : (rows : List Row) (options : SessionOptions) → LacksOneOf rows session_command.arguments
+    → AsksForSession rows options → ⊥
+session_lacks rows options (inl role) asks = role options.role asks.0
+session_lacks rows options (inr (inl limit)) asks = limit options.limit asks.1
+session_lacks rows options (inr (inr (inl frame))) asks = frame options.limit options.frame asks.2
+session_lacks rows options (inr (inr (inr (inl echo)))) asks = echo options.echo asks.3
+session_lacks rows options (inr (inr (inr (inr none)))) asks = absurd none
+
+pub no_session : (name : Text) (rows : List Row) → name ≡ codes "session" → LacksOneOf rows session_command.arguments
+    → CommandAsksNothing (Some (name, rows))
+no_session name rows is lacks = refuses
   where
     refuses : (task : Task) → CommandAsks (Some (name, rows)) task → ⊥
-    refuses (Session options) asks = none options asks.1
-    refuses (Show options) asks =
-        let bad : ◌≡◌ {A = ℕ} 101 104 = ap (λ (l : List ℕ). slice_index l 1) (sym is ∙ asks.0) in
-        absurd (omega arith)
-    refuses (Pair options) asks =
-        let bad : ◌≡◌ {A = ℕ} 115 112 = ap (λ (l : List ℕ). slice_index l 0) (sym is ∙ asks.0) in
-        absurd (omega arith)
-    refuses (Head options) asks =
-        let bad : ◌≡◌ {A = ℕ} 115 104 = ap (λ (l : List ℕ). slice_index l 0) (sym is ∙ asks.0) in
-        absurd (omega arith)
-    refuses Judge asks =
-        let bad : ◌≡◌ {A = ℕ} 115 106 = ap (λ (l : List ℕ). slice_index l 0) (sym is ∙ asks) in
-        absurd (omega arith)
-    refuses Convert asks =
-        let bad : ◌≡◌ {A = ℕ} 115 99 = ap (λ (l : List ℕ). slice_index l 0) (sym is ∙ asks) in
-        absurd (omega arith)
-    refuses Cases asks =
-        let bad : ◌≡◌ {A = ℕ} 115 99 = ap (λ (l : List ℕ). slice_index l 0) (sym is ∙ asks) in
-        absurd (omega arith)
-    refuses (Test options) asks =
-        let bad : ◌≡◌ {A = ℕ} 115 116 = ap (λ (l : List ℕ). slice_index l 0) (sym is ∙ asks.0) in
-        absurd (omega arith)
-    refuses (Serve options) asks =
-        let bad : ◌≡◌ {A = ℕ} 115 114 = ap (λ (l : List ℕ). slice_index l 2) (sym is ∙ asks.0) in
-        absurd (omega arith)
+    refuses (Session options) asks = session_lacks rows options lacks asks.1
+    refuses task asks = differs (codes "session") (task_name task) name refl refl is (called name rows task asks)
 
-pub no_serve : (name : Text) (rows : List Row) → name ≡ codes "serve" → AsksToServeNothing rows → CommandAsksNothing (Some (name, rows))
-no_serve name rows is none = refuses
+test_lacks : (rows : List Row) (options : TestOptions) → LacksOneOf rows test_command.arguments
+    → AsksToTest rows options → ⊥
+test_lacks rows options (inl key) asks = no_word rows (codes "key") options.key.now key asks.0
+test_lacks rows options (inr (inl capture)) asks = capture options.capture asks.1
+test_lacks rows options (inr (inr (inl protocols))) asks = absurd protocols
+test_lacks rows options (inr (inr (inr (inl target)))) asks =
+    no_word rows (codes "target") options.target.now target asks.2
+test_lacks rows options (inr (inr (inr (inr (inl ids))))) asks = absurd ids
+test_lacks rows options (inr (inr (inr (inr (inr none))))) asks = absurd none
+
+pub no_test : (name : Text) (rows : List Row) → name ≡ codes "test" → LacksOneOf rows test_command.arguments
+    → CommandAsksNothing (Some (name, rows))
+no_test name rows is lacks = refuses
   where
     refuses : (task : Task) → CommandAsks (Some (name, rows)) task → ⊥
-    refuses (Serve options) asks = none options asks.1
-    refuses (Show options) asks =
-        let bad : ◌≡◌ {A = ℕ} 101 104 = ap (λ (l : List ℕ). slice_index l 1) (sym is ∙ asks.0) in
-        absurd (omega arith)
-    refuses (Pair options) asks =
-        let bad : ◌≡◌ {A = ℕ} 115 112 = ap (λ (l : List ℕ). slice_index l 0) (sym is ∙ asks.0) in
-        absurd (omega arith)
-    refuses (Head options) asks =
-        let bad : ◌≡◌ {A = ℕ} 115 104 = ap (λ (l : List ℕ). slice_index l 0) (sym is ∙ asks.0) in
-        absurd (omega arith)
-    refuses (Session options) asks =
-        let bad : ◌≡◌ {A = ℕ} 114 115 = ap (λ (l : List ℕ). slice_index l 2) (sym is ∙ asks.0) in
-        absurd (omega arith)
-    refuses Judge asks =
-        let bad : ◌≡◌ {A = ℕ} 115 106 = ap (λ (l : List ℕ). slice_index l 0) (sym is ∙ asks) in
-        absurd (omega arith)
-    refuses Convert asks =
-        let bad : ◌≡◌ {A = ℕ} 115 99 = ap (λ (l : List ℕ). slice_index l 0) (sym is ∙ asks) in
-        absurd (omega arith)
-    refuses Cases asks =
-        let bad : ◌≡◌ {A = ℕ} 115 99 = ap (λ (l : List ℕ). slice_index l 0) (sym is ∙ asks) in
-        absurd (omega arith)
-    refuses (Test options) asks =
-        let bad : ◌≡◌ {A = ℕ} 115 116 = ap (λ (l : List ℕ). slice_index l 0) (sym is ∙ asks.0) in
-        absurd (omega arith)
+    refuses (Test options) asks = test_lacks rows options lacks asks.1
+    refuses task asks = differs (codes "test") (task_name task) name refl refl is (called name rows task asks)
 
-pub no_test : (rows : List Row) → AsksToTestNothing rows → CommandAsksNothing (Some (codes "test", rows))
-no_test rows none = refuses
+serve_lacks : (rows : List Row) (options : ServeOptions) → LacksOneOf rows serve_command.arguments
+    → AsksToServe rows options → ⊥
+serve_lacks rows options (inl limit) asks = limit options.limit asks.0
+serve_lacks rows options (inr (inl frame)) asks = frame options.limit options.frame asks.1
+serve_lacks rows options (inr (inr (inl budget))) asks = budget options.budget asks.2
+serve_lacks rows options (inr (inr (inr (inl protocols)))) asks = absurd protocols
+serve_lacks rows options (inr (inr (inr (inr (inl address))))) asks =
+    no_word rows (codes "address") options.address.now address asks.3
+serve_lacks rows options (inr (inr (inr (inr (inr (inl count)))))) asks = count options.count asks.4
+serve_lacks rows options (inr (inr (inr (inr (inr (inr none)))))) asks = absurd none
+
+pub no_serve : (name : Text) (rows : List Row) → name ≡ codes "serve" → LacksOneOf rows serve_command.arguments
+    → CommandAsksNothing (Some (name, rows))
+no_serve name rows is lacks = refuses
   where
-    refuses : (task : Task) → CommandAsks (Some (codes "test", rows)) task → ⊥
-    refuses (Test options) asks = none options asks.1
-    refuses (Show options) asks =
-        let bad : ◌≡◌ {A = ℕ} 116 115 = ap (λ (l : List ℕ). slice_index l 0) asks.0 in
-        absurd (omega arith)
-    refuses (Pair options) asks =
-        let bad : ◌≡◌ {A = ℕ} 116 112 = ap (λ (l : List ℕ). slice_index l 0) asks.0 in
-        absurd (omega arith)
-    refuses (Head options) asks =
-        let bad : ◌≡◌ {A = ℕ} 116 104 = ap (λ (l : List ℕ). slice_index l 0) asks.0 in
-        absurd (omega arith)
-    refuses (Session options) asks =
-        let bad : ◌≡◌ {A = ℕ} 116 115 = ap (λ (l : List ℕ). slice_index l 0) asks.0 in
-        absurd (omega arith)
-    refuses Judge asks =
-        let bad : ◌≡◌ {A = ℕ} 116 106 = ap (λ (l : List ℕ). slice_index l 0) asks in
-        absurd (omega arith)
-    refuses Convert asks =
-        let bad : ◌≡◌ {A = ℕ} 116 99 = ap (λ (l : List ℕ). slice_index l 0) asks in
-        absurd (omega arith)
-    refuses Cases asks =
-        let bad : ◌≡◌ {A = ℕ} 116 99 = ap (λ (l : List ℕ). slice_index l 0) asks in
-        absurd (omega arith)
-    refuses (Serve options) asks =
-        let bad : ◌≡◌ {A = ℕ} 116 115 = ap (λ (l : List ℕ). slice_index l 0) asks.0 in
-        absurd (omega arith)
+    refuses : (task : Task) → CommandAsks (Some (name, rows)) task → ⊥
+    refuses (Serve options) asks = serve_lacks rows options lacks asks.1
+    refuses task asks = differs (codes "serve") (task_name task) name refl refl is (called name rows task asks)

@@ -1,25 +1,29 @@
 -- From clap's clauses to what the words ask for.
-use Rattle.std.proofs.Common.{◌≡◌, ◌∙◌, ◌<◌, ◌^◌, ◌||◌, ℕ, Bool, true, false, zero, suc, List, [], ◌∷◌, Option, Some, None, Result, Ok, Err, IsErrAnd, arith, ap, ap₂, refl, sym, subst, inl, inr, length, map, codes, slice_index_or}
+use Rattle.std.proofs.Common.{◌≡◌, ◌∙◌, ◌<◌, ◌^◌, ℕ, Bool, true, false, zero, suc, List, [], ◌∷◌, Option, Some}
+use Rattle.std.proofs.Common.{None, Result, Ok, Err, IsErrAnd, arith, ap, refl, sym, subst, inl, inr, length, map}
+use Rattle.std.proofs.Common.{codes, slice_index_or}
 use Rattle.std.specs.Borrow.{Bor}
 use Rattle.std.specs.Prelude.{Box, MatchOption, option_map, unwrap_or}
 use Rattle.std.specs.Box.{box_value}
 use Rattle.std.specs.Str.Parse.{ParsesBool, ParsesUnsigned}
-use Rattle.clap.specs.Words.{App, HasKind, ReadsOne, Row, Rule, Text, fault_of, first_of, found_of, kind_of, one_of, rows_of, subcommand_of, subcommand_rows}
+use Rattle.clap.specs.Words.{App, HasKind, ReadsOne, Row, Text, fault_of, first_of, found_of, kind_of, one_of, rows_of}
+use Rattle.clap.specs.Words.{subcommand_of, subcommand_rows}
 use Rattle.clap.specs.declared.parser.matches.ArgMatches.TheViews.{out-SubCommand}
 use Rattle.clap.specs.declared.parser.matches.SubCommand.{SubCommand}
-use Rattle.clap.specs.declared.builder.value_parser.ValueParser.{ValueParser}
-use Rattle.clap.specs.declared.builder.value_parser.ValueParser.TheVariants.{Names}
 use Rattle.clap.specs.declared.error.Error.{Error}
 use Rattle.clap.specs.declared.error.kind.ErrorKind.TheVariants.{OutOfMemory}
-use Rattle.wst_words.specs.Options.{EndPlaces, GivesFlag, GivesNoEnd, GivesNoFlag, GivesNoNumber, GivesNoNumberOr, GivesNumber, GivesNumberOf, GivesNumberOr, end_names, end_rule}
-use Rattle.wst_words.specs.Words.{AsksFor, AsksForNothing, CommandAsks, CommandAsksNothing, IsOfClap, IsRead, RefusesWords}
+use Rattle.wst_words.specs.Arguments.{Places, end_names}
+use Rattle.wst_words.specs.Options.{GivesFlag, GivesNoEnd, GivesNoFlag, GivesNoNumber, GivesNoNumberOr, GivesNumber}
+use Rattle.wst_words.specs.Options.{GivesNumberOf, GivesNumberOr}
+use Rattle.wst_words.specs.Words.{AsksFor, AsksForNothing, CommandAsks, CommandAsksNothing, IsOfClap, IsRead}
+use Rattle.wst_words.specs.Words.{RefusesWords}
 use Rattle.wst_words.specs.declared.words.Task.{Task}
 use Rattle.wst_words.specs.declared.words.WordsFault.{WordsFault}
 use Rattle.wst_words.specs.declared.words.WordsFault.TheVariants.{Clap, NoTask}
 
 -- a list of the two names is that of some places
 pub places_of : (list : ℕ × ℕ) (names : List (Bor Text)) → map (λ s. s.now) names ≡ codes "client" ∷ codes "server" ∷ []
-    → (places : EndPlaces) × (record { ref_ptr = list; now = names } ≡ end_names places)
+    → (places : Places) × (record { ref_ptr = list; now = names } ≡ end_names places)
 places_of list [] e =
     let bad : zero ≡ suc (suc zero) = ap (λ (l : List Text). length l) e in
     absurd (omega arith)
@@ -35,12 +39,6 @@ places_of list (a ∷ b ∷ []) e =
 places_of list (a ∷ b ∷ x ∷ rest) e =
     let bad : suc (suc (suc (length (map (λ s. s.now) rest)))) ≡ suc (suc zero) = ap (λ (l : List Text). length l) e in
     absurd (omega arith)
-
--- the rule of an option for an end, with the parser that it was given
-pub end_rule_given : (r : Rule) (name : Text) (places : EndPlaces) (parser : Option ValueParser) → r ≡ record (end_rule name places) { parser = parser }
-    → parser ≡ Some (Names (end_names places)) → r ≡ end_rule name places
-end_rule_given r name places parser others given =
-    others ∙ ap (λ (p : Option ValueParser). record (end_rule name places) { parser = p }) given
 
 -- what is passed up is nothing
 pub none_from : {T : Type 0} (r : Option T) (N : Type 0) (P : T → Type 0) → r ≡ None → N → MatchOption r N P
@@ -68,7 +66,8 @@ no_word rows name word none there =
     absurd (cc)
 
 -- where the option was met, its number is given or none is
-pub number_or_given : (rows : List Row) (name : Text) (other : ℕ) (word : Text) (r : Option ℕ) → first_of name rows ≡ Some word → MatchOption r (GivesNoNumber rows name) (GivesNumber rows name)
+pub number_or_given : (rows : List Row) (name : Text) (other : ℕ) (word : Text) (r : Option ℕ)
+    → first_of name rows ≡ Some word → MatchOption r (GivesNoNumber rows name) (GivesNumber rows name)
     → MatchOption r (GivesNoNumberOr rows name) (GivesNumberOr other rows name)
 number_or_given rows name other word None there none = refuses
   where
@@ -78,7 +77,8 @@ number_or_given rows name other word None there none = refuses
 number_or_given rows name other word (Some number) there given = inl given
 
 -- a flag is set or not exactly where a text is there that names a `bool`
-pub flag_given : (E : Type 0) (rows : List Row) (name : Text) (o : Option Text) (r : Option Bool) → o ≡ one_of name rows → (o ≡ None → r ≡ None)
+pub flag_given : (E : Type 0) (rows : List Row) (name : Text) (o : Option Text) (r : Option Bool)
+    → o ≡ one_of name rows → (o ≡ None → r ≡ None)
     → ((text : Text) → o ≡ Some text → ReadsOne {E = E} ParsesBool text r) → MatchOption r (GivesNoFlag rows name) (GivesFlag rows name)
 flag_given E rows name o None there none some = no_flag
   where
@@ -97,12 +97,9 @@ no_end_given rows name none = λ role given.
     let bad : Some given.word ≡ None = sym given.has_word ∙ none in
     absurd (cc)
 
--- a command with another argument that isn't global has no global argument
-pub stays_local : (new old global : Bool) → new ≡ (old || global) → old ≡ false → global ≡ false → new ≡ false
-stays_local new old global is none local = is ∙ ap₂ (λ (a b : Bool). a || b) none local
-
 -- the name and the rows of a subcommand that was met are those of what was met
-pub met_is : {Z : Type 0} (sub : Option (Box SubCommand Z)) (name : Text) (rows : List Row) → Some name ≡ option_map (λ b. (out-SubCommand (box_value b)).name.now) sub
+pub met_is : {Z : Type 0} (sub : Option (Box SubCommand Z)) (name : Text) (rows : List Row)
+    → Some name ≡ option_map (λ b. (out-SubCommand (box_value b)).name.now) sub
     → Some rows ≡ option_map (λ p. p.1) (subcommand_rows sub) → subcommand_rows sub ≡ Some (name, rows)
 met_is None name rows named there = absurd (cc)
 met_is (Some b) name rows named there =
@@ -111,14 +108,16 @@ met_is (Some b) name rows named there =
     sym (λ i. Some (same i, held i))
 
 -- want of memory is an error of any words
-pub memory_read : (app : App) (words : List Text) (r : Result Task WordsFault) → IsErrAnd r (λ fault. IsOfClap (λ e. kind_of e ≡ OutOfMemory) fault)
+pub memory_read : (app : App) (words : List Text) (r : Result Task WordsFault)
+    → IsErrAnd r (λ fault. IsOfClap (λ e. kind_of e ≡ OutOfMemory) fault)
     → IsRead app words r
 memory_read app words (Ok task) h = absurd h
 memory_read app words (Err (Clap e)) h = inl h
 memory_read app words (Err NoTask) h = absurd h
 
 -- an error of clap is passed up as it is
-pub fault_read : (app other : App) (words : List Text) (r : Result Task WordsFault) (e : Error) → app ≡ other → IsErrAnd r (λ y. y ≡ Clap e)
+pub fault_read : (app other : App) (words : List Text) (r : Result Task WordsFault) (e : Error) → app ≡ other
+    → IsErrAnd r (λ y. y ≡ Clap e)
     → HasKind (fault_of app words) e → IsRead other words r
 fault_read app other words (Ok task) e same is h = absurd is
 fault_read app other words (Err y) e same is h =
@@ -126,7 +125,8 @@ fault_read app other words (Err y) e same is h =
     subst (λ (x : WordsFault). RefusesWords other words x) (sym is) kind
 
 -- a task by the matches is what the words ask for
-pub task_read : (app other : App) (words : List Text) (met : Option (Text × List Row)) (task : Task) → app ≡ other → fault_of app words ≡ [] → met ≡ subcommand_of app words → CommandAsks met task
+pub task_read : (app other : App) (words : List Text) (met : Option (Text × List Row)) (task : Task) → app ≡ other
+    → fault_of app words ≡ [] → met ≡ subcommand_of app words → CommandAsks met task
     → AsksFor other words task
 task_read app other words met task same faultless is asks = (
   subst (λ (a : App). fault_of a words ≡ []) same faultless,
@@ -134,7 +134,8 @@ task_read app other words met task same faultless is asks = (
 )
 
 -- and where they give none, the words ask for nothing
-pub nothing_read : (app other : App) (words : List Text) (met : Option (Text × List Row)) → app ≡ other → fault_of app words ≡ [] → met ≡ subcommand_of app words → CommandAsksNothing met
+pub nothing_read : (app other : App) (words : List Text) (met : Option (Text × List Row)) → app ≡ other
+    → fault_of app words ≡ [] → met ≡ subcommand_of app words → CommandAsksNothing met
     → AsksForNothing other words
 nothing_read app other words met same faultless is none = (
   subst (λ (a : App). fault_of a words ≡ []) same faultless,

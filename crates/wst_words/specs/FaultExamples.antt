@@ -4,7 +4,8 @@ use Rattle.clap.specs.Words.{Text, fault_of, takes}
 use Rattle.clap.specs.declared.error.kind.ErrorKind.TheVariants.{DisplayHelp, DisplayVersion, InvalidSubcommand}
 use Rattle.clap.specs.declared.error.kind.ErrorKind.TheVariants.{InvalidValue, MissingRequiredArgument}
 use Rattle.clap.specs.declared.error.kind.ErrorKind.TheVariants.{MissingSubcommand, UnknownArgument, ValueValidation}
-use Rattle.wst_words.specs.Words.{Places, wst_app}
+use Rattle.wst_words.specs.Arguments.{Places}
+use Rattle.wst_words.specs.Words.{wst_app}
 use Rattle.wst_words.specs.Examples.{on_words, words}
 
 -- `wst` alone

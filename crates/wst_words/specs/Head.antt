@@ -1,12 +1,18 @@
--- The command `head` as clap's data, and what its words give.
-use Rattle.std.specs.Prelude.{List, codes}
-use Rattle.clap.specs.Words.{App, Row, new_app, with_rule}
-use Rattle.wst_words.specs.Options.{GivesProtocols, free_word_rule}
+-- The command `head`: its arguments, and what they give.
+use Rattle.std.specs.Prelude.{List, [], ◌∷◌, codes}
+use Rattle.clap.specs.Words.{Row}
+use Rattle.wst_words.specs.Arguments.{argument}
+use Rattle.wst_words.specs.Commands.{CommandRow}
+use Rattle.wst_words.specs.declared.arguments.ArgumentKind.TheVariants.{Word}
+use Rattle.wst_words.specs.Options.{GivesProtocols}
 use Rattle.wst_words.specs.declared.head.HeadOptions.{HeadOptions}
 
--- `--protocols`
-abbrev pub head_app : App
-head_app = with_rule (new_app (codes "head")) (free_word_rule (codes "protocols"))
+-- its arguments
+abbrev pub head_command : CommandRow
+head_command = record {
+  name = codes "head";
+  arguments = argument (codes "protocols") Word ∷ [];
+}
 
 -- the words give these
 abbrev pub AsksForHead : List Row → HeadOptions → Type 0

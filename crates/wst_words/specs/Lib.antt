@@ -1,3 +1,5 @@
+pub mod Arguments
+pub mod Commands
 pub mod Options
 pub mod Show
 pub mod Head

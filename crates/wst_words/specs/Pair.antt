@@ -1,19 +1,21 @@
--- The command `pair` as clap's data, and what its options give.
-use Rattle.std.specs.Prelude.{List, codes}
-use Rattle.clap.specs.Words.{App, Row, Rule, Text, new_app, with_rule}
-use Rattle.wst_words.specs.Options.{GivesNumber, GivesNumberOr, number_rule, optional_number_rule}
+-- The command `pair`: its arguments, and what they give.
+use Rattle.std.specs.Prelude.{List, [], ◌∷◌, codes}
+use Rattle.clap.specs.Words.{Row}
+use Rattle.wst_words.specs.Arguments.{argument, argument_or}
+use Rattle.wst_words.specs.Commands.{CommandRow}
+use Rattle.wst_words.specs.declared.arguments.ArgumentKind.TheVariants.{Number}
+use Rattle.wst_words.specs.Options.{GivesNumber, GivesNumberOr}
 use Rattle.wst_words.specs.declared.pair.PairOptions.{PairOptions}
 
--- a limit on messages, 1 MiB where it is left out
-abbrev pub limit_rule : Text → Rule
-limit_rule name = number_rule name (codes "1048576")
-
--- `--limit-client` and `--limit-server`, and `--frame-client` and `--frame-server`, which may be left out
-abbrev pub pair_app : App
-pair_app =
-    with_rule (with_rule (with_rule (with_rule (new_app (codes "pair")) (limit_rule (codes "limit-client")))
-    (limit_rule (codes "limit-server"))) (optional_number_rule (codes "frame-client")))
-    (optional_number_rule (codes "frame-server"))
+-- its arguments
+abbrev pub pair_command : CommandRow
+pair_command = record {
+  name = codes "pair";
+  arguments = argument_or (codes "limit-client") Number (codes "1048576")
+      ∷ argument_or (codes "limit-server") Number (codes "1048576")
+      ∷ argument (codes "frame-client") Number
+      ∷ argument (codes "frame-server") Number ∷ [];
+}
 
 -- the options give these; a limit on frames that is left out is that on messages
 abbrev pub AsksToPair : List Row → PairOptions → Type 0
@@ -22,7 +24,3 @@ AsksToPair rows options =
     × GivesNumber rows (codes "limit-server") options.limit_server
     × GivesNumberOr options.limit_client rows (codes "frame-client") options.frame_client
     × GivesNumberOr options.limit_server rows (codes "frame-server") options.frame_server
-
--- and they give none
-abbrev pub AsksToPairNothing : List Row → Type 0
-AsksToPairNothing rows = (options : PairOptions) → AsksToPair rows options → ⊥

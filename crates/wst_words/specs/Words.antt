@@ -1,16 +1,18 @@
--- What the words of a command line ask for: the program's commands as clap's data, and clap's own reading of the words
--- by them.
-use Rattle.std.specs.Prelude.{◌≡◌, true, List, [], Option, Some, None, Result, MatchResult, codes}
-use Rattle.clap.specs.Words.{App, HasKind, Row, Text, fault_of, new_app, subcommand_of, with_subcommand}
+-- What the words of a command line ask for: the program's commands, and clap's own reading of the words by them.
+use Rattle.std.specs.Prelude.{◌≡◌, true, List, [], ◌∷◌, Option, Some, None, Result, MatchResult, codes, map}
+use Rattle.clap.specs.Words.{App, HasKind, Row, Text, fault_of, new_app, subcommand_of}
 use Rattle.clap.specs.Simple.{on_top}
 use Rattle.clap.specs.declared.error.Error.{Error}
-use Rattle.wst_words.specs.Head.{AsksForHead, head_app}
-use Rattle.wst_words.specs.Options.{EndPlaces}
-use Rattle.wst_words.specs.Pair.{AsksToPair, pair_app}
-use Rattle.wst_words.specs.Serve.{AsksToServe, serve_app}
-use Rattle.wst_words.specs.Session.{AsksForSession, session_app}
-use Rattle.wst_words.specs.Show.{AsksToShow, show_app}
-use Rattle.wst_words.specs.Test.{AsksToTest, test_app}
+use Rattle.wst_words.specs.Arguments.{Places, end_parser}
+use Rattle.wst_words.specs.Commands.{CommandRow, with_commands}
+use Rattle.wst_words.specs.Head.{AsksForHead, head_command}
+use Rattle.wst_words.specs.Pair.{AsksToPair, pair_command}
+use Rattle.wst_words.specs.Serve.{AsksToServe, serve_command}
+use Rattle.wst_words.specs.Session.{AsksForSession, session_command}
+use Rattle.wst_words.specs.Show.{AsksToShow, show_command}
+use Rattle.wst_words.specs.Test.{AsksToTest, test_command}
+use Rattle.wst_words.specs.declared.commands.CommandName.{CommandName}
+use Rattle.wst_words.specs.declared.commands.CommandName.TheVariants as name
 use Rattle.wst_words.specs.declared.words.Task.{Task}
 use Rattle.wst_words.specs.declared.words.Task.TheVariants.{Cases, Convert, Head, Judge, Pair, Serve}
 use Rattle.wst_words.specs.declared.words.Task.TheVariants.{Session, Show, Test}
@@ -19,20 +21,26 @@ use Rattle.wst_words.specs.declared.words.WordsFault.TheVariants.{Clap, NoTask}
 
 -- ---- the commands
 
--- where the names of the ends lie in memory, for each option that takes one
-pub record Places : Type 0 where
-  pub from : EndPlaces
-  pub role : EndPlaces
+-- a command without arguments
+abbrev pub bare_command : Text → CommandRow
+bare_command name = record { name = name; arguments = [] }
 
--- the commands without options
-abbrev pub judge_app : App
-judge_app = new_app (codes "judge")
+-- each command
+abbrev pub row_of : CommandName → CommandRow
+row_of name.Show = show_command
+row_of name.Head = head_command
+row_of name.Pair = pair_command
+row_of name.Session = session_command
+row_of name.Judge = bare_command (codes "judge")
+row_of name.Convert = bare_command (codes "convert")
+row_of name.Cases = bare_command (codes "cases")
+row_of name.Test = test_command
+row_of name.Serve = serve_command
 
-abbrev pub convert_app : App
-convert_app = new_app (codes "convert")
-
-abbrev pub cases_app : App
-cases_app = new_app (codes "cases")
+-- the commands, in the order in which help lists them
+abbrev pub wst_commands : List CommandRow
+wst_commands = map row_of (name.Show ∷ name.Head ∷ name.Pair ∷ name.Session ∷ name.Judge ∷ name.Convert ∷ name.Cases
+    ∷ name.Test ∷ name.Serve ∷ [])
 
 -- `wst` itself: a command may not be left out, and there is a version
 abbrev pub bare_app : App
@@ -40,10 +48,7 @@ bare_app = on_top (λ s. record s { subcommand_required = true; has_version = tr
 
 -- `wst` with its commands
 abbrev pub wst_app : Places → App
-wst_app places =
-    with_subcommand (with_subcommand (with_subcommand (with_subcommand (with_subcommand (with_subcommand
-    (with_subcommand (with_subcommand (with_subcommand bare_app (show_app places.from).top) head_app.top) pair_app.top)
-    (session_app places.role).top) judge_app.top) convert_app.top) cases_app.top) test_app.top) serve_app.top
+wst_app places = with_commands (end_parser places) bare_app wst_commands
 
 -- ---- what the words ask for
 

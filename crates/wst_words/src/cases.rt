@@ -1,23 +1,14 @@
 //! The words of the command `cases`, which has no options.
 
-ghost use Rattle.std.specs.Prelude.{◌≡◌, IfOk, false};
-ghost use Rattle.clap.specs.Words.{app_of};
-ghost use Rattle.clap.specs.declared.builder.command.Command.TheViews.{out-Command as fields_of};
-ghost use Rattle.wst_words.specs.Words.{cases_app};
+use crate::commands::HelpText;
 
-use clap::Command;
-use std::alloc::{AllocError, Global};
-
-/// `cases`.
-pub(crate) fn cases_command<'a>(alloc: Global) -> Result<Command<'a>, AllocError>
-    ensures app { IfOk result (λ command. app_of command ≡ cases_app) }
-    ensures local { IfOk result (λ command. (fields_of command).has_globals ≡ false) }
-{
-    let command = Command::new(alloc, "cases")
-        .about("Lists the cases, scripts that test a server, each with its number of turns")
-        .long_about(LONG_ABOUT)
-        .after_help(AFTER_HELP);
-    Ok(command)
+/// What help says of `cases`.
+pub(crate) fn help<'a>() -> HelpText<'a> {
+    HelpText {
+        about: "Lists the cases, scripts that test a server, each with its number of turns",
+        long_about: LONG_ABOUT,
+        after_help: AFTER_HELP,
+    }
 }
 
 /// What `cases` is for.

@@ -1,23 +1,14 @@
 //! The words of the command `convert`, which has no options.
 
-ghost use Rattle.std.specs.Prelude.{◌≡◌, IfOk, false};
-ghost use Rattle.clap.specs.Words.{app_of};
-ghost use Rattle.clap.specs.declared.builder.command.Command.TheViews.{out-Command as fields_of};
-ghost use Rattle.wst_words.specs.Words.{convert_app};
+use crate::commands::HelpText;
 
-use clap::Command;
-use std::alloc::{AllocError, Global};
-
-/// `convert`.
-pub(crate) fn convert_command<'a>(alloc: Global) -> Result<Command<'a>, AllocError>
-    ensures app { IfOk result (λ command. app_of command ≡ convert_app) }
-    ensures local { IfOk result (λ command. (fields_of command).has_globals ≡ false) }
-{
-    let command = Command::new(alloc, "convert")
-        .about("Writes a captured connection in format 2, whichever of the formats it has")
-        .long_about(LONG_ABOUT)
-        .after_help(AFTER_HELP);
-    Ok(command)
+/// What help says of `convert`.
+pub(crate) fn help<'a>() -> HelpText<'a> {
+    HelpText {
+        about: "Writes a captured connection in format 2, whichever of the formats it has",
+        long_about: LONG_ABOUT,
+        after_help: AFTER_HELP,
+    }
 }
 
 /// What `convert` is for.

@@ -1,13 +1,15 @@
 //! The words of the command `head`.
 
-ghost use Rattle.std.specs.Prelude.{◌≡◌, IfOk, false};
-ghost use Rattle.clap.specs.Words.{app_of, found_of, rows_of};
-ghost use Rattle.clap.specs.declared.builder.command.Command.TheViews.{out-Command as fields_of};
-ghost use Rattle.wst_words.specs.Head.{AsksForHead, head_app};
+ghost use Rattle.std.specs.Prelude.{◌≡◌, map};
+ghost use Rattle.clap.specs.Words.{found_of, rows_of};
+ghost use Rattle.wst_words.specs.Head.{AsksForHead, head_command};
+ghost use Rattle.wst_words.specs.Arguments.{argument_row};
 
-use crate::options::{protocols_of, protocols_option};
-use clap::{ArgMatches, Command};
-use std::alloc::{AllocError, Global};
+use crate::arguments::Argument;
+use crate::arguments::ArgumentKind::Word;
+use crate::commands::HelpText;
+use crate::options::word_of;
+use clap::ArgMatches;
 
 /// What `head` is asked for.
 #[derive(Clone, Copy)]
@@ -16,16 +18,20 @@ pub struct HeadOptions<'a> {
     pub protocols: Option<&'a str>,
 }
 
-/// `head` and its options.
-pub(crate) fn head_command<'a>(alloc: Global) -> Result<Command<'a>, AllocError>
-    ensures app { IfOk result (λ command. app_of command ≡ head_app) }
-    ensures local { IfOk result (λ command. (fields_of command).has_globals ≡ false) }
+/// Its arguments.
+static ARGUMENTS: [Argument; 1] = [Argument {
+    name: "protocols",
+    kind: Word,
+    default: None,
+    value_name: "LIST",
+    help: "Subprotocols that the server knows, joined by commas",
+}];
+
+/// The arguments of `head`.
+pub(crate) fn arguments() -> &'static [Argument]
+    ensures { map argument_row result.now ≡ head_command.arguments }
 {
-    Command::new(alloc, "head")
-        .about("Answers the head of a request for an upgrade")
-        .long_about(LONG_ABOUT)
-        .after_help(AFTER_HELP)
-        .arg(protocols_option(alloc, PROTOCOLS))
+    &ARGUMENTS
 }
 
 /// What the words give.
@@ -33,11 +39,18 @@ pub(crate) fn head_options<'a>(options: &ArgMatches<'a>) -> HeadOptions<'a>
     ensures { AsksForHead (rows_of (found_of options.now)) result }
 {
     HeadOptions {
-        protocols: protocols_of(options),
+        protocols: word_of(options, "protocols"),
     }
 }
 
-const PROTOCOLS: &str = "Subprotocols that the server knows, joined by commas";
+/// What help says of `head`.
+pub(crate) fn help<'a>() -> HelpText<'a> {
+    HelpText {
+        about: "Answers the head of a request for an upgrade",
+        long_about: LONG_ABOUT,
+        after_help: AFTER_HELP,
+    }
+}
 
 /// What `head` is for.
 const LONG_ABOUT: &str =

@@ -5,7 +5,9 @@
 //! What a command reads and writes is told whole in docs/FORMATS.md. Its help tells it in short.
 #![tactic(auto)]
 
+mod arguments;
 mod cases;
+mod commands;
 mod convert;
 mod head;
 mod judge;

@@ -1,13 +1,16 @@
 //! The words of the command `pair`.
 
-ghost use Rattle.std.specs.Prelude.{◌≡◌, IfOk, MatchOption, false};
-ghost use Rattle.clap.specs.Words.{app_of, found_of, rows_of};
-ghost use Rattle.clap.specs.declared.builder.command.Command.TheViews.{out-Command as fields_of};
-ghost use Rattle.wst_words.specs.Pair.{AsksToPair, AsksToPairNothing, pair_app};
+ghost use Rattle.std.specs.Prelude.{◌≡◌, MatchOption, map};
+ghost use Rattle.clap.specs.Words.{found_of, rows_of};
+ghost use Rattle.wst_words.specs.Options.{LacksOneOf};
+ghost use Rattle.wst_words.specs.Pair.{AsksToPair, pair_command};
+ghost use Rattle.wst_words.specs.Arguments.{argument_row};
 
-use crate::options::{number_of, number_option, number_or, optional_number};
-use clap::{ArgMatches, Command};
-use std::alloc::{AllocError, Global};
+use crate::arguments::Argument;
+use crate::arguments::ArgumentKind::Number;
+use crate::commands::HelpText;
+use crate::options::{number_of, number_or};
+use clap::ArgMatches;
 
 /// The options of `pair`.
 #[derive(Clone, Copy)]
@@ -22,26 +25,48 @@ pub struct PairOptions {
     pub frame_server: u64,
 }
 
-/// `pair` and its options.
-pub(crate) fn pair_command<'a>(alloc: Global) -> Result<Command<'a>, AllocError>
-    ensures app { IfOk result (λ command. app_of command ≡ pair_app) }
-    ensures local { IfOk result (λ command. (fields_of command).has_globals ≡ false) }
+/// Its arguments.
+static ARGUMENTS: [Argument; 4] = [
+    Argument {
+        name: "limit-client",
+        kind: Number,
+        default: Some("1048576"),
+        value_name: "N",
+        help: "Most bytes of a message to the client, 1 to 16777216",
+    },
+    Argument {
+        name: "limit-server",
+        kind: Number,
+        default: Some("1048576"),
+        value_name: "N",
+        help: "Most bytes of a message to the server, 1 to 16777216",
+    },
+    Argument {
+        name: "frame-client",
+        kind: Number,
+        default: None,
+        value_name: "N",
+        help: "Most bytes of a data frame to the client [default: as --limit-client]",
+    },
+    Argument {
+        name: "frame-server",
+        kind: Number,
+        default: None,
+        value_name: "N",
+        help: "Most bytes of a data frame to the server [default: as --limit-server]",
+    },
+];
+
+/// The arguments of `pair`.
+pub(crate) fn arguments() -> &'static [Argument]
+    ensures { map argument_row result.now ≡ pair_command.arguments }
 {
-    Command::new(alloc, "pair")
-        .about(
-            "Plays moves at a client and a server that are joined, and reports what came of them",
-        )
-        .long_about(LONG_ABOUT)
-        .after_help(AFTER_HELP)
-        .arg(number_option(alloc, "limit-client", LIMIT_CLIENT, "1048576"))?
-        .arg(number_option(alloc, "limit-server", LIMIT_SERVER, "1048576"))?
-        .arg(optional_number(alloc, "frame-client", FRAME_CLIENT))?
-        .arg(optional_number(alloc, "frame-server", FRAME_SERVER))
+    &ARGUMENTS
 }
 
 /// The options that were met. `None` where one has no value.
 pub(crate) fn pair_options(options: &ArgMatches<'_>) -> Option<PairOptions>
-    ensures { MatchOption result (AsksToPairNothing (rows_of (found_of options.now)))
+    ensures { MatchOption result (LacksOneOf (rows_of (found_of options.now)) pair_command.arguments)
         (AsksToPair (rows_of (found_of options.now))) }
 {
     let limit_client = number_of(options, "limit-client")?;
@@ -56,13 +81,14 @@ pub(crate) fn pair_options(options: &ArgMatches<'_>) -> Option<PairOptions>
     })
 }
 
-const LIMIT_CLIENT: &str = "Most bytes of a message to the client, 1 to 16777216";
-
-const LIMIT_SERVER: &str = "Most bytes of a message to the server, 1 to 16777216";
-
-const FRAME_CLIENT: &str = "Most bytes of a data frame to the client [default: as --limit-client]";
-
-const FRAME_SERVER: &str = "Most bytes of a data frame to the server [default: as --limit-server]";
+/// What help says of `pair`.
+pub(crate) fn help<'a>() -> HelpText<'a> {
+    HelpText {
+        about: "Plays moves at a client and a server that are joined, and reports what came of them",
+        long_about: LONG_ABOUT,
+        after_help: AFTER_HELP,
+    }
+}
 
 /// What `pair` is for.
 const LONG_ABOUT: &str =

@@ -1,17 +1,16 @@
 //! The words of the command `serve`.
 
-ghost use Rattle.std.specs.Prelude.{◌≡◌, codes, IfOk, MatchOption, false};
-ghost use Rattle.clap.specs.Words.{app_of, found_of, rows_of, rule_of};
-ghost use Rattle.clap.specs.declared.builder.command.Command.TheViews.{out-Command as fields_of};
-ghost use Rattle.wst_words.specs.Options.{needed_word_rule};
-ghost use Rattle.wst_words.specs.Serve.{AsksToServe, AsksToServeNothing, serve_app};
+ghost use Rattle.std.specs.Prelude.{◌≡◌, MatchOption, map};
+ghost use Rattle.clap.specs.Words.{found_of, rows_of};
+ghost use Rattle.wst_words.specs.Options.{LacksOneOf};
+ghost use Rattle.wst_words.specs.Serve.{AsksToServe, serve_command};
+ghost use Rattle.wst_words.specs.Arguments.{argument_row};
 
-use crate::options::{
-    count_of, needed_count, number_of, number_option, number_or, optional_number, protocols_of,
-    protocols_option,
-};
-use clap::{Arg, ArgAction, ArgMatches, Command};
-use std::alloc::{AllocError, Global};
+use crate::arguments::Argument;
+use crate::arguments::ArgumentKind::{NeededCount, NeededWord, Number, Word};
+use crate::commands::HelpText;
+use crate::options::{count_of, number_of, number_or, word_of};
+use clap::ArgMatches;
 
 /// What `serve` is asked to serve.
 #[derive(Clone, Copy)]
@@ -30,66 +29,87 @@ pub struct ServeOptions<'a> {
     pub count: u32,
 }
 
-/// `serve` and its words.
-pub(crate) fn serve_command<'a>(alloc: Global) -> Result<Command<'a>, AllocError>
-    ensures app { IfOk result (λ command. app_of command ≡ serve_app) }
-    ensures local { IfOk result (λ command. (fields_of command).has_globals ≡ false) }
-{
-    Command::new(alloc, "serve")
-        .about("Serves connections of clients, and sends each message back")
-        .long_about(LONG_ABOUT)
-        .after_help(AFTER_HELP)
-        .arg(number_option(alloc, "limit", LIMIT, "1048576"))?
-        .arg(optional_number(alloc, "frame", FRAME))?
-        .arg(number_option(alloc, "budget", BUDGET, "1073741824"))?
-        .arg(protocols_option(alloc, PROTOCOLS))?
-        .arg(address_word(alloc))?
-        .arg(needed_count(
-            alloc,
-            "count",
-            "How many connections to serve, one after the other",
-        ))
-}
+/// Its arguments.
+static ARGUMENTS: [Argument; 6] = [
+    Argument {
+        name: "limit",
+        kind: Number,
+        default: Some("1048576"),
+        value_name: "N",
+        help: "Most bytes of a message to the server, 1 to 16777216",
+    },
+    Argument {
+        name: "frame",
+        kind: Number,
+        default: None,
+        value_name: "N",
+        help: "Most bytes of a data frame to the server [default: as --limit]",
+    },
+    Argument {
+        name: "budget",
+        kind: Number,
+        default: Some("1073741824"),
+        value_name: "N",
+        help: "Read at most N bytes of a connection behind its head",
+    },
+    Argument {
+        name: "protocols",
+        kind: Word,
+        default: None,
+        value_name: "LIST",
+        help: "Subprotocols that the server knows, joined by commas",
+    },
+    Argument {
+        name: "address",
+        kind: NeededWord,
+        default: None,
+        value_name: "ADDR",
+        help: "Where to listen: an IP address or the name of a host, and a port",
+    },
+    Argument {
+        name: "count",
+        kind: NeededCount,
+        default: None,
+        value_name: "COUNT",
+        help: "How many connections to serve, one after the other",
+    },
+];
 
-/// The address.
-fn address_word<'a>(alloc: Global) -> Arg<'a>
-    ensures rule { rule_of result ≡ needed_word_rule (codes "address") }
-    ensures local { result.global ≡ false }
+/// The arguments of `serve`.
+pub(crate) fn arguments() -> &'static [Argument]
+    ensures { map argument_row result.now ≡ serve_command.arguments }
 {
-    Arg::new(alloc, "address")
-        .value_name("ADDR")
-        .help("Where to listen: an IP address or the name of a host, and a port")
-        .action(ArgAction::Set)
-        .required(true)
+    &ARGUMENTS
 }
 
 /// What the words give. `None` where a word has no value.
 pub(crate) fn serve_options<'a>(options: &ArgMatches<'a>) -> Option<ServeOptions<'a>>
-    ensures { MatchOption result (AsksToServeNothing (rows_of (found_of options.now)))
+    ensures { MatchOption result (LacksOneOf (rows_of (found_of options.now)) serve_command.arguments)
         (AsksToServe (rows_of (found_of options.now))) }
 {
     let limit = number_of(options, "limit")?;
     let frame = number_or(options, "frame", limit)?;
     let budget = number_of(options, "budget")?;
-    let address = options.get_str("address")?;
+    let address = word_of(options, "address")?;
     let count = count_of(options, "count")?;
     Some(ServeOptions {
         limit,
         frame,
         budget,
-        protocols: protocols_of(options),
+        protocols: word_of(options, "protocols"),
         address,
         count,
     })
 }
 
-const LIMIT: &str = "Most bytes of a message to the server, 1 to 16777216";
-
-const FRAME: &str = "Most bytes of a data frame to the server [default: as --limit]";
-
-const BUDGET: &str = "Read at most N bytes of a connection behind its head";
-
-const PROTOCOLS: &str = "Subprotocols that the server knows, joined by commas";
+/// What help says of `serve`.
+pub(crate) fn help<'a>() -> HelpText<'a> {
+    HelpText {
+        about: "Serves connections of clients, and sends each message back",
+        long_about: LONG_ABOUT,
+        after_help: AFTER_HELP,
+    }
+}
 
 /// What `serve` is for.
 const LONG_ABOUT: &str =

@@ -1,16 +1,16 @@
 //! The words of the command `session`.
 
-ghost use Rattle.std.specs.Prelude.{◌≡◌, IfOk, MatchOption, false};
-ghost use Rattle.clap.specs.Words.{app_of, found_of, rows_of};
-ghost use Rattle.clap.specs.declared.builder.command.Command.TheViews.{out-Command as fields_of};
-ghost use Rattle.wst_words.specs.Options.{EndPlaces};
-ghost use Rattle.wst_words.specs.Session.{AsksForSession, AsksForNoSession, session_app};
+ghost use Rattle.std.specs.Prelude.{◌≡◌, MatchOption, map};
+ghost use Rattle.clap.specs.Words.{found_of, rows_of};
+ghost use Rattle.wst_words.specs.Options.{LacksOneOf};
+ghost use Rattle.wst_words.specs.Session.{AsksForSession, session_command};
+ghost use Rattle.wst_words.specs.Arguments.{argument_row};
 
-use crate::options::{
-    end_of, end_option, flag_of, flag_option, number_of, number_option, number_or, optional_number,
-};
-use clap::{ArgMatches, Command};
-use std::alloc::{AllocError, Global};
+use crate::arguments::Argument;
+use crate::arguments::ArgumentKind::{End, Flag, Number};
+use crate::commands::HelpText;
+use crate::options::{end_of, flag_of, number_of, number_or};
+use clap::ArgMatches;
 use ws_frame::Role;
 
 /// The options of `session`.
@@ -26,24 +26,48 @@ pub struct SessionOptions {
     pub echo: bool,
 }
 
-/// `session` and its options.
-pub(crate) fn session_command<'a>(alloc: Global) -> Result<Command<'a>, AllocError>
-    ensures app { IfOk result (λ command. (places : EndPlaces) × (app_of command ≡ session_app places)) }
-    ensures local { IfOk result (λ command. (fields_of command).has_globals ≡ false) }
+/// Its arguments.
+static ARGUMENTS: [Argument; 4] = [
+    Argument {
+        name: "role",
+        kind: End,
+        default: Some("server"),
+        value_name: "END",
+        help: "The role of the endpoint",
+    },
+    Argument {
+        name: "limit",
+        kind: Number,
+        default: Some("1048576"),
+        value_name: "N",
+        help: "Most bytes of a message to the endpoint, 1 to 16777216",
+    },
+    Argument {
+        name: "frame",
+        kind: Number,
+        default: None,
+        value_name: "N",
+        help: "Most bytes of a data frame to the endpoint [default: as --limit]",
+    },
+    Argument {
+        name: "echo",
+        kind: Flag,
+        default: None,
+        value_name: "",
+        help: "The endpoint sends each message back",
+    },
+];
+
+/// The arguments of `session`.
+pub(crate) fn arguments() -> &'static [Argument]
+    ensures { map argument_row result.now ≡ session_command.arguments }
 {
-    Command::new(alloc, "session")
-        .about("Plays calls at one endpoint, and tells what it answers to each")
-        .long_about(LONG_ABOUT)
-        .after_help(AFTER_HELP)
-        .arg(end_option(alloc, "role", "The role of the endpoint"))?
-        .arg(number_option(alloc, "limit", LIMIT, "1048576"))?
-        .arg(optional_number(alloc, "frame", FRAME))?
-        .arg(flag_option(alloc, "echo", "The endpoint sends each message back"))
+    &ARGUMENTS
 }
 
 /// The options that were met. `None` where one has no value.
 pub(crate) fn session_options(options: &ArgMatches<'_>) -> Option<SessionOptions>
-    ensures { MatchOption result (AsksForNoSession (rows_of (found_of options.now)))
+    ensures { MatchOption result (LacksOneOf (rows_of (found_of options.now)) session_command.arguments)
         (AsksForSession (rows_of (found_of options.now))) }
 {
     let role = end_of(options, "role")?;
@@ -58,9 +82,14 @@ pub(crate) fn session_options(options: &ArgMatches<'_>) -> Option<SessionOptions
     })
 }
 
-const LIMIT: &str = "Most bytes of a message to the endpoint, 1 to 16777216";
-
-const FRAME: &str = "Most bytes of a data frame to the endpoint [default: as --limit]";
+/// What help says of `session`.
+pub(crate) fn help<'a>() -> HelpText<'a> {
+    HelpText {
+        about: "Plays calls at one endpoint, and tells what it answers to each",
+        long_about: LONG_ABOUT,
+        after_help: AFTER_HELP,
+    }
+}
 
 /// What `session` is for.
 const LONG_ABOUT: &str =

@@ -1,14 +1,16 @@
 //! The words of the command `show`.
 
-ghost use Rattle.std.specs.Prelude.{◌≡◌, IfOk, MatchOption, codes, false};
-ghost use Rattle.clap.specs.Words.{app_of, found_of, rows_of};
-ghost use Rattle.clap.specs.declared.builder.command.Command.TheViews.{out-Command as fields_of};
-ghost use Rattle.wst_words.specs.Options.{EndPlaces};
-ghost use Rattle.wst_words.specs.Show.{AsksToShow, AsksToShowNothing, show_app};
+ghost use Rattle.std.specs.Prelude.{◌≡◌, MatchOption, map};
+ghost use Rattle.clap.specs.Words.{found_of, rows_of};
+ghost use Rattle.wst_words.specs.Options.{LacksOneOf};
+ghost use Rattle.wst_words.specs.Show.{AsksToShow, show_command};
+ghost use Rattle.wst_words.specs.Arguments.{argument_row};
 
-use crate::options::{end_of, end_option, number_of, number_option};
-use clap::{ArgMatches, Command};
-use std::alloc::{AllocError, Global};
+use crate::arguments::Argument;
+use crate::arguments::ArgumentKind::{End, Number};
+use crate::commands::HelpText;
+use crate::options::{end_of, number_of};
+use clap::ArgMatches;
 use ws_frame::Role;
 
 /// The options of `show`.
@@ -20,27 +22,48 @@ pub struct ShowOptions {
     pub budget: u64,
 }
 
-/// `show` and its options.
-pub(crate) fn show_command<'a>(alloc: Global) -> Result<Command<'a>, AllocError>
-    ensures app { IfOk result (λ command. (places : EndPlaces) × (app_of command ≡ show_app places)) }
-    ensures local { IfOk result (λ command. (fields_of command).has_globals ≡ false) }
+/// Its arguments.
+static ARGUMENTS: [Argument; 2] = [
+    Argument {
+        name: "from",
+        kind: End,
+        default: Some("server"),
+        value_name: "END",
+        help: "The end that sent the frames",
+    },
+    Argument {
+        name: "budget",
+        kind: Number,
+        default: Some("1073741824"),
+        value_name: "N",
+        help: "Read at most N bytes",
+    },
+];
+
+/// The arguments of `show`.
+pub(crate) fn arguments() -> &'static [Argument]
+    ensures { map argument_row result.now ≡ show_command.arguments }
 {
-    Command::new(alloc, "show")
-        .about("Shows the frames of a captured stream, a line each")
-        .long_about(LONG_ABOUT)
-        .after_help(AFTER_HELP)
-        .arg(end_option(alloc, "from", "The end that sent the frames"))?
-        .arg(number_option(alloc, "budget", "Read at most N bytes", "1073741824"))
+    &ARGUMENTS
 }
 
 /// The options that were met. `None` where one has no value.
 pub(crate) fn show_options(options: &ArgMatches<'_>) -> Option<ShowOptions>
-    ensures { MatchOption result (AsksToShowNothing (rows_of (found_of options.now)))
+    ensures { MatchOption result (LacksOneOf (rows_of (found_of options.now)) show_command.arguments)
         (AsksToShow (rows_of (found_of options.now))) }
 {
     let from = end_of(options, "from")?;
     let budget = number_of(options, "budget")?;
     Some(ShowOptions { from, budget })
+}
+
+/// What help says of `show`.
+pub(crate) fn help<'a>() -> HelpText<'a> {
+    HelpText {
+        about: "Shows the frames of a captured stream, a line each",
+        long_about: LONG_ABOUT,
+        after_help: AFTER_HELP,
+    }
 }
 
 /// What `show` is for.

@@ -1,14 +1,16 @@
 //! The words of the command `test`.
 
-ghost use Rattle.std.specs.Prelude.{◌≡◌, map, codes, IfOk, MatchOption, false};
-ghost use Rattle.clap.specs.Words.{app_of, found_of, rows_of, rule_of};
-ghost use Rattle.clap.specs.declared.builder.command.Command.TheViews.{out-Command as fields_of};
-ghost use Rattle.wst_words.specs.Test.{AsksToTest, AsksToTestNothing, given_words};
-ghost use Rattle.wst_words.specs.Options.{needed_word_rule};
-ghost use Rattle.wst_words.specs.Test.{test_app, word_rule, words_rule};
+ghost use Rattle.std.specs.Prelude.{◌≡◌, IfOk, MatchOption, codes, map};
+ghost use Rattle.clap.specs.Words.{found_of, rows_of};
+ghost use Rattle.wst_words.specs.Options.{LacksOneOf, given_words};
+ghost use Rattle.wst_words.specs.Test.{AsksToTest, test_command};
+ghost use Rattle.wst_words.specs.Arguments.{argument_row};
 
-use crate::options::{flag_of, flag_option, protocols_of, protocols_option};
-use clap::{Arg, ArgAction, ArgMatches, Command};
+use crate::arguments::Argument;
+use crate::arguments::ArgumentKind::{Flag, NeededWord, Word, Words};
+use crate::commands::HelpText;
+use crate::options::{flag_of, word_of, words_of};
+use clap::ArgMatches;
 use std::alloc::{AllocError, Global};
 
 /// What `test` is asked to run.
@@ -26,58 +28,50 @@ pub struct TestOptions<'a> {
     pub ids: Vec<&'a str>,
 }
 
-/// `test` and its words.
-pub(crate) fn test_command<'a>(alloc: Global) -> Result<Command<'a>, AllocError>
-    ensures app { IfOk result (λ command. app_of command ≡ test_app) }
-    ensures local { IfOk result (λ command. (fields_of command).has_globals ≡ false) }
-{
-    Command::new(alloc, "test")
-        .about("Runs cases against a server, and tells which rule it broke in each")
-        .long_about(LONG_ABOUT)
-        .after_help(AFTER_HELP)
-        .arg(key_option(alloc))?
-        .arg(flag_option(alloc, "capture", "Write the capture of one case"))?
-        .arg(protocols_option(alloc, PROTOCOLS))?
-        .arg(target_word(alloc))?
-        .arg(id_words(alloc))
-}
+/// Its arguments.
+static ARGUMENTS: [Argument; 5] = [
+    Argument {
+        name: "key",
+        kind: Word,
+        default: Some("37fa213d"),
+        value_name: "HEX8",
+        help: "Masking key: eight lower-case hexadecimal digits",
+    },
+    Argument {
+        name: "capture",
+        kind: Flag,
+        default: None,
+        value_name: "",
+        help: "Write the capture of one case",
+    },
+    Argument {
+        name: "protocols",
+        kind: Word,
+        default: None,
+        value_name: "LIST",
+        help: "Subprotocols to offer to a server at an address, joined by commas",
+    },
+    Argument {
+        name: "target",
+        kind: NeededWord,
+        default: None,
+        value_name: "TARGET",
+        help: "The address of a server, or one in memory: `own`, our echo, or `tung`, tungstenite's",
+    },
+    Argument {
+        name: "ids",
+        kind: Words,
+        default: None,
+        value_name: "ID",
+        help: "Cases to run, in this order; all where none is given",
+    },
+];
 
-/// The masking key.
-fn key_option<'a>(alloc: Global) -> Arg<'a>
-    ensures rule { rule_of result ≡ word_rule (codes "key") (codes "37fa213d") }
-    ensures local { result.global ≡ false }
+/// The arguments of `test`.
+pub(crate) fn arguments() -> &'static [Argument]
+    ensures { map argument_row result.now ≡ test_command.arguments }
 {
-    Arg::new(alloc, "key")
-        .long("key")
-        .value_name("HEX8")
-        .help("Masking key: eight lower-case hexadecimal digits")
-        .action(ArgAction::Set)
-        .default_value("37fa213d")
-}
-
-/// The server.
-fn target_word<'a>(alloc: Global) -> Arg<'a>
-    ensures rule { rule_of result ≡ needed_word_rule (codes "target") }
-    ensures local { result.global ≡ false }
-{
-    Arg::new(alloc, "target")
-        .value_name("TARGET")
-        .help(
-            "The address of a server, or one in memory: `own`, our echo, or `tung`, tungstenite's",
-        )
-        .action(ArgAction::Set)
-        .required(true)
-}
-
-/// The names of the cases.
-fn id_words<'a>(alloc: Global) -> Arg<'a>
-    ensures rule { rule_of result ≡ words_rule (codes "ids") }
-    ensures local { result.global ≡ false }
-{
-    Arg::new(alloc, "ids")
-        .value_name("ID")
-        .help("Cases to run, in this order; all where none is given")
-        .action(ArgAction::Append)
+    &ARGUMENTS
 }
 
 /// What the words give. `None` where a word has no value.
@@ -85,47 +79,41 @@ pub(crate) fn test_options<'a>(
     alloc: Global,
     options: &ArgMatches<'a>,
 ) -> Result<Option<TestOptions<'a>>, AllocError>
-    ensures { IfOk result (λ found. MatchOption found (AsksToTestNothing (rows_of (found_of options.now)))
+    ensures { IfOk result (λ found. MatchOption found
+        (LacksOneOf (rows_of (found_of options.now)) test_command.arguments)
         (AsksToTest (rows_of (found_of options.now)))) }
 {
-    let ids = ids_of(alloc, options)?;
+    let ids = words_of(alloc, options, "ids")?;
     let found = options_with(options, ids);
     Ok(found)
-}
-
-/// The names of the cases that are given.
-fn ids_of<'a>(alloc: Global, options: &ArgMatches<'a>) -> Result<Vec<&'a str>, AllocError>
-    ensures { IfOk result (λ ids. map (λ id. id.now) ids.items
-        ≡ given_words (codes "ids") (rows_of (found_of options.now))) }
-{
-    match options.get_strs("ids") {
-        Some(ids) => {
-            let ids = ids.to_vec(alloc)?;
-            Ok(ids)
-        }
-        None => Ok(Vec::new(alloc)),
-    }
 }
 
 /// What the words give, with these names of cases.
 fn options_with<'a>(options: &ArgMatches<'a>, ids: Vec<&'a str>) -> Option<TestOptions<'a>>
     requires { map (λ id. id.now) ids.items ≡ given_words (codes "ids") (rows_of (found_of options.now)) }
-    ensures { MatchOption result (AsksToTestNothing (rows_of (found_of options.now)))
+    ensures { MatchOption result (LacksOneOf (rows_of (found_of options.now)) test_command.arguments)
         (AsksToTest (rows_of (found_of options.now))) }
 {
-    let key = options.get_str("key")?;
+    let key = word_of(options, "key")?;
     let capture = flag_of(options, "capture")?;
-    let target = options.get_str("target")?;
+    let target = word_of(options, "target")?;
     Some(TestOptions {
         key,
         capture,
-        protocols: protocols_of(options),
+        protocols: word_of(options, "protocols"),
         target,
         ids,
     })
 }
 
-const PROTOCOLS: &str = "Subprotocols to offer to a server at an address, joined by commas";
+/// What help says of `test`.
+pub(crate) fn help<'a>() -> HelpText<'a> {
+    HelpText {
+        about: "Runs cases against a server, and tells which rule it broke in each",
+        long_about: LONG_ABOUT,
+        after_help: AFTER_HELP,
+    }
+}
 
 /// What `test` is for.
 const LONG_ABOUT: &str =

@@ -1,26 +1,21 @@
 //! What the words of a command line ask for.
 
 ghost use Rattle.std.specs.Prelude.{◌≡◌, ◌≢◌, IfOk, MatchOption, Some, codes, map, string_bytes};
-ghost use Rattle.clap.specs.Words.{app_of, found_of, kind_of, rows_of, subcommand_rows_of};
+ghost use Rattle.clap.specs.Words.{found_of, kind_of, rows_of, subcommand_rows_of};
 ghost use Rattle.clap.specs.declared.error.kind.ErrorKind.TheVariants.{OutOfMemory};
 ghost use Rattle.wst_words.specs.declared.words.WordsFault.TheVariants.{Clap};
-ghost use Rattle.wst_words.specs.Words.{CommandAsks, CommandAsksNothing, IsOfClap, IsRead, Places, wst_app};
+ghost use Rattle.wst_words.specs.Arguments.{Places};
+ghost use Rattle.wst_words.specs.Words.{CommandAsks, CommandAsksNothing, IsOfClap, IsRead, wst_app};
 
-use crate::cases::cases_command;
-use crate::convert::convert_command;
-use crate::head::{HeadOptions, head_command, head_options};
-use crate::judge::judge_command;
-use crate::pair::{PairOptions, pair_command, pair_options};
-use crate::serve::{ServeOptions, serve_command, serve_options};
-use crate::session::{SessionOptions, session_command, session_options};
-use crate::show::{ShowOptions, show_command, show_options};
-use crate::test::{TestOptions, test_command, test_options};
+use crate::commands::wst_command;
+use crate::head::{HeadOptions, head_options};
+use crate::pair::{PairOptions, pair_options};
+use crate::serve::{ServeOptions, serve_options};
+use crate::session::{SessionOptions, session_options};
+use crate::show::{ShowOptions, show_options};
+use crate::test::{TestOptions, test_options};
 use clap::{ArgMatches, Command, Error};
 use std::alloc::{AllocError, Global};
-
-/// What `wst --version` prints after the name: the version, and the line of the kit that proved the
-/// program, as `rt version` prints it.
-const VERSION: &str = "0.1.0 (rattle-kit-13b logic dac8208d650f15bf)";
 
 /// What the words ask for: a command, with its options.
 #[derive(Drop)]
@@ -76,7 +71,7 @@ impl From<AllocError> for WordsFault {
 pub fn read_words<'a>(alloc: Global, words: &'a [String]) -> Result<Task<'a>, WordsFault>
     ensures read { (places : Places) × IsRead (wst_app places) (map string_bytes words.entry.now) result }
 {
-    let command: Command<'a> = command(alloc)?;
+    let command: Command<'a> = wst_command(alloc)?;
     let matches = command.try_get_matches_from(words)?;
     let task = task_of(alloc, &matches)?;
     match task {
@@ -134,37 +129,3 @@ fn plain_task<'a>(name: &str, options: &ArgMatches<'a>) -> Option<Task<'a>>
         _ => None,
     }
 }
-
-/// All commands.
-fn command<'a>(alloc: Global) -> Result<Command<'a>, AllocError>
-    ensures { IfOk result (λ command. (places : Places) × (app_of command ≡ wst_app places)) }
-{
-    Command::new(alloc, "wst")
-        .version(VERSION)
-        .about("Tests WebSocket endpoints frame by frame (RFC 6455)")
-        .after_help(AFTER_HELP)
-        .subcommand_required(true)
-        .subcommand(show_command(alloc)?)?
-        .subcommand(head_command(alloc)?)?
-        .subcommand(pair_command(alloc)?)?
-        .subcommand(session_command(alloc)?)?
-        .subcommand(judge_command(alloc)?)?
-        .subcommand(convert_command(alloc)?)?
-        .subcommand(cases_command(alloc)?)?
-        .subcommand(test_command(alloc)?)?
-        .subcommand(serve_command(alloc)?)
-}
-
-/// What stands at the end of the help.
-const AFTER_HELP: &str =
-    "Each command but `cases`, `test` and `serve` reads its standard input. `wst COMMAND --help` says
-what it reads and writes, with an example. In scripts HEX is bytes as lower-case pairs of
-hexadecimal digits, or `-` for none.
-
-Exit status: 0 done, 1 the input is damaged or refused or a verdict is FAIL, 2 wrong words, limits
-or lists, 3 the input, the output, the network, the budget or memory failed.
-
-Example:
-  printf '\\201\\005Hello' | wst show
-prints the one frame that it reads:
-  0 text fin=1 rsv=0 key=- len=5 short 48656c6c6f";

@@ -1,16 +1,13 @@
 use Rattle.std.proofs.Common.{rules, ◌≡◌, ap, map, string_bytes, true}
 use Rattle.clap.specs.Words.{app_of, is_simple, subcommand_rows_of}
 use Rattle.clap.specs.Faults.{is_simple_and_free}
-use Rattle.wst_words.specs.Options.{EndPlaces}
-use Rattle.wst_words.specs.Words.{CommandAsks, CommandAsksNothing, Places, wst_app}
+use Rattle.wst_words.specs.Arguments.{Places}
+use Rattle.wst_words.specs.Words.{CommandAsks, CommandAsksNothing, wst_app}
 use Rattle.wst_words.proofs.WordLemmas.{fault_read, memory_read, nothing_read, task_read}
 use Rattle.wst_words.proofs.words.read_words.Goals as goal
 
-no_place : EndPlaces
-no_place = record { list = (0, 0); client = (0, 0); server = (0, 0) }
-
 nowhere : Places
-nowhere = record { from = no_place; role = no_place }
+nowhere = record { list = (0, 0); client = (0, 0); server = (0, 0) }
 
 pub returns-in_err-command : goal.returns-in_err-command
 returns-in_err-command c = record { read = (nowhere, memory_read (wst_app nowhere) (map string_bytes c.args.words.now) c.from_residual.result c.from_residual.ensures.1) }

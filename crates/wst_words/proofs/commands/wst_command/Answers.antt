@@ -1,0 +1,27 @@
+-- The names of the ends lie somewhere, and the texts of help leave the shape of `wst`.
+use Rattle.std.proofs.Common.{rules, ◌≡◌, ◌∙◌, ap, map, codes, [], ◌∷◌, true}
+use Rattle.clap.specs.Words.{App, app_of, new_app}
+use Rattle.clap.specs.Simple.{app_of_fields, on_top}
+use Rattle.clap.specs.declared.builder.value_parser.ValueParser.TheVariants.{Names}
+use Rattle.wst_words.specs.Arguments.{end_parser}
+use Rattle.wst_words.specs.Commands.{with_commands}
+use Rattle.wst_words.specs.Words.{bare_app, wst_commands}
+use Rattle.wst_words.proofs.WordLemmas.{places_of}
+use Rattle.wst_words.proofs.commands.wst_command.Goals as goal
+
+abbrev versioned : App
+versioned = on_top (λ s. record s { has_version = true }) (new_app (codes "wst"))
+
+pub returns : goal.returns
+returns c =
+    let two : map (λ s. s.now) c.as_slice.result.now ≡ codes "client" ∷ codes "server" ∷ [] = search rules in
+    let places = places_of c.as_slice.result.ref_ptr c.as_slice.result.now two in
+    let ends : c.from-ends.result ≡ end_parser places.0 = c.from-ends.ensures ∙ ap (λ n. Names n) places.1 in
+    let named : app_of c.version.result ≡ versioned = ap app_of_fields c.version.ensures
+    ∙ ap (λ (a : App). on_top (λ s. record s { has_version = true }) a) c.new.ensures.app in
+    let texts : app_of c.after_help.result ≡ versioned =
+    ap app_of_fields c.after_help.ensures ∙ ap app_of_fields c.about.ensures ∙ named in
+    let required : app_of c.subcommand_required-wst.result ≡ bare_app =
+    ap app_of_fields c.subcommand_required-wst.ensures
+    ∙ ap (λ (a : App). on_top (λ s. record s { subcommand_required = true }) a) texts in
+    (places.0, c.in_ok-command.ensures ∙ (λ i. with_commands (ends i) (required i) wst_commands))

@@ -1,0 +1,77 @@
+-- The arguments of commands: rows of tables, and clap's data of each.
+use Rattle.std.specs.Prelude.{ℕ, List, [], ◌∷◌, Option, Some, None, codes, option_map, pos, true}
+use Rattle.std.specs.Borrow.{Bor}
+use Rattle.clap.specs.Words.{Rule, Text, new_rule}
+use Rattle.clap.specs.declared.builder.action.ArgAction.TheVariants.{Append, Set, SetTrue}
+use Rattle.clap.specs.declared.builder.value_parser.ValueParser.{ValueParser}
+use Rattle.clap.specs.declared.builder.value_parser.ValueParser.TheVariants.{Names, Signed, Unsigned}
+use Rattle.wst_words.specs.declared.arguments.Argument.{Argument}
+use Rattle.wst_words.specs.declared.arguments.ArgumentKind.{ArgumentKind}
+use Rattle.wst_words.specs.declared.arguments.ArgumentKind.TheVariants.{End, Flag, NeededCount, NeededWord, Number}
+use Rattle.wst_words.specs.declared.arguments.ArgumentKind.TheVariants.{Word, Words}
+
+-- an argument: its name, its kind, and its value where it is left out
+pub record ArgumentRow : Type 0 where
+  pub name : Text
+  pub kind : ArgumentKind
+  pub default : Option Text
+
+-- one that has no value where it is left out, or may not be left out
+abbrev pub argument : Text → ArgumentKind → ArgumentRow
+argument name kind = record { name = name; kind = kind; default = None }
+
+-- one that has this value then
+abbrev pub argument_or : Text → ArgumentKind → Text → ArgumentRow
+argument_or name kind default = record { name = name; kind = kind; default = Some default }
+
+-- the row of the program's own table, without its texts of help
+abbrev pub argument_row : Argument → ArgumentRow
+argument_row a = record { name = a.name.now; kind = a.kind; default = option_map (λ d. d.now) a.default }
+
+-- ---- clap's data
+
+-- where the names of the two ends lie in memory, which clap's data of a list of names holds beside the names
+pub record Places : Type 0 where
+  pub list : ℕ × ℕ
+  pub client : ℕ × ℕ
+  pub server : ℕ × ℕ
+
+-- the names of the ends
+abbrev pub end_names : Places → Bor (List (Bor Text))
+end_names places = record {
+  ref_ptr = places.list;
+  now = record { ref_ptr = places.client; now = codes "client" }
+      ∷ record { ref_ptr = places.server; now = codes "server" } ∷ [];
+}
+
+-- what takes them alone
+abbrev pub end_parser : Places → ValueParser
+end_parser places = Names (end_names places)
+
+-- an option that takes one value
+abbrev pub option_rule : Text → Rule
+option_rule name = record (new_rule name) { long = Some name; action = Some Set; value_names = 1 }
+
+-- a word that may not be left out
+abbrev pub needed_rule : Text → Rule
+needed_rule name = record (new_rule name) { action = Some Set; value_names = 1; required = true }
+
+-- an argument of this kind: an end as it is parsed, a number of 64 bits, any word, a flag, a word and a number
+-- of 32 bits that may not be left out, as many words as there are
+abbrev pub kind_rule : ValueParser → ArgumentKind → Text → Rule
+kind_rule ends End name = record (option_rule name) { parser = Some ends }
+kind_rule ends Number name = record (option_rule name) { parser = Some (Unsigned 0 18446744073709551615) }
+kind_rule ends Word name = option_rule name
+kind_rule ends Flag name = record (new_rule name) { long = Some name; action = Some SetTrue }
+kind_rule ends NeededWord name = needed_rule name
+kind_rule ends NeededCount name = record (needed_rule name) { parser = Some (Signed (pos 0) (pos 4294967295)) }
+kind_rule ends Words name = record (new_rule name) { action = Some Append; value_names = 1 }
+
+-- a rule with this value where the argument is left out
+abbrev pub with_default : Option Text → Rule → Rule
+with_default None rule = rule
+with_default (Some value) rule = record rule { defaults = value ∷ [] }
+
+-- the argument of this row
+abbrev pub argument_rule : ValueParser → ArgumentRow → Rule
+argument_rule ends row = with_default row.default (kind_rule ends row.kind row.name)

@@ -1,0 +1,101 @@
+//! The arguments of commands: rows of tables, and what `clap` is told of each.
+
+ghost use Rattle.std.specs.Prelude.{◌≡◌, false};
+ghost use Rattle.clap.specs.Words.{rule_of};
+ghost use Rattle.wst_words.specs.Arguments.{argument_row, argument_rule, kind_rule, needed_rule, option_rule};
+
+use clap::builder::ValueParser;
+use clap::{Arg, ArgAction};
+use std::alloc::Global;
+
+/// What an argument is, and what it takes.
+#[derive(Clone, Copy)]
+pub(crate) enum ArgumentKind {
+    /// An option that takes the name of an end of the connection.
+    End,
+    /// An option that takes a number of 64 bits.
+    Number,
+    /// An option that takes any word.
+    Word,
+    /// An option without a value.
+    Flag,
+    /// Any word, which may not be left out.
+    NeededWord,
+    /// A number of 32 bits, which may not be left out.
+    NeededCount,
+    /// The words that are left, as many as there are.
+    Words,
+}
+
+/// An argument of a command.
+#[derive(Clone, Copy)]
+pub(crate) struct Argument {
+    /// The name that it is read by. An option is written with two hyphens before it.
+    pub(crate) name: &'static str,
+    pub(crate) kind: ArgumentKind,
+    /// The value where it is left out, if it has one then.
+    pub(crate) default: Option<&'static str>,
+    /// What help calls its value.
+    pub(crate) value_name: &'static str,
+    pub(crate) help: &'static str,
+}
+
+/// What `clap` is told of an argument. `ends` reads the name of an end.
+pub(crate) fn arg_of<'a>(alloc: Global, argument: &Argument, ends: ValueParser<'a>) -> Arg<'a>
+    ensures rule { rule_of result ≡ argument_rule ends.entry (argument_row argument.now) }
+    ensures local { result.global ≡ false }
+{
+    let arg = arg_of_kind(alloc, argument, ends);
+    match argument.default {
+        Some(default) => arg.default_value(default),
+        None => arg,
+    }
+}
+
+/// What it is told but for a default value.
+fn arg_of_kind<'a>(alloc: Global, argument: &Argument, ends: ValueParser<'a>) -> Arg<'a>
+    ensures rule { rule_of result ≡ kind_rule ends.entry argument.now.kind argument.now.name.now }
+    ensures local { result.global ≡ false }
+{
+    match argument.kind {
+        ArgumentKind::End => option_arg(alloc, argument).value_parser(ends),
+        ArgumentKind::Number => option_arg(alloc, argument).value_parser(clap::value_parser!(u64)),
+        ArgumentKind::Word => option_arg(alloc, argument),
+        ArgumentKind::Flag => Arg::new(alloc, argument.name)
+            .long(argument.name)
+            .help(argument.help)
+            .action(ArgAction::SetTrue),
+        ArgumentKind::NeededWord => needed_arg(alloc, argument),
+        ArgumentKind::NeededCount => {
+            needed_arg(alloc, argument).value_parser(clap::value_parser!(u32))
+        }
+        ArgumentKind::Words => Arg::new(alloc, argument.name)
+            .value_name(argument.value_name)
+            .help(argument.help)
+            .action(ArgAction::Append),
+    }
+}
+
+/// An option that takes one value.
+fn option_arg<'a>(alloc: Global, argument: &Argument) -> Arg<'a>
+    ensures rule { rule_of result ≡ option_rule argument.now.name.now }
+    ensures local { result.global ≡ false }
+{
+    Arg::new(alloc, argument.name)
+        .long(argument.name)
+        .value_name(argument.value_name)
+        .help(argument.help)
+        .action(ArgAction::Set)
+}
+
+/// A word that may not be left out.
+fn needed_arg<'a>(alloc: Global, argument: &Argument) -> Arg<'a>
+    ensures rule { rule_of result ≡ needed_rule argument.now.name.now }
+    ensures local { result.global ≡ false }
+{
+    Arg::new(alloc, argument.name)
+        .value_name(argument.value_name)
+        .help(argument.help)
+        .action(ArgAction::Set)
+        .required(true)
+}

@@ -1,0 +1,186 @@
+//! The commands of `wst`, and what `clap` is told of them.
+
+ghost use Rattle.std.specs.Prelude.{◌≡◌, IfOk, false, map};
+ghost use Rattle.clap.specs.Words.{app_of, shape_of};
+ghost use Rattle.clap.specs.declared.builder.command.Command.TheViews.{out-Command as fields_of};
+ghost use Rattle.wst_words.specs.Commands.{command_shape, with_arguments, with_commands};
+ghost use Rattle.wst_words.specs.Arguments.{Places, argument_row};
+ghost use Rattle.wst_words.specs.Words.{row_of, wst_app};
+
+use crate::arguments::{Argument, arg_of};
+use crate::{cases, convert, head, judge, pair, serve, session, show, test};
+use clap::Command;
+use clap::builder::ValueParser;
+use std::alloc::{AllocError, Global};
+
+/// A command of `wst`.
+#[derive(Clone, Copy)]
+pub(crate) enum CommandName {
+    Show,
+    Head,
+    Pair,
+    Session,
+    Judge,
+    Convert,
+    Cases,
+    Test,
+    Serve,
+}
+
+/// What help says of a command.
+#[derive(Clone, Copy)]
+pub(crate) struct HelpText<'a> {
+    /// In a line.
+    pub(crate) about: &'a str,
+    /// What it is for.
+    pub(crate) long_about: &'a str,
+    /// What stands at the end.
+    pub(crate) after_help: &'a str,
+}
+
+/// All commands, in the order in which help lists them.
+static COMMANDS: [CommandName; 9] = [
+    CommandName::Show,
+    CommandName::Head,
+    CommandName::Pair,
+    CommandName::Session,
+    CommandName::Judge,
+    CommandName::Convert,
+    CommandName::Cases,
+    CommandName::Test,
+    CommandName::Serve,
+];
+
+/// The word for a command.
+fn name_of<'a>(command: CommandName) -> &'a str
+    ensures { result.now ≡ (row_of command).name }
+{
+    match command {
+        CommandName::Show => "show",
+        CommandName::Head => "head",
+        CommandName::Pair => "pair",
+        CommandName::Session => "session",
+        CommandName::Judge => "judge",
+        CommandName::Convert => "convert",
+        CommandName::Cases => "cases",
+        CommandName::Test => "test",
+        CommandName::Serve => "serve",
+    }
+}
+
+/// Its arguments.
+fn arguments_of(command: CommandName) -> &'static [Argument]
+    ensures { map argument_row result.now ≡ (row_of command).arguments }
+{
+    match command {
+        CommandName::Show => show::arguments(),
+        CommandName::Head => head::arguments(),
+        CommandName::Pair => pair::arguments(),
+        CommandName::Session => session::arguments(),
+        CommandName::Judge | CommandName::Convert | CommandName::Cases => &[],
+        CommandName::Test => test::arguments(),
+        CommandName::Serve => serve::arguments(),
+    }
+}
+
+/// What help says of it.
+fn help_of<'a>(command: CommandName) -> HelpText<'a> {
+    match command {
+        CommandName::Show => show::help(),
+        CommandName::Head => head::help(),
+        CommandName::Pair => pair::help(),
+        CommandName::Session => session::help(),
+        CommandName::Judge => judge::help(),
+        CommandName::Convert => convert::help(),
+        CommandName::Cases => cases::help(),
+        CommandName::Test => test::help(),
+        CommandName::Serve => serve::help(),
+    }
+}
+
+/// What `wst --version` prints after the name: the version, and the line of the kit that proved the
+/// program, as `rt version` prints it.
+const VERSION: &str = "0.1.0 (rattle-kit-13b logic dac8208d650f15bf)";
+
+/// `wst` with its commands, as `clap` is told of them.
+pub(crate) fn wst_command<'a>(alloc: Global) -> Result<Command<'a>, AllocError>
+    ensures { IfOk result (λ command. (places : Places) × (app_of command ≡ wst_app places)) }
+{
+    let ends = ValueParser::from(["client", "server"].as_slice());
+    let wst = Command::new(alloc, "wst")
+        .version(VERSION)
+        .about("Tests WebSocket endpoints frame by frame (RFC 6455)")
+        .after_help(AFTER_HELP)
+        .subcommand_required(true);
+    let command = with_commands(alloc, wst, &COMMANDS, ends)?;
+    Ok(command)
+}
+
+/// A command with these subcommands besides.
+fn with_commands<'a>(
+    alloc: Global,
+    above: Command<'a>,
+    commands: &[CommandName],
+    ends: ValueParser<'a>,
+) -> Result<Command<'a>, AllocError>
+    ensures { IfOk result (λ command. app_of command
+        ≡ with_commands ends.entry (app_of above.entry) (map row_of commands.now)) }
+{
+    let mut command = above;
+    for name in commands {
+        let subcommand = command_of(alloc, *name, ends)?;
+        command = command.subcommand(subcommand)?;
+    }
+    Ok(command)
+}
+
+/// What `clap` is told of a command.
+fn command_of<'a>(
+    alloc: Global,
+    name: CommandName,
+    ends: ValueParser<'a>,
+) -> Result<Command<'a>, AllocError>
+    ensures shape { IfOk result (λ command. shape_of command ≡ command_shape ends.entry (row_of name)) }
+    ensures local { IfOk result (λ command. (fields_of command).has_globals ≡ false) }
+{
+    let help = help_of(name);
+    let bare = Command::new(alloc, name_of(name))
+        .about(help.about)
+        .long_about(help.long_about)
+        .after_help(help.after_help);
+    let command = with_arguments(alloc, bare, arguments_of(name), ends)?;
+    Ok(command)
+}
+
+/// A command with these arguments besides.
+fn with_arguments<'a>(
+    alloc: Global,
+    bare: Command<'a>,
+    arguments: &[Argument],
+    ends: ValueParser<'a>,
+) -> Result<Command<'a>, AllocError>
+    requires { (fields_of bare).has_globals ≡ false }
+    ensures app { IfOk result (λ command. app_of command
+        ≡ with_arguments ends.entry (app_of bare.entry) (map argument_row arguments.now)) }
+    ensures local { IfOk result (λ command. (fields_of command).has_globals ≡ false) }
+{
+    let mut command = bare;
+    for argument in arguments {
+        command = command.arg(arg_of(alloc, argument, ends))?;
+    }
+    Ok(command)
+}
+
+/// What stands at the end of the help.
+const AFTER_HELP: &str =
+    "Each command but `cases`, `test` and `serve` reads its standard input. `wst COMMAND --help` says
+what it reads and writes, with an example. In scripts HEX is bytes as lower-case pairs of
+hexadecimal digits, or `-` for none.
+
+Exit status: 0 done, 1 the input is damaged or refused or a verdict is FAIL, 2 wrong words, limits
+or lists, 3 the input, the output, the network, the budget or memory failed.
+
+Example:
+  printf '\\201\\005Hello' | wst show
+prints the one frame that it reads:
+  0 text fin=1 rsv=0 key=- len=5 short 48656c6c6f";
