@@ -1,5 +1,6 @@
 -- Words that are a line: given letter by letter, or hexadecimal digits.
-use Rattle.std.proofs.Common.{◌≡◌, ◌≢◌, ◌∙◌, ℕ, zero, suc, ◌/◌, ◌%◌, ◌<◌, Bool, true, false, ◌&&◌, if◌then◌else◌, ◌==◌, List, [], ◌∷◌, ◌++◌, ap, sym, refl, subst, arith}
+use Rattle.std.proofs.Common.{◌≡◌, ◌≢◌, ◌∙◌, ℕ, zero, suc, ◌/◌, ◌%◌, ◌<◌, Bool, true, false, ◌&&◌, if◌then◌else◌, ◌==◌}
+use Rattle.std.proofs.Common.{List, [], ◌∷◌, ◌++◌, ap, sym, refl, subst, arith}
 use Rattle.std.proofs.lemmas.Bool.Decides.{nat_tests}
 use Rattle.std.proofs.lemmas.Fmt.{hex_one_digit}
 use Rattle.std.specs.Fmt.{digits, digit_glyph}
@@ -55,13 +56,15 @@ hex_no_feed [] are = tt
 hex_no_feed (b ∷ bytes) are =
     let small : b < 256 = are 0 in
     no_feeds_joined (digits 16 false (b / 16) ++ digits 16 false (b % 16)) (hex bytes)
-    (no_feeds_joined (digits 16 false (b / 16)) (digits 16 false (b % 16)) (digit_no_feed (b / 16) (omega arith)) (digit_no_feed (b % 16) (omega arith)))
+    (no_feeds_joined (digits 16 false (b / 16)) (digits 16 false (b % 16)) (digit_no_feed (b / 16) (omega arith))
+    (digit_no_feed (b % 16) (omega arith)))
     (hex_no_feed bytes (λ i. are (suc i)))
 
 pub line_by : (bytes : List ℕ) → list_all is_no_feed bytes ≡ true → IsLine bytes
 line_by bytes h = line_of bytes (no_feeds_by bytes h)
 
 -- a line of letters, and after them hexadecimal digits
-pub hex_line_by : (letters bytes : List ℕ) → list_all is_no_feed letters ≡ true → AreBytes bytes → IsLine (letters ++ hex bytes)
+pub hex_line_by : (letters bytes : List ℕ) → list_all is_no_feed letters ≡ true → AreBytes bytes
+    → IsLine (letters ++ hex bytes)
 hex_line_by letters bytes h are =
     line_of (letters ++ hex bytes) (no_feeds_joined letters (hex bytes) (no_feeds_by letters h) (hex_no_feed bytes are))

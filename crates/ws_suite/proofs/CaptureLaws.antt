@@ -1,5 +1,6 @@
 -- What writing gives is a capture, and where format 1 gives back what was written.
-use Rattle.std.proofs.Common.{◌≡◌, ◌≢◌, ◌∙◌, ℕ, ◌<◌, Bool, true, ◌&&◌, if◌then◌else◌, List, [], ◌∷◌, ◌++◌, length, flat_map, ap, ap₂, sym, refl, subst, arith}
+use Rattle.std.proofs.Common.{◌≡◌, ◌≢◌, ◌∙◌, ℕ, ◌<◌, Bool, true, ◌&&◌, if◌then◌else◌, List, [], ◌∷◌, ◌++◌, length}
+use Rattle.std.proofs.Common.{flat_map, ap, ap₂, sym, refl, subst, arith}
 use Rattle.std.proofs.lemmas.List.{length-append}
 use Rattle.std.specs.List.{AllByRecursion}
 use Rattle.ws_base.specs.Words.{AreBytes}
@@ -10,30 +11,35 @@ use Rattle.ws_suite.specs.declared.transcript.Transcript.{Transcript}
 use Rattle.ws_suite.specs.declared.capture.line.Line.{Line}
 use Rattle.ws_suite.specs.declared.capture.line.Line.TheVariants.{Sent, Got}
 use Rattle.ws_suite.specs.CaptureLines.{HasLineBytes}
-use Rattle.ws_suite.specs.Captures.{AreOfBytes, AreParted, IsCaptureOf, as_read, end_as_read, line_if_any, lines_of_turn, run_into, run_together, written_capture}
+use Rattle.ws_suite.specs.Captures.{AreOfBytes, AreParted, IsCaptureOf, as_read, end_as_read, line_if_any}
+use Rattle.ws_suite.specs.Captures.{lines_of_turn, run_into, run_together, written_capture}
 use Rattle.ws_suite.specs.Captures2.{AreAnsweredTurns}
 use Rattle.ws_suite.specs.Scripts.{has_any}
 use Rattle.ws_suite.proofs.CaptureTurns.{turns_run_together}
 
 -- ---- what writing gives
 
-turn_has_bytes : (sent got : List ℕ) (rest : List (Line (List ℕ))) → AreBytes sent → AreBytes got → AllByRecursion HasLineBytes rest
+turn_has_bytes : (sent got : List ℕ) (rest : List (Line (List ℕ))) → AreBytes sent → AreBytes got
+    → AllByRecursion HasLineBytes rest
     → AllByRecursion HasLineBytes ((line_if_any Sent sent ++ line_if_any Got got) ++ rest)
 turn_has_bytes [] [] rest h i all = all
 turn_has_bytes [] (y ∷ got) rest h i all = ((omega arith, i), all)
 turn_has_bytes (x ∷ sent) [] rest h i all = ((omega arith, h), all)
 turn_has_bytes (x ∷ sent) (y ∷ got) rest h i all = ((omega arith, h), ((omega arith, i), all))
 
-lines_have_bytes : (turns : List Turn) → AllByRecursion AreOfBytes turns → AllByRecursion HasLineBytes (flat_map lines_of_turn turns)
+lines_have_bytes : (turns : List Turn) → AllByRecursion AreOfBytes turns
+    → AllByRecursion HasLineBytes (flat_map lines_of_turn turns)
 lines_have_bytes [] h = tt
-lines_have_bytes (turn ∷ turns) h = turn_has_bytes turn.sent turn.got (flat_map lines_of_turn turns) h.0.0 h.0.1 (lines_have_bytes turns h.1)
+lines_have_bytes (turn ∷ turns) h = turn_has_bytes turn.sent turn.got (flat_map lines_of_turn turns) h.0.0 h.0.1
+    (lines_have_bytes turns h.1)
 
 never_broken : (end : Ended) → end_as_read end ≢ Broken
 never_broken Tester e = absurd cc
 never_broken Peer e = absurd cc
 never_broken Broken e = absurd cc
 
-pub written_is_capture : (transcript : Transcript) → AllByRecursion AreOfBytes transcript.turns → IsCaptureOf (as_read transcript) (written_capture transcript)
+pub written_is_capture : (transcript : Transcript) → AllByRecursion AreOfBytes transcript.turns
+    → IsCaptureOf (as_read transcript) (written_capture transcript)
 written_is_capture transcript h = record {
   lines = flat_map lines_of_turn transcript.turns;
   have_bytes = lines_have_bytes transcript.turns h;
@@ -48,9 +54,11 @@ has_any_there : (l : List ℕ) → 0 < length l → has_any l ≡ true
 has_any_there [] some = absurd (omega arith)
 has_any_there (b ∷ l) some = refl
 
-both_there : (turn next : Turn) (turns : List Turn) → 0 < length turn.got → 0 < length next.sent → run_into turn (next ∷ turns) ≡ turn ∷ next ∷ turns
+both_there : (turn next : Turn) (turns : List Turn) → 0 < length turn.got → 0 < length next.sent
+    → run_into turn (next ∷ turns) ≡ turn ∷ next ∷ turns
 both_there turn next turns some there =
-    ap₂ (λ (a b : Bool). if a && b then turn ∷ next ∷ turns else record { sent = turn.sent ++ next.sent; got = turn.got ++ next.got } ∷ turns)
+    ap₂ (λ (a b : Bool). if a && b then turn ∷ next ∷ turns else record { sent = turn.sent
+        ++ next.sent; got = turn.got ++ next.got } ∷ turns)
     (has_any_there turn.got some) (has_any_there next.sent there)
 
 parted_stay : (turns : List Turn) → AreParted turns → run_together turns ≡ turns
@@ -64,9 +72,11 @@ same_as_read Tester not = refl
 same_as_read Peer not = refl
 same_as_read Broken not = absurd (not refl)
 
-pub parted_is_same : (transcript : Transcript) → AreParted transcript.turns → transcript.ended ≢ Broken → as_read transcript ≡ transcript
+pub parted_is_same : (transcript : Transcript) → AreParted transcript.turns → transcript.ended ≢ Broken
+    → as_read transcript ≡ transcript
 parted_is_same transcript h not =
-    ap₂ (λ (t : List Turn) (e : Ended). record { turns = t; ended = e }) (parted_stay transcript.turns h) (same_as_read transcript.ended not)
+    ap₂ (λ (t : List Turn) (e : Ended). record { turns = t; ended = e }) (parted_stay transcript.turns h)
+        (same_as_read transcript.ended not)
 
 -- ---- what format 1 gives back
 
@@ -79,6 +89,10 @@ answered_are_parted [] h = tt
 answered_are_parted (turn ∷ []) h = omega (arith, h, length-append turn.sent turn.got)
 answered_are_parted (turn ∷ next ∷ turns) h = (h.1, first_sent next turns h.2, answered_are_parted (next ∷ turns) h.2)
 
-pub given_back : (transcript : Transcript) → AllByRecursion AreOfBytes transcript.turns → AreAnsweredTurns transcript.turns → transcript.ended ≢ Broken → IsCaptureOf transcript (written_capture transcript)
+pub given_back : (transcript : Transcript) → AllByRecursion AreOfBytes transcript.turns
+    → AreAnsweredTurns transcript.turns → transcript.ended ≢ Broken
+    → IsCaptureOf transcript (written_capture transcript)
 given_back transcript are answered not =
-    subst (λ (t : Transcript). IsCaptureOf t (written_capture transcript)) (parted_is_same transcript (answered_are_parted transcript.turns answered) not) (written_is_capture transcript are)
+    subst (λ (t : Transcript). IsCaptureOf t (written_capture transcript))
+        (parted_is_same transcript (answered_are_parted transcript.turns answered) not)
+            (written_is_capture transcript are)

@@ -1,5 +1,6 @@
 -- The words of a capture's line are a line of text, and tell that line alone.
-use Rattle.std.proofs.Common.{◌≡◌, ◌∙◌, ℕ, ◌<◌, ◌≤◌, ◌/◌, List, [], ◌∷◌, ◌++◌, length, map, Option, Some, None, ap, ap₂, sym, refl, arith, codes, slice_index}
+use Rattle.std.proofs.Common.{◌≡◌, ◌∙◌, ℕ, ◌<◌, ◌≤◌, ◌/◌, List, [], ◌∷◌, ◌++◌, length, map, Option, Some, None, ap, ap₂}
+use Rattle.std.proofs.Common.{sym, refl, arith, codes, slice_index}
 use Rattle.std.proofs.lemmas.List.{append_cancel_left}
 use Rattle.std.specs.List.{AllByRecursion}
 use Rattle.std.specs.Prelude.{IfSome}
@@ -32,7 +33,8 @@ words_are_line (End Tester) h = line_by (codes "end tester") refl
 words_are_line (End Peer) h = line_by (codes "end peer") refl
 words_are_line (End Broken) h = line_by (codes "end broken") refl
 
-pub words_are_lines : (lines : List (CaptureLine (List ℕ))) → AllByRecursion HasWords lines → AllByRecursion IsLine (map line_words lines)
+pub words_are_lines : (lines : List (CaptureLine (List ℕ))) → AllByRecursion HasWords lines
+    → AllByRecursion IsLine (map line_words lines)
 words_are_lines [] h = tt
 words_are_lines (line ∷ lines) h = (words_are_line line h.0, words_are_lines lines h.1)
 
@@ -52,12 +54,15 @@ no_dash key four e =
     let less : length key ≤ length (hex key) = no_shorter key (hex key) (four.1, some_hex key some) in
     omega (arith, less, four.0, ap (λ (l : List ℕ). length l) e)
 
-same_key : (a b : Option (List ℕ)) → IfSome a AreFourBytes → IfSome b AreFourBytes → line_words (Key a) ≡ line_words (Key b) → a ≡ b
+same_key : (a b : Option (List ℕ)) → IfSome a AreFourBytes → IfSome b AreFourBytes
+    → line_words (Key a) ≡ line_words (Key b) → a ≡ b
 same_key None None h i e = refl
 same_key None (Some y) h i e = absurd (no_dash y i (append_cancel_left (codes "key ") (codes "-") (hex y) e))
 same_key (Some x) None h i e = absurd (no_dash x h (append_cancel_left (codes "key ") (codes "-") (hex x) (sym e)))
 same_key (Some x) (Some y) h i e =
-    ap Some (same_bytes x y (omega (arith, h.0), h.1) (omega (arith, i.0), i.1) (append_cancel_left (codes "key ") (hex x) (hex y) e))
+    ap Some
+        (same_bytes x y (omega (arith, h.0), h.1) (omega (arith, i.0), i.1)
+            (append_cancel_left (codes "key ") (hex x) (hex y) e))
 
 -- a number by which the words of lines differ: a third of their first letter
 kind : CaptureLine (List ℕ) → ℕ
@@ -115,14 +120,16 @@ same_line (Data a) (Data b) h i e = ap Data (same_data a b h i e)
 same_line (End a) (End b) h i e = ap End (same_end a b e)
 same_line a b h i e = let wrong : kind a ≡ kind b = same_kind a b e in absurd (omega arith)
 
-pub same_lines_told : (xs ys : List (CaptureLine (List ℕ))) → AllByRecursion HasWords xs → AllByRecursion HasWords ys → map line_words xs ≡ map line_words ys → xs ≡ ys
+pub same_lines_told : (xs ys : List (CaptureLine (List ℕ))) → AllByRecursion HasWords xs → AllByRecursion HasWords ys
+    → map line_words xs ≡ map line_words ys → xs ≡ ys
 same_lines_told [] [] h i e = refl
 same_lines_told [] (y ∷ ys) h i e = absurd cc
 same_lines_told (x ∷ xs) [] h i e = absurd cc
 same_lines_told (x ∷ xs) (y ∷ ys) h i e =
     let head : line_words x ≡ line_words y = cc in
     let tail : map line_words xs ≡ map line_words ys = cc in
-    ap₂ (λ (z : CaptureLine (List ℕ)) (zs : List (CaptureLine (List ℕ))). z ∷ zs) (same_line x y h.0 i.0 head) (same_lines_told xs ys h.1 i.1 tail)
+    ap₂ (λ (z : CaptureLine (List ℕ)) (zs : List (CaptureLine (List ℕ))). z ∷ zs) (same_line x y h.0 i.0 head)
+        (same_lines_told xs ys h.1 i.1 tail)
 
 -- ---- the bytes of a line
 
@@ -157,6 +164,7 @@ plain_has Begin h = tt
 plain_has (Data line) h = absurd h
 plain_has (End end) h = tt
 
-pub data_line_is : (line : Line (List ℕ)) (words : List ℕ) → HasLineBytes line × (words ≡ mark_of line ∷ 32 ∷ hex (bytes_of line)) → IsLineOf (Data line) words
+pub data_line_is : (line : Line (List ℕ)) (words : List ℕ)
+    → HasLineBytes line × (words ≡ mark_of line ∷ 32 ∷ hex (bytes_of line)) → IsLineOf (Data line) words
 data_line_is (Sent bytes) words h = h
 data_line_is (Got bytes) words h = h

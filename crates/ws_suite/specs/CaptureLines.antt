@@ -1,5 +1,5 @@
 -- The lines of captures: what each tells, and the words that tell it.
-use Rattle.std.specs.Prelude.{◌≡◌, ◌<◌, ⊤, ℕ, List, ◌++◌, length, codes, Option, Some, None, IfSome}
+use Rattle.std.specs.Prelude.{◌≡◌, ◌<◌, ⊤, ℕ, List, ◌++◌, length, codes, Some, None, IfSome}
 use Rattle.ws_base.specs.Words.{AreBytes, AreFourBytes, hex}
 use Rattle.ws_suite.specs.declared.transcript.Ended.TheVariants.{Tester, Peer, Broken}
 use Rattle.ws_suite.specs.declared.capture.line.Format.TheVariants.{One, Two}

@@ -11,7 +11,8 @@ returns-in_default g c =
     let i = c.loop-rest.invariant in
     let part = c.loop-rest.part in
     let some : 0 < length c.loop-rest.rest.now = search rules in
-    damaged_part (g.P.PartialText.tells c.args.start) (g.P.PartialText.tells part) i.0 c.loop-rest.rest.now c.args.text.now c.loop-rest.number
+    damaged_part (g.P.PartialText.tells c.args.start)
+    (g.P.PartialText.tells part) i.0 c.loop-rest.rest.now c.args.text.now c.loop-rest.number
     i.1 i.2 i.3 i.5 (g.met.P.PartialText.goes_on part)
     (λ v line left after told e is. no_feed_in_line line after (subst IsLine e c.in_default.ensures))
     (λ v told e. omega (arith, some, ap (λ (l : List ℕ). length l) e))
@@ -21,11 +22,14 @@ returns-in-Err-Damaged g c =
     let i = c.loop-rest.invariant in
     let part = c.loop-rest.part in
     let some : 0 < length c.loop-rest.rest.now = search rules in
-    damaged_part (g.P.PartialText.tells c.args.start) (g.P.PartialText.tells part) i.0 c.loop-rest.rest.now c.args.text.now c.loop-rest.number
+    damaged_part (g.P.PartialText.tells c.args.start)
+    (g.P.PartialText.tells part) i.0 c.loop-rest.rest.now c.args.text.now c.loop-rest.number
     i.1 i.2 i.3 i.5 (g.met.P.PartialText.goes_on part)
     (λ v line left after told e is.
-    let same = one_line line c.in-Some.line.now after c.in-Some.after.now is c.in-Some.ensures.1 (sym e ∙ c.in-Some.ensures.0) in
-    c.in-Err-Damaged.ensures c.in-Err-Damaged.field-0-is v left (subst (λ (l : List ℕ). g.P.PartialText.tells part v (l ∷ left)) same.0 told))
+    let same = one_line line c.in-Some.line.now after c.in-Some.after.now is c.in-Some.ensures.1
+    (sym e ∙ c.in-Some.ensures.0) in
+    c.in-Err-Damaged.ensures c.in-Err-Damaged.field-0-is v left
+    (subst (λ (l : List ℕ). g.P.PartialText.tells part v (l ∷ left)) same.0 told))
     (λ v told e. omega (arith, some, ap (λ (l : List ℕ). length l) e))
 
 pub returns-in-None : goal.returns-in-None
@@ -33,9 +37,11 @@ returns-in-None g c =
     let i = c.loop-rest.invariant in
     let part = c.loop-rest.part in
     let none : length c.loop-rest.rest.now ≡ 0 = search rules in
-    damaged_part (g.P.PartialText.tells c.args.start) (g.P.PartialText.tells part) i.0 c.loop-rest.rest.now c.args.text.now c.loop-rest.number
+    damaged_part (g.P.PartialText.tells c.args.start)
+    (g.P.PartialText.tells part) i.0 c.loop-rest.rest.now c.args.text.now c.loop-rest.number
     i.1 i.2 i.3 i.5 (g.met.P.PartialText.goes_on part)
-    (λ v line left after told e is. omega (arith, none, ap (λ (l : List ℕ). length l) e, length-append line (10 ∷ after)))
+    (λ v line left after told e is. omega
+    (arith, none, ap (λ (l : List ℕ). length l) e, length-append line (10 ∷ after)))
     (λ v told e. c.in-None.ensures v told)
 
 pub loop-rest-preserved : goal.loop-rest-preserved
@@ -48,5 +54,6 @@ loop-rest-preserved g c =
       text_added c.args.text.now c.loop-rest.rest.now line after i.0 i.2 c.in-Some.ensures.0,
       omega (arith, i.3, length-append i.0 (line ∷ [])),
       omega (arith, i.4, ap (λ (l : List ℕ). length l) c.in-Some.ensures.0, length-append line (10 ∷ after)),
-      one_more (g.P.PartialText.tells c.args.start) (g.P.PartialText.tells c.loop-rest.part) (g.P.PartialText.tells c.in-Ok.longer) i.0 line i.5 c.in-Ok.ensures,
+      one_more (g.P.PartialText.tells c.args.start) (g.P.PartialText.tells c.loop-rest.part)
+          (g.P.PartialText.tells c.in-Ok.longer) i.0 line i.5 c.in-Ok.ensures,
     )

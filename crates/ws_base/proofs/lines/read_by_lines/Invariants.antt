@@ -7,7 +7,9 @@ use Rattle.ws_base.proofs.lines.read_by_lines.Given as goal
 abbrev pub invariant-loop-rest : goal.invariant-loop-rest
 invariant-loop-rest g l = (lines : List (List ℕ)) × AllByRecursion IsLine lines × (l.fn.text ≡ ended lines ++ l.rest)
     × (l.number ≡ length lines + 1) × (l.number + length l.rest ≤ length l.fn.text + 1)
-    × ((value : _) (more : List (List ℕ)) → (g.P.PartialText.tells l.fn.start value (lines ++ more) → (other : _) × g.P.PartialText.tells l.part other more)
+    × ((value : _) (more : List (List ℕ))
+    → (g.P.PartialText.tells l.fn.start value (lines ++ more)
+    → (other : _) × g.P.PartialText.tells l.part other more)
     × (g.P.PartialText.tells l.part value more → g.P.PartialText.tells l.fn.start value (lines ++ more)))
 
 abbrev pub decreases-loop-rest : goal.decreases-loop-rest

@@ -13,4 +13,5 @@ pub returns-clause-alone : goal.returns-clause-alone
 returns-clause-alone c = λ transcript other are answered not is.
     let text = written_capture transcript in
     ap (λ (capture : Capture). capture.transcript)
-    (one_told false text (without_key other) (without_key transcript) (of_format_1 false other text is) (of_format_1 false transcript text (given_back transcript are answered not)))
+    (one_told false text (without_key other) (without_key transcript) (of_format_1 false other text is)
+        (of_format_1 false transcript text (given_back transcript are answered not)))

@@ -7,4 +7,5 @@ use Rattle.ws_suite.proofs.laws.one_capture.Goals as goal
 pub returns : goal.returns
 returns c = λ text one other p q.
     ap (λ (capture : Capture). capture.transcript)
-    (one_told false text (without_key one) (without_key other) (of_format_1 false one text p) (of_format_1 false other text q))
+    (one_told false text (without_key one) (without_key other) (of_format_1 false one text p)
+        (of_format_1 false other text q))

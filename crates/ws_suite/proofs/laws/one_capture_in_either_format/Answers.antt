@@ -5,7 +5,8 @@ use Rattle.ws_suite.proofs.CaptureTells.{of_either, one_told}
 use Rattle.ws_suite.proofs.laws.one_capture_in_either_format.Goals as goal
 
 pub returns-clause-one : goal.returns-clause-one
-returns-clause-one c = λ text one other p q. one_told true text one other (of_either one text p) (of_either other text q)
+returns-clause-one c = λ text one other p q. one_told true text one other (of_either one text p)
+    (of_either other text q)
 
 pub returns-clause-written : goal.returns-clause-written
 returns-clause-written c = λ capture holds. (capture2_lines capture, (holds, refl), refl)

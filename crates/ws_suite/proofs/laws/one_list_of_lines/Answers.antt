@@ -13,4 +13,5 @@ returns-clause-one c = λ capture lines others own other. own.1 ∙ sym other.1
 
 pub returns-clause-of_one : goal.returns-clause-of_one
 returns-clause-of_one c = λ one other lines p q.
-    one_told true (ended lines) one other (of_format_2 one (ended lines) (lines, p, refl)) (of_format_2 other (ended lines) (lines, q, refl))
+    one_told true (ended lines) one other (of_format_2 one (ended lines) (lines, p, refl))
+        (of_format_2 other (ended lines) (lines, q, refl))

@@ -7,5 +7,6 @@ use Rattle.ws_suite.proofs.capture.writing.write_capture2.Goals as goal
 
 pub returns : goal.returns
 returns c =
-    let printed : c.into_bytes.result.items ≡ capture_text Two c.args.capture.now.key c.args.capture.now.transcript = search rules in
+    let printed : c.into_bytes.result.items
+        ≡ capture_text Two c.args.capture.now.key c.args.capture.now.transcript = search rules in
     printed ∙ written_2 c.args.capture.now

@@ -6,4 +6,6 @@ use Rattle.ws_suite.proofs.capture.writing.CaptureTextDisplay.fmt.Given as goal
 
 -- the lines of the turns so far are written
 abbrev pub invariant-loop-turn : goal.invariant-loop-turn
-invariant-loop-turn g l = IsPlainFormatter l.initial.f → HasWritten g.W.Write.write_str_gives l.initial.f (flat_map (turn_text l.self.format) (take l.turn-index l.turn-items)) l.f
+invariant-loop-turn g l = IsPlainFormatter l.initial.f
+    → HasWritten g.W.Write.write_str_gives l.initial.f
+    (flat_map (turn_text l.self.format) (take l.turn-index l.turn-items)) l.f
