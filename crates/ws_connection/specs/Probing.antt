@@ -5,6 +5,7 @@ use Rattle.std.specs.List.{concat}
 use Rattle.std.specs.Io.KnownBytes.{IsAtEnd}
 use Rattle.ws_frame.specs.Devices.{Device, HasBegun, HasRead, HasWritten, IsUntouched}
 use Rattle.ws_upgrade.specs.Accept.{key_of}
+use Rattle.ws_upgrade.specs.Reading.{max_head}
 use Rattle.ws_upgrade.specs.Texts.{request_text}
 use Rattle.ws_suite.specs.declared.script.Case.{Case}
 use Rattle.ws_suite.specs.declared.transcript.Ended.{Ended}
@@ -97,7 +98,7 @@ request_to host offers = request_text host (codes "/") (key_of probe_nonce) offe
 -- bytes that need more
 pub record ReadsResponse (offers : List (List ℕ)) (head : List ℕ) (decision : ResponseDecision) : Type 0 where
   pub decides : DecidesResponse probe_nonce offers head decision
-  pub bound : length head ≤ 8192
+  pub bound : length head ≤ max_head
   pub no_further : ReadsNoFurther (NeedsResponse probe_nonce offers) head
 
 -- the reader was at its end inside the head of the answer, or a read failed there

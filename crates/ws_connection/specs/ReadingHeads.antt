@@ -3,6 +3,7 @@
 use Rattle.std.specs.Prelude.{◌≡◌, ℕ, ◌≤◌, ◌⊎◌, true, false, List, [], ◌++◌, length, Result, MatchResult}
 use Rattle.std.specs.Io.KnownBytes.{IsAtEnd}
 use Rattle.ws_frame.specs.Devices.{Device, HasRead, IsUntouched}
+use Rattle.ws_upgrade.specs.Reading.{max_head}
 use Rattle.ws_connection.specs.declared.reading_head.HeadEnd.{HeadEnd}
 use Rattle.ws_connection.specs.declared.reading_head.HeadEnd.TheVariants.{Decided, Cut, ReadFault}
 
@@ -23,7 +24,7 @@ pub record ReadsNoFurther (needs : List ℕ → Type 0) (read : List ℕ) : Type
 -- the head was read so: these bytes, at most 8192, and no further than it takes
 abbrev pub ReadsHead : {D : Type 0} → (List ℕ → Type 0) → (List ℕ → D → Type 0) → HeadEnd D → List ℕ → Device → Type 0
 ReadsHead needs decides end read input =
-    HasRead read input × (length read ≤ 8192) × ReadsNoFurther needs read × IsHeadEnd needs decides end read input
+    HasRead read input × (length read ≤ max_head) × ReadsNoFurther needs read × IsHeadEnd needs decides end read input
 
 -- one read, for the contracts of private functions: a piece was put behind what was there, and an empty one only at the
 -- reader's end; or the read failed

@@ -7,6 +7,7 @@ use Rattle.ws_session.specs.Limits.{LimitsValue}
 use Rattle.ws_session.specs.Words.{status_words}
 use Rattle.ws_session.specs.declared.status.Status.{Status}
 use Rattle.ws_upgrade.specs.Protocols.{name_chosen}
+use Rattle.ws_upgrade.specs.Reading.{max_head}
 use Rattle.ws_upgrade.specs.Texts.{refusal_bytes, response_text}
 use Rattle.ws_upgrade.specs.Words.{head_fault_name}
 use Rattle.ws_upgrade.specs.declared.faults.HeadFault.{HeadFault}
@@ -31,7 +32,7 @@ connection limits budget first =
 -- most 1024 behind bytes that need more
 pub record ReadsRequest (known : List (List ℕ)) (head : List ℕ) (decision : RequestDecision) : Type 0 where
   pub decides : DecidesRequest known head decision
-  pub bound : length head ≤ 8192
+  pub bound : length head ≤ max_head
   pub no_further : ReadsNoFurther (NeedsRequest known) head
 
 -- the response with this accept value that names what was chosen among these

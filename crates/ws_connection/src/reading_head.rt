@@ -3,6 +3,7 @@
 ghost use Rattle.std.specs.Prelude.{◌≡◌, ◌≤◌, ◌<◌, ◌||◌, [], length, false, is_err, IfNone, MatchOption};
 ghost use Rattle.ws_frame.specs.Devices.{watched};
 ghost use Rattle.ws_frame.specs.Watching.{has_failed};
+ghost use Rattle.ws_upgrade.specs.Reading.{max_head};
 ghost use Rattle.ws_connection.specs.ReadingHeads.{ReadsHead, ReadsMore};
 
 use std::io;
@@ -23,12 +24,13 @@ pub struct HeadRoom {
 
 impl Model for HeadRoom {
     ghost use Rattle.std.specs.Prelude.{List, ℕ, take, ◌≤◌};
+    ghost use Rattle.ws_upgrade.specs.Reading.{max_head};
 
     ghost Value = { List ℕ };
 
     ghost view = { λ room. take room.len room.bytes };
 
-    ghost invariant = { λ room. room.len ≤ 8192 };
+    ghost invariant = { λ room. room.len ≤ max_head };
 }
 
 impl HeadRoom {
@@ -45,16 +47,16 @@ impl HeadRoom {
     /// The bytes that were read.
     pub fn as_slice(&self) -> &[u8]
         ensures bytes { result.now ≡ self.now }
-        ensures bound { length result.now ≤ 8192 }
+        ensures bound { length result.now ≤ max_head }
     {
         &self.bytes[..self.len]
     }
 
     /// Reads once, at most 1024 bytes, and keeps them after the others. Answers how many they are.
     fn read_more<R: Read>(&mut self, reader: &mut Watched<R>) -> io::Result<usize>
-        requires { length self.old < 8192 }
+        requires { length self.old < max_head }
         ensures bytes { ReadsMore self.old self.new result (watched R.remaining reader.old reader.new) }
-        ensures bound { length self.new ≤ 8192 }
+        ensures bound { length self.new ≤ max_head }
         ensures failed { has_failed reader.new ≡ (has_failed reader.old || is_err result) }
     {
         let end = self.len + READ_SIZE.min(MAX_HEAD - self.len);
@@ -80,7 +82,7 @@ pub trait HeadDecider {
     /// What these bytes decide. `None` where more are needed, and they are less than the most that are read.
     fn decide(&self, bytes: &[u8]) -> Option<Self::Decision>
         ensures decided { MatchOption result (needs self.now bytes.now) (decides self.now bytes.now) }
-        ensures room { IfNone result (length bytes.now < 8192) };
+        ensures room { IfNone result (length bytes.now < max_head) };
 }
 
 /// How the reading of a head ended.
