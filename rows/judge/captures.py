@@ -38,17 +38,24 @@ class Damaged(ValueError):
 def kinds_of(lines):
     """The kind of each line but the last, which is what stands behind the last LF: nothing."""
     last, kinds, following = None, [], {None: ["first"]}
-    for number, line in enumerate(lines, 1):
-        is_over = number == len(lines)
-        if is_over and line == b"" and not following[last]:
-            break
-        last = next((kind for kind in following[last] if LINES[kind].fullmatch(line)), None)
-        if last is None or is_over:
+    for number, line in enumerate(lines[:-1], 1):
+        last = kind_of(line, following[last])
+        if last is None:
             raise Damaged(number)
         if last == "first":
             following = FOLLOWING[line[-1:]]
         kinds.append(last)
+    if lines[-1] or following[last]:
+        raise Damaged(len(lines))
     return kinds
+
+
+def kind_of(line, kinds):
+    """The one of these kinds that the line is of, if any."""
+    for kind in kinds:
+        if LINES[kind].fullmatch(line):
+            return kind
+    return None
 
 
 def read_capture(text):
