@@ -1,5 +1,5 @@
 //! Trials of the crates below with what no row of data can reach: devices that fail at any call, and that record what
-//! they are asked; a socket. There is nothing here but tests.
+//! they are asked; a network in memory; a socket. There is nothing here but tests.
 #![tactic(auto)]
 
 #[cfg(test)]
@@ -18,6 +18,8 @@ mod inputs;
 mod judging;
 #[cfg(test)]
 mod masks;
+#[cfg(test)]
+mod memory_net;
 #[cfg(test)]
 mod probe_faults;
 #[cfg(test)]

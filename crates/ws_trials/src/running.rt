@@ -4,18 +4,18 @@ ghost use Rattle.std.specs.Prelude.{◌≡◌, false};
 ghost use Rattle.ws_frame.specs.Watching.{has_failed};
 
 use crate::comparing::{same_bytes, same_number};
+use crate::memory_net::{Book, MemoryNet};
 use std::alloc::Global;
-use std::io::{Read, Write};
+use std::io;
+use std::io::{ErrorKind, Read, Write};
+use std::net::Net;
 use std::process::Abort;
 use std::test::Fail;
 use ws_frame::Watched;
 use ws_frame::devices::{ByteReader, ByteWriter, Counting, Failing, FullWriter};
-use wst_commands::{Ran, run};
+use wst_commands::run;
 
-/// The status of a command that was handed back, as none of those here is.
-const HANDED_BACK: u8 = 255;
-
-/// Runs a command of these words, and answers the exit status.
+/// Runs a command of these words, without a network, and answers the exit status.
 pub fn run_words<R: Read, W: Write, F: Write>(
     alloc: Global,
     words: &str,
@@ -27,10 +27,66 @@ pub fn run_words<R: Read, W: Write, F: Write>(
     requires writer_works { has_failed writer.old ≡ false }
 {
     let words = command_line(alloc, words)?;
-    match run(alloc, words.as_slice(), reader, writer, faults) {
-        Ran::Ended(exit) => Ok(exit.status()),
-        Ran::Serve(_) | Ran::Test(..) => Ok(HANDED_BACK),
+    let mut book = Book::new(alloc, b"");
+    book.listens = false;
+    book.refused.0 = Failing::From(1);
+    let net = MemoryNet { book: &book };
+    Ok(run(alloc, words.as_slice(), &net, reader, writer, faults).status())
+}
+
+/// Takes a byte a write, and fails in writes and flushes that are counted from 1.
+#[derive(Drop)]
+struct FlushedWriter {
+    inner: ByteWriter,
+    failing: Failing,
+    flushes: u64,
+}
+
+impl Write for FlushedWriter {
+    fn write(&mut self, buf: &[u8]) -> io::Result<usize> {
+        self.inner.write(buf)
     }
+
+    fn flush(&mut self) -> io::Result<()> {
+        self.flushes = self.flushes.saturating_add(1);
+        if self.failing.fails_at(self.flushes) {
+            return Err(io::Error::from(ErrorKind::Other));
+        }
+        self.inner.flush()
+    }
+}
+
+/// Runs a command of these words over a network, without an input. These writes and flushes of its output fail.
+pub fn run_over<N: Net>(
+    alloc: Global,
+    words: &str,
+    net: &N,
+    writes: Failing,
+    flushes: Failing,
+) -> Result<After, Fail> {
+    let words = command_line(alloc, words)?;
+    let mut reader = Watched::new(b"".as_slice());
+    let mut writer = Watched::new(FlushedWriter {
+        inner: ByteWriter::new(alloc, writes),
+        failing: flushes,
+        flushes: 0,
+    });
+    let mut faults = Watched::new(Vec::new(alloc));
+    let exit = run(
+        alloc,
+        words.as_slice(),
+        net,
+        &mut reader,
+        &mut writer,
+        &mut faults,
+    );
+    let device = writer.into_inner();
+    Ok(After {
+        status: exit.status(),
+        calls: device.inner.calls,
+        written: device.inner.taken,
+        faults: faults.into_inner(),
+    })
 }
 
 /// The name of the program and these words, which are parted by spaces.

@@ -67,7 +67,7 @@ fn failed_write_is_remembered(rt: HostRuntime) {
     same_lengths(&rt, 4, writer.into_inner().lengths.as_slice(), &[5, 2]);
 }
 
-/// A write that takes nothing is a failure, one of no bytes and a flush are none.
+/// A write that takes nothing is a failure, one of no bytes and a flush that works are none.
 #[test]
 fn write_that_takes_nothing(rt: HostRuntime) {
     let mut writer = Watched::new(Counting::new(rt.alloc(), FullWriter::new(rt.alloc(), 0)));

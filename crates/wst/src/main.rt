@@ -1,17 +1,12 @@
-//! `wst`, the frame-level WebSocket tester: the words of the command line, watched devices, sockets and the exit
-//! status.
+//! `wst`, the frame-level WebSocket tester: the words of the command line, watched devices, the system's network and
+//! the exit status.
 #![tactic(auto)]
 
-mod address;
-mod sockets;
-
-use address::test_at;
-use sockets::serve;
 use std::io::ErrorKind;
 use std::process::ExitCode;
 use std::{env, io};
 use ws_frame::Watched;
-use wst_commands::{Ran, run, words_are_no_text};
+use wst_commands::{run, words_are_no_text};
 
 fn main(rt: HostRuntime) -> ExitCode {
     let mut input = Watched::new(rt.stdin());
@@ -19,22 +14,14 @@ fn main(rt: HostRuntime) -> ExitCode {
     let mut faults = Watched::new(rt.stderr());
     let alloc = rt.alloc();
     let exit = match arguments(&rt) {
-        Ok(words) => {
-            let ran = run(
-                alloc,
-                words.as_slice(),
-                &mut input,
-                &mut output,
-                &mut faults,
-            );
-            match ran {
-                Ran::Ended(exit) => exit,
-                Ran::Serve(plan) => serve(alloc, &rt, &plan, &mut output, &mut faults),
-                Ran::Test(host, plan) => {
-                    test_at(alloc, &rt, host, &plan, &mut output, &mut faults)
-                }
-            }
-        }
+        Ok(words) => run(
+            alloc,
+            words.as_slice(),
+            &rt,
+            &mut input,
+            &mut output,
+            &mut faults,
+        ),
         Err(error) => {
             let no_memory = error.kind() == ErrorKind::OutOfMemory;
             words_are_no_text(alloc, no_memory, &mut faults)

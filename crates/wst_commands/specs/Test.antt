@@ -1,5 +1,5 @@
--- A run of `test`: the cases that the words ask for are run over servers in memory, or handed back for a server at an
--- address; or it is told why nothing is run.
+-- A run of `test`: the cases that the words ask for are run over servers in memory, or over the one at an address; or
+-- it is told why nothing is run.
 use Rattle.std.specs.Prelude.{◌≡◌, ◌≢◌, ◌⊎◌, ℕ, ◌<◌, Bool, true, false, List, [], ◌∷◌, ◌++◌, Result, codes}
 use Rattle.std.specs.Prelude.{length, map, slice_index_or, string_bytes, take}
 use Rattle.std.specs.List.{All, concat}
@@ -15,7 +15,7 @@ use Rattle.wst_filters.specs.Cases.{IsNoList}
 use Rattle.wst_filters.specs.Devices.{Tells}
 use Rattle.wst_filters.specs.Faults.{Ends, LacksMemory, TellsFault}
 use Rattle.ws_connection.specs.Protocols.{protocols_given}
-use Rattle.wst_commands.specs.Servers.{MeetsInMemory}
+use Rattle.wst_commands.specs.Servers.{MeetsTarget}
 use Rattle.wst_commands.specs.Testing.{CapturesCase, TestsCases}
 use Rattle.wst_commands.specs.declared.case_server.MemoryServer.TheVariants.{Own, Tung}
 use Rattle.wst_filters.specs.declared.exit.Exit.{Exit}
@@ -23,8 +23,6 @@ use Rattle.wst_filters.specs.declared.exit.Exit.TheVariants.{WrongWords}
 use Rattle.wst_filters.specs.declared.fault.Fault.{Fault}
 use Rattle.wst_filters.specs.declared.fault.Fault.TheVariants.{NoMemory}
 use Rattle.ws_connection.specs.declared.probe_end.Probe.{Probe}
-use Rattle.wst_commands.specs.declared.running.Ran.{Ran}
-use Rattle.wst_commands.specs.declared.running.Ran.TheVariants as ran
 use Rattle.wst_commands.specs.declared.test.Target.{Target}
 use Rattle.wst_commands.specs.declared.test.Target.TheVariants.{Address, Memory}
 use Rattle.wst_commands.specs.declared.test.TestPlan.{TestPlan}
@@ -140,25 +138,13 @@ abbrev pub RunsPlan : (Case → Probe → Type 0) → TestPlan → Exit → Devi
 RunsPlan Meets plan exit output faults =
     (ended : Result Exit Fault) × CarriesOut Meets plan ended output × Ends ended exit faults
 
--- a plan for a server in memory is carried out
-abbrev pub RunsInMemory : Target → TestPlan → Exit → Device → Device → Type 0
-RunsInMemory (Memory server) plan exit output faults = RunsPlan (MeetsInMemory server plan.key) plan exit output faults
-RunsInMemory (Address host) plan exit output faults = ⊥
-
--- Nothing is run, written or told: this plan for the server at an address is handed back. Its cases can be run, and the
--- address can be the host of a request.
-abbrev pub HandsBack : TestPlan → Bor (List ℕ) → Device → Device → Type 0
-HandsBack plan host output faults = (plan.target ≡ Address host) × CanBeTested plan × IsHost host.now
-    × IsUntouched output × (output.failed ≡ false) × IsUntouched faults
-
--- A run of `test`: what the words ask for is run, and how that ended is told; or nothing is run, and it is told why; or
--- it is handed back.
-abbrev pub RunsTest : TestOptions → Ran → Device → Device → Type 0
-RunsTest options (ran.Ended exit) output faults =
-    ((plan : TestPlan) × IsPlan options plan × RunsInMemory plan.target plan exit output faults)
+-- A run of `test`: what the words ask for is run, over the server that they name, and how that ended is told; or
+-- nothing is run, and it is told why.
+abbrev pub RunsTest : TestOptions → Exit → Device → Device → Type 0
+RunsTest options exit output faults =
+    ((plan : TestPlan) × IsPlan options plan
+    × RunsPlan (MeetsTarget plan.target plan.protocols plan.key) plan exit output faults)
     ⊎ ((reason : TestRefusal) × RefusesTest options reason × IsUntouched output × TellsRefusal reason exit faults)
-RunsTest options (ran.Test host plan) output faults = IsPlan options plan × HandsBack plan host output faults
-RunsTest options (ran.Serve plan) output faults = ⊥
 
 -- ---- what a plan owes its run: a reader may skip what follows
 

@@ -1,4 +1,4 @@
-//! Runs what the words ask for, over watched devices.
+//! Runs what the words ask for, over watched devices and a network.
 
 ghost use Rattle.std.specs.Prelude.{◌≡◌, ◌≤◌, false, if◌then◌else◌, map, codes, string_bytes};
 ghost use Rattle.clap.specs.Words.{kind_of};
@@ -8,17 +8,17 @@ ghost use Rattle.wst_words.specs.Arguments.{Places};
 ghost use Rattle.wst_words.specs.Words.{wst_app};
 ghost use Rattle.wst_filters.specs.Devices.{Tells};
 ghost use Rattle.wst_filters.specs.Exits.{exit_status};
-ghost use Rattle.wst_commands.specs.Run.{AnswersWords, CanBeServed, CanBeTestedAt, EndsRun, HasStatusUpTo};
-ghost use Rattle.wst_commands.specs.Run.{Runs, RunsTask, TellsOf};
+ghost use Rattle.wst_commands.specs.Run.{AnswersWords, Runs, RunsTask, TellsOf};
 ghost use Rattle.wst_commands.specs.Serve.{RunsServe};
 ghost use Rattle.wst_commands.specs.Test.{RunsTest};
 
-use crate::serve::{ServePlan, plan_serve};
-use crate::test::{Target, TestPlan, plan_test, run_plan, tell_refusal};
+use crate::serve::{plan_serve, run_serve};
+use crate::test::{plan_test, run_over_target, tell_refusal};
 use clap::Error;
 use clap::error::ErrorKind;
 use std::alloc::Global;
 use std::io::{Read, Write};
+use std::net::Net;
 use ws_frame::Watched;
 use wst_filters::{
     Exit, Fault, end_run, run_cases, run_convert, run_head, run_judge, run_moves, run_session,
@@ -26,57 +26,42 @@ use wst_filters::{
 };
 use wst_words::{ServeOptions, Task, TestOptions, WordsFault, read_words};
 
-/// What came of a run. What asks for sockets, which stand above, is handed back: then nothing was read, written or
-/// told.
-#[derive(Drop)]
-pub enum Ran<'a> {
-    /// It has ended.
-    Ended(Exit),
-    /// Connections are to be served.
-    Serve(ServePlan<'a>),
-    /// Cases are to be run over the server at this address, which can be the host of a request.
-    Test(&'a str, TestPlan<'a>),
-}
-
 /// Runs what the words ask for, the program's name first, and answers how that ended: status 0 done, 1 a
-/// damaged or refused input or a rule that was broken, 2 wrong words, 3 where input, output, the budget or
+/// damaged or refused input or a rule that was broken, 2 wrong words, 3 where input, output, the network, the budget or
 /// memory failed. Help and the version go to the writer with status 0. What is wrong with the words goes to
-/// `faults`, and then nothing is read or written. Want of memory is told there as `no memory`. What is
-/// to be served, and what is to be run over a server at an address, is handed back, where nothing is wrong with it.
+/// `faults`, and then nothing is read or written. Want of memory is told there as `no memory`.
 #[tactic(auto, using(crate::proofs::RunLemmas::status_up_to_3))]
-pub fn run<'a, R: Read, W: Write, F: Write>(
+pub fn run<N: Net, R: Read, W: Write, F: Write>(
     alloc: Global,
-    words: &'a [String],
+    words: &[String],
+    net: &N,
     reader: &mut Watched<R>,
     writer: &mut Watched<W>,
     faults: &mut Watched<F>,
-) -> Ran<'a>
+) -> Exit
     requires reader_works { has_failed reader.old ≡ false }
     requires writer_works { has_failed writer.old ≡ false }
-    ensures status { HasStatusUpTo 3 result }
+    ensures status { exit_status result ≤ 3 }
     ensures runs { (places : Places) × Runs (wst_app places) (map string_bytes words.now) result
         (watched R.remaining reader.old reader.new)
         (watched W.contents writer.old writer.new)
         (watched F.contents faults.old faults.new) }
-
-    // What is handed back can be done.
-    ensures serve { CanBeServed result (watched W.contents writer.old writer.new) }
-    ensures test { CanBeTestedAt result (watched W.contents writer.old writer.new) }
 {
     match read_words(alloc, words) {
-        Ok(task) => run_task(alloc, task, reader, writer, faults),
-        Err(fault) => Ran::Ended(answer_words(alloc, &fault, writer, faults)),
+        Ok(task) => run_task(alloc, task, net, reader, writer, faults),
+        Err(fault) => answer_words(alloc, &fault, writer, faults),
     }
 }
 
-/// Does what was asked for, and tells what is to be told; or hands back what asks for sockets.
-fn run_task<'a, R: Read, W: Write, F: Write>(
+/// Does what was asked for, and tells what is to be told.
+fn run_task<N: Net, R: Read, W: Write, F: Write>(
     alloc: Global,
-    task: Task<'a>,
+    task: Task<'_>,
+    net: &N,
     reader: &mut Watched<R>,
     writer: &mut Watched<W>,
     faults: &mut Watched<F>,
-) -> Ran<'a>
+) -> Exit
     requires reader_works { has_failed reader.old ≡ false }
     requires writer_works { has_failed writer.old ≡ false }
     ensures { RunsTask task.entry result (watched R.remaining reader.old reader.new)
@@ -84,65 +69,54 @@ fn run_task<'a, R: Read, W: Write, F: Write>(
         (watched F.contents faults.old faults.new) }
 {
     match task {
-        Task::Show(options) => end_with(alloc, run_show(options, reader, writer), faults),
-        Task::Pair(options) => end_with(alloc, run_moves(alloc, options, reader, writer), faults),
-        Task::Head(options) => end_with(alloc, run_head(alloc, options, reader, writer), faults),
+        Task::Show(options) => end_run(alloc, run_show(options, reader, writer), faults),
+        Task::Pair(options) => end_run(alloc, run_moves(alloc, options, reader, writer), faults),
+        Task::Head(options) => end_run(alloc, run_head(alloc, options, reader, writer), faults),
         Task::Session(options) => {
-            end_with(alloc, run_session(alloc, options, reader, writer), faults)
+            end_run(alloc, run_session(alloc, options, reader, writer), faults)
         }
-        Task::Judge => end_with(alloc, run_judge(alloc, reader, writer), faults),
-        Task::Convert => end_with(alloc, run_convert(alloc, reader, writer), faults),
-        Task::Cases => end_with(alloc, run_cases(alloc, writer), faults),
-        Task::Test(options) => run_test(alloc, &options, writer, faults),
-        Task::Serve(options) => run_serve(alloc, options, faults),
+        Task::Judge => end_run(alloc, run_judge(alloc, reader, writer), faults),
+        Task::Convert => end_run(alloc, run_convert(alloc, reader, writer), faults),
+        Task::Cases => end_run(alloc, run_cases(alloc, writer), faults),
+        Task::Test(options) => run_test(alloc, &options, net, writer, faults),
+        Task::Serve(options) => serve_as_asked(alloc, &options, net, writer, faults),
     }
 }
 
-/// A run that has ended so, which is told.
-fn end_with<'a, F: Write>(
+/// Serves what the words ask for, or tells why there is nothing to serve.
+fn serve_as_asked<N: Net, W: Write, F: Write>(
     alloc: Global,
-    ended: Result<Exit, Fault>,
-    faults: &mut Watched<F>,
-) -> Ran<'a>
-    ensures { EndsRun ended result (watched F.contents faults.old faults.new) }
-{
-    Ran::Ended(end_run(alloc, ended, faults))
-}
-
-/// Hands back what is to be served, or tells why there is nothing to serve.
-fn run_serve<'a, F: Write>(
-    alloc: Global,
-    options: ServeOptions<'a>,
-    faults: &mut Watched<F>,
-) -> Ran<'a>
-    ensures { RunsServe options.entry result (watched F.contents faults.old faults.new) }
-{
-    match plan_serve(alloc, &options) {
-        Ok(plan) => Ran::Serve(plan),
-        Err(fault) => Ran::Ended(tell_fault(alloc, fault, faults)),
-    }
-}
-
-/// Runs the cases that the words ask for over servers in memory, hands back what is to be run over one at an address,
-/// or tells on the fault output why nothing is run.
-fn run_test<'a, W: Write, F: Write>(
-    alloc: Global,
-    options: &TestOptions<'a>,
+    options: &ServeOptions<'_>,
+    net: &N,
     writer: &mut Watched<W>,
     faults: &mut Watched<F>,
-) -> Ran<'a>
+) -> Exit
+    requires { has_failed writer.old ≡ false }
+    ensures { RunsServe options.now result (watched W.contents writer.old writer.new)
+        (watched F.contents faults.old faults.new) }
+{
+    match plan_serve(alloc, options) {
+        Ok(plan) => run_serve(alloc, &plan, net, writer, faults),
+        Err(fault) => tell_fault(alloc, fault, faults),
+    }
+}
+
+/// Runs the cases that the words ask for over the server that they name, or tells on the fault output why nothing is
+/// run.
+fn run_test<N: Net, W: Write, F: Write>(
+    alloc: Global,
+    options: &TestOptions<'_>,
+    net: &N,
+    writer: &mut Watched<W>,
+    faults: &mut Watched<F>,
+) -> Exit
     requires { has_failed writer.old ≡ false }
     ensures { RunsTest options.now result (watched W.contents writer.old writer.new)
         (watched F.contents faults.old faults.new) }
 {
     match plan_test(alloc, options) {
-        Ok(plan) => match plan.target {
-            Target::Memory(server) => {
-                Ran::Ended(run_plan(alloc, &server, &plan, writer, faults))
-            }
-            Target::Address(host) => Ran::Test(host, plan),
-        },
-        Err(refusal) => Ran::Ended(tell_refusal(alloc, refusal, faults)),
+        Ok(plan) => run_over_target(alloc, &plan, net, writer, faults),
+        Err(refusal) => tell_refusal(alloc, refusal, faults),
     }
 }
 

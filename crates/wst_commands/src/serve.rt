@@ -1,21 +1,21 @@
-//! What the command `serve` needs beside its sockets: the server that is asked for, and the lines that are told
-//! (docs/FORMATS.md).
+//! The command `serve`: what is asked for, and its run.
 
 ghost use Rattle.std.specs.Prelude.{◌≡◌, MatchResult, false};
 ghost use Rattle.ws_frame.specs.Devices.{watched};
 ghost use Rattle.ws_frame.specs.Watching.{has_failed};
-ghost use Rattle.wst_commands.specs.Serve.{CanNotServe, DeliversLine, IsServePlan, TellsLineOf};
-ghost use Rattle.wst_commands.specs.Serve.{connection_line, listening_line};
+ghost use Rattle.wst_commands.specs.Serve.{CanNotServe, IsServePlan, RunsServer, ServesAt};
 
+use crate::serving_clients::{serve_clients, tell_listening};
 use std::alloc::Global;
 use std::io::Write;
-use ws_connection::{Protocols, Served, protocols_of};
-use ws_frame::{Watched, write_whole};
+use std::net::{Net, TcpListener};
+use ws_connection::{Protocols, protocols_of};
+use ws_frame::Watched;
 use ws_session::Limits;
-use wst_filters::{Exit, Fault, limits_given, tell_fault};
+use wst_filters::{Exit, Fault, end_run, limits_given};
 use wst_words::ServeOptions;
 
-/// Connections that are to be served over sockets.
+/// Connections that are to be served over a network.
 #[derive(Drop)]
 pub struct ServePlan<'a> {
     /// The address at which to listen, as it was given.
@@ -50,53 +50,40 @@ pub fn plan_serve<'a>(alloc: Global, options: &ServeOptions<'a>) -> Result<Serve
     })
 }
 
-/// Tells in a line, which is flushed, that connections to this address are taken. `Done` where that was written; else
-/// the exit is that of a failure. Want of memory is told to `faults`.
-pub fn tell_listening<W: Write, F: Write>(
+/// Listens at the address, which is told in a line, and serves so many connections, one after the other, each of which
+/// is told in a line. The exit is that of a failure where the address can't be listened at, no connection can be taken
+/// any more, or a line could not be written or flushed. Want of memory for a line is told to `faults`.
+pub fn run_serve<N: Net, W: Write, F: Write>(
     alloc: Global,
-    address: &str,
+    plan: &ServePlan<'_>,
+    net: &N,
     writer: &mut Watched<W>,
     faults: &mut Watched<F>,
 ) -> Exit
     requires writer_works { has_failed writer.old ≡ false }
-    ensures told { TellsLineOf (listening_line address.now) result
-        (watched W.contents writer.old writer.new) (watched F.contents faults.old faults.new) }
+    ensures serves { RunsServer plan.now result (watched W.contents writer.old writer.new)
+        (watched F.contents faults.old faults.new) }
 {
-    match format!(in alloc; "listening on {address}\n") {
-        Ok(line) => deliver_line(line.as_bytes(), writer),
-        Err(_) => tell_fault(alloc, Fault::NoMemory, faults),
-    }
+    let ended = serve_at(alloc, plan, net, writer);
+    end_run(alloc, ended, faults)
 }
 
-/// Tells in a line, which is flushed, how the connection of this number ended. `Done` where that was written; else the
-/// exit is that of a failure. Want of memory is told to `faults`.
-pub fn tell_served<W: Write, F: Write>(
+/// Listens at the address, and serves so many connections.
+fn serve_at<N: Net, W: Write>(
     alloc: Global,
-    number: u32,
-    served: Served,
+    plan: &ServePlan<'_>,
+    net: &N,
     writer: &mut Watched<W>,
-    faults: &mut Watched<F>,
-) -> Exit
-    requires writer_works { has_failed writer.old ≡ false }
-    ensures told { TellsLineOf (connection_line number served) result
-        (watched W.contents writer.old writer.new) (watched F.contents faults.old faults.new) }
-{
-    match format!(in alloc; "{number} {served}\n") {
-        Ok(line) => deliver_line(line.as_bytes(), writer),
-        Err(_) => tell_fault(alloc, Fault::NoMemory, faults),
-    }
-}
-
-/// Writes a line and flushes it. `Done` where both succeed.
-fn deliver_line<W: Write>(line: &[u8], writer: &mut Watched<W>) -> Exit
+) -> Result<Exit, Fault>
     requires { has_failed writer.old ≡ false }
-    ensures { DeliversLine line.now result (watched W.contents writer.old writer.new) }
+    ensures { ServesAt plan.now result (watched W.contents writer.old writer.new) }
 {
-    match write_whole(writer, line) {
-        Ok(()) => match writer.flush() {
-            Ok(()) => Exit::Done,
-            Err(_) => Exit::Failed,
-        },
-        Err(_) => Exit::Failed,
+    let Ok(listener) = TcpListener::bind(net, plan.address) else {
+        return Ok(Exit::Failed);
+    };
+    let told = tell_listening(alloc, plan.address, writer)?;
+    if writer.failed() {
+        return Ok(told);
     }
+    serve_clients(alloc, &listener, plan, writer)
 }

@@ -1,20 +1,22 @@
-//! What the command `test` needs beside its servers: what is to be run, and its run over servers of any kind. Its lines
-//! are told in docs/FORMATS.md.
+//! The command `test`: what is to be run, and its run over servers of any kind. Its lines are told in docs/FORMATS.md.
 
 ghost use Rattle.std.specs.Prelude.{◌≡◌, ◌≢◌, ◌⊎◌, IfOk, MatchResult, codes, false};
 ghost use Rattle.ws_frame.specs.Devices.{watched};
 ghost use Rattle.ws_frame.specs.Watching.{has_failed};
 ghost use Rattle.wst_filters.specs.Devices.{Tells};
 ghost use Rattle.wst_filters.specs.Faults.{LacksMemory};
+ghost use Rattle.wst_commands.specs.Servers.{MeetsTarget};
 ghost use Rattle.wst_commands.specs.Test.{CanBeTested, CarriesOut, HasHost, IsPlan, IsTargetOf};
 ghost use Rattle.wst_commands.specs.Test.{RefusesTarget, RefusesTest, RunsPlan, TellsRefusal, no_case_line};
 ghost use Rattle.wst_filters.specs.declared.exit.Exit.TheVariants.{WrongWords};
 
+use crate::address_server::AddressServer;
 use crate::case_server::{CaseServer, MemoryServer};
 use crate::given_cases::cases_of;
 use crate::testing::{capture_case, test_cases};
 use std::alloc::Global;
 use std::io::Write;
+use std::net::Net;
 use ws_base::{NoMemory, read_key};
 use ws_connection::{Protocols, protocols_of};
 use ws_frame::Watched;
@@ -80,6 +82,29 @@ impl From<NoMemory> for TestRefusal<'_> {
 
     fn from(_refused: NoMemory) -> Self {
         TestRefusal::Fault(Fault::NoMemory)
+    }
+}
+
+/// Runs the cases of a plan over the server that it names, and tells how that ended.
+pub fn run_over_target<N: Net, W: Write, F: Write>(
+    alloc: Global,
+    plan: &TestPlan<'_>,
+    net: &N,
+    writer: &mut Watched<W>,
+    faults: &mut Watched<F>,
+) -> Exit
+    requires works { has_failed writer.old ≡ false }
+    requires plan { CanBeTested plan.now }
+    requires host { HasHost plan.now.target }
+    ensures { RunsPlan (MeetsTarget plan.now.target plan.now.protocols plan.now.key) plan.now result
+        (watched W.contents writer.old writer.new) (watched F.contents faults.old faults.new) }
+{
+    match plan.target {
+        Target::Memory(server) => run_plan(alloc, &server, plan, writer, faults),
+        Target::Address(host) => {
+            let server = AddressServer::new(net, host, plan.protocols.as_slice());
+            run_plan(alloc, &server, plan, writer, faults)
+        }
     }
 }
 

@@ -8,8 +8,8 @@ ghost use Rattle.ws_frame.specs.Watching.{has_failed, inner_of, write_fails};
 use std::io;
 use std::io::{Read, Write};
 
-/// Passes each call on to a reader or a writer, and remembers whether one failed: a read that
-/// answers an error, or a write of at least one byte that answers an error or takes none.
+/// Passes each call on to a reader or a writer, and remembers whether one failed: a read or a flush that answers an
+/// error, or a write of at least one byte that answers an error or takes none.
 #[derive(Drop)]
 pub struct Watched<T> {
     inner: T,
@@ -81,8 +81,10 @@ impl<W: Write> Write for Watched<W> {
 
     fn flush(&mut self) -> io::Result<()>
         ensures bytes { Keeps (W.contents (inner_of self.old)) (W.contents (inner_of self.new)) }
-        ensures failed { has_failed self.new ≡ has_failed self.old }
+        ensures failed { has_failed self.new ≡ (has_failed self.old || is_err result) }
     {
-        self.inner.flush()
+        let result = self.inner.flush();
+        self.failed = self.failed || result.is_err();
+        result
     }
 }
