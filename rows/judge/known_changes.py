@@ -1,5 +1,7 @@
 """Changes of the twin that are written by hand, and those that change no verdict, each with the reason."""
 
+from twin import FAILS, LOOSES
+
 HEADER_RULES = [
     "header.rsv > 0",
     "header.opcode not in (CONTINUATION, TEXT, BINARY, CLOSE, PING, PONG)",
@@ -11,9 +13,17 @@ HEADER_RULES = [
     "header.opcode in (TEXT, BINARY) and kind is not None",
 ]
 
+# What is told, and the rule of it, in their order.
+RULES = [(why, rule.__name__) for why, rule in FAILS + LOOSES]
+
 # The text that is replaced, which stands once in the twin, and what stands there instead, one at a time.
 BY_HAND = {
     **{f"{rule},": [f"role == {role} and {rule}," for role in ("SERVER", "CLIENT")] for rule in HEADER_RULES},
+    # a rule is not told where one behind it applies too
+    **{
+        f'("{why}", {rule})': [f'("{why}", lambda x: {rule}(x) and not {other}(x))' for _, other in RULES[at + 1 :]]
+        for at, (why, rule) in enumerate(RULES)
+    },
     "header.is_masked != (role == SERVER)": [
         "role == SERVER and not header.is_masked",
         "role == CLIENT and header.is_masked",
@@ -224,6 +234,12 @@ EQUAL = {
     "header_fault: 0 -> -1 (3)": "no length is below 0",
     "by hand: header.length >= 2**63, -> role == SERVER and header.length >= 2**63,": (
         "what was got with such a length is at fault too as larger than a message may be, and its code is not asked"
+    ),
+    'by hand: ("Close", has_other_close) -> ("Close", lambda x: has_other_close(x) and not has_other_code(x))': (
+        "Close is told where one of the two closes is missing, and OtherCode where both are there"
+    ),
+    'by hand: ("Close", has_other_close) -> ("Close", lambda x: has_other_close(x) and not echoes_short(x))': (
+        "Close is not told of a fault, and EchoShort of nothing else"
     ),
     "close_fault: 2 -> 1": "a payload of one byte is told before",
     "is_not_frames: close_of -> ending_of": GOT_FAULT,
