@@ -4,7 +4,7 @@ use Rattle.std.proofs.Common.{arith, append_assoc, slice_index}
 use Rattle.std.proofs.lemmas.List.{length-append}
 use Rattle.std.specs.List.{AllByRecursion}
 use Rattle.ws_base.specs.Lines.{Damages, IsDamagedAt, IsLine, ended}
-use Rattle.ws_base.specs.declared.lines.TextFault.TheVariants.{Damaged}
+use Rattle.ws_base.specs.declared.text_fault.TextFault.TheVariants.{Damaged}
 
 -- ---- lines
 

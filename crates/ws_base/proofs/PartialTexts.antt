@@ -1,13 +1,13 @@
 -- Texts whose lines tell one value together: they begin in one way, and the first line that begins none is the
 -- damaged one.
 use Rattle.std.specs.Prelude.{MatchResult, Result, Ok, Err}
-use Rattle.ws_base.specs.declared.lines.TextFault.{TextFault}
+use Rattle.ws_base.specs.declared.text_fault.TextFault.{TextFault}
 use Rattle.std.proofs.Common.{◌≡◌, ◌∙◌, ℕ, ◌+◌, List, [], ◌∷◌, ◌++◌, length, ap, ap₂, sym, refl, subst, arith}
 use Rattle.std.proofs.Common.{append_assoc, append-nil}
 use Rattle.std.proofs.lemmas.Grind.{flat_map-append}
 use Rattle.std.specs.List.{AllByRecursion}
 use Rattle.std.specs.List.{AllZip}
-use Rattle.ws_base.specs.declared.lines.TextFault.TheVariants.{Damaged}
+use Rattle.ws_base.specs.declared.text_fault.TextFault.TheVariants.{Damaged}
 use Rattle.ws_base.specs.Lines.{CanBeTold, Damages, HasLineForEach, IsDamagedAt, IsLine, IsTextOfLines, ended}
 use Rattle.ws_base.specs.Reading.{TellFurther}
 use Rattle.ws_base.proofs.DamagedLines.{ended_cons, names_line, no_line_empty, one_line, parted}

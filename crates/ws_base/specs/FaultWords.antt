@@ -1,10 +1,10 @@
 -- The words for what is wrong with a line, or with a text of lines.
 use Rattle.std.specs.Prelude.{ℕ, List, ◌++◌, codes}
 use Rattle.std.specs.Fmt.{decimal}
-use Rattle.ws_base.specs.declared.lines.LineFault.{LineFault}
-use Rattle.ws_base.specs.declared.lines.LineFault.TheVariants as line
-use Rattle.ws_base.specs.declared.lines.TextFault.{TextFault}
-use Rattle.ws_base.specs.declared.lines.TextFault.TheVariants as text
+use Rattle.ws_base.specs.declared.text_fault.LineFault.{LineFault}
+use Rattle.ws_base.specs.declared.text_fault.LineFault.TheVariants as line
+use Rattle.ws_base.specs.declared.text_fault.TextFault.{TextFault}
+use Rattle.ws_base.specs.declared.text_fault.TextFault.TheVariants as text
 
 abbrev pub line_fault_words : LineFault → List ℕ
 line_fault_words line.Damaged = codes "damaged"

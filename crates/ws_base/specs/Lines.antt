@@ -1,8 +1,8 @@
 -- Texts of lines, each of which ends with LF; and, for any format of such texts, where a text is damaged.
 use Rattle.std.specs.Prelude.{◌≡◌, ◌≢◌, ℕ, ◌<◌, All, List, [], ◌∷◌, ◌++◌, length}
 use Rattle.std.specs.List.{AllByRecursion, flat_map}
-use Rattle.ws_base.specs.declared.lines.TextFault.{TextFault}
-use Rattle.ws_base.specs.declared.lines.TextFault.TheVariants.{Damaged}
+use Rattle.ws_base.specs.declared.text_fault.TextFault.{TextFault}
+use Rattle.ws_base.specs.declared.text_fault.TextFault.TheVariants.{Damaged}
 
 abbrev pub line_feed : ℕ
 line_feed = 10

@@ -7,8 +7,8 @@ use Rattle.std.specs.Fmt.{digit_glyph}
 use Rattle.std.specs.Borrow.{Bor}
 use Rattle.ws_base.specs.Words.{AreBytes, hex}
 use Rattle.ws_base.specs.Lines.{line_feed, IsLine}
-use Rattle.ws_base.specs.declared.lines.LineFault.{LineFault}
-use Rattle.ws_base.specs.declared.lines.LineFault.TheVariants.{Damaged}
+use Rattle.ws_base.specs.declared.text_fault.LineFault.{LineFault}
+use Rattle.ws_base.specs.declared.text_fault.LineFault.TheVariants.{Damaged}
 
 -- a value of which this holds, or there is none
 abbrev pub Finds : {T : Type 0} → Option T → (T → Type 0) → Type 0

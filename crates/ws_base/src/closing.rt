@@ -5,8 +5,8 @@ ghost use Rattle.ws_base.specs.Words.{AreCloseWords, IsHexWord};
 ghost use Rattle.ws_base.specs.Reading.{Reads};
 
 use crate::hexadecimal::read_hex;
-use crate::lines::LineFault;
 use crate::numbers::read_u16;
+use crate::text_fault::LineFault;
 use std::alloc::Global;
 
 /// The code and the reason that two words tell: a number of at most 16 bits and the reason's bytes, which are UTF-8, in

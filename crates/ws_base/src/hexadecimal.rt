@@ -5,8 +5,8 @@ ghost use Rattle.std.specs.Fmt.{digit_glyph};
 ghost use Rattle.ws_base.specs.Words.{IsHexWord, IsKeyOrDash, IsKeyWord, hex, hex_word};
 ghost use Rattle.ws_base.specs.Reading.{ArePairs, Finds, IsPair, Reads};
 
-use crate::lines::LineFault;
 use crate::sequence::Payload;
+use crate::text_fault::LineFault;
 use std::alloc::Global;
 use std::fmt;
 

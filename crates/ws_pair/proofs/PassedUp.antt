@@ -1,8 +1,8 @@
 -- What is told where a part was not found.
 use Rattle.std.proofs.Common.{◌≡◌, Result, Ok, Err, IsErrAnd, sym, ◌∙◌}
 use Rattle.ws_base.specs.Reading.{Reads}
-use Rattle.ws_base.specs.declared.lines.LineFault.{LineFault}
-use Rattle.ws_base.specs.declared.lines.LineFault.TheVariants.{Damaged}
+use Rattle.ws_base.specs.declared.text_fault.LineFault.{LineFault}
+use Rattle.ws_base.specs.declared.text_fault.LineFault.TheVariants.{Damaged}
 
 -- where one part is spelled by no value, the whole is spelled by none
 pub passed_up : {T U : Type 0} (P : T → Type 0) (Q : U → Type 0) (r : Result U LineFault) (cause : LineFault)

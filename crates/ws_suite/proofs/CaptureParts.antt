@@ -3,8 +3,8 @@ use Rattle.std.proofs.Common.{◌≡◌, ◌∙◌, ℕ, List, [], ◌∷◌, ma
 use Rattle.std.proofs.Common.{sym, refl, subst}
 use Rattle.std.specs.List.{AllByRecursion}
 use Rattle.ws_base.specs.Reading.{TakesLine}
-use Rattle.ws_base.specs.declared.lines.LineFault.{LineFault}
-use Rattle.ws_base.specs.declared.lines.LineFault.TheVariants.{Damaged}
+use Rattle.ws_base.specs.declared.text_fault.LineFault.{LineFault}
+use Rattle.ws_base.specs.declared.text_fault.LineFault.TheVariants.{Damaged}
 use Rattle.ws_suite.specs.declared.capture.Capture.{Capture}
 use Rattle.ws_suite.specs.declared.capture.line.CaptureLine.{CaptureLine}
 use Rattle.ws_suite.specs.declared.capture.reading.PartialCapture.{PartialCapture}

@@ -5,8 +5,8 @@ use Rattle.std.specs.Prelude.{Bool, Option, Some, None, Result, Ok, Err, refl}
 use Rattle.std.specs.Borrow.{Bor}
 use Rattle.std.specs.List.{AllByRecursion}
 use Rattle.ws_base.specs.Lines.{CanBeTold}
-use Rattle.ws_base.specs.declared.lines.LineFault.{LineFault}
-use Rattle.ws_base.specs.declared.lines.LineFault.TheVariants.{Damaged}
+use Rattle.ws_base.specs.declared.text_fault.LineFault.{LineFault}
+use Rattle.ws_base.specs.declared.text_fault.LineFault.TheVariants.{Damaged}
 use Rattle.ws_base.proofs.LetterLines.{line_by}
 use Rattle.ws_suite.specs.declared.transcript.Turn.{Turn}
 use Rattle.ws_suite.specs.declared.transcript.Ended.{Ended}

@@ -1,8 +1,8 @@
 -- A run of `pair`: a script of moves is read whole and played at two joined sessions, and what came of it is reported.
 use Rattle.std.specs.Prelude.{◌≡◌, ◌⊎◌, ℕ, List, Result, Err, MatchResult}
 use Rattle.ws_base.specs.Lines.{Damages}
-use Rattle.ws_base.specs.declared.lines.TextFault.{TextFault}
-use Rattle.ws_base.specs.declared.lines.TextFault.TheVariants as text
+use Rattle.ws_base.specs.declared.text_fault.TextFault.{TextFault}
+use Rattle.ws_base.specs.declared.text_fault.TextFault.TheVariants as text
 use Rattle.ws_frame.specs.Devices.{Device, IsUntouched}
 use Rattle.ws_session.specs.Limits.{LimitsValue, AreLimits}
 use Rattle.ws_pair.specs.declared.moves.Move.{Move}

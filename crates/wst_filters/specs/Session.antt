@@ -1,8 +1,8 @@
 -- A run of `session`: a script of calls is read whole, its calls are made at one endpoint, and its answers are told.
 use Rattle.std.specs.Prelude.{◌≡◌, ◌⊎◌, ℕ, Bool, true, false, List, Result, Err, MatchBool, MatchResult}
 use Rattle.ws_base.specs.Lines.{Damages}
-use Rattle.ws_base.specs.declared.lines.TextFault.{TextFault}
-use Rattle.ws_base.specs.declared.lines.TextFault.TheVariants as text
+use Rattle.ws_base.specs.declared.text_fault.TextFault.{TextFault}
+use Rattle.ws_base.specs.declared.text_fault.TextFault.TheVariants as text
 use Rattle.ws_frame.specs.Devices.{Device, IsUntouched}
 use Rattle.ws_frame.specs.declared.role.Role.{Role}
 use Rattle.ws_session.specs.Limits.{LimitsValue, AreLimits}

@@ -1,7 +1,7 @@
 //! What only captures in format 1 have: turns that no line begins, and no end that says that the connection broke.
 
 ghost use Rattle.std.specs.Prelude.{◌≡◌, ◌++◌, IfErr, IfOk, None, Some};
-ghost use Rattle.ws_base.specs.declared.lines.LineFault.TheVariants.{NoMemory};
+ghost use Rattle.ws_base.specs.declared.text_fault.LineFault.TheVariants.{NoMemory};
 ghost use Rattle.ws_suite.specs.declared.capture.line.Format.TheVariants.{One};
 ghost use Rattle.ws_suite.specs.Captures.{end_as_read};
 ghost use Rattle.ws_suite.specs.InnerCapturing.{Adds, end_in, line_in_1};

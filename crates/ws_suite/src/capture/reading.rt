@@ -1,8 +1,8 @@
 //! Reading a capture, in format 1 or in either format.
 
 ghost use Rattle.std.specs.Prelude.{◌≡◌, ◌++◌, ◌∷◌, [], ℕ, IfErr, IfOk, MatchResult};
-ghost use Rattle.ws_base.specs.declared.lines.LineFault.TheVariants.{NoMemory};
-ghost use Rattle.ws_base.specs.declared.lines.TextFault.TheVariants as text_fault;
+ghost use Rattle.ws_base.specs.declared.text_fault.LineFault.TheVariants.{NoMemory};
+ghost use Rattle.ws_base.specs.declared.text_fault.TextFault.TheVariants as text_fault;
 ghost use Rattle.ws_suite.specs.Captures.{DamagesCapture, IsCaptureOf};
 ghost use Rattle.ws_suite.specs.Captures2.{IsAnyCaptureOf};
 ghost use Rattle.ws_suite.specs.InnerCapturing.{Adds, TellCapture, all_turns, begun_in, capture_goes_on};
