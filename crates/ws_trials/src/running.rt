@@ -29,7 +29,7 @@ pub fn run_words<R: Read, W: Write, F: Write>(
     let words = command_line(alloc, words)?;
     let mut book = Book::new(alloc, b"");
     book.listens = false;
-    book.refused.0 = Failing::From(1);
+    book.refused = (Failing::From(1), ErrorKind::ConnectionRefused);
     let net = MemoryNet { book: &book };
     Ok(run(alloc, words.as_slice(), &net, reader, writer, faults).status())
 }
@@ -80,11 +80,11 @@ pub fn run_over<N: Net>(
         &mut writer,
         &mut faults,
     );
-    let device = writer.into_inner();
+    let device = writer.into_inner().inner;
     Ok(After {
         status: exit.status(),
-        calls: device.inner.calls,
-        written: device.inner.taken,
+        calls: device.calls,
+        written: device.taken,
         faults: faults.into_inner(),
     })
 }
