@@ -5,7 +5,7 @@ import re
 DEFINED = re.compile(r"^(?:(?:abbrev|unfoldable) )*(?:pub )?(?:(?:record|data) )?(\w+)(?= |$)")
 PUBLIC = re.compile(r"^(?:(?:abbrev|unfoldable) )*pub (?:(?:record|data) )?(\w+)(?= |$)")
 USED = re.compile(r"^(?:pub )?use ([\w.]+)\.\{([^}]*)\}")
-OURS = ("Rattle.ws_", "Rattle.wst")
+OURS = ("Rattle.ws_", "Rattle.wst", "Rattle.test_")
 NO_NAMES = ("use", "pub", "mod", "unfolding", "record", "data", "abbrev", "unfoldable")
 WORD = re.compile(r"(?<![\w.])[A-Za-z_]\w*")
 

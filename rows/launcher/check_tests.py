@@ -4,7 +4,7 @@ from clone import PROGRAM, REFUSALS_PROGRAM, REFUSALS_SOURCE, ROWS_PROGRAM, ROWS
 
 CHECK = ("./check",)
 PLANTED = "#!/bin/sh\necho planted\n"
-PROGRAMS = (("wst", PROGRAM), ("ws_rows", ROWS_PROGRAM), ("ws_refusals", REFUSALS_PROGRAM))
+PROGRAMS = (("wst", PROGRAM), ("test_rows", ROWS_PROGRAM), ("test_refusals", REFUSALS_PROGRAM))
 
 
 def last_line(text):
@@ -40,7 +40,7 @@ def rows_of_no_programs_fail(clone):
     clone.add_check()
     rows_fail(clone, "wst")
     clone.run()
-    rows_fail(clone, "ws_rows")
+    rows_fail(clone, "test_rows")
 
 
 def rows_of_built_programs_pass(clone):
@@ -48,15 +48,15 @@ def rows_of_built_programs_pass(clone):
     assert clone.run("build", how=CHECK)[0] == 0
     rows_pass(clone)
     begun = sorted(note.split()[0] for note in clone.notes() if " begins " in note)
-    assert begun == ["ws_refusals", "ws_rows", "wst"], clone.notes()
+    assert begun == ["test_refusals", "test_rows", "wst"], clone.notes()
 
 
 def a_build_goes_on_from_what_checks_left(clone):
     clone.add_check()
-    (clone.top / "crates/ws_rows/out/incremental").mkdir(parents=True)
+    (clone.top / "crates/test_rows/out/incremental").mkdir(parents=True)
     assert clone.run("build", how=CHECK)[0] == 0
     rows_pass(clone)
-    built = [f"{clone.top}/crates/{name}: run" for name in ("wst", "ws_rows", "ws_refusals")]
+    built = [f"{clone.top}/crates/{name}: run" for name in ("wst", "test_rows", "test_refusals")]
     assert clone.notes() == [f"{built[0]} -- --help", *built[1:]], clone.notes()
 
 
@@ -71,7 +71,7 @@ def rows_of_older_sources_fail(clone):
 
 def rows_of_another_program_fail(clone):
     clone.add_check()
-    for name, program in (("wst", PROGRAM), ("ws_rows", ROWS_PROGRAM)):
+    for name, program in (("wst", PROGRAM), ("test_rows", ROWS_PROGRAM)):
         clone.run("build", how=CHECK)
         clone.program(program, PLANTED)
         rows_fail(clone, name)
@@ -83,7 +83,7 @@ def refusals_need_their_own_program(clone):
     clone.run("build", how=CHECK)
     assert clone.run("refusals", how=CHECK) == (0, "rows: 2 passed, 0 failed\n", "")
     clone.program(REFUSALS_PROGRAM, PLANTED)
-    refusals_fail(clone, "ws_refusals")
+    refusals_fail(clone, "test_refusals")
     rows_pass(clone)
 
 
@@ -116,7 +116,7 @@ def what_stood_before_is_removed(clone):
 
 def what_no_run_built_is_not_trusted(clone):
     clone.add_check()
-    for source, name in ((SOURCE, "wst"), (ROWS_SOURCE, "ws_rows"), (REFUSALS_SOURCE, "ws_refusals")):
+    for source, name in ((SOURCE, "wst"), (ROWS_SOURCE, "test_rows"), (REFUSALS_SOURCE, "test_refusals")):
         clone.write(source, "lazy\n")
         plant(clone)
         status, out, faults = clone.run(how=CHECK)

@@ -8,10 +8,10 @@ from pathlib import Path
 ROOT = Path(__file__).resolve().parent.parent.parent
 SOURCE = "crates/wst/src/main.rt"
 PROGRAM = "crates/wst/out/wst"
-ROWS_SOURCE = "crates/ws_rows/src/main.rt"
-ROWS_PROGRAM = "crates/ws_rows/out/ws_rows"
-REFUSALS_SOURCE = "crates/ws_refusals/src/main.rt"
-REFUSALS_PROGRAM = "crates/ws_refusals/out/ws_refusals"
+ROWS_SOURCE = "crates/test_rows/src/main.rt"
+ROWS_PROGRAM = "crates/test_rows/out/test_rows"
+REFUSALS_SOURCE = "crates/test_refusals/src/main.rt"
+REFUSALS_PROGRAM = "crates/test_refusals/out/test_refusals"
 
 # The stand-in for rt notes each call, takes a while, fails or builds nothing where a source says so, and changes a
 # source where it says so. `ci` notes the programs that it finds.
@@ -37,7 +37,7 @@ build() {
 case $1 in
 run) build "${PWD##*/}" ;;
 ci)
-    for name in wst ws_rows ws_refusals; do
+    for name in wst test_rows test_refusals; do
         cd "$(dirname "$0")/../a clone/crates/$name" || exit 1
         [ ! -e "out/$name" ] || echo "left from before: $name" >>"$BUILDS"
         build "$name"
@@ -104,7 +104,7 @@ class Clone:
         self.top.mkdir()
         shutil.copy(ROOT / "wst", self.top)
         shutil.copytree(ROOT / "tools", self.top / "tools")
-        self.write("crates.txt", "wst:\nws_rows:\nws_refusals:\n")
+        self.write("crates.txt", "wst:\ntest_rows:\ntest_refusals:\n")
         self.write("HANDLES", "Handles allowed: none.\n")
         self.write(SOURCE, "first\n")
         self.program("../bin/rt", STAND_IN)

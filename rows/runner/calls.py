@@ -1,4 +1,4 @@
-"""Rows of calls, answered by the program `ws_rows`: all those of a file in one run."""
+"""Rows of calls, answered by the program `test_rows`: all those of a file in one run."""
 
 import re
 import shlex
@@ -17,7 +17,7 @@ SECONDS = 120
 
 @dataclass
 class Call:
-    """A row: its lines for `ws_rows`, one for each cut, and the answer that each of them wants."""
+    """A row: its lines for `test_rows`, one for each cut, and the answer that each of them wants."""
 
     where: str
     name: str

@@ -1,5 +1,3 @@
-pub mod Words
-pub mod Lines
 pub mod FaultWords
-pub mod Examples
-pub mod Reading
+pub mod Bytes
+pub mod Finding

@@ -3,8 +3,8 @@
 use anyhow::{Context, Result};
 use std::alloc::{AllocError, Global};
 use std::io::Write;
-use ws_frame::Role;
 use ws_session::{Kind, Limits, Session};
+use ws_wire::Role;
 
 /// The key of the first frame.
 const FIRST_KEY: u32 = 0x37fa_213d;

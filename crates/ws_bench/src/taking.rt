@@ -6,8 +6,8 @@ use anyhow::{Context, Result, bail};
 use std::alloc::Global;
 use std::io::Read;
 use tungstenite::{NoMask, WebSocket};
-use ws_frame::{NO_KEY, Role};
 use ws_session::{Event, Limits, MAX_MESSAGE, Session, Status};
+use ws_wire::{NO_KEY, Role};
 
 /// Takes a stream of messages up to a close frame by a session.
 pub fn take<R: Read + Drop>(alloc: Global, mut pieces: Pieces<R>) -> Result<Counts> {

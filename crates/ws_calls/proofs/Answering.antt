@@ -3,7 +3,7 @@ use Rattle.std.proofs.Common.{◌≡◌, ◌∙◌, ℕ, ◌+◌, ◌≤◌, Boo
 use Rattle.std.proofs.lemmas.List.{length-append}
 use Rattle.std.proofs.lemmas.List.Sums.{sum_by-cons}
 use Rattle.std.specs.List.{AllByRecursion}
-use Rattle.ws_frame.specs.Frame.{Frame, stream_bytes}
+use Rattle.ws_wire.specs.Frame.{Frame, stream_bytes}
 use Rattle.ws_session.specs.declared.event.Event.{Event}
 use Rattle.ws_session.specs.declared.event.Event.TheVariants as event
 use Rattle.ws_session.specs.declared.event.PlacedEvent.{PlacedEvent}

@@ -2,9 +2,9 @@
 use Rattle.std.proofs.Common.{◌≡◌, ◌∙◌, ◌∷◌, ◌-◌, ℕ, List, [], ap, drop, length, map, refl, slice_index_or, subst, sym, take, arith}
 use Rattle.std.proofs.lemmas.List.{take_all}
 use Rattle.std.specs.Borrow.{Bor}
-use Rattle.ws_session.specs.declared.keyed_send.KeyedSend.{KeyedSend}
-use Rattle.ws_session.specs.declared.keyed_send.KeyedSend.TheVariants as send
-use Rattle.ws_session.specs.KeyedSends.{AreSendFields, AreSendWords, send_name_of, send_name_word}
+use Rattle.ws_sends.specs.declared.keyed_send.KeyedSend.{KeyedSend}
+use Rattle.ws_sends.specs.declared.keyed_send.KeyedSend.TheVariants as send
+use Rattle.ws_sends.specs.KeyedSends.{AreSendFields, AreSendWords, send_name_of, send_name_word}
 use Rattle.ws_calls.specs.declared.calls.Call.{Call}
 use Rattle.ws_calls.specs.declared.calls.Call.TheVariants.{Send, Take, End}
 use Rattle.ws_calls.specs.declared.calls.EchoCall.{EchoCall}

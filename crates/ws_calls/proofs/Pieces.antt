@@ -4,7 +4,7 @@ use Rattle.std.proofs.lemmas.List.{length-append}
 use Rattle.std.proofs.lemmas.List.Sums.{sum_by-cons}
 use Rattle.std.proofs.lemmas.List.Splits.{join_with_byte-slice_split}
 use Rattle.std.specs.List.{join_with_byte}
-use Rattle.ws_base.specs.Words.{IsHexWord, words_of}
+use Rattle.ws_formats.specs.Words.{IsHexWord, words_of}
 use Rattle.ws_calls.specs.declared.calls.Call.{Call}
 use Rattle.ws_calls.specs.declared.calls.Call.TheVariants.{Send, Take, End}
 use Rattle.ws_calls.specs.declared.calls.EchoCall.{EchoCall}

@@ -1,11 +1,11 @@
 -- What a send at a session answers.
 use Rattle.std.proofs.Common.{◌≡◌, ℕ, List, [], ◌∷◌, ap, sym, refl, subst, OnOk, OnErr, IfOk, IfErr, Result, Ok, Err}
-use Rattle.ws_frame.specs.Frame.{Frame}
+use Rattle.ws_wire.specs.Frame.{Frame}
 use Rattle.ws_session.specs.declared.event.Event.{Event}
 use Rattle.ws_session.specs.declared.send_fault.SendFault.{SendFault}
 use Rattle.ws_session.specs.declared.send_fault.SendFault.TheVariants as fault
-use Rattle.ws_session.specs.declared.keyed_send.KeyedSend.{KeyedSend}
-use Rattle.ws_session.specs.KeyedSends.{key_in, send_in}
+use Rattle.ws_sends.specs.declared.keyed_send.KeyedSend.{KeyedSend}
+use Rattle.ws_sends.specs.KeyedSends.{key_in, send_in}
 use Rattle.ws_session.specs.Exchange.{Exchange, SessionValue, HasExchanged}
 use Rattle.ws_session.specs.Sends.{Send, frame_of, HasSent, IsRefusedBy, IsFirstWrong}
 use Rattle.ws_calls.specs.declared.calls.Call.TheVariants as asked

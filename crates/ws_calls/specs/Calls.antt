@@ -4,9 +4,9 @@
 use Rattle.std.specs.Prelude.{◌≡◌, ℕ, ◌+◌, ◌≤◌, nat_le, if◌then◌else◌, true, false, MatchBool, List, [], ◌∷◌, ◌++◌}
 use Rattle.std.specs.Prelude.{length, take, map, sum_by, Some, None}
 use Rattle.std.specs.List.{AllByRecursion}
-use Rattle.ws_frame.specs.declared.role.Role.{Role}
-use Rattle.ws_frame.specs.Frame.{Frame, KeyedFrame, frame_bytes, stream_bytes}
-use Rattle.ws_frame.specs.Stream.{SplitsInto}
+use Rattle.ws_wire.specs.declared.role.Role.{Role}
+use Rattle.ws_wire.specs.Frame.{Frame, KeyedFrame, frame_bytes, stream_bytes}
+use Rattle.ws_wire.specs.Stream.{SplitsInto}
 use Rattle.ws_session.specs.declared.event.Event.{Event}
 use Rattle.ws_session.specs.declared.status.Status.{Status}
 use Rattle.ws_session.specs.Limits.{LimitsValue}
@@ -16,7 +16,7 @@ use Rattle.ws_session.specs.Events.{HasEvents}
 use Rattle.ws_session.specs.Replies.{reply_to, echo_reply_to, replies_by, under_key}
 use Rattle.ws_session.specs.Exchange.{Exchange, status_of, is_over}
 use Rattle.ws_session.specs.Sends.{Send, frame_of, MaySend, IsFirstWrong}
-use Rattle.ws_session.specs.KeyedSends.{key_in, send_in}
+use Rattle.ws_sends.specs.KeyedSends.{key_in, send_in}
 use Rattle.ws_calls.specs.declared.calls.Call.{Call}
 use Rattle.ws_calls.specs.declared.calls.Call.TheVariants as asked
 use Rattle.ws_calls.specs.declared.calls.EchoCall.{EchoCall}

@@ -1,9 +1,9 @@
 -- Scripts of calls of one endpoint, one call a line. The words of a line are parted by one space, and every line ends
 -- with LF.
 use Rattle.std.specs.Prelude.{◌≡◌, ℕ, List, [], ◌∷◌, codes}
-use Rattle.ws_base.specs.Words.{IsHexWord, IsKeyOrDash, words_of}
-use Rattle.ws_base.specs.Lines.{HasLineForEach}
-use Rattle.ws_session.specs.KeyedSends.{AreSendWords}
+use Rattle.ws_formats.specs.Words.{IsHexWord, IsKeyOrDash, words_of}
+use Rattle.ws_formats.specs.Lines.{HasLineForEach}
+use Rattle.ws_sends.specs.KeyedSends.{AreSendWords}
 use Rattle.ws_calls.specs.declared.calls.Call.{Call}
 use Rattle.ws_calls.specs.declared.calls.Call.TheVariants.{Send, Take, End}
 use Rattle.ws_calls.specs.declared.calls.EchoCall.{EchoCall}

@@ -1,7 +1,7 @@
 //! What is asked of one endpoint.
 
 use ws_base::Payload;
-use ws_session::KeyedSend;
+use ws_sends::KeyedSend;
 
 /// One call of an endpoint.
 #[derive(Drop)]

@@ -12,8 +12,8 @@ use crate::placing::placed_behind;
 use crate::report::{CallAnswer, CallsReport};
 use std::alloc::Global;
 use ws_base::{NoMemory, Payload, Sequence};
-use ws_frame::Role;
 use ws_session::{Echo, Limits};
+use ws_wire::Role;
 
 /// Plays the calls, one after the other, at a new echo, and answers what came of each, as `run_calls` does at a
 /// session. An echo also sends each message back in one frame, and tells nothing of the bytes that it keeps. `NoMemory`

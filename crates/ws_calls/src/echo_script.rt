@@ -1,18 +1,18 @@
 //! Scripts of calls of an echo, one call a line.
 
 ghost use Rattle.std.specs.Prelude.{◌≡◌, ◌≤◌, length, map, IfOk, MatchResult};
-ghost use Rattle.ws_base.specs.Lines.{Damages};
-ghost use Rattle.ws_base.specs.Reading.{Finds, Reads};
+ghost use Rattle.ws_formats.specs.Lines.{Damages};
+ghost use Rattle.ws_formats.specs.Reading.{Reads};
+ghost use Rattle.ws_base.specs.Finding.{Finds};
 ghost use Rattle.ws_calls.specs.Script.{AreEchoCallLines, AreEchoCallWords, IsEchoCallLine, IsEchoCallOf, as_call};
 ghost use Rattle.ws_calls.specs.Script.{echo_name_word};
 ghost use Rattle.ws_calls.specs.Calls.{count_taken};
 
 use crate::calls::EchoCall;
 use std::alloc::Global;
-use ws_base::laws::hexadecimal_is_no_shorter;
-use ws_base::{
-    Line, LineFault, Sequence, TextFault, read_hex, read_key_or_dash, read_lines, words_of,
-};
+use ws_base::{LineFault, Sequence, TextFault};
+use ws_formats::laws::hexadecimal_is_no_shorter;
+use ws_formats::{Line, read_hex, read_key_or_dash, read_lines, words_of};
 
 /// The calls of a script for an echo: each line is `take HEX KEY` or `end`.
 pub fn read_echo_calls(alloc: Global, text: &[u8]) -> Result<Sequence<EchoCall>, TextFault>

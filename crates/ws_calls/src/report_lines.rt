@@ -7,7 +7,8 @@ ghost use Rattle.ws_calls.specs.InnerPrinting.{printed_answer, printed_event, pr
 use crate::report::{CallAnswer, CallsReport, PlacedInStream};
 use std::alloc::Global;
 use std::fmt;
-use ws_base::{Hex, NoMemory};
+use ws_base::NoMemory;
+use ws_formats::Hex;
 use ws_session::Event;
 
 /// The lines of a report: those of each call, then the bytes kept, where that is told, and the status. Each ends with

@@ -12,8 +12,8 @@ use crate::placing::placed_behind;
 use crate::report::{CallAnswer, CallsReport};
 use std::alloc::Global;
 use ws_base::{NoMemory, Payload, Sequence};
-use ws_frame::Role;
 use ws_session::{Limits, Outgoing, SendFault, Session};
+use ws_wire::Role;
 
 /// Plays the calls, one after the other, at a new session, and answers what came of each. A piece is taken whole, and
 /// each of its events has its place in all bytes taken since the start (RFC 6455 sections 5 to 7). `NoMemory` where a

@@ -1,17 +1,18 @@
 //! Scripts of calls of one endpoint, one call a line.
 
 ghost use Rattle.std.specs.Prelude.{◌≡◌, ◌≤◌, length, map, IfOk, MatchResult};
-ghost use Rattle.ws_base.specs.Lines.{Damages};
-ghost use Rattle.ws_base.specs.Reading.{Reads};
+ghost use Rattle.ws_formats.specs.Lines.{Damages};
+ghost use Rattle.ws_formats.specs.Reading.{Reads};
 ghost use Rattle.ws_calls.specs.Script.{AreCallLines, AreCallWords, IsCallLine, as_call};
 ghost use Rattle.ws_calls.specs.Calls.{count_taken};
 
 use crate::calls::{Call, EchoCall};
 use crate::echo_script::{read_echo_fields, read_echo_name};
 use std::alloc::Global;
-use ws_base::laws::hexadecimal_is_no_shorter;
-use ws_base::{Line, LineFault, Sequence, TextFault, read_lines, words_of};
-use ws_session::read_send;
+use ws_base::{LineFault, Sequence, TextFault};
+use ws_formats::laws::hexadecimal_is_no_shorter;
+use ws_formats::{Line, read_lines, words_of};
+use ws_sends::read_send;
 
 /// The calls of a script, which has a line for each. Every line ends with LF, and its words are parted by one space:
 /// `begin text|binary fin|part HEX KEY`, `more fin|part HEX KEY`, `ping HEX KEY`, `pong HEX KEY`, `close CODE|none HEX

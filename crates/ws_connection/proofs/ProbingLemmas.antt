@@ -10,15 +10,15 @@ use Rattle.std.specs.Prelude.{None, Some, map}
 use Rattle.std.specs.List.{AllZip, concat}
 use Rattle.std.specs.Io.KnownBytes.{Appends, Keeps}
 use Rattle.ws_frame.specs.Devices.{Device, HasRead, HasWritten}
-use Rattle.ws_suite.specs.declared.script.Case.{Case}
-use Rattle.ws_suite.specs.declared.script.Chop.{Chop}
-use Rattle.ws_suite.specs.declared.script.Step.{Step}
-use Rattle.ws_suite.specs.declared.transcript.Ended.{Ended}
-use Rattle.ws_suite.specs.declared.transcript.Ended.TheVariants.{Tester, Peer, Broken}
-use Rattle.ws_suite.specs.declared.transcript.Turn.{Turn}
-use Rattle.ws_suite.specs.declared.transcript.Transcript.{Transcript}
+use Rattle.ws_scripts.specs.declared.script.Case.{Case}
+use Rattle.ws_scripts.specs.declared.script.Chop.{Chop}
+use Rattle.ws_scripts.specs.declared.script.Step.{Step}
+use Rattle.ws_scripts.specs.declared.transcript.Ended.{Ended}
+use Rattle.ws_scripts.specs.declared.transcript.Ended.TheVariants.{Tester, Peer, Broken}
+use Rattle.ws_scripts.specs.declared.transcript.Turn.{Turn}
+use Rattle.ws_scripts.specs.declared.transcript.Transcript.{Transcript}
 use Rattle.ws_suite.specs.Evidence.{sent_turns}
-use Rattle.ws_suite.specs.Scripts.{ArePieces, turn_bytes}
+use Rattle.ws_scripts.specs.Scripts.{ArePieces, turn_bytes}
 use Rattle.ws_peer.specs.Runs.{with_finish}
 use Rattle.ws_upgrade.specs.declared.faults.HeadFault.{HeadFault}
 use Rattle.ws_connection.specs.ReadingHeads.{ReadsHead}

@@ -2,8 +2,8 @@
 use Rattle.std.proofs.Common.{◌≡◌, ℕ, inl, inr, List, [], ◌∷◌, ◌++◌, drop, Option, sym, ◌∙◌, subst}
 use Rattle.std.specs.Io.KnownBytes.{Appends, Consumes, Keeps}
 use Rattle.std.proofs.KnownBytes.{Appends-trans, Consumes-trans, Consumes-kept}
-use Rattle.ws_frame.specs.declared.role.Role.{Role}
-use Rattle.ws_frame.specs.declared.role.Role.TheVariants.{Server}
+use Rattle.ws_wire.specs.declared.role.Role.{Role}
+use Rattle.ws_wire.specs.declared.role.Role.TheVariants.{Server}
 use Rattle.ws_frame.specs.Devices.{Device, HasRead, IsUntouched}
 use Rattle.ws_session.specs.Limits.{LimitsValue}
 use Rattle.ws_session.specs.Exchange.{SessionValue}

@@ -7,12 +7,12 @@ use Rattle.ws_frame.specs.Devices.{Device, HasBegun, HasRead, HasWritten, IsUnto
 use Rattle.ws_upgrade.specs.Accept.{key_of}
 use Rattle.ws_upgrade.specs.Reading.{max_head}
 use Rattle.ws_upgrade.specs.Texts.{request_text}
-use Rattle.ws_suite.specs.declared.script.Case.{Case}
-use Rattle.ws_suite.specs.declared.transcript.Ended.{Ended}
-use Rattle.ws_suite.specs.declared.transcript.Ended.TheVariants.{Tester, Peer, Broken}
-use Rattle.ws_suite.specs.declared.transcript.Turn.{Turn}
-use Rattle.ws_suite.specs.declared.transcript.Transcript.{Transcript}
-use Rattle.ws_suite.specs.Scripts.{turns_of, turn_bytes}
+use Rattle.ws_scripts.specs.declared.script.Case.{Case}
+use Rattle.ws_scripts.specs.declared.transcript.Ended.{Ended}
+use Rattle.ws_scripts.specs.declared.transcript.Ended.TheVariants.{Tester, Peer, Broken}
+use Rattle.ws_scripts.specs.declared.transcript.Turn.{Turn}
+use Rattle.ws_scripts.specs.declared.transcript.Transcript.{Transcript}
+use Rattle.ws_scripts.specs.Scripts.{turns_of, turn_bytes}
 use Rattle.ws_suite.specs.Evidence.{sent_turns, got_turns}
 use Rattle.ws_peer.specs.Runs.{with_finish}
 use Rattle.ws_connection.specs.ReadingHeads.{ReadsHead, ReadsNoFurther}

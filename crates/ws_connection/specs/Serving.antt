@@ -1,7 +1,7 @@
 -- One connection of a server: the opening handshake (RFC 6455 section 4.2), and then an echo over what comes after the
 -- head.
 use Rattle.std.specs.Prelude.{◌≡◌, ◌≢◌, ℕ, ◌≤◌, ◌⊎◌, true, false, List, [], ◌∷◌, ◌++◌, length, drop, codes, Option}
-use Rattle.ws_frame.specs.declared.role.Role.TheVariants.{Server}
+use Rattle.ws_wire.specs.declared.role.Role.TheVariants.{Server}
 use Rattle.ws_frame.specs.Devices.{Device, HasBegun, HasRead, HasWritten, IsUntouched}
 use Rattle.ws_session.specs.Limits.{LimitsValue}
 use Rattle.ws_session.specs.Words.{status_words}

@@ -2,8 +2,8 @@
 
 use std::alloc::Global;
 use ws_base::NoMemory;
-use ws_frame::{NO_KEY, Role};
 use ws_session::{Event, Limits, PlacedEvent, Session};
+use ws_wire::{NO_KEY, Role};
 
 /// The payload of a pong, and the turn in which it is owed or was got.
 #[derive(Drop)]

@@ -9,7 +9,7 @@ ghost use Rattle.ws_frame.specs.Devices.{watched};
 ghost use Rattle.ws_frame.specs.Watching.{has_failed};
 ghost use Rattle.ws_upgrade.specs.Protocols.{AreOffers};
 ghost use Rattle.ws_upgrade.specs.Texts.{IsHost};
-ghost use Rattle.ws_suite.specs.Scripts.{CanBeRun};
+ghost use Rattle.ws_scripts.specs.Scripts.{CanBeRun};
 ghost use Rattle.ws_connection.specs.Probing.{Probes, request_to};
 ghost use Rattle.ws_connection.specs.InnerProbeTurns.{AnswersProbe};
 

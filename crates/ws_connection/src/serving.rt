@@ -14,10 +14,11 @@ use std::alloc::Global;
 use std::fmt;
 use std::io::{Read, Write};
 use ws_base::NoMemory;
-use ws_frame::{NO_KEY, Role, Watched, write_whole};
+use ws_frame::{Watched, write_whole};
 use ws_peer::{DriveEnd, drive};
 use ws_session::{Echo, Limits, Status};
 use ws_upgrade::{HeadFault, Offers, refusal, response_of};
+use ws_wire::{NO_KEY, Role};
 
 /// How a connection that was served ended.
 #[derive(Clone, Copy, PartialEq, Eq)]

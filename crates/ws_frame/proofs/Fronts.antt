@@ -4,20 +4,20 @@ use Rattle.std.specs.List.{flat_map, AllByRecursion}
 use Rattle.std.proofs.lemmas.Bool.{cases_lt}
 use Rattle.std.proofs.lemmas.List.{length-append, take-append-drop}
 use Rattle.std.proofs.lemmas.Grind.{flat_map-append}
-use Rattle.ws_frame.specs.declared.role.Role.{Role}
+use Rattle.ws_wire.specs.declared.role.Role.{Role}
 use Rattle.ws_frame.specs.declared.showing.StreamEnd.{StreamEnd}
 use Rattle.ws_frame.specs.declared.showing.StreamEnd.TheVariants.{Whole, CutAt, BadLengthAt}
-use Rattle.ws_frame.specs.Header.{HeaderFields, AreBytes}
-use Rattle.ws_frame.specs.Masking.{masked_payload}
-use Rattle.ws_frame.specs.Frame.{WireFrame, IsWireFrame, wire_bytes}
-use Rattle.ws_frame.specs.Reading.{Begins, BeginsNoHeader, BeginsBadLength}
-use Rattle.ws_frame.specs.Stream.{SplitsIntoAnyForm}
+use Rattle.ws_wire.specs.Header.{HeaderFields, AreBytes}
+use Rattle.ws_wire.specs.Masking.{masked_payload}
+use Rattle.ws_wire.specs.Frame.{WireFrame, IsWireFrame, wire_bytes}
+use Rattle.ws_wire.specs.Reading.{Begins, BeginsNoHeader, BeginsBadLength}
+use Rattle.ws_wire.specs.Stream.{SplitsIntoAnyForm}
 use Rattle.ws_frame.specs.Lines.{line_with, line_of, frame_lines, last_line, Leaves, AreLinesOf}
 use Rattle.ws_frame.specs.InnerShowing.{IsLeft, BeginsLines}
-use Rattle.ws_frame.proofs.Headers.{same_header, header_parts, header_or_none}
-use Rattle.ws_frame.proofs.Masks.{masked_payload_twice, take-masked_payload}
-use Rattle.ws_frame.proofs.Splits.{some_split, split_is_one, rest_bytes, all-append}
-use Rattle.ws_frame.proofs.Frames.{wire_told, wire_none_begins}
+use Rattle.ws_wire.proofs.Headers.{same_header, header_parts, header_or_none}
+use Rattle.ws_wire.proofs.Masks.{masked_payload_twice, take-masked_payload}
+use Rattle.ws_wire.proofs.Splits.{some_split, split_is_one, rest_bytes, all-append}
+use Rattle.ws_wire.proofs.Frames.{wire_told, wire_none_begins}
 
 -- ---- the front
 

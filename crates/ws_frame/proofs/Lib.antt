@@ -1,14 +1,7 @@
-pub mod Numbers
-pub mod Masks
-pub mod HeaderLengths
-pub mod Headers
-pub mod HeaderSize
-pub mod Splits
-pub mod Frames
 pub mod Written
+pub mod TestDeviceLemmas
 pub mod Fronts
 pub mod LineLemmas
 pub mod Partials
 pub mod Runs
 pub mod RunEnds
-pub mod TestDeviceLemmas

@@ -5,21 +5,21 @@ use Rattle.std.proofs.lemmas.Slice.{take-put_mid}
 use borrow.Rule.Slice.PartMut.{put_mid}
 use Rattle.std.proofs.lemmas.List.{take_min, length-append, length-take, length-take-le, take-append-drop, take_at, drop_at, take_all, take-append-le, get_or_append_left, get_or-append_right}
 use Rattle.std.proofs.Math.Seq.{take-append-add}
-use Rattle.ws_frame.specs.Header.{HeaderFields, IsHeaderOf, AreBytes, header_bytes}
-use Rattle.ws_frame.specs.Masking.{masked_payload}
-use Rattle.ws_frame.specs.Frame.{IsWireFrame, wire_bytes}
-use Rattle.ws_frame.specs.Reading.{Begins, BeginsNoHeader, BeginsBadLength}
-use Rattle.ws_frame.specs.Stream.{BeginsNone}
+use Rattle.ws_wire.specs.Header.{HeaderFields, IsHeaderOf, AreBytes, header_bytes}
+use Rattle.ws_wire.specs.Masking.{masked_payload}
+use Rattle.ws_wire.specs.Frame.{IsWireFrame, wire_bytes}
+use Rattle.ws_wire.specs.Reading.{Begins, BeginsNoHeader, BeginsBadLength}
+use Rattle.ws_wire.specs.Stream.{BeginsNone}
 use Rattle.ws_frame.specs.declared.partial.Partial.{Partial}
 use Rattle.ws_frame.specs.declared.partial.Taken.{Taken}
 use Rattle.ws_frame.specs.declared.partial.Taken.TheVariants.{Part, Whole, BadLength}
 use Rattle.ws_frame.specs.InnerShowing.{IsPartOfPayload, IsKeptAs, IsWhole, UsesSome, IsTaken, BeginsPayload}
-use Rattle.ws_frame.proofs.Numbers.{front_bytes}
-use Rattle.ws_frame.proofs.Headers.{too_short_for_header}
-use Rattle.ws_frame.proofs.HeaderSize.{short_without_header}
-use Rattle.ws_frame.proofs.Masks.{masked_payload_twice, length-masked_payload, masked_payload_bytes}
-use Rattle.ws_frame.proofs.Splits.{rest_bytes}
-use Rattle.ws_frame.proofs.Frames.{no_wire_without_header, no_wire_of_cut_payload}
+use Rattle.ws_wire.proofs.Numbers.{front_bytes}
+use Rattle.ws_wire.proofs.Headers.{too_short_for_header}
+use Rattle.ws_wire.proofs.HeaderSize.{short_without_header}
+use Rattle.ws_wire.proofs.Masks.{masked_payload_twice, length-masked_payload, masked_payload_bytes}
+use Rattle.ws_wire.proofs.Splits.{rest_bytes}
+use Rattle.ws_wire.proofs.Frames.{no_wire_without_header, no_wire_of_cut_payload}
 use Rattle.ws_frame.proofs.Fronts.{no_bad_without_header, no_bad_beside}
 
 -- ---- lists

@@ -3,7 +3,7 @@ use Rattle.std.proofs.Common.{◌≡◌, ℕ, ◌+◌, ◌-◌, ◌<◌, ◌≤�
 use Rattle.std.proofs.lemmas.List.{length-append, length-take-le}
 use Rattle.std.specs.Io.KnownBytes.{IsAtEnd, Consumes}
 use Rattle.std.proofs.KnownBytes.{Consumes-trans}
-use Rattle.ws_frame.specs.declared.role.Role.{Role}
+use Rattle.ws_wire.specs.declared.role.Role.{Role}
 use Rattle.ws_frame.specs.declared.showing.StreamEnd.{StreamEnd}
 use Rattle.ws_frame.specs.declared.showing.StreamEnd.TheVariants.{Whole, CutAt, BadLengthAt}
 use Rattle.ws_frame.specs.declared.showing.ShowEnd.{ShowEnd}

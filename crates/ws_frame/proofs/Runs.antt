@@ -4,24 +4,24 @@ use Rattle.std.specs.List.{flat_map}
 use Rattle.std.specs.Prelude.{IsTrue, ◌↔◌}
 use Rattle.std.proofs.lemmas.List.{length-append, length-take-le, take-append-drop, take_rest, take_all}
 use Rattle.std.proofs.lemmas.Grind.{flat_map-append}
-use Rattle.ws_frame.specs.declared.role.Role.{Role}
+use Rattle.ws_wire.specs.declared.role.Role.{Role}
 use Rattle.ws_frame.specs.declared.showing.StreamEnd.{StreamEnd}
 use Rattle.ws_frame.specs.declared.showing.StreamEnd.TheVariants.{BadLengthAt}
 use Rattle.ws_frame.specs.declared.partial.Partial.{Partial}
-use Rattle.ws_frame.specs.Header.{HeaderFields, AreBytes}
-use Rattle.ws_frame.specs.Masking.{masked_payload}
-use Rattle.ws_frame.specs.Frame.{IsWireFrame, wire_bytes}
-use Rattle.ws_frame.specs.Stream.{SplitsIntoAnyForm}
-use Rattle.ws_frame.specs.Reading.{BeginsBadLength}
+use Rattle.ws_wire.specs.Header.{HeaderFields, AreBytes}
+use Rattle.ws_wire.specs.Masking.{masked_payload}
+use Rattle.ws_wire.specs.Frame.{IsWireFrame, wire_bytes}
+use Rattle.ws_wire.specs.Stream.{SplitsIntoAnyForm}
+use Rattle.ws_wire.specs.Reading.{BeginsBadLength}
 use Rattle.ws_frame.specs.Devices.{Device}
 use Rattle.ws_frame.specs.Lines.{line_with, line_of, frame_lines, last_line, Leaves, AreFrameLinesOf}
 use Rattle.ws_frame.specs.declared.showing.Run.{Run}
 use Rattle.ws_frame.specs.InnerShowing.{IsPartialFrame, IsWhole, AreLinesSoFar, HasTold, IsLeft, BeginsLines, ShowsNext, ShowsPiece}
 use Rattle.ws_frame.specs.declared.showing.PieceEnd.{PieceEnd}
-use Rattle.ws_frame.proofs.Numbers.{front_bytes, AreBytes-drop}
+use Rattle.ws_wire.proofs.Numbers.{front_bytes, AreBytes-drop}
 use Rattle.ws_frame.proofs.Written.{front_grows}
-use Rattle.ws_frame.proofs.Splits.{rest_bytes, all-append}
-use Rattle.ws_frame.proofs.Frames.{no_wire_of_bad_length}
+use Rattle.ws_wire.proofs.Splits.{rest_bytes, all-append}
+use Rattle.ws_wire.proofs.Frames.{no_wire_of_bad_length}
 use Rattle.ws_frame.proofs.Fronts.{line_shown, frame_lines-append, begins_so_far, all_lines}
 use Rattle.ws_frame.proofs.Partials.{AreBytes-append, kept_is_no_frame, kept_is_no_bad_length}
 

@@ -1,7 +1,7 @@
 -- What a run does to a watched reader or writer, as one value.
 use Rattle.std.specs.Prelude.{ℕ, Bool, List, Option}
 use Rattle.std.specs.Io.KnownBytes.{Appends, Consumes, Keeps}
-use Rattle.ws_frame.specs.declared.devices.watching.Watched.{Watched}
+use Rattle.ws_frame.specs.declared.watching.Watched.{Watched}
 use Rattle.ws_frame.specs.Watching.{AppendsFront, has_failed, inner_of}
 
 -- a device after a run: whether a call through it has failed; and what a reader had left, or a writer held, before the

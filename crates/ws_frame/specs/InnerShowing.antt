@@ -3,7 +3,7 @@
 use Rattle.std.specs.Prelude.{◌⊎◌, ◌≡◌, ℕ, ◌+◌, ◌^◌, ◌≤◌, ◌<◌, Bool, true, false, ⊤}
 use Rattle.std.specs.Prelude.{List, [], ◌++◌, length, take, Option, Some, None, Result, Ok, Err}
 use Rattle.std.specs.List.{flat_map, AllByRecursion}
-use Rattle.ws_frame.specs.declared.role.Role.{Role}
+use Rattle.ws_wire.specs.declared.role.Role.{Role}
 use Rattle.ws_frame.specs.declared.showing.StreamEnd.{StreamEnd}
 use Rattle.ws_frame.specs.declared.showing.StreamEnd.TheVariants as end
 use Rattle.ws_frame.specs.declared.showing.ShowEnd.{ShowEnd}
@@ -14,12 +14,12 @@ use Rattle.ws_frame.specs.declared.showing.Run.{Run}
 use Rattle.ws_frame.specs.declared.partial.Partial.{Partial}
 use Rattle.ws_frame.specs.declared.partial.Taken.{Taken}
 use Rattle.ws_frame.specs.declared.partial.Taken.TheVariants.{Part, Whole, BadLength}
-use Rattle.ws_frame.specs.declared.devices.writing_whole.WriteFault.{WriteFault}
-use Rattle.ws_frame.specs.Header.{AreBytes, HeaderFields, IsHeader, header_bytes}
-use Rattle.ws_frame.specs.Masking.{masked_payload}
-use Rattle.ws_frame.specs.Frame.{WireFrame, IsWireFrame, wire_bytes}
-use Rattle.ws_frame.specs.Stream.{SplitsIntoAnyForm}
-use Rattle.ws_frame.specs.Reading.{BeginsNoHeader, BeginsBadLength}
+use Rattle.ws_frame.specs.declared.writing_whole.WriteFault.{WriteFault}
+use Rattle.ws_wire.specs.Header.{AreBytes, HeaderFields, IsHeader, header_bytes}
+use Rattle.ws_wire.specs.Masking.{masked_payload}
+use Rattle.ws_wire.specs.Frame.{WireFrame, IsWireFrame, wire_bytes}
+use Rattle.ws_wire.specs.Stream.{SplitsIntoAnyForm}
+use Rattle.ws_wire.specs.Reading.{BeginsNoHeader, BeginsBadLength}
 use Rattle.ws_frame.specs.Devices.{Device, HasWritten}
 use Rattle.ws_frame.specs.Lines.{Leaves, frame_lines, last_line, AreLinesOf, AreFrameLinesOf}
 

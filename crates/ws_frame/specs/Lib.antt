@@ -1,9 +1,3 @@
-pub mod Header
-pub mod Opcode
-pub mod Reading
-pub mod Masking
-pub mod Frame
-pub mod Stream
 pub mod Watching
 pub mod Devices
 pub mod ReadingInput
@@ -11,5 +5,4 @@ pub mod TestDevices
 pub mod Lines
 pub mod Examples
 pub mod InnerShowing
-pub mod InnerParts
 pub mod InnerPrinting

@@ -5,19 +5,19 @@ use Rattle.std.specs.Prelude.{List, [], ◌∷◌, ◌++◌, length, take, Optio
 use Rattle.std.specs.List.{flat_map, concat}
 use Rattle.std.specs.Fmt.{decimal}
 use Rattle.std.specs.Io.KnownBytes.{IsAtEnd}
-use Rattle.ws_frame.specs.declared.role.Role.{Role}
-use Rattle.ws_frame.specs.declared.role.Role.TheVariants.{Client, Server}
-use Rattle.ws_frame.specs.declared.header.Form.{Form}
+use Rattle.ws_wire.specs.declared.role.Role.{Role}
+use Rattle.ws_wire.specs.declared.role.Role.TheVariants.{Client, Server}
+use Rattle.ws_wire.specs.declared.header.Form.{Form}
 use Rattle.ws_frame.specs.declared.showing.StreamEnd.{StreamEnd}
 use Rattle.ws_frame.specs.declared.showing.StreamEnd.TheVariants.{Whole, CutAt, BadLengthAt}
 use Rattle.ws_frame.specs.declared.showing.ShowEnd.{ShowEnd}
 use Rattle.ws_frame.specs.declared.showing.ShowEnd.TheVariants as show_end
-use Rattle.ws_frame.specs.Header.{HeaderFields, form_word}
-use Rattle.ws_frame.specs.Frame.{WireFrame, wire_bytes, is_longer_than_needed}
-use Rattle.ws_frame.specs.Stream.{SplitsIntoAnyForm}
-use Rattle.ws_frame.specs.Reading.{BeginsBadLength}
+use Rattle.ws_wire.specs.Header.{HeaderFields, form_word, is_longer_than_needed}
+use Rattle.ws_wire.specs.Frame.{WireFrame, wire_bytes}
+use Rattle.ws_wire.specs.Stream.{SplitsIntoAnyForm}
+use Rattle.ws_wire.specs.Reading.{BeginsBadLength}
 use Rattle.ws_frame.specs.Devices.{Device, HasRead, HasWritten}
-pub use Rattle.ws_base.specs.Words.{hex}
+pub use Rattle.ws_formats.specs.Words.{hex}
 
 -- ---- the words of a line
 

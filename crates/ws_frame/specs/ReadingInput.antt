@@ -1,8 +1,8 @@
 -- Reading an input, to its end or to a budget of bytes.
 use Rattle.std.specs.Prelude.{◌≡◌, ℕ, ◌<◌, true, false, List, length, Option, Some, IfSome}
 use Rattle.std.specs.Io.KnownBytes.{IsAtEnd}
-use Rattle.ws_frame.specs.declared.devices.reading_input.InputEnd.{InputEnd}
-use Rattle.ws_frame.specs.declared.devices.reading_input.InputEnd.TheVariants.{End, Budget, Fault, NoMemory}
+use Rattle.ws_frame.specs.declared.reading_input.InputEnd.{InputEnd}
+use Rattle.ws_frame.specs.declared.reading_input.InputEnd.TheVariants.{End, Budget, Fault, NoMemory}
 use Rattle.ws_frame.specs.Devices.{Device, HasRead}
 
 -- so many bytes are less than the budget; without one they always are

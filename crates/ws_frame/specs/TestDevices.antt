@@ -1,7 +1,7 @@
 -- Devices for tests: when their calls fail.
 use Rattle.std.specs.Prelude.{ℕ, ◌+◌, ◌-◌, ◌^◌, min, Bool, false, ◌==◌, nat_le}
-use Rattle.ws_frame.specs.declared.devices.failing.Failing.{Failing}
-use Rattle.ws_frame.specs.declared.devices.failing.Failing.TheVariants.{Never, Once, From}
+use Rattle.ws_frame.specs.declared.failing.Failing.{Failing}
+use Rattle.ws_frame.specs.declared.failing.Failing.TheVariants.{Never, Once, From}
 
 -- whether the call of this number fails
 abbrev pub fails_at : Failing → ℕ → Bool

@@ -1,7 +1,7 @@
 -- What contracts read of a watched reader or writer, and which calls fail one.
 use Rattle.std.specs.Prelude.{◌≡◌, ℕ, List, ◌++◌, Bool, Option, Result, Ok, Err, ◌==◌, ◌&&◌, nat_lt, length}
 use Rattle.std.specs.Io.KnownBytes.{Appends}
-use Rattle.ws_frame.specs.declared.devices.watching.Watched.{Watched}
+use Rattle.ws_frame.specs.declared.watching.Watched.{Watched}
 
 -- what is watched
 abbrev pub inner_of : {T : Type 0} → Watched T → T

@@ -1,10 +1,10 @@
 //! The first bytes of a header or of a payload, kept in place.
 
 ghost use Rattle.std.specs.Prelude.{◌≡◌, ◌≤◌, [], ◌++◌, length, take};
-ghost use Rattle.ws_frame.specs.Masking.{masked};
+ghost use Rattle.ws_wire.specs.Masking.{masked};
 
-use crate::masking::mask;
 use std::marker::Model;
+use ws_wire::mask;
 
 /// How many bytes of a payload a line shows at most. A header has fewer.
 pub(crate) const SHOWN: usize = 16;

@@ -1,31 +1,29 @@
-//! Frames of RFC 6455: headers, masking, the lines of a stream, and devices that tell when they failed.
+//! The lines of a stream of frames (RFC 6455 section 5.2), from a reader to a writer, and devices: readers and writers
+//! that remember whether a call through them failed. What frames are on the wire is that of `ws_wire`, which is handed
+//! on.
 //!
-//! The layers above use three facts: a written header is the bytes of its fields, reading finds exactly the header
-//! that stands at the front, and no header or frame begins another, so a stream is its frames in one way.
+//! The layers above use the clause `failed` of a watched device, the contracts of `read_input` and `write_whole`, and
+//! that of `show`: the lines that are written are those of the stream that was read.
 #![tactic(auto)]
 
-mod appending;
-pub mod devices;
+mod byte_devices;
+mod counting;
+mod failing;
 mod first_bytes;
-mod header;
 pub mod laws;
 mod line;
-mod masking;
-mod opcode;
 mod partial;
-mod reading;
-mod role;
+mod reading_input;
 mod room;
 mod showing;
-mod writing;
+mod watching;
 mod writing_lines;
+mod writing_whole;
 
-pub use appending::append_frame;
-pub use devices::{InputEnd, READ_SIZE, Watched, WriteFault, read_input, write_whole};
-pub use header::{Form, Header};
-pub use masking::{NO_KEY, mask, mask_plainly};
-pub use opcode::Opcode;
-pub use reading::{HeaderRead, read_header};
-pub use role::Role;
+pub use byte_devices::{ByteReader, ByteWriter, FullWriter};
+pub use counting::Counting;
+pub use failing::Failing;
+pub use reading_input::{InputEnd, READ_SIZE, read_input};
 pub use showing::{ShowEnd, StreamEnd, show};
-pub use writing::HeadBytes;
+pub use watching::Watched;
+pub use writing_whole::{WriteFault, write_whole};

@@ -6,10 +6,8 @@ ghost use Rattle.ws_frame.specs.Lines.{line_with};
 ghost use Rattle.ws_frame.specs.InnerPrinting.{bits_words, layout_words};
 
 use crate::first_bytes::SHOWN;
-use crate::header::Header;
-use crate::opcode::Opcode;
-use crate::role::Role;
 use crate::room::Room;
+use ws_wire::{Header, Opcode, Role};
 
 /// No line has more bytes than this.
 pub(crate) const MAX_LINE: usize = 200;

@@ -4,9 +4,8 @@ ghost use Rattle.std.specs.Prelude.{◌≡◌, ◌<◌, [], List, ℕ, length, I
 ghost use Rattle.ws_frame.specs.InnerShowing.{IsPartialFrame, KeepsPartialFrame, UsesSome, TakesPart, BeginsPayload};
 
 use crate::first_bytes::FirstBytes;
-use crate::header::Header;
-use crate::reading::{HeaderRead, read_header};
 use std::mem;
+use ws_wire::{Header, HeaderRead, read_header};
 
 /// What is kept of a frame that is not whole. Between two frames nothing is.
 #[derive(Drop)]

@@ -7,12 +7,12 @@ ghost use Rattle.ws_frame.specs.Lines.{Leaves, Shows, IsFairEnd};
 ghost use Rattle.ws_frame.specs.InnerShowing.{CanShowMore, HasTold, ShowsPiece, ShowsNext, IsPartialFrame, run_end};
 ghost use Rattle.ws_frame.specs.declared.showing.ShowEnd.TheVariants.{NoMemory};
 
-use crate::devices::{Watched, WriteFault};
 use crate::partial::{Partial, Taken};
-use crate::role::Role;
 use crate::room::Room;
 use crate::writing_lines::{end_with, flush, put_line};
+use crate::{Watched, WriteFault};
 use std::io::{Read, Write};
+use ws_wire::Role;
 
 /// How many bytes one read of a stream that is shown asks for at most.
 const SHOW_READ_SIZE: usize = 65536;

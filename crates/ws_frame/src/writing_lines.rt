@@ -3,18 +3,17 @@
 ghost use Rattle.std.specs.Prelude.{◌≡◌, ◌≤◌, ◌+◌, [], ◌++◌, length, false, OnOk};
 ghost use Rattle.ws_frame.specs.Watching.{has_failed};
 ghost use Rattle.ws_frame.specs.Devices.{watched};
-ghost use Rattle.ws_frame.specs.Masking.{masked_payload};
+ghost use Rattle.ws_wire.specs.Masking.{masked_payload};
 ghost use Rattle.ws_frame.specs.Lines.{line_with, last_line};
 ghost use Rattle.ws_frame.specs.InnerShowing.{WritesSome, EndsWith};
 
-use crate::devices::{Watched, WriteFault, write_whole};
 use crate::first_bytes::FirstBytes;
-use crate::header::Header;
 use crate::line::{MAX_LINE, push_line};
-use crate::role::Role;
 use crate::room::{ROOM, Room};
 use crate::showing::{ShowEnd, StreamEnd};
+use crate::{Watched, WriteFault, write_whole};
 use std::io::Write;
+use ws_wire::{Header, Role};
 
 /// Puts the line of a frame behind those that wait, which are written first where there is no room for one more.
 /// `first` are the first bytes of the payload as they stand on the wire.

@@ -5,7 +5,7 @@ use Rattle.std.specs.declared.alloc.Global.{Global}
 use Rattle.std.specs.declared.vec.Vec.{Vec}
 use Rattle.ws_session.specs.declared.session.Session.{Session}
 use Rattle.std.proofs.lemmas.List.{append-nil}
-use Rattle.ws_frame.specs.Frame.{KeyedFrame, stream_bytes}
+use Rattle.ws_wire.specs.Frame.{KeyedFrame, stream_bytes}
 use Rattle.ws_session.specs.declared.status.Status.{Status}
 use Rattle.ws_session.specs.declared.send_fault.SendFault.{SendFault}
 use Rattle.ws_session.specs.declared.send_fault.SendFault.TheVariants as fault

@@ -5,9 +5,9 @@ use Rattle.std.specs.List.{AllByRecursion}
 use Rattle.std.proofs.lemmas.List.{map-append, take-take, take-append-drop, drop-take, take-append-le, length-drop, length-take, get_or-take, get_or_past}
 use Rattle.std.proofs.lemmas.Bool.{cases_lt}
 use Rattle.std.proofs.lemmas.Grind.{flat_map-append}
-use Rattle.ws_frame.specs.declared.role.Role.{Role}
-use Rattle.ws_frame.specs.Header.{AreBytes}
-use Rattle.ws_frame.specs.Frame.{Frame, KeyedFrame, frame_bytes, stream_bytes}
+use Rattle.ws_wire.specs.declared.role.Role.{Role}
+use Rattle.ws_wire.specs.Header.{AreBytes}
+use Rattle.ws_wire.specs.Frame.{Frame, KeyedFrame, frame_bytes, stream_bytes}
 use Rattle.ws_session.specs.Faults.{frames_of}
 use Rattle.ws_session.specs.Replies.{under_key}
 use Rattle.ws_pair.specs.InnerPlaying.{IsNextIn}

@@ -1,7 +1,7 @@
 -- From two ends of a link to what is claimed of them.
 use Rattle.std.proofs.Common.{◌≡◌, ℕ, ◌<◌, List, [], ◌∷◌, ◌++◌, length, take, sym, ap, ◌∙◌, arith, subst}
 use Rattle.std.proofs.lemmas.List.{append-nil, length-append}
-use Rattle.ws_frame.specs.Frame.{Frame, KeyedFrame, FitsTheLayout, frame_bytes, stream_bytes}
+use Rattle.ws_wire.specs.Frame.{Frame, KeyedFrame, FitsTheLayout, frame_bytes, stream_bytes}
 use Rattle.ws_session.specs.Messages.{messages_of}
 use Rattle.ws_session.specs.Validity.{CloseIsLast, NothingAfterClose}
 use Rattle.ws_session.specs.Faults.{frames_of}

@@ -1,9 +1,9 @@
 -- Two ends, move after move.
 use Rattle.std.proofs.Common.{◌≡◌, ℕ, List, ◌++◌, sym, ap, ◌∙◌, subst}
-use Rattle.ws_frame.specs.Frame.{KeyedFrame, stream_bytes}
+use Rattle.ws_wire.specs.Frame.{KeyedFrame, stream_bytes}
 use Rattle.ws_pair.specs.declared.moves.End.{End}
 use Rattle.ws_pair.specs.declared.moves.End.TheVariants.{Client, Server}
-use Rattle.ws_frame.specs.declared.role.Role.TheVariants as role
+use Rattle.ws_wire.specs.declared.role.Role.TheVariants as role
 use Rattle.ws_pair.specs.declared.moves.Move.{Move}
 use Rattle.ws_pair.specs.declared.report.Answer.{Answer}
 use Rattle.ws_pair.specs.declared.endpoint.Endpoint.{Endpoint}

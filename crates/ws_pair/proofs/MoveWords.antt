@@ -1,8 +1,8 @@
 -- The moves that a name and further words tell.
 use Rattle.std.proofs.Common.{◌≡◌, ◌∙◌, ℕ, List, ap, arith, slice_index_or, sym}
-use Rattle.ws_session.specs.declared.keyed_send.KeyedSend.{KeyedSend}
-use Rattle.ws_session.specs.declared.keyed_send.KeyedSend.TheVariants as send
-use Rattle.ws_session.specs.KeyedSends.{AreSendWords, send_name_of, send_name_word}
+use Rattle.ws_sends.specs.declared.keyed_send.KeyedSend.{KeyedSend}
+use Rattle.ws_sends.specs.declared.keyed_send.KeyedSend.TheVariants as send
+use Rattle.ws_sends.specs.KeyedSends.{AreSendWords, send_name_of, send_name_word}
 use Rattle.ws_pair.specs.declared.moves.End.{End}
 use Rattle.ws_pair.specs.declared.moves.Move.{Move}
 use Rattle.ws_pair.specs.declared.moves.Move.TheVariants.{Begin, More, Ping, Pong, Close, Arrive, Cut}

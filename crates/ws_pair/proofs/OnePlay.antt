@@ -1,7 +1,7 @@
 -- Moves are answered in one way, and lead to one link.
 use Rattle.std.proofs.Common.{◌≡◌, ℕ, ◌≤◌, List, [], ◌∷◌, ◌++◌, refl, sym, ap, ◌∙◌, arith, subst, if◌then◌else◌}
 use Rattle.std.specs.Prelude.{◌==◌}
-use Rattle.ws_frame.specs.Frame.{Frame}
+use Rattle.ws_wire.specs.Frame.{Frame}
 use Rattle.ws_session.specs.declared.status.Status.{Status}
 use Rattle.ws_session.specs.declared.send_fault.SendFault.{SendFault}
 use Rattle.ws_session.specs.declared.send_fault.SendFault.TheVariants.{Over, Busy, NothingOpen, NotText, TooLong, BadCode, NoMemory}

@@ -1,6 +1,6 @@
 -- What is told where a part was not found.
 use Rattle.std.proofs.Common.{◌≡◌, Result, Ok, Err, IsErrAnd, sym, ◌∙◌}
-use Rattle.ws_base.specs.Reading.{Reads}
+use Rattle.ws_formats.specs.Reading.{Reads}
 use Rattle.ws_base.specs.declared.text_fault.LineFault.{LineFault}
 use Rattle.ws_base.specs.declared.text_fault.LineFault.TheVariants.{Damaged}
 

@@ -1,6 +1,6 @@
 -- Worked examples of the definitions, as theorems. The masking key is four zeros, under which bytes stay as they are.
 use Rattle.std.specs.Prelude.{◌≡◌, ℕ, true, false, List, [], ◌∷◌, Some, refl, None}
-use Rattle.ws_frame.specs.Frame.{KeyedFrame, stream_bytes}
+use Rattle.ws_wire.specs.Frame.{KeyedFrame, stream_bytes}
 use Rattle.ws_session.specs.declared.message.Kind.TheVariants.{Binary}
 use Rattle.ws_session.specs.declared.reason.Reason.TheVariants.{TooBig, FrameBig}
 use Rattle.ws_session.specs.declared.status.Status.TheVariants.{Open, Closing, Clean, Failed, Lost}

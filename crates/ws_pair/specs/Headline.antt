@@ -1,8 +1,8 @@
 -- The headline: what two joined sessions deliver, what a clean close means, and what they put. RFC 6455 sections 5 to
 -- 7.
 use Rattle.std.specs.Prelude.{◌≡◌, ℕ, List, [], take, Option, Some}
-use Rattle.ws_frame.specs.Frame.{KeyedFrame, stream_bytes}
-use Rattle.ws_frame.specs.Stream.{SplitsInto}
+use Rattle.ws_wire.specs.Frame.{KeyedFrame, stream_bytes}
+use Rattle.ws_wire.specs.Stream.{SplitsInto}
 use Rattle.ws_session.specs.declared.status.Status.TheVariants.{Clean}
 use Rattle.ws_session.specs.Limits.{LimitsValue}
 use Rattle.ws_session.specs.Messages.{messages_of}

@@ -1,9 +1,9 @@
 -- Two endpoints joined by two ordered streams of bytes, seen from outside: RFC 6455 sections 5 to 7. An end is a list
 -- of frames, a count and a mark: no part of a frame, masking phase, unfinished character or buffer.
 use Rattle.std.specs.Prelude.{ℕ, Bool, false, if◌then◌else◌, List, [], ◌∷◌, Option, Some, None}
-use Rattle.ws_frame.specs.declared.role.Role.{Role}
-use Rattle.ws_frame.specs.declared.role.Role.TheVariants as role
-use Rattle.ws_frame.specs.Frame.{Frame, KeyedFrame}
+use Rattle.ws_wire.specs.declared.role.Role.{Role}
+use Rattle.ws_wire.specs.declared.role.Role.TheVariants as role
+use Rattle.ws_wire.specs.Frame.{Frame, KeyedFrame}
 use Rattle.ws_session.specs.declared.status.Status.{Status}
 use Rattle.ws_session.specs.declared.status.Status.TheVariants.{Clean, Failed}
 use Rattle.ws_session.specs.declared.reason.Reason.{Reason}

@@ -1,6 +1,6 @@
 -- What each move does to two joined endpoints, and what is answered: RFC 6455 sections 5 to 7.
 use Rattle.std.specs.Prelude.{◌≡◌, ℕ, ◌+◌, ◌-◌, min, true, if◌then◌else◌, List, [], ◌∷◌, ◌++◌, length, drop, map}
-use Rattle.ws_frame.specs.Frame.{KeyedFrame, stream_bytes}
+use Rattle.ws_wire.specs.Frame.{KeyedFrame, stream_bytes}
 use Rattle.ws_session.specs.declared.event.Event.{Event}
 use Rattle.ws_session.specs.Limits.{LimitsValue}
 use Rattle.ws_session.specs.Faults.{frames_of}

@@ -2,7 +2,7 @@
 use Rattle.std.specs.Prelude.{ℕ, List, [], ◌∷◌, codes}
 use Rattle.std.specs.List.{concat, flat_map}
 use Rattle.std.specs.Fmt.{decimal}
-use Rattle.ws_base.specs.Words.{hex_word}
+use Rattle.ws_formats.specs.Words.{hex_word}
 use Rattle.ws_session.specs.declared.message.Message.{Message}
 use Rattle.ws_session.specs.Words.{fault_name, kind_word, status_words}
 use Rattle.ws_pair.specs.declared.moves.End.{End}

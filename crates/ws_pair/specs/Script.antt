@@ -1,11 +1,11 @@
 -- Scripts of moves: what happens at two joined sessions, one move a line. The words of a line are parted by one space,
 -- and every line ends with LF.
 use Rattle.std.specs.Prelude.{◌≡◌, ℕ, List, [], ◌∷◌, codes}
-use Rattle.ws_base.specs.Words.{IsKeyOrDash, IsNumberWord, words_of}
-use Rattle.ws_base.specs.Lines.{HasLineForEach}
-use Rattle.ws_session.specs.declared.keyed_send.KeyedSend.{KeyedSend}
-use Rattle.ws_session.specs.declared.keyed_send.KeyedSend.TheVariants as send
-use Rattle.ws_session.specs.KeyedSends.{AreSendWords}
+use Rattle.ws_formats.specs.Words.{IsKeyOrDash, IsNumberWord, words_of}
+use Rattle.ws_formats.specs.Lines.{HasLineForEach}
+use Rattle.ws_sends.specs.declared.keyed_send.KeyedSend.{KeyedSend}
+use Rattle.ws_sends.specs.declared.keyed_send.KeyedSend.TheVariants as send
+use Rattle.ws_sends.specs.KeyedSends.{AreSendWords}
 use Rattle.ws_pair.specs.declared.moves.End.{End}
 use Rattle.ws_pair.specs.declared.moves.End.TheVariants.{Client, Server}
 use Rattle.ws_pair.specs.declared.moves.Move.{Move}

@@ -2,8 +2,8 @@
 
 ghost use Rattle.std.specs.Prelude.{◌≡◌, ◌+◌, ◌-◌, ◌≤◌, ◌<◌, ◌^◌, ℕ, List, [], ◌++◌, length, min, if◌then◌else◌, false};
 ghost use Rattle.std.specs.Prelude.{IfOk, OnOk};
-ghost use Rattle.ws_frame.specs.declared.role.Role.{Role};
-ghost use Rattle.ws_frame.specs.Frame.{KeyedFrame, stream_bytes};
+ghost use Rattle.ws_wire.specs.declared.role.Role.{Role};
+ghost use Rattle.ws_wire.specs.Frame.{KeyedFrame, stream_bytes};
 ghost use Rattle.ws_session.specs.Limits.{LimitsValue};
 ghost use Rattle.ws_session.specs.Events.{messages_in};
 ghost use Rattle.ws_session.specs.Taking.{events_in};
@@ -19,8 +19,8 @@ use crate::moves::Move;
 use crate::report::{Answer, EndReport};
 use std::alloc::Global;
 use ws_base::NoMemory;
-use ws_frame::Role;
 use ws_session::{Event, Limits, Message, Outgoing, PlacedEvent, SendFault, Session};
+use ws_wire::Role;
 
 /// One end of two joined sessions.
 #[derive(Drop)]

@@ -1,7 +1,7 @@
 //! What the layer below and the types say, called where a proof stands on it. Nothing runs here.
 
 ghost use Rattle.std.specs.Prelude.{Some};
-ghost use Rattle.ws_frame.specs.Header.{IsMaskingKey};
+ghost use Rattle.ws_wire.specs.Header.{IsMaskingKey};
 ghost use Rattle.ws_pair.specs.InnerPlaying.{LawsOfEachSession};
 
 use ws_session::laws;

@@ -9,7 +9,8 @@ use crate::moves::End;
 use crate::report::{Answer, EndReport, Report};
 use std::alloc::Global;
 use std::fmt;
-use ws_base::{Hex, NoMemory};
+use ws_base::NoMemory;
+use ws_formats::Hex;
 use ws_session::Message;
 
 /// The lines of a report: one for each move, then those of the client and those of the server. Each ends with LF.

@@ -13,8 +13,8 @@ use crate::moves::{End, Move};
 use crate::report::{Answer, Report};
 use std::alloc::Global;
 use ws_base::NoMemory;
-use ws_frame::Role;
 use ws_session::Limits;
+use ws_wire::Role;
 
 /// Plays the moves, one after the other, at a new client and a new server that are joined by two ordered streams of
 /// bytes. `client` and `server` are what each takes at most. Each end has delivered, in order, exactly the other's

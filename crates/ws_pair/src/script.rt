@@ -1,17 +1,17 @@
 //! Scripts of moves: what happens at two joined sessions, one move a line.
 
 ghost use Rattle.std.specs.Prelude.{◌≡◌, map, MatchResult};
-ghost use Rattle.ws_base.specs.Lines.{Damages};
-ghost use Rattle.ws_base.specs.Reading.{Finds, Reads};
+ghost use Rattle.ws_formats.specs.Lines.{Damages};
+ghost use Rattle.ws_formats.specs.Reading.{Reads};
+ghost use Rattle.ws_base.specs.Finding.{Finds};
 ghost use Rattle.ws_pair.specs.Script.{AreMoveLines, AreMoveWords, IsArriveOf, IsCutOf, IsMoveAt, IsMoveLine};
 ghost use Rattle.ws_pair.specs.Script.{end_word, move_name_word, move_of};
 
 use crate::moves::{End, Move};
 use std::alloc::Global;
-use ws_base::{
-    Line, LineFault, Sequence, TextFault, read_key_or_dash, read_lines, read_u32, words_of,
-};
-use ws_session::{KeyedSend, read_send};
+use ws_base::{LineFault, Sequence, TextFault};
+use ws_formats::{Line, read_key_or_dash, read_lines, read_u32, words_of};
+use ws_sends::{KeyedSend, read_send};
 
 /// The moves of a script, which has a line for each. Every line ends with LF, and its words are parted by one space:
 /// `begin END text|binary fin|part HEX KEY`, `more END fin|part HEX KEY`, `ping END HEX KEY`, `pong END HEX KEY`,

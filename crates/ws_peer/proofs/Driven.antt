@@ -3,8 +3,8 @@ use Rattle.std.proofs.Common.{◌≡◌, ℕ, ◌+◌, ◌-◌, ◌<◌, ◌≤�
 use Rattle.std.proofs.lemmas.List.{length-take, length-take-le}
 use Rattle.std.specs.Io.KnownBytes.{Appends, Consumes, Keeps, IsAtEnd}
 use Rattle.std.proofs.KnownBytes.{Appends-trans, Consumes-nil, Consumes-trans, Consumes-kept}
-use Rattle.ws_frame.specs.declared.devices.reading_input.TheConstants.{READ_SIZE}
-use Rattle.ws_frame.specs.declared.role.Role.{Role}
+use Rattle.ws_frame.specs.declared.reading_input.TheConstants.{READ_SIZE}
+use Rattle.ws_wire.specs.declared.role.Role.{Role}
 use Rattle.ws_session.specs.Limits.{LimitsValue}
 use Rattle.ws_frame.specs.Devices.{Device, HasRead, HasWritten}
 use Rattle.ws_session.specs.Exchange.{SessionValue, is_over}

@@ -6,7 +6,7 @@ use Rattle.std.specs.Io.{StartsWith}
 use Rattle.std.proofs.lemmas.Bool.{cases_lt}
 use Rattle.std.proofs.lemmas.List.{take_all, take-append-le, take-append-drop}
 use Rattle.std.proofs.Math.Seq.{take-append_seam, drop-append_seam}
-use Rattle.ws_frame.specs.declared.role.Role.TheVariants.{Server}
+use Rattle.ws_wire.specs.declared.role.Role.TheVariants.{Server}
 use Rattle.ws_session.specs.declared.event.PlacedEvent.{PlacedEvent}
 use Rattle.ws_session.specs.Replies.{echo_reply_to}
 use Rattle.ws_session.specs.Exchange.{SessionValue, HasExchanged, is_over}

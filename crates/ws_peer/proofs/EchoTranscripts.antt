@@ -4,18 +4,18 @@ use Rattle.std.specs.List.{AllByRecursion, concat, last_or}
 use Rattle.std.proofs.lemmas.Grind.{flat_map-append}
 use Rattle.std.proofs.lemmas.List.{length-append, length-map, take_all, take-append-le}
 use Rattle.std.proofs.Math.Seq.{take-append_seam}
-use Rattle.ws_frame.specs.declared.role.Role.TheVariants.{Server}
-use Rattle.ws_frame.specs.Header.{AreBytes}
+use Rattle.ws_wire.specs.declared.role.Role.TheVariants.{Server}
+use Rattle.ws_wire.specs.Header.{AreBytes}
 use Rattle.ws_session.specs.declared.event.Event.{Event}
 use Rattle.ws_session.specs.declared.status.Status.{Status}
 use Rattle.ws_session.specs.Events.{HasEvents}
 use Rattle.ws_session.specs.Replies.{echo_replies_of}
 use Rattle.ws_session.specs.Exchange.{is_over, status_of}
 use Rattle.ws_session.specs.Sends.{most_limits}
-use Rattle.ws_suite.specs.declared.transcript.Turn.{Turn}
-use Rattle.ws_suite.specs.declared.transcript.Ended.{Ended as HowEnded}
-use Rattle.ws_suite.specs.declared.transcript.Ended.TheVariants.{Tester, Peer}
-use Rattle.ws_suite.specs.declared.transcript.Transcript.{Transcript}
+use Rattle.ws_scripts.specs.declared.transcript.Turn.{Turn}
+use Rattle.ws_scripts.specs.declared.transcript.Ended.{Ended as HowEnded}
+use Rattle.ws_scripts.specs.declared.transcript.Ended.TheVariants.{Tester, Peer}
+use Rattle.ws_scripts.specs.declared.transcript.Transcript.{Transcript}
 use Rattle.ws_suite.specs.Evidence.{got_turns, sent_turns}
 use Rattle.ws_suite.specs.Fairness.{IsEchoTranscript, ends_echo}
 use Rattle.ws_peer.specs.declared.peer.Going.{Going}

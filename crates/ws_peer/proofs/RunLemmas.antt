@@ -4,9 +4,9 @@ use Rattle.std.specs.Prelude.{map}
 use Rattle.std.specs.List.{AllByRecursion}
 use Rattle.std.proofs.lemmas.List.{length-append, map-append}
 use Rattle.std.proofs.lemmas.Grind.{flat_map-append}
-use Rattle.ws_suite.specs.declared.transcript.Turn.{Turn}
-use Rattle.ws_suite.specs.declared.transcript.Transcript.{Transcript}
-use Rattle.ws_suite.specs.declared.transcript.Ended.TheVariants.{Tester, Peer}
+use Rattle.ws_scripts.specs.declared.transcript.Turn.{Turn}
+use Rattle.ws_scripts.specs.declared.transcript.Transcript.{Transcript}
+use Rattle.ws_scripts.specs.declared.transcript.Ended.TheVariants.{Tester, Peer}
 use Rattle.ws_peer.specs.declared.peer.Going.{Going}
 use Rattle.ws_peer.specs.declared.peer.Going.TheVariants.{More, Ended}
 use Rattle.ws_peer.specs.Talks.{Entry, Fed, Finished, Says, fed_in, appended_in}

@@ -1,8 +1,8 @@
 -- The run of a script over an echo: RFC 6455 sections 5.4 to 5.6 and 7.1.
 use Rattle.std.specs.Prelude.{ℕ, List}
-use Rattle.ws_suite.specs.Scripts.{AreTurns}
-use Rattle.ws_suite.specs.declared.script.Case.{Case}
-use Rattle.ws_suite.specs.declared.transcript.Transcript.{Transcript}
+use Rattle.ws_scripts.specs.Scripts.{AreTurns}
+use Rattle.ws_scripts.specs.declared.script.Case.{Case}
+use Rattle.ws_scripts.specs.declared.transcript.Transcript.{Transcript}
 use Rattle.ws_peer.specs.Talks.{Entry}
 use Rattle.ws_peer.specs.EchoTalks.{IsEchoTalk}
 use Rattle.ws_peer.specs.Runs.{IsRunOf}

@@ -1,7 +1,7 @@
 -- The talks that a tester may have with an echo at the server's end: RFC 6455 sections 5.4 to 5.6 and 7.1.
 use Rattle.std.specs.Prelude.{◌≡◌, ℕ, ◌≤◌, ◌↔◌, Bool, true, false, List, [], length, take, Option, None, IfSome}
 use Rattle.std.specs.List.{last_or}
-use Rattle.ws_frame.specs.declared.role.Role.TheVariants.{Server}
+use Rattle.ws_wire.specs.declared.role.Role.TheVariants.{Server}
 use Rattle.ws_session.specs.declared.status.Status.{Status}
 use Rattle.ws_session.specs.Sends.{most_limits}
 use Rattle.ws_session.specs.Exchange.{SessionValue, Exchange, HasExchanged, is_over}

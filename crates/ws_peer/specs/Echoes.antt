@@ -1,7 +1,7 @@
 -- What an echo that was new makes of the bytes that it takes: RFC 6455 sections 5.5, 5.6 and 7.1.
 use Rattle.std.specs.Prelude.{◌≡◌, ℕ, Bool, List, [], map}
-use Rattle.ws_frame.specs.declared.role.Role.{Role}
-use Rattle.ws_frame.specs.Frame.{stream_bytes}
+use Rattle.ws_wire.specs.declared.role.Role.{Role}
+use Rattle.ws_wire.specs.Frame.{stream_bytes}
 use Rattle.ws_session.specs.declared.event.Event.{Event}
 use Rattle.ws_session.specs.declared.status.Status.{Status}
 use Rattle.ws_session.specs.Limits.{LimitsValue}

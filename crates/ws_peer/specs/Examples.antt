@@ -2,7 +2,7 @@
 use Rattle.std.specs.Prelude.{◌≡◌, [], ◌∷◌, None, refl}
 use Rattle.std.proofs.Common.{arith}
 use Rattle.ws_session.specs.declared.status.Status.TheVariants.{Clean, Closing}
-use Rattle.ws_suite.specs.declared.transcript.Ended.TheVariants.{Tester, Peer}
+use Rattle.ws_scripts.specs.declared.transcript.Ended.TheVariants.{Tester, Peer}
 use Rattle.ws_peer.specs.declared.peer.Going.TheVariants.{More, Ended}
 use Rattle.ws_peer.specs.Talks.{Fed, Finished, appended_in, fed_in}
 use Rattle.ws_peer.specs.EchoTalks.{IsAnsweredBy}

@@ -10,8 +10,8 @@ use crate::peer::{Going, Peer};
 use std::alloc::Global;
 use std::marker::Model;
 use ws_base::NoMemory;
-use ws_frame::{NO_KEY, Role};
 use ws_session::{Echo, Limits, MAX_MESSAGE};
+use ws_wire::{NO_KEY, Role};
 
 /// A server that sends each message back, answers what is owed, and ends the connection once its session is over.
 #[derive(Drop)]

@@ -1,7 +1,7 @@
 //! A script run over a new echo (RFC 6455 sections 5.4 to 5.6).
 
 ghost use Rattle.std.specs.Prelude.{IfOk};
-ghost use Rattle.ws_suite.specs.Scripts.{CanBeRun};
+ghost use Rattle.ws_scripts.specs.Scripts.{CanBeRun};
 ghost use Rattle.ws_suite.specs.declared.verdict.Verdict.TheVariants.{Pass};
 ghost use Rattle.ws_suite.specs.Verdicts.{IsVerdictOf};
 ghost use Rattle.ws_peer.specs.EchoRuns.{IsEchoRun};

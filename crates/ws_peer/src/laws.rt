@@ -1,8 +1,8 @@
 //! Laws over the definitions, each the contract of a function that does nothing.
 
 ghost use Rattle.std.specs.Prelude.{ℕ, List};
-ghost use Rattle.ws_frame.specs.Header.{AreBytes};
-ghost use Rattle.ws_suite.specs.declared.transcript.Transcript.{Transcript};
+ghost use Rattle.ws_wire.specs.Header.{AreBytes};
+ghost use Rattle.ws_scripts.specs.declared.transcript.Transcript.{Transcript};
 ghost use Rattle.ws_suite.specs.declared.verdict.Verdict.TheVariants.{Pass};
 ghost use Rattle.ws_suite.specs.Verdicts.{IsVerdictOf};
 ghost use Rattle.ws_peer.specs.Talks.{Entry, fed_in};

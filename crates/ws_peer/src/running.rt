@@ -2,7 +2,7 @@
 //! what came for it is recorded.
 
 ghost use Rattle.std.specs.Prelude.{◌≡◌, ℕ, List, [], ◌∷◌, IfOk, OnOk};
-ghost use Rattle.ws_suite.specs.Scripts.{AreTurns, CanBeRun};
+ghost use Rattle.ws_scripts.specs.Scripts.{AreTurns, CanBeRun};
 ghost use Rattle.ws_peer.specs.Talks.{Entry, Finished};
 ghost use Rattle.ws_peer.specs.Runs.{IsRunOf, Talked, with_finish};
 ghost use Rattle.ws_peer.specs.InnerTurnRuns.{IsTurnRun};

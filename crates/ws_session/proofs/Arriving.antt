@@ -4,7 +4,7 @@ use Rattle.std.specs.Prelude.{min}
 use Rattle.std.proofs.lemmas.Bool.{cases_lt, lt-leb}
 use Rattle.std.proofs.lemmas.List.{length-append, take-append-drop, length-take-le, length-drop, drop-take, drop-drop, drop-append-le, take_all}
 use Rattle.std.proofs.Math.Seq.{take-append_seam, take-append-add}
-use Rattle.ws_frame.specs.Header.{HeaderFields}
+use Rattle.ws_wire.specs.Header.{HeaderFields}
 use Rattle.ws_text.specs.Text.{IsText, BeginsText}
 use Rattle.ws_text.specs.Stream.{HasReadText, BreaksTextAt}
 use Rattle.ws_session.specs.declared.message.Kind.{Kind}

@@ -1,6 +1,6 @@
 -- Lists of bytes in parts.
 use Rattle.std.proofs.Common.{ℕ, zero, suc, List, [], ◌∷◌, ◌++◌, arith}
-use Rattle.ws_frame.specs.Header.{AreBytes}
+use Rattle.ws_wire.specs.Header.{AreBytes}
 
 pub bytes_append : (a b : List ℕ) → AreBytes a → AreBytes b → AreBytes (a ++ b)
 bytes_append [] b h k i = k i

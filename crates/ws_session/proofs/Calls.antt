@@ -1,6 +1,6 @@
 -- An exchange and a call by their parts.
 use Rattle.std.proofs.Common.{ℕ, Bool, List}
-use Rattle.ws_frame.specs.Frame.{Frame}
+use Rattle.ws_wire.specs.Frame.{Frame}
 use Rattle.ws_session.specs.Exchange.{Exchange}
 use Rattle.ws_session.specs.Taking.{TakeCall}
 

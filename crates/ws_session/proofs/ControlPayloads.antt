@@ -1,7 +1,7 @@
 -- What is wrong with the payload of a control frame, as far as it has come, and with a whole close payload.
 use Rattle.std.proofs.Common.{◌≡◌, ℕ, ◌+◌, ◌*◌, ◌/◌, ◌%◌, ◌<◌, ◌≤◌, List, [], length, take, drop, Option, Some, None, sym, ap, ◌∙◌, arith, inl, inr, subst}
 use Rattle.std.proofs.lemmas.List.{length-take-le}
-use Rattle.ws_frame.specs.Header.{HeaderFields}
+use Rattle.ws_wire.specs.Header.{HeaderFields}
 use Rattle.ws_text.specs.Text.{IsText}
 use Rattle.ws_session.specs.declared.message.Message.{Message}
 use Rattle.ws_session.specs.declared.reason.Reason.{Reason}

@@ -1,10 +1,10 @@
 -- Whether a reason applies to a part of a frame can be told.
 use Rattle.std.proofs.Common.{◌≡◌, ℕ, ◌+◌, ◌*◌, ◌^◌, ◌<◌, ◌≤◌, ◌⊎◌, ◌/◌, ◌%◌, Bool, true, false, List, [], ◌∷◌, ◌++◌, length, drop, get_or, Option, Some, None, refl, sym, ap, ◌∙◌, arith, inl, inr, subst}
 use Rattle.std.proofs.lemmas.Bool.{cases_eq}
-use Rattle.ws_frame.specs.declared.role.Role.{Role}
-use Rattle.ws_frame.specs.declared.header.Form.{Form}
-use Rattle.ws_frame.specs.declared.header.Form.TheVariants.{Short, Two, Eight}
-use Rattle.ws_frame.specs.Header.{HeaderFields, AreBytes, is_masked}
+use Rattle.ws_wire.specs.declared.role.Role.{Role}
+use Rattle.ws_wire.specs.declared.header.Form.{Form}
+use Rattle.ws_wire.specs.declared.header.Form.TheVariants.{Short, Two, Eight}
+use Rattle.ws_wire.specs.Header.{HeaderFields, AreBytes, is_masked}
 use Rattle.ws_text.specs.Text.{IsText, BeginsText}
 use Rattle.ws_text.specs.Close.{CloseValue, CodeAllowed, HoldsCode, HasBadCode}
 use Rattle.ws_text.proofs.Closes.{holds_code, behind_code}

@@ -3,10 +3,10 @@ use Rattle.std.proofs.Common.{◌≡◌, ℕ, ◌+◌, ◌^◌, ◌<◌, ◌≤�
 use Rattle.std.specs.List.{AllByRecursion, flat_map}
 use Rattle.std.proofs.lemmas.Bool.{cases_lt}
 use Rattle.std.proofs.lemmas.List.{append-nil, length-append}
-use Rattle.ws_frame.specs.declared.role.Role.{Role}
-use Rattle.ws_frame.specs.Header.{AreBytes, IsMaskingKey}
-use Rattle.ws_frame.specs.Frame.{Frame, KeyedFrame, FitsTheLayout, frame_bytes}
-use Rattle.ws_frame.proofs.Splits.{all-append}
+use Rattle.ws_wire.specs.declared.role.Role.{Role}
+use Rattle.ws_wire.specs.Header.{AreBytes, IsMaskingKey}
+use Rattle.ws_wire.specs.Frame.{Frame, KeyedFrame, FitsTheLayout, frame_bytes}
+use Rattle.ws_wire.proofs.Splits.{all-append}
 use Rattle.ws_text.specs.Text.{IsText, BeginsText}
 use Rattle.ws_session.specs.declared.message.Kind.{Kind}
 use Rattle.ws_session.specs.declared.message.Kind.TheVariants.{Text, Binary}

@@ -1,11 +1,11 @@
 -- A close or a fault is the last event of a stream.
 use Rattle.std.proofs.Common.{◌≡◌, ℕ, ◌<◌, Bool, true, false, cond, List, [], ◌∷◌, ◌++◌, drop, Option, Some, None, refl, sym, ap, ◌∙◌, arith, inl, inr, subst}
 use Rattle.std.specs.List.{AllByRecursion}
-use Rattle.ws_frame.specs.declared.role.Role.{Role}
-use Rattle.ws_frame.specs.Header.{header_bytes}
-use Rattle.ws_frame.specs.Masking.{masked_payload}
-use Rattle.ws_frame.specs.Frame.{Frame, KeyedFrame, stream_bytes}
-use Rattle.ws_frame.specs.Stream.{SplitsInto}
+use Rattle.ws_wire.specs.declared.role.Role.{Role}
+use Rattle.ws_wire.specs.Header.{header_bytes}
+use Rattle.ws_wire.specs.Masking.{masked_payload}
+use Rattle.ws_wire.specs.Frame.{Frame, KeyedFrame, stream_bytes}
+use Rattle.ws_wire.specs.Stream.{SplitsInto}
 use Rattle.ws_text.specs.Close.{CloseValue}
 use Rattle.ws_session.specs.declared.reason.Reason.{Reason}
 use Rattle.ws_session.specs.declared.event.Event.{Event}

@@ -2,11 +2,11 @@
 use Rattle.std.proofs.Common.{◌≡◌, ℕ, ◌+◌, ◌-◌, ◌<◌, ◌≤◌, List, [], ◌∷◌, ◌++◌, length, take, drop, Option, Some, None, refl, sym, ap, ◌∙◌, append_assoc, arith, inl, inr}
 use Rattle.std.proofs.lemmas.Bool.{cases_lt}
 use Rattle.std.proofs.lemmas.List.{length-append, append-nil, map-append, take_at, take-append-le, take-append-drop}
-use Rattle.ws_frame.specs.declared.role.Role.{Role}
-use Rattle.ws_frame.specs.Frame.{Frame, KeyedFrame, FitsTheLayout, frame_bytes, stream_bytes}
-use Rattle.ws_frame.specs.Stream.{SplitsInto}
-use Rattle.ws_frame.proofs.Frames.{none_begins}
-use Rattle.ws_frame.proofs.Splits.{split_is_one}
+use Rattle.ws_wire.specs.declared.role.Role.{Role}
+use Rattle.ws_wire.specs.Frame.{Frame, KeyedFrame, FitsTheLayout, frame_bytes, stream_bytes}
+use Rattle.ws_wire.specs.Stream.{SplitsInto}
+use Rattle.ws_wire.proofs.Frames.{none_begins}
+use Rattle.ws_wire.proofs.Splits.{split_is_one}
 use Rattle.ws_session.specs.declared.reason.Reason.{Reason}
 use Rattle.ws_session.specs.declared.event.Event.{Event}
 use Rattle.ws_session.specs.declared.event.Event.TheVariants as event

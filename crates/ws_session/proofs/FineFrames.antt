@@ -3,10 +3,10 @@ use Rattle.std.proofs.Common.{◌≡◌, ℕ, suc, ◌+◌, ◌*◌, ◌/◌, �
 use Rattle.std.specs.Prelude.{nat_lt}
 use Rattle.std.proofs.lemmas.Bool.{cases_lt, lt-ltb, le-ltb}
 use Rattle.std.proofs.lemmas.List.{length-append, append-nil}
-use Rattle.ws_frame.specs.declared.role.Role.{Role}
-use Rattle.ws_frame.specs.declared.header.Form.TheVariants.{Short, Two, Eight}
-use Rattle.ws_frame.specs.Header.{HeaderFields, is_masked}
-use Rattle.ws_frame.specs.Frame.{KeyedFrame, FitsTheLayout, frame_bytes, shortest_form}
+use Rattle.ws_wire.specs.declared.role.Role.{Role}
+use Rattle.ws_wire.specs.declared.header.Form.TheVariants.{Short, Two, Eight}
+use Rattle.ws_wire.specs.Header.{HeaderFields, is_masked, shortest_form}
+use Rattle.ws_wire.specs.Frame.{KeyedFrame, FitsTheLayout, frame_bytes}
 use Rattle.ws_text.specs.Text.{IsText, BeginsText}
 use Rattle.ws_session.specs.declared.message.Kind.{Kind}
 use Rattle.ws_session.specs.declared.message.Kind.TheVariants.{Text, Binary}

@@ -3,15 +3,15 @@ use Rattle.std.proofs.Common.{◌≡◌, ℕ, zero, suc, ◌<◌, ◌≤◌, ◌
 use Rattle.std.specs.List.{AllByRecursion}
 use Rattle.std.proofs.lemmas.Bool.{cases_lt}
 use Rattle.std.proofs.lemmas.List.{length-append, append-nil}
-use Rattle.ws_frame.specs.declared.role.Role.{Role}
-use Rattle.ws_frame.specs.Header.{HeaderFields, IsHeader, AreBytes, header_bytes}
-use Rattle.ws_frame.specs.Masking.{masked_payload}
-use Rattle.ws_frame.specs.Frame.{KeyedFrame, FitsTheLayout, frame_bytes, stream_bytes}
-use Rattle.ws_frame.proofs.Numbers.{front_bytes}
-use Rattle.ws_frame.proofs.Headers.{same_header, header_or_none, header_parts, SomeHeader}
-use Rattle.ws_frame.proofs.Masks.{length-masked_payload, masked_payload_twice, masked_payload_bytes}
-use Rattle.ws_frame.proofs.Splits.{rest_bytes, some_split}
-use Rattle.ws_frame.proofs.Frames.{no_frame_begins, frame_told}
+use Rattle.ws_wire.specs.declared.role.Role.{Role}
+use Rattle.ws_wire.specs.Header.{HeaderFields, IsHeader, AreBytes, header_bytes}
+use Rattle.ws_wire.specs.Masking.{masked_payload}
+use Rattle.ws_wire.specs.Frame.{KeyedFrame, FitsTheLayout, frame_bytes, stream_bytes}
+use Rattle.ws_wire.proofs.Numbers.{front_bytes}
+use Rattle.ws_wire.proofs.Headers.{same_header, header_or_none, header_parts, SomeHeader}
+use Rattle.ws_wire.proofs.Masks.{length-masked_payload, masked_payload_twice, masked_payload_bytes}
+use Rattle.ws_wire.proofs.Splits.{rest_bytes, some_split}
+use Rattle.ws_wire.proofs.Frames.{no_frame_begins, frame_told}
 use Rattle.ws_session.specs.declared.reason.Reason.{Reason}
 use Rattle.ws_session.specs.declared.event.Event.{Event}
 use Rattle.ws_session.specs.Limits.{LimitsValue}

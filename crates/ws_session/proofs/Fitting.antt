@@ -3,7 +3,7 @@ use Rattle.std.proofs.Common.{◌≡◌, ℕ, ◌+◌, ◌<◌, ◌≤◌, ◌�
 use Rattle.std.specs.Prelude.{not, ◌&&◌, ◌||◌, nat_lt}
 use Rattle.std.proofs.lemmas.Bool.{cases_lt, lt-ltb, ltb-true, lt-leb}
 use Rattle.std.proofs.lemmas.List.{append-nil, map-append}
-use Rattle.ws_frame.specs.Frame.{Frame, KeyedFrame}
+use Rattle.ws_wire.specs.Frame.{Frame, KeyedFrame}
 use Rattle.ws_session.specs.declared.message.Message.{Message}
 use Rattle.ws_session.specs.declared.reason.Reason.{Reason}
 use Rattle.ws_session.specs.Limits.{LimitsValue}

@@ -2,15 +2,15 @@
 use Rattle.std.proofs.Common.{◌≡◌, ◌≢◌, ℕ, zero, suc, ◌+◌, ◌^◌, ◌<◌, ◌≤◌, ◌⊎◌, Bool, List, [], ◌++◌, length, take, drop, Option, Some, None, refl, sym, ap, ◌∙◌, append_assoc, arith, inl, inr, subst}
 use Rattle.std.proofs.lemmas.Bool.{cases_lt, lt-ltb, le-ltb}
 use Rattle.std.proofs.lemmas.List.{length-append, take_at, take-append-drop, length-take, length-take-le}
-use Rattle.ws_frame.specs.declared.role.Role.{Role}
-use Rattle.ws_frame.specs.declared.header.Form.{Form}
-use Rattle.ws_frame.specs.declared.header.Form.TheVariants.{Short, Two, Eight}
-use Rattle.ws_frame.specs.Header.{HeaderFields, IsMaskingKey, AreBytes, header_bytes, CanHold}
-use Rattle.ws_frame.specs.Masking.{masked_payload}
-use Rattle.ws_frame.specs.Frame.{KeyedFrame, FitsTheLayout, sent_as, frame_bytes, shortest_form}
-use Rattle.ws_frame.proofs.Frames.{sent_is_wire}
-use Rattle.ws_frame.proofs.Headers.{same_header}
-use Rattle.ws_frame.proofs.Masks.{length-masked_payload, same_masked_payload, take-masked_payload}
+use Rattle.ws_wire.specs.declared.role.Role.{Role}
+use Rattle.ws_wire.specs.declared.header.Form.{Form}
+use Rattle.ws_wire.specs.declared.header.Form.TheVariants.{Short, Two, Eight}
+use Rattle.ws_wire.specs.Header.{HeaderFields, IsMaskingKey, AreBytes, header_bytes, CanHold, shortest_form}
+use Rattle.ws_wire.specs.Masking.{masked_payload}
+use Rattle.ws_wire.specs.Frame.{KeyedFrame, FitsTheLayout, sent_as, frame_bytes}
+use Rattle.ws_wire.proofs.Frames.{sent_is_wire}
+use Rattle.ws_wire.proofs.Headers.{same_header}
+use Rattle.ws_wire.proofs.Masks.{length-masked_payload, same_masked_payload, take-masked_payload}
 use Rattle.ws_session.specs.declared.message.Message.{Message}
 use Rattle.ws_session.specs.declared.reason.Reason.{Reason}
 use Rattle.ws_session.specs.declared.reason.Reason.TheVariants.{ReservedBits, Opcode, MaskWrong, NotShortest, BadLength, ControlCut, ControlLong, NothingToContinue, MessageOpen, TooBig, FrameBig, NotText, TextCut, CloseOneByte, CloseCode, CloseReason}
@@ -20,13 +20,13 @@ use Rattle.ws_session.specs.InnerNextFrame.{header_of, IsFaultOfNext, HasNoFault
 use Rattle.std.specs.Prelude.{min}
 use Rattle.std.proofs.Common.{add-zero}
 use Rattle.std.proofs.lemmas.List.{take_all, take-take}
-use Rattle.ws_frame.specs.Header.{key_bytes, length_bytes}
-use Rattle.ws_frame.specs.Reading.{Begins, BeginsNoHeader}
-use Rattle.ws_frame.proofs.Headers.{header_parts}
-use Rattle.ws_frame.proofs.Numbers.{front_bytes}
-use Rattle.ws_frame.proofs.Masks.{masked_payload_twice, masked_payload_bytes}
-use Rattle.ws_frame.proofs.Splits.{rest_bytes}
-use Rattle.ws_frame.proofs.Frames.{no_wire_of_cut_payload, no_wire_without_header}
+use Rattle.ws_wire.specs.Header.{key_bytes, length_bytes}
+use Rattle.ws_wire.specs.Reading.{Begins, BeginsNoHeader}
+use Rattle.ws_wire.proofs.Headers.{header_parts}
+use Rattle.ws_wire.proofs.Numbers.{front_bytes}
+use Rattle.ws_wire.proofs.Masks.{masked_payload_twice, masked_payload_bytes}
+use Rattle.ws_wire.proofs.Splits.{rest_bytes}
+use Rattle.ws_wire.proofs.Frames.{no_wire_of_cut_payload, no_wire_without_header}
 use Rattle.ws_session.specs.Faults.{IsControl}
 use Rattle.ws_session.specs.InnerChecking.{NoneAtHeader, IsFirstAtHeader, NoneInPayload, IsFirstInPayload, frame_with, IsRoomFor}
 use Rattle.ws_session.proofs.HeaderReasons.{early_or_big}

@@ -1,6 +1,6 @@
 -- A session that has sent and taken nothing.
 use Rattle.std.proofs.Common.{false, [], Option, None, refl, arith}
-use Rattle.ws_frame.specs.declared.role.Role.{Role}
+use Rattle.ws_wire.specs.declared.role.Role.{Role}
 use Rattle.ws_session.specs.declared.message.Message.{Message}
 use Rattle.ws_session.specs.Limits.{LimitsValue}
 use Rattle.ws_session.specs.Faults.{HasNoFault}

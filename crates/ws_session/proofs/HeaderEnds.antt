@@ -3,10 +3,10 @@ use Rattle.std.proofs.Common.{◌≡◌, ℕ, ◌+◌, ◌<◌, List, [], ◌∷
 use Rattle.std.proofs.lemmas.Bool.{cases_lt}
 use Rattle.std.proofs.lemmas.List.{length-append, take-append-drop, length-take-le, take-take, take_more}
 use Rattle.std.proofs.Math.Seq.{take-append-add}
-use Rattle.ws_frame.specs.Header.{HeaderFields, IsHeaderOf, AreBytes}
-use Rattle.ws_frame.proofs.Numbers.{front_bytes}
+use Rattle.ws_wire.specs.Header.{HeaderFields, IsHeaderOf, AreBytes}
+use Rattle.ws_wire.proofs.Numbers.{front_bytes}
 use Rattle.ws_session.proofs.ByteLists.{bytes_append}
-use Rattle.ws_frame.specs.Reading.{Begins, BeginsNoHeader}
+use Rattle.ws_wire.specs.Reading.{Begins, BeginsNoHeader}
 use Rattle.ws_session.specs.InnerReceiving.{CompletesHeader}
 
 -- with one byte more a header stands there, and it takes all of them

@@ -3,9 +3,9 @@ use Rattle.std.proofs.Common.{◌≡◌, ℕ, ◌+◌, ◌-◌, ◌%◌, ◌≤�
 use Rattle.std.specs.Prelude.{bit_xor, slice_index}
 use Rattle.std.proofs.Math.Seq.{take-append-add, take-append_seam}
 use Rattle.std.proofs.lemmas.List.{length-append, length-replicate}
-use Rattle.ws_frame.specs.Header.{HeaderFields}
-use Rattle.ws_frame.specs.Masking.{masked, masked_payload}
-use Rattle.ws_frame.proofs.Masks.{masked-append, masked_payload_twice, length-masked, length-masked_payload}
+use Rattle.ws_wire.specs.Header.{HeaderFields}
+use Rattle.ws_wire.specs.Masking.{masked, masked_payload}
+use Rattle.ws_wire.proofs.Masks.{masked-append, masked_payload_twice, length-masked, length-masked_payload}
 use Rattle.ws_session.specs.InnerMasked.{masked_from}
 use Rattle.ws_session.specs.InnerReceiving.{arrived_payload}
 

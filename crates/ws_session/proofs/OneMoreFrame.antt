@@ -4,11 +4,11 @@ use Rattle.std.specs.List.{AllByRecursion}
 use Rattle.std.proofs.lemmas.Bool.{le-ltb}
 use Rattle.std.proofs.lemmas.List.{length-append, append-nil, map-append}
 use Rattle.std.proofs.lemmas.Grind.{flat_map-append}
-use Rattle.ws_frame.specs.declared.role.Role.{Role}
-use Rattle.ws_frame.specs.Header.{AreBytes}
-use Rattle.ws_frame.specs.Frame.{Frame, KeyedFrame, FitsTheLayout, frame_bytes, stream_bytes}
-use Rattle.ws_frame.specs.Stream.{SplitsInto}
-use Rattle.ws_frame.proofs.Frames.{no_frame_begins, frame_told}
+use Rattle.ws_wire.specs.declared.role.Role.{Role}
+use Rattle.ws_wire.specs.Header.{AreBytes}
+use Rattle.ws_wire.specs.Frame.{Frame, KeyedFrame, FitsTheLayout, frame_bytes, stream_bytes}
+use Rattle.ws_wire.specs.Stream.{SplitsInto}
+use Rattle.ws_wire.proofs.Frames.{no_frame_begins, frame_told}
 use Rattle.ws_session.specs.declared.message.Message.{Message}
 use Rattle.ws_session.specs.declared.reason.Reason.{Reason}
 use Rattle.ws_session.specs.declared.event.Event.{Event}
@@ -32,7 +32,7 @@ use Rattle.ws_session.proofs.Statuses.{IsGoingOn, status_snoc}
 use Rattle.ws_session.proofs.StatusReplies.{replies_at, owed_keeps, status_after_event}
 use Rattle.ws_session.proofs.Streams.{ending_before_past}
 use Rattle.ws_session.proofs.Next.{still_clean, first_of_next, within_front, two_bytes}
-use Rattle.ws_frame.proofs.Splits.{all-append, SomeSplit, some_split, split_goes_on}
+use Rattle.ws_wire.proofs.Splits.{all-append, SomeSplit, some_split, split_goes_on}
 
 pub through_close_same : (xs : List KeyedFrame) → AllByRecursion IsNoClose xs → through_close xs ≡ xs
 through_close_same [] h = refl

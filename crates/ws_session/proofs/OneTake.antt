@@ -3,13 +3,13 @@ use Rattle.std.proofs.Common.{◌≡◌, ℕ, ◌+◌, ◌<◌, ◌≤◌, Bool,
 use Rattle.std.specs.Prelude.{map}
 use Rattle.std.proofs.lemmas.Bool.{cases_lt}
 use Rattle.std.proofs.lemmas.List.{length-append, append-nil, take-append-drop, length-take-le}
-use Rattle.ws_frame.specs.declared.role.Role.{Role}
-use Rattle.ws_frame.specs.Header.{AreBytes, header_bytes}
-use Rattle.ws_frame.specs.Masking.{masked_payload}
-use Rattle.ws_frame.specs.Frame.{Frame, KeyedFrame, FitsTheLayout, frame_bytes, stream_bytes}
-use Rattle.ws_frame.proofs.Frames.{no_frame_begins}
-use Rattle.ws_frame.proofs.Headers.{same_parts}
-use Rattle.ws_frame.proofs.Masks.{length-masked_payload}
+use Rattle.ws_wire.specs.declared.role.Role.{Role}
+use Rattle.ws_wire.specs.Header.{AreBytes, header_bytes}
+use Rattle.ws_wire.specs.Masking.{masked_payload}
+use Rattle.ws_wire.specs.Frame.{Frame, KeyedFrame, FitsTheLayout, frame_bytes, stream_bytes}
+use Rattle.ws_wire.proofs.Frames.{no_frame_begins}
+use Rattle.ws_wire.proofs.Headers.{same_parts}
+use Rattle.ws_wire.proofs.Masks.{length-masked_payload}
 use Rattle.ws_session.specs.declared.message.Message.{Message}
 use Rattle.ws_session.specs.declared.reason.Reason.{Reason}
 use Rattle.ws_session.specs.declared.event.Event.{Event}
@@ -26,7 +26,7 @@ use Rattle.ws_session.specs.Taking.{Takes}
 use Rattle.ws_session.proofs.Calls.{exchange_of, call_of}
 use Rattle.std.proofs.lemmas.List.{take_all}
 use Rattle.ws_session.proofs.ByteLists.{front_are_bytes}
-use Rattle.ws_frame.proofs.Numbers.{front_bytes}
+use Rattle.ws_wire.proofs.Numbers.{front_bytes}
 use Rattle.ws_session.proofs.Next.{within_front, next_later, next_earlier, drop_front}
 use Rattle.ws_session.proofs.Statuses.{IsGoingOn, is_going_on}
 use Rattle.ws_session.proofs.StatusReplies.{replies_at, no_replies}

@@ -5,12 +5,12 @@ use Rattle.std.specs.List.{AllByRecursion, flat_map}
 use Rattle.std.proofs.lemmas.Bool.{cases_lt}
 use Rattle.std.proofs.lemmas.List.{length-append, append-nil}
 use Rattle.std.proofs.lemmas.Grind.{flat_map-append}
-use Rattle.ws_frame.specs.declared.role.Role.{Role}
-use Rattle.ws_frame.specs.Header.{AreBytes, header_bytes}
-use Rattle.ws_frame.specs.Masking.{masked_payload}
-use Rattle.ws_frame.specs.Frame.{Frame, KeyedFrame, FitsTheLayout, frame_bytes, stream_bytes}
-use Rattle.ws_frame.specs.Stream.{SplitsInto}
-use Rattle.ws_frame.proofs.Frames.{frame_told}
+use Rattle.ws_wire.specs.declared.role.Role.{Role}
+use Rattle.ws_wire.specs.Header.{AreBytes, header_bytes}
+use Rattle.ws_wire.specs.Masking.{masked_payload}
+use Rattle.ws_wire.specs.Frame.{Frame, KeyedFrame, FitsTheLayout, frame_bytes, stream_bytes}
+use Rattle.ws_wire.specs.Stream.{SplitsInto}
+use Rattle.ws_wire.proofs.Frames.{frame_told}
 use Rattle.ws_session.specs.declared.message.Message.{Message}
 use Rattle.ws_session.specs.declared.reason.Reason.{Reason}
 use Rattle.ws_session.specs.declared.event.Event.{Event}
@@ -27,7 +27,7 @@ use Rattle.ws_session.specs.Exchange.{SessionValue, HasExchanged, is_over, last_
 use Rattle.ws_session.proofs.ByteLists.{bytes_append}
 use Rattle.ws_session.proofs.Faults.{fault_before}
 use Rattle.ws_session.proofs.EventsGoOn.{one_events}
-use Rattle.ws_frame.proofs.Splits.{some_split}
+use Rattle.ws_wire.proofs.Splits.{some_split}
 use Rattle.ws_session.proofs.Faults.{first_stays}
 use Rattle.ws_session.proofs.Streams.{goes_on}
 use Rattle.ws_session.proofs.EventsGoOn.{ending_before_stays}

@@ -2,10 +2,10 @@
 use Rattle.std.proofs.Common.{◌≡◌, ℕ, ◌+◌, ◌-◌, ◌<◌, ◌≤◌, List, [], ◌++◌, length, take, drop, Option, None, refl, sym, ap, ◌∙◌, arith, inl, inr, subst}
 use Rattle.std.proofs.lemmas.Bool.{cases_lt}
 use Rattle.std.proofs.lemmas.List.{length-append, length-take-le, length-drop, drop-take, append-nil, take_all}
-use Rattle.ws_frame.specs.declared.role.Role.{Role}
-use Rattle.ws_frame.specs.Header.{HeaderFields, AreBytes, header_bytes}
-use Rattle.ws_frame.specs.Masking.{masked_payload}
-use Rattle.ws_frame.specs.Reading.{Begins, BeginsNoHeader}
+use Rattle.ws_wire.specs.declared.role.Role.{Role}
+use Rattle.ws_wire.specs.Header.{HeaderFields, AreBytes, header_bytes}
+use Rattle.ws_wire.specs.Masking.{masked_payload}
+use Rattle.ws_wire.specs.Reading.{Begins, BeginsNoHeader}
 use Rattle.ws_text.specs.Stream.{HasReadText}
 use Rattle.ws_session.specs.declared.message.Message.{Message}
 use Rattle.ws_session.specs.declared.reason.Reason.{Reason}
@@ -21,7 +21,7 @@ use Rattle.ws_session.specs.InnerReceiving.{AssemblyValue, with_text, frame_payl
 use Rattle.ws_session.proofs.Frames.{none_or_some, one_or_two, at_header, part_of_header, room_for_header}
 use Rattle.ws_session.proofs.Payloads.{read_open}
 use Rattle.ws_session.proofs.Assembled.{first_is}
-use Rattle.ws_frame.proofs.Masks.{length-masked_payload}
+use Rattle.ws_wire.proofs.Masks.{length-masked_payload}
 use Rattle.ws_session.proofs.Received.{begins_kept, kept_checked, first_checked}
 
 -- ---- a header that breaks no rule

@@ -2,13 +2,13 @@
 use Rattle.std.proofs.Common.{◌≡◌, ℕ, zero, suc, ◌+◌, ◌%◌, ◌≤◌, ◌⊎◌, List, [], ◌∷◌, ◌++◌, length, take, drop, Option, Some, None, refl, sym, ap, ◌∙◌, append_assoc, arith, inl, inr}
 use Rattle.std.specs.Prelude.{slice_index, bit_xor}
 use Rattle.std.proofs.lemmas.List.{take-append-drop, length-take}
-use Rattle.ws_frame.specs.declared.role.Role.{Role}
-use Rattle.ws_frame.specs.Header.{HeaderFields, IsHeader, header_bytes}
-use Rattle.ws_frame.specs.Masking.{masked, masked_payload}
-use Rattle.ws_frame.specs.Frame.{KeyedFrame, FitsTheLayout, frame_bytes, stream_bytes}
-use Rattle.ws_frame.proofs.Frames.{no_frame_begins, sent_is_wire}
-use Rattle.ws_frame.proofs.Headers.{same_header, same_parts}
-use Rattle.ws_frame.proofs.Masks.{length-masked_payload, same_masked_payload}
+use Rattle.ws_wire.specs.declared.role.Role.{Role}
+use Rattle.ws_wire.specs.Header.{HeaderFields, IsHeader, header_bytes}
+use Rattle.ws_wire.specs.Masking.{masked, masked_payload}
+use Rattle.ws_wire.specs.Frame.{KeyedFrame, FitsTheLayout, frame_bytes, stream_bytes}
+use Rattle.ws_wire.proofs.Frames.{no_frame_begins, sent_is_wire}
+use Rattle.ws_wire.proofs.Headers.{same_header, same_parts}
+use Rattle.ws_wire.proofs.Masks.{length-masked_payload, same_masked_payload}
 use Rattle.ws_session.specs.declared.reason.Reason.{Reason}
 use Rattle.ws_session.specs.Limits.{LimitsValue}
 use Rattle.ws_session.specs.Faults.{IsFaultAt}

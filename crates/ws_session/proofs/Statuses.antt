@@ -3,8 +3,8 @@ use Rattle.std.proofs.Common.{◌≡◌, ℕ, ◌⊎◌, Bool, true, false, cond
 use Rattle.std.specs.Prelude.{◌==◌}
 use Rattle.std.specs.List.{AllByRecursion}
 use Rattle.std.proofs.lemmas.List.{map-append}
-use Rattle.ws_frame.specs.Header.{AreBytes}
-use Rattle.ws_frame.specs.Frame.{Frame, KeyedFrame, stream_bytes}
+use Rattle.ws_wire.specs.Header.{AreBytes}
+use Rattle.ws_wire.specs.Frame.{Frame, KeyedFrame, stream_bytes}
 use Rattle.ws_session.specs.declared.reason.Reason.{Reason}
 use Rattle.ws_session.specs.declared.event.Event.{Event}
 use Rattle.ws_session.specs.declared.event.Event.TheVariants as event

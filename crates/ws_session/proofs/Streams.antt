@@ -2,8 +2,8 @@
 use Rattle.std.proofs.Common.{◌≡◌, ℕ, ◌+◌, ◌-◌, ◌<◌, ◌≤◌, Bool, true, false, cond, List, [], ◌∷◌, ◌++◌, length, refl, sym, ap, ◌∙◌, append_assoc, arith, inl, inr}
 use Rattle.std.proofs.lemmas.Bool.{cases_lt, lt-ltb, le-ltb}
 use Rattle.std.proofs.lemmas.List.{length-append}
-use Rattle.ws_frame.specs.Frame.{KeyedFrame, frame_bytes, stream_bytes}
-use Rattle.ws_frame.proofs.Frames.{no_frame_begins}
+use Rattle.ws_wire.specs.Frame.{KeyedFrame, frame_bytes, stream_bytes}
+use Rattle.ws_wire.proofs.Frames.{no_frame_begins}
 use Rattle.ws_session.specs.Messages.{is_close}
 use Rattle.ws_session.specs.Events.{through_close, ending_before}
 use Rattle.ws_session.specs.InnerNextFrame.{AreSent, BeginsNoFrame}

@@ -4,7 +4,7 @@ use Rattle.std.specs.List.{AllByRecursion}
 use Rattle.std.proofs.lemmas.Bool.{cases_lt}
 use Rattle.std.proofs.lemmas.List.{length-append, append-nil}
 use Rattle.std.proofs.lemmas.Grind.{flat_map-append}
-use Rattle.ws_frame.specs.Frame.{Frame}
+use Rattle.ws_wire.specs.Frame.{Frame}
 use Rattle.ws_text.specs.Text.{IsText, BeginsText}
 use Rattle.ws_session.specs.declared.message.Kind.TheVariants.{Text}
 use Rattle.ws_session.specs.declared.message.Message.{Message}
@@ -16,7 +16,7 @@ use Rattle.ws_text.specs.Close.{CloseValue, IsClosePayload}
 use Rattle.ws_session.specs.Messages.{Groups, kind_of, first_opcode, joined_payload, message_if_any}
 use Rattle.ws_session.specs.Validity.{IsValidAlone, CloseIsLast, IsContinuation, IsGroup, IsValidGroup, AreValidFrames, FitsTheFrameLimit}
 use Rattle.ws_session.specs.Faults.{IsOpenText}
-use Rattle.ws_frame.proofs.Splits.{all-append}
+use Rattle.ws_wire.proofs.Splits.{all-append}
 use Rattle.ws_session.proofs.OpenMessage.{groups_control, groups_end, groups_more}
 use Rattle.ws_session.proofs.Frames.{one_or_two}
 use Rattle.ws_session.proofs.Payloads.{begins_front, text_of, text_if, kind_is_text}

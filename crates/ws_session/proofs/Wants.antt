@@ -4,13 +4,13 @@ use Rattle.std.specs.Prelude.{option_to_list, Result, Ok, Err, OnErr}
 use Rattle.std.proofs.lemmas.Bool.{cases_lt}
 use Rattle.std.proofs.lemmas.List.{length-append, append-nil, take-append-drop, length-take, length-take-le, length-drop, take-take, take_all, drop_all}
 use Rattle.std.proofs.Math.Seq.{take-append-add}
-use Rattle.ws_frame.specs.declared.role.Role.{Role}
-use Rattle.ws_frame.specs.Header.{HeaderFields, AreBytes, header_bytes}
-use Rattle.ws_frame.specs.Masking.{masked_payload}
-use Rattle.ws_frame.specs.Frame.{stream_bytes}
-use Rattle.ws_frame.specs.Reading.{Begins}
-use Rattle.ws_frame.proofs.Masks.{masked_payload_twice, length-masked_payload}
-use Rattle.ws_frame.proofs.Numbers.{front_bytes}
+use Rattle.ws_wire.specs.declared.role.Role.{Role}
+use Rattle.ws_wire.specs.Header.{HeaderFields, AreBytes, header_bytes}
+use Rattle.ws_wire.specs.Masking.{masked_payload}
+use Rattle.ws_wire.specs.Frame.{stream_bytes}
+use Rattle.ws_wire.specs.Reading.{Begins}
+use Rattle.ws_wire.proofs.Masks.{masked_payload_twice, length-masked_payload}
+use Rattle.ws_wire.proofs.Numbers.{front_bytes}
 use Rattle.ws_session.specs.declared.message.Message.{Message}
 use Rattle.ws_session.specs.declared.reason.Reason.TheVariants.{ReservedBits, Opcode, MaskWrong, NotShortest, BadLength, ControlCut, ControlLong, NothingToContinue, MessageOpen, TooBig, FrameBig, NotText, TextCut, CloseOneByte, CloseCode, CloseReason}
 use Rattle.ws_session.specs.declared.event.Event.{Event}

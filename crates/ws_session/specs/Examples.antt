@@ -2,11 +2,11 @@
 use Rattle.std.proofs.Common.{◌≡◌, ℕ, zero, suc, ◌<◌, ◌≤◌, true, false, List, [], ◌∷◌, take, Some, None, refl, arith}
 use Rattle.std.proofs.Common.{inl, inr, lit≤}
 use Rattle.std.proofs.lemmas.List.Elements.{All-nil, All-cons}
-use Rattle.ws_frame.specs.Header.{AreBytes}
-use Rattle.ws_frame.specs.declared.header.Form.TheVariants.{Short}
+use Rattle.ws_wire.specs.Header.{AreBytes}
+use Rattle.ws_wire.specs.declared.header.Form.TheVariants.{Short}
 use Rattle.ws_text.specs.Text.{IsScalarValue, char_bytes, IsText}
-use Rattle.ws_frame.specs.Frame.{KeyedFrame, frame_bytes, stream_bytes}
-use Rattle.ws_frame.specs.declared.role.Role.TheVariants.{Client, Server}
+use Rattle.ws_wire.specs.Frame.{KeyedFrame, frame_bytes, stream_bytes}
+use Rattle.ws_wire.specs.declared.role.Role.TheVariants.{Client, Server}
 use Rattle.ws_session.specs.declared.message.Kind.TheVariants.{Text, Binary}
 use Rattle.ws_session.specs.declared.reason.Reason.TheVariants.{TooBig, FrameBig, MessageOpen}
 use Rattle.ws_session.specs.declared.event.Event.TheVariants as event

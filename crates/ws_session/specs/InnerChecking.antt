@@ -1,9 +1,9 @@
 -- Inside the crate: what the check of one frame answers, for contracts of private functions. A reader may skip this
 -- file.
 use Rattle.std.specs.Prelude.{ℕ, ◌+◌, ◌≤◌, List, length, take, Option}
-use Rattle.ws_frame.specs.declared.role.Role.{Role}
-use Rattle.ws_frame.specs.Header.{HeaderFields}
-use Rattle.ws_frame.specs.Frame.{Frame}
+use Rattle.ws_wire.specs.declared.role.Role.{Role}
+use Rattle.ws_wire.specs.Header.{HeaderFields}
+use Rattle.ws_wire.specs.Frame.{Frame}
 use Rattle.ws_text.specs.declared.closing.CloseFault.{CloseFault}
 use Rattle.ws_text.specs.declared.closing.CloseFault.TheVariants.{OneByte, BadCode, ReasonNotText}
 use Rattle.ws_session.specs.declared.message.Message.{Message}

@@ -1,6 +1,6 @@
 -- Inside the crate: what holds of every session, for its invariant. A reader may skip this file.
 use Rattle.std.specs.Prelude.{◌≡◌, ℕ, ◌+◌, ◌≤◌, true, List, [], ◌∷◌, ◌++◌, length, Option, Some, None}
-use Rattle.ws_frame.specs.Frame.{Frame}
+use Rattle.ws_wire.specs.Frame.{Frame}
 use Rattle.ws_session.specs.declared.limits.TheConstants.{MAX_MESSAGE}
 use Rattle.ws_session.specs.declared.message.Message.{Message}
 use Rattle.ws_session.specs.declared.event.Event.{Event}

@@ -10,7 +10,6 @@ pub mod Memory
 pub mod Sends
 pub mod Reach
 pub mod Words
-pub mod KeyedSends
 pub mod Examples
 pub mod InnerNextFrame
 pub mod InnerAssembly

@@ -1,9 +1,9 @@
 -- When a call that takes bytes may want memory. The rule is ours: section 10.4 leaves memory to the endpoint.
 use Rattle.std.specs.Prelude.{◌≡◌, ◌≢◌, ℕ, ◌≤◌, ◌<◌, ◌⊎◌, false, List, [], ◌++◌, length, take, None, option_to_list}
 use Rattle.std.specs.List.{AllByRecursion}
-use Rattle.ws_frame.specs.Header.{HeaderFields, IsHeader, header_bytes}
-use Rattle.ws_frame.specs.Masking.{masked_payload}
-use Rattle.ws_frame.specs.Frame.{Frame, KeyedFrame, FitsTheLayout, stream_bytes}
+use Rattle.ws_wire.specs.Header.{HeaderFields, IsHeader, header_bytes}
+use Rattle.ws_wire.specs.Masking.{masked_payload}
+use Rattle.ws_wire.specs.Frame.{Frame, KeyedFrame, FitsTheLayout, stream_bytes}
 use Rattle.ws_session.specs.declared.event.Event.{Event}
 use Rattle.ws_session.specs.declared.event.Taken.{Taken}
 use Rattle.ws_session.specs.Events.{HasEvents}

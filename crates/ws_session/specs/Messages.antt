@@ -1,7 +1,7 @@
 -- Frames as messages: RFC 6455 sections 5.4 and 5.5.
 use Rattle.std.specs.Prelude.{ℕ, Bool, not, nat_le, ◌==◌, if◌then◌else◌, List, [], ◌∷◌, map, filter, Option, Some, None}
 use Rattle.std.specs.List.{flat_map}
-use Rattle.ws_frame.specs.Frame.{Frame}
+use Rattle.ws_wire.specs.Frame.{Frame}
 use Rattle.ws_session.specs.declared.message.Kind.{Kind}
 use Rattle.ws_session.specs.declared.message.Kind.TheVariants.{Text, Binary}
 use Rattle.ws_session.specs.declared.message.Message.{Message}

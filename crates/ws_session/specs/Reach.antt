@@ -2,8 +2,8 @@
 -- and 10.4.
 use Rattle.std.specs.Prelude.{◌≡◌, ℕ, ◌≤◌, ◌+◌, ◌-◌, nat_lt, nat_le, Bool, not, ◌&&◌, ◌||◌, if◌then◌else◌, List, []}
 use Rattle.std.specs.Prelude.{◌∷◌, ◌++◌, length, Option, Some, None}
-use Rattle.ws_frame.specs.Header.{header_bytes}
-use Rattle.ws_frame.specs.Frame.{Frame, KeyedFrame, sent_as, frame_bytes, stream_bytes}
+use Rattle.ws_wire.specs.Header.{header_bytes}
+use Rattle.ws_wire.specs.Frame.{Frame, KeyedFrame, sent_as, frame_bytes, stream_bytes}
 use Rattle.ws_session.specs.declared.event.Event.{Event}
 use Rattle.ws_session.specs.declared.event.Event.TheVariants as event
 use Rattle.ws_session.specs.declared.reason.Reason.{Reason}

@@ -1,9 +1,9 @@
 -- What an endpoint owes for what it is told: RFC 6455 sections 5.5.1 to 5.5.3, 7.1.7 and 7.4.1.
 use Rattle.std.specs.Prelude.{ℕ, Bool, true, false, ◌||◌, if◌then◌else◌, List, [], ◌∷◌, Option, Some, None}
 use Rattle.std.specs.List.{flat_map}
-use Rattle.ws_frame.specs.declared.role.Role.{Role}
-use Rattle.ws_frame.specs.declared.role.Role.TheVariants.{Client, Server}
-use Rattle.ws_frame.specs.Frame.{Frame, KeyedFrame}
+use Rattle.ws_wire.specs.declared.role.Role.{Role}
+use Rattle.ws_wire.specs.declared.role.Role.TheVariants.{Client, Server}
+use Rattle.ws_wire.specs.Frame.{Frame, KeyedFrame}
 use Rattle.ws_text.specs.Close.{CloseValue, close_payload}
 use Rattle.ws_session.specs.declared.reason.Reason.{Reason}
 use Rattle.ws_session.specs.declared.reason.Reason.TheVariants.{TooBig, FrameBig, NotText, TextCut, CloseReason}

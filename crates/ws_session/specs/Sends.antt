@@ -3,7 +3,7 @@ use Rattle.std.specs.Prelude.{◌≡◌, ◌≢◌, ℕ, ◌+◌, ◌<◌, ◌�
 use Rattle.std.specs.Prelude.{None, String, string_bytes}
 use Rattle.std.specs.declared.alloc.Global.{Global}
 use Rattle.std.specs.Borrow.{Bor}
-use Rattle.ws_frame.specs.Frame.{Frame, FitsTheLayout, frame_bytes}
+use Rattle.ws_wire.specs.Frame.{Frame, FitsTheLayout, frame_bytes}
 use Rattle.ws_text.specs.Text.{IsText, BeginsText}
 use Rattle.ws_text.specs.Close.{CloseValue, CodeAllowed, close_payload}
 use Rattle.ws_session.specs.declared.limits.TheConstants.{MAX_MESSAGE}

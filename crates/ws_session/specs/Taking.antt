@@ -2,7 +2,7 @@
 use Rattle.std.specs.Prelude.{◌≡◌, ℕ, ◌<◌, ◌≤◌, nat_le, if◌then◌else◌, false, List, [], ◌∷◌, ◌++◌, length, take, map}
 use Rattle.std.specs.Prelude.{None, Result, Ok, Err, option_to_list}
 use Rattle.std.specs.List.{AllByRecursion}
-use Rattle.ws_frame.specs.Frame.{Frame, stream_bytes}
+use Rattle.ws_wire.specs.Frame.{Frame, stream_bytes}
 use Rattle.ws_session.specs.declared.event.Event.{Event}
 use Rattle.ws_session.specs.declared.event.Taken.{Taken}
 use Rattle.ws_session.specs.declared.event.PlacedEvent.{PlacedEvent}

@@ -1,7 +1,7 @@
 -- Sequences of frames that an endpoint may send: RFC 6455 sections 5.2 to 5.6, 7.4 and 8.1.
 use Rattle.std.specs.Prelude.{◌≡◌, ℕ, ◌≤◌, ◌⊎◌, true, List, [], ◌∷◌, length, Option}
 use Rattle.std.specs.List.{AllByRecursion}
-use Rattle.ws_frame.specs.Frame.{Frame}
+use Rattle.ws_wire.specs.Frame.{Frame}
 use Rattle.ws_text.specs.Text.{IsText, BeginsText}
 use Rattle.ws_text.specs.Close.{CloseValue, IsClosePayload}
 use Rattle.ws_session.specs.declared.message.Kind.{Kind}

@@ -4,8 +4,8 @@ ghost use Rattle.std.specs.Prelude.{◌≡◌, ◌≤◌, ◌+◌, ◌-◌, ◌+
 ghost use Rattle.ws_session.specs.InnerMasked.{masked_from};
 
 use std::marker::Model;
-use ws_frame::mask;
 use ws_text::MAX_CONTROL_PAYLOAD;
+use ws_wire::mask;
 
 /// At most 125 bytes, kept in place.
 #[derive(Clone, Copy)]

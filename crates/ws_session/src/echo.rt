@@ -2,7 +2,7 @@
 
 ghost use Rattle.std.specs.Prelude.{◌≡◌, ◌≤◌, ◌<◌, ℕ, List, [], length, None, Bool, true, false, IsOk, IfOk, IfErr};
 ghost use Rattle.std.specs.Prelude.{IsOkAnd, OnErr};
-ghost use Rattle.ws_frame.specs.Frame.{Frame};
+ghost use Rattle.ws_wire.specs.Frame.{Frame};
 ghost use Rattle.ws_session.specs.declared.status.Status.TheVariants.{Lost};
 ghost use Rattle.ws_session.specs.Replies.{echo_reply_to};
 ghost use Rattle.ws_session.specs.Exchange.{HasExchanged, HasSomeExchange, is_over};
@@ -16,7 +16,7 @@ use crate::status::Status;
 use std::alloc::Global;
 use std::marker::Model;
 use ws_base::NoMemory;
-use ws_frame::Role;
+use ws_wire::Role;
 
 /// A session that sends each message back in one frame as soon as it is whole, unless its close was sent. It sends
 /// nothing else of its own accord, so no message is ever open on its sending side.

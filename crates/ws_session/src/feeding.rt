@@ -1,7 +1,7 @@
 //! A session over a whole stream, in whatever pieces it comes.
 
 ghost use Rattle.std.specs.Prelude.{◌≡◌, [], map, false, IfOk};
-ghost use Rattle.ws_frame.specs.Frame.{stream_bytes};
+ghost use Rattle.ws_wire.specs.Frame.{stream_bytes};
 ghost use Rattle.ws_session.specs.Events.{HasEvents};
 ghost use Rattle.ws_session.specs.Replies.{replies_of, under_key};
 ghost use Rattle.ws_session.specs.Exchange.{status_of, joined_pieces};
@@ -13,7 +13,7 @@ use crate::session::Session;
 use crate::status::Status;
 use std::alloc::Global;
 use ws_base::{NoMemory, Payload, Sequence};
-use ws_frame::Role;
+use ws_wire::Role;
 
 /// What a session made of a stream that has not ended.
 #[derive(Drop)]

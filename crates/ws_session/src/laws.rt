@@ -3,9 +3,9 @@
 ghost use Rattle.std.specs.Prelude.{◌≡◌, ◌≢◌, ◌≤◌, ◌<◌, ◌^◌, ◌↔◌, ℕ, List, [], ◌∷◌, ◌++◌, length, take, map};
 ghost use Rattle.std.specs.Prelude.{Bool, true, false, Option, Some, None};
 ghost use Rattle.std.specs.List.{AllByRecursion};
-ghost use Rattle.ws_frame.specs.declared.role.Role.{Role};
-ghost use Rattle.ws_frame.specs.Header.{AreBytes, IsMaskingKey};
-ghost use Rattle.ws_frame.specs.Frame.{Frame, KeyedFrame, FitsTheLayout, stream_bytes};
+ghost use Rattle.ws_wire.specs.declared.role.Role.{Role};
+ghost use Rattle.ws_wire.specs.Header.{AreBytes, IsMaskingKey};
+ghost use Rattle.ws_wire.specs.Frame.{Frame, KeyedFrame, FitsTheLayout, stream_bytes};
 ghost use Rattle.ws_text.specs.Close.{CloseValue};
 ghost use Rattle.ws_session.specs.declared.reason.Reason.{Reason};
 ghost use Rattle.ws_session.specs.declared.event.Event.{Event};

@@ -1,7 +1,7 @@
 //! Messages (RFC 6455 section 5.6).
 
 ghost use Rattle.std.specs.Prelude.{◌≡◌, ◌≤◌, Some};
-ghost use Rattle.ws_base.specs.Reading.{Finds};
+ghost use Rattle.ws_base.specs.Finding.{Finds};
 ghost use Rattle.ws_session.specs.Messages.{opcode_of};
 ghost use Rattle.ws_session.specs.Words.{kind_word};
 

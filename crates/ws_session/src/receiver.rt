@@ -36,7 +36,7 @@ use crate::replying::Replying;
 use std::alloc::Global;
 use std::marker::Model;
 use ws_base::NoMemory;
-use ws_frame::Role;
+use ws_wire::Role;
 
 /// The receiving side of an endpoint. Contracts see its role and limits, the open message, the bytes of the frame under
 /// way as they came, and all payload bytes that are kept.

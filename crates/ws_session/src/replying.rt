@@ -1,7 +1,7 @@
 //! What an endpoint puts of its own accord for what comes (RFC 6455 sections 5.5 and 7.1).
 
 ghost use Rattle.std.specs.Prelude.{◌≡◌, ◌≢◌, ◌≤◌, ◌<◌, ◌∷◌, [], ◌++◌, length, OnOk, OnErr};
-ghost use Rattle.ws_frame.specs.Frame.{Frame, FitsTheLayout, frame_bytes};
+ghost use Rattle.ws_wire.specs.Frame.{Frame, FitsTheLayout, frame_bytes};
 ghost use Rattle.ws_session.specs.declared.limits.TheConstants.{MAX_MESSAGE};
 ghost use Rattle.ws_session.specs.Replies.{control_frame, under_key};
 ghost use Rattle.ws_session.specs.declared.message.Message.{Message};
@@ -13,7 +13,7 @@ use crate::message::Kind;
 use crate::session::Answering;
 use crate::status::Status;
 use ws_base::NoMemory;
-use ws_frame::{Header, Role, append_frame};
+use ws_wire::{Header, Role, append_frame};
 
 /// How an endpoint replies while it takes a piece.
 #[derive(Clone, Copy)]

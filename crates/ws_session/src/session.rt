@@ -2,7 +2,7 @@
 
 ghost use Rattle.std.specs.Prelude.{◌≡◌, ◌+◌, ◌≤◌, ◌<◌, ℕ, List, [], length, None, Bool, true, false, IfOk};
 ghost use Rattle.std.specs.Prelude.{IsOkAnd, OnErr};
-ghost use Rattle.ws_frame.specs.Frame.{Frame};
+ghost use Rattle.ws_wire.specs.Frame.{Frame};
 ghost use Rattle.ws_session.specs.declared.status.Status.TheVariants.{Lost};
 ghost use Rattle.ws_session.specs.Limits.{most_beside};
 ghost use Rattle.ws_session.specs.Faults.{open_payload};
@@ -23,7 +23,7 @@ use crate::status::Status;
 use std::alloc::Global;
 use std::marker::Model;
 use ws_base::NoMemory;
-use ws_frame::Role;
+use ws_wire::Role;
 
 /// One endpoint of a connection: it takes bytes and gives events and bytes. No stream, clock or random source is its
 /// own.

@@ -1,4 +1,3 @@
-mod TurnLemmas
 mod EvidenceLemmas
 mod TurnsCollected
 mod JudgeLemmas
@@ -12,10 +11,3 @@ mod AnsweredTurns
 mod FairVerdict
 mod TurnsAdded
 mod FairEvidence
-mod CaptureWords
-pub mod CaptureParts
-mod CaptureTurns
-mod CaptureTurns2
-mod CaptureTells
-mod CaptureLaws
-mod CaptureTexts

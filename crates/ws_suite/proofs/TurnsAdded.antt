@@ -3,8 +3,8 @@ use Rattle.std.proofs.Common.{◌≡◌, ◌∙◌, ℕ, zero, suc, ◌+◌, ◌
 use Rattle.std.proofs.lemmas.Bool.{cases_lt}
 use Rattle.std.proofs.lemmas.List.{append_cancel_left, length-append, length-take-le, take-append-drop, take-append-le}
 use Rattle.std.specs.List.{concat, last_or}
-use Rattle.ws_frame.specs.declared.role.Role.TheVariants.{Server}
-use Rattle.ws_frame.specs.Header.{AreBytes}
+use Rattle.ws_wire.specs.declared.role.Role.TheVariants.{Server}
+use Rattle.ws_wire.specs.Header.{AreBytes}
 use Rattle.ws_session.specs.declared.event.Event.{Event}
 use Rattle.ws_session.specs.declared.event.Event.TheVariants as event
 use Rattle.ws_session.specs.Events.{HasEvents}

@@ -3,8 +3,8 @@ use Rattle.std.proofs.Common.{◌≡◌, ◌∙◌, ℕ, zero, suc, ◌+◌, ◌
 use Rattle.std.proofs.lemmas.Bool.Decides.{nat_tests}
 use Rattle.std.proofs.lemmas.List.{length-map, length-take, map-append, take_all, take_more}
 use Rattle.std.specs.List.{concat, flat_map, last_or}
-use Rattle.ws_frame.specs.declared.role.Role.{Role}
-use Rattle.ws_frame.specs.Frame.{Frame, stream_bytes}
+use Rattle.ws_wire.specs.declared.role.Role.{Role}
+use Rattle.ws_wire.specs.Frame.{Frame, stream_bytes}
 use Rattle.ws_session.specs.declared.event.Event.{Event}
 use Rattle.ws_session.specs.declared.event.PlacedEvent.{PlacedEvent}
 use Rattle.ws_session.specs.Limits.{LimitsValue}
@@ -13,7 +13,7 @@ use Rattle.ws_session.specs.Exchange.{SessionValue, HasExchanged}
 use Rattle.ws_session.specs.Replies.{reply_to}
 use Rattle.ws_session.specs.Sends.{most_limits}
 use Rattle.ws_session.specs.Taking.{HasTakenAll, ending_by, events_in}
-use Rattle.ws_suite.specs.declared.transcript.Turn.{Turn}
+use Rattle.ws_scripts.specs.declared.transcript.Turn.{Turn}
 use Rattle.ws_suite.specs.declared.evidence.InTurn.{InTurn}
 use Rattle.ws_suite.specs.declared.evidence.Reply.{Reply}
 use Rattle.ws_suite.specs.declared.evidence.Ending.{Ending}
@@ -21,7 +21,7 @@ use Rattle.ws_suite.specs.declared.evidence.collecting.Way.{Way}
 use Rattle.ws_suite.specs.declared.evidence.collecting.Collected.{Collected}
 use Rattle.ws_suite.specs.Evidence.{AreEventsByTurn, HasRest, IsDirectionOf, by_turn, ending_in, joined_events}
 use Rattle.ws_suite.specs.InnerCollecting.{AreCollected, HasCollected, EventLaws, at_turn, found_by, last_end, role_by, turn_by, turns_by}
-use Rattle.ws_suite.proofs.TurnLemmas.{joined_more}
+use Rattle.ws_suite.proofs.EvidenceLemmas.{joined_more}
 use Rattle.ws_suite.proofs.EvidenceLemmas.{by_turn_more, events_by_turn_more, joined_events_more, last_joined, no_rest_is_there, nothing_collected, rest_is_there}
 
 -- the same but for the bytes after the last event

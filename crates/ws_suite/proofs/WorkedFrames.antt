@@ -1,7 +1,7 @@
 -- The frames of the worked verdicts: a ping and the pong that answers it, which fit the layout and are valid.
 use Rattle.std.proofs.Common.{ℕ, zero, suc, true, List, [], ◌∷◌, Some, None, refl, arith, inr, lit≤}
-use Rattle.ws_frame.specs.Header.{AreBytes}
-use Rattle.ws_frame.specs.Frame.{KeyedFrame, FitsTheLayout}
+use Rattle.ws_wire.specs.Header.{AreBytes}
+use Rattle.ws_wire.specs.Frame.{KeyedFrame, FitsTheLayout}
 use Rattle.ws_session.specs.Validity.{AreValidFrames}
 use Rattle.ws_session.specs.Faults.{frames_of}
 use Rattle.ws_session.specs.Sends.{most_limits}

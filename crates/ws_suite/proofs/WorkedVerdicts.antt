@@ -1,8 +1,8 @@
 -- Worked verdicts: a ping, and what is got for it.
 use Rattle.std.proofs.Common.{◌≡◌, ◌≢◌, ℕ, ◌<◌, true, false, List, [], ◌∷◌, ◌++◌, Some, None, refl, arith, inl, inr, lit≤}
-use Rattle.ws_frame.specs.declared.role.Role.TheVariants.{Client, Server}
-use Rattle.ws_suite.specs.declared.transcript.Ended.{Ended}
-use Rattle.ws_suite.specs.declared.transcript.Ended.TheVariants.{Tester, Peer, Broken}
+use Rattle.ws_wire.specs.declared.role.Role.TheVariants.{Client, Server}
+use Rattle.ws_scripts.specs.declared.transcript.Ended.{Ended}
+use Rattle.ws_scripts.specs.declared.transcript.Ended.TheVariants.{Tester, Peer, Broken}
 use Rattle.ws_suite.specs.declared.verdict.Verdict.TheVariants.{Pass, Loose, Fail}
 use Rattle.ws_suite.specs.declared.verdict.FailWhy.{FailWhy}
 use Rattle.ws_suite.specs.declared.verdict.FailWhy.TheVariants as fail

@@ -1,15 +1,15 @@
 -- The events of a transcript, and the turns in which they stand: what is due for what was sent, and what was got.
 use Rattle.std.specs.Prelude.{◌≡◌, ℕ, ◌+◌, ◌<◌, ◌≤◌, ◌↔◌, true, List, [], ◌∷◌, ◌++◌, length, map, take, flat_map, None}
 use Rattle.std.specs.List.{concat, last_or}
-use Rattle.ws_frame.specs.declared.role.Role.{Role}
-use Rattle.ws_frame.specs.declared.role.Role.TheVariants.{Client, Server}
+use Rattle.ws_wire.specs.declared.role.Role.{Role}
+use Rattle.ws_wire.specs.declared.role.Role.TheVariants.{Client, Server}
 use Rattle.ws_session.specs.declared.event.Event.{Event}
 use Rattle.ws_session.specs.declared.event.Event.TheVariants as event
 use Rattle.ws_session.specs.Events.{HasEvents}
 use Rattle.ws_session.specs.Exchange.{code_if_any}
 use Rattle.ws_session.specs.Sends.{most_limits}
-use Rattle.ws_suite.specs.declared.transcript.Turn.{Turn}
-use Rattle.ws_suite.specs.declared.transcript.Transcript.{Transcript}
+use Rattle.ws_scripts.specs.declared.transcript.Turn.{Turn}
+use Rattle.ws_scripts.specs.declared.transcript.Transcript.{Transcript}
 use Rattle.ws_suite.specs.declared.evidence.InTurn.{InTurn}
 use Rattle.ws_suite.specs.declared.evidence.Reply.{Reply}
 use Rattle.ws_suite.specs.declared.evidence.Reply.TheVariants as reply

@@ -1,114 +1,17 @@
--- Worked examples of scripts, captures, matched pongs and an echo's answers, each a theorem. The law `worked_verdicts`
+-- Worked examples of matched pongs and an echo's answers, each a theorem. The law `worked_verdicts`
 -- has verdicts on the transcripts that stand last.
-use Rattle.std.specs.Prelude.{◌≡◌, ⊤, ℕ, true, false, List, [], ◌∷◌, Some, None, codes, refl}
-use Rattle.std.proofs.Common.{lit≤}
-use Rattle.std.specs.Fmt.{digits}
+use Rattle.std.specs.Prelude.{◌≡◌, ℕ, true, false, List, [], ◌∷◌, Some, None, refl}
 use Rattle.ws_session.specs.declared.reason.Reason.TheVariants.{Opcode}
 use Rattle.ws_session.specs.declared.event.Event.TheVariants as event
-use Rattle.ws_suite.specs.declared.script.Step.{Step}
-use Rattle.ws_suite.specs.declared.script.Step.TheVariants.{Frame, Raw, Wait}
-use Rattle.ws_suite.specs.declared.script.Chop.TheVariants.{Octets, PerFrame, Whole}
-use Rattle.ws_suite.specs.declared.transcript.Turn.{Turn}
-use Rattle.ws_suite.specs.declared.transcript.Ended.{Ended}
-use Rattle.ws_suite.specs.declared.transcript.Ended.TheVariants.{Broken, Tester}
-use Rattle.ws_suite.specs.declared.transcript.Transcript.{Transcript}
-use Rattle.ws_suite.specs.declared.capture.line.Line.TheVariants.{Sent, Got}
+use Rattle.ws_scripts.specs.declared.transcript.Turn.{Turn}
+use Rattle.ws_scripts.specs.declared.transcript.Ended.{Ended}
+use Rattle.ws_scripts.specs.declared.transcript.Ended.TheVariants.{Tester}
+use Rattle.ws_scripts.specs.declared.transcript.Transcript.{Transcript}
 use Rattle.ws_suite.specs.declared.evidence.InTurn.{InTurn}
 use Rattle.ws_suite.specs.declared.evidence.Reply.{Reply}
 use Rattle.ws_suite.specs.declared.evidence.Reply.TheVariants as reply
-use Rattle.ws_suite.specs.Scripts.{ArePieces, turn_bytes, turns_of}
-use Rattle.ws_suite.specs.Captures.{run_together, turns_in, written_capture}
-use Rattle.ws_suite.specs.Captures2.{written_capture2}
 use Rattle.ws_suite.specs.Matching.{matches_of}
 use Rattle.ws_suite.specs.Fairness.{echo_bytes, ends_echo}
-
--- what is computed at numbers that are written out
-unfoldable on_numbers : ⊤
-unfolding digits
-on_numbers = tt
-
--- ---- scripts
-
-abbrev ping : Step
-ping = Frame true 0 9 []
-
-abbrev key : List ℕ
-key = 0x37 ∷ 0xfa ∷ 0x21 ∷ 0x3d ∷ []
-
--- a Wait ends a turn, and a last part without steps is no turn
-pub two_turns : turns_of (ping ∷ Wait ∷ ping ∷ ping ∷ []) ≡ (ping ∷ []) ∷ (ping ∷ ping ∷ []) ∷ []
-two_turns = refl
-
-pub no_turn_after_the_last_wait : turns_of (ping ∷ Wait ∷ []) ≡ (ping ∷ []) ∷ []
-no_turn_after_the_last_wait = refl
-
--- a Wait alone is a turn, in which nothing is sent
-pub turn_without_bytes : turns_of (Wait ∷ ping ∷ []) ≡ [] ∷ (ping ∷ []) ∷ []
-turn_without_bytes = refl
-
--- a frame is masked, and other bytes go as they are
-pub bytes_of_a_turn : turn_bytes key (Frame true 0 2 (1 ∷ []) ∷ Raw (1 ∷ []) ∷ [])
-    ≡ 0x82 ∷ 0x81 ∷ 0x37 ∷ 0xfa ∷ 0x21 ∷ 0x3d ∷ 0x36 ∷ 0x01 ∷ []
-bytes_of_a_turn = refl
-
--- pieces of two bytes, the last one shorter
-pub by_two : ArePieces (Octets 2) key (Raw (1 ∷ 2 ∷ 3 ∷ []) ∷ []) ((1 ∷ 2 ∷ []) ∷ (3 ∷ []) ∷ [])
-by_two = record { joined = refl; none_empty = (lit≤ tt, (lit≤ tt, tt)); cut = (refl, lit≤ tt) }
-
--- a step without bytes gives no piece
-pub by_step : ArePieces PerFrame key (Raw (1 ∷ 2 ∷ []) ∷ Raw [] ∷ Raw (3 ∷ []) ∷ []) ((1 ∷ 2 ∷ []) ∷ (3 ∷ []) ∷ [])
-by_step = record { joined = refl; none_empty = (lit≤ tt, (lit≤ tt, tt)); cut = refl }
-
--- nor does a turn without bytes
-pub no_piece : ArePieces Whole key [] []
-no_piece = record { joined = refl; none_empty = tt; cut = lit≤ tt }
-
--- ---- captures
-
-abbrev pub turn_of : List ℕ → List ℕ → Turn
-turn_of sent got = record { sent = sent; got = got }
-
--- a connection that broke is written as one that the peer ended
-pub lines_of_two_turns : written_capture (record {
-  turns = turn_of (0x89 ∷ 0x00 ∷ []) (0x8a ∷ 0x00 ∷ []) ∷ turn_of (0xff ∷ []) [] ∷ [];
-  ended = Broken;
-}) ≡ codes "wst-capture 1\n> 8900\n< 8a00\n> ff\nend peer\n"
-unfolding on_numbers
-lines_of_two_turns = refl
-
--- in format 2 each turn is kept, also one without bytes, and so are the key and a connection that broke
-pub kept_lines : written_capture2 (record {
-  key = Some (0x37 ∷ 0xfa ∷ 0x21 ∷ 0x3d ∷ []);
-  transcript = record {
-    turns = turn_of (0x89 ∷ 0x00 ∷ []) [] ∷ turn_of [] [] ∷ turn_of [] (0x8a ∷ 0x00 ∷ []) ∷ [];
-    ended = Broken;
-  };
-}) ≡ codes "wst-capture 2\nkey 37fa213d\nturn\n> 8900\nturn\nturn\n< 8a00\nend broken\n"
-unfolding on_numbers
-kept_lines = refl
-
-pub kept_lines_without_a_key : written_capture2 (record {
-  key = None;
-  transcript = record { turns = turn_of (0x89 ∷ 0x00 ∷ []) (0x8a ∷ 0x00 ∷ []) ∷ []; ended = Tester };
-}) ≡ codes "wst-capture 2\nkey -\nturn\n> 8900\n< 8a00\nend tester\n"
-unfolding on_numbers
-kept_lines_without_a_key = refl
-
--- a turn begins with the first line, and with each sent line that follows a got line
-pub turns_of_lines :
-    turns_in (Sent (1 ∷ []) ∷ Sent (2 ∷ []) ∷ Got (3 ∷ []) ∷ Sent (4 ∷ []) ∷ Got (5 ∷ []) ∷ Got (6 ∷ []) ∷ [])
-    ≡ turn_of (1 ∷ 2 ∷ []) (3 ∷ []) ∷ turn_of (4 ∷ []) (5 ∷ 6 ∷ []) ∷ []
-turns_of_lines = refl
-
-pub got_before_any_is_sent :
-    turns_in (Got (1 ∷ []) ∷ Sent (2 ∷ []) ∷ []) ≡ turn_of [] (1 ∷ []) ∷ turn_of (2 ∷ []) [] ∷ []
-got_before_any_is_sent = refl
-
--- a turn in which nothing was got runs into the next one, and one in which nothing was sent into the one before
-pub turns_run_together :
-    run_together (turn_of (1 ∷ []) [] ∷ turn_of (2 ∷ []) (3 ∷ []) ∷ turn_of [] (4 ∷ []) ∷ turn_of (5 ∷ []) [] ∷ [])
-    ≡ turn_of (1 ∷ 2 ∷ []) (3 ∷ 4 ∷ []) ∷ turn_of (5 ∷ []) [] ∷ []
-turns_run_together = refl
 
 -- ---- pongs
 

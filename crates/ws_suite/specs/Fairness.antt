@@ -1,16 +1,16 @@
 -- The transcript of a tester and an echo: RFC 6455 sections 5.4 to 5.6 and 7.1.
 use Rattle.std.specs.Prelude.{◌≡◌, ℕ, ◌<◌, ◌≤◌, Bool, false, if◌then◌else◌, List, [], length, map, take}
 use Rattle.std.specs.List.{concat}
-use Rattle.ws_frame.specs.declared.role.Role.TheVariants.{Server}
-use Rattle.ws_frame.specs.Header.{AreBytes}
-use Rattle.ws_frame.specs.Frame.{stream_bytes}
+use Rattle.ws_wire.specs.declared.role.Role.TheVariants.{Server}
+use Rattle.ws_wire.specs.Header.{AreBytes}
+use Rattle.ws_wire.specs.Frame.{stream_bytes}
 use Rattle.ws_session.specs.declared.event.Event.{Event}
 use Rattle.ws_session.specs.Events.{HasEvents}
 use Rattle.ws_session.specs.Replies.{echo_replies_of, under_key}
 use Rattle.ws_session.specs.Exchange.{is_over, status_of}
 use Rattle.ws_session.specs.Sends.{most_limits}
-use Rattle.ws_suite.specs.declared.transcript.Ended.TheVariants.{Tester, Peer}
-use Rattle.ws_suite.specs.declared.transcript.Transcript.{Transcript}
+use Rattle.ws_scripts.specs.declared.transcript.Ended.TheVariants.{Tester, Peer}
+use Rattle.ws_scripts.specs.declared.transcript.Transcript.{Transcript}
 use Rattle.ws_suite.specs.Evidence.{sent_turns, got_turns}
 
 -- all that was sent in the first turns, and all that was got

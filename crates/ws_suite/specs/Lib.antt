@@ -1,15 +1,9 @@
-pub mod Scripts
 pub mod Evidence
 pub mod Matching
 pub mod Verdicts
 pub mod Fairness
-pub mod CaptureLines
-pub mod Captures
-pub mod Captures2
 pub mod Words
 pub mod Examples
 pub mod InnerCollecting
 pub mod InnerEchoReplyLaws
-pub mod InnerCapturing
 pub mod InnerJudging
-pub mod InnerCases

@@ -2,9 +2,9 @@
 
 mod collecting;
 
-use crate::transcript::Ended;
 pub(crate) use collecting::evidence_of;
 use ws_base::Sequence;
+use ws_scripts::Ended;
 use ws_session::{Message, Reason, Small};
 
 /// Something, and the number of its turn, from 0.

@@ -12,10 +12,10 @@ use crate::evidence::{Evidence, evidence_of};
 use crate::judging::fails::first_fail;
 use crate::judging::looses::first_loose;
 use crate::judging::replies::lists_of;
-use crate::transcript::Transcript;
 use crate::verdict::Verdict;
 use std::alloc::Global;
 use ws_base::NoMemory;
+use ws_scripts::Transcript;
 
 /// Whether a server kept the rules, by all that went over a connection: the lowest `Fail` that applies, else the lowest
 /// `Loose`, else `Pass`. What is due is what an echo sends back (RFC 6455 sections 5.4 to 5.5.3).

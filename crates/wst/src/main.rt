@@ -6,7 +6,7 @@ use std::io::ErrorKind;
 use std::process::ExitCode;
 use std::{env, io};
 use ws_frame::Watched;
-use wst_commands::{run, words_are_no_text};
+use wst_run::{run, words_are_no_text};
 
 fn main(rt: HostRuntime) -> ExitCode {
     let mut input = Watched::new(rt.stdin());

@@ -1,5 +1,2 @@
-pub mod RunLemmas
-pub mod TestLemmas
-pub mod PlanLemmas
-pub mod ServeLemmas
-pub mod TargetLemmas
+pub mod CaseLemmas
+pub mod Delivering

@@ -1,22 +1,34 @@
-//! A run of `wst` over watched devices, by its words, and the commands that ask for connections: `test` and `serve`.
-//! The others stand in `wst_filters`. No rule of the protocol stands here.
+//! The commands of `wst` that read their input whole or as a stream and write what they tell, over watched devices: a
+//! file a command; and what all commands share: exits, faults and the limits that words give. No rule of the protocol
+//! stands here.
 //!
-//! The layer above uses `run`: what the words ask for is done, over the devices and the network that it is given, and
-//! what came of it is one of four exits.
+//! The layer above uses a call for each command, each with one clause, what a run of that command is (`RunsShow` and
+//! its like): `run_show`, `run_moves` (of `pair`), `run_head`, `run_session`, `run_judge`, `run_convert`, `run_cases`;
+//! `end_run` and `tell_fault`, which tell a fault; `deliver` and `tell`, which write a text; `limits_given`, `exit_of`
+//! and `Exit::status`.
 #![tactic(auto)]
 
-mod address_server;
-mod case_server;
-mod given_cases;
-mod outcome;
-mod running;
-mod serve;
-mod serving_clients;
-mod stream;
-mod test;
-mod testing;
+mod cases;
+mod convert;
+mod exit;
+mod fault;
+mod head;
+mod judge;
+mod limits;
+mod pair;
+mod reading_whole;
+mod session;
+mod show;
+mod telling;
 
-pub use case_server::{CaseServer, MemoryServer};
-pub use running::{run, words_are_no_text};
-pub use serve::{ServePlan, run_serve};
-pub use test::{Target, TestPlan, TestRefusal, plan_test, run_plan, tell_refusal};
+pub use cases::run_cases;
+pub use convert::run_convert;
+pub use exit::Exit;
+pub use fault::{Fault, end_run, tell_fault};
+pub use head::run_head;
+pub use judge::{exit_of, run_judge};
+pub use limits::limits_given;
+pub use pair::run_moves;
+pub use session::run_session;
+pub use show::run_show;
+pub use telling::{deliver, tell};

@@ -5,8 +5,8 @@ use Rattle.std.specs.Borrow.{Bor}
 use Rattle.std.specs.Str.{bytes_eq}
 use Rattle.std.specs.Str.Parse.{IsNumeral, digits_value, without_leading_plus}
 use Rattle.clap.specs.Words.{Row, Text, all_of, first_of, one_of}
-use Rattle.ws_frame.specs.declared.role.Role.{Role}
-use Rattle.ws_frame.specs.declared.role.Role.TheVariants.{Client, Server}
+use Rattle.ws_wire.specs.declared.role.Role.{Role}
+use Rattle.ws_wire.specs.declared.role.Role.TheVariants.{Client, Server}
 use Rattle.wst_words.specs.Arguments.{ArgumentRow}
 use Rattle.wst_words.specs.declared.arguments.ArgumentKind.{ArgumentKind}
 use Rattle.wst_words.specs.declared.arguments.ArgumentKind.TheVariants.{End, Flag, NeededCount, NeededWord, Number}

@@ -8,7 +8,7 @@ ghost use Rattle.wst_words.specs.Options.{given_words, role_named};
 
 use clap::ArgMatches;
 use std::alloc::{AllocError, Global};
-use ws_frame::Role;
+use ws_wire::Role;
 
 /// The end that the option of this name gives. `None` where it gives none.
 pub(crate) fn end_of(options: &ArgMatches<'_>, name: &str) -> Option<Role>

@@ -11,7 +11,7 @@ use crate::arguments::ArgumentKind::{End, Flag, Number};
 use crate::commands::HelpText;
 use crate::options::{end_of, flag_of, number_of, number_or};
 use clap::ArgMatches;
-use ws_frame::Role;
+use ws_wire::Role;
 
 /// The options of `session`.
 #[derive(Clone, Copy)]

@@ -11,7 +11,7 @@ use crate::arguments::ArgumentKind::{End, Number};
 use crate::commands::HelpText;
 use crate::options::{end_of, number_of};
 use clap::ArgMatches;
-use ws_frame::Role;
+use ws_wire::Role;
 
 /// The options of `show`.
 #[derive(Clone, Copy)]

@@ -13,8 +13,8 @@ use std::alloc::Global;
 use std::marker::Model;
 use std::mem::replace;
 use ws_base::{NoMemory, Payload};
-use ws_frame::mask;
 use ws_text::Utf8Stream;
+use ws_wire::mask;
 
 /// The open message, if there is one, and after its payload the payload bytes that are kept of the frame under way.
 /// Contracts see the message, all of these bytes, and the stream that reads them where they are text.

@@ -1,7 +1,7 @@
 //! What a piece makes of the frame under way, and of it alone: no byte behind that frame is looked at.
 
 ghost use Rattle.std.specs.Prelude.{◌≡◌, ◌++◌, length, IfOk, IfSome, OnErr};
-ghost use Rattle.ws_frame.specs.Header.{AreBytes};
+ghost use Rattle.ws_wire.specs.Header.{AreBytes};
 ghost use Rattle.ws_session.specs.declared.receiver.frame_check.FrameCheck.TheVariants as FrameCheck;
 ghost use Rattle.ws_session.specs.declared.receiver.frame_check.Content.TheVariants as Content;
 ghost use Rattle.ws_session.specs.declared.receiver.under_way.UnderWay.TheVariants as UnderWay;
@@ -18,7 +18,7 @@ use crate::receiver::header_kind::is_data;
 use crate::receiver::header_rules::reason_at_header;
 use crate::receiver::under_way::UnderWay;
 use ws_base::NoMemory;
-use ws_frame::{Role, laws};
+use ws_wire::{Role, laws};
 
 /// Checks a piece after the frame under way. Payload of a data frame goes into the assembly, where it shows only once
 /// it was taken.

@@ -10,8 +10,8 @@ use crate::reason::Reason;
 use crate::receiver::assembly::Assembly;
 use crate::receiver::frame_check::{Content, FrameCheck};
 use crate::receiver::under_way::UnderWay;
-use ws_frame::{Header, Opcode};
 use ws_text::{CloseFault, ClosePayload};
+use ws_wire::{Header, Opcode};
 
 /// Checks what is there of the payload after the bytes that came before. `rest` is what the piece has after its first
 /// `start` bytes.

@@ -19,8 +19,8 @@ use crate::receiver::frame_check::{Content, DataFrame, FrameCheck};
 use crate::receiver::header_kind::{begins_text, continues_message};
 use crate::receiver::under_way::UnderWay;
 use ws_base::NoMemory;
-use ws_frame::Header;
 use ws_text::Utf8Stream;
+use ws_wire::Header;
 
 /// Puts what is there of the payload into the assembly, after the bytes that came before, and checks it. `rest` is what
 /// the piece has after its first `start` bytes.

@@ -1,12 +1,12 @@
 //! The end of a header whose bytes come in pieces (RFC 6455 section 5.2).
 
 ghost use Rattle.std.specs.Prelude.{MatchOption, ◌++◌};
-ghost use Rattle.ws_frame.specs.Header.{AreBytes};
-ghost use Rattle.ws_frame.specs.Reading.{Begins, BeginsNoHeader};
+ghost use Rattle.ws_wire.specs.Header.{AreBytes};
+ghost use Rattle.ws_wire.specs.Reading.{Begins, BeginsNoHeader};
 ghost use Rattle.ws_session.specs.InnerReceiving.{CompletesHeader};
 
 use crate::control_payload::Small;
-use ws_frame::{Header, HeaderRead, laws, read_header};
+use ws_wire::{Header, HeaderRead, laws, read_header};
 
 /// Where a header ends.
 #[derive(Clone, Copy)]

@@ -3,7 +3,7 @@
 ghost use Rattle.std.specs.Prelude.{◌≡◌, ◌≤◌, ◌⊎◌, ◌↔◌, IsTrue};
 ghost use Rattle.ws_session.specs.Faults.{IsControl};
 
-use ws_frame::{Header, Opcode};
+use ws_wire::{Header, Opcode};
 
 /// Whether it is a data frame (section 5.6).
 pub(super) fn is_data(header: &Header) -> bool

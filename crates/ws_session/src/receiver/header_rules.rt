@@ -10,8 +10,8 @@ use crate::receiver::assembly::Assembly;
 use crate::receiver::header_kind::{
     begins_message, continues_message, is_control, is_data, is_reserved,
 };
-use ws_frame::{Header, Role};
 use ws_text::MAX_CONTROL_PAYLOAD;
+use ws_wire::{Header, Role};
 
 /// The reasons of a header, in the order in which they are told.
 const HEADER_REASONS: [Reason; 11] = [

@@ -1,7 +1,7 @@
 //! A piece inside the payload of a data frame: the straight way (RFC 6455 section 5.4).
 
 ghost use Rattle.std.specs.Prelude.{◌≡◌, ◌++◌, length, true, false, IfOk, OnErr};
-ghost use Rattle.ws_frame.specs.Header.{AreBytes};
+ghost use Rattle.ws_wire.specs.Header.{AreBytes};
 ghost use Rattle.ws_session.specs.InnerNextFrame.{IsPartOfFrame};
 ghost use Rattle.ws_session.specs.InnerReceiving.{HasNewData};
 ghost use Rattle.ws_session.specs.InnerReceiver.{IsSoundReceiver};

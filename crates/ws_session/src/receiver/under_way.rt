@@ -1,11 +1,11 @@
 //! The frame that has begun to come and isn't whole (RFC 6455 section 5.2).
 
 ghost use Rattle.std.specs.Prelude.{◌≡◌, ◌+◌, ◌^◌, ◌≤◌, ◌<◌, length};
-ghost use Rattle.ws_frame.specs.Header.{header_bytes};
+ghost use Rattle.ws_wire.specs.Header.{header_bytes};
 ghost use Rattle.ws_session.specs.InnerReceiver.{NotBegun, HasRoom, length_so_far, after_more};
 
 use crate::control_payload::Small;
-use ws_frame::{Form, Header};
+use ws_wire::{Form, Header};
 
 /// What has come of the frame under way.
 #[derive(Clone, Copy)]

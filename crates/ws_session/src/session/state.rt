@@ -22,7 +22,7 @@ use crate::status::Status;
 use std::alloc::Global;
 use std::marker::Model;
 use ws_base::NoMemory;
-use ws_frame::Role;
+use ws_wire::Role;
 
 /// What a session keeps: its receiving side, its sending side, and how it stands. Contracts see it as they see the
 /// session.

@@ -9,11 +9,11 @@ ghost use Rattle.ws_suite.specs.InnerCollecting.{role_by, turn_by, turns_by};
 
 use crate::evidence::{Direction, Ending, Evidence, InTurn, Reply};
 use crate::lemmas::session_laws;
-use crate::transcript::{Transcript, Turn};
 use std::alloc::Global;
 use ws_base::{NoMemory, Sequence};
-use ws_frame::{NO_KEY, Role};
+use ws_scripts::{Transcript, Turn};
 use ws_session::{Event, Limits, MAX_MESSAGE, PlacedEvent, Session};
+use ws_wire::{NO_KEY, Role};
 
 /// One of the two directions.
 #[derive(Clone, Copy)]

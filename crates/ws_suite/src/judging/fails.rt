@@ -9,8 +9,8 @@ ghost use Rattle.ws_suite.specs.Verdicts.{IsEarly, IsEarlyClose, IsNotFrames};
 use crate::evidence::{Ending, Evidence, InTurn};
 use crate::judging::pongs::{has_last_pong, match_pongs};
 use crate::judging::replies::{Lists, any_before, begins};
-use crate::transcript::Ended;
 use crate::verdict::FailWhy;
+use ws_scripts::Ended;
 
 /// The lowest Fail that applies.
 pub(super) fn first_fail(x: &Evidence, lists: &Lists<'_>) -> Option<FailWhy>

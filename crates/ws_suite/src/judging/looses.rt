@@ -9,8 +9,8 @@ use crate::evidence::{Ending, Evidence};
 use crate::judging::fails::ends_with_fault;
 use crate::judging::pongs::has_last_pong;
 use crate::judging::replies::{Lists, are_left};
-use crate::transcript::Ended;
 use crate::verdict::LooseWhy;
+use ws_scripts::Ended;
 
 /// The lowest Loose that applies.
 pub(super) fn first_loose(x: &Evidence, lists: &Lists<'_>) -> Option<LooseWhy>

@@ -1,4 +1,4 @@
-use Rattle.ws_base.specs.Lines.{Damages}
+use Rattle.ws_formats.specs.Lines.{Damages}
 use Rattle.ws_calls.specs.Calls.{count_taken}
 use Rattle.ws_calls.specs.Script.{AreEchoCallLines, as_call}
 use Rattle.std.proofs.Common.{◌≤◌, length, map}

@@ -1,7 +1,7 @@
 use Rattle.std.proofs.Common.{◌≡◌, ◌+◌, ◌++◌, List, [], ◌∷◌, ap, sym, ◌∙◌, subst, arith, take, length, refl}
 use Rattle.std.proofs.lemmas.List.{take_all, take_more}
 use Rattle.std.proofs.lemmas.List.Sums.{sum_by_more}
-use Rattle.ws_frame.specs.declared.role.Role.{Role}
+use Rattle.ws_wire.specs.declared.role.Role.{Role}
 use Rattle.ws_session.specs.Limits.{LimitsValue}
 use Rattle.ws_session.specs.Exchange.{is_over}
 use Rattle.ws_calls.specs.declared.calls.Call.{Call}

@@ -1,4 +1,4 @@
-use Rattle.ws_session.specs.KeyedSends.{AreSendWords}
+use Rattle.ws_sends.specs.KeyedSends.{AreSendWords}
 use Rattle.ws_calls.specs.Script.{IsEchoCallOf}
 use Rattle.ws_calls.proofs.CallWords.{echo_told, fields_in, name_in, send_told}
 use Rattle.ws_calls.proofs.PassedUp.{passed_up}

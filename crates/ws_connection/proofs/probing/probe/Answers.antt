@@ -4,7 +4,7 @@ use Rattle.std.specs.List.{concat}
 use Rattle.std.specs.Borrow.{Bor}
 use Rattle.ws_frame.specs.Devices.{watched}
 use Rattle.ws_frame.specs.Watching.{inner_of}
-use Rattle.ws_suite.specs.Scripts.{turns_of}
+use Rattle.ws_scripts.specs.Scripts.{turns_of}
 use Rattle.ws_connection.specs.Probing.{bytes_by_turn, request_to}
 use Rattle.ws_connection.specs.InnerProbeTurns.{AnswersProbe}
 use Rattle.ws_connection.proofs.ProbingLemmas.{bytes_are, probes}

@@ -1,7 +1,7 @@
 use Rattle.std.proofs.Common.{rules, arith, ◌≡◌, ◌∙◌, ◌<◌, ◌++◌, Bool, length, take, ap, subst}
 use Rattle.std.specs.Prelude.{◌||◌, false}
 use Rattle.std.proofs.KnownBytes.{Appends-trans, Consumes-kept, Consumes-trans}
-use Rattle.ws_frame.specs.declared.role.Role.{Role}
+use Rattle.ws_wire.specs.declared.role.Role.{Role}
 use Rattle.ws_frame.specs.declared.showing.StreamEnd.TheVariants.{BadLengthAt}
 use Rattle.ws_frame.specs.declared.showing.PieceEnd.TheVariants as piece_end
 use Rattle.ws_frame.specs.Devices.{watched}

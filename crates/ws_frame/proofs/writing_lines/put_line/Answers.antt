@@ -1,6 +1,6 @@
 use Rattle.std.proofs.Common.{◌++◌, ◌∙◌, List, ℕ, ap, append_assoc}
 use Rattle.std.proofs.lemmas.Result.{err_from_is_err_and}
-use Rattle.ws_frame.specs.Masking.{masked_payload}
+use Rattle.ws_wire.specs.Masking.{masked_payload}
 use Rattle.ws_frame.specs.Lines.{line_with}
 use Rattle.ws_frame.proofs.writing_lines.put_line.Goals as goal
 

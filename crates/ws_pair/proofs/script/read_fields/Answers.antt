@@ -1,5 +1,5 @@
 use Rattle.std.proofs.Common.{◌∙◌, ap, map}
-use Rattle.ws_session.specs.KeyedSends.{AreSendWords}
+use Rattle.ws_sends.specs.KeyedSends.{AreSendWords}
 use Rattle.ws_pair.specs.Script.{move_name_word}
 use Rattle.ws_pair.proofs.MoveWords.{arrive_told, send_told}
 use Rattle.ws_pair.proofs.PassedUp.{passed_up}

@@ -1,6 +1,6 @@
 use Rattle.std.proofs.Common.{rules, ◌≡◌, ℕ, [], false, true, ◌<◌, ◌≤◌, ◌++◌, ◌∙◌, length, sym, ap, refl, subst, arith, take}
 use Rattle.std.proofs.lemmas.List.{length-take}
-use Rattle.ws_frame.specs.declared.devices.reading_input.TheConstants.{READ_SIZE}
+use Rattle.ws_frame.specs.declared.reading_input.TheConstants.{READ_SIZE}
 use Rattle.ws_frame.specs.Devices.{Device, watched}
 use Rattle.ws_frame.specs.Watching.{has_failed}
 use Rattle.ws_session.specs.declared.status.Status.{Status}

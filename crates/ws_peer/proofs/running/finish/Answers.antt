@@ -1,5 +1,5 @@
 use Rattle.std.proofs.Common.{◌≡◌, ℕ, List, ◌∷◌, [], ◌++◌, ◌∙◌, ap, rules, sym}
-use Rattle.ws_suite.specs.declared.transcript.Turn.{Turn}
+use Rattle.ws_scripts.specs.declared.transcript.Turn.{Turn}
 use Rattle.ws_peer.specs.Runs.{with_finish}
 use Rattle.ws_peer.proofs.RunLemmas.{finish_last}
 use Rattle.ws_peer.proofs.running.finish.Goals as goal

@@ -2,7 +2,7 @@
 
 ghost use Rattle.std.specs.Prelude.{◌≡◌, ◌≢◌, ◌≤◌, ◌<◌, length, Option, IfErr, OnOk, OnErr, MatchResult, Some};
 ghost use Rattle.std.specs.Prelude.{◌++◌};
-ghost use Rattle.ws_frame.specs.Frame.{Frame, FitsTheLayout, frame_bytes};
+ghost use Rattle.ws_wire.specs.Frame.{Frame, FitsTheLayout, frame_bytes};
 ghost use Rattle.ws_text.specs.Close.{CloseValue};
 ghost use Rattle.ws_session.specs.declared.limits.TheConstants.{MAX_MESSAGE};
 ghost use Rattle.ws_session.specs.declared.send_fault.SendFault.TheVariants as SendFault;

@@ -1,5 +1,5 @@
 use Rattle.std.proofs.Common.{◌≢◌, [], refl, arith, lit≤}
-use Rattle.ws_frame.specs.declared.role.Role.TheVariants.{Client, Server}
+use Rattle.ws_wire.specs.declared.role.Role.TheVariants.{Client, Server}
 use Rattle.ws_session.specs.Replies.{echo_reply_to}
 use Rattle.ws_session.specs.Sends.{most_limits}
 use Rattle.ws_session.specs.Validity.{AreValidFrames}

@@ -1,6 +1,6 @@
 use Rattle.std.proofs.Common.{◌≡◌, ◌∙◌, ap, sym, subst, map, List, ℕ}
 use Rattle.std.specs.Borrow.{Bor}
-use Rattle.ws_base.specs.Words.{words_of}
+use Rattle.ws_formats.specs.Words.{words_of}
 use Rattle.ws_calls.specs.Script.{AreEchoCallWords}
 use Rattle.ws_calls.proofs.PassedUp.{passed_up}
 use Rattle.ws_calls.proofs.echo_script.EchoCallLine.read.Goals as goal

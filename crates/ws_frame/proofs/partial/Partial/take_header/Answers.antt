@@ -1,6 +1,6 @@
 use Rattle.std.proofs.Common.{arith, ◌≡◌, ◌-◌, ◌++◌, List, ℕ, ap, sym, subst, length, take}
-use Rattle.ws_frame.specs.Header.{header_bytes}
-use Rattle.ws_frame.specs.Reading.{Begins, BeginsNoHeader}
+use Rattle.ws_wire.specs.Header.{header_bytes}
+use Rattle.ws_wire.specs.Reading.{Begins, BeginsNoHeader}
 use Rattle.ws_frame.proofs.Partials.{more_of_header, bad_length_of_all, header_ends_in_piece, header_taken, header_uses}
 use Rattle.ws_frame.proofs.partial.Partial.take_header.Goals as goal
 

@@ -1,7 +1,7 @@
 use Rattle.std.proofs.Common.{arith, rules, ◌≡◌, ◌∙◌, ◌-◌, List, [], ℕ, sym, subst, length, take}
 use Rattle.std.proofs.lemmas.List.{length-take-le}
-use Rattle.ws_frame.specs.Reading.{BeginsNoHeader}
-use Rattle.ws_frame.proofs.Numbers.{front_bytes}
+use Rattle.ws_wire.specs.Reading.{BeginsNoHeader}
+use Rattle.ws_wire.proofs.Numbers.{front_bytes}
 use Rattle.ws_frame.proofs.Partials.{more_of_payload, payload_ends, nothing_is_no_header}
 use Rattle.ws_frame.proofs.partial.Partial.take_payload.Goals as goal
 

@@ -1,7 +1,7 @@
 use Rattle.std.proofs.Common.{arith, []}
 use Rattle.std.proofs.lemmas.Result.{err_from_is_err_and}
 use Rattle.std.proofs.KnownBytes.{Appends-nil}
-use Rattle.ws_frame.specs.Header.{AreBytes}
+use Rattle.ws_wire.specs.Header.{AreBytes}
 use Rattle.ws_frame.proofs.Runs.{rest_are_bytes, part_told, frame_told, frame_begun, bad_told}
 use Rattle.ws_frame.proofs.showing.Run.show_next.Goals as goal
 

@@ -1,6 +1,6 @@
 use Rattle.std.proofs.Common.{◌≡◌, ◌∙◌, ap, sym, subst, map, List, ℕ}
 use Rattle.std.specs.Borrow.{Bor}
-use Rattle.ws_base.specs.Words.{words_of}
+use Rattle.ws_formats.specs.Words.{words_of}
 use Rattle.ws_pair.specs.Script.{AreMoveWords}
 use Rattle.ws_pair.proofs.PassedUp.{passed_up}
 use Rattle.ws_pair.proofs.script.MoveLine.read.Goals as goal

@@ -1,5 +1,5 @@
 use Rattle.std.proofs.Common.{◌≡◌, ◌∙◌, ◌+◌, ◌++◌, length, List, ℕ, Option, Some, ap, sym, inl, subst, arith}
-use Rattle.ws_frame.specs.Header.{AreBytes}
+use Rattle.ws_wire.specs.Header.{AreBytes}
 use Rattle.ws_session.specs.declared.message.Message.{Message}
 use Rattle.ws_session.specs.declared.receiver.frame_check.FrameCheck.{FrameCheck}
 use Rattle.ws_session.specs.declared.receiver.frame_check.FrameCheck.TheVariants as check

@@ -1,5 +1,5 @@
 use Rattle.std.proofs.Common.{◌≡◌, ◌∙◌, ◌-◌, ◌≤◌, ◌<◌, ◌++◌, length, take, drop, List, ℕ, Option, Some, subst, refl, arith}
-use Rattle.ws_frame.specs.Header.{AreBytes}
+use Rattle.ws_wire.specs.Header.{AreBytes}
 use Rattle.std.specs.Prelude.{IfSome}
 use Rattle.ws_session.specs.declared.receiver.frame_check.DataFrame.{DataFrame}
 use Rattle.ws_session.specs.declared.receiver.frame_check.FrameCheck.TheVariants as check

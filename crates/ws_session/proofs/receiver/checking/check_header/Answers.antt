@@ -1,6 +1,6 @@
 use Rattle.std.proofs.Common.{◌≡◌, ◌∙◌, ◌-◌, ◌≤◌, ◌<◌, ◌++◌, length, take, drop, List, ℕ, ap, refl, subst, arith}
 use Rattle.std.proofs.lemmas.List.{length-append}
-use Rattle.ws_frame.specs.Header.{AreBytes}
+use Rattle.ws_wire.specs.Header.{AreBytes}
 use Rattle.ws_session.specs.Faults.{IsControl}
 use Rattle.ws_session.specs.InnerReceiving.{arrived_payload, IsPayloadCheck}
 use Rattle.ws_session.proofs.ByteLists.{bytes_append}

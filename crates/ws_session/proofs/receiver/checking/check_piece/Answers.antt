@@ -1,5 +1,5 @@
 use Rattle.std.proofs.Common.{◌≡◌, ◌≤◌, ◌<◌, ◌++◌, length, List, ℕ, sym, subst, arith}
-use Rattle.ws_frame.specs.Header.{AreBytes}
+use Rattle.ws_wire.specs.Header.{AreBytes}
 use Rattle.ws_session.specs.declared.receiver.under_way.UnderWay.{UnderWay}
 use Rattle.ws_session.specs.declared.receiver.under_way.UnderWay.TheVariants as under_way
 use Rattle.ws_session.specs.declared.receiver.frame_check.FrameCheck.{FrameCheck}

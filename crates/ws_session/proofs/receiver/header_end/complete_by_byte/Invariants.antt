@@ -1,5 +1,5 @@
 use Rattle.std.proofs.Common.{◌≡◌, ◌++◌, take}
-use Rattle.ws_frame.specs.Reading.{BeginsNoHeader}
+use Rattle.ws_wire.specs.Reading.{BeginsNoHeader}
 use Rattle.ws_session.proofs.receiver.header_end.complete_by_byte.Given as goal
 
 -- what was kept and the bytes so far begin no header

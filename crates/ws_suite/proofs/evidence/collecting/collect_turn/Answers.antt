@@ -2,7 +2,7 @@ use Rattle.std.proofs.Common.{◌≡◌, ◌∙◌, ◌<◌, ◌≤◌, [], List
 use Rattle.ws_session.specs.declared.event.PlacedEvent.{PlacedEvent}
 use Rattle.ws_session.specs.Taking.{events_in}
 use Rattle.ws_suite.specs.InnerCollecting.{AreCollected, last_end}
-use Rattle.ws_suite.proofs.TurnLemmas.{no_items}
+use Rattle.ws_suite.proofs.EvidenceLemmas.{no_items}
 use Rattle.ws_suite.proofs.TurnsCollected.{make_collected, turn_taken, turn_without_bytes}
 use Rattle.ws_suite.proofs.evidence.collecting.collect_turn.Goals as goal
 

@@ -1,6 +1,6 @@
 use Rattle.std.proofs.Common.{◌∙◌, ◌∷◌, ◌++◌, [], List, ℕ, ap, sym, subst, take, arith, refl}
 use Rattle.std.proofs.lemmas.List.{take_all}
-use Rattle.ws_suite.specs.declared.transcript.Turn.{Turn}
+use Rattle.ws_scripts.specs.declared.transcript.Turn.{Turn}
 use Rattle.ws_suite.specs.InnerCollecting.{HasCollected, turns_by}
 use Rattle.ws_suite.proofs.TurnsCollected.{all_collected, collected_at_start, turns_length, turns_more}
 use Rattle.ws_suite.proofs.evidence.collecting.direction_of.Goals as goal

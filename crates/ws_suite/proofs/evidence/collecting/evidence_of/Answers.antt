@@ -1,6 +1,6 @@
 use Rattle.std.proofs.Common.{List, ap, subst, refl, length}
-use Rattle.ws_frame.specs.declared.role.Role.TheVariants.{Client, Server}
-use Rattle.ws_suite.specs.declared.transcript.Turn.{Turn}
+use Rattle.ws_wire.specs.declared.role.Role.TheVariants.{Client, Server}
+use Rattle.ws_scripts.specs.declared.transcript.Turn.{Turn}
 use Rattle.ws_suite.specs.Evidence.{IsDirectionOf, due_for, got_in, got_turns, sent_turns}
 use Rattle.ws_suite.proofs.evidence.collecting.evidence_of.Goals as goal
 

@@ -1,5 +1,5 @@
 use Rattle.std.proofs.Common.{◌≡◌, ◌∙◌, false, length, None, ap, sym, refl, subst, arith, inl}
-use Rattle.ws_frame.specs.Header.{AreBytes}
+use Rattle.ws_wire.specs.Header.{AreBytes}
 use Rattle.ws_session.specs.declared.status.Status.{Status}
 use Rattle.ws_session.specs.Exchange.{SessionValue, is_over}
 use Rattle.ws_session.specs.Taking.{HasTaken}

@@ -1,0 +1,98 @@
+//! `test_rows`: answers rows of calls, for what no command of `wst` reaches. Each line of the standard input is a row:
+//! the name of a call and its arguments, parted by one space. Each row is answered by one line. The rows stand in the
+//! folder `rows`, and its `run` compares the answers with those that are wanted.
+#![tactic(auto)]
+
+mod captures;
+mod cases;
+mod echoes;
+mod frames;
+mod peers;
+mod printing;
+mod protocols;
+mod row_fault;
+mod sessions;
+mod streams;
+mod takes;
+mod texts;
+mod upgrades;
+mod words;
+
+use row_fault::RowFault;
+use std::alloc::Global;
+use std::io;
+use std::process::ExitCode;
+
+fn main(rt: HostRuntime) -> io::Result<ExitCode> {
+    let rows = io::read_to_string(rt.alloc(), rt.stdin())?;
+    for (place, row) in rows.as_str().lines().enumerate() {
+        match answer_to(rt.alloc(), row) {
+            Ok(answer) => println!(rt; "{answer}")?,
+            Err(fault) => {
+                println!(rt; "row {}: {fault}", place.saturating_add(1))?;
+                return Ok(ExitCode::FAILURE);
+            }
+        }
+    }
+    Ok(ExitCode::SUCCESS)
+}
+
+/// The answer to a row.
+fn answer_to(alloc: Global, row: &str) -> Result<String, RowFault> {
+    let words: Vec<&str> = row.split(' ').collect(alloc)?;
+    let [call, words @ ..] = words.as_slice() else {
+        return Err(RowFault::NotARow);
+    };
+    let mut out = String::new(alloc);
+    match *call {
+        "limits" => streams::make_limits(words, &mut out)?,
+        "feed_all" => streams::feed(alloc, words, &mut out)?,
+        "take_all" => streams::take_pieces(alloc, words, &mut out)?,
+        "take" => takes::take_frames(alloc, words, &mut out)?,
+        "echo" => echoes::take_frames(alloc, words, &mut out)?,
+        "echo_all" => echoes::take_pieces(alloc, words, &mut out)?,
+        "session" => sessions::play(alloc, words, &mut out)?,
+        "cases" => cases::count_group(alloc, words, &mut out)?,
+        "case" => cases::tell_case(alloc, words, &mut out)?,
+        "capture" => captures::write_again(alloc, words, &mut out)?,
+        "capture_fault" => captures::tell_no_memory(words, &mut out)?,
+        "judge" => captures::judge_turns(alloc, words, &mut out)?,
+        "verdict" => peers::tell_verdict(alloc, words, &mut out)?,
+        "verdicts" => peers::count_passes(alloc, words, &mut out)?,
+        _ => answer_below_sessions(alloc, call, words, &mut out)?,
+    }
+    Ok(out)
+}
+
+/// Puts the answer of a call that no session makes: of frames, texts or the opening handshake.
+fn answer_below_sessions(
+    alloc: Global,
+    call: &str,
+    words: &[&str],
+    out: &mut String,
+) -> Result<(), RowFault> {
+    match call {
+        "header" => frames::make_header(words, out),
+        "shortest" => frames::make_shortest(words, out),
+        "read_header" => frames::read(alloc, words, out),
+        "mask" => frames::mask_part(alloc, words, out),
+        "append_frame" => frames::append(alloc, words, out),
+        "text" => texts::judge_pieces(alloc, words, out),
+        "push" => texts::push_pieces(alloc, words, out),
+        "copy" => texts::push_to_copy(alloc, words, out),
+        "code_allowed" => texts::allow_code(words, out),
+        "close_payload" => texts::read_close(alloc, words, out),
+        "accept_of" => upgrades::accept(alloc, words, out),
+        "request" => upgrades::make_request(alloc, words, out),
+        "response" => upgrades::make_response(alloc, words, out),
+        "refusal" => upgrades::refuse(words, out),
+        "read_request" => upgrades::read_a_request(alloc, words, out),
+        "upgrade" => upgrades::tell_upgrade(alloc, words, out),
+        "read_response" => upgrades::read_a_response(alloc, words, out),
+        "request_with" => protocols::make_request(alloc, words, out),
+        "response_with" => protocols::make_response(alloc, words, out),
+        "read_request_with" => protocols::read_a_request(alloc, words, out),
+        "read_response_with" => protocols::read_a_response(alloc, words, out),
+        _ => Err(RowFault::NotARow),
+    }
+}

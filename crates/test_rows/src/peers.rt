@@ -1,0 +1,103 @@
+//! Rows of peers.
+
+ghost use Rattle.ws_scripts.specs.Scripts.{CanBeRun};
+
+use crate::row_fault::RowFault;
+use crate::words::{bytes_of, mask_key_of};
+use std::alloc::Global;
+use std::fmt::Write;
+use ws_base::NoMemory;
+use ws_peer::{Peer, TungPeer, run_case, run_over_echo};
+use ws_suite::{Case, Chop, Step, Verdict, case, ids, judge};
+
+/// The key of the cases where none is given.
+const KEY: [u8; 4] = [0x37, 0xfa, 0x21, 0x3d];
+
+/// `verdict own|tung NAME`: the verdict on our echo, or on `tungstenite`, in a case. `none` where no case has the name.
+pub fn tell_verdict(alloc: Global, words: &[&str], out: &mut String) -> Result<(), RowFault> {
+    let [peer, name] = words else {
+        return Err(RowFault::NotARow);
+    };
+    let Ok(name) = String::from_utf8(bytes_of(alloc, name)?.into_vec()) else {
+        return Err(RowFault::NotARow);
+    };
+    let Some(case) = case(alloc, name.as_str())? else {
+        out.push_str("none")?;
+        return Ok(());
+    };
+    let verdict = match *peer {
+        "own" => own_verdict(alloc, &case, KEY)?,
+        "tung" => verdict_on(alloc, &case, &mut TungPeer::new(alloc)?)?,
+        _ => return Err(RowFault::NotARow),
+    };
+    write!(out, "{verdict}")?;
+    Ok(())
+}
+
+/// The verdict on a new echo.
+fn own_verdict(alloc: Global, case: &Case, key: [u8; 4]) -> Result<Verdict, NoMemory>
+    requires { CanBeRun case.now }
+{
+    let transcript = run_over_echo(alloc, case, key)?;
+    judge(alloc, &transcript)
+}
+
+/// `verdicts CHOP KEY`: how many of the listed cases our echo passes where each is cut so and masked with this key, or
+/// the first that it doesn't, and the verdict. `CHOP` is as in the table of cases. In single bytes, `O1`, the cases are
+/// run alone whose payloads have at most 1000 bytes.
+pub fn count_passes(alloc: Global, words: &[&str], out: &mut String) -> Result<(), RowFault> {
+    let [chop, key] = words else {
+        return Err(RowFault::NotARow);
+    };
+    let (chop, most) = match *chop {
+        "W" => (Chop::Whole, u32::MAX),
+        "P" => (Chop::PerFrame, u32::MAX),
+        "O1" => (Chop::Octets(1), 1000),
+        "O997" => (Chop::Octets(997), u32::MAX),
+        _ => return Err(RowFault::NotARow),
+    };
+    let key = mask_key_of(key)?;
+    let mut passed = 0_u32;
+    for name in ids(alloc)?.as_slice() {
+        let Some(case) = case(alloc, name.as_str())? else {
+            return Err(RowFault::NotARow);
+        };
+        if !has_payloads_of(&case, most) {
+            continue;
+        }
+        let cut = Case {
+            id: case.id,
+            steps: case.steps,
+            chop,
+        };
+        match own_verdict(alloc, &cut, key)? {
+            Verdict::Pass => passed = passed.saturating_add(1),
+            verdict => {
+                write!(out, "{} {verdict}", cut.id)?;
+                return Ok(());
+            }
+        }
+    }
+    write!(out, "{passed} PASS")?;
+    Ok(())
+}
+
+/// Whether each payload of a case has at most so many bytes.
+fn has_payloads_of(case: &Case, most: u32) -> bool {
+    for step in case.steps.as_slice() {
+        if let Step::Frame { payload, .. } = step {
+            if payload.as_slice().len() > most as usize {
+                return false;
+            }
+        }
+    }
+    true
+}
+
+/// The verdict on a peer.
+fn verdict_on<P: Peer>(alloc: Global, case: &Case, peer: &mut P) -> Result<Verdict, NoMemory>
+    requires { CanBeRun case.now }
+{
+    let transcript = run_case(alloc, case, peer, KEY)?;
+    judge(alloc, &transcript)
+}

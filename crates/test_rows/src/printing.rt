@@ -1,0 +1,43 @@
+//! Answers in words.
+
+use crate::row_fault::RowFault;
+use std::fmt::Write;
+use ws_formats::Hex;
+use ws_session::{Event, PlacedEvent};
+
+/// An event of a session.
+pub fn put_event(out: &mut String, event: &Event) -> Result<(), RowFault> {
+    match event {
+        Event::Part => out.push_str("part")?,
+        Event::Message(message) => write!(
+            out,
+            "{} {}",
+            message.kind,
+            Hex(message.payload.as_slice())
+        )?,
+        Event::Ping(payload) => write!(out, "ping {}", Hex(payload.as_slice()))?,
+        Event::Pong(payload) => write!(out, "pong {}", Hex(payload.as_slice()))?,
+        Event::Close(None) => out.push_str("close none")?,
+        Event::Close(Some(close)) => {
+            write!(
+                out,
+                "close {} {}",
+                close.code(),
+                Hex(close.reason().as_bytes())
+            )?
+        }
+        Event::Failed(reason) => write!(out, "failed {reason}")?,
+    }
+    Ok(())
+}
+
+/// The events of a piece, each with the number of bytes that were taken by then, of which `before` came in earlier
+/// pieces.
+pub fn put_placed(out: &mut String, before: usize, events: &[PlacedEvent]) -> Result<(), RowFault> {
+    for placed in events {
+        write!(out, "{} ", before.saturating_add(placed.end))?;
+        put_event(out, &placed.event)?;
+        out.push_str(", ")?;
+    }
+    Ok(())
+}

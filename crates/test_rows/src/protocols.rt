@@ -1,0 +1,103 @@
+//! Rows of subprotocols in the opening handshake.
+
+use crate::row_fault::RowFault;
+use crate::upgrades::nonce_of;
+use crate::words::{bytes_of, pieces_of};
+use std::alloc::Global;
+use std::fmt::Write;
+use ws_formats::Hex;
+use ws_upgrade::{
+    RequestRead, ResponseRead, read_request_with, read_response_with, request_with, response_with,
+};
+
+/// `request_with HOST PATH NONCE OFFER ..`: the text, or why there is none.
+pub fn make_request(alloc: Global, words: &[&str], out: &mut String) -> Result<(), RowFault> {
+    let [host, path, nonce, offers @ ..] = words else {
+        return Err(RowFault::NotARow);
+    };
+    let (host, path) = (bytes_of(alloc, host)?, bytes_of(alloc, path)?);
+    let nonce = nonce_of(alloc, nonce)?;
+    let offers = pieces_of(alloc, offers)?;
+    let offers = slices_of(alloc, &offers)?;
+    match request_with(alloc, host.as_slice(), path.as_slice(), nonce, &offers) {
+        Ok(text) => write!(out, "{}", Hex(text.as_slice()))?,
+        Err(fault) => write!(out, "refused {fault}")?,
+    }
+    Ok(())
+}
+
+/// `response_with ACCEPT`, and `response_with ACCEPT NAME`: the text, or why there is none.
+pub fn make_response(alloc: Global, words: &[&str], out: &mut String) -> Result<(), RowFault> {
+    let [accept, names @ ..] = words else {
+        return Err(RowFault::NotARow);
+    };
+    let accept = bytes_of(alloc, accept)?;
+    let Ok(accept) = <&[u8; 28]>::try_from(accept.as_slice()) else {
+        return Err(RowFault::NotARow);
+    };
+    let names = pieces_of(alloc, names)?;
+    let name = names.first().map(|name| name.as_slice());
+    match response_with(alloc, accept, name) {
+        Ok(text) => write!(out, "{}", Hex(text.as_slice()))?,
+        Err(fault) => write!(out, "refused {fault}")?,
+    }
+    Ok(())
+}
+
+/// `read_request_with BYTES KNOWN ..`: `need`, `refused` and why, or `got`, how many bytes follow the head, and the
+/// place of the subprotocol that is chosen, or `none`.
+pub fn read_a_request(alloc: Global, words: &[&str], out: &mut String) -> Result<(), RowFault> {
+    let [bytes, known @ ..] = words else {
+        return Err(RowFault::NotARow);
+    };
+    let bytes = bytes_of(alloc, bytes)?;
+    let known = pieces_of(alloc, known)?;
+    let known = slices_of(alloc, &known)?;
+    match read_request_with(bytes.as_slice(), &known) {
+        RequestRead::Need => out.push_str("need")?,
+        RequestRead::Refused(fault) => write!(out, "refused {fault}")?,
+        RequestRead::Got { upgrade, used } => {
+            put_got(out, bytes.len().saturating_sub(used), upgrade.protocol)?;
+        }
+    }
+    Ok(())
+}
+
+/// `read_response_with NONCE BYTES OFFER ..`: `need`, `refused` and why, or `got`, how many bytes follow the head, and
+/// the place of the subprotocol that it names, or `none`.
+pub fn read_a_response(alloc: Global, words: &[&str], out: &mut String) -> Result<(), RowFault> {
+    let [nonce, bytes, offers @ ..] = words else {
+        return Err(RowFault::NotARow);
+    };
+    let nonce = nonce_of(alloc, nonce)?;
+    let bytes = bytes_of(alloc, bytes)?;
+    let offers = pieces_of(alloc, offers)?;
+    let offers = slices_of(alloc, &offers)?;
+    match read_response_with(bytes.as_slice(), nonce, &offers) {
+        ResponseRead::Need => out.push_str("need")?,
+        ResponseRead::Refused(fault) => write!(out, "refused {fault}")?,
+        ResponseRead::Got { used, protocol } => {
+            put_got(out, bytes.len().saturating_sub(used), protocol)?;
+        }
+    }
+    Ok(())
+}
+
+/// Tells an accepted head.
+fn put_got(out: &mut String, follow: usize, protocol: Option<usize>) -> Result<(), RowFault> {
+    write!(out, "got, {follow} follow, ")?;
+    match protocol {
+        Some(place) => write!(out, "protocol {place}")?,
+        None => out.push_str("no protocol")?,
+    }
+    Ok(())
+}
+
+/// The same names as slices.
+fn slices_of(alloc: Global, names: &[Vec<u8>]) -> Result<Vec<&[u8]>, RowFault> {
+    let mut slices = Vec::new(alloc);
+    for name in names {
+        slices.push(name.as_slice())?;
+    }
+    Ok(slices)
+}

@@ -1,0 +1,87 @@
+//! Rows of streams that a session takes by single calls of `take`.
+
+use crate::printing::put_event;
+use crate::row_fault::RowFault;
+use crate::words::{bytes_of, limits_of, role_of, session_key_of};
+use std::alloc::Global;
+use std::fmt::Write;
+use ws_formats::Hex;
+use ws_session::{Session, Status};
+
+/// A session, what it put, how many bytes it has used, and the status that was told last.
+#[derive(Drop)]
+struct Taker {
+    session: Session,
+    put: Vec<u8>,
+    used: usize,
+    stood: Status,
+}
+
+/// `take ROLE LIMIT KEY PIECE ..`, by calls that each use up to the end of one frame: each event, and each status
+/// that is new, with the number of bytes that were used by then; then how many were used in all, what was put, and
+/// how many bytes are held. A piece of one byte is given by one call, so all are used only where that call uses it.
+pub fn take_frames(alloc: Global, words: &[&str], out: &mut String) -> Result<(), RowFault> {
+    let [role, limit, key, pieces @ ..] = words else {
+        return Err(RowFault::NotARow);
+    };
+    let key = session_key_of(key)?;
+    let session = Session::new(alloc, role_of(role)?, limits_of(limit)?);
+    let stood = session.status();
+    let mut taker = Taker {
+        session,
+        put: Vec::new(alloc),
+        used: 0,
+        stood,
+    };
+    for word in pieces {
+        let piece = bytes_of(alloc, word)?;
+        take_piece(&mut taker, piece.as_slice(), key, out)?;
+    }
+    write!(
+        out,
+        "used {}, put {}",
+        taker.used,
+        Hex(taker.put.as_slice())
+    )?;
+    write!(out, ", held {}", taker.session.held())?;
+    Ok(())
+}
+
+/// Takes a piece frame by frame. A call uses at least one byte where there is one; an empty piece is given once.
+fn take_piece(
+    taker: &mut Taker,
+    piece: &[u8],
+    key: [u8; 4],
+    out: &mut String,
+) -> Result<(), RowFault> {
+    let mut rest = take_once(taker, piece, key, out)?;
+    for _ in 1..piece.len() {
+        if rest.is_empty() {
+            return Ok(());
+        }
+        rest = take_once(taker, rest, key, out)?;
+    }
+    Ok(())
+}
+
+/// One call: what it tells, and the bytes that it leaves.
+fn take_once<'a>(
+    taker: &mut Taker,
+    piece: &'a [u8],
+    key: [u8; 4],
+    out: &mut String,
+) -> Result<&'a [u8], RowFault> {
+    let taken = taker.session.take(piece, key, &mut taker.put)?;
+    taker.used = taker.used.saturating_add(taken.used);
+    if let Some(event) = &taken.event {
+        write!(out, "{} ", taker.used)?;
+        put_event(out, event)?;
+        out.push_str(", ")?;
+    }
+    let stands = taker.session.status();
+    if stands != taker.stood {
+        write!(out, "{} status {stands}, ", taker.used)?;
+        taker.stood = stands;
+    }
+    Ok(&piece[taken.used..])
+}

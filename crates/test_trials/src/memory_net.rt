@@ -1,0 +1,187 @@
+//! A network in memory: each of its connections is read of bytes that are given, and what is written to them is kept.
+
+ghost use Rattle.std.specs.Prelude.{◌≤◌, length, IfOk};
+
+use std::alloc::Global;
+use std::cell::{Cell, RefCell};
+use std::io;
+use std::io::{ErrorKind, Read, Write};
+use std::net::{Ipv4Addr, Net, OpenListener, OpenStream, Shutdown, SocketAddr};
+use std::os::fd::{AsRawFd, RawFd};
+use std::time::Duration;
+use ws_frame::{ByteReader, Failing};
+
+/// The port that each connection comes from.
+const PORT: u16 = 9001;
+
+/// What a network does, and what came of it.
+#[derive(Drop)]
+pub struct Book<'a> {
+    /// What is read of each connection, a byte a read.
+    pub input: &'a [u8],
+    /// Which reads of each connection fail.
+    pub reads: Failing,
+    /// Which writes to each connection fail. Each takes a byte.
+    pub writes: Failing,
+    /// Which connections are not made or taken, and how that is told.
+    pub refused: (Failing, ErrorKind),
+    /// Whether an address can be listened at.
+    pub listens: bool,
+    /// How many connections were asked for.
+    pub asked: Cell<u64>,
+    /// What was written to all connections.
+    pub written: RefCell<Vec<u8>>,
+    /// How many of them were ended from this side.
+    pub ended: Cell<u64>,
+}
+
+impl<'a> Book<'a> {
+    /// A network whose connections work, and bring these bytes.
+    pub fn new(alloc: Global, input: &'a [u8]) -> Book<'a> {
+        Book {
+            input,
+            reads: Failing::Never,
+            writes: Failing::Never,
+            refused: (Failing::Never, ErrorKind::ConnectionRefused),
+            listens: true,
+            asked: Cell::new(0),
+            written: RefCell::new(Vec::new(alloc)),
+            ended: Cell::new(0),
+        }
+    }
+
+    /// The next connection, if it is made.
+    fn next(&'a self) -> io::Result<MemoryStream<'a>> {
+        let number = self.asked.get().saturating_add(1);
+        self.asked.set(number);
+        let (failing, kind) = self.refused;
+        if failing.fails_at(number) {
+            return Err(io::Error::from(kind));
+        }
+        Ok(MemoryStream {
+            book: self,
+            reader: ByteReader::new(self.input, self.reads),
+            writes: 0,
+        })
+    }
+
+    /// Keeps a byte that was written.
+    fn keep(&self, byte: u8) -> io::Result<()> {
+        match self.written.try_borrow_mut() {
+            Ok(mut written) => {
+                written.push(byte)?;
+                Ok(())
+            }
+            Err(_) => Err(io::Error::from(ErrorKind::Other)),
+        }
+    }
+}
+
+/// A network that does what its book says.
+#[derive(Clone, Copy)]
+pub struct MemoryNet<'a> {
+    pub book: &'a Book<'a>,
+}
+
+impl<'a> Net for MemoryNet<'a> {
+    type Stream = MemoryStream<'a>;
+
+    type Listener = MemoryListener<'a>;
+
+    fn bind(&self, _addr: SocketAddr) -> io::Result<MemoryListener<'a>> {
+        if self.book.listens {
+            Ok(MemoryListener { book: self.book })
+        } else {
+            Err(io::Error::from(ErrorKind::AddrInUse))
+        }
+    }
+
+    fn connect(&self, _addr: SocketAddr) -> io::Result<MemoryStream<'a>> {
+        self.book.next()
+    }
+
+    fn lookup_host(&self, _host: &str, port: u16, found: &mut [SocketAddr]) -> io::Result<usize>
+        ensures in_bounds { IfOk result (λ n. n ≤ length found.new) }
+    {
+        if found.is_empty() {
+            return Ok(0);
+        }
+        found[0] = local(port);
+        Ok(1)
+    }
+}
+
+/// An address of this machine.
+fn local(port: u16) -> SocketAddr {
+    SocketAddr::from((Ipv4Addr::LOCALHOST, port))
+}
+
+/// A listener of such a network.
+#[derive(Drop)]
+pub struct MemoryListener<'a> {
+    book: &'a Book<'a>,
+}
+
+impl<'a> OpenListener for MemoryListener<'a> {
+    type Stream = MemoryStream<'a>;
+
+    fn accept(&self) -> io::Result<(MemoryStream<'a>, SocketAddr)> {
+        let stream = self.book.next()?;
+        Ok((stream, local(PORT)))
+    }
+}
+
+impl AsRawFd for MemoryListener<'_> {
+    fn as_raw_fd(&self) -> RawFd {
+        -1
+    }
+}
+
+/// A connection of such a network.
+#[derive(Drop)]
+pub struct MemoryStream<'a> {
+    book: &'a Book<'a>,
+    reader: ByteReader<'a>,
+    writes: u64,
+}
+
+impl Read for MemoryStream<'_> {
+    fn read(&mut self, buf: &mut [u8]) -> io::Result<usize> {
+        self.reader.read(buf)
+    }
+}
+
+impl Write for MemoryStream<'_> {
+    fn write(&mut self, buf: &[u8]) -> io::Result<usize> {
+        self.writes = self.writes.saturating_add(1);
+        if self.book.writes.fails_at(self.writes) {
+            return Err(io::Error::from(ErrorKind::BrokenPipe));
+        }
+        if buf.is_empty() {
+            return Ok(0);
+        }
+        self.book.keep(buf[0])?;
+        Ok(1)
+    }
+
+    fn flush(&mut self) -> io::Result<()> {
+        Ok(())
+    }
+}
+
+impl OpenStream for MemoryStream<'_> {
+    fn shutdown(&self, _how: Shutdown) -> io::Result<()> {
+        self.book.ended.set(self.book.ended.get().saturating_add(1));
+        Ok(())
+    }
+
+    fn set_read_timeout(&self, _dur: Option<Duration>) -> io::Result<()> {
+        Ok(())
+    }
+}
+
+impl AsRawFd for MemoryStream<'_> {
+    fn as_raw_fd(&self) -> RawFd {
+        -1
+    }
+}

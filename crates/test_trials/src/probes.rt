@@ -1,0 +1,252 @@
+//! `probe` over memory: an echo behind it, answers that are refused or cut, frames with the head, and a script without
+//! turns.
+
+ghost use Rattle.std.specs.Prelude.{◌≡◌, false};
+ghost use Rattle.ws_frame.specs.Watching.{has_failed};
+ghost use Rattle.ws_scripts.specs.Scripts.{CanBeRun};
+
+use crate::comparing::{same_answer, same_bytes, same_number};
+use crate::echo_server::echo_server;
+use crate::probe_faults::{REQUEST, answer};
+use std::alloc::Global;
+use std::io::{Read, Write};
+use std::test::Fail;
+use ws_base::Sequence;
+use ws_connection::{NONCE, Probe, probe};
+use ws_frame::{ByteReader, Failing, Watched};
+use ws_suite::{Case, Chop, Ended, Verdict, case, judge};
+use ws_upgrade::{HeadFault, request_with};
+
+/// The host that is asked.
+pub const HOST: &[u8] = b"localhost:9001";
+
+/// The key of each frame.
+const KEY: [u8; 4] = [0x37, 0xfa, 0x21, 0x3d];
+
+/// The response that accepts.
+pub const RESPONSE: &[u8] =
+    b"HTTP/1.1 101 Switching Protocols\r\nUpgrade: websocket\r\nConnection: Upgrade\r\n\
+    Sec-WebSocket-Accept: s3pPLMBiTxaQ9kYGzzhZRbK+xOo=\r\n\r\n";
+
+/// Runs a case of the tables, without offers.
+pub fn run_case<R: Read, W: Write>(
+    alloc: Global,
+    id: &str,
+    reader: &mut Watched<R>,
+    writer: &mut Watched<W>,
+) -> Result<Option<Probe>, Fail>
+    requires reader_works { has_failed reader.old ≡ false }
+    requires writer_works { has_failed writer.old ≡ false }
+{
+    run_case_with(alloc, id, &[], reader, writer)
+}
+
+/// Runs a case of the tables, and offers these subprotocols.
+pub fn run_case_with<R: Read, W: Write>(
+    alloc: Global,
+    id: &str,
+    offers: &[&[u8]],
+    reader: &mut Watched<R>,
+    writer: &mut Watched<W>,
+) -> Result<Option<Probe>, Fail>
+    requires reader_works { has_failed reader.old ≡ false }
+    requires writer_works { has_failed writer.old ≡ false }
+{
+    // What is asked of this host can be asked.
+    let _text = request_with(alloc, HOST, b"/", NONCE, offers)?;
+    match case(alloc, id)? {
+        Some(case) => Ok(Some(probe(alloc, &case, HOST, reader, writer, KEY, offers)?)),
+        None => Ok(None),
+    }
+}
+
+/// What a run leaves: how the script ended, `None` where it was not run; how many turns it had; what all of them sent
+/// and got.
+#[derive(Drop)]
+pub struct After {
+    pub ended: Option<Ended>,
+    pub turns: u64,
+    pub sent: Vec<u8>,
+    pub got: Vec<u8>,
+}
+
+/// What a run leaves that answered so.
+pub fn after_run(alloc: Global, probe: Option<Probe>) -> Result<After, Fail> {
+    let (mut sent, mut got) = (Vec::new(alloc), Vec::new(alloc));
+    let Some(Probe::Ran(transcript)) = probe else {
+        return Ok(After {
+            ended: None,
+            turns: 0,
+            sent,
+            got,
+        });
+    };
+    for turn in transcript.turns.as_slice() {
+        sent.extend_from_slice(turn.sent.as_slice())?;
+        got.extend_from_slice(turn.got.as_slice())?;
+    }
+    Ok(After {
+        ended: Some(transcript.ended),
+        turns: transcript.turns.len() as u64,
+        sent,
+        got,
+    })
+}
+
+/// Whether a script ended so.
+pub fn ended_so(after: &After, wanted: Option<Ended>) -> bool {
+    match (after.ended, wanted) {
+        (None, None) => true,
+        (Some(ended), Some(wanted)) => ended == wanted,
+        (None, Some(_)) | (Some(_), None) => false,
+    }
+}
+
+/// An echo passes.
+#[test]
+fn an_echo_passes(rt: HostRuntime) -> Result<(), Fail> {
+    for id in ["1.1.1", "2.5", "5.19"] {
+        let (input, output) = echo_server(rt.alloc())?;
+        let (mut reader, mut writer) = (Watched::new(output), Watched::new(input));
+        let passes = match run_case(rt.alloc(), id, &mut reader, &mut writer)? {
+            Some(Probe::Ran(transcript)) => matches!(
+                judge(rt.alloc(), &transcript)?,
+                Verdict::Pass
+            ),
+            _ => false,
+        };
+        same_answer(&rt, 0, passes, true);
+    }
+    Ok(())
+}
+
+/// What comes of an answer that has no frames.
+fn after_answer(alloc: Global, answer: &[u8]) -> Result<Option<Probe>, Fail> {
+    let mut reader = Watched::new(answer);
+    let mut writer = Watched::new(Vec::new(alloc));
+    run_case(alloc, "1.1.1", &mut reader, &mut writer)
+}
+
+/// Whether an answer is refused for this.
+fn is_refused(alloc: Global, answer: &[u8], wanted: HeadFault) -> Result<bool, Fail> {
+    match after_answer(alloc, answer)? {
+        Some(Probe::Refused(fault)) => Ok(fault == wanted),
+        _ => Ok(false),
+    }
+}
+
+#[test]
+fn answers_that_are_refused(rt: HostRuntime) -> Result<(), Fail> {
+    let alloc = rt.alloc();
+    let not_found = b"HTTP/1.1 404 Not Found\r\n\r\n";
+    same_answer(
+        &rt,
+        0,
+        is_refused(alloc, not_found, HeadFault::Status)?,
+        true,
+    );
+    let fine = b"HTTP/1.1 200 OK\r\n\r\n";
+    same_answer(&rt, 1, is_refused(alloc, fine, HeadFault::Status)?, true);
+    let other =
+        b"HTTP/1.1 101 S\r\nUpgrade: websocket\r\nConnection: Upgrade\r\nSec-WebSocket-Accept: x\r\n\r\n";
+    same_answer(&rt, 2, is_refused(alloc, other, HeadFault::Accept)?, true);
+    let extended = b"HTTP/1.1 101 S\r\nUpgrade: websocket\r\nConnection: Upgrade\r\n\
+        Sec-WebSocket-Accept: s3pPLMBiTxaQ9kYGzzhZRbK+xOo=\r\nSec-WebSocket-Extensions: x\r\n\r\n";
+    same_answer(
+        &rt,
+        3,
+        is_refused(alloc, extended, HeadFault::Extension)?,
+        true,
+    );
+    let protocol = b"HTTP/1.1 101 S\r\nUpgrade: websocket\r\nConnection: Upgrade\r\n\
+        Sec-WebSocket-Accept: s3pPLMBiTxaQ9kYGzzhZRbK+xOo=\r\nSec-WebSocket-Protocol: x\r\n\r\n";
+    same_answer(
+        &rt,
+        4,
+        is_refused(alloc, protocol, HeadFault::Protocol)?,
+        true,
+    );
+    let mut large = Vec::from_slice(alloc, b"HTTP/1.1 101 ")?;
+    large.resize(9000, b'a')?;
+    same_answer(
+        &rt,
+        5,
+        is_refused(alloc, large.as_slice(), HeadFault::TooLarge)?,
+        true,
+    );
+    Ok(())
+}
+
+/// A head that is cut anywhere is no connection.
+#[test]
+fn each_cut_of_the_head(rt: HostRuntime) -> Result<(), Fail> {
+    for len in 0..RESPONSE.len() {
+        let ended = after_answer(rt.alloc(), &RESPONSE[..len])?;
+        same_answer(
+            &rt,
+            len as u64,
+            matches!(ended, Some(Probe::NoConnection)),
+            true,
+        );
+    }
+    Ok(())
+}
+
+/// Frames that came with the head are got in the first turn, and the stream's end ends the script in it.
+#[test]
+fn frames_with_the_head(rt: HostRuntime) -> Result<(), Fail> {
+    let mut answer = Vec::from_slice(rt.alloc(), RESPONSE)?;
+    answer.extend_from_slice(b"\x81\x00\x88\x02\x03\xe8")?;
+    let mut reader = Watched::new(answer.as_slice());
+    let mut writer = Watched::new(Vec::new(rt.alloc()));
+    let ran = run_case(rt.alloc(), "2.5", &mut reader, &mut writer)?;
+    let after = after_run(rt.alloc(), ran)?;
+    same_answer(&rt, 0, ended_so(&after, Some(Ended::Peer)), true);
+    same_number(&rt, 1, after.turns, 1);
+    same_bytes(&rt, 2, after.got.as_slice(), b"\x81\x00\x88\x02\x03\xe8");
+    Ok(())
+}
+
+/// A script without steps.
+fn no_steps(alloc: Global) -> Case
+    ensures { CanBeRun result }
+{
+    Case {
+        id: String::new(alloc),
+        steps: Sequence::new(alloc),
+        chop: Chop::Whole,
+    }
+}
+
+/// A script without turns sends nothing behind the request; what came with the head is a turn, if it is anything.
+#[test]
+fn a_script_without_turns(rt: HostRuntime) -> Result<(), Fail> {
+    let _text = request_with(rt.alloc(), HOST, b"/", NONCE, &[])?;
+    let case = no_steps(rt.alloc());
+    let answer = answer(rt.alloc(), 8)?;
+    let mut reader = Watched::new(answer.as_slice());
+    let mut writer = Watched::new(Vec::new(rt.alloc()));
+    let ran = probe(rt.alloc(), &case, HOST, &mut reader, &mut writer, KEY, &[])?;
+    let after = after_run(rt.alloc(), Some(ran))?;
+    same_answer(&rt, 0, ended_so(&after, Some(Ended::Tester)), true);
+    same_number(&rt, 1, after.turns, 1);
+    same_bytes(&rt, 2, after.got.as_slice(), b"\x8a\x06ping 1");
+    same_bytes(&rt, 3, writer.into_inner().as_slice(), REQUEST);
+    Ok(())
+}
+
+/// Where the bytes behind the head come later, they are not read.
+#[test]
+fn a_script_without_turns_reads_no_further(rt: HostRuntime) -> Result<(), Fail> {
+    let _text = request_with(rt.alloc(), HOST, b"/", NONCE, &[])?;
+    let case = no_steps(rt.alloc());
+    let answer = answer(rt.alloc(), 8)?;
+    let mut reader = Watched::new(ByteReader::new(answer.as_slice(), Failing::Never));
+    let mut writer = Watched::new(Vec::new(rt.alloc()));
+    let ran = probe(rt.alloc(), &case, HOST, &mut reader, &mut writer, KEY, &[])?;
+    let after = after_run(rt.alloc(), Some(ran))?;
+    same_answer(&rt, 0, ended_so(&after, Some(Ended::Tester)), true);
+    same_number(&rt, 1, after.turns, 0);
+    same_number(&rt, 2, reader.into_inner().left.len() as u64, 8);
+    Ok(())
+}

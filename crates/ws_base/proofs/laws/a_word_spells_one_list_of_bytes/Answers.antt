@@ -1,5 +1,0 @@
-use Rattle.ws_base.proofs.HexWords.{hex_one}
-use Rattle.ws_base.proofs.laws.a_word_spells_one_list_of_bytes.Goals as goal
-
-pub returns : goal.returns
-returns c = hex_one

@@ -1,5 +1,0 @@
-use Rattle.ws_base.proofs.HexWords.{no_shorter}
-use Rattle.ws_base.proofs.laws.hexadecimal_is_no_shorter.Goals as goal
-
-pub returns : goal.returns
-returns c = λ bytes word h. no_shorter bytes word h

@@ -1,0 +1,126 @@
+//! Bytes and masking keys in lower-case hexadecimal, two digits a byte.
+
+ghost use Rattle.std.specs.Prelude.{◌≡◌, ◌<◌, Some, false};
+ghost use Rattle.std.specs.Fmt.{digit_glyph};
+ghost use Rattle.ws_formats.specs.Words.{IsHexWord, IsKeyOrDash, IsKeyWord, hex, hex_word};
+ghost use Rattle.ws_formats.specs.Reading.{ArePairs, IsPair, Reads};
+ghost use Rattle.ws_base.specs.Finding.{Finds};
+
+use std::alloc::Global;
+use std::fmt;
+use ws_base::{LineFault, Payload};
+
+/// The key that a dash stands for.
+const KEY_OF_A_DASH: [u8; 4] = [0; 4];
+
+/// Bytes as two digits each.
+#[derive(Drop)]
+pub struct HexDigits<'a>(pub &'a [u8]);
+
+impl fmt::Display for HexDigits<'_> {
+    ghost output = { λ bytes. Some (hex bytes.0.now) };
+
+    fn fmt<W: fmt::Write>(&self, f: &mut fmt::Formatter<W>) -> fmt::Result {
+        for byte in self.0 {
+            write!(f, "{:x}{:x}", byte / 16, byte % 16)?;
+        }
+        Ok(())
+    }
+}
+
+/// Bytes as two digits each, or a dash where there are none.
+#[derive(Drop)]
+pub struct Hex<'a>(pub &'a [u8]);
+
+impl fmt::Display for Hex<'_> {
+    ghost output = { λ bytes. Some (hex_word bytes.0.now) };
+
+    fn fmt<W: fmt::Write>(&self, f: &mut fmt::Formatter<W>) -> fmt::Result {
+        if self.0.is_empty() {
+            write!(f, "-")
+        } else {
+            write!(f, "{}", HexDigits(self.0))
+        }
+    }
+}
+
+/// The bytes that a word spells: two digits each, or a dash for none.
+pub fn read_hex(alloc: Global, word: &[u8]) -> Result<Payload, LineFault>
+    ensures { Reads result (λ bytes. IsHexWord bytes word.now) }
+{
+    if word == b"-".as_slice() {
+        return Ok(Payload::new(alloc));
+    }
+    if word.is_empty() {
+        return Err(LineFault::Damaged);
+    }
+    let bytes = read_pairs(alloc, word)?;
+    Ok(bytes)
+}
+
+/// The bytes that pairs of digits spell.
+fn read_pairs(alloc: Global, word: &[u8]) -> Result<Payload, LineFault>
+    ensures { Reads result (λ bytes. ArePairs bytes word.now) }
+{
+    let mut bytes = Vec::new(alloc);
+    let mut rest = word;
+    while let [high, low, after @ ..] = rest {
+        let Some(byte) = read_pair(*high, *low) else {
+            return Err(LineFault::Damaged);
+        };
+        if bytes.push(byte).is_err() {
+            return Err(LineFault::NoMemory);
+        }
+        rest = after;
+    }
+    if rest.is_empty() {
+        Ok(Payload::from_vec(bytes))
+    } else {
+        Err(LineFault::Damaged)
+    }
+}
+
+/// The byte that two digits spell.
+fn read_pair(high: u8, low: u8) -> Option<u8>
+    ensures { Finds result (λ byte. IsPair byte high low) }
+{
+    let high = read_digit(high)?;
+    let low = read_digit(low)?;
+    Some(high * 16 + low)
+}
+
+/// The value of a lower-case hexadecimal digit.
+fn read_digit(digit: u8) -> Option<u8>
+    ensures { Finds result (λ value. (value < 16) × (digit_glyph false value ≡ digit)) }
+{
+    match digit {
+        b'0'..=b'9' => Some(digit - b'0'),
+        b'a'..=b'f' => Some(digit - b'a' + 10),
+        _ => None,
+    }
+}
+
+/// The masking key that a word spells: eight digits.
+pub fn read_key(word: &[u8]) -> Option<[u8; 4]>
+    ensures { Finds result (λ key. IsKeyWord key word.now) }
+{
+    let [a, b, c, d, e, f, g, h] = word else {
+        return None;
+    };
+    let first = read_pair(*a, *b)?;
+    let second = read_pair(*c, *d)?;
+    let third = read_pair(*e, *f)?;
+    let fourth = read_pair(*g, *h)?;
+    Some([first, second, third, fourth])
+}
+
+/// The masking key that a word spells, where a dash stands for four zeros.
+pub fn read_key_or_dash(word: &[u8]) -> Option<[u8; 4]>
+    ensures { Finds result (λ key. IsKeyOrDash key word.now) }
+{
+    if word == b"-".as_slice() {
+        Some(KEY_OF_A_DASH)
+    } else {
+        read_key(word)
+    }
+}

@@ -1,0 +1,19 @@
+//! The words and lines of our text formats: bytes and masking keys in hexadecimal, numbers in decimal, the words of a
+//! line, and texts with a line for each value.
+//!
+//! The layers above use the contract of `read_lines`, for a script with one value a line, and those of the readers of
+//! words: a value is found where a word spells one, and nowhere else.
+#![tactic(auto)]
+
+mod closing;
+mod hexadecimal;
+pub mod laws;
+mod lines;
+mod numbers;
+mod words;
+
+pub use closing::read_close;
+pub use hexadecimal::{Hex, HexDigits, read_hex, read_key, read_key_or_dash};
+pub use lines::{Line, PartialText, cut_line, read_by_lines, read_lines};
+pub use numbers::{read_u16, read_u32};
+pub use words::{read_fin, words_of};

@@ -1,7 +1,0 @@
-use Rattle.std.proofs.Common.{rules, arith}
-use Rattle.ws_frame.proofs.TestDeviceLemmas.{one_given}
-use Rattle.ws_frame.proofs.devices.byte_devices.ByteReaderRead.read.Goals as goal
-
-pub returns-clause-bytes : goal.returns-clause-bytes
-returns-clause-bytes c =
-    (one_given c.args.self.now.left.now c.args.buf.now (search rules) (search rules), λ e. absurd (omega (arith, e)))

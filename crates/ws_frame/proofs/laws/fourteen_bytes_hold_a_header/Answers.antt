@@ -1,5 +1,0 @@
-use Rattle.ws_frame.proofs.HeaderSize.{short_without_header}
-use Rattle.ws_frame.proofs.laws.fourteen_bytes_hold_a_header.Goals as goal
-
-pub returns : goal.returns
-returns c = short_without_header

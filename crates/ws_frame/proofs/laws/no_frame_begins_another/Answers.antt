@@ -1,5 +1,0 @@
-use Rattle.ws_frame.proofs.Frames.{no_frame_begins}
-use Rattle.ws_frame.proofs.laws.no_frame_begins_another.Goals as goal
-
-pub returns : goal.returns
-returns c = no_frame_begins

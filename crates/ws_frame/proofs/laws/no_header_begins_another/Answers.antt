@@ -1,5 +1,0 @@
-use Rattle.ws_frame.proofs.Headers.{no_header_begins}
-use Rattle.ws_frame.proofs.laws.no_header_begins_another.Goals as goal
-
-pub returns : goal.returns
-returns c = no_header_begins

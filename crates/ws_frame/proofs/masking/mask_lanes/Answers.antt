@@ -1,5 +1,0 @@
-use Rattle.ws_frame.proofs.Masks.{stored_lanes}
-use Rattle.ws_frame.proofs.masking.mask_lanes.Goals as goal
-
-pub returns : goal.returns
-returns c = λ key phase are. stored_lanes 32 key phase c.args.lanes c.args.bytes.now c.requires.lanes c.requires.bytes are

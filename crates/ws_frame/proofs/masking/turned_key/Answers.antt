@@ -1,6 +1,0 @@
-use Rattle.std.proofs.Common.{refl}
-use Rattle.ws_frame.proofs.Masks.{once}
-use Rattle.ws_frame.proofs.masking.turned_key.Goals as goal
-
-pub returns-clause-lanes : goal.returns-clause-lanes
-returns-clause-lanes c = once c.args.key c.args.phase _ _ _ _ c.requires refl refl refl refl

@@ -1,0 +1,6 @@
+use Rattle.ws_scripts.specs.Scripts.{FitHeaders}
+use Rattle.ws_scripts.proofs.cases.pushing.push_fragments.Given as goal
+
+-- the steps so far can be sent
+abbrev pub invariant-loop-place : goal.invariant-loop-place
+invariant-loop-place l = FitHeaders l.fn.steps.items → FitHeaders l.steps.items

@@ -1,0 +1,203 @@
+//! A script as what goes over the wire: turns, and the pieces of each (RFC 6455 section 5.2).
+
+ghost use Rattle.std.specs.Prelude.{◌≡◌, ◌+◌, ◌<◌, ◌≤◌, ◌++◌, [], ◌∷◌, IfOk, OnOk, length, take, drop};
+ghost use Rattle.std.specs.List.{AllByRecursion};
+ghost use Rattle.ws_scripts.specs.Scripts.{ArePieces, AreTurns, CanBeRun, CutsOff, FitHeaders, FitsAHeader};
+ghost use Rattle.ws_scripts.specs.Scripts.{IsAct, is_wait, step_bytes, turn_bytes, turns_of, without_empty};
+ghost use Rattle.ws_wire.specs.Frame.{Frame, frame_bytes};
+ghost use Rattle.ws_scripts.specs.declared.script.Chop.TheVariants.{Octets, PerFrame, Whole};
+ghost use Rattle.ws_scripts.specs.declared.script.Step.TheVariants.{Wait};
+
+use crate::script::{Case, Chop, Step};
+use std::alloc::Global;
+use ws_base::{NoMemory, Payload, Sequence};
+use ws_wire::{Header, append_frame};
+
+/// What is sent for a script whose frames are masked with `key`: the pieces of each turn, in order. A turn without
+/// bytes has no pieces.
+pub fn turns(
+    alloc: Global,
+    case: &Case,
+    key: [u8; 4],
+) -> Result<Sequence<Sequence<Payload>>, NoMemory>
+    requires { CanBeRun case.now }
+    ensures { IfOk result (λ turns. AreTurns case.now key turns) }
+{
+    let mut turns = Vec::new(alloc);
+    let mut rest = case.steps.as_slice();
+    while !rest.is_empty() {
+        let (steps, after) = first_turn(rest);
+        let pieces = pieces_of(alloc, case.chop, key, steps)?;
+        turns.push(pieces)?;
+        rest = after;
+    }
+    Ok(Sequence::from_vec(turns))
+}
+
+/// The steps up to the first `Wait`, and those after it.
+fn first_turn(steps: &[Step]) -> (&[Step], &[Step])
+    requires { 0 < length steps.now }
+    ensures turns { turns_of steps.now ≡ result.0.now ∷ turns_of result.1.now }
+    ensures fewer { length result.1.now < length steps.now }
+    ensures fit { FitHeaders steps.now → FitHeaders result.0.now × FitHeaders result.1.now }
+{
+    let at = first_wait(steps);
+    if at < steps.len() {
+        (&steps[..at], &steps[at + 1..])
+    } else {
+        (steps, &[])
+    }
+}
+
+/// How many steps stand before the first `Wait`: all where there is none.
+fn first_wait(steps: &[Step]) -> usize
+    ensures within { result ≤ length steps.now }
+    ensures acts { AllByRecursion IsAct (take result steps.now) }
+    ensures wait { result < length steps.now → drop result steps.now ≡ Wait ∷ drop (result + 1) steps.now }
+{
+    let mut at = 0;
+    while at < steps.len() && !is_wait(&steps[at]) {
+        at += 1;
+    }
+    at
+}
+
+/// Whether the turn ends.
+fn is_wait(step: &Step) -> bool
+    ensures { result ≡ is_wait step.now }
+{
+    match step {
+        Step::Frame { .. } | Step::Raw(_) => false,
+        Step::Wait => true,
+    }
+}
+
+/// The pieces of a turn.
+fn pieces_of(
+    alloc: Global,
+    chop: Chop,
+    key: [u8; 4],
+    steps: &[Step],
+) -> Result<Sequence<Payload>, NoMemory>
+    requires fit { FitHeaders steps.now }
+    requires cuts { CutsOff chop }
+    ensures { IfOk result (λ pieces. ArePieces chop key steps.now pieces) }
+{
+    match chop {
+        Chop::Whole => one_piece(alloc, key, steps),
+        Chop::PerFrame => one_piece_a_step(alloc, key, steps),
+        Chop::Octets(n) => octets(alloc, n, key, steps),
+    }
+}
+
+/// The bytes of a turn as one piece, or none where there are no bytes.
+fn one_piece(alloc: Global, key: [u8; 4], steps: &[Step]) -> Result<Sequence<Payload>, NoMemory>
+    requires { FitHeaders steps.now }
+    ensures { IfOk result (λ pieces. ArePieces Whole key steps.now pieces) }
+{
+    let bytes = bytes_of(alloc, key, steps)?;
+    let mut pieces = Vec::new(alloc);
+    push_if_any(bytes, &mut pieces)?;
+    Ok(Sequence::from_vec(pieces))
+}
+
+/// Puts the bytes after the pieces where there are any.
+fn push_if_any(bytes: Vec<u8>, pieces: &mut Vec<Payload>) -> Result<(), NoMemory>
+    ensures { OnOk result (pieces.new.items ≡ pieces.old.items ++ without_empty (bytes.items ∷ [])) }
+{
+    if !bytes.is_empty() {
+        pieces.push(Payload::from_vec(bytes))?;
+    }
+    Ok(())
+}
+
+/// The bytes of each step as a piece, where there are any.
+fn one_piece_a_step(
+    alloc: Global,
+    key: [u8; 4],
+    steps: &[Step],
+) -> Result<Sequence<Payload>, NoMemory>
+    requires { FitHeaders steps.now }
+    ensures { IfOk result (λ pieces. ArePieces PerFrame key steps.now pieces) }
+{
+    let mut pieces = Vec::new(alloc);
+    for step in steps {
+        let mut bytes = Vec::new(alloc);
+        append_step(step, key, &mut bytes)?;
+        push_if_any(bytes, &mut pieces)?;
+    }
+    Ok(Sequence::from_vec(pieces))
+}
+
+/// The bytes of a turn in pieces of `n` bytes, the last of them as long as it comes.
+fn octets(
+    alloc: Global,
+    n: u32,
+    key: [u8; 4],
+    steps: &[Step],
+) -> Result<Sequence<Payload>, NoMemory>
+    requires fit { FitHeaders steps.now }
+    requires cuts { 0 < n }
+    ensures { IfOk result (λ pieces. ArePieces (Octets n) key steps.now pieces) }
+{
+    let bytes = bytes_of(alloc, key, steps)?;
+    let mut pieces = Vec::new(alloc);
+    let mut rest = bytes.as_slice();
+    while !rest.is_empty() {
+        let (piece, after) = rest.split_at(rest.len().min(n as usize));
+        pieces.push(Payload::from_vec(piece.to_vec(alloc)?))?;
+        rest = after;
+    }
+    Ok(Sequence::from_vec(pieces))
+}
+
+/// The bytes of a turn.
+fn bytes_of(alloc: Global, key: [u8; 4], steps: &[Step]) -> Result<Vec<u8>, NoMemory>
+    requires { FitHeaders steps.now }
+    ensures { IfOk result (λ bytes. bytes.items ≡ turn_bytes key steps.now) }
+{
+    let mut bytes = Vec::new(alloc);
+    for step in steps {
+        append_step(step, key, &mut bytes)?;
+    }
+    Ok(bytes)
+}
+
+/// Puts the bytes of a step at the end of `out`.
+fn append_step(step: &Step, key: [u8; 4], out: &mut Vec<u8>) -> Result<(), NoMemory>
+    requires { FitsAHeader step.now }
+    ensures { OnOk result (out.new.items ≡ out.old.items ++ step_bytes key step.now) }
+{
+    match step {
+        Step::Frame {
+            fin,
+            rsv,
+            opcode,
+            payload,
+        } => append_masked(*fin, *rsv, *opcode, payload.as_slice(), key, out)?,
+        Step::Raw(bytes) => out.extend_from_slice(bytes.as_slice())?,
+        Step::Wait => {}
+    }
+    Ok(())
+}
+
+/// Puts a frame at the end of `out`, masked with the key, its length in the shortest form.
+fn append_masked(
+    fin: bool,
+    rsv: u8,
+    opcode: u8,
+    payload: &[u8],
+    key: [u8; 4],
+    out: &mut Vec<u8>,
+) -> Result<(), NoMemory>
+    requires rsv { rsv < 8 }
+    requires opcode { opcode < 16 }
+    ensures { let frame : Frame = record { fin = fin; rsv = rsv; opcode = opcode; payload = payload.now }
+        in OnOk result (out.new.items ≡ out.old.items ++ frame_bytes (record { frame = frame; key = Some key })) }
+{
+    let Some(header) = Header::shortest(fin, rsv, opcode, Some(key), payload.len() as u64) else {
+        unreachable!()
+    };
+    append_frame(&header, payload, out)?;
+    Ok(())
+}

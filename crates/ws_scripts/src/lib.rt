@@ -1,0 +1,21 @@
+//! Scripts that test a peer (RFC 6455 sections 5 to 8): what to send, in which turns and pieces; the transcript of what
+//! was sent and got; and a capture of a transcript as text.
+//!
+//! The layers above use two contracts: `turns` cuts a script as its definition says, and `read_capture2` gives the one
+//! capture that a text is.
+#![tactic(auto)]
+
+mod capture;
+mod cases;
+mod cutting;
+pub mod laws;
+mod script;
+mod transcript;
+
+pub use capture::{
+    Capture, CaptureFault, read_capture, read_capture2, write_capture, write_capture2,
+};
+pub use cases::{case, ids};
+pub use cutting::turns;
+pub use script::{Case, Chop, Step};
+pub use transcript::{Ended, Transcript, Turn};

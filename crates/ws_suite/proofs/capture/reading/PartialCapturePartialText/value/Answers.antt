@@ -1,6 +1,0 @@
--- Only what has its last line is a whole capture.
-use Rattle.ws_suite.proofs.CaptureParts.{not_whole}
-use Rattle.ws_suite.proofs.capture.reading.PartialCapturePartialText.value.Goals as goal
-
-pub returns : goal.returns
-returns c = not_whole c.args.self c.in_default.not-Whole

@@ -1,6 +1,0 @@
-use Rattle.ws_suite.specs.Scripts.{FitHeaders}
-use Rattle.ws_suite.proofs.cases.scripting.row_steps.Given as goal
-
--- the steps so far can be sent
-abbrev pub invariant-loop-act : goal.invariant-loop-act
-invariant-loop-act l = FitHeaders l.steps.items

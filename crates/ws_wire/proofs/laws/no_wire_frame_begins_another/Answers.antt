@@ -1,0 +1,5 @@
+use Rattle.ws_wire.proofs.Frames.{no_wire_begins}
+use Rattle.ws_wire.proofs.laws.no_wire_frame_begins_another.Goals as goal
+
+pub returns : goal.returns
+returns c = no_wire_begins

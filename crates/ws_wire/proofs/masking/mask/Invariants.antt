@@ -1,0 +1,10 @@
+use Rattle.std.proofs.Common.{◌≡◌, ◌++◌, ◌-◌, ◌≤◌, length, take, drop}
+use Rattle.ws_wire.specs.Masking.{masked}
+use Rattle.ws_wire.proofs.masking.mask.Given as goal
+
+-- the vectors so far are masked, and the rest begins at the same phase
+abbrev pub invariant-loop-bytes : goal.invariant-loop-bytes
+invariant-loop-bytes l = (l.at ≤ length l.bytes) × (take l.at l.bytes ++ masked l.key l.phase (drop l.at l.bytes) ≡ masked l.key l.phase l.fn.bytes)
+
+abbrev pub decreases-loop-bytes : goal.decreases-loop-bytes
+decreases-loop-bytes l = length l.bytes - l.at

@@ -1,0 +1,111 @@
+//! Masking of payloads (RFC 6455 section 5.3).
+
+ghost use Rattle.std.specs.Prelude.{◌≡◌, ◌≤◌, ℕ, List, length};
+ghost use Rattle.ws_wire.specs.Masking.{masked, IsMasked, AreKeyLanes};
+
+use std::simd::{u8x4, u8x32};
+
+/// The key of an endpoint that masks nothing: a server puts its frames without one (section 5.1), whatever key it is
+/// given.
+pub const NO_KEY: [u8; KEY] = [0; KEY];
+
+/// How many bytes are masked at once: a multiple of the key's four, so that each vector begins at
+/// the same phase.
+const LANES: usize = 32;
+
+/// The bytes of a key.
+const KEY: usize = 4;
+
+/// Masks or unmasks a part of a payload in place: the two are one. `phase` is the place of its
+/// first byte in the payload, modulo 4, so a payload may be masked in parts. `mask_plainly` says the
+/// same in a line.
+pub fn mask(key: [u8; 4], phase: usize, bytes: &mut [u8])
+    requires { phase ≤ 3 }
+    ensures rule { IsMasked key phase bytes.old bytes.new }
+    ensures bytes { bytes.new ≡ masked key phase bytes.old }
+{
+    let turned = turned_key(key, phase);
+    let lanes = key_lanes(turned);
+    let mut at = 0;
+    while bytes.len() - at >= LANES {
+        mask_lanes(lanes, &mut bytes[at..at + LANES]);
+        at += LANES;
+    }
+    mask_rest(key, phase, turned, &mut bytes[at..]);
+}
+
+/// The same, one byte after the other.
+pub fn mask_plainly(key: [u8; 4], phase: usize, bytes: &mut [u8])
+    requires { phase ≤ 3 }
+    ensures rule { IsMasked key phase bytes.old bytes.new }
+    ensures bytes { bytes.new ≡ masked key phase bytes.old }
+{
+    for (i, byte) in bytes.iter_mut().enumerate() {
+        *byte ^= key[(phase + i) % 4];
+    }
+}
+
+/// The same, a key's bytes at once, and what is less than those one byte after the other.
+fn mask_rest(key: [u8; 4], phase: usize, turned: u8x4, bytes: &mut [u8])
+    requires phase { phase ≤ 3 }
+    requires len { length turned ≡ 4 }
+    requires turned { AreKeyLanes key phase turned }
+    ensures { bytes.new ≡ masked key phase bytes.old }
+{
+    let mut at = 0;
+    while bytes.len() - at >= KEY {
+        mask_by_key(turned, &mut bytes[at..at + KEY]);
+        at += KEY;
+    }
+    mask_plainly(key, phase, &mut bytes[at..]);
+}
+
+/// The key's bytes, turned to the phase of the first one.
+fn turned_key(key: [u8; 4], phase: usize) -> u8x4
+    requires { phase ≤ 3 }
+    ensures len { length result ≡ 4 }
+    ensures lanes { AreKeyLanes key phase result }
+{
+    // Where a payload begins the key stands as it is.
+    if phase == 0 {
+        return u8x4::from_array(key);
+    }
+    u8x4::from_array([
+        key[phase],
+        key[(phase + 1) % 4],
+        key[(phase + 2) % 4],
+        key[(phase + 3) % 4],
+    ])
+}
+
+/// Masks as many bytes as a key has.
+fn mask_by_key(turned: u8x4, bytes: &mut [u8])
+    requires lanes { length turned ≡ 4 }
+    requires bytes { length bytes.old ≡ 4 }
+    ensures { (key : List ℕ) (phase : ℕ) → AreKeyLanes key phase turned → bytes.new ≡ masked key phase bytes.old }
+{
+    let masked = u8x4::from_slice(bytes) ^ turned;
+    masked.copy_to_slice(bytes);
+}
+
+/// The bytes of a turned key over a vector.
+fn key_lanes(turned: u8x4) -> u8x32
+    requires { length turned ≡ 4 }
+    ensures len { length result ≡ 32 }
+    ensures lanes { (key : List ℕ) (phase : ℕ) → AreKeyLanes key phase turned → AreKeyLanes key phase result }
+{
+    turned.swizzle([
+        0, 1, 2, 3, 0, 1, 2, 3, 0, 1, 2, 3, 0, 1, 2, 3, 0, 1, 2, 3, 0, 1, 2, 3, 0, 1, 2, 3, 0, 1,
+        2, 3,
+    ])
+}
+
+/// Masks as many bytes as a vector has.
+fn mask_lanes(lanes: u8x32, bytes: &mut [u8])
+    requires lanes { length lanes ≡ 32 }
+    requires bytes { length bytes.old ≡ 32 }
+    ensures { (key : List ℕ) (phase : ℕ) → AreKeyLanes key phase lanes → bytes.new ≡ masked key phase bytes.old }
+{
+    let masked = u8x32::from_slice(bytes) ^ lanes;
+    masked.copy_to_slice(bytes);
+}

@@ -1,0 +1,36 @@
+//! What a frame is, by the opcode of its header (RFC 6455 section 5.2).
+
+ghost use Rattle.ws_wire.specs.Opcode.{IsOpcode};
+
+/// What a frame is. A header has the number, and all that compares opcodes this.
+#[derive(Clone, Copy)]
+pub enum Opcode {
+    /// The next frame of the open message.
+    Continuation,
+    /// The first frame of a text message.
+    Text,
+    /// The first frame of a binary message.
+    Binary,
+    Close,
+    Ping,
+    Pong,
+    /// One of the numbers 3 to 7 and 11 to 15, which are reserved.
+    Reserved(u8),
+}
+
+impl Opcode {
+    /// What the number of a header says, which is at most 15.
+    pub fn of(number: u8) -> Opcode
+        ensures { IsOpcode result number }
+    {
+        match number {
+            0 => Opcode::Continuation,
+            1 => Opcode::Text,
+            2 => Opcode::Binary,
+            8 => Opcode::Close,
+            9 => Opcode::Ping,
+            10 => Opcode::Pong,
+            other => Opcode::Reserved(other),
+        }
+    }
+}

@@ -1,5 +1,0 @@
-use Rattle.std.proofs.Common.{inl}
-use Rattle.wst_commands.proofs.running.run_test.Goals as goal
-
-pub returns-in-Ok : goal.returns-in-Ok
-returns-in-Ok g c = inl (c.in-Ok.plan, c.in-Ok.ensures.plan, c.run_over_target.ensures)

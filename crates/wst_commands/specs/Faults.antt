@@ -1,0 +1,41 @@
+-- What is told on the fault output in place of an answer, and the exit that it stands for.
+use Rattle.std.specs.Prelude.{◌≡◌, ℕ, ◌⊎◌, List, [], ◌∷◌, Result, Ok, Err, codes}
+use Rattle.std.specs.List.{concat}
+use Rattle.std.specs.Fmt.{decimal}
+use Rattle.ws_frame.specs.Devices.{Device, IsUntouched}
+use Rattle.wst_commands.specs.Devices.{Tells}
+use Rattle.wst_commands.specs.declared.exit.Exit.{Exit}
+use Rattle.wst_commands.specs.declared.exit.Exit.TheVariants.{Damaged, Failed, WrongWords}
+use Rattle.wst_commands.specs.declared.fault.Fault.{Fault}
+use Rattle.wst_commands.specs.declared.fault.Fault.TheVariants.{BadLimits, BadProtocols, HeadIsCut, NotACall}
+use Rattle.wst_commands.specs.declared.fault.Fault.TheVariants.{NotACapture, NotAMove, NoCase, NoText, NoTask, NoMemory}
+
+-- memory ran out, and that is told
+abbrev pub LacksMemory : Exit → Device → Type 0
+LacksMemory exit faults = (exit ≡ Failed) × Tells (codes "no memory\n") faults
+
+-- the line that tells which line of a script or a capture is damaged, and what it is not
+abbrev pub damage_line : ℕ → List ℕ → List ℕ
+damage_line number what = concat (codes "line " ∷ decimal number ∷ codes ": " ∷ what ∷ codes "\n" ∷ [])
+
+-- the line is told, or memory ran out for it
+abbrev pub TellsLine : ℕ → List ℕ → Exit → Device → Type 0
+TellsLine number what exit faults =
+    ((exit ≡ Damaged) × Tells (damage_line number what) faults) ⊎ LacksMemory exit faults
+
+abbrev pub TellsFault : Fault → Exit → Device → Type 0
+TellsFault BadLimits exit faults = (exit ≡ WrongWords) × Tells (codes "bad limits\n") faults
+TellsFault BadProtocols exit faults = (exit ≡ WrongWords) × Tells (codes "bad protocol list\n") faults
+TellsFault HeadIsCut exit faults = (exit ≡ Damaged) × Tells (codes "head is cut\n") faults
+TellsFault (NotAMove number) exit faults = TellsLine number (codes "not a move") exit faults
+TellsFault (NotACall number) exit faults = TellsLine number (codes "not a call") exit faults
+TellsFault (NotACapture number) exit faults = TellsLine number (codes "not a capture") exit faults
+TellsFault NoCase exit faults = (exit ≡ Failed) × Tells (codes "error: a case is missing\n") faults
+TellsFault NoText exit faults = (exit ≡ WrongWords) × Tells (codes "error: the words are not UTF-8\n") faults
+TellsFault NoTask exit faults = (exit ≡ WrongWords) × Tells (codes "error: the words ask for nothing\n") faults
+TellsFault NoMemory exit faults = LacksMemory exit faults
+
+-- what is told of how a run ended, and the exit: nothing, or its fault
+abbrev pub Ends : Result Exit Fault → Exit → Device → Type 0
+Ends (Ok ended) exit faults = (exit ≡ ended) × IsUntouched faults
+Ends (Err fault) exit faults = TellsFault fault exit faults

@@ -1,0 +1,53 @@
+-- A run of `judge`: a capture is read whole and judged, and the verdict is written.
+use Rattle.std.specs.Prelude.{◌≡◌, ◌⊎◌, ℕ, List, ◌++◌, Result, Err, MatchResult, codes}
+use Rattle.ws_frame.specs.Devices.{Device, IsUntouched}
+use Rattle.ws_scripts.specs.Captures.{DamagesCapture}
+use Rattle.ws_scripts.specs.Captures2.{IsAnyCaptureOf}
+use Rattle.ws_suite.specs.Verdicts.{IsVerdictOf}
+use Rattle.ws_suite.specs.Words.{verdict_words}
+use Rattle.ws_scripts.specs.declared.capture.Capture.{Capture}
+use Rattle.ws_scripts.specs.declared.capture.CaptureFault.{CaptureFault}
+use Rattle.ws_scripts.specs.declared.capture.CaptureFault.TheVariants as capture
+use Rattle.ws_scripts.specs.declared.transcript.Transcript.{Transcript}
+use Rattle.ws_suite.specs.declared.verdict.Verdict.{Verdict}
+use Rattle.ws_suite.specs.declared.verdict.Verdict.TheVariants.{Fail, Loose, Pass}
+use Rattle.wst_commands.specs.Devices.{Delivers}
+use Rattle.wst_commands.specs.ReadingWhole.{AnswersInput}
+use Rattle.wst_commands.specs.declared.exit.Exit.{Exit}
+use Rattle.wst_commands.specs.declared.exit.Exit.TheVariants.{Damaged, Done}
+use Rattle.wst_commands.specs.declared.fault.Fault.{Fault}
+use Rattle.wst_commands.specs.declared.fault.Fault.TheVariants.{NotACapture, NoMemory}
+
+-- the verdict in its line
+abbrev pub verdict_line : Verdict → List ℕ
+verdict_line verdict = verdict_words verdict ++ codes "\n"
+
+-- a broken rule has a status of its own
+abbrev pub exit_of : Verdict → Exit
+exit_of Pass = Done
+exit_of (Loose why) = Done
+exit_of (Fail why) = Damaged
+
+-- the verdict on the transcript was written; or memory ran out, and nothing was written
+abbrev pub TellsVerdict : Transcript → Result Exit Fault → Device → Type 0
+TellsVerdict transcript ended output = MatchResult ended
+    (λ exit. (verdict : Verdict) × IsVerdictOf transcript verdict
+    × Delivers (exit_of verdict) (verdict_line verdict) exit output)
+    (λ fault. (fault ≡ NoMemory) × IsUntouched output)
+
+-- what is told of a text that is no capture
+abbrev pub capture_fault : CaptureFault → Fault
+capture_fault (capture.Damaged number) = NotACapture number
+capture_fault capture.NoMemory = NoMemory
+
+-- what is done with a text: as a capture, in either format, it is judged; else nothing is written, and what is wrong is
+-- told
+abbrev pub AnswersCapture : List ℕ → Result Exit Fault → Device → Type 0
+AnswersCapture text ended output =
+    ((capture : Capture) × IsAnyCaptureOf capture text × TellsVerdict capture.transcript ended output)
+    ⊎ ((fault : CaptureFault) × DamagesCapture IsAnyCaptureOf fault text × (ended ≡ Err (capture_fault fault))
+    × IsUntouched output)
+
+-- a run of `judge`
+abbrev pub RunsJudge : Result Exit Fault → Device → Device → Type 0
+RunsJudge ended input output = AnswersInput AnswersCapture ended input output

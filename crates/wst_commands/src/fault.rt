@@ -1,0 +1,123 @@
+//! What is told on the fault output in place of an answer.
+
+ghost use Rattle.std.specs.Prelude.{◌≡◌};
+ghost use Rattle.wst_commands.specs.Faults.{Ends, LacksMemory, TellsFault, TellsLine};
+ghost use Rattle.wst_commands.specs.declared.fault.Fault.TheVariants as variant;
+ghost use Rattle.ws_frame.specs.Devices.{watched};
+
+use crate::exit::Exit;
+use crate::telling::tell;
+use std::alloc::{AllocError, Global};
+use std::io::Write;
+use ws_base::NoMemory;
+use ws_frame::Watched;
+
+/// What a run tells on the fault output in place of an answer, in a line of ours.
+#[derive(Clone, Copy)]
+pub enum Fault {
+    /// A limit that no end can have.
+    BadLimits,
+    /// Names that can't be offered as subprotocols.
+    BadProtocols,
+    /// The input ends inside a head, or is empty.
+    HeadIsCut,
+    /// The first line that is damaged in a script of moves, counted from 1.
+    NotAMove(u64),
+    /// The first line that is damaged in a script of calls, counted from 1.
+    NotACall(u64),
+    /// The first line that is damaged in a capture, counted from 1.
+    NotACapture(u64),
+    /// A name in the list of cases has no case. The two are read from the same rows, so this never comes; that is
+    /// tested, and not proved.
+    NoCase,
+    /// The words of the command line are no text.
+    NoText,
+    /// The words of the command line ask for nothing.
+    NoTask,
+    /// Memory ran out.
+    NoMemory,
+}
+
+impl From<NoMemory> for Fault {
+    ghost from_gives = { λ _ fault. fault ≡ variant.NoMemory };
+
+    fn from(_refused: NoMemory) -> Fault {
+        Fault::NoMemory
+    }
+}
+
+impl From<AllocError> for Fault {
+    ghost from_gives = { λ _ fault. fault ≡ variant.NoMemory };
+
+    fn from(_refused: AllocError) -> Fault {
+        Fault::NoMemory
+    }
+}
+
+/// Tells what a run has to tell on the fault output, and answers how it ended.
+pub fn end_run<F: Write>(alloc: Global, ended: Result<Exit, Fault>, faults: &mut Watched<F>) -> Exit
+    ensures { Ends ended result (watched F.contents faults.old faults.new) }
+{
+    match ended {
+        Ok(exit) => exit,
+        Err(fault) => tell_fault(alloc, fault, faults),
+    }
+}
+
+/// Tells a fault in its line, where the fault output takes it, and answers the exit that it stands for.
+/// Where memory runs out for the line, that is told in its place.
+pub fn tell_fault<F: Write>(alloc: Global, fault: Fault, faults: &mut Watched<F>) -> Exit
+    ensures { TellsFault fault result (watched F.contents faults.old faults.new) }
+{
+    match fault {
+        Fault::BadLimits => {
+            tell(b"bad limits\n", faults);
+            Exit::WrongWords
+        }
+        Fault::BadProtocols => {
+            tell(b"bad protocol list\n", faults);
+            Exit::WrongWords
+        }
+        Fault::HeadIsCut => {
+            tell(b"head is cut\n", faults);
+            Exit::Damaged
+        }
+        Fault::NotAMove(line) => tell_line(alloc, line, "not a move", faults),
+        Fault::NotACall(line) => tell_line(alloc, line, "not a call", faults),
+        Fault::NotACapture(line) => tell_line(alloc, line, "not a capture", faults),
+        Fault::NoCase => {
+            tell(b"error: a case is missing\n", faults);
+            Exit::Failed
+        }
+        Fault::NoText => {
+            tell(b"error: the words are not UTF-8\n", faults);
+            Exit::WrongWords
+        }
+        Fault::NoTask => {
+            tell(b"error: the words ask for nothing\n", faults);
+            Exit::WrongWords
+        }
+        Fault::NoMemory => tell_no_memory(faults),
+    }
+}
+
+/// Tells the number of a damaged line, and what it is not.
+fn tell_line<F: Write>(alloc: Global, line: u64, what: &str, faults: &mut Watched<F>) -> Exit
+    ensures { TellsLine line what.now result (watched F.contents faults.old faults.new) }
+{
+    match format!(in alloc; "line {line}: {what}\n") {
+        Ok(text) => {
+            tell(text.as_bytes(), faults);
+            Exit::Damaged
+        }
+        Err(_) => tell_no_memory(faults),
+    }
+}
+
+/// Tells that memory ran out.
+fn tell_no_memory<F: Write>(faults: &mut Watched<F>) -> Exit
+    ensures { LacksMemory result (watched F.contents faults.old faults.new) }
+{
+    tell(b"no memory\n", faults);
+    Exit::Failed
+}

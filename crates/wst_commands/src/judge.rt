@@ -1,0 +1,82 @@
+//! The command `judge`. Captures are told in docs/FORMATS.md, and verdicts in docs/VERDICTS.md.
+
+ghost use Rattle.std.specs.Prelude.{◌≡◌, false};
+ghost use Rattle.ws_frame.specs.Devices.{watched};
+ghost use Rattle.ws_frame.specs.Watching.{has_failed};
+ghost use Rattle.wst_commands.specs.Judge.{AnswersCapture, RunsJudge, TellsVerdict, capture_fault, exit_of};
+
+use crate::exit::Exit;
+use crate::fault::Fault;
+use crate::reading_whole::{ReadStop, read_whole};
+use crate::telling::deliver;
+use std::alloc::Global;
+use std::io::{Read, Write};
+use ws_frame::Watched;
+use ws_suite::{CaptureFault, Transcript, Verdict, judge, read_capture2};
+
+/// Judges the capture that the reader gives, in either format, and writes the verdict.
+pub fn run_judge<R: Read, W: Write>(
+    alloc: Global,
+    reader: &mut Watched<R>,
+    writer: &mut Watched<W>,
+) -> Result<Exit, Fault>
+    requires reader_works { has_failed reader.old ≡ false }
+    requires writer_works { has_failed writer.old ≡ false }
+    ensures { RunsJudge result (watched R.remaining reader.old reader.new)
+        (watched W.contents writer.old writer.new) }
+{
+    match read_whole(alloc, reader) {
+        Ok(text) => answer(alloc, text.as_slice(), writer),
+        Err(ReadStop::Fault) => Ok(Exit::Failed),
+        Err(ReadStop::NoMemory) => Err(Fault::NoMemory),
+    }
+}
+
+/// Judges a capture, and writes the verdict. A text that is no capture is damaged.
+fn answer<W: Write>(alloc: Global, text: &[u8], writer: &mut Watched<W>) -> Result<Exit, Fault>
+    requires { has_failed writer.old ≡ false }
+    ensures { AnswersCapture text.now result (watched W.contents writer.old writer.new) }
+{
+    match read_capture2(alloc, text) {
+        Ok(capture) => tell_verdict(alloc, &capture.transcript, writer),
+        Err(fault) => Err(fault_of(fault)),
+    }
+}
+
+/// What is told of a text that is no capture.
+pub fn fault_of(fault: CaptureFault) -> Fault
+    ensures { result ≡ capture_fault fault }
+{
+    match fault {
+        CaptureFault::Damaged(line) => Fault::NotACapture(line),
+        CaptureFault::NoMemory => Fault::NoMemory,
+    }
+}
+
+/// Writes the verdict on a transcript in its line.
+fn tell_verdict<W: Write>(
+    alloc: Global,
+    transcript: &Transcript,
+    writer: &mut Watched<W>,
+) -> Result<Exit, Fault>
+    requires { has_failed writer.old ≡ false }
+    ensures { TellsVerdict transcript.now result (watched W.contents writer.old writer.new) }
+{
+    let Ok(verdict) = judge(alloc, transcript) else {
+        return Err(Fault::NoMemory);
+    };
+    match format!(in alloc; "{verdict}\n") {
+        Ok(line) => Ok(deliver(exit_of(verdict), line.as_bytes(), writer)),
+        Err(_) => Err(Fault::NoMemory),
+    }
+}
+
+/// How a run ends that has written this verdict.
+pub fn exit_of(verdict: Verdict) -> Exit
+    ensures { result ≡ exit_of verdict }
+{
+    match verdict {
+        Verdict::Pass | Verdict::Loose(_) => Exit::Done,
+        Verdict::Fail(_) => Exit::Damaged,
+    }
+}

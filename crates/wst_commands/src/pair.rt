@@ -1,0 +1,115 @@
+//! The command `pair`. Its script and its report are told in docs/FORMATS.md.
+
+ghost use Rattle.std.specs.Prelude.{◌≡◌, false, IfOk, MatchOption, string_bytes};
+ghost use Rattle.ws_frame.specs.Devices.{watched};
+ghost use Rattle.ws_frame.specs.Watching.{has_failed};
+ghost use Rattle.ws_pair.specs.Headline.{IsReportOf};
+ghost use Rattle.ws_pair.specs.ReportLines.{report_lines};
+ghost use Rattle.ws_pair.specs.declared.report.Report.{Report};
+ghost use Rattle.wst_commands.specs.Limits.{limits_given};
+ghost use Rattle.wst_commands.specs.Pairs.{AnswersScript, CanLimit, PlaysMoves, RunsPair, script_fault};
+
+use crate::exit::Exit;
+use crate::fault::Fault;
+use crate::limits::limits_given;
+use crate::reading_whole::{ReadStop, read_whole};
+use crate::telling::deliver;
+use std::alloc::Global;
+use std::io::{Read, Write};
+use ws_base::{NoMemory, TextFault};
+use ws_frame::Watched;
+use ws_pair::{Move, read_moves, run_pair, write_report};
+use ws_session::Limits;
+use wst_words::PairOptions;
+
+/// Plays the moves of the script that the reader gives, and writes the report.
+pub fn run_moves<R: Read, W: Write>(
+    alloc: Global,
+    options: PairOptions,
+    reader: &mut Watched<R>,
+    writer: &mut Watched<W>,
+) -> Result<Exit, Fault>
+    requires reader_works { has_failed reader.old ≡ false }
+    requires writer_works { has_failed writer.old ≡ false }
+    ensures { RunsPair options result (watched R.remaining reader.old reader.new)
+        (watched W.contents writer.old writer.new) }
+{
+    let Some(limits) = both_limits(options) else {
+        return Err(Fault::BadLimits);
+    };
+    match read_whole(alloc, reader) {
+        Ok(text) => answer(alloc, limits.0, limits.1, text.as_slice(), writer),
+        Err(ReadStop::Fault) => Ok(Exit::Failed),
+        Err(ReadStop::NoMemory) => Err(Fault::NoMemory),
+    }
+}
+
+/// The limits of the client and of the server. `None` where one is none.
+fn both_limits(options: PairOptions) -> Option<(Limits, Limits)>
+    ensures { MatchOption result (¬ (CanLimit options)) (λ both. CanLimit options
+        × (both.0 ≡ limits_given options.limit_client options.frame_client)
+        × (both.1 ≡ limits_given options.limit_server options.frame_server)) }
+{
+    let client = limits_given(options.limit_client, options.frame_client)?;
+    let server = limits_given(options.limit_server, options.frame_server)?;
+    Some((client, server))
+}
+
+/// Plays the moves of a script, and writes the report. A text that is no script is damaged.
+fn answer<W: Write>(
+    alloc: Global,
+    client: Limits,
+    server: Limits,
+    text: &[u8],
+    writer: &mut Watched<W>,
+) -> Result<Exit, Fault>
+    requires { has_failed writer.old ≡ false }
+    ensures { AnswersScript client server text.now result (watched W.contents writer.old writer.new) }
+{
+    match read_moves(alloc, text) {
+        Ok(moves) => play(alloc, client, server, moves.as_slice(), writer),
+        Err(fault) => Err(fault_of(fault)),
+    }
+}
+
+/// What is told of a script that can't be played.
+fn fault_of(fault: TextFault) -> Fault
+    ensures { result ≡ script_fault fault }
+{
+    match fault {
+        TextFault::Damaged(line) => Fault::NotAMove(line),
+        TextFault::NoMemory => Fault::NoMemory,
+    }
+}
+
+/// Plays the moves, and writes the report.
+fn play<W: Write>(
+    alloc: Global,
+    client: Limits,
+    server: Limits,
+    moves: &[Move],
+    writer: &mut Watched<W>,
+) -> Result<Exit, Fault>
+    requires { has_failed writer.old ≡ false }
+    ensures { PlaysMoves client server moves.now result (watched W.contents writer.old writer.new) }
+{
+    match report_text(alloc, client, server, moves) {
+        Ok(text) => Ok(deliver(Exit::Done, text.as_bytes(), writer)),
+        Err(NoMemory) => Err(Fault::NoMemory),
+    }
+}
+
+/// The lines of the report of moves.
+fn report_text(
+    alloc: Global,
+    client: Limits,
+    server: Limits,
+    moves: &[Move],
+) -> Result<String, NoMemory>
+    ensures { IfOk result (λ text. (report : Report) × IsReportOf client server moves.now report
+        × (string_bytes text ≡ report_lines report)) }
+{
+    let report = run_pair(alloc, client, server, moves)?;
+    let text = write_report(alloc, &report)?;
+    Ok(text)
+}

@@ -1,2 +1,0 @@
-pub mod CaseLemmas
-pub mod Delivering

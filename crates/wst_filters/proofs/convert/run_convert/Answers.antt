@@ -1,9 +1,0 @@
-use Rattle.std.proofs.Common.{ℕ, List, inl, subst}
-use Rattle.ws_frame.specs.Devices.{watched}
-use Rattle.wst_filters.specs.Convert.{ConvertsCapture}
-use Rattle.wst_filters.proofs.convert.run_convert.Goals as goal
-
-pub returns-in-Ok : goal.returns-in-Ok
-returns-in-Ok g c =
-    let output = watched g.W.Write.contents c.args.writer.now c.convert.new.writer in
-    inl (c.in-Ok.text.items, c.in-Ok.ensures, subst (λ (t : List ℕ). ConvertsCapture t c.convert.result output) c.as_slice.ensures.value c.convert.ensures)

@@ -1,0 +1,5 @@
+pub mod RunLemmas
+pub mod TestLemmas
+pub mod PlanLemmas
+pub mod ServeLemmas
+pub mod TargetLemmas

@@ -1,0 +1,10 @@
+use Rattle.std.proofs.Common.{◌≡◌, ◌∙◌, inl, refl, subst, List, ℕ}
+use Rattle.ws_frame.specs.Devices.{watched}
+use Rattle.wst_commands.specs.Devices.{Tells}
+use Rattle.wst_run.specs.Test.{no_case_line}
+use Rattle.wst_run.proofs.test.tell_no_case.Goals as goal
+
+pub returns-in-Ok : goal.returns-in-Ok
+returns-in-Ok g c =
+    let line : c.as_bytes.result.now ≡ no_case_line c.args.id.now = c.as_bytes.ensures.value ∙ c.in-Ok.ensures.ok in
+    inl (refl, subst (λ (b : List ℕ). Tells b (watched g.F.Write.contents c.args.faults.now c.tell.new.faults)) line c.tell.ensures)

@@ -1,0 +1,6 @@
+pub mod Servers
+pub mod Outcomes
+pub mod Testing
+pub mod Test
+pub mod Serve
+pub mod Run

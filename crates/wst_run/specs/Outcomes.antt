@@ -1,0 +1,64 @@
+-- What is told of a server in a case, and the total.
+use Rattle.std.specs.Prelude.{ℕ, ◌+◌, nat_lt, Bool, true, false, if◌then◌else◌, List, [], ◌∷◌, ◌++◌, length}
+use Rattle.std.specs.Prelude.{filter, codes}
+use Rattle.std.specs.List.{concat}
+use Rattle.std.specs.Fmt.{decimal}
+use Rattle.ws_suite.specs.Words.{verdict_words}
+use Rattle.ws_suite.specs.declared.verdict.Verdict.TheVariants as verdict
+use Rattle.ws_upgrade.specs.Words.{head_fault_name}
+use Rattle.wst_commands.specs.declared.exit.Exit.{Exit}
+use Rattle.wst_commands.specs.declared.exit.Exit.TheVariants.{Damaged, Done}
+use Rattle.wst_run.specs.declared.outcome.Outcome.{Outcome}
+use Rattle.wst_run.specs.declared.outcome.Outcome.TheVariants.{HeadRefused, Judged}
+use Rattle.wst_run.specs.declared.outcome.Tally.{Tally}
+
+abbrev pub outcome_words : Outcome → List ℕ
+outcome_words (Judged verdict) = verdict_words verdict
+outcome_words (HeadRefused fault) = codes "FAIL Head " ++ head_fault_name fault
+
+abbrev pub is_pass : Outcome → Bool
+is_pass (Judged verdict.Pass) = true
+is_pass (Judged (verdict.Loose why)) = false
+is_pass (Judged (verdict.Fail why)) = false
+is_pass (HeadRefused fault) = false
+
+abbrev pub is_loose : Outcome → Bool
+is_loose (Judged verdict.Pass) = false
+is_loose (Judged (verdict.Loose why)) = true
+is_loose (Judged (verdict.Fail why)) = false
+is_loose (HeadRefused fault) = false
+
+-- a head that is to be refused counts as a Fail
+abbrev pub is_fail : Outcome → Bool
+is_fail (Judged verdict.Pass) = false
+is_fail (Judged (verdict.Loose why)) = false
+is_fail (Judged (verdict.Fail why)) = true
+is_fail (HeadRefused fault) = true
+
+-- how many of these there are of each kind
+abbrev pub tally_of : List Outcome → Tally
+tally_of outcomes = record {
+  pass = length (filter is_pass outcomes);
+  loose = length (filter is_loose outcomes);
+  fail = length (filter is_fail outcomes);
+}
+
+-- the line of the total
+abbrev pub total_line : Tally → List ℕ
+total_line tally = concat (decimal tally.pass ∷ codes " pass, " ∷ decimal tally.loose ∷ codes " loose, "
+    ∷ decimal tally.fail ∷ codes " fail\n" ∷ [])
+
+-- a rule that was broken has a status of its own
+abbrev pub exit_of_tests : Tally → Exit
+exit_of_tests tally = if nat_lt 0 tally.fail then Damaged else Done
+
+-- ---- a step of a count: a reader may skip what follows
+
+abbrev pub no_tally : Tally
+no_tally = record { pass = 0; loose = 0; fail = 0 }
+
+abbrev pub tally_with : Tally → Outcome → Tally
+tally_with tally (Judged verdict.Pass) = record tally { pass = tally.pass + 1 }
+tally_with tally (Judged (verdict.Loose why)) = record tally { loose = tally.loose + 1 }
+tally_with tally (Judged (verdict.Fail why)) = record tally { fail = tally.fail + 1 }
+tally_with tally (HeadRefused fault) = record tally { fail = tally.fail + 1 }

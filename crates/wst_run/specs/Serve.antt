@@ -1,0 +1,124 @@
+-- What `serve` is asked for, the lines that it tells, and its run.
+use Rattle.std.specs.Prelude.{◌≡◌, ℕ, ◌+◌, ◌<◌, ◌⊎◌, true, false, List, [], ◌∷◌, ◌++◌, Result, Ok, Err, codes, length}
+use Rattle.std.specs.List.{All, concat}
+use Rattle.std.specs.Fmt.{decimal}
+use Rattle.ws_frame.specs.Devices.{Device, HasBegun, HasWritten, IsUntouched}
+use Rattle.ws_session.specs.Limits.{AreLimits}
+use Rattle.ws_upgrade.specs.Protocols.{AreOffers}
+use Rattle.ws_connection.specs.Protocols.{protocols_given}
+use Rattle.ws_connection.specs.Serving.{Serves, served_words}
+use Rattle.ws_connection.specs.declared.serving.Served.{Served}
+use Rattle.wst_words.specs.declared.serve.ServeOptions.{ServeOptions}
+use Rattle.wst_commands.specs.Faults.{Ends, TellsFault}
+use Rattle.wst_commands.specs.Limits.{limits_given}
+use Rattle.wst_commands.specs.declared.exit.Exit.{Exit}
+use Rattle.wst_commands.specs.declared.exit.Exit.TheVariants.{Done, Failed}
+use Rattle.wst_commands.specs.declared.fault.Fault.{Fault}
+use Rattle.wst_commands.specs.declared.fault.Fault.TheVariants.{BadLimits, BadProtocols, NoMemory}
+use Rattle.wst_run.specs.declared.serve.ServePlan.{ServePlan}
+
+-- ---- what is asked for
+
+-- this server: its limits are those of the words, which an endpoint can have, it knows the subprotocols that are given,
+-- which can be offered, and the rest is as it was given
+abbrev pub IsServePlan : ServeOptions → ServePlan → Type 0
+IsServePlan options plan =
+    (AreLimits (limits_given options.limit options.frame) × (plan.limits ≡ limits_given options.limit options.frame))
+    × (plan.budget ≡ options.budget) × (plan.address ≡ options.address) × (plan.count ≡ options.count)
+    × (AreOffers (protocols_given options.protocols) × (plan.protocols ≡ protocols_given options.protocols))
+
+-- Why there is none, the first of these that applies: the names that are given can't be offered; no endpoint can have
+-- the limits. Or memory ran out for the names.
+abbrev pub CanNotServe : ServeOptions → Fault → Type 0
+CanNotServe options BadProtocols = ¬ (AreOffers (protocols_given options.protocols))
+CanNotServe options BadLimits =
+    AreOffers (protocols_given options.protocols) × ¬ (AreLimits (limits_given options.limit options.frame))
+CanNotServe options fault = fault ≡ NoMemory
+
+-- ---- what is told
+
+-- the line of the connection of this number
+abbrev pub connection_line : ℕ → Served → List ℕ
+connection_line number served = concat (decimal number ∷ codes " " ∷ served_words served ∷ codes "\n" ∷ [])
+
+-- the line before the first of them
+abbrev pub listening_line : List ℕ → List ℕ
+listening_line address = concat (codes "listening on " ∷ address ∷ codes "\n" ∷ [])
+
+-- the lines of connections that ended so, in their order, the first of them of this number
+abbrev pub connection_lines : ℕ → List Served → List ℕ
+connection_lines number [] = []
+connection_lines number (served ∷ more) = connection_line number served ++ connection_lines (number + 1) more
+
+-- the first bytes were written, and then a beginning of the others
+abbrev pub HasWrittenThenBegun : List ℕ → List ℕ → Device → Type 0
+HasWrittenThenBegun first next output =
+    (front : List ℕ) × (more : List ℕ) × (next ≡ front ++ more) × HasWritten (first ++ front) output
+
+-- ---- its connections
+
+-- There are a reader and a writer over which a connection that ended so was served, as is asked for. Which bytes a
+-- network carries is said by no contract.
+abbrev pub IsServedBy : ServePlan → Served → Type 0
+IsServedBy plan served =
+    (input : Device) × (output : Device) × Serves plan.limits plan.budget plan.protocols served input output
+
+-- connections were served that ended so; their lines were written, numbered from 1, after these bytes, and nothing else
+pub record HasServed (plan : ServePlan) (before : List ℕ) (served : List Served) (output : Device) : Type 0 where
+  pub are_served : All (IsServedBy plan) served
+  pub works : output.failed ≡ false
+  pub written : HasWritten (before ++ connection_lines 1 served) output
+
+-- The line of one connection more could not be written, or not flushed: then nothing is written after it. It was not
+-- one connection too many.
+pub record StopsAtServed (plan : ServePlan) (before : List ℕ) (served : List Served) (output : Device) : Type 0 where
+  pub few : length served < plan.count
+  pub are_served : All (IsServedBy plan) served
+  pub next : Served
+  pub is_next : IsServedBy plan next
+  pub failed : output.failed ≡ true
+  pub begun :
+      HasWrittenThenBegun (before ++ connection_lines 1 served) (connection_line (length served + 1) next) output
+
+-- How the serving ended after these connections: as many as were asked for were served and told, which is done. Else it
+-- is a failure: no connection could be taken any more, a line failed, or memory ran out for one.
+abbrev pub EndsServing : ServePlan → List ℕ → List Served → Result Exit Fault → Device → Type 0
+EndsServing plan before served (Ok Done) output =
+    (length served ≡ plan.count) × HasServed plan before served output
+EndsServing plan before served (Ok Failed) output =
+    ((length served < plan.count) × HasServed plan before served output) ⊎ StopsAtServed plan before served output
+EndsServing plan before served (Ok exit) output = ⊥
+EndsServing plan before served (Err fault) output =
+    (fault ≡ NoMemory) × (length served < plan.count) × HasServed plan before served output
+
+-- connections were served one after the other, and each was told before the next one was taken
+abbrev pub ServesClients : ServePlan → List ℕ → Result Exit Fault → Device → Type 0
+ServesClients plan before ended output = (served : List Served) × EndsServing plan before served ended output
+
+-- ---- a run
+
+-- nothing was written: the address can't be listened at, or memory ran out for the first line
+abbrev pub ServesNone : Result Exit Fault → Device → Type 0
+ServesNone ended output =
+    ((ended ≡ Ok Failed) ⊎ (ended ≡ Err NoMemory)) × (output.failed ≡ false) × IsUntouched output
+
+-- the first line could not be written, or not flushed: then no connection was served
+abbrev pub StopsAtListening : ServePlan → Result Exit Fault → Device → Type 0
+StopsAtListening plan ended output =
+    (ended ≡ Ok Failed) × (output.failed ≡ true) × HasBegun (listening_line plan.address.now) output
+
+-- it is told that connections are taken, and then they are served; or that comes to nothing
+abbrev pub ServesAt : ServePlan → Result Exit Fault → Device → Type 0
+ServesAt plan ended output = ServesClients plan (listening_line plan.address.now) ended output
+    ⊎ (StopsAtListening plan ended output ⊎ ServesNone ended output)
+
+-- connections are served as is asked for, and how that ended is told
+abbrev pub RunsServer : ServePlan → Exit → Device → Device → Type 0
+RunsServer plan exit output faults = (ended : Result Exit Fault) × ServesAt plan ended output × Ends ended exit faults
+
+-- what the words ask for is served; or it is told why there is nothing to serve, and nothing was written
+abbrev pub RunsServe : ServeOptions → Exit → Device → Device → Type 0
+RunsServe options exit output faults =
+    ((plan : ServePlan) × IsServePlan options plan × RunsServer plan exit output faults)
+    ⊎ ((fault : Fault) × CanNotServe options fault × IsUntouched output × (output.failed ≡ false)
+    × TellsFault fault exit faults)

@@ -1,0 +1,158 @@
+-- A run of `test`: the cases that the words ask for are run over servers in memory, or over the one at an address; or
+-- it is told why nothing is run.
+use Rattle.std.specs.Prelude.{◌≡◌, ◌≢◌, ◌⊎◌, ℕ, ◌<◌, Bool, true, false, List, [], ◌∷◌, ◌++◌, Result, codes}
+use Rattle.std.specs.Prelude.{length, map, slice_index_or, string_bytes, take}
+use Rattle.std.specs.List.{All, concat}
+use Rattle.std.specs.Borrow.{Bor}
+use Rattle.ws_formats.specs.Words.{IsKeyWord}
+use Rattle.ws_frame.specs.Devices.{Device, IsUntouched}
+use Rattle.ws_scripts.specs.Scripts.{CanBeRun}
+use Rattle.ws_scripts.specs.declared.script.Case.{Case}
+use Rattle.ws_upgrade.specs.Protocols.{AreOffers}
+use Rattle.ws_upgrade.specs.Texts.{IsHost}
+use Rattle.wst_words.specs.declared.test.TestOptions.{TestOptions}
+use Rattle.wst_commands.specs.Cases.{IsNoList}
+use Rattle.wst_commands.specs.Devices.{Tells}
+use Rattle.wst_commands.specs.Faults.{Ends, LacksMemory, TellsFault}
+use Rattle.ws_connection.specs.Protocols.{protocols_given}
+use Rattle.wst_run.specs.Servers.{MeetsTarget}
+use Rattle.wst_run.specs.Testing.{CapturesCase, TestsCases}
+use Rattle.wst_run.specs.declared.case_server.MemoryServer.TheVariants.{Own, Tung}
+use Rattle.wst_commands.specs.declared.exit.Exit.{Exit}
+use Rattle.wst_commands.specs.declared.exit.Exit.TheVariants.{WrongWords}
+use Rattle.wst_commands.specs.declared.fault.Fault.{Fault}
+use Rattle.wst_commands.specs.declared.fault.Fault.TheVariants.{NoMemory}
+use Rattle.ws_connection.specs.declared.probe_end.Probe.{Probe}
+use Rattle.wst_run.specs.declared.test.Target.{Target}
+use Rattle.wst_run.specs.declared.test.Target.TheVariants.{Address, Memory}
+use Rattle.wst_run.specs.declared.test.TestPlan.{TestPlan}
+use Rattle.wst_run.specs.declared.test.TestRefusal.{TestRefusal}
+use Rattle.wst_run.specs.declared.test.TestRefusal.TheVariants as refusal
+
+-- ---- what the words ask for
+
+-- the word is no server's in memory
+abbrev pub IsNoMemoryServer : List ℕ → Type 0
+IsNoMemoryServer word = (word ≢ codes "own") × (word ≢ codes "tung")
+
+-- the word names this server; an address can be the host of a request
+abbrev pub IsTargetOf : List ℕ → Target → Type 0
+IsTargetOf word (Memory Own) = word ≡ codes "own"
+IsTargetOf word (Memory Tung) = word ≡ codes "tung"
+IsTargetOf word (Address host) = (host.now ≡ word) × IsNoMemoryServer word × IsHost word
+
+abbrev pub HasTarget : TestOptions → Type 0
+HasTarget options = (target : Target) × IsTargetOf options.target.now target
+
+abbrev pub HasKey : TestOptions → Type 0
+HasKey options = (key : List ℕ) × IsKeyWord key options.key.now
+
+-- the names that are given can be offered
+abbrev pub HasOffers : TestOptions → Type 0
+HasOffers options = AreOffers (protocols_given options.protocols)
+
+-- a capture is of one case
+abbrev pub CanCapture : TestOptions → Type 0
+CanCapture options = options.capture ≡ true → length options.ids.items ≡ 1
+
+-- these are cases with these names
+pub record AreCasesOf (names : List (List ℕ)) (cases : List Case) : Type 0 where
+  pub can_be_run : All CanBeRun cases
+  pub named : map (λ case. string_bytes case.id) cases ≡ names
+
+abbrev pub names_of : List (Bor (List ℕ)) → List (List ℕ)
+names_of ids = map (λ id. id.now) ids
+
+-- the cases with the names that are given; where none is given, those of the list of cases
+abbrev pub AreCasesFor : List (Bor (List ℕ)) → List Case → Type 0
+AreCasesFor [] cases = (names : List (List ℕ)) × AreCasesOf names cases
+AreCasesFor (id ∷ ids) cases = AreCasesOf (names_of (id ∷ ids)) cases
+
+-- the words ask for this
+pub record IsPlan (options : TestOptions) (plan : TestPlan) : Type 0 where
+  pub has_offers : HasOffers options
+  pub protocols : plan.protocols ≡ protocols_given options.protocols
+  pub key : IsKeyWord plan.key options.key.now
+  pub target : IsTargetOf options.target.now plan.target
+  pub capture : plan.capture ≡ options.capture
+  pub can_capture : CanCapture options
+  pub cases : AreCasesFor options.ids.items plan.cases.items
+
+-- the cases can be run, and a capture is of one
+abbrev pub CanBeTested : TestPlan → Type 0
+CanBeTested plan = All CanBeRun plan.cases.items × (plan.capture ≡ true → length plan.cases.items ≡ 1)
+
+-- ---- what they can't ask for
+
+-- what is wrong with the word of a target
+abbrev pub RefusesTarget : List ℕ → TestRefusal → Type 0
+RefusesTarget word refusal.BadAddress = IsNoMemoryServer word × ¬ (IsHost word)
+RefusesTarget word _ = ⊥
+
+-- why there are no cases with these names: one has none, and those before it have, or memory ran out
+abbrev pub RefusesNames : List (Bor (List ℕ)) → TestRefusal → Type 0
+RefusesNames ids (refusal.NoSuchCase id) = (n : ℕ) × (before : List Case) × (n < length ids)
+    × (id ≡ slice_index_or ids n id) × AreCasesOf (names_of (take n ids)) before
+RefusesNames ids (refusal.Fault fault) = IsNoList fault
+RefusesNames ids _ = ⊥
+
+-- The first of these that applies: the names that are given can't be offered; the key is none; the target is none; a
+-- capture is not of one case; a name has no case. Which names have one is said by no definition.
+abbrev pub RefusesTest : TestOptions → TestRefusal → Type 0
+RefusesTest options refusal.BadProtocols = ¬ (HasOffers options)
+RefusesTest options refusal.BadKey = HasOffers options × ((key : List ℕ) → ¬ (IsKeyWord key options.key.now))
+RefusesTest options refusal.BadAddress =
+    HasOffers options × HasKey options × RefusesTarget options.target.now refusal.BadAddress
+RefusesTest options refusal.NotOneCase = HasOffers options × HasKey options × HasTarget options × ¬ (CanCapture options)
+RefusesTest options (refusal.NoSuchCase id) = HasOffers options × HasKey options × HasTarget options
+    × CanCapture options × RefusesNames options.ids.items (refusal.NoSuchCase id)
+RefusesTest options (refusal.Fault fault) = (fault ≡ NoMemory) ⊎ (HasOffers options × HasKey options × IsNoList fault)
+
+-- ---- what is told
+
+-- the line that tells that there is no such case
+abbrev pub no_case_line : List ℕ → List ℕ
+no_case_line id = concat (codes "no such case: " ∷ id ∷ codes "\n" ∷ [])
+
+-- what is told of a refusal, and the exit
+abbrev pub TellsRefusal : TestRefusal → Exit → Device → Type 0
+TellsRefusal refusal.BadProtocols exit faults = (exit ≡ WrongWords) × Tells (codes "bad protocol list\n") faults
+TellsRefusal refusal.BadKey exit faults = (exit ≡ WrongWords) × Tells (codes "bad key\n") faults
+TellsRefusal refusal.BadAddress exit faults = (exit ≡ WrongWords) × Tells (codes "bad address\n") faults
+TellsRefusal refusal.NotOneCase exit faults = (exit ≡ WrongWords) × Tells (codes "--capture takes one case\n") faults
+TellsRefusal (refusal.NoSuchCase id) exit faults =
+    ((exit ≡ WrongWords) × Tells (no_case_line id.now) faults) ⊎ LacksMemory exit faults
+TellsRefusal (refusal.Fault fault) exit faults = TellsFault fault exit faults
+
+-- ---- a run
+
+-- the capture of the one case is written, or the outcomes of the cases, over servers that meet cases so
+abbrev pub CarriesOut : (Case → Probe → Type 0) → TestPlan → Result Exit Fault → Device → Type 0
+CarriesOut Meets plan ended output =
+    ((case : Case) × (plan.capture ≡ true) × (plan.cases.items ≡ case ∷ [])
+    × CapturesCase plan.key Meets case ended output)
+    ⊎ ((plan.capture ≡ false) × TestsCases Meets plan.cases.items ended output)
+
+-- the plan is carried out over servers that meet cases so, and how that ended is told
+abbrev pub RunsPlan : (Case → Probe → Type 0) → TestPlan → Exit → Device → Device → Type 0
+RunsPlan Meets plan exit output faults =
+    (ended : Result Exit Fault) × CarriesOut Meets plan ended output × Ends ended exit faults
+
+-- A run of `test`: what the words ask for is run, over the server that they name, and how that ended is told; or
+-- nothing is run, and it is told why.
+abbrev pub RunsTest : TestOptions → Exit → Device → Device → Type 0
+RunsTest options exit output faults =
+    ((plan : TestPlan) × IsPlan options plan
+    × RunsPlan (MeetsTarget plan.target plan.protocols plan.key) plan exit output faults)
+    ⊎ ((reason : TestRefusal) × RefusesTest options reason × IsUntouched output × TellsRefusal reason exit faults)
+
+-- ---- what a plan owes its run: a reader may skip what follows
+
+-- an address can be the host of a request
+abbrev pub HasHost : Target → Type 0
+HasHost target = (host : Bor (List ℕ)) → target ≡ Address host → IsHost host.now
+
+-- a case with this name was put at the end; or there is none
+abbrev pub GrowsByCase : List ℕ → Bool → List Case → List Case → Type 0
+GrowsByCase name true old new = (case : Case) × CanBeRun case × (string_bytes case.id ≡ name) × (new ≡ old ++ case ∷ [])
+GrowsByCase name false old new = new ≡ old

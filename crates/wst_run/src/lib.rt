@@ -1,0 +1,22 @@
+//! A run of `wst` over watched devices, by its words, and the commands that ask for connections: `test` and `serve`.
+//! The others stand in `wst_commands`. No rule of the protocol stands here.
+//!
+//! The layer above uses `run`: what the words ask for is done, over the devices and the network that it is given, and
+//! what came of it is one of four exits.
+#![tactic(auto)]
+
+mod address_server;
+mod case_server;
+mod given_cases;
+mod outcome;
+mod running;
+mod serve;
+mod serving_clients;
+mod stream;
+mod test;
+mod testing;
+
+pub use case_server::{CaseServer, MemoryServer};
+pub use running::{run, words_are_no_text};
+pub use serve::{ServePlan, run_serve};
+pub use test::{Target, TestPlan, TestRefusal, plan_test, run_plan, tell_refusal};

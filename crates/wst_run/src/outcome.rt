@@ -1,0 +1,86 @@
+//! What is told of a server in a case, and how often each was told.
+
+ghost use Rattle.std.specs.Prelude.{◌≡◌, ◌+◌, ◌<◌, ◌^◌};
+ghost use Rattle.wst_run.specs.Outcomes.{exit_of_tests, no_tally, outcome_words, tally_with};
+
+use std::fmt;
+use ws_suite::Verdict;
+use ws_upgrade::HeadFault;
+use wst_commands::Exit;
+
+/// What is told of a server in a case.
+#[derive(Clone, Copy)]
+pub enum Outcome {
+    /// Whether it kept the rules.
+    Judged(Verdict),
+    /// Its answer to the request for an upgrade is to be refused, which counts as a Fail.
+    HeadRefused(HeadFault),
+}
+
+impl fmt::Display for Outcome {
+    ghost use Rattle.std.specs.Prelude.{Some};
+
+    ghost output = { λ outcome. Some (outcome_words outcome) };
+
+    fn fmt<W: fmt::Write>(&self, f: &mut fmt::Formatter<W>) -> fmt::Result {
+        match self {
+            Outcome::Judged(verdict) => write!(f, "{verdict}"),
+            Outcome::HeadRefused(fault) => write!(f, "FAIL Head {fault}"),
+        }
+    }
+}
+
+/// How many cases had each kind of outcome.
+#[derive(Clone, Copy)]
+pub struct Tally {
+    pub pass: usize,
+    pub loose: usize,
+    pub fail: usize,
+}
+
+impl Tally {
+    /// Of no case.
+    pub fn new() -> Tally
+        ensures { result ≡ no_tally }
+    {
+        Tally {
+            pass: 0,
+            loose: 0,
+            fail: 0,
+        }
+    }
+
+    /// With one outcome more.
+    pub fn with(self, outcome: Outcome) -> Tally
+        requires pass { self.pass + 1 < 2 ^ 64 }
+        requires loose { self.loose + 1 < 2 ^ 64 }
+        requires fail { self.fail + 1 < 2 ^ 64 }
+        ensures { result ≡ tally_with self outcome }
+    {
+        match outcome {
+            Outcome::Judged(Verdict::Pass) => Tally {
+                pass: self.pass + 1,
+                ..self
+            },
+            Outcome::Judged(Verdict::Loose(_)) => Tally {
+                loose: self.loose + 1,
+                ..self
+            },
+            Outcome::Judged(Verdict::Fail(_)) | Outcome::HeadRefused(_) => Tally {
+                fail: self.fail + 1,
+                ..self
+            },
+        }
+    }
+
+    /// How a run of these cases ends.
+    pub fn exit(self) -> Exit
+        ensures { result ≡ exit_of_tests self }
+    {
+        if self.fail > 0 {
+            Exit::Damaged
+        } else {
+            Exit::Done
+        }
+    }
+}

@@ -1,0 +1,180 @@
+//! Runs what the words ask for, over watched devices and a network.
+
+ghost use Rattle.std.specs.Prelude.{◌≡◌, ◌≤◌, false, if◌then◌else◌, map, codes, string_bytes};
+ghost use Rattle.clap.specs.Words.{kind_of};
+ghost use Rattle.ws_frame.specs.Devices.{watched};
+ghost use Rattle.ws_frame.specs.Watching.{has_failed};
+ghost use Rattle.wst_words.specs.Arguments.{Places};
+ghost use Rattle.wst_words.specs.Words.{wst_app};
+ghost use Rattle.wst_commands.specs.Devices.{Tells};
+ghost use Rattle.wst_commands.specs.Exits.{exit_status};
+ghost use Rattle.wst_run.specs.Run.{AnswersWords, Runs, RunsTask, TellsOf};
+ghost use Rattle.wst_run.specs.Serve.{RunsServe};
+ghost use Rattle.wst_run.specs.Test.{RunsTest};
+
+use crate::serve::{plan_serve, run_serve};
+use crate::test::{plan_test, run_over_target, tell_refusal};
+use clap::Error;
+use clap::error::ErrorKind;
+use std::alloc::Global;
+use std::io::{Read, Write};
+use std::net::Net;
+use ws_frame::Watched;
+use wst_commands::{
+    Exit, Fault, end_run, run_cases, run_convert, run_head, run_judge, run_moves, run_session,
+    run_show, tell_fault,
+};
+use wst_words::{ServeOptions, Task, TestOptions, WordsFault, read_words};
+
+/// Runs what the words ask for, the program's name first, and answers how that ended: status 0 done, 1 a
+/// damaged or refused input or a rule that was broken, 2 wrong words, 3 where input, output, the network, the budget or
+/// memory failed. Help and the version go to the writer with status 0. What is wrong with the words goes to
+/// `faults`, and then nothing is read or written. Want of memory is told there as `no memory`.
+#[tactic(auto, using(crate::proofs::RunLemmas::status_up_to_3))]
+pub fn run<N: Net, R: Read, W: Write, F: Write>(
+    alloc: Global,
+    words: &[String],
+    net: &N,
+    reader: &mut Watched<R>,
+    writer: &mut Watched<W>,
+    faults: &mut Watched<F>,
+) -> Exit
+    requires reader_works { has_failed reader.old ≡ false }
+    requires writer_works { has_failed writer.old ≡ false }
+    ensures status { exit_status result ≤ 3 }
+    ensures runs { (places : Places) × Runs (wst_app places) (map string_bytes words.now) result
+        (watched R.remaining reader.old reader.new)
+        (watched W.contents writer.old writer.new)
+        (watched F.contents faults.old faults.new) }
+{
+    match read_words(alloc, words) {
+        Ok(task) => run_task(alloc, task, net, reader, writer, faults),
+        Err(fault) => answer_words(alloc, &fault, writer, faults),
+    }
+}
+
+/// Does what was asked for, and tells what is to be told.
+fn run_task<N: Net, R: Read, W: Write, F: Write>(
+    alloc: Global,
+    task: Task<'_>,
+    net: &N,
+    reader: &mut Watched<R>,
+    writer: &mut Watched<W>,
+    faults: &mut Watched<F>,
+) -> Exit
+    requires reader_works { has_failed reader.old ≡ false }
+    requires writer_works { has_failed writer.old ≡ false }
+    ensures { RunsTask task.entry result (watched R.remaining reader.old reader.new)
+        (watched W.contents writer.old writer.new)
+        (watched F.contents faults.old faults.new) }
+{
+    match task {
+        Task::Show(options) => end_run(alloc, run_show(options, reader, writer), faults),
+        Task::Pair(options) => end_run(alloc, run_moves(alloc, options, reader, writer), faults),
+        Task::Head(options) => end_run(alloc, run_head(alloc, options, reader, writer), faults),
+        Task::Session(options) => {
+            end_run(alloc, run_session(alloc, options, reader, writer), faults)
+        }
+        Task::Judge => end_run(alloc, run_judge(alloc, reader, writer), faults),
+        Task::Convert => end_run(alloc, run_convert(alloc, reader, writer), faults),
+        Task::Cases => end_run(alloc, run_cases(alloc, writer), faults),
+        Task::Test(options) => run_test(alloc, &options, net, writer, faults),
+        Task::Serve(options) => serve_as_asked(alloc, &options, net, writer, faults),
+    }
+}
+
+/// Serves what the words ask for, or tells why there is nothing to serve.
+fn serve_as_asked<N: Net, W: Write, F: Write>(
+    alloc: Global,
+    options: &ServeOptions<'_>,
+    net: &N,
+    writer: &mut Watched<W>,
+    faults: &mut Watched<F>,
+) -> Exit
+    requires { has_failed writer.old ≡ false }
+    ensures { RunsServe options.now result (watched W.contents writer.old writer.new)
+        (watched F.contents faults.old faults.new) }
+{
+    match plan_serve(alloc, options) {
+        Ok(plan) => run_serve(alloc, &plan, net, writer, faults),
+        Err(fault) => tell_fault(alloc, fault, faults),
+    }
+}
+
+/// Runs the cases that the words ask for over the server that they name, or tells on the fault output why nothing is
+/// run.
+fn run_test<N: Net, W: Write, F: Write>(
+    alloc: Global,
+    options: &TestOptions<'_>,
+    net: &N,
+    writer: &mut Watched<W>,
+    faults: &mut Watched<F>,
+) -> Exit
+    requires { has_failed writer.old ≡ false }
+    ensures { RunsTest options.now result (watched W.contents writer.old writer.new)
+        (watched F.contents faults.old faults.new) }
+{
+    match plan_test(alloc, options) {
+        Ok(plan) => run_over_target(alloc, &plan, net, writer, faults),
+        Err(refusal) => tell_refusal(alloc, refusal, faults),
+    }
+}
+
+/// Answers words that give no task: with help, or by telling what is wrong with them.
+fn answer_words<W: Write, F: Write>(
+    alloc: Global,
+    fault: &WordsFault,
+    writer: &mut Watched<W>,
+    faults: &mut Watched<F>,
+) -> Exit
+    requires { has_failed writer.old ≡ false }
+    ensures { AnswersWords fault.now result (watched W.contents writer.old writer.new)
+        (watched F.contents faults.old faults.new) }
+{
+    match fault {
+        WordsFault::Clap(error) => answer_error(alloc, error, writer, faults),
+        WordsFault::NoTask => tell_fault(alloc, Fault::NoTask, faults),
+    }
+}
+
+/// Answers with the help or the version that `clap` was asked for, or tells what is wrong with the words.
+fn answer_error<W: Write, F: Write>(
+    alloc: Global,
+    error: &Error,
+    writer: &mut Watched<W>,
+    faults: &mut Watched<F>,
+) -> Exit
+    requires { has_failed writer.old ≡ false }
+    ensures { TellsOf (kind_of error.now) result (watched W.contents writer.old writer.new)
+        (watched F.contents faults.old faults.new) }
+{
+    match error.kind() {
+        ErrorKind::OutOfMemory => tell_fault(alloc, Fault::NoMemory, faults),
+        ErrorKind::DisplayHelp | ErrorKind::DisplayVersion => {
+            let _ = write!(writer, "{error}");
+            if writer.failed() {
+                Exit::Failed
+            } else {
+                Exit::Done
+            }
+        }
+        _ => {
+            let _ = write!(faults, "{error}");
+            Exit::WrongWords
+        }
+    }
+}
+
+/// Tells that the words are no text, or that memory ran out before they were read, and answers how the
+/// run ended.
+pub fn words_are_no_text<F: Write>(alloc: Global, no_memory: bool, faults: &mut Watched<F>) -> Exit
+    ensures status { exit_status result ≡ (if no_memory then 3 else 2) }
+    ensures told { Tells (if no_memory then codes "no memory\n" else codes "error: the words are not UTF-8\n")
+        (watched F.contents faults.old faults.new) }
+{
+    if no_memory {
+        tell_fault(alloc, Fault::NoMemory, faults)
+    } else {
+        tell_fault(alloc, Fault::NoText, faults)
+    }
+}

@@ -1,0 +1,242 @@
+//! The command `test`: what is to be run, and its run over servers of any kind. Its lines are told in docs/FORMATS.md.
+
+ghost use Rattle.std.specs.Prelude.{◌≡◌, ◌≢◌, ◌⊎◌, IfOk, MatchResult, codes, false};
+ghost use Rattle.ws_frame.specs.Devices.{watched};
+ghost use Rattle.ws_frame.specs.Watching.{has_failed};
+ghost use Rattle.wst_commands.specs.Devices.{Tells};
+ghost use Rattle.wst_commands.specs.Faults.{LacksMemory};
+ghost use Rattle.wst_run.specs.Servers.{MeetsTarget};
+ghost use Rattle.wst_run.specs.Test.{CanBeTested, CarriesOut, HasHost, IsPlan, IsTargetOf};
+ghost use Rattle.wst_run.specs.Test.{RefusesTarget, RefusesTest, RunsPlan, TellsRefusal, no_case_line};
+ghost use Rattle.wst_commands.specs.declared.exit.Exit.TheVariants.{WrongWords};
+
+use crate::address_server::AddressServer;
+use crate::case_server::{CaseServer, MemoryServer};
+use crate::given_cases::cases_of;
+use crate::testing::{capture_case, test_cases};
+use std::alloc::Global;
+use std::io::Write;
+use std::net::Net;
+use ws_base::NoMemory;
+use ws_connection::{Protocols, protocols_of};
+use ws_formats::read_key;
+use ws_frame::Watched;
+use ws_suite::Case;
+use ws_upgrade::is_host;
+use wst_commands::{Exit, Fault, end_run, tell, tell_fault};
+use wst_words::TestOptions;
+
+/// The server that cases are run over.
+#[derive(Clone, Copy)]
+pub enum Target<'a> {
+    /// It stands in memory.
+    Memory(MemoryServer),
+    /// It is met at this address, which can be the host of a request.
+    Address(&'a str),
+}
+
+/// What is to be run.
+#[derive(Drop)]
+pub struct TestPlan<'a> {
+    /// The masking key of the frames.
+    pub key: [u8; 4],
+    pub target: Target<'a>,
+    /// The capture of the one case is written in place of the verdicts.
+    pub capture: bool,
+    pub cases: Vec<Case>,
+    /// The subprotocols that are offered to a server at an address.
+    pub protocols: Protocols<'a>,
+}
+
+/// Why nothing is run: the first of these that applies.
+#[derive(Clone, Copy)]
+pub enum TestRefusal<'a> {
+    /// The names that are given can't be offered as subprotocols.
+    BadProtocols,
+    /// The key is not eight lower-case hexadecimal digits.
+    BadKey,
+    /// The target is no server in memory, and can't be the host of a request.
+    BadAddress,
+    /// A capture is asked for, and not exactly one case is given.
+    NotOneCase,
+    /// There is no case of this name.
+    NoSuchCase(&'a str),
+    /// Memory ran out, or a case of the list is missing.
+    Fault(Fault),
+}
+
+impl From<Fault> for TestRefusal<'_> {
+    ghost use Rattle.wst_run.specs.declared.test.TestRefusal.TheVariants as refusal;
+
+    ghost from_gives = { λ fault given. given ≡ refusal.Fault fault };
+
+    fn from(fault: Fault) -> Self {
+        TestRefusal::Fault(fault)
+    }
+}
+
+impl From<NoMemory> for TestRefusal<'_> {
+    ghost use Rattle.wst_commands.specs.declared.fault.Fault.TheVariants as fault;
+    ghost use Rattle.wst_run.specs.declared.test.TestRefusal.TheVariants as refusal;
+
+    ghost from_gives = { λ _ given. given ≡ refusal.Fault fault.NoMemory };
+
+    fn from(_refused: NoMemory) -> Self {
+        TestRefusal::Fault(Fault::NoMemory)
+    }
+}
+
+/// Runs the cases of a plan over the server that it names, and tells how that ended.
+pub fn run_over_target<N: Net, W: Write, F: Write>(
+    alloc: Global,
+    plan: &TestPlan<'_>,
+    net: &N,
+    writer: &mut Watched<W>,
+    faults: &mut Watched<F>,
+) -> Exit
+    requires works { has_failed writer.old ≡ false }
+    requires plan { CanBeTested plan.now }
+    requires host { HasHost plan.now.target }
+    ensures { RunsPlan (MeetsTarget plan.now.target plan.now.protocols plan.now.key) plan.now result
+        (watched W.contents writer.old writer.new) (watched F.contents faults.old faults.new) }
+{
+    match plan.target {
+        Target::Memory(server) => run_plan(alloc, &server, plan, writer, faults),
+        Target::Address(host) => {
+            let server = AddressServer::new(net, host, plan.protocols.as_slice());
+            run_plan(alloc, &server, plan, writer, faults)
+        }
+    }
+}
+
+/// Runs the cases of a plan, each over a new server, and tells how that ended.
+pub fn run_plan<S: CaseServer, W: Write, F: Write>(
+    alloc: Global,
+    server: &S,
+    plan: &TestPlan<'_>,
+    writer: &mut Watched<W>,
+    faults: &mut Watched<F>,
+) -> Exit
+    requires works { has_failed writer.old ≡ false }
+    requires plan { CanBeTested plan.now }
+    ensures { RunsPlan (S.meets server.now plan.now.key) plan.now result
+        (watched W.contents writer.old writer.new) (watched F.contents faults.old faults.new) }
+{
+    let ended = carry_out(alloc, server, plan, writer);
+    end_run(alloc, ended, faults)
+}
+
+/// Runs the cases of a plan.
+fn carry_out<S: CaseServer, W: Write>(
+    alloc: Global,
+    server: &S,
+    plan: &TestPlan<'_>,
+    writer: &mut Watched<W>,
+) -> Result<Exit, Fault>
+    requires works { has_failed writer.old ≡ false }
+    requires plan { CanBeTested plan.now }
+    ensures { CarriesOut (S.meets server.now plan.now.key) plan.now result
+        (watched W.contents writer.old writer.new) }
+{
+    let cases = plan.cases.as_slice();
+    if plan.capture {
+        capture_case(alloc, server, plan.key, &cases[0], writer)
+    } else {
+        test_cases(alloc, server, plan.key, cases, writer)
+    }
+}
+
+/// What the words ask for, or the first reason against it.
+#[tactic(auto, using(crate::proofs::PlanLemmas::target_has_host))]
+pub fn plan_test<'a>(
+    alloc: Global,
+    options: &TestOptions<'a>,
+) -> Result<TestPlan<'a>, TestRefusal<'a>>
+    ensures plan { MatchResult result (IsPlan options.now) (RefusesTest options.now) }
+    ensures fits { IfOk result CanBeTested }
+    ensures host { IfOk result (λ plan. HasHost plan.target) }
+{
+    let Some(protocols) = protocols_of(alloc, options.protocols)? else {
+        return Err(TestRefusal::BadProtocols);
+    };
+    let Some(key) = read_key(options.key.as_bytes()) else {
+        return Err(TestRefusal::BadKey);
+    };
+    let target = target_of(options.target)?;
+    if options.capture && options.ids.len() != 1 {
+        return Err(TestRefusal::NotOneCase);
+    }
+    let cases = cases_of(alloc, options.ids.as_slice())?;
+    Ok(TestPlan {
+        key,
+        target,
+        capture: options.capture,
+        cases,
+        protocols,
+    })
+}
+
+/// The server that a word names.
+fn target_of(word: &str) -> Result<Target<'_>, TestRefusal<'_>>
+    ensures { MatchResult result (IsTargetOf word.now) (RefusesTarget word.now) }
+{
+    match word {
+        "own" => Ok(Target::Memory(MemoryServer::Own)),
+        "tung" => Ok(Target::Memory(MemoryServer::Tung)),
+        _ => address_of(word),
+    }
+}
+
+/// The server at an address.
+fn address_of(word: &str) -> Result<Target<'_>, TestRefusal<'_>>
+    requires own { word.now ≢ codes "own" }
+    requires tung { word.now ≢ codes "tung" }
+    ensures { MatchResult result (IsTargetOf word.now) (RefusesTarget word.now) }
+{
+    if is_host(word.as_bytes()) {
+        Ok(Target::Address(word))
+    } else {
+        Err(TestRefusal::BadAddress)
+    }
+}
+
+/// Tells a refusal in its line, where the fault output takes it, and answers the exit that it stands for.
+pub fn tell_refusal<F: Write>(
+    alloc: Global,
+    refusal: TestRefusal<'_>,
+    faults: &mut Watched<F>,
+) -> Exit
+    ensures { TellsRefusal refusal.entry result (watched F.contents faults.old faults.new) }
+{
+    match refusal {
+        TestRefusal::BadProtocols => tell_wrong(b"bad protocol list\n", faults),
+        TestRefusal::BadKey => tell_wrong(b"bad key\n", faults),
+        TestRefusal::BadAddress => tell_wrong(b"bad address\n", faults),
+        TestRefusal::NotOneCase => tell_wrong(b"--capture takes one case\n", faults),
+        TestRefusal::NoSuchCase(id) => tell_no_case(alloc, id, faults),
+        TestRefusal::Fault(fault) => tell_fault(alloc, fault, faults),
+    }
+}
+
+/// Tells what is wrong with the words.
+fn tell_wrong<F: Write>(text: &[u8], faults: &mut Watched<F>) -> Exit
+    ensures exit { result ≡ WrongWords }
+    ensures told { Tells text.now (watched F.contents faults.old faults.new) }
+{
+    tell(text, faults);
+    Exit::WrongWords
+}
+
+/// Tells that there is no case of this name.
+fn tell_no_case<F: Write>(alloc: Global, id: &str, faults: &mut Watched<F>) -> Exit
+    ensures { ((result ≡ WrongWords) × Tells (no_case_line id.now) (watched F.contents faults.old faults.new))
+        ⊎ LacksMemory result (watched F.contents faults.old faults.new) }
+{
+    match format!(in alloc; "no such case: {id}\n") {
+        Ok(line) => {
+            tell(line.as_bytes(), faults);
+            Exit::WrongWords
+        }
+        Err(_) => tell_fault(alloc, Fault::NoMemory, faults),
+    }
+}
