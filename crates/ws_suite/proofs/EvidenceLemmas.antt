@@ -17,6 +17,14 @@ use Rattle.ws_suite.specs.declared.evidence.collecting.Collected.{Collected}
 use Rattle.ws_suite.specs.Evidence.{AreEventsByTurn, HasRest, by_turn, ending_in, joined_events}
 use Rattle.ws_suite.specs.InnerCollecting.{AreCollected, EventLaws, at_turn, found_by, last_end}
 
+pub joined_more : (pieces : List (List ℕ)) (piece : List ℕ) → concat (pieces ++ piece ∷ []) ≡ concat pieces ++ piece
+joined_more [] piece = append-nil piece
+joined_more (x ∷ pieces) piece = ap (λ (l : List ℕ). x ++ l) (joined_more pieces piece) ∙ sym (append_assoc x (concat pieces) piece)
+
+pub no_items : {X : Type 0} (xs : List X) → length xs ≤ 0 → xs ≡ []
+no_items [] h = refl
+no_items (x ∷ xs) h = absurd (omega arith)
+
 -- ---- lists by turn
 
 pub by_turn_more : {X : Type 0} (found : Event → List X) (turn : ℕ) (events : List (List Event)) (told : List Event) →
@@ -166,11 +174,3 @@ no_rest_is_there laws role before bytes events told some ends has places rest = 
 pub popped_first : (later left : List PlacedEvent) (placed : PlacedEvent) → later ≡ left ++ placed ∷ [] → events_in (reverse later) ≡ placed.event ∷ events_in (reverse left)
 popped_first later left placed e =
     ap (λ (l : List PlacedEvent). events_in (reverse l)) e ∙ ap (λ (l : List PlacedEvent). events_in l) (reverse-append left (placed ∷ []))
-
-pub joined_more : (pieces : List (List ℕ)) (piece : List ℕ) → concat (pieces ++ piece ∷ []) ≡ concat pieces ++ piece
-joined_more [] piece = append-nil piece
-joined_more (x ∷ pieces) piece = ap (λ (l : List ℕ). x ++ l) (joined_more pieces piece) ∙ sym (append_assoc x (concat pieces) piece)
-
-pub no_items : {X : Type 0} (xs : List X) → length xs ≤ 0 → xs ≡ []
-no_items [] h = refl
-no_items (x ∷ xs) h = absurd (omega arith)

@@ -7,6 +7,7 @@ use Rattle.ws_scripts.specs.declared.transcript.Turn.{Turn}
 use Rattle.ws_scripts.specs.declared.transcript.Ended.{Ended}
 use Rattle.ws_scripts.specs.declared.transcript.Ended.TheVariants.{Tester}
 use Rattle.ws_scripts.specs.declared.transcript.Transcript.{Transcript}
+use Rattle.ws_scripts.specs.Examples.{turn_of}
 use Rattle.ws_suite.specs.declared.evidence.InTurn.{InTurn}
 use Rattle.ws_suite.specs.declared.evidence.Reply.{Reply}
 use Rattle.ws_suite.specs.declared.evidence.Reply.TheVariants as reply
