@@ -1,3 +1,4 @@
+-- An accepted head is answered by the response that names what was chosen, a refused one by its refusal.
 use Rattle.std.proofs.Common.{◌≡◌, ◌∙◌, ap, drop, List, map, sym, subst, ℕ}
 use Rattle.std.proofs.lemmas.List.{take_rest}
 use Rattle.std.specs.Borrow.{Bor}

@@ -1,3 +1,4 @@
+-- The lines read so far were taken, and what is left of the text follows them.
 use Rattle.std.proofs.Common.{◌≡◌, ◌+◌, ◌≤◌, ◌++◌, List, ℕ, length}
 use Rattle.std.specs.List.{AllByRecursion}
 use Rattle.ws_formats.specs.Lines.{IsLine, ended}

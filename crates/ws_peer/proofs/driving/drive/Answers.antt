@@ -1,3 +1,4 @@
+-- A drive writes the answers to what it read, and ends as its session, its devices or its budget say.
 use Rattle.std.proofs.Common.{rules, ◌≡◌, ℕ, [], false, true, ◌<◌, ◌≤◌, ◌++◌, ◌∙◌, length, sym, ap, refl, subst, arith, take}
 use Rattle.std.proofs.lemmas.List.{length-take}
 use Rattle.ws_frame.specs.declared.reading_input.TheConstants.{READ_SIZE}

@@ -1,3 +1,4 @@
+-- What comes of a connection is what a probe over its two sides tells.
 use Rattle.std.proofs.Common.{map}
 use Rattle.wst_run.proofs.TargetLemmas.{meets_by_probe}
 use Rattle.wst_run.proofs.address_server.probe_over.Goals as goal

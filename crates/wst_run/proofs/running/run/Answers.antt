@@ -1,3 +1,4 @@
+-- A run does what its words ask for, or answers what is wrong with them.
 use Rattle.std.proofs.Common.{inr, rules}
 use Rattle.ws_frame.specs.Devices.{IsUntouched, watched}
 use Rattle.wst_run.proofs.running.run.Goals as goal

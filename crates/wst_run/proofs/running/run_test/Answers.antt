@@ -1,3 +1,4 @@
+-- What `test` is asked for is run, or the first reason against it is told.
 use Rattle.std.proofs.Common.{inl}
 use Rattle.wst_run.proofs.running.run_test.Goals as goal
 

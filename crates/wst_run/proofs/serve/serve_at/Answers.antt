@@ -1,3 +1,4 @@
+-- A server tells that it listens, and then each connection; a line that failed ends it.
 use Rattle.std.proofs.Common.{◌≡◌, ◌∙◌, Ok, ap, false, true, inl, inr, sym}
 use Rattle.ws_frame.specs.Devices.{watched}
 use Rattle.ws_frame.specs.Watching.{has_failed, inner_of}

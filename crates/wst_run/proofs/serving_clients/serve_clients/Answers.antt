@@ -1,3 +1,4 @@
+-- Each connection has its line, in order; one that failed, or a connection that is not there, ends it.
 use Rattle.std.proofs.Common.{◌≡◌, ◌∙◌, ◌+◌, arith, false, true, sym}
 use Rattle.ws_frame.specs.Devices.{watched}
 use Rattle.ws_frame.specs.Watching.{has_failed, inner_of}

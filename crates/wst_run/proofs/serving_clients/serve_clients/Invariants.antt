@@ -1,3 +1,4 @@
+-- The lines of the connections so far were written, and the writer works.
 use Rattle.std.proofs.Common.{◌≡◌, false}
 use Rattle.ws_frame.specs.Watching.{has_failed, inner_of}
 use Rattle.wst_run.proofs.ServeLemmas.{HasServedSo}

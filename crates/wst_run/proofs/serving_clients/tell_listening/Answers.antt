@@ -1,3 +1,4 @@
+-- The line is delivered, or memory ran out for it and nothing is written.
 use Rattle.std.proofs.Common.{rules, ◌≡◌, refl}
 use Rattle.ws_frame.specs.Devices.{watched}
 use Rattle.wst_run.specs.Serve.{listening_line}

@@ -1,3 +1,4 @@
+-- The cases of a plan run over the server that its target names.
 use Rattle.std.proofs.Common.{◌≡◌, ◌∙◌, ap, subst, sym, List, ℕ}
 use Rattle.ws_frame.specs.Devices.{watched}
 use Rattle.wst_run.specs.Servers.{MeetsAtAddress, MeetsTarget}

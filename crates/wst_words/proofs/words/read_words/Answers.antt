@@ -1,3 +1,4 @@
+-- The task is that of the command that clap finds, and a fault is clap's, or that there is no task.
 use Rattle.std.proofs.Common.{rules, ◌≡◌, ap, map, string_bytes, true}
 use Rattle.clap.specs.Words.{app_of, is_simple, subcommand_rows_of}
 use Rattle.clap.specs.Faults.{is_simple_and_free}

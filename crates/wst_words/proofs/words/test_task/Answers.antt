@@ -1,3 +1,4 @@
+-- The task `test` has what its words give; where a word has no value there is none.
 use Rattle.std.proofs.Common.{rules, codes, refl}
 use Rattle.clap.specs.Words.{found_of, rows_of}
 use Rattle.wst_words.specs.Options.{LacksOneOf}

@@ -1,3 +1,4 @@
+-- What a receiver holds is at most its limit, a header and a control payload.
 use Rattle.std.proofs.Common.{◌≡◌, ◌∙◌, ◌+◌, ◌≤◌, length, ap, arith}
 use Rattle.ws_session.specs.declared.limits.TheConstants.{MAX_MESSAGE}
 use Rattle.ws_session.specs.Limits.{most_beside}

@@ -1,3 +1,4 @@
+-- A data frame that stands whole in a piece is checked as its header and its payload are.
 use Rattle.std.proofs.Common.{◌≡◌, ◌∙◌, ◌-◌, ◌≤◌, ◌<◌, ◌++◌, length, take, drop, List, ℕ, Option, Some, subst, refl, arith}
 use Rattle.ws_wire.specs.Header.{AreBytes}
 use Rattle.std.specs.Prelude.{IfSome}

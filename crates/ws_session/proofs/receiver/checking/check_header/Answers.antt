@@ -1,3 +1,4 @@
+-- A header is refused for the first reason that applies, or begins a frame.
 use Rattle.std.proofs.Common.{◌≡◌, ◌∙◌, ◌-◌, ◌≤◌, ◌<◌, ◌++◌, length, take, drop, List, ℕ, ap, refl, subst, arith}
 use Rattle.std.proofs.lemmas.List.{length-append}
 use Rattle.ws_wire.specs.Header.{AreBytes}

@@ -1,3 +1,4 @@
+-- A whole control frame is a close, a ping or a pong, by its opcode.
 use Rattle.std.proofs.Common.{List, ℕ, subst}
 use Rattle.ws_session.specs.InnerReceiving.{IsWholeControl}
 use Rattle.ws_session.proofs.receiver.control_frame.check_whole.Goals as goal

@@ -1,3 +1,4 @@
+-- A case at an address is a probe over some connection, or there is none.
 use Rattle.std.proofs.Common.{List, ℕ, IfOk, subst}
 use Rattle.wst_run.specs.Servers.{MeetsAtAddress}
 use Rattle.wst_run.proofs.address_server.AddressServerCaseServer.run.Goals as goal

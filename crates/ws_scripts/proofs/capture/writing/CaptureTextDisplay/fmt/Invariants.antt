@@ -1,3 +1,4 @@
+-- The lines written so far are those before the next one.
 use Rattle.std.proofs.Common.{take}
 use Rattle.std.specs.Fmt.{HasWritten, IsPlainFormatter}
 use Rattle.std.specs.List.{flat_map}
