@@ -21,6 +21,10 @@ mod masks;
 #[cfg(test)]
 mod memory_net;
 #[cfg(test)]
+mod network_serves;
+#[cfg(test)]
+mod network_tests;
+#[cfg(test)]
 mod probe_faults;
 #[cfg(test)]
 mod probes;

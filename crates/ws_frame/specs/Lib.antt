@@ -1,3 +1,9 @@
+pub use Rattle.ws_wire.specs.Header
+pub use Rattle.ws_wire.specs.Opcode
+pub use Rattle.ws_wire.specs.Reading
+pub use Rattle.ws_wire.specs.Masking
+pub use Rattle.ws_wire.specs.Frame
+pub use Rattle.ws_wire.specs.Stream
 pub mod Watching
 pub mod Devices
 pub mod ReadingInput

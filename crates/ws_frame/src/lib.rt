@@ -27,3 +27,7 @@ pub use reading_input::{InputEnd, READ_SIZE, read_input};
 pub use showing::{ShowEnd, StreamEnd, show};
 pub use watching::Watched;
 pub use writing_whole::{WriteFault, write_whole};
+pub use ws_wire::{
+    Form, HeadBytes, Header, HeaderRead, NO_KEY, Opcode, Role, append_frame, mask, mask_plainly,
+    read_header,
+};
