@@ -12,7 +12,7 @@ pub enum Exit {
     Damaged,
     /// The words are wrong.
     WrongWords,
-    /// The input, the output, the budget or memory failed.
+    /// The input, the output, the network, the budget or memory failed.
     Failed,
 }
 

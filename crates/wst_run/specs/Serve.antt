@@ -57,8 +57,8 @@ HasWrittenThenBegun first next output =
 
 -- ---- its connections
 
--- There are a reader and a writer over which a connection that ended so was served, as is asked for. Which bytes a
--- network carries is said by no contract.
+-- There are a reader and a writer over which a connection that ended so was served, as is asked for. Where their bytes
+-- are not known, as those of a network's streams, this says only that such an end can be.
 abbrev pub IsServedBy : ServePlan → Served → Type 0
 IsServedBy plan served =
     (input : Device) × (output : Device) × Serves plan.limits plan.budget plan.protocols served input output
@@ -80,8 +80,8 @@ pub record StopsAtServed (plan : ServePlan) (before : List ℕ) (served : List S
   pub begun :
       HasWrittenThenBegun (before ++ connection_lines 1 served) (connection_line (length served + 1) next) output
 
--- How the serving ended after these connections: as many as were asked for were served and told, which is done. Else it
--- is a failure: no connection could be taken any more, a line failed, or memory ran out for one.
+-- How the serving ended after these connections: as many as were asked for were served and told, which is done. Else
+-- they were fewer, or a line failed: a failure, or want of memory. That no connection could be taken is not said.
 abbrev pub EndsServing : ServePlan → List ℕ → List Served → Result Exit Fault → Device → Type 0
 EndsServing plan before served (Ok Done) output =
     (length served ≡ plan.count) × HasServed plan before served output
@@ -91,18 +91,18 @@ EndsServing plan before served (Ok exit) output = ⊥
 EndsServing plan before served (Err fault) output =
     (fault ≡ NoMemory) × (length served < plan.count) × HasServed plan before served output
 
--- connections were served one after the other, and each was told before the next one was taken
+-- connections were served, and so it ended; when each was taken is not said
 abbrev pub ServesClients : ServePlan → List ℕ → Result Exit Fault → Device → Type 0
 ServesClients plan before ended output = (served : List Served) × EndsServing plan before served ended output
 
 -- ---- a run
 
--- nothing was written: the address can't be listened at, or memory ran out for the first line
+-- nothing was written: a failure, or want of memory; that the address can't be listened at is not said
 abbrev pub ServesNone : Result Exit Fault → Device → Type 0
 ServesNone ended output =
     ((ended ≡ Ok Failed) ⊎ (ended ≡ Err NoMemory)) × (output.failed ≡ false) × IsUntouched output
 
--- the first line could not be written, or not flushed: then no connection was served
+-- the first line could not be written, or not flushed, and nothing was written after it
 abbrev pub StopsAtListening : ServePlan → Result Exit Fault → Device → Type 0
 StopsAtListening plan ended output =
     (ended ≡ Ok Failed) × (output.failed ≡ true) × HasBegun (listening_line plan.address.now) output

@@ -34,8 +34,8 @@ MeetsInMemory server key case (Refused fault) = ⊥
 MeetsInMemory server key case NoConnection = ⊥
 
 -- There is no connection to the server at an address, which is the host of the request; or there are a reader and a
--- writer over which the handshake was tried, with these offers, and the case run. Which bytes a network carries is said
--- by no contract.
+-- writer over which the handshake was tried, with these offers, and the case run. Where their bytes are not known, this
+-- binds the turns of the transcript and its end alone, and neither the host nor the offers.
 abbrev pub MeetsAtAddress : List ℕ → List (List ℕ) → List ℕ → Case → Probe → Type 0
 MeetsAtAddress host offers key case probe = (probe ≡ NoConnection)
     ⊎ ((input : Device) × (output : Device) × Probes case key host offers probe input output)
