@@ -1,4 +1,5 @@
-//! What every layer shares: want of memory, a list that contracts see as a list, and what is wrong with a text of lines.
+//! What every layer shares: want of memory, a list that contracts see as a list, and what is wrong with a text of
+//! lines.
 //!
 //! The layers above use the contract of `Sequence`.
 #![tactic(auto)]

@@ -1,8 +1,9 @@
 //! The words and lines of our text formats: bytes and masking keys in hexadecimal, numbers in decimal, the words of a
 //! line, and texts with a line for each value.
 //!
-//! The layers above use the contract of `read_lines`, for a script with one value a line, and those of the readers of
-//! words: a value is found where a word spells one, and nowhere else.
+//! The layers above use the contracts of `read_lines`, for a script with one value a line, and of `read_by_lines`, for
+//! a text whose lines tell one value together; and those of the readers of words: a value is found where a word spells
+//! one, and nowhere else.
 #![tactic(auto)]
 
 mod closing;

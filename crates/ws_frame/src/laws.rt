@@ -1,4 +1,4 @@
-//! Laws over the definitions, each the contract of a function that does nothing: proofs of the layers above call them.
+//! Laws over the definitions, each the contract of a function that does nothing.
 
 ghost use Rattle.std.specs.Prelude.{◌≡◌, ℕ, List};
 ghost use Rattle.ws_wire.specs.Header.{AreBytes};

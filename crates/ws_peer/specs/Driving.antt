@@ -2,7 +2,6 @@
 -- 7.1).
 use Rattle.std.specs.Prelude.{◌≡◌, ℕ, ◌<◌, ◌≤◌, Bool, true, false, List, ◌++◌, length, Option}
 use Rattle.std.specs.Io.KnownBytes.{IsAtEnd}
-use Rattle.ws_frame.specs.declared.reading_input.TheConstants.{READ_SIZE}
 use Rattle.ws_wire.specs.declared.role.Role.{Role}
 use Rattle.ws_frame.specs.Devices.{Device, HasRead, HasWritten}
 use Rattle.ws_session.specs.declared.status.Status.{Status}
@@ -56,13 +55,13 @@ IsDrivenTo call ReadFault unread read written = HasAnsweredAll call read written
 IsDrivenTo call WriteFault unread read written = BeginsAnswers call read written
 IsDrivenTo call NoMemory unread read written = BeginsAnswers call read written
 
--- What was read has a last part of at most READ_SIZE bytes: before it, all that was due had been written, and the
+-- What was read has a last part of at most 4096 bytes: before it, all that was due had been written, and the
 -- session went on. Nothing is asked of how many reads brought this part.
 pub record ReadsInTurn (call : DriveCall) (read written : List ℕ) : Type 0 where
   pub before : List ℕ
   pub last : List ℕ
   pub parts : read ≡ before ++ last
-  pub bound : length last ≤ READ_SIZE
+  pub bound : length last ≤ 4096
   pub put : List ℕ
   pub later : List ℕ
   pub begins : written ≡ put ++ later
@@ -83,7 +82,7 @@ LeavesEcho call NoMemory read written session = (front : List ℕ) × (more : Li
     × IsEchoAfter call.role call.limits call.key front false (written ++ more) session
 
 -- A run of `drive` over a reader and a writer: some bytes were read, at most as many as the budget, the answers to all
--- but at most the last READ_SIZE of them are written, and what is due was written
+-- but at most the last 4096 of them are written, and what is due was written
 pub record Drives (call : DriveCall) (end : DriveEnd) (session : SessionValue) (input output : Device) : Type 0 where
   pub read : List ℕ
   pub written : List ℕ

@@ -1,8 +1,9 @@
 //! Peers at work: what a tester says to a server and what it answers, as a talk, and the run of a script over a peer
 //! (RFC 6455 sections 4 to 8).
 //!
-//! The layers above use two contracts: that of `run_case`, by which the transcript is that of a talk which the peer has
-//! had, and that of `run_over_echo`, by which over a new echo this talk is an echo's, and its verdict Pass.
+//! The layers above use three contracts: that of `run_case`, by which the transcript is that of a talk which the peer
+//! has had, that of `run_over_echo`, by which over a new echo this talk is an echo's, and its verdict Pass, and that of
+//! `drive`.
 #![tactic(auto)]
 
 mod driving;

@@ -1,8 +1,8 @@
 //! Scripts that test a peer (RFC 6455 sections 5 to 8): what to send, in which turns and pieces; the transcript of what
 //! was sent and got; and a capture of a transcript as text.
 //!
-//! The layers above use two contracts: `turns` cuts a script as its definition says, and `read_capture2` gives the one
-//! capture that a text is.
+//! The layers above use four contracts: a script of `case` can be run, `turns` cuts it as its definition says,
+//! `read_capture2` gives the one capture that a text is, and `write_capture2` its lines.
 #![tactic(auto)]
 
 mod capture;

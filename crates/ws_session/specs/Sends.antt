@@ -6,7 +6,6 @@ use Rattle.std.specs.Borrow.{Bor}
 use Rattle.ws_wire.specs.Frame.{Frame, FitsTheLayout, frame_bytes}
 use Rattle.ws_text.specs.Text.{IsText, BeginsText}
 use Rattle.ws_text.specs.Close.{CloseValue, CodeAllowed, close_payload}
-use Rattle.ws_session.specs.declared.limits.TheConstants.{MAX_MESSAGE}
 use Rattle.ws_session.specs.declared.message.Kind.{Kind}
 use Rattle.ws_session.specs.declared.message.Kind.TheVariants.{Text}
 use Rattle.ws_session.specs.declared.message.Message.{Message}
@@ -65,7 +64,7 @@ HasTextReason _ = Unit {0}
 -- the limits that the frames of an endpoint keep to
 -- our choice: section 10.4 leaves them open
 abbrev pub most_limits : LimitsValue
-most_limits = record { max_message = MAX_MESSAGE; max_frame = MAX_MESSAGE }
+most_limits = record { max_message = 16777216; max_frame = 16777216 }
 
 -- nothing makes these bytes of a message a text, or it ends with them and they are none
 abbrev pub IsNoText : Bool → List ℕ → Type 0
@@ -77,8 +76,8 @@ IsWrongWith opened (Begin kind payload fin) Busy = opened ≢ None
 IsWrongWith opened (More payload fin) NothingOpen = opened ≡ None
 IsWrongWith opened (Begin kind payload fin) NotText = (kind ≡ Text) × IsNoText fin payload
 IsWrongWith opened (More payload fin) NotText = IsOpenText opened × IsNoText fin (open_payload opened ++ payload)
-IsWrongWith opened (Begin kind payload fin) TooLong = MAX_MESSAGE < length payload
-IsWrongWith opened (More payload fin) TooLong = MAX_MESSAGE < length (open_payload opened) + length payload
+IsWrongWith opened (Begin kind payload fin) TooLong = 16777216 < length payload
+IsWrongWith opened (More payload fin) TooLong = 16777216 < length (open_payload opened) + length payload
 IsWrongWith opened (Ping payload) TooLong = 125 < length payload
 IsWrongWith opened (Pong payload) TooLong = 125 < length payload
 IsWrongWith opened (Close (Some close)) TooLong = 123 < length close.reason

@@ -14,7 +14,7 @@ pub enum Opcode {
     Close,
     Ping,
     Pong,
-    /// One of the numbers 3 to 7 and 11 to 15, which are reserved.
+    /// One of the other numbers, which are reserved: of a header 3 to 7 or 11 to 15.
     Reserved(u8),
 }
 

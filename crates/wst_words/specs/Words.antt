@@ -38,8 +38,8 @@ row_of name.Test = test_command
 row_of name.Serve = serve_command
 
 -- the commands, in the order in which help lists them
-abbrev pub wst_run : List CommandRow
-wst_run = map row_of (name.Show ∷ name.Head ∷ name.Pair ∷ name.Session ∷ name.Judge ∷ name.Convert ∷ name.Cases
+abbrev pub all_commands : List CommandRow
+all_commands = map row_of (name.Show ∷ name.Head ∷ name.Pair ∷ name.Session ∷ name.Judge ∷ name.Convert ∷ name.Cases
     ∷ name.Test ∷ name.Serve ∷ [])
 
 -- `wst` itself: a command may not be left out, and there is a version
@@ -48,7 +48,7 @@ bare_app = on_top (λ s. record s { subcommand_required = true; has_version = tr
 
 -- `wst` with its commands
 abbrev pub wst_app : Places → App
-wst_app places = with_commands (end_parser places) bare_app wst_run
+wst_app places = with_commands (end_parser places) bare_app all_commands
 
 -- ---- what the words ask for
 

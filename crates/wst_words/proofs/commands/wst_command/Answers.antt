@@ -5,7 +5,7 @@ use Rattle.clap.specs.Simple.{app_of_fields, on_top}
 use Rattle.clap.specs.declared.builder.value_parser.ValueParser.TheVariants.{Names}
 use Rattle.wst_words.specs.Arguments.{end_parser}
 use Rattle.wst_words.specs.Commands.{with_commands}
-use Rattle.wst_words.specs.Words.{bare_app, wst_run}
+use Rattle.wst_words.specs.Words.{bare_app, all_commands}
 use Rattle.wst_words.proofs.WordLemmas.{places_of}
 use Rattle.wst_words.proofs.commands.wst_command.Goals as goal
 
@@ -24,4 +24,4 @@ returns c =
     let required : app_of c.subcommand_required-wst.result ≡ bare_app =
     ap app_of_fields c.subcommand_required-wst.ensures
     ∙ ap (λ (a : App). on_top (λ s. record s { subcommand_required = true }) a) texts in
-    (places.0, c.in_ok-command.ensures ∙ (λ i. with_commands (ends i) (required i) wst_run))
+    (places.0, c.in_ok-command.ensures ∙ (λ i. with_commands (ends i) (required i) all_commands))
