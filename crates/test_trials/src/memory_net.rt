@@ -11,7 +11,10 @@ use std::os::fd::{AsRawFd, RawFd};
 use std::time::Duration;
 use ws_frame::{ByteReader, Failing};
 
-/// The port that each connection comes from.
+/// The one host that has an address.
+const HOST: &str = "localhost";
+
+/// The one port at which something listens, and from which each connection comes.
 const PORT: u16 = 9001;
 
 /// What a network does, and what came of it.
@@ -88,22 +91,26 @@ impl<'a> Net for MemoryNet<'a> {
 
     type Listener = MemoryListener<'a>;
 
-    fn bind(&self, _addr: SocketAddr) -> io::Result<MemoryListener<'a>> {
-        if self.book.listens {
+    fn bind(&self, addr: SocketAddr) -> io::Result<MemoryListener<'a>> {
+        if self.book.listens && addr.port() == PORT {
             Ok(MemoryListener { book: self.book })
         } else {
             Err(io::Error::from(ErrorKind::AddrInUse))
         }
     }
 
-    fn connect(&self, _addr: SocketAddr) -> io::Result<MemoryStream<'a>> {
-        self.book.next()
+    fn connect(&self, addr: SocketAddr) -> io::Result<MemoryStream<'a>> {
+        if addr.port() == PORT {
+            self.book.next()
+        } else {
+            Err(io::Error::from(ErrorKind::AddrNotAvailable))
+        }
     }
 
-    fn lookup_host(&self, _host: &str, port: u16, found: &mut [SocketAddr]) -> io::Result<usize>
+    fn lookup_host(&self, host: &str, port: u16, found: &mut [SocketAddr]) -> io::Result<usize>
         ensures in_bounds { IfOk result (λ n. n ≤ length found.new) }
     {
-        if found.is_empty() {
+        if found.is_empty() || host != HOST {
             return Ok(0);
         }
         found[0] = local(port);
@@ -170,7 +177,10 @@ impl Write for MemoryStream<'_> {
 }
 
 impl OpenStream for MemoryStream<'_> {
-    fn shutdown(&self, _how: Shutdown) -> io::Result<()> {
+    fn shutdown(&self, how: Shutdown) -> io::Result<()> {
+        if how != Shutdown::Write {
+            return Err(io::Error::from(ErrorKind::Unsupported));
+        }
         self.book.ended.set(self.book.ended.get().saturating_add(1));
         Ok(())
     }

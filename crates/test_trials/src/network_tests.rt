@@ -56,6 +56,15 @@ fn two_connections(rt: HostRuntime) -> Result<(), Fail> {
     let lines = b"5.19 PASS\n5.19 PASS\n2 pass, 0 loose, 0 fail\n";
     check(&rt, rt.alloc(), TWO, &book, 0, lines)?;
     same_number(&rt, 0, book.asked.get(), 2);
+    let written = book.written.into_inner();
+    let request = REQUEST.len();
+    same_number(&rt, 1, written.len() as u64, (2 * (request + SENT)) as u64);
+    same_bytes(
+        &rt,
+        2,
+        &written.as_slice()[..request.min(written.len())],
+        REQUEST,
+    );
     Ok(())
 }
 
