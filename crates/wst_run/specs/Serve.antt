@@ -55,7 +55,7 @@ abbrev pub HasWrittenThenBegun : List ℕ → List ℕ → Device → Type 0
 HasWrittenThenBegun first next output =
     (front : List ℕ) × (more : List ℕ) × (next ≡ front ++ more) × HasWritten (first ++ front) output
 
--- ---- its connections
+-- ---- its clients
 
 -- There are a reader and a writer over which a connection that ended so was served, as is asked for. Where their bytes
 -- are not known, as those of a network's streams, this says only that such an end can be.
@@ -63,37 +63,42 @@ abbrev pub IsServedBy : ServePlan → Served → Type 0
 IsServedBy plan served =
     (input : Device) × (output : Device) × Serves plan.limits plan.budget plan.protocols served input output
 
--- connections were served that ended so; their lines were written, numbered from 1, after these bytes, and nothing else
-pub record HasServed (plan : ServePlan) (before : List ℕ) (served : List Served) (output : Device) : Type 0 where
-  pub are_served : All (IsServedBy plan) served
+-- Clients were served whose connections ended so, each as a client may end; their lines were written, numbered from 1,
+-- after these bytes, and nothing else.
+pub record HasServed (MayEnd : Served → Type 0) (before : List ℕ) (served : List Served)
+    (output : Device) : Type 0 where
+  pub are_served : All MayEnd served
   pub works : output.failed ≡ false
   pub written : HasWritten (before ++ connection_lines 1 served) output
 
--- The line of one connection more could not be written, or not flushed: then nothing is written after it. It was not
--- one connection too many.
-pub record StopsAtServed (plan : ServePlan) (before : List ℕ) (served : List Served) (output : Device) : Type 0 where
-  pub few : length served < plan.count
-  pub are_served : All (IsServedBy plan) served
+-- The line of one client more could not be written, or not flushed: then nothing is written after it. It was not one
+-- client too many.
+pub record StopsAtServed (MayEnd : Served → Type 0) (count : ℕ) (before : List ℕ) (served : List Served)
+    (output : Device) : Type 0 where
+  pub few : length served < count
+  pub are_served : All MayEnd served
   pub next : Served
-  pub is_next : IsServedBy plan next
+  pub is_next : MayEnd next
   pub failed : output.failed ≡ true
   pub begun :
       HasWrittenThenBegun (before ++ connection_lines 1 served) (connection_line (length served + 1) next) output
 
--- How the serving ended after these connections: as many as were asked for were served and told, which is done. Else
--- they were fewer, or a line failed: a failure, or want of memory. That no connection could be taken is not said.
-abbrev pub EndsServing : ServePlan → List ℕ → List Served → Result Exit Fault → Device → Type 0
-EndsServing plan before served (Ok Done) output =
-    (length served ≡ plan.count) × HasServed plan before served output
-EndsServing plan before served (Ok Failed) output =
-    ((length served < plan.count) × HasServed plan before served output) ⊎ StopsAtServed plan before served output
-EndsServing plan before served (Ok exit) output = ⊥
-EndsServing plan before served (Err fault) output =
-    (fault ≡ NoMemory) × (length served < plan.count) × HasServed plan before served output
+-- How the serving ended after these clients: as many as were asked for were served and told, which is done. Else they
+-- were fewer, or a line failed: a failure, or want of memory. That no client could come is not said.
+abbrev pub EndsServing : (Served → Type 0) → ℕ → List ℕ → List Served → Result Exit Fault → Device → Type 0
+EndsServing MayEnd count before served (Ok Done) output =
+    (length served ≡ count) × HasServed MayEnd before served output
+EndsServing MayEnd count before served (Ok Failed) output =
+    ((length served < count) × HasServed MayEnd before served output)
+    ⊎ StopsAtServed MayEnd count before served output
+EndsServing MayEnd count before served (Ok exit) output = ⊥
+EndsServing MayEnd count before served (Err fault) output =
+    (fault ≡ NoMemory) × (length served < count) × HasServed MayEnd before served output
 
--- connections were served, and so it ended; when each was taken is not said
-abbrev pub ServesClients : ServePlan → List ℕ → Result Exit Fault → Device → Type 0
-ServesClients plan before ended output = (served : List Served) × EndsServing plan before served ended output
+-- clients were served, at most so many, and so it ended; when each came is not said
+abbrev pub ServesClients : (Served → Type 0) → ℕ → List ℕ → Result Exit Fault → Device → Type 0
+ServesClients MayEnd count before ended output =
+    (served : List Served) × EndsServing MayEnd count before served ended output
 
 -- ---- a run
 
@@ -109,7 +114,8 @@ StopsAtListening plan ended output =
 
 -- it is told that connections are taken, and then they are served; or that comes to nothing
 abbrev pub ServesAt : ServePlan → Result Exit Fault → Device → Type 0
-ServesAt plan ended output = ServesClients plan (listening_line plan.address.now) ended output
+ServesAt plan ended output =
+    ServesClients (IsServedBy plan) plan.count (listening_line plan.address.now) ended output
     ⊎ (StopsAtListening plan ended output ⊎ ServesNone ended output)
 
 -- connections are served as is asked for, and how that ended is told

@@ -2,11 +2,12 @@
 //! The others stand in `wst_commands`. No rule of the protocol stands here.
 //!
 //! The layer above uses `run`: what the words ask for is done, over the devices and the network that it is given, and
-//! what came of it is one of four exits.
+//! what came of it is one of four exits; and `words_are_no_text` where there are no words.
 #![tactic(auto)]
 
 mod address_server;
 mod case_server;
+mod clients;
 mod given_cases;
 mod outcome;
 mod running;
@@ -17,6 +18,8 @@ mod test;
 mod testing;
 
 pub use case_server::{CaseServer, MemoryServer};
+pub use clients::Clients;
 pub use running::{run, words_are_no_text};
 pub use serve::{ServePlan, run_serve};
+pub use serving_clients::serve_clients;
 pub use test::{Target, TestPlan, TestRefusal, plan_test, run_plan, tell_refusal};

@@ -5,6 +5,7 @@ ghost use Rattle.ws_frame.specs.Devices.{watched};
 ghost use Rattle.ws_frame.specs.Watching.{has_failed};
 ghost use Rattle.wst_run.specs.Serve.{CanNotServe, IsServePlan, RunsServer, ServesAt};
 
+use crate::clients::ListenerClients;
 use crate::serving_clients::{serve_clients, tell_listening};
 use std::alloc::Global;
 use std::io::Write;
@@ -85,5 +86,5 @@ fn serve_at<N: Net, W: Write>(
     if writer.failed() {
         return Ok(told);
     }
-    serve_clients(alloc, &listener, plan, writer)
+    serve_clients(alloc, &ListenerClients::of(&listener), plan, writer)
 }

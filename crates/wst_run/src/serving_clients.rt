@@ -4,83 +4,42 @@ ghost use Rattle.std.specs.Prelude.{◌≡◌, MatchResult, [], false};
 ghost use Rattle.ws_frame.specs.Devices.{watched};
 ghost use Rattle.ws_frame.specs.Watching.{has_failed};
 ghost use Rattle.wst_commands.specs.Devices.{Delivers};
-ghost use Rattle.wst_run.specs.Serve.{IsServedBy, ServesClients, connection_line, listening_line};
+ghost use Rattle.wst_run.specs.Serve.{ServesClients, connection_line, listening_line};
 ghost use Rattle.wst_commands.specs.declared.exit.Exit.TheVariants.{Done};
 ghost use Rattle.wst_commands.specs.declared.fault.Fault.TheVariants as variant;
 
+use crate::clients::Clients;
 use crate::serve::ServePlan;
-use crate::stream::{Side, linger, shared};
 use std::alloc::Global;
-use std::cell::RefCell;
-use std::io::{ErrorKind, Read, Write};
-use std::net::{OpenListener, OpenStream};
-use ws_connection::{Served, serve_one};
+use std::io::Write;
+use ws_connection::Served;
 use ws_frame::{Watched, WriteFault, write_whole};
 use wst_commands::{Exit, Fault};
 
-/// Serves so many connections, one after the other, and tells of each how it ended, before the next one is taken. A
-/// line that can't be written or flushed ends that, and so does a listener that takes none any more.
-pub fn serve_clients<L: OpenListener, W: Write>(
+/// Serves so many clients, one after the other, and tells of each how its connection ended, before the next one is
+/// taken. A line that can't be written or flushed ends that, and so does it where no client can come any more.
+pub fn serve_clients<C: Clients, W: Write>(
     alloc: Global,
-    listener: &L,
+    clients: &C,
     plan: &ServePlan<'_>,
     writer: &mut Watched<W>,
 ) -> Result<Exit, Fault>
-where
-    L::Stream: Read + Write + OpenStream,
     requires works { has_failed writer.old ≡ false }
-    ensures { ServesClients plan.now [] result (watched W.contents writer.old writer.new) }
+    ensures { ServesClients (C.ends clients.now plan.now) plan.now.count [] result
+        (watched W.contents writer.old writer.new) }
 {
     for served_before in 0..plan.count {
-        let Some(stream) = next_client(listener) else {
+        let Some(client) = clients.next_client() else {
             return Ok(Exit::Failed);
         };
-        let stream = shared(stream);
-        let served = serve_client(alloc, &stream, plan);
+        let served = clients.serve(alloc, &client, plan);
         let told = tell_served(alloc, served_before + 1, served, writer)?;
         if writer.failed() {
             return Ok(told);
         }
-        linger(stream.into_inner());
+        clients.leave(client);
     }
     Ok(Exit::Done)
-}
-
-/// The next connection. `None` where none can be taken. A client that went away while it waited is passed over.
-fn next_client<L: OpenListener>(listener: &L) -> Option<L::Stream> {
-    for _ in 0..u64::MAX {
-        match listener.accept() {
-            Ok((stream, _)) => return Some(stream),
-            Err(error) if went_away(error.kind()) => {}
-            Err(_) => return None,
-        }
-    }
-    None
-}
-
-/// The failure of an accept is of the client that waited, not of the listener.
-fn went_away(kind: ErrorKind) -> bool {
-    matches!(
-        kind,
-        ErrorKind::ConnectionAborted | ErrorKind::ConnectionReset | ErrorKind::Interrupted
-    )
-}
-
-/// Serves one connection.
-fn serve_client<S: Read + Write>(alloc: Global, stream: &RefCell<S>, plan: &ServePlan<'_>) -> Served
-    ensures { IsServedBy plan.now result }
-{
-    let mut reader = Watched::new(Side::of(stream));
-    let mut writer = Watched::new(Side::of(stream));
-    let protocols = plan.protocols.as_slice();
-    serve_one(
-        alloc,
-        &mut reader,
-        &mut writer,
-        plan.limits,
-        plan.budget,
-        protocols,
-    )
 }
 
 /// Tells in a line, which is flushed, that connections to this address are taken.
