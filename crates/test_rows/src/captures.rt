@@ -35,16 +35,27 @@ pub fn tell_no_memory(words: &[&str], out: &mut String) -> Result<(), RowFault> 
 
 /// `judge END SENT GOT ..`: the verdict on these turns and this end, `tester`, `peer` or `broken`.
 pub fn judge_turns(alloc: Global, words: &[&str], out: &mut String) -> Result<(), RowFault> {
+    let transcript = transcript_of(alloc, words)?;
+    write!(out, "{}", judge(alloc, &transcript)?)?;
+    Ok(())
+}
+
+/// `written END SENT GOT ..`: the capture in format 1 of these turns and this end.
+pub fn write_turns(alloc: Global, words: &[&str], out: &mut String) -> Result<(), RowFault> {
+    let transcript = transcript_of(alloc, words)?;
+    let written = write_capture(alloc, &transcript)?;
+    write!(out, "{}", Hex(written.as_slice()))?;
+    Ok(())
+}
+
+/// An end, and turns of two words each.
+fn transcript_of(alloc: Global, words: &[&str]) -> Result<Transcript, RowFault> {
     let [end, turns @ ..] = words else {
         return Err(RowFault::NotARow);
     };
     let ended = end_of(end)?;
-    let transcript = Transcript {
-        turns: turns_of(alloc, turns)?,
-        ended,
-    };
-    write!(out, "{}", judge(alloc, &transcript)?)?;
-    Ok(())
+    let turns = turns_of(alloc, turns)?;
+    Ok(Transcript { turns, ended })
 }
 
 fn end_of(word: &str) -> Result<Ended, RowFault> {
