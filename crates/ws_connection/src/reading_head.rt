@@ -13,7 +13,7 @@ use ws_frame::Watched;
 use ws_upgrade::MAX_HEAD;
 
 /// How many bytes one read asks for at most.
-const READ_SIZE: usize = 1024;
+const HEAD_READ_SIZE: usize = 1024;
 
 /// Room for the bytes that are read for a head, at most 8192, kept in place.
 #[derive(Drop)]
@@ -59,7 +59,7 @@ impl HeadRoom {
         ensures bound { length self.new ≤ max_head }
         ensures failed { has_failed reader.new ≡ (has_failed reader.old || is_err result) }
     {
-        let end = self.len + READ_SIZE.min(MAX_HEAD - self.len);
+        let end = self.len + HEAD_READ_SIZE.min(MAX_HEAD - self.len);
         let count = reader.read(&mut self.bytes[self.len..end])?;
         self.len += count;
         Ok(count)

@@ -26,7 +26,7 @@ pub fn written_captures_are_read()
 {}
 
 /// In format 2 a capture has exactly one list of lines, and no list is that of two captures.
-pub fn one_list_of_lines()
+pub fn one_list_of_capture_lines()
     ensures has { (capture : Capture) → HoldsBytes capture → (lines : List (List ℕ)) × HasLines2 capture lines }
     ensures one { (capture : Capture) (lines others : List (List ℕ)) → HasLines2 capture lines →
         HasLines2 capture others → lines ≡ others }

@@ -3,7 +3,7 @@ use Rattle.std.proofs.Common.{◌∙◌, refl, sym, true}
 use Rattle.ws_formats.specs.Lines.{ended}
 use Rattle.ws_scripts.specs.Captures2.{capture2_lines}
 use Rattle.ws_scripts.proofs.CaptureTells.{of_format_2, one_told}
-use Rattle.ws_scripts.proofs.laws.one_list_of_lines.Goals as goal
+use Rattle.ws_scripts.proofs.laws.one_list_of_capture_lines.Goals as goal
 
 pub returns-clause-has : goal.returns-clause-has
 returns-clause-has c = λ capture holds. (capture2_lines capture, (holds, refl))
