@@ -11,7 +11,6 @@ use Rattle.ws_scripts.specs.declared.script.Case.{Case}
 use Rattle.ws_upgrade.specs.Protocols.{AreOffers}
 use Rattle.ws_upgrade.specs.Texts.{IsHost}
 use Rattle.wst_words.specs.declared.test.TestOptions.{TestOptions}
-use Rattle.wst_commands.specs.Cases.{IsNoList}
 use Rattle.wst_commands.specs.Devices.{Tells}
 use Rattle.wst_commands.specs.Faults.{Ends, LacksMemory, TellsFault}
 use Rattle.ws_connection.specs.Protocols.{protocols_given}
@@ -21,7 +20,7 @@ use Rattle.wst_run.specs.declared.case_server.MemoryServer.TheVariants.{Own, Tun
 use Rattle.wst_commands.specs.declared.exit.Exit.{Exit}
 use Rattle.wst_commands.specs.declared.exit.Exit.TheVariants.{WrongWords}
 use Rattle.wst_commands.specs.declared.fault.Fault.{Fault}
-use Rattle.wst_commands.specs.declared.fault.Fault.TheVariants.{NoMemory}
+use Rattle.wst_commands.specs.declared.fault.Fault.TheVariants.{NoCase, NoMemory}
 use Rattle.ws_connection.specs.declared.probe_end.Probe.{Probe}
 use Rattle.wst_run.specs.declared.test.Target.{Target}
 use Rattle.wst_run.specs.declared.test.Target.TheVariants.{Address, Memory}
@@ -89,24 +88,31 @@ abbrev pub RefusesTarget : List ℕ → TestRefusal → Type 0
 RefusesTarget word refusal.BadAddress = IsNoMemoryServer word × ¬ (IsHost word)
 RefusesTarget word _ = ⊥
 
--- why there are no cases with these names: one has none, and those before it have, or memory ran out
+-- why there are no cases with these names: one has none, and those before it have; no name is given, and a case of the
+-- list of cases is missing; or memory ran out
 abbrev pub RefusesNames : List (Bor (List ℕ)) → TestRefusal → Type 0
 RefusesNames ids (refusal.NoSuchCase id) = (n : ℕ) × (before : List Case) × (n < length ids)
     × (id ≡ slice_index_or ids n id) × AreCasesOf (names_of (take n ids)) before
-RefusesNames ids (refusal.Fault fault) = IsNoList fault
+RefusesNames ids (refusal.Fault fault) = (fault ≡ NoMemory) ⊎ ((fault ≡ NoCase) × (ids ≡ []))
 RefusesNames ids _ = ⊥
 
+-- nothing is wrong with the words, but for the names of the cases
+abbrev pub HasAllButCases : TestOptions → Type 0
+HasAllButCases options = HasOffers options × HasKey options × HasTarget options × CanCapture options
+
 -- The first of these that applies: the names that are given can't be offered; the key is none; the target is none; a
--- capture is not of one case; a name has no case. Which names have one is said by no definition.
+-- capture is not of one case; a name has no case, or a case of the list of cases is missing. Memory may run out at any
+-- of them. Which names have a case is said by no definition.
 abbrev pub RefusesTest : TestOptions → TestRefusal → Type 0
 RefusesTest options refusal.BadProtocols = ¬ (HasOffers options)
 RefusesTest options refusal.BadKey = HasOffers options × ((key : List ℕ) → ¬ (IsKeyWord key options.key.now))
 RefusesTest options refusal.BadAddress =
     HasOffers options × HasKey options × RefusesTarget options.target.now refusal.BadAddress
 RefusesTest options refusal.NotOneCase = HasOffers options × HasKey options × HasTarget options × ¬ (CanCapture options)
-RefusesTest options (refusal.NoSuchCase id) = HasOffers options × HasKey options × HasTarget options
-    × CanCapture options × RefusesNames options.ids.items (refusal.NoSuchCase id)
-RefusesTest options (refusal.Fault fault) = (fault ≡ NoMemory) ⊎ (HasOffers options × HasKey options × IsNoList fault)
+RefusesTest options (refusal.NoSuchCase id) =
+    HasAllButCases options × RefusesNames options.ids.items (refusal.NoSuchCase id)
+RefusesTest options (refusal.Fault fault) =
+    (fault ≡ NoMemory) ⊎ (HasAllButCases options × RefusesNames options.ids.items (refusal.Fault fault))
 
 -- ---- what is told
 
