@@ -85,12 +85,14 @@ abbrev recorded : List (List Entry) → HowEnded → Transcript
 recorded parts ended = record { turns = map turn_of parts; ended = ended }
 
 of_parts : EchoLaws → (parts : List (List Entry)) (ended : HowEnded) → AreBytes (fed_in (joined_talk parts)) → (echoed : (n : ℕ) → HasEchoedTalk (joined_talk (take n parts)))
-    → ((n : ℕ) → n < length parts → AllByRecursion PeerGoesOn (joined_talk (take n parts))) → ended ≡ cond (is_over (echoed (length parts)).status) Peer Tester → IsEchoTranscript (recorded parts ended)
+    → ((n : ℕ) → n < length parts → AllByRecursion PeerGoesOn (joined_talk (take n parts))) → ended ≡ cond (is_over (echoed (length parts)).status) Peer Tester → IsEchoTranscript Server (recorded parts ended)
 of_parts laws parts ended bytes echoed goes last =
     let count : length (map turn_of parts) ≡ length parts = length-map parts turn_of in
     let over : (n : ℕ) → ends_echo (echoed n).echoed.events ≡ is_over (echoed n).status = λ n. ap (λ (s : Status). is_over s) (sym (echoed n).echoed.is_status) in
     record {
       bytes = subst (λ (l : List ℕ). AreBytes l) (sym (all_sent parts)) bytes;
+      key = [];
+      is_key = tt;
       events = λ n. (echoed n).echoed.events;
       has_events = λ n less. subst (λ (l : List ℕ). HasEvents Server most_limits l (echoed n).echoed.events) (sym (sent_so_far n parts)) (echoed n).echoed.has_events;
       got = λ n less. got_so_far n parts ∙ (echoed n).echoed.is_put;
@@ -98,9 +100,9 @@ of_parts laws parts ended bytes echoed goes last =
       ended = last ∙ (ap (λ b. cond b Peer Tester) (sym (over (length parts))) ∙ ap (λ n. cond (ends_echo (echoed n).echoed.events) Peer Tester) (sym count));
     }
 
-same_transcript : (transcript : Transcript) (parts : List (List Entry)) (ended : HowEnded) → transcript.turns ≡ map turn_of parts → transcript.ended ≡ ended → IsEchoTranscript (recorded parts ended) → IsEchoTranscript transcript
+same_transcript : (transcript : Transcript) (parts : List (List Entry)) (ended : HowEnded) → transcript.turns ≡ map turn_of parts → transcript.ended ≡ ended → IsEchoTranscript Server (recorded parts ended) → IsEchoTranscript Server transcript
 same_transcript transcript parts ended turns end is =
-    subst (λ (t : Transcript). IsEchoTranscript t) (sym (ap₂ (λ (l : List Turn) (e : HowEnded). record { turns = l; ended = e }) turns end)) is
+    subst (λ (t : Transcript). IsEchoTranscript Server t) (sym (ap₂ (λ (l : List Turn) (e : HowEnded). record { turns = l; ended = e }) turns end)) is
 
 -- ---- the tester ends it
 
@@ -120,7 +122,7 @@ front_goes n parts h =
     let later = joined_talk (drop n parts) in
     subst (λ (l : List Entry). AllByRecursion PeerGoesOn l) (ap (λ (l : List Entry). take (length front) l) (talk_parts n parts) ∙ take-append_seam front later) (all_taken (length front) (joined_talk parts) h)
 
-by_tester : EchoLaws → (turns : List (List (List ℕ))) (talk : List Entry) (transcript : Transcript) → EndsByTester turns talk transcript → IsEchoTalk talk → AreBytes (fed_in talk) → IsEchoTranscript transcript
+by_tester : EchoLaws → (turns : List (List (List ℕ))) (talk : List Entry) (transcript : Transcript) → EndsByTester turns talk transcript → IsEchoTalk talk → AreBytes (fed_in talk) → IsEchoTranscript Server transcript
 by_tester laws turns talk transcript r echo bytes =
     let finish = Finished r.left ∷ [] in
     let whole : HasEchoedTalk (joined_talk r.parts ++ finish) = subst (λ (l : List Entry). HasEchoedTalk l) (take_all (length talk) talk (omega arith) ∙ r.talk_is) (echo (length talk) (omega arith)) in
@@ -171,7 +173,7 @@ goes_before n parts before last is less goes =
     sym (take-append-le size before (last ∷ []) short) ∙ (ap (λ (l : List Entry). take size l) (sym is ∙ talk_parts n parts) ∙ take-append_seam front (joined_talk (drop n parts))) in
     subst (λ (l : List Entry). AllByRecursion PeerGoesOn l) same (all_taken size before goes)
 
-by_peer : EchoLaws → (turns : List (List (List ℕ))) (talk : List Entry) (transcript : Transcript) → EndsByPeer turns talk transcript → IsEchoTalk talk → AreBytes (fed_in talk) → IsEchoTranscript transcript
+by_peer : EchoLaws → (turns : List (List (List ℕ))) (talk : List Entry) (transcript : Transcript) → EndsByPeer turns talk transcript → IsEchoTalk talk → AreBytes (fed_in talk) → IsEchoTranscript Server transcript
 by_peer laws turns talk transcript r echo bytes =
     let echoed : (n : ℕ) → HasEchoedTalk (joined_talk (take n r.parts)) = after_turns talk [] r.parts (r.talk_is ∙ sym (append-nil (joined_talk r.parts))) echo in
     let count = length r.parts in
@@ -186,6 +188,6 @@ by_peer laws turns talk transcript r echo bytes =
     (ap (λ b. cond b Peer Tester) (sym over)))
 
 -- the transcript of a run in an echo's talk
-pub echo_transcript : EchoLaws → (turns : List (List (List ℕ))) (talk : List Entry) (transcript : Transcript) → IsRunOf turns talk transcript → IsEchoTalk talk → AreBytes (fed_in talk) → IsEchoTranscript transcript
+pub echo_transcript : EchoLaws → (turns : List (List (List ℕ))) (talk : List Entry) (transcript : Transcript) → IsRunOf turns talk transcript → IsEchoTalk talk → AreBytes (fed_in talk) → IsEchoTranscript Server transcript
 echo_transcript laws turns talk transcript (inl r) echo bytes = by_tester laws turns talk transcript r echo bytes
 echo_transcript laws turns talk transcript (inr r) echo bytes = by_peer laws turns talk transcript r echo bytes

@@ -14,7 +14,8 @@ use Rattle.ws_session.specs.Exchange.{SessionValue, Exchange, HasExchanged, stat
 use Rattle.ws_session.specs.Taking.{TakeCall, TakesAll, HasTakenAll, events_in}
 use Rattle.ws_session.specs.Sends.{most_limits}
 use Rattle.ws_session.specs.Validity.{AreValidFrames}
-use Rattle.ws_peer.specs.Echoes.{HasEchoed, IsEchoAfter, reply_bytes}
+use Rattle.ws_suite.specs.Fairness.{echo_bytes}
+use Rattle.ws_peer.specs.Echoes.{HasEchoed, IsEchoAfter}
 use Rattle.ws_peer.specs.InnerEchoLaws.{EchoLaws}
 
 pub nothing_is_valid : AreValidFrames most_limits []
@@ -102,13 +103,13 @@ has_echoed laws role limits key session bytes put ended is =
     }
 
 -- the replies to the front of some bytes begin the replies to all of them
-pub front_begins : EchoLaws → (role : Role) (limits : LimitsValue) (key front later put all : List ℕ) (events : List Event) → HasEvents role limits front events → put ≡ reply_bytes role key events
-    → (others : List Event) → HasEvents role limits (front ++ later) others → all ≡ reply_bytes role key others → (rest : List ℕ) × (all ≡ put ++ rest)
+pub front_begins : EchoLaws → (role : Role) (limits : LimitsValue) (key front later put all : List ℕ) (events : List Event) → HasEvents role limits front events → put ≡ echo_bytes role key events
+    → (others : List Event) → HasEvents role limits (front ++ later) others → all ≡ echo_bytes role key others → (rest : List ℕ) × (all ≡ put ++ rest)
 front_begins laws role limits key front later put all events has is others more are =
     let (next, parts) = laws.go_on role limits front later events others has more in
     let replied : List Frame = replies_by echo_reply_to (echo_replies_of [] events) next in (
       stream_bytes (map (under_key role key) replied),
-      are ∙ ap (λ (l : List Event). reply_bytes role key l) parts ∙ ap (λ (l : List Frame). stream_bytes (map (under_key role key) l)) (laws.replies events next)
+      are ∙ ap (λ (l : List Event). echo_bytes role key l) parts ∙ ap (λ (l : List Frame). stream_bytes (map (under_key role key) l)) (laws.replies events next)
           ∙ put_more role key (echo_replies_of [] events) replied ∙ ap (λ (l : List ℕ). l ++ stream_bytes (map (under_key role key) replied)) (sym is),
     )
 

@@ -1,6 +1,7 @@
 //! A script run over a new echo (RFC 6455 sections 5.4 to 5.6).
 
 ghost use Rattle.std.specs.Prelude.{IfOk};
+ghost use Rattle.ws_wire.specs.declared.role.Role.TheVariants.{Server};
 ghost use Rattle.ws_scripts.specs.Scripts.{CanBeRun};
 ghost use Rattle.ws_suite.specs.declared.verdict.Verdict.TheVariants.{Pass};
 ghost use Rattle.ws_suite.specs.Verdicts.{IsVerdictOf};
@@ -18,7 +19,7 @@ use ws_suite::{Case, Transcript};
 pub fn run_over_echo(alloc: Global, case: &Case, key: [u8; 4]) -> Result<Transcript, NoMemory>
     requires { CanBeRun case.now }
     ensures run { IfOk result (λ transcript. IsEchoRun case.now key transcript) }
-    ensures passes { IfOk result (λ transcript. IsVerdictOf transcript Pass) }
+    ensures passes { IfOk result (λ transcript. IsVerdictOf Server transcript Pass) }
 {
     an_echos_run_passes();
     let mut peer = EchoPeer::new(alloc);

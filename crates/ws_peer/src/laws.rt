@@ -1,6 +1,7 @@
 //! Laws over the definitions, each the contract of a function that does nothing.
 
 ghost use Rattle.std.specs.Prelude.{ℕ, List};
+ghost use Rattle.ws_wire.specs.declared.role.Role.TheVariants.{Server};
 ghost use Rattle.ws_wire.specs.Header.{AreBytes};
 ghost use Rattle.ws_scripts.specs.declared.transcript.Transcript.{Transcript};
 ghost use Rattle.ws_suite.specs.declared.verdict.Verdict.TheVariants.{Pass};
@@ -16,7 +17,7 @@ use ws_suite::laws::an_echos_transcript_passes;
 /// the verdict Pass. `run_case` says of each peer which talk it had.
 pub fn an_echos_run_passes()
     ensures { (turns : List (List (List ℕ))) (talk : List Entry) (transcript : Transcript) →
-        IsRunOf turns talk transcript → IsEchoTalk talk → AreBytes (fed_in talk) → IsVerdictOf transcript Pass }
+        IsRunOf turns talk transcript → IsEchoTalk talk → AreBytes (fed_in talk) → IsVerdictOf Server transcript Pass }
 {
     echo_laws();
     an_echos_transcript_passes();

@@ -2,7 +2,7 @@
 use Rattle.std.proofs.Common.{◌≡◌, ◌∙◌, ℕ, zero, suc, ◌+◌, ◌<◌, Bool, true, false, cond, List, [], ◌∷◌, ◌++◌, length, map, take, flat_map, Some, None, ap, ap₂, sym, refl, arith, append-nil}
 use Rattle.std.proofs.lemmas.List.{map-append}
 use Rattle.std.specs.Prelude.{◌||◌}
-use Rattle.ws_wire.specs.declared.role.Role.TheVariants.{Server}
+use Rattle.ws_wire.specs.declared.role.Role.{Role}
 use Rattle.ws_wire.specs.Frame.{Frame, KeyedFrame}
 use Rattle.ws_session.specs.declared.event.Event.{Event}
 use Rattle.ws_session.specs.declared.event.Event.TheVariants as event
@@ -23,21 +23,21 @@ use Rattle.ws_suite.proofs.AnsweredEvents.{AllWhole, OnlyLastEnds, all_both, clo
 
 -- ---- the frames of each turn
 
-abbrev pub unmasked : List Frame → List KeyedFrame
-unmasked frames = map (under_key Server []) frames
+abbrev pub keyed : Role → List ℕ → List Frame → List KeyedFrame
+keyed role key frames = map (under_key role key) frames
 
 -- the answers of each turn, after these frames
-abbrev pub answers_by : List Frame → List (List Event) → List (List KeyedFrame)
-answers_by sent [] = []
-answers_by sent (events ∷ turns) = unmasked (echo_replies_of sent events) ∷ answers_by (sent ++ echo_replies_of sent events) turns
+abbrev pub answers_by : Role → List ℕ → List Frame → List (List Event) → List (List KeyedFrame)
+answers_by role key sent [] = []
+answers_by role key sent (events ∷ turns) = keyed role key (echo_replies_of sent events) ∷ answers_by role key (sent ++ echo_replies_of sent events) turns
 
-pub length-answers_by : (sent : List Frame) (turns : List (List Event)) → length (answers_by sent turns) ≡ length turns
-length-answers_by sent [] = refl
-length-answers_by sent (events ∷ turns) = ap suc (length-answers_by (sent ++ echo_replies_of sent events) turns)
+pub length-answers_by : (role : Role) (key : List ℕ) (sent : List Frame) (turns : List (List Event)) → length (answers_by role key sent turns) ≡ length turns
+length-answers_by role key sent [] = refl
+length-answers_by role key sent (events ∷ turns) = ap suc (length-answers_by role key (sent ++ echo_replies_of sent events) turns)
 
-pub frames_unmasked : (frames : List Frame) → frames_of (unmasked frames) ≡ frames
-frames_unmasked [] = refl
-frames_unmasked (f ∷ frames) = ap (λ (l : List Frame). f ∷ l) (frames_unmasked frames)
+pub frames_keyed : (role : Role) (key : List ℕ) (frames : List Frame) → frames_of (keyed role key frames) ≡ frames
+frames_keyed role key [] = refl
+frames_keyed role key (f ∷ frames) = ap (λ (l : List Frame). f ∷ l) (frames_keyed role key frames)
 
 either_none : (b : Bool) (none : List Frame) → cond b none none ≡ none
 either_none true none = refl
@@ -47,14 +47,14 @@ none_for_none : (sent : List Frame) → echo_replies_of sent [] ≡ []
 none_for_none sent = either_none (has_close sent) []
 
 -- those of the first turns are the echo's answers to them
-pub answers_so_far : EchoReplyLaws → (n : ℕ) (sent : List Frame) (turns : List (List Event)) → joined_frames (take n (answers_by sent turns)) ≡ unmasked (echo_replies_of sent (joined_events (take n turns)))
-answers_so_far laws zero sent turns = ap (λ (l : List Frame). unmasked l) (sym (none_for_none sent))
-answers_so_far laws (suc n) sent [] = ap (λ (l : List Frame). unmasked l) (sym (none_for_none sent))
-answers_so_far laws (suc n) sent (events ∷ turns) =
+pub answers_so_far : EchoReplyLaws → (role : Role) (key : List ℕ) (n : ℕ) (sent : List Frame) (turns : List (List Event)) → joined_frames (take n (answers_by role key sent turns)) ≡ keyed role key (echo_replies_of sent (joined_events (take n turns)))
+answers_so_far laws role key zero sent turns = ap (λ (l : List Frame). keyed role key l) (sym (none_for_none sent))
+answers_so_far laws role key (suc n) sent [] = ap (λ (l : List Frame). keyed role key l) (sym (none_for_none sent))
+answers_so_far laws role key (suc n) sent (events ∷ turns) =
     let first = echo_replies_of sent events in
     let later = joined_events (take n turns) in
-    ap (λ (l : List KeyedFrame). unmasked first ++ l) (answers_so_far laws n (sent ++ first) turns)
-    ∙ (sym (map-append (under_key Server []) first (echo_replies_of (sent ++ first) later)) ∙ ap (λ (l : List Frame). unmasked l) (sym (laws.go_on sent events later)))
+    ap (λ (l : List KeyedFrame). keyed role key first ++ l) (answers_so_far laws role key n (sent ++ first) turns)
+    ∙ (sym (map-append (under_key role key) first (echo_replies_of (sent ++ first) later)) ∙ ap (λ (l : List Frame). keyed role key l) (sym (laws.go_on sent events later)))
 
 -- ---- what is told of them
 
@@ -62,35 +62,35 @@ abbrev pub answered : List (List Event) → List (List Event)
 answered turns = map (λ (events : List Event). flat_map event_back events) turns
 
 -- a turn in which the echo puts these frames
-turn_told : (events : List Event) (turns : List (List Event)) (sent frames : List Frame) → echo_replies_of sent events ≡ frames → events_after sent frames ≡ flat_map event_back events
-    → events_by (sent ++ frames) (answers_by (sent ++ frames) turns) ≡ answered turns → events_by sent (answers_by sent (events ∷ turns)) ≡ answered (events ∷ turns)
-turn_told events turns sent frames first here later =
-    ap (λ (l : List Frame). events_after sent (frames_of (unmasked l)) ∷ events_by (sent ++ frames_of (unmasked l)) (answers_by (sent ++ l) turns)) first
-    ∙ (ap (λ (l : List Frame). events_after sent l ∷ events_by (sent ++ l) (answers_by (sent ++ frames) turns)) (frames_unmasked frames)
+turn_told : (role : Role) (key : List ℕ) (events : List Event) (turns : List (List Event)) (sent frames : List Frame) → echo_replies_of sent events ≡ frames → events_after sent frames ≡ flat_map event_back events
+    → events_by (sent ++ frames) (answers_by role key (sent ++ frames) turns) ≡ answered turns → events_by sent (answers_by role key sent (events ∷ turns)) ≡ answered (events ∷ turns)
+turn_told role key events turns sent frames first here later =
+    ap (λ (l : List Frame). events_after sent (frames_of (keyed role key l)) ∷ events_by (sent ++ frames_of (keyed role key l)) (answers_by role key (sent ++ l) turns)) first
+    ∙ (ap (λ (l : List Frame). events_after sent l ∷ events_by (sent ++ l) (answers_by role key (sent ++ frames) turns)) (frames_keyed role key frames)
     ∙ ap₂ (λ (x : List Event) (xs : List (List Event)). x ∷ xs) here later)
 
 -- once its close was sent, nothing was told of what comes, and it puts nothing
-none_told : (turns : List (List Event)) (sent : List Frame) → has_close sent ≡ true → joined_events turns ≡ [] → events_by sent (answers_by sent turns) ≡ answered turns
-none_told [] sent closed none = refl
-none_told (events ∷ turns) sent closed none =
-    turn_told events turns sent [] (ap (λ b. cond b [] (plain_answers events)) closed)
+none_told : (role : Role) (key : List ℕ) (turns : List (List Event)) (sent : List Frame) → has_close sent ≡ true → joined_events turns ≡ [] → events_by sent (answers_by role key sent turns) ≡ answered turns
+none_told role key [] sent closed none = refl
+none_told role key (events ∷ turns) sent closed none =
+    turn_told role key events turns sent [] (ap (λ b. cond b [] (plain_answers events)) closed)
     (ap (λ (l : List Event). flat_map event_back l) (sym (empty_front events (joined_events turns) none)))
-    (none_told turns (sent ++ []) (ap (λ (l : List Frame). has_close l) (append-nil sent) ∙ closed) (empty_back events (joined_events turns) none))
+    (none_told role key turns (sent ++ []) (ap (λ (l : List Frame). has_close l) (append-nil sent) ∙ closed) (empty_back events (joined_events turns) none))
 
-turn_by : (b : Bool) (events : List Event) (turns : List (List Event)) (sent : List Frame) → has_close (plain_answers events) ≡ b → AllWhole sent → has_close sent ≡ false → OnlyLastEnds (events ++ joined_events turns)
-    → (has_close (sent ++ plain_answers events) ≡ false → events_by (sent ++ plain_answers events) (answers_by (sent ++ plain_answers events) turns) ≡ answered turns)
-    → events_by (sent ++ plain_answers events) (answers_by (sent ++ plain_answers events) turns) ≡ answered turns
-turn_by true events turns sent closes whole goes only later =
-    none_told turns (sent ++ plain_answers events) (close_after sent (plain_answers events) goes ∙ closes) (end_stops events (joined_events turns) only (close_answers_end events closes))
-turn_by false events turns sent closes whole goes only later = later (close_after sent (plain_answers events) goes ∙ closes)
+turn_by : (role : Role) (key : List ℕ) (b : Bool) (events : List Event) (turns : List (List Event)) (sent : List Frame) → has_close (plain_answers events) ≡ b → AllWhole sent → has_close sent ≡ false → OnlyLastEnds (events ++ joined_events turns)
+    → (has_close (sent ++ plain_answers events) ≡ false → events_by (sent ++ plain_answers events) (answers_by role key (sent ++ plain_answers events) turns) ≡ answered turns)
+    → events_by (sent ++ plain_answers events) (answers_by role key (sent ++ plain_answers events) turns) ≡ answered turns
+turn_by role key true events turns sent closes whole goes only later =
+    none_told role key turns (sent ++ plain_answers events) (close_after sent (plain_answers events) goes ∙ closes) (end_stops events (joined_events turns) only (close_answers_end events closes))
+turn_by role key false events turns sent closes whole goes only later = later (close_after sent (plain_answers events) goes ∙ closes)
 
 -- the events of each turn's answers are those that answer this turn's events
-pub told_by_turn : (turns : List (List Event)) (sent : List Frame) → AllWhole sent → has_close sent ≡ false → OnlyLastEnds (joined_events turns) → events_by sent (answers_by sent turns) ≡ answered turns
-told_by_turn [] sent whole goes only = refl
-told_by_turn (events ∷ turns) sent whole goes only =
-    turn_told events turns sent (plain_answers events) (ap (λ b. cond b [] (plain_answers events)) goes) (told_back sent events whole (only_front events (joined_events turns) only))
-    (turn_by (has_close (plain_answers events)) events turns sent refl whole goes only
-    (λ still. told_by_turn turns (sent ++ plain_answers events) (all_both sent (plain_answers events) whole (whole_answers events)) still (only_back events (joined_events turns) only)))
+pub told_by_turn : (role : Role) (key : List ℕ) (turns : List (List Event)) (sent : List Frame) → AllWhole sent → has_close sent ≡ false → OnlyLastEnds (joined_events turns) → events_by sent (answers_by role key sent turns) ≡ answered turns
+told_by_turn role key [] sent whole goes only = refl
+told_by_turn role key (events ∷ turns) sent whole goes only =
+    turn_told role key events turns sent (plain_answers events) (ap (λ b. cond b [] (plain_answers events)) goes) (told_back sent events whole (only_front events (joined_events turns) only))
+    (turn_by role key (has_close (plain_answers events)) events turns sent refl whole goes only
+    (λ still. told_by_turn role key turns (sent ++ plain_answers events) (all_both sent (plain_answers events) whole (whole_answers events)) still (only_back events (joined_events turns) only)))
 
 -- ---- what is got is what is due
 

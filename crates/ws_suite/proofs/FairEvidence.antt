@@ -4,7 +4,7 @@ use Rattle.std.proofs.lemmas.Bool.{cases_lt}
 use Rattle.std.proofs.lemmas.List.{length-map, take_all}
 use Rattle.std.proofs.Math.Seq.{drop-append_seam}
 use Rattle.std.specs.List.{AllByRecursion, concat, last_or}
-use Rattle.ws_wire.specs.declared.role.Role.TheVariants.{Client, Server}
+use Rattle.ws_wire.specs.declared.role.Role.{Role}
 use Rattle.ws_wire.specs.Frame.{Frame, KeyedFrame, FitsTheLayout, stream_bytes}
 use Rattle.ws_session.specs.declared.event.Event.{Event}
 use Rattle.ws_session.specs.Validity.{AreValidFrames}
@@ -18,19 +18,19 @@ use Rattle.ws_scripts.specs.declared.transcript.Transcript.{Transcript}
 use Rattle.ws_suite.specs.declared.verdict.Verdict.TheVariants.{Pass}
 use Rattle.ws_suite.specs.declared.evidence.InTurn.{InTurn}
 use Rattle.ws_suite.specs.declared.evidence.Ending.{Ending}
-use Rattle.ws_suite.specs.Evidence.{AreEventsByTurn, HasRest, IsDirectionOf, IsEvidenceOf, by_turn, due_for, ending_in, got_in, got_turns, joined_events, sent_turns}
+use Rattle.ws_suite.specs.Evidence.{AreEventsByTurn, HasRest, IsDirectionOf, IsEvidenceOf, by_turn, due_for, ending_in, got_in, got_turns, joined_events, other_role, sent_turns}
 use Rattle.ws_suite.specs.Verdicts.{IsVerdictOf}
 use Rattle.ws_suite.specs.Fairness.{IsEchoTranscript, echo_bytes, ends_echo, got_within, sent_within}
 use Rattle.ws_suite.specs.InnerEchoReplyLaws.{EchoReplyLaws}
 use Rattle.ws_suite.proofs.ValidDirections.{bytes_of_turns, events_by, joined_frames, valid_direction}
 use Rattle.ws_suite.proofs.AnsweredEvents.{OnlyLastEnds, has_end, over_by_end}
-use Rattle.ws_suite.proofs.AnsweredTurns.{answered, answers_by, answers_so_far, end_when_due, ends_nowhere, ends_somewhere, frames_unmasked, got_when_due, length-answers_by, told_by_turn, unmasked}
+use Rattle.ws_suite.proofs.AnsweredTurns.{answered, answers_by, answers_so_far, end_when_due, ends_nowhere, ends_somewhere, frames_keyed, got_when_due, keyed, length-answers_by, told_by_turn}
 use Rattle.ws_suite.proofs.FairVerdict.{EndsRightly, answered_end, fully_answered, fully_answered_passes}
 use Rattle.ws_suite.proofs.TurnsAdded.{Grows, added_from, added_so_far, last_of_map, length-added, one_turn_more, only_by, rest_told, same_parts}
 
 -- ---- a transcript of an echo
 
-module _ (laws : EchoReplyLaws) (transcript : Transcript) (h : IsEchoTranscript transcript) where
+module _ (laws : EchoReplyLaws) (tested : Role) (transcript : Transcript) (h : IsEchoTranscript tested transcript) where
   abbrev count : ℕ
   count = length transcript.turns
 
@@ -50,14 +50,14 @@ module _ (laws : EchoReplyLaws) (transcript : Transcript) (h : IsEchoTranscript 
   nothing_valid = record { each = tt; sizes = tt; close = tt; finished = tt; unfinished = record { frames = tt; size = omega arith; text = tt } }
 
   first_none : h.events 0 ≡ []
-  first_none = laws.session.one_list Server most_limits [] (h.events 0) [] (h.has_events 0 (omega arith)) (laws.frames.told Server most_limits most_limits 0 [] tt tt nothing_valid)
+  first_none = laws.session.one_list tested most_limits [] (h.events 0) [] (h.has_events 0 (omega arith)) (laws.frames.told tested most_limits most_limits 0 [] tt tt nothing_valid)
 
   grown : (n : ℕ) → n < count → Grows h.events n
   grown n less =
       let more = one_turn_more n sents in
       let next : n + 1 ≡ suc n = omega arith in
-      let (later, e) = laws.session.go_on Server most_limits (sent_within transcript n) more.0 (h.events n) (h.events (n + 1)) (h.has_events n (omega (arith, less)))
-      (subst (λ (l : List ℕ). HasEvents Server most_limits l (h.events (n + 1))) (ap (λ k. concat (take k sents)) next ∙ more.1) (h.has_events (n + 1) (omega (arith, less)))) in
+      let (later, e) = laws.session.go_on tested most_limits (sent_within transcript n) more.0 (h.events n) (h.events (n + 1)) (h.has_events n (omega (arith, less)))
+      (subst (λ (l : List ℕ). HasEvents tested most_limits l (h.events (n + 1))) (ap (λ k. concat (take k sents)) next ∙ more.1) (h.has_events (n + 1) (omega (arith, less)))) in
       e ∙ ap (λ (l : List Event). h.events n ++ l) (sym (ap (λ (l : List Event). drop (length (h.events n)) l) e ∙ drop-append_seam (h.events n) later))
 
   -- the events of each turn
@@ -76,53 +76,53 @@ module _ (laws : EchoReplyLaws) (transcript : Transcript) (h : IsEchoTranscript 
   all_events : joined_events turns ≡ h.events count
   all_events = ap (λ (l : List (List Event)). joined_events l) (sym (take_all count turns (omega (arith, turns_as_many)))) ∙ so_far count (omega arith)
 
-  are_sent : AreEventsByTurn Server sents turns
+  are_sent : AreEventsByTurn tested sents turns
   are_sent = record {
     each = turns_as_many ∙ sym as_many;
-    so_far = λ n less. subst (λ (l : List Event). HasEvents Server most_limits (concat (take n sents)) l) (sym (so_far n (omega (arith, less, as_many)))) (h.has_events n (omega (arith, less, as_many)));
+    so_far = λ n less. subst (λ (l : List Event). HasEvents tested most_limits (concat (take n sents)) l) (sym (so_far n (omega (arith, less, as_many)))) (h.has_events n (omega (arith, less, as_many)));
   }
 
-  all_sent : HasEvents Server most_limits (concat sents) (joined_events turns)
+  all_sent : HasEvents tested most_limits (concat sents) (joined_events turns)
   all_sent =
-      subst (λ (l : List (List ℕ)). HasEvents Server most_limits (concat l) (joined_events turns)) (take_all count sents (omega (arith, as_many)))
-      (subst (λ (l : List Event). HasEvents Server most_limits (sent_within transcript count) l) (sym all_events) (h.has_events count (omega arith)))
+      subst (λ (l : List (List ℕ)). HasEvents tested most_limits (concat l) (joined_events turns)) (take_all count sents (omega (arith, as_many)))
+      (subst (λ (l : List Event). HasEvents tested most_limits (sent_within transcript count) l) (sym all_events) (h.has_events count (omega arith)))
 
   only : OnlyLastEnds (joined_events turns)
-  only = only_by laws (concat sents) [] (joined_events turns) all_sent
+  only = only_by laws tested (concat sents) [] (joined_events turns) all_sent
 
   -- ---- what was got
 
   abbrev frames : List (List KeyedFrame)
-  frames = answers_by [] turns
+  frames = answers_by tested h.key [] turns
 
   frames_as_many : length frames ≡ count
-  frames_as_many = length-answers_by [] turns ∙ turns_as_many
+  frames_as_many = length-answers_by tested h.key [] turns ∙ turns_as_many
 
   bytes_so_far : (n : ℕ) → n ≤ count → concat (take n (map stream_bytes frames)) ≡ got_within transcript n
   bytes_so_far n less =
       bytes_of_turns n frames
-      ∙ (ap (λ (l : List KeyedFrame). stream_bytes l) (answers_so_far laws n [] turns)
-      ∙ (ap (λ (l : List Event). echo_bytes l) (so_far n less) ∙ sym (h.got n less)))
+      ∙ (ap (λ (l : List KeyedFrame). stream_bytes l) (answers_so_far laws tested h.key n [] turns)
+      ∙ (ap (λ (l : List Event). echo_bytes tested h.key l) (so_far n less) ∙ sym (h.got n less)))
 
   gots_are : gots ≡ map stream_bytes frames
   gots_are = same_parts gots (map stream_bytes frames) (got_as_many ∙ sym (length-map frames stream_bytes ∙ frames_as_many)) (λ n less. sym (bytes_so_far n (omega (arith, less, got_as_many))))
 
-  all_frames : joined_frames frames ≡ unmasked (echo_replies_of [] (joined_events turns))
+  all_frames : joined_frames frames ≡ keyed tested h.key (echo_replies_of [] (joined_events turns))
   all_frames =
       ap (λ (l : List (List KeyedFrame)). joined_frames l) (sym (take_all count frames (omega (arith, frames_as_many))))
-      ∙ (answers_so_far laws count [] turns ∙ ap (λ (l : List (List Event)). unmasked (echo_replies_of [] (joined_events l))) (take_all count turns (omega (arith, turns_as_many))))
+      ∙ (answers_so_far laws tested h.key count [] turns ∙ ap (λ (l : List (List Event)). keyed tested h.key (echo_replies_of [] (joined_events l))) (take_all count turns (omega (arith, turns_as_many))))
 
   layout : AllByRecursion FitsTheLayout (joined_frames frames)
-  layout = subst (λ (l : List KeyedFrame). AllByRecursion FitsTheLayout l) (sym all_frames) (laws.layout (concat sents) (joined_events turns) all_sent)
+  layout = subst (λ (l : List KeyedFrame). AllByRecursion FitsTheLayout l) (sym all_frames) (laws.layout tested h.key (concat sents) (joined_events turns) all_sent h.is_key)
 
-  keys : KeysFit Client (joined_frames frames)
-  keys = subst (λ (l : List KeyedFrame). KeysFit Client l) (sym all_frames) (laws.keys (echo_replies_of [] (joined_events turns)))
+  keys : KeysFit (other_role tested) (joined_frames frames)
+  keys = subst (λ (l : List KeyedFrame). KeysFit (other_role tested) l) (sym all_frames) (laws.keys tested h.key (echo_replies_of [] (joined_events turns)))
 
   valid : AreValidFrames most_limits (frames_of (joined_frames frames))
-  valid = subst (λ (l : List Frame). AreValidFrames most_limits l) (sym (ap (λ (l : List KeyedFrame). frames_of l) all_frames ∙ frames_unmasked (echo_replies_of [] (joined_events turns)))) (laws.valid (concat sents) (joined_events turns) all_sent)
+  valid = subst (λ (l : List Frame). AreValidFrames most_limits l) (sym (ap (λ (l : List KeyedFrame). frames_of l) all_frames ∙ frames_keyed tested h.key (echo_replies_of [] (joined_events turns)))) (laws.valid tested (concat sents) (joined_events turns) all_sent)
 
   told : events_by [] frames ≡ answered turns
-  told = told_by_turn turns [] tt refl only
+  told = told_by_turn tested h.key turns [] tt refl only
 
   -- ---- the end
 
@@ -140,7 +140,7 @@ module _ (laws : EchoReplyLaws) (transcript : Transcript) (h : IsEchoTranscript 
     | inr late ↦ late
     | inl early ↦
         let same = so_far (n + 1) (omega (arith, less)) in
-        let lasts : OnlyLastEnds (h.events (n + 1)) = only_by laws (sent_within transcript (n + 1)) [] (h.events (n + 1)) (h.has_events (n + 1) (omega (arith, less))) in
+        let lasts : OnlyLastEnds (h.events (n + 1)) = only_by laws tested (sent_within transcript (n + 1)) [] (h.events (n + 1)) (h.has_events (n + 1) (omega (arith, less))) in
         let over : ends_echo (h.events (n + 1)) ≡ true = over_by_end (echo_replies_of [] (h.events (n + 1))) (h.events (n + 1)) lasts ∙ (ap (λ (l : List Event). has_end l) (sym same) ∙ ends) in
         absurd (let wrong : true ≡ false = sym over ∙ h.goes_on (n + 1) early in cc)
   ]
@@ -154,8 +154,8 @@ module _ (laws : EchoReplyLaws) (transcript : Transcript) (h : IsEchoTranscript 
 
   -- ---- the verdict
 
-  rest : (b : Bool) × ((b ≡ true) ↔ HasRest Server (concat sents) (joined_events turns))
-  rest = rest_told laws (concat sents) (joined_events turns) h.bytes all_sent
+  rest : (b : Bool) × ((b ≡ true) ↔ HasRest tested (concat sents) (joined_events turns))
+  rest = rest_told laws tested (concat sents) (joined_events turns) h.bytes all_sent
 
   got_end : answered_end due_end ≡ last_or None (by_turn ending_in 0 (events_by [] frames))
   got_end = sym (ap (λ (l : List (List Event)). last_or None (by_turn ending_in 0 l)) told ∙ (ap (λ (l : List (InTurn Ending)). last_or None l) (end_when_due 0 turns) ∙ last_of_map None (by_turn ending_in 0 turns)))
@@ -163,18 +163,18 @@ module _ (laws : EchoReplyLaws) (transcript : Transcript) (h : IsEchoTranscript 
   got_replies : by_turn due_for 0 turns ≡ by_turn got_in 0 (events_by [] frames)
   got_replies = sym (ap (λ (l : List (List Event)). by_turn got_in 0 l) told ∙ got_when_due 0 turns)
 
-  evidence_is : IsEvidenceOf transcript (fully_answered (by_turn due_for 0 turns) due_end rest.0 count transcript.ended)
+  evidence_is : IsEvidenceOf tested transcript (fully_answered (by_turn due_for 0 turns) due_end rest.0 count transcript.ended)
   evidence_is = record {
     due = record { events = turns; are_events = are_sent; replies = refl; ending = refl; has_rest = rest.1 };
-    got = subst (λ (l : List (List ℕ)). IsDirectionOf Client got_in l (record { replies = by_turn due_for 0 turns; ending = answered_end due_end; has_rest = false })) (sym gots_are)
-        (valid_direction laws.frames Client frames layout keys valid got_in (record { replies = by_turn due_for 0 turns; ending = answered_end due_end; has_rest = false }) got_replies got_end refl);
+    got = subst (λ (l : List (List ℕ)). IsDirectionOf (other_role tested) got_in l (record { replies = by_turn due_for 0 turns; ending = answered_end due_end; has_rest = false })) (sym gots_are)
+        (valid_direction laws.frames (other_role tested) frames layout keys valid got_in (record { replies = by_turn due_for 0 turns; ending = answered_end due_end; has_rest = false }) got_replies got_end refl);
     turns = refl;
     ended = refl;
   }
 
-  pub echo_passes : IsVerdictOf transcript Pass
+  pub echo_passes : IsVerdictOf tested transcript Pass
   echo_passes = record {
     evidence = fully_answered (by_turn due_for 0 turns) due_end rest.0 count transcript.ended;
     is_evidence = evidence_is;
-    is_verdict = fully_answered_passes (by_turn due_for 0 turns) rest.0 count transcript.ended due_end (ends_by (has_end (joined_events turns)) refl);
+    is_verdict = fully_answered_passes tested (by_turn due_for 0 turns) rest.0 count transcript.ended due_end (ends_by (has_end (joined_events turns)) refl);
   }

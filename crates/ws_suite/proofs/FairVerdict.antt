@@ -4,6 +4,7 @@ use Rattle.std.specs.Prelude.{◌||◌, is_some}
 use Rattle.std.proofs.lemmas.Bool.Decides.{nat_tests}
 use Rattle.std.proofs.lemmas.Slice.Eq.{bytes_eq-Decides}
 use Rattle.std.specs.List.{last_or, list_any, zip}
+use Rattle.ws_wire.specs.declared.role.Role.{Role}
 use Rattle.ws_scripts.specs.declared.transcript.Ended.{Ended}
 use Rattle.ws_scripts.specs.declared.transcript.Ended.TheVariants.{Tester, Peer}
 use Rattle.ws_suite.specs.declared.verdict.Verdict.TheVariants.{Pass}
@@ -88,12 +89,12 @@ fully_answered replies due has_rest turns ended = record {
   ended = ended;
 }
 
-module _ (replies : List (InTurn Reply)) (has_rest : Bool) (turns : ℕ) (ended : Ended) where
+module _ (tested : Role) (replies : List (InTurn Reply)) (has_rest : Bool) (turns : ℕ) (ended : Ended) where
   messages_right : (b : Bool) → MatchBool b (IsBeginningOf (bare (message_replies replies)) (bare (message_replies replies)) → ⊥) (bare (message_replies replies) ≢ bare (message_replies replies)) → ⊥
   messages_right true h = h ([], sym (append-nil (bare (message_replies replies))))
   messages_right false h = h refl
 
-  fails_nowhere : (due : Option (InTurn Ending)) → EndsRightly due turns ended → (why : FailWhy) → Fails (fully_answered replies due has_rest turns ended) why → ⊥
+  fails_nowhere : (due : Option (InTurn Ending)) → EndsRightly due turns ended → (why : FailWhy) → Fails tested (fully_answered replies due has_rest turns ended) why → ⊥
   fails_nowhere None right fail.NotFrames (inl h) = not_true false refl h
   fails_nowhere (Some due) right fail.NotFrames (inl h) = not_true false refl h
   fails_nowhere due right fail.NotFrames (inr (inl h)) = not_true false refl h.1
@@ -114,7 +115,7 @@ module _ (replies : List (InTurn Reply)) (has_rest : Bool) (turns : ℕ) (ended 
   fails_nowhere None right fail.End (inr h) = h.1 right
   fails_nowhere (Some due) right fail.End (inr h) = absurd (let no : Some due ≡ None = h.0 in cc)
 
-  nowhere_loose : (due : Option (InTurn Ending)) → EndsRightly due turns ended → (why : LooseWhy) → IsLoose (fully_answered replies due has_rest turns ended) why → ⊥
+  nowhere_loose : (due : Option (InTurn Ending)) → EndsRightly due turns ended → (why : LooseWhy) → IsLoose tested (fully_answered replies due has_rest turns ended) why → ⊥
   nowhere_loose due right loose.PongsSkipped h = omega (arith, h.0)
   nowhere_loose due right loose.PongElsewhere h = h (none_left_out (bare replies))
   nowhere_loose None right loose.OtherCode h = absurd (let no : None ≡ Some h.1 = h.4 in cc)
@@ -132,5 +133,5 @@ module _ (replies : List (InTurn Reply)) (has_rest : Bool) (turns : ℕ) (ended 
   nowhere_loose None right loose.BrokenEnd h = absurd (let no = sym right ∙ h in cc)
   nowhere_loose (Some due) right loose.BrokenEnd h = absurd (let no = sym right.0 ∙ h in cc)
 
-  pub fully_answered_passes : (due : Option (InTurn Ending)) → EndsRightly due turns ended → IsVerdictOn (fully_answered replies due has_rest turns ended) Pass
+  pub fully_answered_passes : (due : Option (InTurn Ending)) → EndsRightly due turns ended → IsVerdictOn tested (fully_answered replies due has_rest turns ended) Pass
   fully_answered_passes due right = (fails_nowhere due right, nowhere_loose due right)

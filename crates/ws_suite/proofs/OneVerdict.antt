@@ -60,8 +60,8 @@ module _ (laws : EventLaws) where
       ap₂ (λ (r : List (InTurn Reply)) (e : Option (InTurn Ending)). record { replies = r; ending = e; has_rest = a.has_rest }) replies ending
       ∙ ap (λ (r : Bool). record { replies = b.replies; ending = b.ending; has_rest = r }) has_rest
 
-  one_evidence : (transcript : Transcript) (a b : Evidence) → IsEvidenceOf transcript a → IsEvidenceOf transcript b → a ≡ b
-  one_evidence transcript a b p q =
+  one_evidence : (tested : Role) (transcript : Transcript) (a b : Evidence) → IsEvidenceOf tested transcript a → IsEvidenceOf tested transcript b → a ≡ b
+  one_evidence tested transcript a b p q =
       let due = one_direction _ _ _ a.due b.due p.due q.due in
       let got = one_direction _ _ _ a.got b.got p.got q.got in
       ap₂ (λ (d g : Direction). record { due = d; got = g; turns = a.turns; ended = a.ended }) due got
@@ -103,8 +103,8 @@ loose_is loose.LateEnd = refl
 loose_is loose.EchoShort = refl
 loose_is loose.BrokenEnd = refl
 
-one_lowest_fail : (x : Evidence) (a b : FailWhy) → IsLowestFail x a → IsLowestFail x b → a ≡ b
-one_lowest_fail x a b p q = elim (cases_lt (fail_number a) (fail_number b)) [
+one_lowest_fail : (tested : Role) (x : Evidence) (a b : FailWhy) → IsLowestFail tested x a → IsLowestFail tested x b → a ≡ b
+one_lowest_fail tested x a b p q = elim (cases_lt (fail_number a) (fail_number b)) [
   | inl lt ↦ absurd (q.1 a lt p.0)
   | inr le ↦ elim (cases_lt (fail_number b) (fail_number a)) [
     | inl lt ↦ absurd (p.1 b lt q.0)
@@ -114,8 +114,8 @@ one_lowest_fail x a b p q = elim (cases_lt (fail_number a) (fail_number b)) [
   ]
 ]
 
-one_lowest_loose : (x : Evidence) (a b : LooseWhy) → IsLowestLoose x a → IsLowestLoose x b → a ≡ b
-one_lowest_loose x a b p q = elim (cases_lt (loose_number a) (loose_number b)) [
+one_lowest_loose : (tested : Role) (x : Evidence) (a b : LooseWhy) → IsLowestLoose tested x a → IsLowestLoose tested x b → a ≡ b
+one_lowest_loose tested x a b p q = elim (cases_lt (loose_number a) (loose_number b)) [
   | inl lt ↦ absurd (q.1 a lt p.0)
   | inr le ↦ elim (cases_lt (loose_number b) (loose_number a)) [
     | inl lt ↦ absurd (p.1 b lt q.0)
@@ -125,18 +125,18 @@ one_lowest_loose x a b p q = elim (cases_lt (loose_number a) (loose_number b)) [
   ]
 ]
 
-one_on_evidence : (x : Evidence) (one other : Verdict) → IsVerdictOn x one → IsVerdictOn x other → one ≡ other
-one_on_evidence x (Fail a) (Fail b) p q = ap Fail (one_lowest_fail x a b p q)
-one_on_evidence x (Fail a) (Loose b) p q = absurd (q.0 a p.0)
-one_on_evidence x (Fail a) Pass p q = absurd (q.0 a p.0)
-one_on_evidence x (Loose a) (Fail b) p q = absurd (p.0 b q.0)
-one_on_evidence x (Loose a) (Loose b) p q = ap Loose (one_lowest_loose x a b p.1 q.1)
-one_on_evidence x (Loose a) Pass p q = absurd (q.1 a p.1.0)
-one_on_evidence x Pass (Fail b) p q = absurd (p.0 b q.0)
-one_on_evidence x Pass (Loose b) p q = absurd (p.1 b q.1.0)
-one_on_evidence x Pass Pass p q = refl
+one_on_evidence : (tested : Role) (x : Evidence) (one other : Verdict) → IsVerdictOn tested x one → IsVerdictOn tested x other → one ≡ other
+one_on_evidence tested x (Fail a) (Fail b) p q = ap Fail (one_lowest_fail tested x a b p q)
+one_on_evidence tested x (Fail a) (Loose b) p q = absurd (q.0 a p.0)
+one_on_evidence tested x (Fail a) Pass p q = absurd (q.0 a p.0)
+one_on_evidence tested x (Loose a) (Fail b) p q = absurd (p.0 b q.0)
+one_on_evidence tested x (Loose a) (Loose b) p q = ap Loose (one_lowest_loose tested x a b p.1 q.1)
+one_on_evidence tested x (Loose a) Pass p q = absurd (q.1 a p.1.0)
+one_on_evidence tested x Pass (Fail b) p q = absurd (p.0 b q.0)
+one_on_evidence tested x Pass (Loose b) p q = absurd (p.1 b q.1.0)
+one_on_evidence tested x Pass Pass p q = refl
 
-pub one_verdict_of : EventLaws → (transcript : Transcript) (one other : Verdict) → IsVerdictOf transcript one → IsVerdictOf transcript other → one ≡ other
-one_verdict_of laws transcript one other p q =
-    let same = one_evidence laws transcript q.evidence p.evidence q.is_evidence p.is_evidence in
-    one_on_evidence p.evidence one other p.is_verdict (subst (λ (x : Evidence). IsVerdictOn x other) same q.is_verdict)
+pub one_verdict_of : EventLaws → (tested : Role) (transcript : Transcript) (one other : Verdict) → IsVerdictOf tested transcript one → IsVerdictOf tested transcript other → one ≡ other
+one_verdict_of laws tested transcript one other p q =
+    let same = one_evidence laws tested transcript q.evidence p.evidence q.is_evidence p.is_evidence in
+    one_on_evidence tested p.evidence one other p.is_verdict (subst (λ (x : Evidence). IsVerdictOn tested x other) same q.is_verdict)

@@ -3,7 +3,7 @@ use Rattle.std.proofs.Common.{◌≡◌, ◌∙◌, ℕ, zero, suc, ◌+◌, ◌
 use Rattle.std.proofs.lemmas.Bool.{cases_lt}
 use Rattle.std.proofs.lemmas.List.{append_cancel_left, length-append, length-take-le, take-append-drop, take-append-le}
 use Rattle.std.specs.List.{concat, last_or}
-use Rattle.ws_wire.specs.declared.role.Role.TheVariants.{Server}
+use Rattle.ws_wire.specs.declared.role.Role.{Role}
 use Rattle.ws_wire.specs.Header.{AreBytes}
 use Rattle.ws_session.specs.declared.event.Event.{Event}
 use Rattle.ws_session.specs.declared.event.Event.TheVariants as event
@@ -73,44 +73,44 @@ none_left : {X : Type 0} (xs : List X) → length xs ≤ 0 → xs ≡ []
 none_left [] less = refl
 none_left (x ∷ xs) less = absurd (omega arith)
 
-module _ (laws : EchoReplyLaws) where
-  -- ---- what was sent to a server
+module _ (laws : EchoReplyLaws) (role : Role) where
+  -- ---- what was sent to the tested end
 
-  pub only_by : (bytes : List ℕ) (front es : List Event) → HasEvents Server most_limits bytes (front ++ es) → OnlyLastEnds es
+  pub only_by : (bytes : List ℕ) (front es : List Event) → HasEvents role most_limits bytes (front ++ es) → OnlyLastEnds es
   only_by bytes front [] has = tt
-  only_by bytes front (e ∷ es) has = (ends e has, only_by bytes (front ++ e ∷ []) es (subst (λ (l : List Event). HasEvents Server most_limits bytes l) (sym (append_assoc front (e ∷ []) es)) has))
+  only_by bytes front (e ∷ es) has = (ends e has, only_by bytes (front ++ e ∷ []) es (subst (λ (l : List Event). HasEvents role most_limits bytes l) (sym (append_assoc front (e ∷ []) es)) has))
     where
-      ends : (d : Event) → HasEvents Server most_limits bytes (front ++ d ∷ es) → is_end d ≡ true → es ≡ []
+      ends : (d : Event) → HasEvents role most_limits bytes (front ++ d ∷ es) → is_end d ≡ true → es ≡ []
       ends event.Part h is = absurd cc
       ends (event.Message message) h is = absurd cc
       ends (event.Ping payload) h is = absurd cc
       ends (event.Pong payload) h is = absurd cc
-      ends (event.Close close) h is = laws.close_last bytes front es close h
-      ends (event.Failed reason) h is = laws.fault_last bytes front es reason h
+      ends (event.Close close) h is = laws.close_last role bytes front es close h
+      ends (event.Failed reason) h is = laws.fault_last role bytes front es reason h
 
   -- whether bytes stand after the last event can be told
-  pub rest_told : (bytes : List ℕ) (events : List Event) → AreBytes bytes → HasEvents Server most_limits bytes events → (b : Bool) × ((b ≡ true) ↔ HasRest Server bytes events)
+  pub rest_told : (bytes : List ℕ) (events : List Event) → AreBytes bytes → HasEvents role most_limits bytes events → (b : Bool) × ((b ≡ true) ↔ HasRest role bytes events)
   rest_told bytes events are has = elim (cases_lt 0 (length bytes)) [
     | inr none ↦ (false, ((λ e. absurd cc), (λ r. absurd (omega (arith, r.fewer, none)))))
     | inl some ↦
         let n = length bytes - 1 in
         let parts = take-append-drop n bytes in
         let front = take n bytes in
-        let (es, told) = laws.some Server most_limits front (front_bytes front (drop n bytes) (subst (λ (l : List ℕ). AreBytes l) (sym parts) are)) in
-        let (later, e) = laws.session.go_on Server most_limits front (drop n bytes) es events told (subst (λ (l : List ℕ). HasEvents Server most_limits l events) (sym parts) has) in
+        let (es, told) = laws.some role most_limits front (front_bytes front (drop n bytes) (subst (λ (l : List ℕ). AreBytes l) (sym parts) are)) in
+        let (later, e) = laws.session.go_on role most_limits front (drop n bytes) es events told (subst (λ (l : List ℕ). HasEvents role most_limits l events) (sym parts) has) in
         elim (cases_lt 0 (length later)) [
           | inr none ↦
               let same : es ≡ events = sym (e ∙ (ap (λ (l : List Event). es ++ l) (none_left later none) ∙ append-nil es)) in
-              (true, ((λ t. record { n = n; fewer = omega (arith, some); same = subst (λ (l : List Event). HasEvents Server most_limits front l) same told }), (λ r. refl)))
+              (true, ((λ t. record { n = n; fewer = omega (arith, some); same = subst (λ (l : List Event). HasEvents role most_limits front l) same told }), (λ r. refl)))
           | inl more ↦ (false, ((λ t. absurd cc), (λ r. absurd (fewer_events bytes events es later r n refl told e more))))
         ]
   ]
     where
-      fewer_events : (all : List ℕ) (told es later : List Event) → HasRest Server all told → (n : ℕ) → n ≡ length all - 1 → HasEvents Server most_limits (take n all) es → told ≡ es ++ later → 0 < length later → ⊥
+      fewer_events : (all : List ℕ) (told es later : List Event) → HasRest role all told → (n : ℕ) → n ≡ length all - 1 → HasEvents role most_limits (take n all) es → told ≡ es ++ later → 0 < length later → ⊥
       fewer_events all told es later r n is has e more =
           let k = r.n in
           let size = length-take-le n all (omega (arith, is)) in
           let cut : take k (take n all) ≡ take k all = sym (take-append-le k (take n all) (drop n all) (omega (arith, r.fewer, is, size))) ∙ ap (λ (l : List ℕ). take k l) (take-append-drop n all) in
           let whole : take k all ++ drop k (take n all) ≡ take n all = ap (λ (l : List ℕ). l ++ drop k (take n all)) (sym cut) ∙ take-append-drop k (take n all) in
-          let (others, f) = laws.session.go_on Server most_limits (take k all) (drop k (take n all)) told es r.same (subst (λ (l : List ℕ). HasEvents Server most_limits l es) (sym whole) has) in
+          let (others, f) = laws.session.go_on role most_limits (take k all) (drop k (take n all)) told es r.same (subst (λ (l : List ℕ). HasEvents role most_limits l es) (sym whole) has) in
           omega (arith, more, ap (λ (l : List Event). length l) e, ap (λ (l : List Event). length l) f, length-append es later, length-append told others)

@@ -36,7 +36,7 @@ no_close : (due got : List (InTurn Reply)) (turns : ℕ) (end : Ended) → HasOt
 no_close due got turns end (inl h) = absurd (let wrong : false ≡ true = h.0 in cc)
 no_close due got turns end (inr h) = absurd (let wrong : false ≡ true = h.1 in cc)
 
-right_end : (due got : List (InTurn Reply)) (turns : ℕ) → HasOtherEnd (quiet due got turns Tester) → ⊥
+right_end : (due got : List (InTurn Reply)) (turns : ℕ) → HasOtherEnd Server (quiet due got turns Tester) → ⊥
 right_end due got turns (inl h) = h.0 refl
 right_end due got turns (inr h) = h.1 refl
 
@@ -46,7 +46,7 @@ abbrev answered : Ended → Evidence
 answered end = quiet (pong 0 [] ∷ []) (pong 0 [] ∷ []) 1 end
 
 -- of an answered ping no Fail applies but that of the end
-answered_fails : (end : Ended) (why : FailWhy) → why ≢ fail.End → Fails (answered end) why → ⊥
+answered_fails : (end : Ended) (why : FailWhy) → why ≢ fail.End → Fails Server (answered end) why → ⊥
 answered_fails end fail.NotFrames other h = are_frames (pong 0 [] ∷ []) (pong 0 [] ∷ []) 1 end h
 answered_fails end fail.Early other (inl h) = absurd (let wrong : false ≡ true = h in cc)
 answered_fails end fail.Early other (inr (inl h)) = absurd (let wrong : false ≡ true = h in cc)
@@ -57,7 +57,7 @@ answered_fails end fail.Pongs other (inr h) = h.2 (record { due = pong 0 []; is_
 answered_fails end fail.Close other h = no_close (pong 0 [] ∷ []) (pong 0 [] ∷ []) 1 end h
 answered_fails end fail.End other h = other refl
 
-passes : (why : FailWhy) → Fails (answered Tester) why → ⊥
+passes : (why : FailWhy) → Fails Server (answered Tester) why → ⊥
 passes fail.NotFrames h = answered_fails Tester fail.NotFrames (λ e. absurd cc) h
 passes fail.Early h = answered_fails Tester fail.Early (λ e. absurd cc) h
 passes fail.Messages h = answered_fails Tester fail.Messages (λ e. absurd cc) h
@@ -65,15 +65,15 @@ passes fail.Pongs h = answered_fails Tester fail.Pongs (λ e. absurd cc) h
 passes fail.Close h = answered_fails Tester fail.Close (λ e. absurd cc) h
 passes fail.End h = right_end (pong 0 [] ∷ []) (pong 0 [] ∷ []) 1 h
 
-nothing_loose : (why : LooseWhy) → IsLoose (answered Tester) why → ⊥
+nothing_loose : (why : LooseWhy) → IsLoose Server (answered Tester) why → ⊥
 nothing_loose loose.PongsSkipped h = omega (arith, h.0)
 nothing_loose loose.PongElsewhere h = h (inr ([], refl, refl))
 nothing_loose loose.OtherCode (got, due, code, e, f, g, other) = absurd cc
-nothing_loose loose.LateEnd (due, e, less) = absurd cc
+nothing_loose loose.LateEnd (due, e, less, rest) = absurd cc
 nothing_loose loose.EchoShort h = absurd (let wrong : false ≡ true = h.0 in cc)
 nothing_loose loose.BrokenEnd h = absurd (let wrong : Tester ≡ Broken = h in cc)
 
-below_end : (lower : FailWhy) → fail_number lower < 6 → Fails (answered Peer) lower → ⊥
+below_end : (lower : FailWhy) → fail_number lower < 6 → Fails Server (answered Peer) lower → ⊥
 below_end fail.NotFrames less h = answered_fails Peer fail.NotFrames (λ e. absurd cc) h
 below_end fail.Early less h = answered_fails Peer fail.Early (λ e. absurd cc) h
 below_end fail.Messages less h = answered_fails Peer fail.Messages (λ e. absurd cc) h
@@ -84,7 +84,7 @@ below_end fail.End less h = absurd (omega (arith, less))
 abbrev early : Evidence
 early = quiet (pong 1 [] ∷ []) (pong 0 [] ∷ []) 2 Tester
 
-below_early : (lower : FailWhy) → fail_number lower < 2 → Fails early lower → ⊥
+below_early : (lower : FailWhy) → fail_number lower < 2 → Fails Server early lower → ⊥
 below_early fail.NotFrames less h = are_frames (pong 1 [] ∷ []) (pong 0 [] ∷ []) 2 Tester h
 below_early fail.Early less h = absurd (omega (arith, less))
 below_early fail.Messages less h = absurd (omega (arith, less))
@@ -95,7 +95,7 @@ below_early fail.End less h = absurd (omega (arith, less))
 abbrev silent : Evidence
 silent = quiet (pong 0 [] ∷ []) [] 1 Tester
 
-below_pongs : (lower : FailWhy) → fail_number lower < 4 → Fails silent lower → ⊥
+below_pongs : (lower : FailWhy) → fail_number lower < 4 → Fails Server silent lower → ⊥
 below_pongs fail.NotFrames less h = are_frames (pong 0 [] ∷ []) [] 1 Tester h
 below_pongs fail.Early less (inl h) = absurd (let wrong : false ≡ true = h in cc)
 below_pongs fail.Early less (inr (inl h)) = absurd (let wrong : false ≡ true = h in cc)
@@ -108,7 +108,7 @@ below_pongs fail.End less h = absurd (omega (arith, less))
 abbrev latest : Evidence
 latest = quiet (pong 0 [] ∷ pong 0 [] ∷ []) (pong 0 [] ∷ []) 1 Tester
 
-latest_fails : (why : FailWhy) → Fails latest why → ⊥
+latest_fails : (why : FailWhy) → Fails Server latest why → ⊥
 latest_fails fail.NotFrames h = are_frames (pong 0 [] ∷ pong 0 [] ∷ []) (pong 0 [] ∷ []) 1 Tester h
 latest_fails fail.Early (inl h) = absurd (let wrong : false ≡ true = h in cc)
 latest_fails fail.Early (inr (inl h)) = absurd (let wrong : false ≡ true = h in cc)
@@ -119,7 +119,7 @@ latest_fails fail.Pongs (inr h) = h.2 (record { due = pong 0 []; is_due = refl; 
 latest_fails fail.Close h = no_close (pong 0 [] ∷ pong 0 [] ∷ []) (pong 0 [] ∷ []) 1 Tester h
 latest_fails fail.End h = right_end (pong 0 [] ∷ pong 0 [] ∷ []) (pong 0 [] ∷ []) 1 h
 
-below_skipped : (lower : LooseWhy) → loose_number lower < 1 → IsLoose latest lower → ⊥
+below_skipped : (lower : LooseWhy) → loose_number lower < 1 → IsLoose Server latest lower → ⊥
 below_skipped loose.PongsSkipped less h = absurd (omega (arith, less))
 below_skipped loose.PongElsewhere less h = absurd (omega (arith, less))
 below_skipped loose.OtherCode less h = absurd (omega (arith, less))
@@ -148,35 +148,35 @@ module _ (laws : FrameLaws) where
   nothing_is_got : IsDirectionOf Client got_in ([] ∷ []) (saying [])
   nothing_is_got = valid_direction laws Client ([] ∷ []) tt tt none_valid got_in (saying []) refl refl refl
 
-  pub answered_ping : IsVerdictOf (in_one_turn ping_sent pong_got Tester) Pass
+  pub answered_ping : IsVerdictOf Server (in_one_turn ping_sent pong_got Tester) Pass
   answered_ping = record {
     evidence = answered Tester;
     is_evidence = record { due = ping_due; got = pong_is_got; turns = refl; ended = refl };
     is_verdict = (passes, nothing_loose);
   }
 
-  pub ended_by_peer : IsVerdictOf (in_one_turn ping_sent pong_got Peer) (Fail fail.End)
+  pub ended_by_peer : IsVerdictOf Server (in_one_turn ping_sent pong_got Peer) (Fail fail.End)
   ended_by_peer = record {
     evidence = answered Peer;
     is_evidence = record { due = ping_due; got = pong_is_got; turns = refl; ended = refl };
     is_verdict = (inr (refl, λ e. absurd cc), below_end);
   }
 
-  pub before_its_ping : IsVerdictOf (in_two_turns [] pong_got ping_sent [] Tester) (Fail fail.Early)
+  pub before_its_ping : IsVerdictOf Server (in_two_turns [] pong_got ping_sent [] Tester) (Fail fail.Early)
   before_its_ping = record {
     evidence = early;
     is_evidence = record { due = later_ping_due; got = first_pong_is_got; turns = refl; ended = refl };
     is_verdict = (inr (inl refl), below_early);
   }
 
-  pub no_answer : IsVerdictOf (in_one_turn ping_sent [] Tester) (Fail fail.Pongs)
+  pub no_answer : IsVerdictOf Server (in_one_turn ping_sent [] Tester) (Fail fail.Pongs)
   no_answer = record {
     evidence = silent;
     is_evidence = record { due = ping_due; got = nothing_is_got; turns = refl; ended = refl };
     is_verdict = (inr (refl, lit≤ tt, λ last. absurd (let wrong : None ≡ Some last.got = last.is_got in cc)), below_pongs);
   }
 
-  pub latest_answered : IsVerdictOf (in_one_turn (ping_sent ++ ping_sent) pong_got Tester) (Loose loose.PongsSkipped)
+  pub latest_answered : IsVerdictOf Server (in_one_turn (ping_sent ++ ping_sent) pong_got Tester) (Loose loose.PongsSkipped)
   latest_answered = record {
     evidence = latest;
     is_evidence = record { due = pings_due; got = pong_is_got; turns = refl; ended = refl };

@@ -18,6 +18,13 @@ use Rattle.ws_suite.specs.declared.evidence.Ending.TheVariants.{Closed, Failed}
 use Rattle.ws_suite.specs.declared.evidence.Direction.{Direction}
 use Rattle.ws_suite.specs.declared.evidence.Evidence.{Evidence}
 
+-- ---- the two ends
+
+-- the other end of the connection
+abbrev pub other_role : Role → Role
+other_role Client = Server
+other_role Server = Client
+
 -- ---- events and their turns
 
 abbrev pub joined_events : List (List Event) → List Event
@@ -110,9 +117,9 @@ sent_turns turns = map (λ (turn : Turn). turn.sent) turns
 abbrev pub got_turns : List Turn → List (List ℕ)
 got_turns turns = map (λ (turn : Turn). turn.got) turns
 
--- what all that was sent says to a server, and all that was got to a client
-pub record IsEvidenceOf (transcript : Transcript) (evidence : Evidence) : Type 0 where
-  pub due : IsDirectionOf Server due_for (sent_turns transcript.turns) evidence.due
-  pub got : IsDirectionOf Client got_in (got_turns transcript.turns) evidence.got
+-- what all that was sent says to the tested end, and all that was got to the tester, which is the other end
+pub record IsEvidenceOf (tested : Role) (transcript : Transcript) (evidence : Evidence) : Type 0 where
+  pub due : IsDirectionOf tested due_for (sent_turns transcript.turns) evidence.due
+  pub got : IsDirectionOf (other_role tested) got_in (got_turns transcript.turns) evidence.got
   pub turns : evidence.turns ≡ length transcript.turns
   pub ended : evidence.ended ≡ transcript.ended

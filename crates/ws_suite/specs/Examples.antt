@@ -1,6 +1,7 @@
 -- Worked examples of matched pongs and an echo's answers, each a theorem. The law `worked_verdicts`
 -- has verdicts on the transcripts that stand last.
 use Rattle.std.specs.Prelude.{◌≡◌, ℕ, true, false, List, [], ◌∷◌, Some, None, refl}
+use Rattle.ws_wire.specs.declared.role.Role.TheVariants.{Client, Server}
 use Rattle.ws_session.specs.declared.reason.Reason.TheVariants.{Opcode}
 use Rattle.ws_session.specs.declared.event.Event.TheVariants as event
 use Rattle.ws_scripts.specs.declared.transcript.Turn.{Turn}
@@ -33,11 +34,16 @@ matched_after_another = refl
 
 -- ---- an echo's answers
 
-pub a_ping_echoed : echo_bytes (event.Ping (7 ∷ []) ∷ event.Part ∷ []) ≡ 0x8a ∷ 0x01 ∷ 7 ∷ []
+pub a_ping_echoed : echo_bytes Server [] (event.Ping (7 ∷ []) ∷ event.Part ∷ []) ≡ 0x8a ∷ 0x01 ∷ 7 ∷ []
 a_ping_echoed = refl
 
-pub a_fault_closed : echo_bytes (event.Failed Opcode ∷ []) ≡ 0x88 ∷ 0x02 ∷ 0x03 ∷ 0xea ∷ []
+pub a_fault_closed : echo_bytes Server [] (event.Failed Opcode ∷ []) ≡ 0x88 ∷ 0x02 ∷ 0x03 ∷ 0xea ∷ []
 a_fault_closed = refl
+
+-- a client's pong, masked with its key: 7 xor 1 is 6
+pub a_ping_echoed_by_a_client :
+    echo_bytes Client (1 ∷ 2 ∷ 3 ∷ 4 ∷ []) (event.Ping (7 ∷ []) ∷ []) ≡ 0x8a ∷ 0x81 ∷ 1 ∷ 2 ∷ 3 ∷ 4 ∷ 6 ∷ []
+a_ping_echoed_by_a_client = refl
 
 pub ended_by_a_close : ends_echo (event.Ping [] ∷ event.Close None ∷ []) ≡ true
 ended_by_a_close = refl

@@ -2,7 +2,6 @@
 use Rattle.std.specs.Prelude.{◌≡◌, ℕ, ◌≤◌, ◌↔◌, max, true, false, List, [], ◌∷◌, ◌++◌, map, take, flat_map, None}
 use Rattle.std.specs.List.{AllByRecursion, concat, last_or}
 use Rattle.ws_wire.specs.declared.role.Role.{Role}
-use Rattle.ws_wire.specs.declared.role.Role.TheVariants.{Client, Server}
 use Rattle.ws_wire.specs.Frame.{Frame, KeyedFrame, FitsTheLayout, stream_bytes}
 use Rattle.ws_session.specs.declared.event.Event.{Event}
 use Rattle.ws_session.specs.declared.event.PlacedEvent.{PlacedEvent}
@@ -20,11 +19,6 @@ use Rattle.ws_suite.specs.declared.evidence.collecting.Way.{Way}
 use Rattle.ws_suite.specs.declared.evidence.collecting.Way.TheVariants.{Sent, Got}
 use Rattle.ws_suite.specs.declared.evidence.collecting.Collected.{Collected}
 use Rattle.ws_suite.specs.Evidence.{AreEventsByTurn, HasRest, by_turn, due_for, ending_in, got_in, joined_events}
-
--- a server takes what was sent, a client what was got
-abbrev pub role_by : Way → Role
-role_by Sent = Server
-role_by Got = Client
 
 abbrev pub found_by : Way → Event → List Reply
 found_by Sent e = due_for e
@@ -46,17 +40,17 @@ abbrev pub last_end : List PlacedEvent → ℕ
 last_end [] = 0
 last_end (x ∷ xs) = max x.end (last_end xs)
 
--- the turns so far have these events; the session has taken them, and what is collected is what they say
-pub record HasCollected (way : Way) (turns : List (List ℕ)) (events : List (List Event)) (session : SessionValue)
-    (collected : Collected) : Type 0 where
-  pub are_events : AreEventsByTurn (role_by way) turns events
+-- the turns so far have these events at this role; its session has taken them, and what is collected is what they say
+pub record HasCollected (way : Way) (role : Role) (turns : List (List ℕ)) (events : List (List Event))
+    (session : SessionValue) (collected : Collected) : Type 0 where
+  pub are_events : AreEventsByTurn role turns events
   pub sent : List Frame
   pub exchanged : HasExchanged session sent (concat turns) false
-  pub role : session.role ≡ role_by way
+  pub same_role : session.role ≡ role
   pub limits : session.limits ≡ most_limits
   pub replies : collected.replies.items ≡ by_turn (found_by way) 0 events
   pub ending : collected.ending ≡ last_or None (by_turn ending_in 0 events)
-  pub has_rest : (collected.has_rest ≡ true) ↔ HasRest (role_by way) (concat turns) (joined_events events)
+  pub has_rest : (collected.has_rest ≡ true) ↔ HasRest role (concat turns) (joined_events events)
 
 -- events of one turn are collected after what was
 pub record AreCollected (way : Way) (turn : ℕ) (events : List Event) (old new : Collected) : Type 0 where

@@ -2,8 +2,7 @@
 use Rattle.std.specs.Prelude.{◌≡◌, ℕ, List, [], ◌∷◌, ◌++◌, map, Option}
 use Rattle.std.specs.List.{AllByRecursion}
 use Rattle.ws_wire.specs.declared.role.Role.{Role}
-use Rattle.ws_wire.specs.declared.role.Role.TheVariants.{Client, Server}
-use Rattle.ws_wire.specs.Header.{AreBytes}
+use Rattle.ws_wire.specs.Header.{AreBytes, IsMaskingKey}
 use Rattle.ws_wire.specs.Frame.{Frame, FitsTheLayout}
 use Rattle.ws_text.specs.Close.{CloseValue}
 use Rattle.ws_session.specs.declared.reason.Reason.{Reason}
@@ -12,25 +11,28 @@ use Rattle.ws_session.specs.declared.event.Event.TheVariants as event
 use Rattle.ws_session.specs.Limits.{LimitsValue}
 use Rattle.ws_session.specs.Events.{HasEvents}
 use Rattle.ws_session.specs.Faults.{KeysFit}
-use Rattle.ws_session.specs.Replies.{echo_replies_of, under_key}
+use Rattle.ws_session.specs.Replies.{echo_replies_of, key_for, under_key}
 use Rattle.ws_session.specs.Validity.{AreValidFrames}
 use Rattle.ws_session.specs.Sends.{most_limits}
+use Rattle.ws_suite.specs.Evidence.{other_role}
 use Rattle.ws_suite.specs.InnerCollecting.{FrameLaws, EventLaws}
 
--- of an echo at the server's end that takes the largest messages
+-- of an echo, of either role, that takes the largest messages
 pub record EchoReplyLaws : Type 0 where
   pub frames : FrameLaws
   pub session : EventLaws
   pub some : (role : Role) (limits : LimitsValue) (bytes : List ℕ) → AreBytes bytes
       → (events : List Event) × HasEvents role limits bytes events
-  pub close_last : (bytes : List ℕ) (events later : List Event) (close : Option CloseValue)
-      → HasEvents Server most_limits bytes (events ++ event.Close close ∷ later) → later ≡ []
-  pub fault_last : (bytes : List ℕ) (events later : List Event) (reason : Reason)
-      → HasEvents Server most_limits bytes (events ++ event.Failed reason ∷ later) → later ≡ []
+  pub close_last : (role : Role) (bytes : List ℕ) (events later : List Event) (close : Option CloseValue)
+      → HasEvents role most_limits bytes (events ++ event.Close close ∷ later) → later ≡ []
+  pub fault_last : (role : Role) (bytes : List ℕ) (events later : List Event) (reason : Reason)
+      → HasEvents role most_limits bytes (events ++ event.Failed reason ∷ later) → later ≡ []
   pub go_on : (sent : List Frame) (events later : List Event) → echo_replies_of sent (events ++ later)
       ≡ echo_replies_of sent events ++ echo_replies_of (sent ++ echo_replies_of sent events) later
-  pub valid : (bytes : List ℕ) (events : List Event) → HasEvents Server most_limits bytes events
+  pub valid : (role : Role) (bytes : List ℕ) (events : List Event) → HasEvents role most_limits bytes events
       → AreValidFrames most_limits (echo_replies_of [] events)
-  pub layout : (bytes : List ℕ) (events : List Event) → HasEvents Server most_limits bytes events
-      → AllByRecursion FitsTheLayout (map (under_key Server []) (echo_replies_of [] events))
-  pub keys : (frames : List Frame) → KeysFit Client (map (under_key Server []) frames)
+  pub layout : (role : Role) (key bytes : List ℕ) (events : List Event) → HasEvents role most_limits bytes events
+      → IsMaskingKey (key_for role key)
+      → AllByRecursion FitsTheLayout (map (under_key role key) (echo_replies_of [] events))
+  pub keys : (role : Role) (key : List ℕ) (frames : List Frame)
+      → KeysFit (other_role role) (map (under_key role key) frames)

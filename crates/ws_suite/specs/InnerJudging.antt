@@ -1,6 +1,7 @@
 -- Inside the crate: lists of replies as the judge's functions see them. A reader may skip this file.
 use Rattle.std.specs.Prelude.{◌≡◌, Bool, true, List, [], ◌∷◌, map, Option, None, Some}
 use Rattle.std.specs.Borrow.{Bor}
+use Rattle.ws_wire.specs.declared.role.Role.{Role}
 use Rattle.ws_suite.specs.declared.verdict.FailWhy.{FailWhy}
 use Rattle.ws_suite.specs.declared.verdict.LooseWhy.{LooseWhy}
 use Rattle.ws_suite.specs.declared.evidence.InTurn.{InTurn}
@@ -22,14 +23,14 @@ pub record AreListsOf (x : Evidence) (lists : Lists) : Type 0 where
   pub got_pongs : targets lists.got_pongs.items ≡ got_pongs x
 
 -- the lowest Fail that applies, or there is none
-abbrev pub IsFirstFail : Evidence → Option FailWhy → Type 0
-IsFirstFail x None = FailsNowhere x
-IsFirstFail x (Some why) = IsLowestFail x why
+abbrev pub IsFirstFail : Role → Evidence → Option FailWhy → Type 0
+IsFirstFail tested x None = FailsNowhere tested x
+IsFirstFail tested x (Some why) = IsLowestFail tested x why
 
 -- the lowest Loose that applies, or there is none
-abbrev pub IsFirstLoose : Evidence → Option LooseWhy → Type 0
-IsFirstLoose x None = IsNowhereLoose x
-IsFirstLoose x (Some why) = IsLowestLoose x why
+abbrev pub IsFirstLoose : Role → Evidence → Option LooseWhy → Type 0
+IsFirstLoose tested x None = IsNowhereLoose tested x
+IsFirstLoose tested x (Some why) = IsLowestLoose tested x why
 
 -- the first of the replies passes the test
 abbrev pub IsAtFront : (InTurn Reply → Bool) → List (InTurn Reply) → Type 0

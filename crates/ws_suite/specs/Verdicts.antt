@@ -1,9 +1,12 @@
--- Verdicts, RFC 6455 sections 5 to 8: which rules a server broke, and where it answered otherwise than an echo that is
--- fed turn by turn. Each of the six Fails and the six Looses is a definition of its own, over the replies that are due
--- and those that were got.
+-- Verdicts, RFC 6455 sections 5 to 8: which rules the tested end broke, and where it answered otherwise than an echo
+-- that is fed turn by turn. Each of the six Fails and the six Looses is a definition of its own, over the replies that
+-- are due and those that were got. Fail 6 and Loose 4 alone ask which end is tested, since it is the server that closes
+-- the connection (section 7.1.1).
 use Rattle.std.specs.Prelude.{◌≡◌, ◌≢◌, ℕ, ◌+◌, ◌<◌, ◌⊎◌, nat_lt, Bool, true, false, MatchBool, length, Option, Some}
 use Rattle.std.specs.Prelude.{None}
 use Rattle.std.specs.List.{list_any, zip}
+use Rattle.ws_wire.specs.declared.role.Role.{Role}
+use Rattle.ws_wire.specs.declared.role.Role.TheVariants.{Server}
 use Rattle.ws_scripts.specs.declared.transcript.Ended.TheVariants.{Tester, Broken}
 use Rattle.ws_scripts.specs.declared.transcript.Transcript.{Transcript}
 use Rattle.ws_suite.specs.declared.verdict.Verdict.{Verdict}
@@ -77,19 +80,21 @@ abbrev pub HasOtherClose : Evidence → Type 0
 HasOtherClose x = ((ends_with_close x.due.ending ≡ true) × (ends_with_close x.got.ending ≡ false))
     ⊎ ((x.due.ending ≡ None) × (ends_with_close x.got.ending ≡ true))
 
--- Fail 6 (sections 7.1.1 and 7.1.7): a close or a fault was sent and the end is Tester; or neither was and the end
--- isn't Tester.
-abbrev pub HasOtherEnd : Evidence → Type 0
-HasOtherEnd x = ((x.due.ending ≢ None) × (x.ended ≡ Tester)) ⊎ ((x.due.ending ≡ None) × (x.ended ≢ Tester))
+-- Fail 6 (sections 7.1.1 and 7.1.7): a close or a fault was sent and the end is Tester, and what is tested is a server,
+-- or a client of which no close was got; or neither was sent and the end isn't Tester.
+abbrev pub HasOtherEnd : Role → Evidence → Type 0
+HasOtherEnd tested x =
+    ((x.due.ending ≢ None) × (x.ended ≡ Tester) × ((tested ≡ Server) ⊎ (ends_with_close x.got.ending ≡ false)))
+    ⊎ ((x.due.ending ≡ None) × (x.ended ≢ Tester))
 
 -- this Fail applies
-abbrev pub Fails : Evidence → FailWhy → Type 0
-Fails x fail.NotFrames = IsNotFrames x
-Fails x fail.Early = IsEarly x
-Fails x fail.Messages = HasOtherMessages x
-Fails x fail.Pongs = HasOtherPongs x
-Fails x fail.Close = HasOtherClose x
-Fails x fail.End = HasOtherEnd x
+abbrev pub Fails : Role → Evidence → FailWhy → Type 0
+Fails tested x fail.NotFrames = IsNotFrames x
+Fails tested x fail.Early = IsEarly x
+Fails tested x fail.Messages = HasOtherMessages x
+Fails tested x fail.Pongs = HasOtherPongs x
+Fails tested x fail.Close = HasOtherClose x
+Fails tested x fail.End = HasOtherEnd tested x
 
 -- ---- Looses
 
@@ -108,9 +113,16 @@ abbrev pub HasOtherCode : Evidence → Type 0
 HasOtherCode x = (got : InTurn Ending) × (due : InTurn Ending) × (code : Option ℕ)
     × (x.got.ending ≡ Some got) × (x.due.ending ≡ Some due) × (got.what ≡ Closed code) × (code ≢ code_due_for due.what)
 
--- Loose 4 (sections 7.1.1 and 7.1.7): the close or the fault that was sent stands in a turn before the last.
-abbrev pub EndsLate : Evidence → Type 0
-EndsLate x = (due : InTurn Ending) × (x.due.ending ≡ Some due) × (due.turn + 1 < x.turns)
+-- a close was got in this turn
+abbrev pub IsCloseInTurn : Option (InTurn Ending) → ℕ → Type 0
+IsCloseInTurn None turn = ⊥
+IsCloseInTurn (Some got) turn = (is_close_ending got.what ≡ true) × (got.turn ≡ turn)
+
+-- Loose 4 (sections 7.1.1 and 7.1.7): the close or the fault that was sent stands in a turn before the last, and what is
+-- tested is a server, or a client of which no close was got in that turn.
+abbrev pub EndsLate : Role → Evidence → Type 0
+EndsLate tested x = (due : InTurn Ending) × (x.due.ending ≡ Some due) × (due.turn + 1 < x.turns)
+    × ((tested ≡ Server) ⊎ ¬ (IsCloseInTurn x.got.ending due.turn))
 
 -- Loose 5 (section 7.1.7): what was sent holds a fault, and fewer messages were got than are due, or fewer pongs and
 -- the last due pong isn't there. Without a fault each of the two is a Fail.
@@ -122,13 +134,13 @@ abbrev pub IsBroken : Evidence → Type 0
 IsBroken x = x.ended ≡ Broken
 
 -- this Loose applies
-abbrev pub IsLoose : Evidence → LooseWhy → Type 0
-IsLoose x loose.PongsSkipped = SkipsPongs x
-IsLoose x loose.PongElsewhere = HasPongElsewhere x
-IsLoose x loose.OtherCode = HasOtherCode x
-IsLoose x loose.LateEnd = EndsLate x
-IsLoose x loose.EchoShort = EchoesShort x
-IsLoose x loose.BrokenEnd = IsBroken x
+abbrev pub IsLoose : Role → Evidence → LooseWhy → Type 0
+IsLoose tested x loose.PongsSkipped = SkipsPongs x
+IsLoose tested x loose.PongElsewhere = HasPongElsewhere x
+IsLoose tested x loose.OtherCode = HasOtherCode x
+IsLoose tested x loose.LateEnd = EndsLate tested x
+IsLoose tested x loose.EchoShort = EchoesShort x
+IsLoose tested x loose.BrokenEnd = IsBroken x
 
 -- ---- the verdict
 
@@ -150,28 +162,30 @@ loose_number loose.EchoShort = 5
 loose_number loose.BrokenEnd = 6
 
 -- this Fail applies, and none with a lower number
-abbrev pub IsLowestFail : Evidence → FailWhy → Type 0
-IsLowestFail x why = Fails x why × ((lower : FailWhy) → fail_number lower < fail_number why → ¬ (Fails x lower))
+abbrev pub IsLowestFail : Role → Evidence → FailWhy → Type 0
+IsLowestFail tested x why = Fails tested x why
+    × ((lower : FailWhy) → fail_number lower < fail_number why → ¬ (Fails tested x lower))
 
 -- this Loose applies, and none with a lower number
-abbrev pub IsLowestLoose : Evidence → LooseWhy → Type 0
-IsLowestLoose x why = IsLoose x why × ((lower : LooseWhy) → loose_number lower < loose_number why → ¬ (IsLoose x lower))
+abbrev pub IsLowestLoose : Role → Evidence → LooseWhy → Type 0
+IsLowestLoose tested x why = IsLoose tested x why
+    × ((lower : LooseWhy) → loose_number lower < loose_number why → ¬ (IsLoose tested x lower))
 
 -- no Fail applies, and no Loose
-abbrev pub FailsNowhere : Evidence → Type 0
-FailsNowhere x = (why : FailWhy) → ¬ (Fails x why)
+abbrev pub FailsNowhere : Role → Evidence → Type 0
+FailsNowhere tested x = (why : FailWhy) → ¬ (Fails tested x why)
 
-abbrev pub IsNowhereLoose : Evidence → Type 0
-IsNowhereLoose x = (why : LooseWhy) → ¬ (IsLoose x why)
+abbrev pub IsNowhereLoose : Role → Evidence → Type 0
+IsNowhereLoose tested x = (why : LooseWhy) → ¬ (IsLoose tested x why)
 
 -- the lowest Fail that applies; else the lowest Loose; else Pass
-abbrev pub IsVerdictOn : Evidence → Verdict → Type 0
-IsVerdictOn x (Fail why) = IsLowestFail x why
-IsVerdictOn x (Loose why) = FailsNowhere x × IsLowestLoose x why
-IsVerdictOn x Pass = FailsNowhere x × IsNowhereLoose x
+abbrev pub IsVerdictOn : Role → Evidence → Verdict → Type 0
+IsVerdictOn tested x (Fail why) = IsLowestFail tested x why
+IsVerdictOn tested x (Loose why) = FailsNowhere tested x × IsLowestLoose tested x why
+IsVerdictOn tested x Pass = FailsNowhere tested x × IsNowhereLoose tested x
 
--- the verdict on the evidence of a transcript
-pub record IsVerdictOf (transcript : Transcript) (verdict : Verdict) : Type 0 where
+-- the verdict on the evidence of a transcript, where the tested end has this role
+pub record IsVerdictOf (tested : Role) (transcript : Transcript) (verdict : Verdict) : Type 0 where
   pub evidence : Evidence
-  pub is_evidence : IsEvidenceOf transcript evidence
-  pub is_verdict : IsVerdictOn evidence verdict
+  pub is_evidence : IsEvidenceOf tested transcript evidence
+  pub is_verdict : IsVerdictOn tested evidence verdict

@@ -1,4 +1,4 @@
-//! What a transcript shows of a server: the events of both directions, each with its turn.
+//! What a transcript shows of the tested end: the events of both directions, each with its turn.
 
 mod collecting;
 

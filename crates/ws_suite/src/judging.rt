@@ -1,4 +1,4 @@
-//! The judge: which rules a server broke, by what a transcript shows.
+//! The judge: which rules the tested end broke, by what a transcript shows.
 
 mod fails;
 mod looses;
@@ -6,6 +6,7 @@ mod pongs;
 mod replies;
 
 ghost use Rattle.std.specs.Prelude.{IfOk};
+ghost use Rattle.ws_wire.specs.declared.role.Role.TheVariants.{Server};
 ghost use Rattle.ws_suite.specs.Verdicts.{IsVerdictOf, IsVerdictOn};
 
 use crate::evidence::{Evidence, evidence_of};
@@ -16,26 +17,41 @@ use crate::verdict::Verdict;
 use std::alloc::Global;
 use ws_base::NoMemory;
 use ws_scripts::Transcript;
+use ws_wire::Role;
 
-/// Whether a server kept the rules, by all that went over a connection: the lowest `Fail` that applies, else the lowest
-/// `Loose`, else `Pass`. What is due is what an echo sends back (RFC 6455 sections 5.4 to 5.5.3).
+/// Whether a server kept the rules, by all that went over a connection from a client: the verdict of `judge_end` on the
+/// role `Server`.
 pub fn judge(alloc: Global, transcript: &Transcript) -> Result<Verdict, NoMemory>
-    ensures { IfOk result (λ verdict. IsVerdictOf transcript.now verdict) }
+    ensures { IfOk result (λ verdict. IsVerdictOf Server transcript.now verdict) }
 {
-    let evidence = evidence_of(alloc, transcript)?;
-    let verdict = verdict_on(alloc, &evidence)?;
+    let verdict = judge_end(alloc, Role::Server, transcript)?;
+    Ok(verdict)
+}
+
+/// Whether the tested end, which has this role, kept the rules, by all that went over a connection: the lowest `Fail`
+/// that applies, else the lowest `Loose`, else `Pass`. What is due is what an echo sends back (RFC 6455 sections 5.4 to
+/// 5.5.3).
+pub fn judge_end(
+    alloc: Global,
+    tested: Role,
+    transcript: &Transcript,
+) -> Result<Verdict, NoMemory>
+    ensures { IfOk result (λ verdict. IsVerdictOf tested transcript.now verdict) }
+{
+    let evidence = evidence_of(alloc, tested, transcript)?;
+    let verdict = verdict_on(alloc, tested, &evidence)?;
     Ok(verdict)
 }
 
 /// The verdict on the evidence.
-fn verdict_on(alloc: Global, evidence: &Evidence) -> Result<Verdict, NoMemory>
-    ensures { IfOk result (λ verdict. IsVerdictOn evidence.now verdict) }
+fn verdict_on(alloc: Global, tested: Role, evidence: &Evidence) -> Result<Verdict, NoMemory>
+    ensures { IfOk result (λ verdict. IsVerdictOn tested evidence.now verdict) }
 {
     let lists = lists_of(alloc, evidence)?;
-    if let Some(why) = first_fail(evidence, &lists) {
+    if let Some(why) = first_fail(tested, evidence, &lists) {
         return Ok(Verdict::Fail(why));
     }
-    match first_loose(evidence, &lists) {
+    match first_loose(tested, evidence, &lists) {
         Some(why) => Ok(Verdict::Loose(why)),
         None => Ok(Verdict::Pass),
     }

@@ -3,6 +3,7 @@
 ghost use Rattle.std.specs.Prelude.{◌≡◌, ◌++◌, ℕ, List, []};
 ghost use Rattle.std.specs.List.{concat};
 ghost use Rattle.ws_wire.specs.declared.role.Role.{Role};
+ghost use Rattle.ws_wire.specs.declared.role.Role.TheVariants.{Client, Server};
 ghost use Rattle.ws_session.specs.declared.event.Event.{Event};
 ghost use Rattle.ws_scripts.specs.declared.transcript.Ended.TheVariants.{Peer, Tester};
 ghost use Rattle.ws_scripts.specs.declared.transcript.Transcript.{Transcript};
@@ -17,17 +18,19 @@ ghost use Rattle.ws_suite.specs.Verdicts.{IsVerdictOf};
 
 use crate::lemmas::{echo_reply_laws, frame_laws, session_laws};
 
-/// A transcript has one verdict.
+/// A transcript has one verdict on the tested end, as a server or as a client.
 pub fn one_verdict()
-    ensures { (transcript : Transcript) (one other : Verdict) → IsVerdictOf transcript one →
-        IsVerdictOf transcript other → one ≡ other }
+    ensures { (tested : Role) (transcript : Transcript) (one other : Verdict) → IsVerdictOf tested transcript one →
+        IsVerdictOf tested transcript other → one ≡ other }
 {
     session_laws();
 }
 
-/// Whatever was sent, lawful or not, in whatever turns: the transcript of a tester and an echo has the verdict Pass.
+/// Whatever was sent, lawful or not, in whatever turns: the transcript of a tester and an echo, be it a server or a
+/// client, has the verdict Pass.
 pub fn an_echos_transcript_passes()
-    ensures { (transcript : Transcript) → IsEchoTranscript transcript → IsVerdictOf transcript Pass }
+    ensures { (tested : Role) (transcript : Transcript) → IsEchoTranscript tested transcript →
+        IsVerdictOf tested transcript Pass }
 {
     echo_reply_laws();
 }
@@ -44,11 +47,12 @@ pub fn events_stand_with_their_last_byte()
 /// Worked examples: a ping whose pong comes in its turn; the same where the server ends the connection; a pong that
 /// comes in the turn before its ping; a ping without a pong; and two pings of which the second alone is answered.
 pub fn worked_verdicts()
-    ensures answered { IsVerdictOf (in_one_turn ping_sent pong_got Tester) Pass }
-    ensures ended { IsVerdictOf (in_one_turn ping_sent pong_got Peer) (Fail fail.End) }
-    ensures early { IsVerdictOf (in_two_turns [] pong_got ping_sent [] Tester) (Fail fail.Early) }
-    ensures silent { IsVerdictOf (in_one_turn ping_sent [] Tester) (Fail fail.Pongs) }
-    ensures latest { IsVerdictOf (in_one_turn (ping_sent ++ ping_sent) pong_got Tester) (Loose loose.PongsSkipped) }
+    ensures answered { IsVerdictOf Server (in_one_turn ping_sent pong_got Tester) Pass }
+    ensures ended { IsVerdictOf Server (in_one_turn ping_sent pong_got Peer) (Fail fail.End) }
+    ensures early { IsVerdictOf Server (in_two_turns [] pong_got ping_sent [] Tester) (Fail fail.Early) }
+    ensures silent { IsVerdictOf Server (in_one_turn ping_sent [] Tester) (Fail fail.Pongs) }
+    ensures latest { IsVerdictOf Server (in_one_turn (ping_sent ++ ping_sent) pong_got Tester)
+        (Loose loose.PongsSkipped) }
 {
     frame_laws();
 }

@@ -1,7 +1,8 @@
 //! The verdict on what a tested peer answered to a script (RFC 6455 sections 5 to 8): what a right answer is, and which
 //! rules were broken. Scripts, transcripts and captures are those of `ws_scripts`, which is handed on.
 //!
-//! The layers above use the contract of `judge`: it gives the one verdict that the definition has for a transcript.
+//! The layers above use the contract of `judge`, for a tested server, or of `judge_end`, for a tested end of either
+//! role: it gives the one verdict that the definition has for a transcript.
 #![tactic(auto)]
 
 mod evidence;
@@ -10,7 +11,7 @@ pub mod laws;
 mod lemmas;
 mod verdict;
 
-pub use judging::judge;
+pub use judging::{judge, judge_end};
 pub use verdict::{FailWhy, LooseWhy, Verdict};
 pub use ws_scripts::{
     Capture, CaptureFault, Case, Chop, Ended, Step, Transcript, Turn, case, ids, read_capture,

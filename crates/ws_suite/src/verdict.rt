@@ -1,11 +1,11 @@
-//! The verdict on a server.
+//! The verdict on the tested end.
 
 ghost use Rattle.std.specs.Prelude.{Some};
 ghost use Rattle.ws_suite.specs.Words.{fail_name, loose_name, verdict_words};
 
 use std::fmt;
 
-/// Whether a server kept the rules: the first `Fail` that applies, else the first `Loose`, else `Pass`.
+/// Whether the tested end kept the rules: the first `Fail` that applies, else the first `Loose`, else `Pass`.
 #[derive(Clone, Copy)]
 pub enum Verdict {
     /// It sent what is due, and ended the connection as it should.
@@ -30,7 +30,8 @@ pub enum FailWhy {
     Pongs = 4,
     /// A close was sent and none was got, or one was got without a cause (section 5.5.1).
     Close = 5,
-    /// The server kept a connection that it should have ended, or ended one that it should have kept (section 7.1.1).
+    /// A server kept a connection that it should have ended, a client one without a close, or either ended one that it
+    /// should have kept (section 7.1.1).
     End = 6,
 }
 
@@ -43,7 +44,7 @@ pub enum LooseWhy {
     PongElsewhere = 2,
     /// A close was got with another code than is due.
     OtherCode = 3,
-    /// A turn follows that of the close or the fault.
+    /// A turn follows that of the close or the fault, and no close of a client was got in that turn.
     LateEnd = 4,
     /// Before a fault, fewer messages came than are due, or fewer pongs and not the last.
     EchoShort = 5,

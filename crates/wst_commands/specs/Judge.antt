@@ -1,5 +1,6 @@
 -- A run of `judge`: a capture is read whole and judged, and the verdict is written.
 use Rattle.std.specs.Prelude.{◌≡◌, ◌⊎◌, ℕ, List, ◌++◌, Result, Err, MatchResult, codes}
+use Rattle.ws_wire.specs.declared.role.Role.TheVariants.{Server}
 use Rattle.ws_frame.specs.Devices.{Device, IsUntouched}
 use Rattle.ws_scripts.specs.Captures.{DamagesCapture}
 use Rattle.ws_scripts.specs.Captures2.{IsAnyCaptureOf}
@@ -31,7 +32,7 @@ exit_of (Fail why) = Damaged
 -- the verdict on the transcript was written; or memory ran out, and nothing was written
 abbrev pub TellsVerdict : Transcript → Result Exit Fault → Device → Type 0
 TellsVerdict transcript ended output = MatchResult ended
-    (λ exit. (verdict : Verdict) × IsVerdictOf transcript verdict
+    (λ exit. (verdict : Verdict) × IsVerdictOf Server transcript verdict
     × Delivers (exit_of verdict) (verdict_line verdict) exit output)
     (λ fault. (fault ≡ NoMemory) × IsUntouched output)
 

@@ -2,6 +2,7 @@
 use Rattle.std.specs.Prelude.{◌≡◌, ◌⊎◌, ℕ, ◌+◌, true, false, List, [], ◌∷◌, ◌++◌}
 use Rattle.std.specs.Prelude.{map, flat_map, take, Result, MatchResult, Some, codes, string_bytes}
 use Rattle.std.specs.List.{AllByRecursion, concat}
+use Rattle.ws_wire.specs.declared.role.Role.TheVariants.{Server}
 use Rattle.ws_frame.specs.Devices.{Device, HasBegun, HasWritten, IsUntouched}
 use Rattle.ws_scripts.specs.Captures2.{written_capture2}
 use Rattle.ws_scripts.specs.declared.capture.Capture.{Capture}
@@ -24,7 +25,7 @@ use Rattle.ws_connection.specs.declared.probe_end.Probe.TheVariants as probe
 
 -- what is told after such a connection: the verdict on its transcript, or that the head of the answer is to be refused
 abbrev pub IsOutcomeOf : Probe → Outcome → Type 0
-IsOutcomeOf (probe.Ran transcript) (outcome.Judged verdict) = IsVerdictOf transcript verdict
+IsOutcomeOf (probe.Ran transcript) (outcome.Judged verdict) = IsVerdictOf Server transcript verdict
 IsOutcomeOf (probe.Refused fault) (outcome.HeadRefused told) = told ≡ fault
 IsOutcomeOf _ _ = ⊥
 
@@ -104,7 +105,7 @@ TestsCases Meets cases ended output = MatchResult ended
 
 -- a capture was written, and the exit is that of the verdict on its transcript
 abbrev pub WritesCapture : Capture → Exit → Device → Type 0
-WritesCapture capture exit output = (verdict : Verdict) × IsVerdictOf capture.transcript verdict
+WritesCapture capture exit output = (verdict : Verdict) × IsVerdictOf Server capture.transcript verdict
     × Delivers (exit_of verdict) (written_capture2 capture) exit output
 
 -- the capture was written, with the key under which frames were masked; or in its place the line of a case that has

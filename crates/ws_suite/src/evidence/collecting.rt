@@ -1,11 +1,12 @@
 //! From a transcript to its evidence: what both directions say, by two sessions that take them turn by turn.
 
 ghost use Rattle.std.specs.Prelude.{◌≡◌, ℕ, List, [], ◌∷◌, ◌++◌, length, IfOk, OnOk, option_to_list};
+ghost use Rattle.ws_wire.specs.declared.role.Role.{Role};
 ghost use Rattle.ws_session.specs.declared.event.Event.{Event};
 ghost use Rattle.ws_session.specs.Taking.{events_in};
-ghost use Rattle.ws_suite.specs.Evidence.{IsDirectionOf, IsEvidenceOf, ending_in};
+ghost use Rattle.ws_suite.specs.Evidence.{IsDirectionOf, IsEvidenceOf, ending_in, other_role};
 ghost use Rattle.ws_suite.specs.InnerCollecting.{AreCollected, HasCollected, found_by, last_end};
-ghost use Rattle.ws_suite.specs.InnerCollecting.{role_by, turn_by, turns_by};
+ghost use Rattle.ws_suite.specs.InnerCollecting.{turn_by, turns_by};
 
 use crate::evidence::{Direction, Ending, Evidence, InTurn, Reply};
 use crate::lemmas::session_laws;
@@ -18,9 +19,9 @@ use ws_wire::{NO_KEY, Role};
 /// One of the two directions.
 #[derive(Clone, Copy)]
 pub(crate) enum Way {
-    /// From the tester, a client, to the server.
+    /// From the tester to the tested end.
     Sent,
-    /// From the server to the tester.
+    /// From the tested end to the tester.
     Got,
 }
 
@@ -32,13 +33,17 @@ pub(crate) struct Collected {
     has_rest: bool,
 }
 
-/// The evidence of a transcript.
-pub(crate) fn evidence_of(alloc: Global, transcript: &Transcript) -> Result<Evidence, NoMemory>
-    ensures { IfOk result (λ evidence. IsEvidenceOf transcript.now evidence) }
+/// The evidence of a transcript, where the tested end has this role.
+pub(crate) fn evidence_of(
+    alloc: Global,
+    tested: Role,
+    transcript: &Transcript,
+) -> Result<Evidence, NoMemory>
+    ensures { IfOk result (λ evidence. IsEvidenceOf tested transcript.now evidence) }
 {
     let turns = transcript.turns.as_slice();
-    let due = direction_of(alloc, Way::Sent, turns)?;
-    let got = direction_of(alloc, Way::Got, turns)?;
+    let due = direction_of(alloc, Way::Sent, tested, turns)?;
+    let got = direction_of(alloc, Way::Got, other(tested), turns)?;
     Ok(Evidence {
         due,
         got,
@@ -47,14 +52,29 @@ pub(crate) fn evidence_of(alloc: Global, transcript: &Transcript) -> Result<Evid
     })
 }
 
-/// What one direction says.
-fn direction_of(alloc: Global, way: Way, turns: &[Turn]) -> Result<Direction, NoMemory>
-    ensures { IfOk result (λ direction. IsDirectionOf (role_by way) (found_by way) (turns_by way turns.now) direction) }
+/// The other end.
+fn other(role: Role) -> Role
+    ensures { result ≡ other_role role }
+{
+    match role {
+        Role::Client => Role::Server,
+        Role::Server => Role::Client,
+    }
+}
+
+/// What one direction says to the end that takes it, which has this role.
+fn direction_of(
+    alloc: Global,
+    way: Way,
+    role: Role,
+    turns: &[Turn],
+) -> Result<Direction, NoMemory>
+    ensures { IfOk result (λ direction. IsDirectionOf role (found_by way) (turns_by way turns.now) direction) }
 {
     let Some(limits) = Limits::new(MAX_MESSAGE) else {
         unreachable!()
     };
-    let mut session = Session::new(alloc, role(way), limits);
+    let mut session = Session::new(alloc, role, limits);
     let mut collected = Collected {
         replies: Vec::new(alloc),
         ending: None,
@@ -76,16 +96,6 @@ fn direction_of(alloc: Global, way: Way, turns: &[Turn]) -> Result<Direction, No
     })
 }
 
-/// The end that takes the bytes.
-fn role(way: Way) -> Role
-    ensures { result ≡ role_by way }
-{
-    match way {
-        Way::Sent => Role::Server,
-        Way::Got => Role::Client,
-    }
-}
-
 /// The bytes of a turn.
 fn bytes_of(way: Way, turn: &Turn) -> &[u8]
     ensures { result.now ≡ turn_by way turn.now }
@@ -105,10 +115,10 @@ fn collect_turn(
     session: &mut Session,
     collected: &mut Collected,
 ) -> Result<(), NoMemory>
-    ensures { (turns : List (List ℕ)) (events : List (List Event)) → number ≡ length turns →
-        HasCollected way turns events session.old collected.old →
+    ensures { (role : Role) (turns : List (List ℕ)) (events : List (List Event)) → number ≡ length turns →
+        HasCollected way role turns events session.old collected.old →
         OnOk result ((added : List Event)
-        × HasCollected way (turns ++ bytes.now ∷ []) (events ++ added ∷ []) session.new collected.new) }
+        × HasCollected way role (turns ++ bytes.now ∷ []) (events ++ added ∷ []) session.new collected.new) }
 {
     session_laws();
     if bytes.is_empty() {

@@ -11,11 +11,12 @@ use crate::judging::pongs::{has_last_pong, match_pongs};
 use crate::judging::replies::{Lists, any_before, begins};
 use crate::verdict::FailWhy;
 use ws_scripts::Ended;
+use ws_wire::Role;
 
 /// The lowest Fail that applies.
-pub(super) fn first_fail(x: &Evidence, lists: &Lists<'_>) -> Option<FailWhy>
+pub(super) fn first_fail(tested: Role, x: &Evidence, lists: &Lists<'_>) -> Option<FailWhy>
     requires { AreListsOf x.now lists.now }
-    ensures { IsFirstFail x.now result }
+    ensures { IsFirstFail tested x.now result }
 {
     if is_not_frames(x) {
         return Some(FailWhy::NotFrames);
@@ -32,7 +33,7 @@ pub(super) fn first_fail(x: &Evidence, lists: &Lists<'_>) -> Option<FailWhy>
     if has_other_close(x) {
         return Some(FailWhy::Close);
     }
-    if has_other_end(x) {
+    if has_other_end(tested, x) {
         return Some(FailWhy::End);
     }
     None
@@ -101,11 +102,17 @@ fn has_other_close(x: &Evidence) -> bool
     }
 }
 
-/// Whether the connection ended otherwise than the close or the fault, or the want of both, asks.
-fn has_other_end(x: &Evidence) -> bool
-    ensures { IsTrue result ↔ HasOtherEnd x.now }
+/// Whether the connection ended otherwise than the close or the fault, or the want of both, asks. After a close or a
+/// fault a server ends it, and a client at least sends its close.
+fn has_other_end(tested: Role, x: &Evidence) -> bool
+    ensures { IsTrue result ↔ HasOtherEnd tested x.now }
 {
-    x.due.ending.is_some() == (x.ended == Ended::Tester)
+    if x.due.ending.is_none() {
+        x.ended != Ended::Tester
+    } else {
+        x.ended == Ended::Tester
+            && (tested == Role::Server || !ends_with_close(&x.got.ending))
+    }
 }
 
 /// Whether the events end with a fault.

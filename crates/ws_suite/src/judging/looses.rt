@@ -3,19 +3,20 @@
 ghost use Rattle.std.specs.Prelude.{◌≡◌, ◌↔◌, IsTrue};
 ghost use Rattle.ws_suite.specs.InnerJudging.{AreListsOf, IsFirstLoose};
 ghost use Rattle.ws_suite.specs.Matching.{code_due_for};
-ghost use Rattle.ws_suite.specs.Verdicts.{EchoesShort, EndsLate, HasOtherCode, SkipsPongs};
+ghost use Rattle.ws_suite.specs.Verdicts.{EchoesShort, EndsLate, HasOtherCode, IsCloseInTurn, SkipsPongs};
 
-use crate::evidence::{Ending, Evidence};
-use crate::judging::fails::ends_with_fault;
+use crate::evidence::{Ending, Evidence, InTurn};
+use crate::judging::fails::{ends_with_fault, is_close_ending};
 use crate::judging::pongs::has_last_pong;
 use crate::judging::replies::{Lists, are_left};
 use crate::verdict::LooseWhy;
 use ws_scripts::Ended;
+use ws_wire::Role;
 
 /// The lowest Loose that applies.
-pub(super) fn first_loose(x: &Evidence, lists: &Lists<'_>) -> Option<LooseWhy>
+pub(super) fn first_loose(tested: Role, x: &Evidence, lists: &Lists<'_>) -> Option<LooseWhy>
     requires { AreListsOf x.now lists.now }
-    ensures { IsFirstLoose x.now result }
+    ensures { IsFirstLoose tested x.now result }
 {
     if skips_pongs(x, lists) {
         return Some(LooseWhy::PongsSkipped);
@@ -26,7 +27,7 @@ pub(super) fn first_loose(x: &Evidence, lists: &Lists<'_>) -> Option<LooseWhy>
     if has_other_code(x) {
         return Some(LooseWhy::OtherCode);
     }
-    if ends_late(x) {
+    if ends_late(tested, x) {
         return Some(LooseWhy::LateEnd);
     }
     if echoes_short(x, lists) {
@@ -70,12 +71,27 @@ fn code_due_for(ending: &Ending) -> Option<u16>
     }
 }
 
-/// Whether the close or the fault that was sent stands in a turn before the last.
-fn ends_late(x: &Evidence) -> bool
-    ensures { IsTrue result ↔ EndsLate x.now }
+/// Whether the close or the fault that was sent stands in a turn before the last. Of a client that answered it by a
+/// close in its turn no more is asked.
+fn ends_late(tested: Role, x: &Evidence) -> bool
+    ensures { IsTrue result ↔ EndsLate tested x.now }
 {
     match &x.due.ending {
-        Some(due) => due.turn < x.turns && due.turn + 1 < x.turns,
+        Some(due) => {
+            due.turn < x.turns
+                && due.turn + 1 < x.turns
+                && (tested == Role::Server || !is_close_in_turn(&x.got.ending, due.turn))
+        }
+        None => false,
+    }
+}
+
+/// Whether a close was got in this turn.
+fn is_close_in_turn(got: &Option<InTurn<Ending>>, turn: usize) -> bool
+    ensures { IsTrue result ↔ IsCloseInTurn got.now turn }
+{
+    match got {
+        Some(got) => is_close_ending(&got.what) && got.turn == turn,
         None => false,
     }
 }
