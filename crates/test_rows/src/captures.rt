@@ -6,7 +6,10 @@ use std::alloc::Global;
 use std::fmt::Write;
 use ws_base::Sequence;
 use ws_formats::Hex;
-use ws_suite::{CaptureFault, Ended, Transcript, Turn, judge, read_capture, write_capture};
+use ws_suite::{
+    CaptureFault, Ended, Transcript, Turn, judge, judge_end, read_capture, write_capture,
+};
+use ws_wire::Role;
 
 /// `capture TEXT`: the capture that is written of what is read from the text, or why it is none.
 pub fn write_again(alloc: Global, words: &[&str], out: &mut String) -> Result<(), RowFault> {
@@ -37,6 +40,13 @@ pub fn tell_no_memory(words: &[&str], out: &mut String) -> Result<(), RowFault> 
 pub fn judge_turns(alloc: Global, words: &[&str], out: &mut String) -> Result<(), RowFault> {
     let transcript = transcript_of(alloc, words)?;
     write!(out, "{}", judge(alloc, &transcript)?)?;
+    Ok(())
+}
+
+/// `judge_client END SENT GOT ..`: the same where a client is tested.
+pub fn judge_client_turns(alloc: Global, words: &[&str], out: &mut String) -> Result<(), RowFault> {
+    let transcript = transcript_of(alloc, words)?;
+    write!(out, "{}", judge_end(alloc, Role::Client, &transcript)?)?;
     Ok(())
 }
 

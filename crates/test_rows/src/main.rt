@@ -57,6 +57,7 @@ fn answer_to(alloc: Global, row: &str) -> Result<String, RowFault> {
         "capture" => captures::write_again(alloc, words, &mut out)?,
         "capture_fault" => captures::tell_no_memory(words, &mut out)?,
         "judge" => captures::judge_turns(alloc, words, &mut out)?,
+        "judge_client" => captures::judge_client_turns(alloc, words, &mut out)?,
         "written" => captures::write_turns(alloc, words, &mut out)?,
         "verdict" => peers::tell_verdict(alloc, words, &mut out)?,
         "verdicts" => peers::count_passes(alloc, words, &mut out)?,

@@ -31,11 +31,7 @@ pub fn judge(alloc: Global, transcript: &Transcript) -> Result<Verdict, NoMemory
 /// Whether the tested end, which has this role, kept the rules, by all that went over a connection: the lowest `Fail`
 /// that applies, else the lowest `Loose`, else `Pass`. What is due is what an echo sends back (RFC 6455 sections 5.4 to
 /// 5.5.3).
-pub fn judge_end(
-    alloc: Global,
-    tested: Role,
-    transcript: &Transcript,
-) -> Result<Verdict, NoMemory>
+pub fn judge_end(alloc: Global, tested: Role, transcript: &Transcript) -> Result<Verdict, NoMemory>
     ensures { IfOk result (λ verdict. IsVerdictOf tested transcript.now verdict) }
 {
     let evidence = evidence_of(alloc, tested, transcript)?;

@@ -20,7 +20,7 @@ use Rattle.wst_run.specs.Serve.{HasServed, ServesClients, StopsAtServed, connect
 -- the line of one connection more
 pub one_line_more : (number : ℕ) (served : List Served) (next : Served)
     → connection_lines number (served ++ next ∷ []) ≡ connection_lines number served ++ connection_line
-        (number + length served) next
+    (number + length served) next
 one_line_more number [] next =
     let same : number ≡ number + 0 = omega arith in
     append-nil (connection_line number next) ∙ ap (λ (n : ℕ). connection_line n next) same
@@ -28,9 +28,9 @@ one_line_more number (first ∷ more) next =
     let same : (number + 1) + length more ≡ number + length (first ∷ more) = omega arith in
     ap (λ (l : List ℕ). connection_line number first ++ l) (one_line_more (number + 1) more next)
     ∙ sym (append_assoc (connection_line number first) (connection_lines (number + 1) more)
-        (connection_line ((number + 1) + length more) next))
+    (connection_line ((number + 1) + length more) next))
     ∙ ap (λ (n : ℕ). (connection_line number first ++ connection_lines (number + 1) more) ++ connection_line n next)
-        same
+    same
 
 -- ---- the connections so far
 
@@ -52,14 +52,14 @@ pub served_more : (MayEnd : Served → Type 0) (n : ℕ) (next : Served) (old mi
 served_more MayEnd n next old mid new before is written =
     let number : n + 1 ≡ 1 + length before.served = omega (arith, before.counted) in
     let line : Appends mid new (connection_line (1 + length before.served) next) = subst
-        (λ (k : ℕ). Appends mid new (connection_line k next)) number written in
+    (λ (k : ℕ). Appends mid new (connection_line k next)) number written in
     let long = length-append before.served (next ∷ []) in record {
       served = before.served ++ next ∷ [];
       counted = omega (arith, long, before.counted);
       are_served = All-push MayEnd before.served next before.are_served is;
       written = subst (λ (l : List ℕ). Appends old new l) (sym (one_line_more 1 before.served next))
           (Appends-trans old mid new (connection_lines 1 before.served)
-              (connection_line (1 + length before.served) next) before.written line);
+          (connection_line (1 + length before.served) next) before.written line);
     }
 
 has_served : (MayEnd : Served → Type 0) (n : ℕ) (old new : Option (List ℕ)) (failed : Bool)
@@ -87,7 +87,7 @@ serves_no_more MayEnd count n old new failed so works few =
 pub serves_till_memory : (MayEnd : Served → Type 0) (count : ℕ) (n : ℕ) (old mid new : Option (List ℕ))
     (failed : Bool) (fault : Fault) → HasServedSo MayEnd n old mid → failed ≡ false
     → n < count → fault ≡ NoMemory → mid ≡ new
-        → ServesClients MayEnd count [] (Err fault) (record { failed = failed; old = old; new = new })
+    → ServesClients MayEnd count [] (Err fault) (record { failed = failed; old = old; new = new })
 serves_till_memory MayEnd count n old mid new failed fault so works few is same =
     let kept : HasServedSo MayEnd n old new = subst (λ (x : Option (List ℕ)). HasServedSo MayEnd n old x) same so in
     (kept.served, (is, omega (arith, kept.counted, few), has_served MayEnd n old new failed kept works))
@@ -96,14 +96,14 @@ serves_till_memory MayEnd count n old mid new failed fault so works few is same 
 pub serves_till_line : (MayEnd : Served → Type 0) (count : ℕ) (n : ℕ) (next : Served) (old mid new : Option (List ℕ))
     (failed : Bool) (exit : Exit) → HasServedSo MayEnd n old mid
     → MayEnd next → n < count → failed ≡ true
-        → Delivers Done (connection_line (n + 1) next) exit (record { failed = failed; old = mid; new = new })
+    → Delivers Done (connection_line (n + 1) next) exit (record { failed = failed; old = mid; new = new })
     → ServesClients MayEnd count [] (Ok exit) (record { failed = failed; old = old; new = new })
 serves_till_line MayEnd count n next old mid new failed exit so is few fails told =
     let (failure, (front, more, parts, begun)) = was_begun Done exit (connection_line (n + 1) next)
-        (record { failed = failed; old = mid; new = new }) told fails in
+    (record { failed = failed; old = mid; new = new }) told fails in
     let number : n + 1 ≡ length so.served + 1 = omega (arith, so.counted) in
     let line : connection_line (length so.served + 1) next ≡ front ++ more = ap (λ (k : ℕ). connection_line k next)
-        (sym number) ∙ parts in
+    (sym number) ∙ parts in
     let stops : StopsAtServed MayEnd count [] so.served (record { failed = failed; old = old; new = new }) = record {
       few = omega (arith, so.counted, few);
       are_served = so.are_served;
@@ -113,7 +113,7 @@ serves_till_line MayEnd count n next old mid new failed exit so is few fails tol
       begun = (front, more, line, Appends-trans old mid new (connection_lines 1 so.served) front so.written begun);
     } in
     subst (λ (e : Exit). ServesClients MayEnd count [] (Ok e) (record { failed = failed; old = old; new = new }))
-        (sym failure) (so.served, inr stops)
+    (sym failure) (so.served, inr stops)
 
 -- ---- after other bytes
 
@@ -124,7 +124,7 @@ written_after old mid new before bytes p q = Appends-trans old mid new before by
 served_after : (MayEnd : Served → Type 0) (before : List ℕ) (served : List Served) (old mid new : Option (List ℕ))
     (failed : Bool) → Appends old mid before
     → HasServed MayEnd [] served (record { failed = failed; old = mid; new = new })
-        → HasServed MayEnd before served (record { failed = failed; old = old; new = new })
+    → HasServed MayEnd before served (record { failed = failed; old = old; new = new })
 served_after MayEnd before served old mid new failed first has = record {
   are_served = has.are_served;
   works = has.works;
@@ -134,7 +134,7 @@ served_after MayEnd before served old mid new failed first has = record {
 stops_after : (MayEnd : Served → Type 0) (count : ℕ) (before : List ℕ) (served : List Served)
     (old mid new : Option (List ℕ)) (failed : Bool) → Appends old mid before
     → StopsAtServed MayEnd count [] served (record { failed = failed; old = mid; new = new })
-        → StopsAtServed MayEnd count before served (record { failed = failed; old = old; new = new })
+    → StopsAtServed MayEnd count before served (record { failed = failed; old = old; new = new })
 stops_after MayEnd count before served old mid new failed first stops =
     let (front, more, parts, begun) = stops.begun in
     let all = written_after old mid new before (connection_lines 1 served ++ front) first begun in record {
@@ -143,14 +143,19 @@ stops_after MayEnd count before served old mid new failed first stops =
       next = stops.next;
       is_next = stops.is_next;
       failed = stops.failed;
-      begun = (front, more, parts, subst (λ (l : List ℕ). Appends old new l)
-          (sym (append_assoc before (connection_lines 1 served) front)) all);
+      begun = (
+        front,
+        more,
+        parts,
+        subst (λ (l : List ℕ). Appends old new l)
+            (sym (append_assoc before (connection_lines 1 served) front)) all,
+      );
     }
 
 pub serves_after : (MayEnd : Served → Type 0) (count : ℕ) (before : List ℕ) (ended : Result Exit Fault)
     (old mid new : Option (List ℕ)) (failed : Bool) → Appends old mid before
     → ServesClients MayEnd count [] ended (record { failed = failed; old = mid; new = new })
-        → ServesClients MayEnd count before ended (record { failed = failed; old = old; new = new })
+    → ServesClients MayEnd count before ended (record { failed = failed; old = old; new = new })
 serves_after MayEnd count before (Ok Done) old mid new failed first (served, (all, has)) =
     (served, (all, served_after MayEnd before served old mid new failed first has))
 serves_after MayEnd count before (Ok Failed) old mid new failed first (served, inl (few, has)) =

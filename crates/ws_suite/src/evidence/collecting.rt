@@ -63,12 +63,7 @@ fn other(role: Role) -> Role
 }
 
 /// What one direction says to the end that takes it, which has this role.
-fn direction_of(
-    alloc: Global,
-    way: Way,
-    role: Role,
-    turns: &[Turn],
-) -> Result<Direction, NoMemory>
+fn direction_of(alloc: Global, way: Way, role: Role, turns: &[Turn]) -> Result<Direction, NoMemory>
     ensures { IfOk result (λ direction. IsDirectionOf role (found_by way) (turns_by way turns.now) direction) }
 {
     let Some(limits) = Limits::new(MAX_MESSAGE) else {

@@ -110,8 +110,7 @@ fn has_other_end(tested: Role, x: &Evidence) -> bool
     if x.due.ending.is_none() {
         x.ended != Ended::Tester
     } else {
-        x.ended == Ended::Tester
-            && (tested == Role::Server || !ends_with_close(&x.got.ending))
+        x.ended == Ended::Tester && (tested == Role::Server || !ends_with_close(&x.got.ending))
     }
 }
 

@@ -12,17 +12,17 @@ pub returns-then-failed : goal.returns-then-failed
 returns-then-failed g c =
     let broken : has_failed c.tell_listening.new.writer ≡ true = sym c.failed.ensures ∙ c.if-failed.true in
     let (failure, begun) = was_begun Done c.in_ok-told.told (listening_line c.args.plan.now.address.now)
-        (watched g.W.Write.contents c.args.writer.now c.tell_listening.new.writer) c.in_ok-told.ensures broken in
+    (watched g.W.Write.contents c.args.writer.now c.tell_listening.new.writer) c.in_ok-told.ensures broken in
     inr (inl (ap (λ e. Ok e) failure, broken, begun))
 
 pub returns : goal.returns
 returns g c =
     let still : has_failed c.tell_listening.new.writer ≡ false = sym c.failed.ensures ∙ c.if-failed.false in
     let line = was_written Done c.in_ok-told.told (listening_line c.args.plan.now.address.now)
-        (watched g.W.Write.contents c.args.writer.now c.tell_listening.new.writer) c.in_ok-told.ensures still in
+    (watched g.W.Write.contents c.args.writer.now c.tell_listening.new.writer) c.in_ok-told.ensures still in
     inl (serves_after (IsServedBy c.args.plan.now) c.args.plan.now.count
-        (listening_line c.args.plan.now.address.now) c.serve_clients.result
-        (g.W.Write.contents (inner_of c.args.writer.now))
+    (listening_line c.args.plan.now.address.now) c.serve_clients.result
+    (g.W.Write.contents (inner_of c.args.writer.now))
     (g.W.Write.contents (inner_of c.tell_listening.new.writer))
-        (g.W.Write.contents (inner_of c.serve_clients.new.writer))
-        (has_failed c.serve_clients.new.writer) line c.serve_clients.ensures)
+    (g.W.Write.contents (inner_of c.serve_clients.new.writer))
+    (has_failed c.serve_clients.new.writer) line c.serve_clients.ensures)

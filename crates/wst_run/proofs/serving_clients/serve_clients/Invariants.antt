@@ -8,4 +8,4 @@ use Rattle.wst_run.proofs.serving_clients.serve_clients.Given as goal
 abbrev pub invariant-loop-served_before : goal.invariant-loop-served_before
 invariant-loop-served_before g l = (has_failed l.writer ≡ false)
     × HasServedSo (g.C.Clients.ends l.clients l.plan) l.served_before (g.W.Write.contents (inner_of l.initial.writer))
-        (g.W.Write.contents (inner_of l.writer))
+    (g.W.Write.contents (inner_of l.writer))
