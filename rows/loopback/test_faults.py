@@ -2,7 +2,7 @@
 
 from server import Tested
 from test_lines import passes
-from wire import EMPTY_TEXT, RESPONSE, request_to
+from wire import CLOSE_BACK, EMPTY_TEXT, RESPONSE, request_to
 
 LARGE = b"HTTP/1.1 101 Switching Protocols\r\nX: " + b"a" * 9000
 
@@ -51,6 +51,27 @@ def ends_in_a_frame():
     server.ends("1.1.1 FAIL NotFrames\n0 pass, 0 loose, 1 fail\n", status=1)
 
 
+def sends_a_fault_and_waits():
+    """A server whose bytes are at fault keeps the test waiting no longer, whatever it does next."""
+    server = Tested("1.1.1", "1.1.1")
+    client = server.next()
+    client.send(RESPONSE, b"\x83\x00")
+    assert server.line() == "1.1.1 FAIL NotFrames"
+    client.close()
+    passes(server)
+    server.ends("1.1.1 PASS\n1 pass, 0 loose, 1 fail\n", status=1)
+
+
+def closes_first_and_waits():
+    """The first turn is sent to a server that closes at once, and nothing behind it."""
+    server = Tested("1.1.1")
+    client = server.next()
+    client.send(RESPONSE, CLOSE_BACK)
+    assert client.rest() == request_to(server.address) + EMPTY_TEXT
+    client.close()
+    server.ends("1.1.1 FAIL Messages\n0 pass, 0 loose, 1 fail\n", status=1)
+
+
 def garbage_for_a_head():
     for answer, name in (
         (b"\x00\x01\x02\r\n\r\n", "Head"),
@@ -83,6 +104,8 @@ TESTS = [
     resets_in_the_head,
     resets_in_mid_case,
     ends_in_a_frame,
+    sends_a_fault_and_waits,
+    closes_first_and_waits,
     garbage_for_a_head,
     never_answers,
 ]

@@ -72,6 +72,19 @@ def one_byte_a_packet_of_a_server():
     server.ends(ONE_PASS)
 
 
+def a_server_that_waits_for_the_testers_end():
+    """Behind the close of the server the tester ends its own direction, and reads on."""
+    server = Tested("1.1.1")
+    client = server.next()
+    client.send(RESPONSE, EMPTY_BACK)
+    sent = request_to(server.address) + EMPTY_TEXT + MASKED_CLOSE
+    assert client.get(len(sent)) == sent
+    client.send(CLOSE_BACK)
+    assert client.rest() == b""
+    client.close()
+    server.ends(ONE_PASS)
+
+
 def offers():
     for answer in (NAMES_SUPERCHAT, RESPONSE):
         server = Tested("--protocols=chat,superchat", "1.1.1")
@@ -152,6 +165,7 @@ TESTS = [
     a_connection_a_case,
     a_frame_in_the_packet_of_the_head,
     one_byte_a_packet_of_a_server,
+    a_server_that_waits_for_the_testers_end,
     offers,
     what_was_not_offered,
     by_name,

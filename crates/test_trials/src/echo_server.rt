@@ -11,6 +11,7 @@ use std::io::{ErrorKind, Read, Write};
 use std::rc::Rc;
 use std::test::Fail;
 use ws_base::NoMemory;
+use ws_connection::EndsDirection;
 use ws_peer::{EchoPeer, Peer};
 use ws_upgrade::{RequestRead, read_request, response};
 
@@ -81,6 +82,12 @@ impl Write for ServerInput {
     }
 
     fn flush(&mut self) -> io::Result<()> {
+        Ok(())
+    }
+}
+
+impl EndsDirection for ServerInput {
+    fn end_direction(&mut self) -> io::Result<()> {
         Ok(())
     }
 }

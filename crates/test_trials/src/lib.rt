@@ -17,6 +17,8 @@ mod inputs;
 #[cfg(test)]
 mod judging;
 #[cfg(test)]
+mod manners;
+#[cfg(test)]
 mod masks;
 #[cfg(test)]
 mod memory_net;

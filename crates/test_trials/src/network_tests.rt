@@ -4,14 +4,14 @@
 use crate::comparing::{same_bytes, same_number};
 use crate::memory_net::{Book, MemoryNet};
 use crate::probe_faults::{REQUEST, answer};
-use crate::probes::run_case;
+use crate::probes::{BUDGET, run_case};
 use crate::running::run_over;
 use std::alloc::Global;
 use std::io::ErrorKind;
 use std::process::Abort;
 use std::test::Fail;
-use ws_connection::Probe;
-use ws_frame::{ByteReader, ByteWriter, Failing, Watched};
+use ws_connection::{Connection, Probe};
+use ws_frame::{ByteReader, ByteWriter, Failing};
 use ws_suite::judge;
 
 /// So many bytes an echo sends in the case 5.19 behind its response.
@@ -48,7 +48,7 @@ fn check(
     Ok(())
 }
 
-/// Two connections to an echo.
+/// Two connections to an echo, whose own directions are ended behind its close.
 #[test]
 fn two_connections(rt: HostRuntime) -> Result<(), Fail> {
     let answer = answer(rt.alloc(), GOT)?;
@@ -56,6 +56,7 @@ fn two_connections(rt: HostRuntime) -> Result<(), Fail> {
     let lines = b"5.19 PASS\n5.19 PASS\n2 pass, 0 loose, 0 fail\n";
     check(&rt, rt.alloc(), TWO, &book, 0, lines)?;
     same_number(&rt, 0, book.asked.get(), 2);
+    same_number(&rt, 3, book.ended.get(), 2);
     let written = book.written.into_inner();
     let request = REQUEST.len();
     same_number(&rt, 1, written.len() as u64, (2 * (request + SENT)) as u64);
@@ -87,9 +88,9 @@ fn refused_connections(rt: HostRuntime) -> Result<(), Fail> {
 
 /// The name of a case, and what is told of a probe of it over devices that fail so.
 fn line_of(alloc: Global, answer: &[u8], reads: Failing, writes: Failing) -> Result<Vec<u8>, Fail> {
-    let mut reader = Watched::new(ByteReader::new(answer, reads));
-    let mut writer = Watched::new(ByteWriter::new(alloc, writes));
-    let line = match run_case(alloc, "5.19", &mut reader, &mut writer)? {
+    let reader = ByteReader::new(answer, reads);
+    let mut connection = Connection::new(reader, ByteWriter::new(alloc, writes), BUDGET);
+    let line = match run_case(alloc, "5.19", &mut connection)? {
         Some(Probe::Ran(transcript)) => {
             let verdict = judge(alloc, &transcript)?;
             format!(in alloc; "5.19 {verdict}\n")?

@@ -2,11 +2,12 @@
 //! a script fails, once and for good; each write takes nothing; the stream ends at each byte.
 
 use crate::comparing::{same_answer, same_bytes, same_number};
-use crate::probes::{After, RESPONSE, after_run, ended_so, run_case};
+use crate::probes::{After, BUDGET, RESPONSE, after_run, ended_so, run_case};
 use std::alloc::Global;
 use std::process::Abort;
 use std::test::Fail;
-use ws_frame::{ByteReader, ByteWriter, Counting, Failing, FullWriter, Watched};
+use ws_connection::Connection;
+use ws_frame::{ByteReader, ByteWriter, Counting, Failing, FullWriter};
 use ws_suite::Ended;
 
 /// What is written for the handshake: a request with this host and nonce.
@@ -68,32 +69,32 @@ fn after_bytes(
     reads: Failing,
     writes: Failing,
 ) -> Result<Devices, Fail> {
-    let mut reader = Watched::new(ByteReader::new(answer, reads));
-    let mut writer = Watched::new(ByteWriter::new(alloc, writes));
-    let probe = run_case(alloc, "5.19", &mut reader, &mut writer)?;
+    let reader = ByteReader::new(answer, reads);
+    let mut connection = Connection::new(reader, ByteWriter::new(alloc, writes), BUDGET);
+    let probe = run_case(alloc, "5.19", &mut connection)?;
     let told = after_run(alloc, probe)?;
-    let device = writer.into_inner();
+    let (reader, device) = connection.into_parts();
     Ok(Devices {
         told,
         writes: device.calls,
         written: device.taken,
-        reads: reader.into_inner().calls,
+        reads: reader.calls,
     })
 }
 
 /// A run over such an answer, and a writer that takes so many bytes, one a write, and then none.
 fn after_full(alloc: Global, answer: &[u8], room: usize) -> Result<Devices, Fail> {
-    let mut reader = Watched::new(ByteReader::new(answer, Failing::Never));
+    let reader = ByteReader::new(answer, Failing::Never);
     let full = FullWriter::new(alloc, room);
-    let mut writer = Watched::new(Counting::new(alloc, full));
-    let probe = run_case(alloc, "5.19", &mut reader, &mut writer)?;
+    let mut connection = Connection::new(reader, Counting::new(alloc, full), BUDGET);
+    let probe = run_case(alloc, "5.19", &mut connection)?;
     let told = after_run(alloc, probe)?;
-    let device = writer.into_inner();
+    let (reader, device) = connection.into_parts();
     Ok(Devices {
         told,
         writes: device.lengths.len() as u64,
         written: device.inner.taken,
-        reads: reader.into_inner().calls,
+        reads: reader.calls,
     })
 }
 

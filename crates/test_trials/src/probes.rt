@@ -1,19 +1,18 @@
 //! `probe` over memory: an echo behind it, answers that are refused or cut, frames with the head, and a script without
 //! turns.
 
-ghost use Rattle.std.specs.Prelude.{◌≡◌, false};
-ghost use Rattle.ws_frame.specs.Watching.{has_failed};
+ghost use Rattle.ws_connection.specs.Connections.{IsNewConnection};
 ghost use Rattle.ws_scripts.specs.Scripts.{CanBeRun};
 
 use crate::comparing::{same_answer, same_bytes, same_number};
 use crate::echo_server::echo_server;
 use crate::probe_faults::{REQUEST, answer};
 use std::alloc::Global;
-use std::io::{Read, Write};
+use std::io::Read;
 use std::test::Fail;
 use ws_base::Sequence;
-use ws_connection::{NONCE, Probe, probe};
-use ws_frame::{ByteReader, Failing, Watched};
+use ws_connection::{Asked, Connection, EndsDirection, NONCE, Probe, probe};
+use ws_frame::{ByteReader, Failing};
 use ws_suite::{Case, Chop, Ended, Verdict, case, judge};
 use ws_upgrade::{HeadFault, request_with};
 
@@ -23,39 +22,45 @@ pub const HOST: &[u8] = b"localhost:9001";
 /// The key of each frame.
 const KEY: [u8; 4] = [0x37, 0xfa, 0x21, 0x3d];
 
+/// More bytes than any server here sends.
+pub const BUDGET: u64 = 100_000;
+
 /// The response that accepts.
 pub const RESPONSE: &[u8] =
     b"HTTP/1.1 101 Switching Protocols\r\nUpgrade: websocket\r\nConnection: Upgrade\r\n\
     Sec-WebSocket-Accept: s3pPLMBiTxaQ9kYGzzhZRbK+xOo=\r\n\r\n";
 
 /// Runs a case of the tables, without offers.
-pub fn run_case<R: Read, W: Write>(
+pub fn run_case<R: Read, W: EndsDirection>(
     alloc: Global,
     id: &str,
-    reader: &mut Watched<R>,
-    writer: &mut Watched<W>,
+    connection: &mut Connection<R, W>,
 ) -> Result<Option<Probe>, Fail>
-    requires reader_works { has_failed reader.old ≡ false }
-    requires writer_works { has_failed writer.old ≡ false }
+    requires { IsNewConnection connection.old }
 {
-    run_case_with(alloc, id, &[], reader, writer)
+    run_case_with(alloc, id, &[], false, connection)
 }
 
-/// Runs a case of the tables, and offers these subprotocols.
-pub fn run_case_with<R: Read, W: Write>(
+/// Runs a case of the tables, and offers these subprotocols. Reads can wait in vain, or they can't.
+pub fn run_case_with<R: Read, W: EndsDirection>(
     alloc: Global,
     id: &str,
     offers: &[&[u8]],
-    reader: &mut Watched<R>,
-    writer: &mut Watched<W>,
+    has_timeouts: bool,
+    connection: &mut Connection<R, W>,
 ) -> Result<Option<Probe>, Fail>
-    requires reader_works { has_failed reader.old ≡ false }
-    requires writer_works { has_failed writer.old ≡ false }
+    requires { IsNewConnection connection.old }
 {
     // What is asked of this host can be asked.
     let _text = request_with(alloc, HOST, b"/", NONCE, offers)?;
+    let asked = Asked {
+        host: HOST,
+        protocols: offers,
+        key: KEY,
+        has_timeouts,
+    };
     match case(alloc, id)? {
-        Some(case) => Ok(Some(probe(alloc, &case, HOST, reader, writer, KEY, offers)?)),
+        Some(case) => Ok(Some(probe(alloc, &case, &asked, connection)?)),
         None => Ok(None),
     }
 }
@@ -107,8 +112,8 @@ pub fn ended_so(after: &After, wanted: Option<Ended>) -> bool {
 fn an_echo_passes(rt: HostRuntime) -> Result<(), Fail> {
     for id in ["1.1.1", "2.5", "5.19"] {
         let (input, output) = echo_server(rt.alloc())?;
-        let (mut reader, mut writer) = (Watched::new(output), Watched::new(input));
-        let passes = match run_case(rt.alloc(), id, &mut reader, &mut writer)? {
+        let mut connection = Connection::new(output, input, BUDGET);
+        let passes = match run_case(rt.alloc(), id, &mut connection)? {
             Some(Probe::Ran(transcript)) => matches!(
                 judge(rt.alloc(), &transcript)?,
                 Verdict::Pass
@@ -122,9 +127,8 @@ fn an_echo_passes(rt: HostRuntime) -> Result<(), Fail> {
 
 /// What comes of an answer that has no frames.
 fn after_answer(alloc: Global, answer: &[u8]) -> Result<Option<Probe>, Fail> {
-    let mut reader = Watched::new(answer);
-    let mut writer = Watched::new(Vec::new(alloc));
-    run_case(alloc, "1.1.1", &mut reader, &mut writer)
+    let mut connection = Connection::new(answer, Vec::new(alloc), BUDGET);
+    run_case(alloc, "1.1.1", &mut connection)
 }
 
 /// Whether an answer is refused for this.
@@ -197,15 +201,22 @@ fn each_cut_of_the_head(rt: HostRuntime) -> Result<(), Fail> {
 fn frames_with_the_head(rt: HostRuntime) -> Result<(), Fail> {
     let mut answer = Vec::from_slice(rt.alloc(), RESPONSE)?;
     answer.extend_from_slice(b"\x81\x00\x88\x02\x03\xe8")?;
-    let mut reader = Watched::new(answer.as_slice());
-    let mut writer = Watched::new(Vec::new(rt.alloc()));
-    let ran = run_case(rt.alloc(), "2.5", &mut reader, &mut writer)?;
+    let mut connection = Connection::new(answer.as_slice(), Vec::new(rt.alloc()), BUDGET);
+    let ran = run_case(rt.alloc(), "2.5", &mut connection)?;
     let after = after_run(rt.alloc(), ran)?;
     same_answer(&rt, 0, ended_so(&after, Some(Ended::Peer)), true);
     same_number(&rt, 1, after.turns, 1);
     same_bytes(&rt, 2, after.got.as_slice(), b"\x81\x00\x88\x02\x03\xe8");
     Ok(())
 }
+
+/// What a script without steps asks for.
+const ASKED: Asked<'static> = Asked {
+    host: HOST,
+    protocols: &[],
+    key: KEY,
+    has_timeouts: false,
+};
 
 /// A script without steps.
 fn no_steps(alloc: Global) -> Case
@@ -224,14 +235,14 @@ fn a_script_without_turns(rt: HostRuntime) -> Result<(), Fail> {
     let _text = request_with(rt.alloc(), HOST, b"/", NONCE, &[])?;
     let case = no_steps(rt.alloc());
     let answer = answer(rt.alloc(), 8)?;
-    let mut reader = Watched::new(answer.as_slice());
-    let mut writer = Watched::new(Vec::new(rt.alloc()));
-    let ran = probe(rt.alloc(), &case, HOST, &mut reader, &mut writer, KEY, &[])?;
+    let mut connection = Connection::new(answer.as_slice(), Vec::new(rt.alloc()), BUDGET);
+    let ran = probe(rt.alloc(), &case, &ASKED, &mut connection)?;
     let after = after_run(rt.alloc(), Some(ran))?;
     same_answer(&rt, 0, ended_so(&after, Some(Ended::Tester)), true);
     same_number(&rt, 1, after.turns, 1);
     same_bytes(&rt, 2, after.got.as_slice(), b"\x8a\x06ping 1");
-    same_bytes(&rt, 3, writer.into_inner().as_slice(), REQUEST);
+    let (_, written) = connection.into_parts();
+    same_bytes(&rt, 3, written.as_slice(), REQUEST);
     Ok(())
 }
 
@@ -241,12 +252,13 @@ fn a_script_without_turns_reads_no_further(rt: HostRuntime) -> Result<(), Fail> 
     let _text = request_with(rt.alloc(), HOST, b"/", NONCE, &[])?;
     let case = no_steps(rt.alloc());
     let answer = answer(rt.alloc(), 8)?;
-    let mut reader = Watched::new(ByteReader::new(answer.as_slice(), Failing::Never));
-    let mut writer = Watched::new(Vec::new(rt.alloc()));
-    let ran = probe(rt.alloc(), &case, HOST, &mut reader, &mut writer, KEY, &[])?;
+    let reader = ByteReader::new(answer.as_slice(), Failing::Never);
+    let mut connection = Connection::new(reader, Vec::new(rt.alloc()), BUDGET);
+    let ran = probe(rt.alloc(), &case, &ASKED, &mut connection)?;
     let after = after_run(rt.alloc(), Some(ran))?;
     same_answer(&rt, 0, ended_so(&after, Some(Ended::Tester)), true);
     same_number(&rt, 1, after.turns, 0);
-    same_number(&rt, 2, reader.into_inner().left.len() as u64, 8);
+    let (reader, _) = connection.into_parts();
+    same_number(&rt, 2, reader.left.len() as u64, 8);
     Ok(())
 }

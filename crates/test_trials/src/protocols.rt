@@ -8,7 +8,7 @@ use crate::serves::{BUDGET, CLOSED};
 use std::alloc::Global;
 use std::process::Abort;
 use std::test::Fail;
-use ws_connection::{NONCE, Probe, Served, serve_one};
+use ws_connection::{Connection, NONCE, Probe, Served, serve_one};
 use ws_frame::Watched;
 use ws_upgrade::{HeadFault, request_with};
 
@@ -74,9 +74,8 @@ fn check_offers(
 ) -> Result<(), Fail> {
     let alloc = rt.alloc();
     let answer = with_line(alloc, RESPONSE, line)?;
-    let mut reader = Watched::new(answer.as_slice());
-    let mut writer = Watched::new(Vec::new(alloc));
-    let came = run_case_with(alloc, "1.1.1", offers, &mut reader, &mut writer)?;
+    let mut connection = Connection::new(answer.as_slice(), Vec::new(alloc), BUDGET);
+    let came = run_case_with(alloc, "1.1.1", offers, false, &mut connection)?;
     let as_due = match came {
         Some(Probe::Ran(_)) => runs,
         Some(Probe::Refused(fault)) => !runs && fault == HeadFault::Protocol,
@@ -84,7 +83,7 @@ fn check_offers(
     };
     same_answer(rt, case, as_due, true);
     let request = with_line(alloc, REQUEST, asked)?;
-    let written = writer.into_inner();
+    let (_, written) = connection.into_parts();
     let front = &written.as_slice()[..request.len().min(written.len())];
     same_bytes(rt, case, front, request.as_slice());
     Ok(())

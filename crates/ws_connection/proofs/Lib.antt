@@ -1,3 +1,5 @@
 pub mod HeadLemmas
 pub mod ServingLemmas
+pub mod ConnectionLemmas
+pub mod StandingLemmas
 pub mod ProbingLemmas

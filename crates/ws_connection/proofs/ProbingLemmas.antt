@@ -1,16 +1,14 @@
 -- What is recorded of a connection to a server, turn by turn.
-use Rattle.std.proofs.Common.{◌≡◌, ℕ, ◌+◌, ◌-◌, ◌<◌, ◌≤◌, ◌⊎◌, inl, inr, List, [], ◌∷◌, ◌++◌, length, length-append, get_or, take, drop, Bool, true, false, Option, refl, sym, ap, ◌∙◌, subst, arith, append_assoc, append-nil, take_all, take-append-drop, rules}
+use Rattle.std.proofs.Common.{◌≡◌, ℕ, ◌+◌, ◌-◌, ◌<◌, ◌≤◌, ◌⊎◌, ◌↔◌, inl, inr, List, [], ◌∷◌, ◌++◌, length, length-append, get_or, take, drop, Bool, true, false, ◌||◌, Option, refl, sym, ap, ◌∙◌, subst, arith, append_assoc, append-nil, take_all, take-append-drop}
 use Rattle.std.proofs.lemmas.List.{take_rest, take_more, length-drop, map-append}
 use Rattle.std.proofs.lemmas.List.Folds.{concat-append}
-use Rattle.std.proofs.lemmas.Bool.{ltb-true}
+use Rattle.std.proofs.lemmas.Bool.{ltb-true, ltb-false}
 use Rattle.std.proofs.Math.Dec.{ltb}
-use Rattle.std.proofs.Math.Seq.{take-add}
-use Rattle.std.proofs.KnownBytes.{Appends-nil, Appends-trans, Appends-kept, Consumes-nil, Consumes-trans}
+use Rattle.std.proofs.KnownBytes.{Appends-nil, Appends-trans, Appends-kept, Consumes-nil, Consumes-trans, Keeps-refl}
 use Rattle.std.specs.Prelude.{None, Some, map}
 use Rattle.std.specs.List.{AllZip, concat}
-use Rattle.std.specs.Io.KnownBytes.{Appends, Keeps}
-use Rattle.ws_frame.specs.Devices.{Device, HasRead, HasWritten}
-use Rattle.ws_scripts.specs.declared.script.Case.{Case}
+use Rattle.std.specs.Io.KnownBytes.{Appends, Consumes, IsAtEnd, Keeps}
+use Rattle.ws_session.specs.Exchange.{SessionValue}
 use Rattle.ws_scripts.specs.declared.script.Chop.{Chop}
 use Rattle.ws_scripts.specs.declared.script.Step.{Step}
 use Rattle.ws_scripts.specs.declared.transcript.Ended.{Ended}
@@ -20,21 +18,32 @@ use Rattle.ws_scripts.specs.declared.transcript.Transcript.{Transcript}
 use Rattle.ws_suite.specs.Evidence.{sent_turns}
 use Rattle.ws_scripts.specs.Scripts.{ArePieces, turn_bytes}
 use Rattle.ws_peer.specs.Runs.{with_finish}
-use Rattle.ws_upgrade.specs.declared.faults.HeadFault.{HeadFault}
+use Rattle.ws_connection.specs.ConnectionValues.{InputValue, ConnectionRun, ConnectionValue, OutputValue}
+use Rattle.ws_connection.specs.Connections.{ReadsBytes, WritesBytes, HasWorked, is_open, read_failed}
+use Rattle.ws_connection.specs.Standings.{HasHeard, HasNoGotFault, Stands, standing_by}
+use Rattle.ws_connection.specs.declared.incoming.Incoming.{Incoming}
+use Rattle.ws_connection.specs.declared.incoming.Incoming.TheVariants.{Unread, Open, AtEnd, Waited as WaitedState, Failed as FailedState}
+use Rattle.ws_connection.specs.declared.standing.Standing.{Standing}
+use Rattle.ws_connection.specs.declared.standing.Standing.TheVariants.{Going, Closed, Faulty}
+use Rattle.ws_connection.specs.declared.probing.turn.TurnStop.{TurnStop}
+use Rattle.ws_connection.specs.declared.probing.turn.TurnStop.TheVariants.{IsThere, Fault, Waited, End, Failed, Budget}
+use Rattle.ws_connection.specs.Probing.{EndsScript, EndsTurn, HasGotFirst, HasSentOf, MayFollow, all_got, all_sent, max_piece}
+use Rattle.ws_connection.specs.InnerProbeTurns.{GoesOnOrEnds, IsGotAtStop, IsReadStop, IsReady, IsStopBefore, IsTurnStop, ReadsPiece, ReadsTurn, Records, RunsTurn, SendsTurn, StopsBefore, end_of_turn, is_closed}
+use Rattle.ws_connection.specs.InnerProbeTurns.{AnswersBehind, stop_at}
+use Rattle.ws_connection.specs.Connections.{IsNewConnection, MayWrite, ReadsHeadOver, brings, takes_part}
+use Rattle.ws_connection.specs.Probing.{AnswersProbe, probe_nonce}
 use Rattle.ws_connection.specs.ReadingHeads.{ReadsHead}
 use Rattle.ws_connection.specs.Responses.{DecidesResponse, NeedsResponse}
-use Rattle.ws_connection.specs.declared.reading_head.HeadEnd.TheVariants.{Decided}
-use Rattle.ws_connection.specs.declared.response_head.ResponseDecision.TheVariants.{Accepted, Refused as RefusedHead}
+use Rattle.ws_connection.specs.declared.reading_head.HeadEnd.TheVariants.{Decided, Cut, ReadFault}
+use Rattle.ws_connection.specs.declared.response_head.ResponseDecision.TheVariants.{Accepted}
 use Rattle.ws_connection.specs.declared.probe_end.Probe.{Probe}
 use Rattle.ws_connection.specs.declared.probe_end.Probe.TheVariants.{Ran, Refused, NoConnection}
-use Rattle.ws_connection.specs.declared.probing.turn.TurnStop.{TurnStop}
-use Rattle.ws_connection.specs.declared.probing.turn.TurnStop.TheVariants.{IsThere, End, Fault}
-use Rattle.ws_connection.specs.Probing.{EndsScript, EndsTurn, HasGotFirst, Probes, all_got, all_sent, bytes_by_turn, probe_nonce, request_to}
-use Rattle.ws_connection.specs.InnerProbeTurns.{AnswersProbe, GoesOnOrEnds, IsTurnStop, ReadsTurn, Records, RunsTurn, SendsTurn, end_of_turn}
+use Rattle.ws_frame.specs.Watching.{AppendsFront}
+use Rattle.ws_connection.proofs.StandingLemmas.{OneList, closed_is, closed_is_over, going_not_closed, heard_stands, no_fault, one_standing}
 
--- a device after a run
-abbrev pub device : Bool → Option (List ℕ) → Option (List ℕ) → Device
-device failed old new = record { failed = failed; old = old; new = new }
+-- a run between two links
+abbrev pub between : ConnectionValue → ConnectionValue → ConnectionRun
+between old new = record { old = old; new = new }
 
 -- ---- lists
 
@@ -49,80 +58,372 @@ cut_of {X} xs i x item h e is =
 concat-last : (xs : List (List ℕ)) (x : List ℕ) → concat (xs ++ x ∷ []) ≡ concat xs ++ x
 concat-last xs x = concat-append xs (x ∷ []) ∙ ap (λ (l : List ℕ). concat xs ++ l) (append-nil x)
 
--- ---- a write of the rest
+written_more : (p q r : Option (List ℕ)) (sent after more : List ℕ) → Appends p q sent → Appends q r more → after ≡ sent ++ more → Appends p r after
+written_more p q r sent after more h w e = subst (λ (l : List ℕ). Appends p r l) (sym e) (Appends-trans p q r sent more h w)
 
-front_grows : (at n : ℕ) (xs : List ℕ) → take at xs ++ take n (take (length xs - at) (drop at xs)) ≡ take (at + n) xs
-front_grows at n xs = ap (λ (l : List ℕ). take at xs ++ take n l) (take_rest xs at) ∙ sym (take-add at n xs)
+-- ---- what is got after what was got
 
-pub part_more : (at n : ℕ) (xs : List ℕ) (a b c : Option (List ℕ)) → Appends a b (take at xs) → Appends b c (take n (take (length xs - at) (drop at xs))) → Appends a c (take (at + n) xs)
-part_more at n xs a b c p q = subst (λ (l : List ℕ). Appends a c l) (front_grows at n xs) (Appends-trans a b c (take at xs) (take n (take (length xs - at) (drop at xs))) p q)
+got_after : (x y z : ConnectionValue) (a b : List ℕ) → ReadsBytes a (between x y) → ReadsBytes b (between y z) → ReadsBytes (a ++ b) (between x z)
+got_after x y z a b h k = Consumes-trans x.input.left y.input.left z.input.left a b h k
 
-pub part_within : (at n : ℕ) (xs : List ℕ) → at ≤ length xs → n ≤ length (take (length xs - at) (drop at xs)) → at + n ≤ length xs
-part_within at n xs h k =
-    let e : length (take (length xs - at) (drop at xs)) ≡ length xs - at = ap (λ (l : List ℕ). length l) (take_rest xs at) ∙ length-drop at xs in
-    omega (arith, h, k, e)
+spent_after : (x y z : ConnectionValue) (a b : List ℕ) → x.input.allowance ≡ length a + y.input.allowance → y.input.allowance ≡ length b + z.input.allowance
+    → x.input.allowance ≡ length (a ++ b) + z.input.allowance
+spent_after x y z a b h k = let e : length (a ++ b) ≡ length a + length b = length-append a b in omega (arith, h, k, e)
+
+none_spent : (n : ℕ) → n ≡ 0 + n
+none_spent n = omega arith
 
 -- ---- the pieces of a turn
 
 -- the pieces before this one were sent
-pub record HasSentPieces (pieces : List (List ℕ)) (i : ℕ) (sent : List ℕ) (output : Device) : Type 0 where
+pub record HasSentPieces (pieces : List (List ℕ)) (i : ℕ) (sent : List ℕ) (run : ConnectionRun) : Type 0 where
   pub sent_is : sent ≡ concat (take i pieces)
-  pub has_written : HasWritten sent output
-  pub works : output.failed ≡ false
+  pub has_put : WritesBytes sent run
+  pub input : run.new.input ≡ run.old.input
+  pub ended : run.new.output.ended ≡ run.old.output.ended
+  pub works : run.new.output.failed ≡ false
 
-written_more : (p q r : Option (List ℕ)) (sent after more : List ℕ) → Appends p q sent → Appends q r more → after ≡ sent ++ more → Appends p r after
-written_more p q r sent after more h w e = subst (λ (l : List ℕ). Appends p r l) (sym e) (Appends-trans p q r sent more h w)
-
-pub piece_sent : (pieces : List (List ℕ)) (bytes : List ℕ) (i taken : ℕ) (sent after : List ℕ) (f g : Bool) (p q r : Option (List ℕ)) → HasSentPieces pieces i sent (device f p q) → Appends q r (take taken bytes)
-    → after ≡ sent ++ take taken bytes → length bytes ≤ taken → g ≡ false → take (i + 1) pieces ≡ take i pieces ++ bytes ∷ [] → HasSentPieces pieces (i + 1) after (device g p r)
-piece_sent pieces bytes i taken sent after f g p q r h w e all works next = record {
-  sent_is =
-      e ∙ ap (λ (l : List ℕ). l ++ take taken bytes) h.sent_is ∙ ap (λ (l : List ℕ). concat (take i pieces) ++ l) (take_all taken bytes all)
-      ∙ sym (concat-last (take i pieces) bytes) ∙ sym (ap (λ (l : List (List ℕ)). concat l) next);
-  has_written = written_more p q r sent after (take taken bytes) h.has_written w e;
+pub none_sent : (pieces : List (List ℕ)) (sent : List ℕ) (x : ConnectionValue) → sent ≡ [] → x.output.failed ≡ false → HasSentPieces pieces 0 sent (between x x)
+none_sent pieces sent x e works = record {
+  sent_is = e;
+  has_put = subst (λ (l : List ℕ). Appends x.output.held x.output.held l) (sym e) (Appends-nil x.output.held);
+  input = refl;
+  ended = refl;
   works = works;
 }
 
-pub pieces_sent : (pieces : List (List ℕ)) (i : ℕ) (sent : List ℕ) (output : Device) → HasSentPieces pieces i sent output → length pieces ≤ i → SendsTurn (concat pieces) true sent output
-pieces_sent pieces i sent output h all = (h.sent_is ∙ ap (λ (l : List (List ℕ)). concat l) (take_all i pieces all), h.has_written, h.works)
+pub piece_sent : (pieces : List (List ℕ)) (bytes : List ℕ) (i taken : ℕ) (sent after : List ℕ) (x y z : ConnectionValue) → HasSentPieces pieces i sent (between x y) → WritesBytes (take taken bytes) (between y z)
+    → after ≡ sent ++ take taken bytes → length bytes ≤ taken → z.output.failed ≡ false → z.input ≡ y.input → z.output.ended ≡ y.output.ended → take (i + 1) pieces ≡ take i pieces ++ bytes ∷ []
+    → HasSentPieces pieces (i + 1) after (between x z)
+piece_sent pieces bytes i taken sent after x y z h w e all works input ended next = record {
+  sent_is =
+      e ∙ ap (λ (l : List ℕ). l ++ take taken bytes) h.sent_is ∙ ap (λ (l : List ℕ). concat (take i pieces) ++ l) (take_all taken bytes all)
+      ∙ sym (concat-last (take i pieces) bytes) ∙ sym (ap (λ (l : List (List ℕ)). concat l) next);
+  has_put = written_more x.output.held y.output.held z.output.held sent after (take taken bytes) h.has_put w e;
+  input = input ∙ h.input;
+  ended = ended ∙ h.ended;
+  works = works;
+}
+
+pub pieces_sent : (pieces : List (List ℕ)) (i : ℕ) (sent : List ℕ) (x y : ConnectionValue) → HasSentPieces pieces i sent (between x y) → length pieces ≤ i → SendsTurn (concat pieces) sent (between x y)
+pieces_sent pieces i sent x y h all = record {
+  sends = subst (λ (b : Bool). HasSentOf (concat pieces) b sent) (sym h.works) (h.sent_is ∙ ap (λ (l : List (List ℕ)). concat l) (take_all i pieces all));
+  has_put = h.has_put;
+  input = h.input;
+  ended = h.ended;
+}
 
 regrouped : (a t d r : List ℕ) → a ++ ((t ++ d) ++ r) ≡ (a ++ t) ++ (d ++ r)
 regrouped a t d r = ap (λ (l : List ℕ). a ++ l) (append_assoc t d r) ∙ sym (append_assoc a t (d ++ r))
 
-pub piece_broken : (pieces : List (List ℕ)) (bytes : List ℕ) (i taken : ℕ) (sent after : List ℕ) (f g : Bool) (p q r : Option (List ℕ)) → HasSentPieces pieces i sent (device f p q) → Appends q r (take taken bytes)
-    → after ≡ sent ++ take taken bytes → g ≡ true → pieces ≡ take i pieces ++ bytes ∷ drop (i + 1) pieces → SendsTurn (concat pieces) false after (device g p r)
-piece_broken pieces bytes i taken sent after f g p q r h w e fails all =
+pub piece_broken : (pieces : List (List ℕ)) (bytes : List ℕ) (i taken : ℕ) (sent after : List ℕ) (x y z : ConnectionValue) → HasSentPieces pieces i sent (between x y) → WritesBytes (take taken bytes) (between y z)
+    → after ≡ sent ++ take taken bytes → z.output.failed ≡ true → z.input ≡ y.input → z.output.ended ≡ y.output.ended → pieces ≡ take i pieces ++ bytes ∷ drop (i + 1) pieces
+    → SendsTurn (concat pieces) after (between x z)
+piece_broken pieces bytes i taken sent after x y z h w e fails input ended all =
     let rest = concat (drop (i + 1) pieces) in
     let unsent : concat pieces ≡ after ++ (drop taken bytes ++ rest) =
     ap (λ (l : List (List ℕ)). concat l) all ∙ concat-append (take i pieces) (bytes ∷ drop (i + 1) pieces) ∙ ap (λ (l : List ℕ). concat (take i pieces) ++ (l ++ rest)) (sym (take-append-drop taken bytes))
     ∙ regrouped (concat (take i pieces)) (take taken bytes) (drop taken bytes) rest ∙ ap (λ (l : List ℕ). (l ++ take taken bytes) ++ (drop taken bytes ++ rest)) (sym h.sent_is)
     ∙ ap (λ (l : List ℕ). l ++ (drop taken bytes ++ rest)) (sym e) in
-    ((drop taken bytes ++ rest, unsent), written_more p q r sent after (take taken bytes) h.has_written w e, fails)
+    record {
+      sends = subst (λ (b : Bool). HasSentOf (concat pieces) b after) (sym fails) (drop taken bytes ++ rest, unsent);
+      has_put = written_more x.output.held y.output.held z.output.held sent after (take taken bytes) h.has_put w e;
+      input = input ∙ h.input;
+      ended = ended ∙ h.ended;
+    }
 
--- ---- a turn
+-- ---- what is read in a turn
 
-ends_turn : (bytes : List ℕ) (waits works : Bool) (stop : TurnStop) (sent : List ℕ) (input output : Device) → SendsTurn bytes works sent output → IsTurnStop waits works stop input → GoesOnOrEnds (end_of_turn works stop) bytes waits sent input output
-ends_turn bytes waits true IsThere sent input output (all, wrote, fine) (waiting, worked, read) = (waiting, all, (read, fine))
-ends_turn bytes waits true End sent input output (all, wrote, fine) (at_end, read) = (all, at_end, (read, fine))
-ends_turn bytes waits true Fault sent input output (all, wrote, fine) failed = inl (all, fine, failed)
-ends_turn bytes waits false IsThere sent input output (part, wrote, bad) (waiting, worked, read) = absurd (search (rules, worked))
-ends_turn bytes waits false End sent input output (part, wrote, bad) (at_end, read) = inr (part, bad, inr at_end)
-ends_turn bytes waits false Fault sent input output (part, wrote, bad) failed = inr (part, bad, inl failed)
+-- what was read so far in a turn; a fault came with the last piece, if there is one
+pub record ReadsSoFar (past old_got new_got : List ℕ) (client : SessionValue) (run : ConnectionRun) : Type 0 where
+  pub read : List ℕ
+  pub grown : new_got ≡ old_got ++ read
+  pub has_got : ReadsBytes read run
+  pub spent : run.old.input.allowance ≡ length read + run.new.input.allowance
+  pub held : Keeps run.old.output.held run.new.output.held
+  pub failed : run.new.output.failed ≡ run.old.output.failed
+  pub closes : run.new.output.ended ≡ true → standing_by client.status ≡ Closed
+  pub heard : HasHeard client (past ++ new_got)
+  pub before : List ℕ
+  pub last : List ℕ
+  pub parts : past ++ new_got ≡ before ++ last
+  pub bound : length last ≤ max_piece
+  pub none_before : HasNoGotFault before
 
-written_of : (bytes : List ℕ) (works : Bool) (sent : List ℕ) (output : Device) → SendsTurn bytes works sent output → HasWritten sent output
-written_of bytes true sent output (all, wrote, fine) = wrote
-written_of bytes false sent output (part, wrote, bad) = wrote
+pub nothing_read : (past got : List ℕ) (client : SessionValue) (x : ConnectionValue) → x.output.ended ≡ false → HasHeard client (past ++ got) → HasNoGotFault (past ++ got) → ReadsSoFar past got got client (between x x)
+nothing_read past got client x both heard none = record {
+  read = [];
+  grown = sym (append-nil got);
+  has_got = Consumes-nil x.input.left;
+  spent = none_spent x.input.allowance;
+  held = Keeps-refl x.output.held;
+  failed = refl;
+  closes = λ e. absurd (let wrong : true ≡ false = sym e ∙ both in cc);
+  heard = heard;
+  before = past ++ got;
+  last = [];
+  parts = sym (append-nil (past ++ got));
+  bound = omega arith;
+  none_before = none;
+}
 
-pub turn_run : (pieces : List (List ℕ)) (before sent got : List ℕ) (waits works : Bool) (stop : TurnStop) (turn : Turn) (end : Option Ended) (input output : Device) → SendsTurn (concat pieces) works sent output
-    → ReadsTurn waits works stop before got input → turn.sent ≡ sent → turn.got ≡ got → end ≡ end_of_turn works stop → RunsTurn pieces before waits turn end input output
-turn_run pieces before sent got waits works stop turn end input output sends reads s g e = record {
+kept_after : (a b c : Option (List ℕ)) → Keeps a b → Keeps b c → Keeps a c
+kept_after None b c h k = tt
+kept_after (Some xs) None c h k = absurd h
+kept_after (Some xs) (Some ys) None h k = absurd k
+kept_after (Some xs) (Some ys) (Some zs) h k = k ∙ h
+
+ended_then : (b e : Bool) (s : Standing) → (b ≡ true → s ≡ Closed) → e ≡ (b || is_closed s) → e ≡ true → s ≡ Closed
+ended_then true e s h is now = h refl
+ended_then false e s h is now = closed_is s (sym is ∙ now)
+
+ended_where : (b e : Bool) (s : Standing) → e ≡ (b || is_closed s) → s ≡ Closed → e ≡ true
+ended_where true e s is closed = is
+ended_where false e s is closed = is ∙ ap (λ (t : Standing). is_closed t) closed
+
+-- the own direction is ended just where what was got has a close
+half_closed : OneList → (b e : Bool) (client : SessionValue) (got : List ℕ) → (b ≡ true → standing_by client.status ≡ Closed) → e ≡ (b || is_closed (standing_by client.status)) → HasHeard client got → ((e ≡ true) ↔ Stands Closed got)
+half_closed one b e client got h is heard = (
+  λ now. subst (λ (s : Standing). Stands s got) (ended_then b e (standing_by client.status) h is now) (heard_stands client got heard),
+  λ closed. ended_where b e (standing_by client.status) is (one_standing one (standing_by client.status) Closed got (heard_stands client got heard) closed),
+)
+
+-- no more is read
+pub stopped_before : OneList → (waits : Bool) (stop : TurnStop) (past old_got got : List ℕ) (client : SessionValue) (x y z : ConnectionValue) → is_open y.input.state ≡ true → ReadsSoFar past old_got got client (between x y)
+    → StopsBefore (Some stop) waits (standing_by client.status) (between y z) → ReadsTurn waits stop past old_got got client (between x z)
+stopped_before one waits stop past old_got got client x y z going h s = record {
+  read = h.read;
+  grown = h.grown;
+  has_got = subst (λ (i : InputValue). Consumes x.input.left i.left h.read) (sym s.input) h.has_got;
+  spent = h.spent ∙ ap (λ (i : InputValue). length h.read + i.allowance) (sym s.input);
+  held = kept_after x.output.held y.output.held z.output.held h.held s.held;
+  failed = s.failed ∙ h.failed;
+  heard = h.heard;
+  stops = stops stop s.stops;
+  got = got_at stop s.stops;
+  half_closed = half_closed one y.output.ended z.output.ended client (past ++ got) h.closes s.ended h.heard;
+}
+  where
+    going_there : is_open z.input.state ≡ true
+    going_there = ap (λ (i : InputValue). is_open i.state) s.input ∙ going
+
+    stands : Stands (standing_by client.status) (past ++ got)
+    stands = heard_stands client (past ++ got) h.heard
+
+    stops : (stop : TurnStop) → IsStopBefore (Some stop) waits (standing_by client.status) z → IsTurnStop waits stop z
+    stops IsThere (w, is, works) = (w, works, going_there)
+    stops Fault e = tt
+    stops Waited e = absurd e
+    stops End e = absurd e
+    stops Failed e = absurd e
+    stops Budget (none, used) = used
+
+    got_at : (stop : TurnStop) → IsStopBefore (Some stop) waits (standing_by client.status) z → IsGotAtStop stop (past ++ got)
+    got_at IsThere (w, is, works) = subst (λ (s : Standing). Stands s (past ++ got)) is stands
+    got_at Fault e = record { faulty = subst (λ (s : Standing). Stands s (past ++ got)) e stands; before = h.before; last = h.last; parts = h.parts; bound = h.bound; none_before = h.none_before }
+    got_at Waited e = absurd e
+    got_at End e = absurd e
+    got_at Failed e = absurd e
+    got_at Budget (none, used) = no_fault (standing_by client.status) (past ++ got) none stands
+
+-- a read that brought nothing
+pub no_piece : (got room : List ℕ) (client : SessionValue) (stop : Option TurnStop) (count : ℕ) (x y : ConnectionValue) → count ≡ 0 → stop ≡ stop_at y.input.state → ReadsBytes (take count room) (between x y)
+    → x.input.allowance ≡ count + y.input.allowance → brings count y.input.state → y.output ≡ x.output → (y.input.state ≡ AtEnd → IsAtEnd y.input.left) → ReadsPiece stop got got client client (between x y)
+no_piece got room client stop count x y none is has spends brought output at_end = record {
+  piece = [];
+  bound = omega arith;
+  grown = sym (append-nil got);
+  has_got = subst (λ (n : ℕ). ReadsBytes (take n room) (between x y)) none has;
+  spent = subst (λ (n : ℕ). x.input.allowance ≡ n + y.input.allowance) none spends;
+  output = output;
+  heard = λ before h. subst (λ (l : List ℕ). HasHeard client l) (sym (append-nil before)) h;
+  over = λ e. refl;
+  stops = subst (λ (o : Option TurnStop). IsReadStop o [] y) (sym is) (pick y.input.state refl (subst (λ (n : ℕ). brings n y.input.state) none brought));
+}
+  where
+    pick : (state : Incoming) → y.input.state ≡ state → brings 0 state → IsReadStop (stop_at state) [] y
+    pick Unread e b = absurd b
+    pick Open e b = absurd (omega (arith, b))
+    pick WaitedState e b = (e, refl)
+    pick AtEnd e b = ((e, at_end e), refl)
+    pick FailedState e b = (e, refl)
+
+-- a read that brought something
+pub still_open : (got next : List ℕ) (client after : SessionValue) (z w : ConnectionValue) (read_stop : Option TurnStop) → read_stop ≡ None → ReadsPiece read_stop got next client after (between z w) → is_open w.input.state ≡ true
+still_open got next client after z w read_stop e r =
+    let stops = subst (λ (o : Option TurnStop). IsReadStop o r.piece w) e r.stops in
+    stops.0
+
+-- a read, where what was got so far has no fault
+module _ (one : OneList) (past old_got got next : List ℕ) (client after : SessionValue) (x y z w : ConnectionValue) (waits : Bool) (read_stop : Option TurnStop)
+    (h : ReadsSoFar past old_got got client (between x y)) (s : StopsBefore None waits (standing_by client.status) (between y z)) (r : ReadsPiece read_stop got next client after (between z w)) where
+  none_now : HasNoGotFault (past ++ got)
+  none_now = no_fault (standing_by client.status) (past ++ got) s.stops.0 (heard_stands client (past ++ got) h.heard)
+
+  all_got_now : past ++ next ≡ (past ++ got) ++ r.piece
+  all_got_now = ap (λ (l : List ℕ). past ++ l) r.grown ∙ sym (append_assoc past got r.piece)
+
+  got_to_z : ReadsBytes h.read (between x z)
+  got_to_z = subst (λ (i : InputValue). Consumes x.input.left i.left h.read) (sym s.input) h.has_got
+
+  spent_to_z : x.input.allowance ≡ length h.read + z.input.allowance
+  spent_to_z = h.spent ∙ ap (λ (i : InputValue). length h.read + i.allowance) (sym s.input)
+
+  held_to_w : Keeps x.output.held w.output.held
+  held_to_w = subst (λ (o : OutputValue). Keeps x.output.held o.held) (sym r.output) (kept_after x.output.held y.output.held z.output.held h.held s.held)
+
+  failed_to_w : w.output.failed ≡ x.output.failed
+  failed_to_w = ap (λ (o : OutputValue). o.failed) r.output ∙ s.failed ∙ h.failed
+
+  heard_after : HasHeard after (past ++ next)
+  heard_after = subst (λ (l : List ℕ). HasHeard after l) (sym all_got_now) (r.heard (past ++ got) h.heard)
+
+  grown_after : next ≡ old_got ++ (h.read ++ r.piece)
+  grown_after = r.grown ∙ ap (λ (l : List ℕ). l ++ r.piece) h.grown ∙ append_assoc old_got h.read r.piece
+
+  closed_to_w : w.output.ended ≡ true → standing_by client.status ≡ Closed
+  closed_to_w e = ended_then y.output.ended z.output.ended (standing_by client.status) h.closes s.ended (sym (ap (λ (o : OutputValue). o.ended) r.output) ∙ e)
+
+  closes_after : w.output.ended ≡ true → standing_by after.status ≡ Closed
+  closes_after e =
+      let closed = closed_to_w e in
+      ap (λ (v : SessionValue). standing_by v.status) (r.over (closed_is_over client.status closed)) ∙ closed
+
+  pub more_read : ReadsSoFar past old_got next after (between x w)
+  more_read = record {
+    read = h.read ++ r.piece;
+    grown = grown_after;
+    has_got = got_after x z w h.read r.piece got_to_z r.has_got;
+    spent = spent_after x z w h.read r.piece spent_to_z r.spent;
+    held = held_to_w;
+    failed = failed_to_w;
+    closes = closes_after;
+    heard = heard_after;
+    before = past ++ got;
+    last = r.piece;
+    parts = all_got_now;
+    bound = r.bound;
+    none_before = none_now;
+  }
+
+  pub stopped_at_read : (stop : TurnStop) → read_stop ≡ Some stop → ReadsTurn waits stop past old_got next after (between x w)
+  stopped_at_read stop e = record {
+    read = h.read ++ r.piece;
+    grown = grown_after;
+    has_got = got_after x z w h.read r.piece got_to_z r.has_got;
+    spent = spent_after x z w h.read r.piece spent_to_z r.spent;
+    held = held_to_w;
+    failed = failed_to_w;
+    heard = heard_after;
+    stops = stops stop stopped;
+    got = got_at stop stopped;
+    half_closed = (
+      λ now. subst (λ (t : Standing). Stands t (past ++ next)) (closes_after now) (heard_stands after (past ++ next) heard_after),
+      λ closed. ap (λ (o : OutputValue). o.ended) r.output
+          ∙ ended_where y.output.ended z.output.ended (standing_by client.status) s.ended
+          (one_standing one (standing_by client.status) Closed (past ++ got) (heard_stands client (past ++ got) h.heard) (subst (λ (l : List ℕ). Stands Closed l) (same_got stop stopped) closed)),
+    );
+  }
+    where
+      stopped : IsReadStop (Some stop) r.piece w
+      stopped = subst (λ (o : Option TurnStop). IsReadStop o r.piece w) e r.stops
+
+      nothing : (stop : TurnStop) → IsReadStop (Some stop) r.piece w → r.piece ≡ []
+      nothing IsThere k = absurd k
+      nothing Fault k = absurd k
+      nothing Waited k = k.1
+      nothing End k = k.1
+      nothing Failed k = k.1
+      nothing Budget k = absurd k
+
+      same_got : (stop : TurnStop) → IsReadStop (Some stop) r.piece w → past ++ next ≡ past ++ got
+      same_got stop k = all_got_now ∙ ap (λ (l : List ℕ). (past ++ got) ++ l) (nothing stop k) ∙ append-nil (past ++ got)
+
+      none_after : (stop : TurnStop) → IsReadStop (Some stop) r.piece w → HasNoGotFault (past ++ next)
+      none_after stop k = subst (λ (l : List ℕ). HasNoGotFault l) (sym (same_got stop k)) none_now
+
+      stops : (stop : TurnStop) → IsReadStop (Some stop) r.piece w → IsTurnStop waits stop w
+      stops IsThere k = absurd k
+      stops Fault k = absurd k
+      stops Waited k = k.0
+      stops End k = k.0
+      stops Failed k = k.0
+      stops Budget k = absurd k
+
+      got_at : (stop : TurnStop) → IsReadStop (Some stop) r.piece w → IsGotAtStop stop (past ++ next)
+      got_at IsThere k = absurd k
+      got_at Fault k = absurd k
+      got_at Waited k = none_after Waited k
+      got_at End k = none_after End k
+      got_at Failed k = none_after Failed k
+      got_at Budget k = absurd k
+
+-- ---- how a turn ends
+
+going_is_open : OneList → (got : List ℕ) (ended : Bool) → ((ended ≡ true) ↔ Stands Closed got) → Stands Going got → ended ≡ false
+going_is_open one got false h stands = refl
+going_is_open one got true h stands = absurd (going_not_closed one got stands (h.0 refl))
+
+going_of : (got : List ℕ) → ((false ≡ true) ↔ Stands Closed got) → HasNoGotFault got → Stands Going got
+going_of got h (inl going) = going
+going_of got h (inr closed) = absurd (let wrong : false ≡ true = h.1 closed in cc)
+
+waited_is_open : (state : Incoming) → state ≡ WaitedState → is_open state ≡ true
+waited_is_open state e = ap (λ (s : Incoming). is_open s) e
+
+not_failed : (state at : Incoming) → read_failed at ≡ false → state ≡ at → read_failed state ≡ false
+not_failed state at fine e = ap (λ (s : Incoming). read_failed s) e ∙ fine
+
+pub ends_turn : OneList → (bytes sent got : List ℕ) (failed ended more waits : Bool) (stop : TurnStop) (connection : ConnectionValue) → HasSentOf bytes failed sent → connection.output.failed ≡ failed → connection.output.ended ≡ ended
+    → (more ≡ false → waits ≡ true) → IsTurnStop waits stop connection → IsGotAtStop stop got → ((ended ≡ true) ↔ Stands Closed got) → GoesOnOrEnds (end_of_turn failed ended more stop) bytes more sent got connection
+ends_turn one bytes sent got failed ended more waits stop connection sends is_failed is_ended last stops at closed = pick failed ended more stop sends is_failed is_ended last stops at closed
+  where
+    both : (ended : Bool) → connection.output.ended ≡ ended → ((ended ≡ true) ↔ Stands Closed got) → ((connection.output.ended ≡ true) ↔ Stands Closed got)
+    both ended e h = subst (λ (b : Bool). (b ≡ true) ↔ Stands Closed got) (sym e) h
+
+    begun : (failed : Bool) → HasSentOf bytes failed sent → connection.output.failed ≡ failed → HasSentOf bytes connection.output.failed sent
+    begun failed s e = subst (λ (b : Bool). HasSentOf bytes b sent) (sym e) s
+
+    worked : (at : Incoming) → read_failed at ≡ false → connection.input.state ≡ at → connection.output.failed ≡ false → HasWorked connection
+    worked at fine e works = (not_failed connection.input.state at fine e, works)
+
+    some_more : (more : Bool) → (more ≡ false → waits ≡ true) → waits ≡ false → more ≡ true
+    some_more true h e = refl
+    some_more false h e = absurd (let wrong : true ≡ false = sym (h refl) ∙ e in cc)
+
+    pick : (failed ended more : Bool) (stop : TurnStop) → HasSentOf bytes failed sent → connection.output.failed ≡ failed → connection.output.ended ≡ ended → (more ≡ false → waits ≡ true)
+        → IsTurnStop waits stop connection → IsGotAtStop stop got → ((ended ≡ true) ↔ Stands Closed got) → GoesOnOrEnds (end_of_turn failed ended more stop) bytes more sent got connection
+    pick false ended more IsThere s f e l (w, works, flows) at c = (some_more more l w, s, (flows, works, e ∙ going_is_open one got ended c at), at)
+    pick true ended more IsThere s f e l (w, works, flows) at c = absurd (let wrong : true ≡ false = sym f ∙ works in cc)
+    pick failed ended more Fault s f e l st at c = (inl at, both ended e c, begun failed s f)
+    pick false false true Waited s f e l st at c = (refl, s, (waited_is_open connection.input.state st, f, e), going_of got c at)
+    pick false false false Waited s f e l st at c = (inr (s, worked WaitedState refl st f, st, at, inl refl), both false e c, begun false s f)
+    pick false true true Waited s f e l st at c = (inr (s, worked WaitedState refl st f, st, at, inr (c.0 refl)), both true e c, begun false s f)
+    pick false true false Waited s f e l st at c = (inr (s, worked WaitedState refl st f, st, at, inr (c.0 refl)), both true e c, begun false s f)
+    pick true ended more Waited s f e l st at c = ((inr (s, f, inr (inr (inl st))), at), both ended e c, begun true s f)
+    pick false ended more End s f e l st at c = ((s, worked AtEnd refl st.0 f, st, at), both ended e c, begun false s f)
+    pick true ended more End s f e l st at c = ((inr (s, f, inl st), at), both ended e c, begun true s f)
+    pick false ended more Failed s f e l st at c = ((inl (s, f, inl st), at), both ended e c, begun false s f)
+    pick true ended more Failed s f e l st at c = ((inr (s, f, inr (inl st)), at), both ended e c, begun true s f)
+    pick false ended more Budget s f e l st at c = ((inl (s, f, inr st), at), both ended e c, begun false s f)
+    pick true ended more Budget s f e l st at c = ((inr (s, f, inr (inr (inr st))), at), both ended e c, begun true s f)
+
+pub turn_run : OneList → (bytes past before sent got : List ℕ) (more waits : Bool) (stop : TurnStop) (turn : Turn) (end : Option Ended) (client : SessionValue) (x y z : ConnectionValue) → SendsTurn bytes sent (between x y)
+    → ReadsTurn waits stop past before got client (between y z) → (more ≡ false → waits ≡ true) → turn.sent ≡ sent → turn.got ≡ got → end ≡ end_of_turn z.output.failed z.output.ended more stop
+    → RunsTurn bytes past before more turn end client (between x z)
+turn_run one bytes past before sent got more waits stop turn end client x y z sends reads last s g e = record {
   read = reads.read;
-  has_read = reads.has_read;
+  has_got = subst (λ (i : InputValue). Consumes i.left z.input.left reads.read) sends.input reads.has_got;
+  spent = sym (ap (λ (i : InputValue). i.allowance) sends.input) ∙ reads.spent;
   got = g ∙ reads.grown;
-  has_written = subst (λ (l : List ℕ). HasWritten l output) (sym s) (written_of (concat pieces) works sent output sends);
+  has_put = subst (λ (l : List ℕ). Appends x.output.held z.output.held l) (sym s) (Appends-kept x.output.held y.output.held z.output.held sent sends.has_put reads.held);
+  heard = subst (λ (l : List ℕ). HasHeard client (past ++ l)) (sym g) reads.heard;
   ends =
-      subst (λ (x : Option Ended). GoesOnOrEnds x (concat pieces) waits turn.sent input output) (sym e)
-      (subst (λ (l : List ℕ). GoesOnOrEnds (end_of_turn works stop) (concat pieces) waits l input output) (sym s) (ends_turn (concat pieces) waits works stop sent input output sends reads.stops));
+      subst (λ (o : Option Ended). GoesOnOrEnds o bytes more turn.sent (past ++ turn.got) z) (sym e)
+      (subst (λ (l : List ℕ). GoesOnOrEnds (end_of_turn z.output.failed z.output.ended more stop) bytes more l (past ++ turn.got) z) (sym s)
+      (subst (λ (l : List ℕ). GoesOnOrEnds (end_of_turn z.output.failed z.output.ended more stop) bytes more sent (past ++ l) z) (sym g)
+      (ends_turn one bytes sent (past ++ got) z.output.failed z.output.ended more waits stop z
+      (subst (λ (b : Bool). HasSentOf bytes b sent) (sym reads.failed) sends.sends) refl refl last reads.stops reads.got reads.half_closed)));
 }
 
 -- ---- turns
@@ -151,33 +452,46 @@ got_first_after : (first got read : List ℕ) (done : List Turn) (turn : Turn) �
 got_first_after first got read done turn (inl (none, same)) e = subst (λ (l : List Turn). HasGotFirst first (l ++ turn ∷ [])) (sym none) (read, e ∙ ap (λ (l : List ℕ). l ++ read) same)
 got_first_after first got read done turn (inr h) e = got_first_more first done turn h
 
+may_follow : (first : List ℕ) (done : List Turn) (turn : Turn) → Stands Going (all_got (done ++ turn ∷ [])) → MayFollow first (done ++ turn ∷ [])
+may_follow first [] turn h = h
+may_follow first (t ∷ turns) turn h = h
+
 -- these turns were run, all bytes of them were sent, and there is one more
-pub record HasRunTurns (script : List (List (List ℕ))) (first got : List ℕ) (done : List Turn) (i : ℕ) (input output : Device) : Type 0 where
+pub record HasRunTurns (script : List (List (List ℕ))) (first got : List ℕ) (done : List Turn) (i : ℕ) (client : SessionValue) (run : ConnectionRun) : Type 0 where
   pub read : List ℕ
-  pub has_read : HasRead read input
+  pub has_got : ReadsBytes read run
+  pub spent : run.old.input.allowance ≡ length read + run.new.input.allowance
   pub got_is : all_got done ++ got ≡ first ++ read
-  pub has_written : HasWritten (all_sent done) output
+  pub has_put : WritesBytes (all_sent done) run
   pub sent : sent_turns done ≡ map (λ (pieces : List (List ℕ)). concat pieces) (take i script)
   pub first_got : IsFirstGot first got done
   pub count : length done ≡ i
   pub more : i < length script
-  pub input_works : input.failed ≡ false
-  pub output_works : output.failed ≡ false
+  pub ready : IsReady run.new
+  pub heard : HasHeard client (all_got done ++ got)
+  pub none_faulty : HasNoGotFault (all_got done ++ got)
+  pub behind : MayFollow first done
 
-pub runs_none : (script : List (List (List ℕ))) (first got : List ℕ) (done : List Turn) (fi fo : Bool) (a p : Option (List ℕ)) → got ≡ first → done ≡ [] → 0 < length script → fi ≡ false → fo ≡ false
-    → HasRunTurns script first got done 0 (device fi a a) (device fo p p)
-runs_none script first got done fi fo a p e none some input_works output_works = record {
+pub runs_none : (script : List (List (List ℕ))) (first got : List ℕ) (done : List Turn) (client : SessionValue) (x : ConnectionValue) → got ≡ first → done ≡ [] → 0 < length script → IsReady x → HasHeard client first
+    → HasNoGotFault first → HasRunTurns script first got done 0 client (between x x)
+runs_none script first got done client x e none some ready heard none_faulty = record {
   read = [];
-  has_read = Consumes-nil a;
-  got_is = ap (λ (l : List Turn). all_got l ++ got) none ∙ e ∙ sym (append-nil first);
-  has_written = subst (λ (l : List Turn). Appends p p (all_sent l)) (sym none) (Appends-nil p);
+  has_got = Consumes-nil x.input.left;
+  spent = none_spent x.input.allowance;
+  got_is = same ∙ sym (append-nil first);
+  has_put = subst (λ (l : List Turn). Appends x.output.held x.output.held (all_sent l)) (sym none) (Appends-nil x.output.held);
   sent = ap (λ (l : List Turn). sent_turns l) none;
   first_got = inl (none, e);
   count = ap (λ (l : List Turn). length l) none;
   more = some;
-  input_works = input_works;
-  output_works = output_works;
+  ready = ready;
+  heard = subst (λ (l : List ℕ). HasHeard client l) (sym same) heard;
+  none_faulty = subst (λ (l : List ℕ). HasNoGotFault l) (sym same) none_faulty;
+  behind = subst (λ (l : List Turn). MayFollow first l) (sym none) none_faulty;
 }
+  where
+    same : all_got done ++ got ≡ first
+    same = ap (λ (l : List Turn). all_got l ++ got) none ∙ e
 
 -- where fewer turns are done than come before the last, one more follows the next
 pub more_left : (done i turns : ℕ) → done ≡ i → ltb done (turns - 1) ≡ true → i + 1 < turns
@@ -185,83 +499,125 @@ more_left done i turns e waits =
     let fewer : done < turns - 1 = ltb-true done (turns - 1) waits in
     omega (arith, fewer, e)
 
+pub none_more : (done i turns : ℕ) → done ≡ i → ltb done (turns - 1) ≡ false → turns ≤ i + 1
+none_more done i turns e last =
+    let all : turns - 1 ≤ done = ltb-false done (turns - 1) last in
+    omega (arith, all, e)
+
 abbrev bytes_of : List (List (List ℕ)) → List (List ℕ)
 bytes_of script = map (λ (pieces : List (List ℕ)). concat pieces) script
 
+none_left : (script : List (List (List ℕ))) (n : ℕ) → length script ≤ n → bytes_of (drop n script) ≡ []
+none_left script n h = nothing (drop n script) (omega (arith, length-drop n script))
+  where
+    nothing : (xs : List (List (List ℕ))) → length xs ≤ 0 → bytes_of xs ≡ []
+    nothing [] h = refl
+    nothing (x ∷ xs) h = absurd (omega arith)
+
 -- one turn more, and what is known of it
-module _ (script : List (List (List ℕ))) (pieces : List (List ℕ)) (first got : List ℕ) (done all : List Turn) (turn : Turn) (i : ℕ) (waits : Bool) (fi gi fo go : Bool) (a b c p q r : Option (List ℕ)) (end : Option Ended)
-    (h : HasRunTurns script first got done i (device fi a b) (device fo p q)) (t : RunsTurn pieces got waits turn end (device gi b c) (device go q r)) (pushed : all ≡ done ++ turn ∷ []) where
-  all_read : HasRead (h.read ++ t.read) (device gi a c)
-  all_read = Consumes-trans a b c h.read t.read h.has_read t.has_read
+module _ (script : List (List (List ℕ))) (pieces : List (List ℕ)) (first got : List ℕ) (done all : List Turn) (turn : Turn) (i : ℕ) (more : Bool) (client after : SessionValue) (x y z : ConnectionValue) (end : Option Ended)
+    (h : HasRunTurns script first got done i client (between x y)) (t : RunsTurn (concat pieces) (all_got done) got more turn end after (between y z)) (pushed : all ≡ done ++ turn ∷ []) where
+  all_now : all_got all ≡ all_got done ++ turn.got
+  all_now = ap (λ (l : List Turn). all_got l) pushed ∙ got_more done turn
 
   got_is : all_got all ≡ first ++ (h.read ++ t.read)
   got_is =
-      ap (λ (l : List Turn). all_got l) pushed ∙ got_more done turn ∙ ap (λ (l : List ℕ). all_got done ++ l) t.got ∙ sym (append_assoc (all_got done) got t.read) ∙ ap (λ (l : List ℕ). l ++ t.read) h.got_is
+      all_now ∙ ap (λ (l : List ℕ). all_got done ++ l) t.got ∙ sym (append_assoc (all_got done) got t.read) ∙ ap (λ (l : List ℕ). l ++ t.read) h.got_is
       ∙ append_assoc first h.read t.read
 
-  all_written : HasWritten (all_sent all) (device go p r)
-  all_written = written_more p q r (all_sent done) (all_sent all) turn.sent h.has_written t.has_written (ap (λ (l : List Turn). all_sent l) pushed ∙ sent_more done turn)
+  all_put : WritesBytes (all_sent all) (between x z)
+  all_put = written_more x.output.held y.output.held z.output.held (all_sent done) (all_sent all) turn.sent h.has_put t.has_put (ap (λ (l : List Turn). all_sent l) pushed ∙ sent_more done turn)
 
   all_first : HasGotFirst first all
   all_first = subst (λ (l : List Turn). HasGotFirst first l) (sym pushed) (got_first_after first got t.read done turn h.first_got t.got)
 
-  pub goes_on : (next : List ℕ) → end ≡ None → next ≡ [] → take (i + 1) script ≡ take i script ++ pieces ∷ [] → (waits ≡ true → i + 1 < length script) → HasRunTurns script first next all (i + 1) (device gi a c) (device go p r)
-  goes_on next e none taken more =
-      let (waiting, whole, (read, wrote)) = subst (λ (x : Option Ended). GoesOnOrEnds x (concat pieces) waits turn.sent (device gi b c) (device go q r)) e t.ends in
+  pub goes_on : (next : List ℕ) → end ≡ None → next ≡ [] → take (i + 1) script ≡ take i script ++ pieces ∷ [] → (more ≡ true → i + 1 < length script) → HasRunTurns script first next all (i + 1) after (between x z)
+  goes_on next e none taken left =
+      let (goes, whole, ready, stands) = subst (λ (o : Option Ended). GoesOnOrEnds o (concat pieces) more turn.sent (all_got done ++ turn.got) z) e t.ends in
+      let same : all_got all ++ next ≡ all_got done ++ turn.got = ap (λ (l : List ℕ). all_got all ++ l) none ∙ append-nil (all_got all) ∙ all_now in
       record {
         read = h.read ++ t.read;
-        has_read = all_read;
+        has_got = got_after x y z h.read t.read h.has_got t.has_got;
+        spent = spent_after x y z h.read t.read h.spent t.spent;
         got_is = ap (λ (l : List ℕ). all_got all ++ l) none ∙ append-nil (all_got all) ∙ got_is;
-        has_written = all_written;
+        has_put = all_put;
         sent =
             ap (λ (l : List Turn). sent_turns l) pushed ∙ sent_turns_more done turn ∙ ap (λ (l : List (List ℕ)). l ++ turn.sent ∷ []) h.sent ∙ ap (λ (l : List ℕ). bytes_of (take i script) ++ l ∷ []) whole
             ∙ sym (map-append (λ (x : List (List ℕ)). concat x) (take i script) (pieces ∷ [])) ∙ ap (λ (l : List (List (List ℕ))). bytes_of l) (sym taken);
         first_got = inr all_first;
         count = ap (λ (l : List Turn). length l) pushed ∙ length-append done (turn ∷ []) ∙ ap (λ (n : ℕ). n + 1) h.count;
-        more = more waiting;
-        input_works = read;
-        output_works = wrote;
+        more = left goes;
+        ready = ready;
+        heard = subst (λ (l : List ℕ). HasHeard after l) (sym same) t.heard;
+        none_faulty = subst (λ (l : List ℕ). HasNoGotFault l) (sym same) (inl stands);
+        behind = subst (λ (l : List Turn). MayFollow first l) (sym pushed) (may_follow first done turn (subst (λ (l : List ℕ). Stands Going l) (sym (got_more done turn)) stands));
       }
 
   pub ended_in : (ended : Ended) (transcript : Transcript) → end ≡ Some ended → script ≡ take i script ++ pieces ∷ drop (i + 1) script → transcript.turns ≡ all → transcript.ended ≡ ended
-      → Records (bytes_of script) first transcript (device gi a c) (device go p r)
-  ended_in ended transcript e cut turns is = record {
-    read = h.read ++ t.read;
-    has_read = all_read;
-    got = ap (λ (l : List Turn). all_got l) turns ∙ got_is;
-    has_written = subst (λ (l : List Turn). HasWritten (all_sent l) (device go p r)) (sym turns) all_written;
-    ends = inr (record {
-      with_head = subst (λ (l : List Turn). HasGotFirst first l) (sym turns) all_first;
-      before = done;
-      last = turn;
-      recorded = turns ∙ pushed;
-      bytes = concat pieces;
-      others = bytes_of (drop (i + 1) script);
-      sent =
-          ap (λ (l : List (List (List ℕ))). bytes_of l) cut ∙ map-append (λ (x : List (List ℕ)). concat x) (take i script) (pieces ∷ drop (i + 1) script)
-          ∙ ap (λ (l : List (List ℕ)). l ++ concat pieces ∷ bytes_of (drop (i + 1) script)) (sym h.sent);
-      ends =
-          subst (λ (x : Ended). EndsTurn x (concat pieces) turn.sent (device gi a c) (device go p r)) (sym is)
-          (ended_same ended (subst (λ (x : Option Ended). GoesOnOrEnds x (concat pieces) waits turn.sent (device gi b c) (device go q r)) e t.ends));
-    });
-  }
+      → (more ≡ false → length script ≤ i + 1) → Records (bytes_of script) first transcript (between x z)
+  ended_in ended transcript e cut turns is last =
+      let (ends, closed, sends) = subst (λ (o : Option Ended). GoesOnOrEnds o (concat pieces) more turn.sent (all_got done ++ turn.got) z) e t.ends in
+      let same : all_got transcript.turns ≡ all_got done ++ turn.got = ap (λ (l : List Turn). all_got l) turns ∙ all_now in
+      record {
+        read = h.read ++ t.read;
+        has_got = got_after x y z h.read t.read h.has_got t.has_got;
+        spent = spent_after x y z h.read t.read h.spent t.spent;
+        got = ap (λ (l : List Turn). all_got l) turns ∙ got_is;
+        has_put = subst (λ (l : List Turn). WritesBytes (all_sent l) (between x z)) (sym turns) all_put;
+        ends = inr (record {
+          with_head = subst (λ (l : List Turn). HasGotFirst first l) (sym turns) all_first;
+          before = done;
+          last = turn;
+          recorded = turns ∙ pushed;
+          behind = h.behind;
+          bytes = concat pieces;
+          others = bytes_of (drop (i + 1) script);
+          sent =
+              ap (λ (l : List (List (List ℕ))). bytes_of l) cut ∙ map-append (λ (x : List (List ℕ)). concat x) (take i script) (pieces ∷ drop (i + 1) script)
+              ∙ ap (λ (l : List (List ℕ)). l ++ concat pieces ∷ bytes_of (drop (i + 1) script)) (sym h.sent);
+          sent_last = sends;
+          ends =
+              subst (λ (o : Ended). EndsTurn o (bytes_of (drop (i + 1) script) ≡ []) (concat pieces) turn.sent (all_got transcript.turns) z) (sym is)
+              (subst (λ (l : List ℕ). EndsTurn ended (bytes_of (drop (i + 1) script) ≡ []) (concat pieces) turn.sent l z) (sym same)
+              (as_last ended (λ m. none_left script (i + 1) (last m)) (all_got done ++ turn.got) ends));
+          half_closed = subst (λ (l : List ℕ). (z.output.ended ≡ true) ↔ Stands Closed l) (sym same) closed;
+        });
+      }
     where
-      ended_same : (ended : Ended) → EndsTurn ended (concat pieces) turn.sent (device gi b c) (device go q r) → EndsTurn ended (concat pieces) turn.sent (device gi a c) (device go p r)
-      ended_same Tester x = x
-      ended_same Peer x = x
-      ended_same Broken x = x
+      as_last : (ended : Ended) → (more ≡ false → bytes_of (drop (i + 1) script) ≡ []) → (got : List ℕ) → EndsTurn ended (more ≡ false) (concat pieces) turn.sent got z
+          → EndsTurn ended (bytes_of (drop (i + 1) script) ≡ []) (concat pieces) turn.sent got z
+      as_last Tester f got (inl fault) = inl fault
+      as_last Tester f got (inr (all, works, waited, none, inl m)) = inr (all, works, waited, none, inl (f m))
+      as_last Tester f got (inr (all, works, waited, none, inr c)) = inr (all, works, waited, none, inr c)
+      as_last Peer f got k = k
+      as_last Broken f got k = k
 
--- a script without turns
-pub without_turns : (script : List (List (List ℕ))) (first : List ℕ) (transcript : Transcript) (turns : List Turn) (input output : Device) → script ≡ [] → transcript.turns ≡ turns → turns ≡ with_finish [] first → transcript.ended ≡ Tester
-    → HasRead [] input → HasWritten [] output → input.failed ≡ false → output.failed ≡ false → Records (bytes_of script) first transcript input output
-without_turns script first transcript turns input output none is e ended read wrote input_works output_works = record {
+pub no_pieces : (script : List (List (List ℕ))) → length script ≤ 0 → script ≡ []
+no_pieces [] h = refl
+no_pieces (x ∷ xs) h = absurd (omega (arith, h))
+
+-- a script without turns, or a fault that came with the head
+pub without_turns : (script : List (List (List ℕ))) (first : List ℕ) (transcript : Transcript) (turns : List Turn) (x : ConnectionValue) → (script ≡ []) ⊎ Stands Faulty first → transcript.turns ≡ turns → turns ≡ with_finish [] first
+    → transcript.ended ≡ Tester → IsReady x → Records (bytes_of script) first transcript (between x x)
+without_turns script first transcript turns x none is e ended ready = record {
   read = [];
-  has_read = read;
+  has_got = Consumes-nil x.input.left;
+  spent = none_spent x.input.allowance;
   got = ap (λ (l : List Turn). all_got l) (is ∙ e) ∙ got_alone first ∙ sym (append-nil first);
-  has_written = subst (λ (l : List ℕ). HasWritten l output) (sym (ap (λ (l : List Turn). all_sent l) (is ∙ e) ∙ sent_alone first)) wrote;
-  ends = inl (record { none = ap (λ (l : List (List (List ℕ))). bytes_of l) none; ended = ended; recorded = is ∙ e; works = (input_works, output_works) });
+  has_put = subst (λ (l : List ℕ). WritesBytes l (between x x)) (sym (ap (λ (l : List Turn). all_sent l) (is ∙ e) ∙ sent_alone first)) (Appends-nil x.output.held);
+  ends = inl (record { none = why none; ended = ended; recorded = is ∙ e; works = (open_works x.input.state ready.0, ready.1); both_open = ready.2 });
 }
   where
+    why : (script ≡ []) ⊎ Stands Faulty first → (bytes_of script ≡ []) ⊎ Stands Faulty first
+    why (inl e) = inl (ap (λ (l : List (List (List ℕ))). bytes_of l) e)
+    why (inr f) = inr f
+
+    open_works : (state : Incoming) → is_open state ≡ true → read_failed state ≡ false
+    open_works FailedState e = absurd cc
+    open_works WaitedState e = refl
+    open_works AtEnd e = refl
+    open_works _ e = refl
+
     got_alone : (first : List ℕ) → all_got (with_finish [] first) ≡ first
     got_alone [] = refl
     got_alone (byte ∷ bytes) = append-nil (byte ∷ bytes)
@@ -270,40 +626,43 @@ without_turns script first transcript turns input output none is e ended read wr
     sent_alone [] = refl
     sent_alone (byte ∷ bytes) = refl
 
+-- ---- what may be written
+
+open_takes_part : (state : Incoming) → is_open state ≡ true → takes_part state ≡ true
+open_takes_part FailedState e = absurd cc
+open_takes_part AtEnd e = absurd cc
+open_takes_part _ e = refl
+
+pub ready_may : (x : ConnectionValue) → IsReady x → MayWrite x
+ready_may x ready = (open_takes_part x.input.state ready.0, ready.1, ready.2)
+
+pub may_after : (y z : ConnectionValue) → MayWrite y → z.input ≡ y.input → z.output.failed ≡ false → z.output.ended ≡ y.output.ended → MayWrite z
+may_after y z may input works ended = (ap (λ (i : InputValue). takes_part i.state) input ∙ may.0, works, ended ∙ may.2)
+
 -- ---- the head of the answer
 
 -- what was put behind nothing, from a place on
 pub behind_of : (items none room all : List ℕ) (used : ℕ) → items ≡ none ++ take (length room - used) (drop used room) → none ≡ [] → room ≡ all → items ≡ drop used all
 behind_of items none room all used is e same = is ∙ ap (λ (l : List ℕ). l ++ take (length room - used) (drop used room)) e ∙ take_rest room used ∙ ap (λ (l : List ℕ). drop used l) same
 
--- the head was read to b, and the script run from there
-pub runs_after : {protocol : Option ℕ} (turns offers : List (List ℕ)) (transcript : Transcript) (head first : List ℕ) (used : ℕ) (f g : Bool) (a b c : Option (List ℕ)) (output : Device) → ReadsHead (NeedsResponse probe_nonce offers) (DecidesResponse probe_nonce offers) (Decided (Accepted used protocol)) head (device f a b)
-    → first ≡ drop used head → Records turns first transcript (device g b c) output → AnswersProbe turns offers (Ran transcript) (device g a c) output
-runs_after {protocol} turns offers transcript head first used f g a b c output (read, bound, no_further, (decides, works)) behind r = record {
-  head = head;
-  used = used;
-  protocol = protocol;
-  is_head = record { decides = decides; bound = bound; no_further = no_further };
-  read = r.read;
-  has_read = Consumes-trans a b c head r.read read r.has_read;
-  got = r.got ∙ ap (λ (l : List ℕ). l ++ r.read) behind;
-  has_written = r.has_written;
-  ends = subst (λ (l : List ℕ). EndsScript turns l transcript (device g a c) output) behind (ends_same r.ends);
-}
-  where
-    ended_same : (ended : Ended) (bytes sent : List ℕ) → EndsTurn ended bytes sent (device g b c) output → EndsTurn ended bytes sent (device g a c) output
-    ended_same Tester bytes sent x = x
-    ended_same Peer bytes sent x = x
-    ended_same Broken bytes sent x = x
-
-    ends_same : EndsScript turns first transcript (device g b c) output → EndsScript turns first transcript (device g a c) output
-    ends_same (inl e) = inl (record { none = e.none; ended = e.ended; recorded = e.recorded; works = e.works })
-    ends_same (inr e) = inr (record { with_head = e.with_head; before = e.before; last = e.last; recorded = e.recorded; bytes = e.bytes; others = e.others; sent = e.sent; ends = ended_same transcript.ended e.bytes e.last.sent e.ends })
-
-pub refused_after : (turns offers : List (List ℕ)) (head : List ℕ) (fault : HeadFault) (input output : Device) → ReadsHead (NeedsResponse probe_nonce offers) (DecidesResponse probe_nonce offers) (Decided (RefusedHead fault)) head input → Keeps output.old output.new → output.failed ≡ false
-    → AnswersProbe turns offers (Refused fault) input output
-refused_after turns offers head fault input output (read, bound, no_further, (decides, works)) kept fine =
-    (head, record { decides = decides; bound = bound; no_further = no_further }, read, kept, (works, fine))
+-- what came of a connection once the request was written, where the answer accepts
+pub runs_after : {protocol : Option ℕ} (turns offers : List (List ℕ)) (transcript : Transcript) (head first : List ℕ) (used : ℕ) (x y z : ConnectionValue)
+    → ReadsHeadOver (NeedsResponse probe_nonce offers) (DecidesResponse probe_nonce offers) (Decided (Accepted used protocol)) head (between x y)
+    → first ≡ drop used head → Records turns first transcript (between y z) → AnswersBehind turns offers (Ran transcript) (between x z)
+runs_after {protocol} turns offers transcript head first used x y z h behind r =
+    let (read, bound, no_further, (decides, works)) = h.reads in
+    record {
+      head = head;
+      used = used;
+      protocol = protocol;
+      is_head = record { decides = decides; bound = bound; no_further = no_further };
+      read = r.read;
+      has_got = got_after x y z head r.read read r.has_got;
+      budget = sym h.allowance ∙ r.spent;
+      got = r.got ∙ ap (λ (l : List ℕ). l ++ r.read) behind;
+      has_put = subst (λ (o : OutputValue). Appends o.held z.output.held (all_sent transcript.turns)) h.output r.has_put;
+      ends = subst (λ (l : List ℕ). EndsScript turns l transcript z) behind r.ends;
+    }
 
 -- ---- the request
 
@@ -314,30 +673,53 @@ bytes_are chop key [] (pieces ∷ script) h = absurd h
 bytes_are chop key (steps ∷ turns) [] h = absurd h
 bytes_are chop key (steps ∷ turns) (pieces ∷ script) (is, h) = ap (λ (l : List ℕ). l ∷ bytes_of script) is.joined ∙ ap (λ (l : List (List ℕ)). turn_bytes key steps ∷ l) (bytes_are chop key turns script h)
 
--- after the request, which was written to q
-pub probes : (case : Case) (key host : List ℕ) (offers : List (List ℕ)) (text : List ℕ) (probe : Probe) (input : Device) (g : Bool) (p q r : Option (List ℕ)) → text ≡ request_to host offers → Appends p q text → AnswersProbe (bytes_by_turn case key) offers probe input (device g q r)
-    → Probes case key host offers probe input (device g p r)
-probes case key host offers text (Ran transcript) input g p q r is wrote run = record {
+put_then : (text request : List ℕ) (x y z : ConnectionValue) → text ≡ request → WritesBytes text (between x y) → WritesBytes [] (between y z) → WritesBytes request (between x z)
+put_then text request x y z is wrote none =
+    subst (λ (l : List ℕ). Appends x.output.held z.output.held l) (append-nil text ∙ is) (Appends-trans x.output.held y.output.held z.output.held text [] wrote none)
+
+-- the reading of the head stopped at z
+abbrev StopsFrom : List (List ℕ) → List ℕ → ConnectionValue → InputValue → Type 0
+StopsFrom offers head z i =
+    ReadsHead (NeedsResponse probe_nonce offers) (DecidesResponse probe_nonce offers) Cut head (record { failed = read_failed z.input.state; old = i.left; new = z.input.left })
+    ⊎ ReadsHead (NeedsResponse probe_nonce offers) (DecidesResponse probe_nonce offers) ReadFault head (record { failed = read_failed z.input.state; old = i.left; new = z.input.left })
+
+-- after the request, which was written between x and y
+pub answers : (turns offers : List (List ℕ)) (text request : List ℕ) (probe : Probe) (x y z : ConnectionValue) → text ≡ request → WritesBytes text (between x y) → y.input ≡ x.input
+    → AnswersBehind turns offers probe (between y z) → AnswersProbe turns offers request probe (between x z)
+answers turns offers text request (Ran transcript) x y z is wrote same run = record {
   head = run.head;
   used = run.used;
   protocol = run.protocol;
   is_head = run.is_head;
   read = run.read;
-  has_read = run.has_read;
+  has_got = subst (λ (i : InputValue). Consumes i.left z.input.left (run.head ++ run.read)) same run.has_got;
+  budget = sym (ap (λ (i : InputValue). i.allowance) same) ∙ run.budget;
   got = run.got;
-  has_written = subst (λ (l : List ℕ). Appends p r (l ++ all_sent transcript.turns)) is (Appends-trans p q r text (all_sent transcript.turns) wrote run.has_written);
-  ends = ends_same run.ends;
+  has_put =
+      subst (λ (l : List ℕ). Appends x.output.held z.output.held (l ++ all_sent transcript.turns)) is
+      (Appends-trans x.output.held y.output.held z.output.held text (all_sent transcript.turns) wrote run.has_put);
+  ends = run.ends;
 }
-  where
-    ended_same : (ended : Ended) (bytes sent : List ℕ) → EndsTurn ended bytes sent input (device g q r) → EndsTurn ended bytes sent input (device g p r)
-    ended_same Tester bytes sent x = x
-    ended_same Peer bytes sent x = x
-    ended_same Broken bytes sent x = x
+answers turns offers text request (Refused fault) x y z is wrote same run = record {
+  head = run.head;
+  is_head = run.is_head;
+  has_got = subst (λ (i : InputValue). Consumes i.left z.input.left run.head) same run.has_got;
+  has_put = put_then text request x y z is wrote run.has_put;
+  works = run.works;
+  both_open = run.both_open;
+}
+answers turns offers text request NoConnection x y z is wrote same (put, works, (head, stops)) =
+    inr (put_then text request x y z is wrote put, works, (head, subst (λ (i : InputValue). StopsFrom offers head z i) same stops))
 
-    ends_same : EndsScript (bytes_by_turn case key) (drop run.used run.head) transcript input (device g q r) → EndsScript (bytes_by_turn case key) (drop run.used run.head) transcript input (device g p r)
-    ends_same (inl e) = inl (record { none = e.none; ended = e.ended; recorded = e.recorded; works = e.works })
-    ends_same (inr e) = inr (record { with_head = e.with_head; before = e.before; last = e.last; recorded = e.recorded; bytes = e.bytes; others = e.others; sent = e.sent; ends = ended_same transcript.ended e.bytes e.last.sent e.ends })
-probes case key host offers text (Refused fault) input g p q r is wrote (head, is_head, read, kept, works) =
-    (head, is_head, read, subst (λ (l : List ℕ). Appends p r l) is (Appends-kept p q r text wrote kept), works)
-probes case key host offers text NoConnection input g p q r is wrote (kept, fine, stops) =
-    inr (subst (λ (l : List ℕ). Appends p r l) is (Appends-kept p q r text wrote kept), fine, stops)
+pub put_whole : (text : List ℕ) (taken : ℕ) (x y : ConnectionValue) → length text ≤ taken → WritesBytes (take taken text) (between x y) → WritesBytes text (between x y)
+put_whole text taken x y all put = subst (λ (l : List ℕ). WritesBytes l (between x y)) (take_all taken text all) put
+
+-- a write of the request failed
+pub not_asked : (turns offers : List (List ℕ)) (text request : List ℕ) (taken : ℕ) (x y : ConnectionValue) → IsNewConnection x → text ≡ request → WritesBytes (take taken text) (between x y) → y.output.failed ≡ true → y.input ≡ x.input
+    → AnswersProbe turns offers request NoConnection (between x y)
+not_asked turns offers text request taken x y new is wrote failed same = inl (
+  failed,
+  subst (λ (l : List ℕ). AppendsFront x.output.held y.output.held l) is (take taken text, drop taken text, sym (take-append-drop taken text), wrote),
+  subst (λ (i : InputValue). Keeps x.input.left i.left) (sym same) (Keeps-refl x.input.left),
+  ap (λ (i : InputValue). i.state) same ∙ new.0,
+)

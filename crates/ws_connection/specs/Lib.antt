@@ -2,6 +2,9 @@ pub mod ReadingHeads
 pub mod Protocols
 pub mod Requests
 pub mod Responses
+pub mod ConnectionValues
+pub mod Connections
+pub mod Standings
 pub mod Probing
 pub mod Serving
 pub mod InnerProbeTurns

@@ -1,10 +1,12 @@
 -- A script that is run against a server (RFC 6455 sections 4.1 and 5 to 7): what is recorded is what went over the
--- connection, and how it ended. How long is read for a turn before the next one is sent is shown by tests alone.
-use Rattle.std.specs.Prelude.{◌≡◌, ℕ, ◌≤◌, ◌⊎◌, true, false, List, [], ◌∷◌, ◌++◌, length, drop, map, codes, Option}
+-- connection, and how it ended. That what is owed has come before the next turn is sent is shown by tests alone.
+use Rattle.std.specs.Prelude.{◌≡◌, ℕ, ◌+◌, ◌≤◌, ◌⊎◌, ◌↔◌, Bool, true, false, List, [], ◌∷◌, ◌++◌, length}
+use Rattle.std.specs.Prelude.{drop, map, codes, Option}
 use Rattle.std.specs.List.{concat}
 use Rattle.std.specs.Io.KnownBytes.{IsAtEnd}
-use Rattle.ws_frame.specs.Devices.{Device, HasBegun, HasRead, HasWritten, IsUntouched}
+use Rattle.ws_frame.specs.Devices.{HasBegun, IsUntouched}
 use Rattle.ws_upgrade.specs.Accept.{key_of}
+use Rattle.ws_upgrade.specs.declared.faults.HeadFault.{HeadFault}
 use Rattle.ws_upgrade.specs.Reading.{max_head}
 use Rattle.ws_upgrade.specs.Texts.{request_text}
 use Rattle.ws_scripts.specs.declared.script.Case.{Case}
@@ -15,8 +17,13 @@ use Rattle.ws_scripts.specs.declared.transcript.Transcript.{Transcript}
 use Rattle.ws_scripts.specs.Scripts.{turns_of, turn_bytes}
 use Rattle.ws_suite.specs.Evidence.{sent_turns, got_turns}
 use Rattle.ws_peer.specs.Runs.{with_finish}
+use Rattle.ws_connection.specs.ConnectionValues.{ConnectionRun, ConnectionValue}
+use Rattle.ws_connection.specs.Connections.{ReadsBytes, WritesBytes, HasWorked, input_of, output_of}
+use Rattle.ws_connection.specs.Standings.{HasNoGotFault, Stands}
 use Rattle.ws_connection.specs.ReadingHeads.{ReadsHead, ReadsNoFurther}
 use Rattle.ws_connection.specs.Responses.{DecidesResponse, NeedsResponse}
+use Rattle.ws_connection.specs.declared.incoming.Incoming.TheVariants.{Unread, Waited, AtEnd, Failed}
+use Rattle.ws_connection.specs.declared.standing.Standing.TheVariants.{Going, Closed, Faulty}
 use Rattle.ws_connection.specs.declared.reading_head.HeadEnd.TheVariants.{Cut, ReadFault}
 use Rattle.ws_connection.specs.declared.response_head.ResponseDecision.{ResponseDecision}
 use Rattle.ws_connection.specs.declared.response_head.ResponseDecision.TheVariants.{Accepted, Refused as RefusedHead}
@@ -36,53 +43,96 @@ bytes_by_turn case key = map (turn_bytes key) (turns_of case.steps)
 
 -- ---- how a script ends
 
--- no read failed, and no write
-abbrev pub HaveWorked : Device → Device → Type 0
-HaveWorked input output = (input.failed ≡ false) × (output.failed ≡ false)
+-- at most so many bytes are read at once behind the head
+abbrev pub max_piece : ℕ
+max_piece = 4096
 
--- A turn with these bytes is broken off: all of them were sent, and then a read failed; or a write failed, a beginning
--- of them was sent, and what still came was read, to the end of the stream or a failed read.
-abbrev pub BreaksOff : List ℕ → List ℕ → Device → Device → Type 0
-BreaksOff bytes sent input output =
-    ((sent ≡ bytes) × (output.failed ≡ false) × (input.failed ≡ true))
-    ⊎ (((unsent : List ℕ) × (bytes ≡ sent ++ unsent)) × (output.failed ≡ true)
-    × ((input.failed ≡ true) ⊎ IsAtEnd input.new))
+-- what was got has a fault, and nothing was read behind it but what came in one piece with it
+pub record EndsByFault (got : List ℕ) : Type 0 where
+  pub faulty : Stands Faulty got
+  pub before : List ℕ
+  pub last : List ℕ
+  pub parts : got ≡ before ++ last
+  pub bound : length last ≤ max_piece
+  pub none_before : HasNoGotFault before
 
--- how a script ended in a turn with these bytes, of which these were sent
-abbrev pub EndsTurn : Ended → List ℕ → List ℕ → Device → Device → Type 0
-EndsTurn Tester bytes sent input output = ⊥
-EndsTurn Peer bytes sent input output = (sent ≡ bytes) × IsAtEnd input.new × HaveWorked input output
-EndsTurn Broken bytes sent input output = BreaksOff bytes sent input output
+-- the stream has ended
+abbrev pub HasEnded : ConnectionValue → Type 0
+HasEnded connection = (connection.input.state ≡ AtEnd) × IsAtEnd connection.input.left
+
+-- all that came was read: the stream has ended, a read has failed or waited in vain, or the budget is used up
+abbrev pub ReadsNoMore : ConnectionValue → Type 0
+ReadsNoMore connection = HasEnded connection ⊎ (connection.input.state ≡ Failed)
+    ⊎ (connection.input.state ≡ Waited) ⊎ (connection.input.allowance ≡ 0)
+
+-- what a turn has sent of its bytes: all of them, or, where a write has failed, a beginning
+abbrev pub HasSentOf : List ℕ → Bool → List ℕ → Type 0
+HasSentOf bytes false sent = sent ≡ bytes
+HasSentOf bytes true sent = (unsent : List ℕ) × (bytes ≡ sent ++ unsent)
+
+-- A turn with these bytes is broken off: all of them were sent, and then a read failed or the budget was used up; or a
+-- write failed, a beginning of them was sent, and what still came was read.
+abbrev pub BreaksOff : List ℕ → List ℕ → ConnectionValue → Type 0
+BreaksOff bytes sent connection =
+    ((sent ≡ bytes) × (connection.output.failed ≡ false)
+    × ((connection.input.state ≡ Failed) ⊎ (connection.input.allowance ≡ 0)))
+    ⊎ (((unsent : List ℕ) × (bytes ≡ sent ++ unsent)) × (connection.output.failed ≡ true)
+    × ReadsNoMore connection)
+
+-- The last turn was waited out in vain: all of its bytes were sent, and nothing came in time. It is the last of the
+-- script, or what was got has a close.
+abbrev pub WaitsInVain : Type 0 → List ℕ → List ℕ → List ℕ → ConnectionValue → Type 0
+WaitsInVain is_last bytes sent got connection = (sent ≡ bytes) × HasWorked connection
+    × (connection.input.state ≡ Waited) × HasNoGotFault got × (is_last ⊎ Stands Closed got)
+
+-- how a script ended in a turn with these bytes, of which these were sent, where all this was got
+abbrev pub EndsTurn : Ended → Type 0 → List ℕ → List ℕ → List ℕ → ConnectionValue → Type 0
+EndsTurn Tester is_last bytes sent got connection = EndsByFault got ⊎ WaitsInVain is_last bytes sent got connection
+EndsTurn Peer is_last bytes sent got connection =
+    (sent ≡ bytes) × HasWorked connection × HasEnded connection × HasNoGotFault got
+EndsTurn Broken is_last bytes sent got connection = BreaksOff bytes sent connection × HasNoGotFault got
 
 -- the first turn has got these bytes, and then others
 abbrev pub HasGotFirst : List ℕ → List Turn → Type 0
 HasGotFirst first [] = ⊥
 HasGotFirst first (turn ∷ turns) = (rest : List ℕ) × (turn.got ≡ first ++ rest)
 
--- the script ended in the turn that is recorded last: those before it sent all of their bytes, none was sent
--- after it, and what came with the head was got in the first
+-- A turn is sent behind these: what they got has neither a close nor a fault. The first one is sent where what came
+-- with the head has no fault.
+abbrev pub MayFollow : List ℕ → List Turn → Type 0
+MayFollow first [] = HasNoGotFault first
+MayFollow first (turn ∷ turns) = Stands Going (all_got (turn ∷ turns))
+
+-- The script ended in the turn that is recorded last: those before it sent all of their bytes, that one too or a write
+-- failed, none was sent after it, and what came with the head was got in the first. Its own direction was ended just
+-- where what was got has a close.
 pub record EndsInTurn (turns : List (List ℕ)) (first : List ℕ) (transcript : Transcript)
-    (input output : Device) : Type 0 where
+    (connection : ConnectionValue) : Type 0 where
   pub with_head : HasGotFirst first transcript.turns
   pub before : List Turn
   pub last : Turn
   pub recorded : transcript.turns ≡ before ++ last ∷ []
+  pub behind : MayFollow first before
   pub bytes : List ℕ
   pub others : List (List ℕ)
   pub sent : turns ≡ sent_turns before ++ bytes ∷ others
-  pub ends : EndsTurn transcript.ended bytes last.sent input output
+  pub sent_last : HasSentOf bytes connection.output.failed last.sent
+  pub ends : EndsTurn transcript.ended (others ≡ []) bytes last.sent (all_got transcript.turns) connection
+  pub half_closed : (connection.output.ended ≡ true) ↔ Stands Closed (all_got transcript.turns)
 
--- the script has no turns: the tester ended it, and what came with the head is a turn, if it is anything
+-- The script has no turns, or what came with the head has a fault: the tester ended it, nothing was sent, and what came
+-- with the head is a turn, if it is anything.
 pub record EndsWithoutTurns (turns : List (List ℕ)) (first : List ℕ) (transcript : Transcript)
-    (input output : Device) : Type 0 where
-  pub none : turns ≡ []
+    (connection : ConnectionValue) : Type 0 where
+  pub none : (turns ≡ []) ⊎ Stands Faulty first
   pub ended : transcript.ended ≡ Tester
   pub recorded : transcript.turns ≡ with_finish [] first
-  pub works : HaveWorked input output
+  pub works : HasWorked connection
+  pub both_open : connection.output.ended ≡ false
 
-abbrev pub EndsScript : List (List ℕ) → List ℕ → Transcript → Device → Device → Type 0
-EndsScript turns first transcript input output =
-    EndsWithoutTurns turns first transcript input output ⊎ EndsInTurn turns first transcript input output
+abbrev pub EndsScript : List (List ℕ) → List ℕ → Transcript → ConnectionValue → Type 0
+EndsScript turns first transcript connection =
+    EndsWithoutTurns turns first transcript connection ⊎ EndsInTurn turns first transcript connection
 
 -- ---- a connection to a server
 
@@ -102,33 +152,52 @@ pub record ReadsResponse (offers : List (List ℕ)) (head : List ℕ) (decision 
   pub no_further : ReadsNoFurther (NeedsResponse probe_nonce offers) head
 
 -- the reader was at its end inside the head of the answer, or a read failed there
-abbrev pub StopsInResponse : List (List ℕ) → Device → Type 0
-StopsInResponse offers input = (head : List ℕ)
-    × (ReadsHead (NeedsResponse probe_nonce offers) (DecidesResponse probe_nonce offers) Cut head input
-    ⊎ ReadsHead (NeedsResponse probe_nonce offers) (DecidesResponse probe_nonce offers) ReadFault head input)
+abbrev pub StopsInResponse : List (List ℕ) → ConnectionRun → Type 0
+StopsInResponse offers run = (head : List ℕ)
+    × (ReadsHead (NeedsResponse probe_nonce offers) (DecidesResponse probe_nonce offers) Cut head (input_of run)
+    ⊎ ReadsHead (NeedsResponse probe_nonce offers) (DecidesResponse probe_nonce offers) ReadFault head (input_of run))
 
 -- The request was accepted, which has these offers, and a script run whose turns have these bytes. After the request,
--- `request`, just the bytes that the turns sent were written, and just those that they got were read behind the head.
+-- `request`, just the bytes that the turns sent were written, and just those that they got were read behind the head:
+-- no more than the budget.
 pub record RunsScript (turns offers : List (List ℕ)) (request : List ℕ) (transcript : Transcript)
-    (input output : Device) : Type 0 where
+    (run : ConnectionRun) : Type 0 where
   pub head : List ℕ
   pub used : ℕ
   pub protocol : Option ℕ
   pub is_head : ReadsResponse offers head (Accepted used protocol)
   pub read : List ℕ
-  pub has_read : HasRead (head ++ read) input
+  pub has_got : ReadsBytes (head ++ read) run
+  pub budget : run.old.input.allowance ≡ length read + run.new.input.allowance
   pub got : all_got transcript.turns ≡ drop used head ++ read
-  pub has_written : HasWritten (request ++ all_sent transcript.turns) output
-  pub ends : EndsScript turns (drop used head) transcript input output
+  pub has_put : WritesBytes (request ++ all_sent transcript.turns) run
+  pub ends : EndsScript turns (drop used head) transcript run.new
+
+-- The answer was read to where it is to be refused, and nothing else.
+pub record RefusesResponse (offers : List (List ℕ)) (request : List ℕ) (fault : HeadFault)
+    (run : ConnectionRun) : Type 0 where
+  pub head : List ℕ
+  pub is_head : ReadsResponse offers head (RefusedHead fault)
+  pub has_got : ReadsBytes head run
+  pub has_put : WritesBytes request run
+  pub works : HasWorked run.new
+  pub both_open : run.new.output.ended ≡ false
+
+-- A write failed, and nothing was read; or the request was written, and there was no whole answer.
+abbrev pub HasNoAnswer : List (List ℕ) → List ℕ → ConnectionRun → Type 0
+HasNoAnswer offers request run =
+    ((run.new.output.failed ≡ true) × HasBegun request (output_of run) × IsUntouched (input_of run)
+    × (run.new.input.state ≡ Unread))
+    ⊎ (WritesBytes request run × (run.new.output.failed ≡ false) × StopsInResponse offers run)
+
+-- what came of a connection, over which this request with these offers was put before what the turns sent
+abbrev pub AnswersProbe : List (List ℕ) → List (List ℕ) → List ℕ → Probe → ConnectionRun → Type 0
+AnswersProbe turns offers request (Ran transcript) run = RunsScript turns offers request transcript run
+AnswersProbe turns offers request (Refused fault) run = RefusesResponse offers request fault run
+AnswersProbe turns offers request NoConnection run = HasNoAnswer offers request run
 
 -- what came of a connection to this host, to which these subprotocols were offered and over which this script was to be
 -- run
-abbrev pub Probes : Case → List ℕ → List ℕ → List (List ℕ) → Probe → Device → Device → Type 0
-Probes case key host offers (Ran transcript) input output =
-    RunsScript (bytes_by_turn case key) offers (request_to host offers) transcript input output
-Probes case key host offers (Refused fault) input output = (head : List ℕ)
-    × ReadsResponse offers head (RefusedHead fault)
-    × HasRead head input × HasWritten (request_to host offers) output × HaveWorked input output
-Probes case key host offers NoConnection input output =
-    ((output.failed ≡ true) × HasBegun (request_to host offers) output × IsUntouched input × (input.failed ≡ false))
-    ⊎ (HasWritten (request_to host offers) output × (output.failed ≡ false) × StopsInResponse offers input)
+abbrev pub Probes : Case → List ℕ → List ℕ → List (List ℕ) → Probe → ConnectionRun → Type 0
+Probes case key host offers probe run =
+    AnswersProbe (bytes_by_turn case key) offers (request_to host offers) probe run

@@ -2,11 +2,14 @@
 //! comes behind it, on either side (RFC 6455 sections 4.1, 4.2 and 5 to 7). The device is any: a socket, or bytes in
 //! memory.
 //!
-//! The layer above uses: `serve_one` (the clauses with `Serves`), `probe` (`Probes`), `read_head` (the clauses with
-//! `ReadsHead`) with `RequestHead` and `ResponseHead`, and `protocols_of`, whose `Protocols` both take.
+//! The layer above uses: `serve_one` (the clauses with `Serves`), `probe` (`Probes`) over a `Connection`, `read_head`
+//! (the clauses with `ReadsHead`) with `RequestHead` and `ResponseHead`, and `protocols_of`, whose `Protocols` both
+//! take.
 #![tactic(auto)]
 
 mod awaiting;
+mod connection;
+mod incoming;
 mod probe_end;
 mod probing;
 mod protocols;
@@ -14,9 +17,12 @@ mod reading_head;
 mod request_head;
 mod response_head;
 mod serving;
+mod standing;
 
+pub use connection::{Connection, EndsDirection};
+pub use incoming::Incoming;
 pub use probe_end::Probe;
-pub use probing::{NONCE, probe};
+pub use probing::{Asked, NONCE, probe};
 pub use protocols::{Protocols, protocols_of};
 pub use reading_head::{HeadDecider, HeadEnd, HeadRoom, read_head};
 pub use request_head::{RequestDecision, RequestHead};

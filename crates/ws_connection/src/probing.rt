@@ -3,63 +3,73 @@
 mod script;
 mod turn;
 
-ghost use Rattle.std.specs.Prelude.{◌≡◌, false, map, IfOk};
+ghost use Rattle.std.specs.Prelude.{◌≡◌, map, IfOk};
 ghost use Rattle.std.specs.List.{concat};
-ghost use Rattle.ws_frame.specs.Devices.{watched};
-ghost use Rattle.ws_frame.specs.Watching.{has_failed};
 ghost use Rattle.ws_upgrade.specs.Protocols.{AreOffers};
 ghost use Rattle.ws_upgrade.specs.Texts.{IsHost};
 ghost use Rattle.ws_scripts.specs.Scripts.{CanBeRun};
+ghost use Rattle.ws_connection.specs.Connections.{IsNewConnection};
 ghost use Rattle.ws_connection.specs.Probing.{Probes, request_to};
-ghost use Rattle.ws_connection.specs.InnerProbeTurns.{AnswersProbe};
+ghost use Rattle.ws_connection.specs.InnerProbeTurns.{AnswersBehind};
 
+use crate::connection::{Connection, EndsDirection};
 use crate::probe_end::Probe;
 use crate::probing::script::run_turns;
-use crate::reading_head::{HeadEnd, HeadRoom, read_head};
+use crate::reading_head::{HeadEnd, HeadRoom};
 use crate::response_head::{ResponseDecision, ResponseHead};
 use std::alloc::Global;
-use std::io::{Read, Write};
+use std::io::Read;
 use ws_base::{NoMemory, Payload, Sequence};
-use ws_frame::{Watched, write_whole};
 use ws_suite::{Case, turns};
 use ws_upgrade::{Host, Offers, Path, request_of};
 
 /// The nonce of each probe, 16 bytes: always the same, so that captures are repeatable.
 pub const NONCE: [u8; 16] = *b"the sample nonce";
 
-/// Asks a server for an upgrade, with an offer of these subprotocols, runs a script against it, its frames masked with
-/// `key`, and records what went over the connection. The pieces of each turn are sent in one write each where the
-/// writer takes them so. After each turn but the last it is read until what is owed has come, and after the last to the
-/// end of the stream.
+/// What is asked of a server before a script is run, and how the script is run.
+#[derive(Clone, Copy)]
+pub struct Asked<'a> {
+    /// The host of the request.
+    pub host: &'a [u8],
+    /// The subprotocols that are offered.
+    pub protocols: &'a [&'a [u8]],
+    /// The key of each frame.
+    pub key: [u8; 4],
+    /// Whether reads can wait in vain: then a turn that holds the close or fault of what is sent is waited for as the
+    /// last one is.
+    pub has_timeouts: bool,
+}
+
+/// Asks a server for an upgrade, runs a script against it, and records what went over the connection. The pieces of
+/// each turn are sent in one write each where the writer takes them so. After each turn but the last it is read until
+/// what is owed has come or a read has waited in vain, and after the last to the end of the stream or a wait in vain.
 ///
-/// A turn's `sent` is what the writer took. After a failed write nothing more is sent, and what still comes is read. A
-/// stream that ends ends the script.
-pub fn probe<R: Read, W: Write>(
+/// Once what was got has a close nothing more is sent: its own direction is ended, and it is read on to the end. Once
+/// that has a fault the script ends. A turn's `sent` is what the writer took. After a failed write nothing more is
+/// sent, and what still comes is read. A stream that ends ends the script, and so does the budget of the connection.
+pub fn probe<R: Read, W: EndsDirection>(
     alloc: Global,
     case: &Case,
-    host: &[u8],
-    reader: &mut Watched<R>,
-    writer: &mut Watched<W>,
-    key: [u8; 4],
-    protocols: &[&[u8]],
+    asked: &Asked<'_>,
+    connection: &mut Connection<R, W>,
 ) -> Result<Probe, NoMemory>
-    requires reader_works { has_failed reader.old ≡ false }
-    requires writer_works { has_failed writer.old ≡ false }
+    requires new { IsNewConnection connection.old }
     requires runs { CanBeRun case.now }
-    requires host { IsHost host.now }
-    requires offers { AreOffers (map (λ name. name.now) protocols.now) }
-    ensures { IfOk result (λ probe. Probes case.now key host.now (map (λ name. name.now) protocols.now) probe
-        (watched R.remaining reader.old reader.new) (watched W.contents writer.old writer.new)) }
+    requires host { IsHost asked.now.host.now }
+    requires offers { AreOffers (map (λ name. name.now) asked.now.protocols.now) }
+    ensures { IfOk result (λ probe. Probes case.now asked.now.key asked.now.host.now
+        (map (λ name. name.now) asked.now.protocols.now) probe
+        (record { old = connection.old; new = connection.new })) }
 {
-    let script = turns(alloc, case, key)?;
-    let text = request_text(alloc, host, protocols)?;
-    match write_whole(writer, text.as_slice()) {
-        Ok(()) => {
-            let came = after_request(alloc, script.as_slice(), protocols, reader, writer)?;
-            Ok(came)
-        }
-        Err(_) => Ok(Probe::NoConnection),
+    let script = turns(alloc, case, asked.key)?;
+    let text = request_text(alloc, asked.host, asked.protocols)?;
+    let bytes = text.as_slice();
+    let taken = connection.write(bytes);
+    if taken < bytes.len() {
+        return Ok(Probe::NoConnection);
     }
+    let came = after_request(alloc, script.as_slice(), asked, connection)?;
+    Ok(came)
 }
 
 /// The request that is sent to a host.
@@ -74,28 +84,27 @@ fn request_text(alloc: Global, host: &[u8], offers: &[&[u8]]) -> Result<Vec<u8>,
 }
 
 /// Reads the head of the answer, and where it accepts runs the turns.
-fn after_request<R: Read, W: Write>(
+fn after_request<R: Read, W: EndsDirection>(
     alloc: Global,
     script: &[Sequence<Payload>],
-    offers: &[&[u8]],
-    reader: &mut Watched<R>,
-    writer: &mut Watched<W>,
+    asked: &Asked<'_>,
+    connection: &mut Connection<R, W>,
 ) -> Result<Probe, NoMemory>
-    requires reader_works { has_failed reader.old ≡ false }
-    requires writer_works { has_failed writer.old ≡ false }
-    ensures { IfOk result (λ probe. AnswersProbe (map concat script.now) (map (λ name. name.now) offers.now) probe
-        (watched R.remaining reader.old reader.new) (watched W.contents writer.old writer.new)) }
+    requires { IsNewConnection connection.old }
+    ensures { IfOk result (λ probe. AnswersBehind (map concat script.now)
+        (map (λ name. name.now) asked.now.protocols.now) probe
+        (record { old = connection.old; new = connection.new })) }
 {
     let mut room = HeadRoom::new();
     let decider = ResponseHead {
         nonce: NONCE,
-        offers,
+        offers: asked.protocols,
     };
-    match read_head(reader, &mut room, &decider) {
+    match connection.read_head(&mut room, &decider) {
         HeadEnd::Decided(ResponseDecision::Accepted { used, .. }) => {
             let mut first = Vec::new(alloc);
             first.extend_from_slice(&room.as_slice()[used..])?;
-            let transcript = run_turns(alloc, script, first, reader, writer)?;
+            let transcript = run_turns(alloc, script, first, asked.has_timeouts, connection)?;
             Ok(Probe::Ran(transcript))
         }
         HeadEnd::Decided(ResponseDecision::Refused(fault)) => Ok(Probe::Refused(fault)),

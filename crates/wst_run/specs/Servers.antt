@@ -1,6 +1,6 @@
 -- Servers that cases are run over: what is known of a connection to one in memory, and to one at an address.
 use Rattle.std.specs.Prelude.{◌≡◌, ◌⊎◌, ℕ, List}
-use Rattle.ws_frame.specs.Devices.{Device}
+use Rattle.ws_connection.specs.ConnectionValues.{ConnectionRun}
 use Rattle.ws_connection.specs.Probing.{Probes}
 use Rattle.ws_peer.specs.EchoRuns.{IsEchoRun}
 use Rattle.ws_peer.specs.Runs.{IsRunOf}
@@ -33,12 +33,12 @@ MeetsInMemory server key case (Ran transcript) = IsMemoryRun server key case tra
 MeetsInMemory server key case (Refused fault) = ⊥
 MeetsInMemory server key case NoConnection = ⊥
 
--- There is no connection to the server at an address, which is the host of the request; or there are a reader and a
--- writer over which the handshake was tried, with these offers, and the case run. Where their bytes are not known, this
--- binds the turns of the transcript and its end alone, and neither the host nor the offers.
+-- There is no connection to the server at an address, which is the host of the request; or there is one over which the
+-- handshake was tried, with these offers, and the case run. Where its bytes are not known, this binds the turns of the
+-- transcript and its end alone, and neither the host nor the offers.
 abbrev pub MeetsAtAddress : List ℕ → List (List ℕ) → List ℕ → Case → Probe → Type 0
 MeetsAtAddress host offers key case probe = (probe ≡ NoConnection)
-    ⊎ ((input : Device) × (output : Device) × Probes case key host offers probe input output)
+    ⊎ ((run : ConnectionRun) × Probes case key host offers probe run)
 
 -- what may come of a connection to this target, to which these subprotocols are offered, if it is at an address
 abbrev pub MeetsTarget : Target → List (List ℕ) → List ℕ → Case → Probe → Type 0

@@ -13,9 +13,11 @@ use std::io::{Read, Write};
 use std::marker::Model;
 use std::net::{Net, OpenStream, TcpStream};
 use ws_base::NoMemory;
-use ws_connection::{Probe, probe};
-use ws_frame::Watched;
+use ws_connection::{Asked, Connection, Probe, probe};
 use ws_suite::Case;
+
+/// At most so many bytes are read in one case behind the head.
+const BUDGET: u64 = 67_108_864;
 
 /// A server at an address, which can be the host of a request. These subprotocols are offered to it. Contracts see the
 /// host and the offers.
@@ -76,9 +78,14 @@ fn probe_over<S: Read + Write + OpenStream + Drop>(
     ensures { IfOk result (λ probe. MeetsAtAddress host.now (map (λ name. name.now) offers.now) key case.now probe) }
 {
     let stream = shared(stream);
-    let mut reader = Watched::new(Side::of(&stream));
-    let mut writer = Watched::new(Side::of(&stream));
+    let mut connection = Connection::new(Side::of(&stream), Side::of(&stream), BUDGET);
     let host = host.as_bytes();
-    let probe = probe(alloc, case, host, &mut reader, &mut writer, key, offers)?;
+    let asked = Asked {
+        host,
+        protocols: offers,
+        key,
+        has_timeouts: false,
+    };
+    let probe = probe(alloc, case, &asked, &mut connection)?;
     Ok(probe)
 }

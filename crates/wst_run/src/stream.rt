@@ -5,6 +5,7 @@ use std::io;
 use std::io::{ErrorKind, Read, Write};
 use std::net::{OpenStream, Shutdown};
 use std::time::Duration;
+use ws_connection::EndsDirection;
 
 /// A peer that still sends when its connection has ended is read so often, so that it sees the last bytes sent to it:
 /// a socket that is closed over bytes that were not read is reset.
@@ -55,6 +56,15 @@ impl<S: Write> Write for Side<'_, S> {
     fn flush(&mut self) -> io::Result<()> {
         match self.stream.try_borrow_mut() {
             Ok(mut stream) => stream.flush(),
+            Err(_) => Err(io::Error::from(ErrorKind::Other)),
+        }
+    }
+}
+
+impl<S: Write + OpenStream> EndsDirection for Side<'_, S> {
+    fn end_direction(&mut self) -> io::Result<()> {
+        match self.stream.try_borrow_mut() {
+            Ok(stream) => stream.shutdown(Shutdown::Write),
             Err(_) => Err(io::Error::from(ErrorKind::Other)),
         }
     }

@@ -1,52 +1,48 @@
 //! The turns of a script that is run against a server, and the transcript of them.
 
-ghost use Rattle.std.specs.Prelude.{◌≡◌, false, [], map, IfOk};
+ghost use Rattle.std.specs.Prelude.{◌≡◌, [], map, IfOk};
 ghost use Rattle.std.specs.List.{concat};
-ghost use Rattle.ws_frame.specs.Devices.{watched};
-ghost use Rattle.ws_frame.specs.Watching.{has_failed};
 ghost use Rattle.ws_peer.specs.Runs.{with_finish};
-ghost use Rattle.ws_connection.specs.InnerProbeTurns.{Records};
+ghost use Rattle.ws_connection.specs.InnerProbeTurns.{IsReady, Records};
 
 use crate::awaiting::Awaited;
-use crate::probing::turn::run_turn;
+use crate::connection::{Connection, EndsDirection};
+use crate::probing::turn::{TurnRules, run_turn};
 use std::alloc::Global;
-use std::io::{Read, Write};
+use std::io::Read;
 use ws_base::{NoMemory, Payload, Sequence};
-use ws_frame::Watched;
-use ws_session::{Limits, MAX_MESSAGE};
 use ws_suite::{Ended, Transcript, Turn};
 
-/// Sends the turns and reads what comes for each. `first` came with the head.
-pub fn run_turns<R: Read, W: Write>(
+/// Sends the turns and reads what comes for each. `first` came with the head: where it has a fault, nothing is sent.
+/// `waits_at_end` is that of each turn.
+pub fn run_turns<R: Read, W: EndsDirection>(
     alloc: Global,
     script: &[Sequence<Payload>],
     first: Vec<u8>,
-    reader: &mut Watched<R>,
-    writer: &mut Watched<W>,
+    waits_at_end: bool,
+    connection: &mut Connection<R, W>,
 ) -> Result<Transcript, NoMemory>
-    requires reader_works { has_failed reader.old ≡ false }
-    requires writer_works { has_failed writer.old ≡ false }
+    requires { IsReady connection.old }
     ensures { IfOk result (λ transcript. Records (map concat script.now) first.items transcript
-        (watched R.remaining reader.old reader.new) (watched W.contents writer.old writer.new)) }
+        (record { old = connection.old; new = connection.new })) }
 {
+    let mut awaited = Awaited::new(alloc);
+    awaited.on_got(first.as_slice())?;
     if script.is_empty() {
         let turns = without_turns(alloc, first)?;
         return Ok(transcript_of(turns, Ended::Tester));
     }
-    let mut awaited = Awaited::new(alloc, most());
+    if awaited.is_faulty() {
+        let turns = without_turns(alloc, first)?;
+        return Ok(transcript_of(turns, Ended::Tester));
+    }
     let mut got = first;
     let mut done = Vec::new(alloc);
     for pieces in script {
-        let waits = done.len() < script.len() - 1;
-        let (turn, end) = run_turn(
-            alloc,
-            pieces.as_slice(),
-            got,
-            waits,
-            reader,
-            writer,
-            &mut awaited,
-        )?;
+        let more = done.len() < script.len() - 1;
+        let rules = TurnRules { more, waits_at_end };
+        let bytes = pieces.as_slice();
+        let (turn, end) = run_turn(alloc, bytes, got, rules, connection, &mut awaited)?;
         done.push(turn)?;
         got = Vec::new(alloc);
         match end {
@@ -54,7 +50,7 @@ pub fn run_turns<R: Read, W: Write>(
             None => {}
         }
     }
-    // In the last turn it is read to the end, so that the script ends there.
+    // The last turn doesn't go on, so that the script ends there.
     unreachable!()
 }
 
@@ -71,14 +67,6 @@ fn without_turns(alloc: Global, got: Vec<u8>) -> Result<Vec<Turn>, NoMemory>
         got: Payload::from_vec(got),
     })?;
     Ok(turns)
-}
-
-/// The largest limits.
-fn most() -> Limits {
-    match Limits::new(MAX_MESSAGE) {
-        Some(limits) => limits,
-        None => unreachable!(),
-    }
 }
 
 /// The transcript of these turns.

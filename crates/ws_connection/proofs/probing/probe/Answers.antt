@@ -1,26 +1,36 @@
-use Rattle.std.proofs.Common.{◌≡◌, ◌∙◌, List, ℕ, ap, rules, subst}
+-- The request was written, and then what came of it; or it was not.
+use Rattle.std.proofs.Common.{◌≡◌, ◌∙◌, ◌≤◌, List, ℕ, ap, arith, length, rules, subst, true}
+use Rattle.std.proofs.lemmas.Bool.Decides.{nat_tests}
 use Rattle.std.specs.Prelude.{map}
 use Rattle.std.specs.List.{concat}
 use Rattle.std.specs.Borrow.{Bor}
-use Rattle.ws_frame.specs.Devices.{watched}
-use Rattle.ws_frame.specs.Watching.{inner_of}
 use Rattle.ws_scripts.specs.Scripts.{turns_of}
 use Rattle.ws_connection.specs.Probing.{bytes_by_turn, request_to}
-use Rattle.ws_connection.specs.InnerProbeTurns.{AnswersProbe}
-use Rattle.ws_connection.proofs.ProbingLemmas.{bytes_are, probes}
+use Rattle.ws_connection.specs.InnerProbeTurns.{AnswersBehind}
+use Rattle.ws_connection.proofs.ProbingLemmas.{answers, between, bytes_are, not_asked, put_whole}
 use Rattle.ws_connection.proofs.probing.probe.Goals as goal
 
-pub returns-in-Ok : goal.returns-in-Ok
-returns-in-Ok g c =
+pub returns-then-taken-bytes : goal.returns-then-taken-bytes
+returns-then-taken-bytes g c =
+    let host = c.args.asked.now.host.now in
+    let offers = map (λ (name : Bor (List ℕ)). name.now) c.args.asked.now.protocols.now in
+    let text : c.as_slice-bytes.result.now ≡ request_to host offers = c.as_slice-bytes.ensures.value ∙ c.in_ok-text.ensures in
+    let fails : c.write-taken.new.self.output.failed ≡ true = grind (c.write-taken.ensures.failed, arith, nat_tests) in
+    not_asked (bytes_by_turn c.args.case.now c.args.asked.now.key) offers c.as_slice-bytes.result.now (request_to host offers) c.write-taken.result c.args.connection.now c.write-taken.new.self
+    c.requires.new text c.write-taken.ensures.put fails c.write-taken.ensures.input
+
+pub returns : goal.returns
+returns g c =
     let case = c.args.case.now in
-    let key = c.args.key in
-    let script = c.as_slice-in-Ok.result.now in
-    let input = watched g.R.Read.remaining c.args.reader.now c.after_request.new.reader in
-    let last = watched g.W.Write.contents c.write_whole.new.writer c.after_request.new.writer in
-    let offers = map (λ (name : Bor (List ℕ)). name.now) c.args.protocols.now in
-    let text : c.as_slice.result.now ≡ request_to c.args.host.now offers = c.as_slice.ensures.value ∙ c.in_ok-text.ensures in
+    let key = c.args.asked.now.key in
+    let host = c.args.asked.now.host.now in
+    let offers = map (λ (name : Bor (List ℕ)). name.now) c.args.asked.now.protocols.now in
+    let script = c.as_slice.result.now in
+    let text : c.as_slice-bytes.result.now ≡ request_to host offers = c.as_slice-bytes.ensures.value ∙ c.in_ok-text.ensures in
+    let all : length c.as_slice-bytes.result.now ≤ c.write-taken.result = search rules in
     let same : script ≡ c.in_ok-script.script = search rules in
     let bytes : map (λ (pieces : List (List ℕ)). concat pieces) script ≡ bytes_by_turn case key =
     ap (λ (l : List (List (List ℕ))). map (λ (pieces : List (List ℕ)). concat pieces) l) same ∙ bytes_are case.chop key (turns_of case.steps) c.in_ok-script.script c.in_ok-script.ensures in
-    probes case key c.args.host.now offers c.as_slice.result.now c.in_ok-came-in-Ok.came input _ (g.W.Write.contents (inner_of c.args.writer.now)) (g.W.Write.contents (inner_of c.write_whole.new.writer)) (g.W.Write.contents (inner_of c.after_request.new.writer)) text c.in-Ok.ensures.written
-    (subst (λ (l : List (List ℕ)). AnswersProbe l offers c.in_ok-came-in-Ok.came input last) bytes c.in_ok-came-in-Ok.ensures)
+    answers (bytes_by_turn case key) offers c.as_slice-bytes.result.now (request_to host offers) c.in_ok-came.came c.args.connection.now c.write-taken.new.self c.after_request.new.connection
+    text (put_whole c.as_slice-bytes.result.now c.write-taken.result c.args.connection.now c.write-taken.new.self all c.write-taken.ensures.put) c.write-taken.ensures.input
+    (subst (λ (l : List (List ℕ)). AnswersBehind l offers c.in_ok-came.came (between c.write-taken.new.self c.after_request.new.connection)) bytes c.in_ok-came.ensures)

@@ -1,13 +1,14 @@
-use Rattle.std.proofs.Common.{◌≡◌, ◌++◌, ◌-◌, ◌^◌, List, ℕ, false, length}
-use Rattle.std.specs.Io.KnownBytes.{Consumes}
-use Rattle.ws_frame.specs.Watching.{has_failed, inner_of}
+-- What was read so far was put behind what was got, whatever was got in the turns before.
+use Rattle.std.proofs.Common.{◌≡◌, ◌++◌, ◌-◌, ◌^◌, List, ℕ, true, length}
+use Rattle.ws_connection.specs.Connections.{is_open}
+use Rattle.ws_connection.specs.Standings.{HasHeard, HasNoGotFault}
+use Rattle.ws_connection.proofs.ProbingLemmas.{ReadsSoFar, between}
 use Rattle.ws_connection.proofs.probing.turn.read_turn.Given as goal
 
--- what was read so far was recorded, and no read failed
 abbrev pub invariant-reads : goal.invariant-reads
-invariant-reads g l = (bytes : List ℕ) × (l.got.items ≡ l.fn.got.items ++ bytes)
-    × Consumes (g.R.Read.remaining (inner_of l.fn.reader)) (g.R.Read.remaining (inner_of l.reader)) bytes
-    × (has_failed l.reader ≡ false)
+invariant-reads g l = (is_open l.connection.input.state ≡ true)
+    × ((past : List ℕ) → HasHeard l.fn.awaited (past ++ l.fn.got.items) → HasNoGotFault (past ++ l.fn.got.items)
+    → ReadsSoFar past l.fn.got.items l.got.items l.awaited (between l.fn.connection l.connection))
 
 -- how many bytes a vector could still take
 abbrev pub decreases-reads : goal.decreases-reads

@@ -1,0 +1,26 @@
+-- A connection as a tester holds it, as contracts see it.
+use Rattle.std.specs.Prelude.{ℕ, Bool, List, Option}
+use Rattle.ws_connection.specs.declared.incoming.Incoming.{Incoming}
+
+-- the direction that is read: what the reader has left, where that is known; how its reads stand; and how many bytes
+-- may still be read behind the head of the answer
+pub record InputValue : Type 0 where
+  pub left : Option (List ℕ)
+  pub state : Incoming
+  pub allowance : ℕ
+
+-- the direction that is written: what the writer holds, where that is known; whether a write has failed; and whether
+-- the direction was ended (a half-close)
+pub record OutputValue : Type 0 where
+  pub held : Option (List ℕ)
+  pub failed : Bool
+  pub ended : Bool
+
+pub record ConnectionValue : Type 0 where
+  pub input : InputValue
+  pub output : OutputValue
+
+-- a connection before a run and after it
+pub record ConnectionRun : Type 0 where
+  pub old : ConnectionValue
+  pub new : ConnectionValue

@@ -1,0 +1,92 @@
+-- A connection as a tester holds it: what may be called when, and what a run does to it.
+use Rattle.std.specs.Prelude.{◌≡◌, ℕ, ◌+◌, ◌<◌, Bool, true, false, List}
+use Rattle.ws_frame.specs.Devices.{Device, HasRead, HasWritten}
+use Rattle.ws_connection.specs.ConnectionValues.{ConnectionRun, ConnectionValue}
+use Rattle.ws_connection.specs.ReadingHeads.{ReadsHead}
+use Rattle.ws_connection.specs.declared.incoming.Incoming.{Incoming}
+use Rattle.ws_connection.specs.declared.incoming.Incoming.TheVariants.{Unread, Open, Waited, AtEnd, Failed}
+use Rattle.ws_connection.specs.declared.reading_head.HeadEnd.{HeadEnd}
+use Rattle.ws_connection.specs.declared.reading_head.HeadEnd.TheVariants.{Decided, Cut, ReadFault}
+
+-- ---- how a connection stands
+
+abbrev pub read_failed : Incoming → Bool
+read_failed Failed = true
+read_failed _ = false
+
+-- no read has failed, and no write
+abbrev pub HasWorked : ConnectionValue → Type 0
+HasWorked connection = (read_failed connection.input.state ≡ false) × (connection.output.failed ≡ false)
+
+-- bytes can come behind the head: the stream has not ended, and no read has failed
+abbrev pub is_open : Incoming → Bool
+is_open Open = true
+is_open Waited = true
+is_open _ = false
+
+-- what may be read: a stream that has not ended, behind the head, while the budget is not used up
+abbrev pub MayRead : ConnectionValue → Type 0
+MayRead connection = (is_open connection.input.state ≡ true) × (0 < connection.input.allowance)
+
+-- the other end takes part: the stream has not ended, and no read has failed
+abbrev pub takes_part : Incoming → Bool
+takes_part AtEnd = false
+takes_part Failed = false
+takes_part _ = true
+
+-- what may be written to: a direction that was not ended, over which no write has failed, while the stream of the other
+-- one has not ended either
+abbrev pub MayWrite : ConnectionValue → Type 0
+MayWrite connection = (takes_part connection.input.state ≡ true) × (connection.output.failed ≡ false)
+    × (connection.output.ended ≡ false)
+
+-- nothing has gone over the connection
+abbrev pub IsNewConnection : ConnectionValue → Type 0
+IsNewConnection connection = (connection.input.state ≡ Unread) × (connection.output.failed ≡ false)
+    × (connection.output.ended ≡ false)
+
+-- how the reads stand after one that has brought so many bytes
+abbrev pub brings : ℕ → Incoming → Type 0
+brings count Unread = ⊥
+brings count Open = 0 < count
+brings count Waited = count ≡ 0
+brings count AtEnd = count ≡ 0
+brings count Failed = count ≡ 0
+
+-- so many bytes fewer may still be read
+abbrev pub spent : ℕ → ℕ → ℕ → Type 0
+spent before count after = before ≡ count + after
+
+-- ---- what a run does to a connection
+
+abbrev pub input_of : ConnectionRun → Device
+input_of run = record {
+  failed = read_failed run.new.input.state;
+  old = run.old.input.left;
+  new = run.new.input.left;
+}
+
+abbrev pub output_of : ConnectionRun → Device
+output_of run = record { failed = run.new.output.failed; old = run.old.output.held; new = run.new.output.held }
+
+-- these bytes were got
+abbrev pub ReadsBytes : List ℕ → ConnectionRun → Type 0
+ReadsBytes bytes run = HasRead bytes (input_of run)
+
+-- these bytes were put
+abbrev pub WritesBytes : List ℕ → ConnectionRun → Type 0
+WritesBytes bytes run = HasWritten bytes (output_of run)
+
+-- how the reads stand once the head was read
+abbrev pub state_after_head : {D : Type 0} → HeadEnd D → Incoming
+state_after_head (Decided decision) = Open
+state_after_head Cut = AtEnd
+state_after_head ReadFault = Failed
+
+-- the head was read so: nothing was written, and no byte behind the head is counted
+pub record ReadsHeadOver {D : Type 0} (needs : List ℕ → Type 0) (decides : List ℕ → D → Type 0)
+    (end : HeadEnd D) (read : List ℕ) (run : ConnectionRun) : Type 0 where
+  pub reads : ReadsHead needs decides end read (input_of run)
+  pub state : run.new.input.state ≡ state_after_head end
+  pub allowance : run.new.input.allowance ≡ run.old.input.allowance
+  pub output : run.new.output ≡ run.old.output

@@ -1,0 +1,16 @@
+//! How the reads over a connection stand.
+
+/// How the reads over a connection stand.
+#[derive(Clone, Copy, PartialEq, Eq)]
+pub enum Incoming {
+    /// The head of the answer is still to be read.
+    Unread,
+    /// No read behind the head was made, or the last one has brought bytes.
+    Open,
+    /// The last read has waited in vain.
+    Waited,
+    /// The stream has ended.
+    AtEnd,
+    /// A read has failed.
+    Failed,
+}
