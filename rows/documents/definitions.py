@@ -27,17 +27,6 @@ def has_theorem(text, name):
     return any(re.search(form, text, re.MULTILINE) for form in forms)
 
 
-def contracts_of(text, name):
-    """What stands in sources from each function, or each `impl` of a trait, of this name up to the next function."""
-    form = rf"^(?: *(?:pub )?fn {name}\b|impl\S* \w+::{name} for).*?(?=^ *(?:pub )?fn (?!fmt)|\Z)"
-    return "\n".join(re.findall(form, text, re.MULTILINE | re.DOTALL))
-
-
-def has_clause(contracts, name):
-    """Whether these contracts have a clause of this name, or say what `Display` writes."""
-    return re.search(rf"^ *(?:ensures|ghost) {name} ", contracts, re.MULTILINE) is not None
-
-
 def has_type(text, name):
     """Whether sources have a type, or a constant, of this name."""
     return re.search(rf"^ *pub(?:\(crate\))? (?:enum|struct|type|trait|const) {name}\b", text, re.MULTILINE) is not None
