@@ -20,6 +20,8 @@ pub mod Assembled
 pub mod Received
 pub mod Arriving
 pub mod HeaderEnds
+pub mod LeastLengths
+pub mod LeastHeaders
 pub mod Pieces
 pub mod WentOn
 pub mod Kept

@@ -14,6 +14,7 @@ pub mod Examples
 pub mod InnerNextFrame
 pub mod InnerAssembly
 pub mod InnerChecking
+pub mod LeastHeader
 pub mod InnerMasked
 pub mod InnerReceiving
 pub mod InnerReplying

@@ -23,6 +23,7 @@ mod header_end;
 mod header_kind;
 mod header_rules;
 mod inside;
+mod least_header;
 mod under_way;
 
 use crate::control_payload::Small;
