@@ -124,7 +124,7 @@ right_bit true false never = absurd (never (λ e. absurd cc))
 right_bit false true never = absurd (never (λ e. absurd cc))
 right_bit false false never = refl
 
-same_first : (f g : Bool) (r s o p : ℕ) → r < 8 → s < 8 → o < 16 → p < 16 → top_bit f + (16 * r + o) ≡ top_bit g + (16 * s + p) → SameFirst f g r s o p
+pub same_first : (f g : Bool) (r s o p : ℕ) → r < 8 → s < 8 → o < 16 → p < 16 → top_bit f + (16 * r + o) ≡ top_bit g + (16 * s + p) → SameFirst f g r s o p
 same_first true true r s o p lr ls lo lp e = record { fin = refl; rsv = omega arith; opcode = omega arith }
 same_first true false r s o p lr ls lo lp e = absurd (omega arith)
 same_first false true r s o p lr ls lo lp e = absurd (omega arith)

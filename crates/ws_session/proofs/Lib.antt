@@ -52,6 +52,11 @@ pub mod ToldFrames
 pub mod Replied
 pub mod EndIsLast
 pub mod EchoReplied
+pub mod RightPayloads
+pub mod RightCloses
+pub mod RightFronts
+pub mod DoomedNow
+pub mod DoomedStreams
 pub mod DataSends
 pub mod SendCalls
 pub mod WorkedExamples

@@ -17,6 +17,7 @@ mod checking;
 mod control_frame;
 mod data_frame;
 mod data_payload;
+mod doomed;
 mod frame_check;
 mod frame_end;
 mod header_end;
