@@ -1,5 +1,7 @@
 -- Of the headers that begin with some bytes, the one of the least length breaks a rule only where each does.
-use Rattle.std.proofs.Common.{◌≡◌, ℕ, zero, suc, ◌+◌, ◌*◌, ◌%◌, ◌<◌, ◌≤◌, ◌⊎◌, Bool, true, false, List, [], ◌++◌, length, get_or, take, drop, Option, Some, None, refl, sym, ap, ◌∙◌, arith, inl, inr, lit<, subst}
+use Rattle.std.proofs.Common.{◌≡◌, ℕ, zero, suc, ◌+◌, ◌*◌, ◌%◌, ◌<◌, ◌≤◌, ◌⊎◌, Bool, true, false, List, [], ◌++◌}
+use Rattle.std.proofs.Common.{length, get_or, take, drop, Option, Some, None, refl, sym, ap, ◌∙◌, arith, inl, inr, lit<}
+use Rattle.std.proofs.Common.{subst}
 use Rattle.std.specs.Prelude.{slice_index, nat_le}
 use Rattle.std.specs.Int.{w16, w64, byte_at, bytes_high_first}
 use Rattle.std.proofs.lemmas.Bool.{cases_lt}
@@ -7,11 +9,15 @@ use Rattle.std.proofs.lemmas.List.{append-nil, take-append-drop, take-take, get_
 use Rattle.ws_wire.specs.declared.role.Role.{Role}
 use Rattle.ws_wire.specs.declared.header.Form.{Form}
 use Rattle.ws_wire.specs.declared.header.Form.TheVariants.{Short, Two, Eight}
-use Rattle.ws_wire.specs.Header.{HeaderFields, IsHeader, IsMaskingKey, AreBytes, CanHold, header_bytes, first_byte, top_bit, length_bits, length_bytes, key_bytes, is_masked}
+use Rattle.ws_wire.specs.Header.{HeaderFields, IsHeader, IsMaskingKey, AreBytes, CanHold, header_bytes, first_byte}
+use Rattle.ws_wire.specs.Header.{top_bit, length_bits, length_bytes, key_bytes, is_masked}
 use Rattle.ws_wire.specs.Reading.{Begins, BeginsNoHeader}
 use Rattle.ws_wire.proofs.Headers.{header_ends, header_parts, second_is, SameFirst}
 use Rattle.ws_session.specs.declared.message.Message.{Message}
-use Rattle.ws_session.specs.declared.reason.Reason.TheVariants.{ReservedBits, Opcode, MaskWrong, NotShortest, BadLength, ControlCut, ControlLong, NothingToContinue, MessageOpen, TooBig, FrameBig, NotText, TextCut, CloseOneByte, CloseCode, CloseReason}
+use Rattle.ws_session.specs.declared.reason.Reason.TheVariants.{ReservedBits, Opcode, MaskWrong, NotShortest, BadLength}
+use Rattle.ws_session.specs.declared.reason.Reason.TheVariants.{ControlCut, ControlLong, NothingToContinue, MessageOpen}
+use Rattle.ws_session.specs.declared.reason.Reason.TheVariants.{TooBig, FrameBig, NotText, TextCut, CloseOneByte}
+use Rattle.ws_session.specs.declared.reason.Reason.TheVariants.{CloseCode, CloseReason}
 use Rattle.ws_session.specs.Limits.{LimitsValue}
 use Rattle.ws_session.specs.Faults.{expects_key}
 use Rattle.ws_session.specs.InnerChecking.{NoneAtHeader}
@@ -54,7 +60,8 @@ second_below false Eight len h = lit< tt
 pub header_are_bytes : (h : HeaderFields) → IsHeader h → AreBytes (header_bytes h)
 header_are_bytes h is zero = first_below h.fin h.rsv h.opcode is.rsv is.opcode
 header_are_bytes h is (suc zero) = second_below (is_masked h.key) h.form h.len is.len
-header_are_bytes h is (suc (suc i)) = bytes_append (length_bytes h.form h.len) (key_bytes h.key) (length_are h.form h.len) (key_are h.key is.key) i
+header_are_bytes h is (suc (suc i)) = bytes_append (length_bytes h.form h.len) (key_bytes h.key)
+    (length_are h.form h.len) (key_are h.key is.key) i
 
 -- ---- the lengths of two headers
 
@@ -87,12 +94,15 @@ least_eight_of : (len : ℕ) → (IsTooLong Eight len → ⊥) → 65536 ≤ len
 least_eight_of len never = elim (cases_lt len 65536) [ inl lt ↦ absurd (never (inr (refl, lt))) | inr ge ↦ ge ]
 
 -- with the same bits beside MASK, and the bytes of the one the least of those that begin so
-no_longer : (start bytes more : List ℕ) (least : ℕ) (f g : Form) (m n : ℕ) (x y : List ℕ) → least ≤ 125 → AreBytes (start ++ more)
-    → (length_bits f m ≡ 126 → HasLeastLength w16 126 start bytes) → (length_bits f m ≡ 127 → HasLeastLength w64 65536 start bytes)
+no_longer : (start bytes more : List ℕ) (least : ℕ) (f g : Form) (m n : ℕ) (x y : List ℕ) → least ≤ 125
+    → AreBytes (start ++ more)
+    → (length_bits f m ≡ 126 → HasLeastLength w16 126 start bytes) →
+    (length_bits f m ≡ 127 → HasLeastLength w64 65536 start bytes)
     → CanHold f m → CanHold g n → length_bits f m ≡ length_bits g n
     → drop 2 bytes ≡ length_bytes f m ++ x → drop 2 (start ++ more) ≡ length_bytes g n ++ y
     → (IsTooLong g n → ⊥) → least ≤ n → IsNoLonger least f m n
-no_longer start bytes more least Short Short m n x y few are two eight cf cg bits e d never le = record { shortest = short_is_shortest m; long = omega (arith, bits, le); no_longer = omega (arith, bits) }
+no_longer start bytes more least Short Short m n x y few are two eight cf cg bits e d never le = record
+    { shortest = short_is_shortest m; long = omega (arith, bits, le); no_longer = omega (arith, bits) }
 no_longer start bytes more least Short Two m n x y few are two eight cf cg bits e d never le = absurd (omega arith)
 no_longer start bytes more least Short Eight m n x y few are two eight cf cg bits e d never le = absurd (omega arith)
 no_longer start bytes more least Two Short m n x y few are two eight cf cg bits e d never le = absurd (omega arith)
@@ -100,7 +110,12 @@ no_longer start bytes more least Two Two m n x y few are two eight cf cg bits e 
     let mine = two_read m bytes x cf e in
     let other = two_read n (start ++ more) y cg d in
     let h = two refl more are (omega (arith, other, least_two_of least n never)) in
-    record { shortest = two_is_shortest m (omega (arith, mine, h.0)); long = omega (arith, mine, h.0, few); no_longer = omega (arith, mine, other, h.1) }
+    record {
+      shortest = two_is_shortest m (omega (arith, mine, h.0));
+      long = omega (arith, mine, h.0, few);
+      no_longer =
+          omega (arith, mine, other, h.1);
+    }
 no_longer start bytes more least Two Eight m n x y few are two eight cf cg bits e d never le = absurd (omega arith)
 no_longer start bytes more least Eight Short m n x y few are two eight cf cg bits e d never le = absurd (omega arith)
 no_longer start bytes more least Eight Two m n x y few are two eight cf cg bits e d never le = absurd (omega arith)
@@ -108,11 +123,21 @@ no_longer start bytes more least Eight Eight m n x y few are two eight cf cg bit
     let mine = eight_read m bytes x cf e in
     let other = eight_read n (start ++ more) y cg d in
     let h = eight refl more are (omega (arith, other, least_eight_of n never)) in
-    record { shortest = eight_is_shortest m (omega (arith, mine, h.0)); long = omega (arith, mine, h.0, few); no_longer = omega (arith, mine, other, h.1) }
+    record {
+      shortest = eight_is_shortest m (omega (arith, mine, h.0));
+      long = omega (arith, mine, h.0, few);
+      no_longer
+          = omega (arith, mine, other, h.1);
+    }
 
 -- a length in the bits beside MASK alone
-short_length : (least : ℕ) (form : Form) (len other : ℕ) → least ≤ 125 → least ≡ length_bits form len → least ≤ other → IsNoLonger least form len other
-short_length least Short len other few e le = record { shortest = short_is_shortest len; long = omega (arith, e); no_longer = omega (arith, e, le) }
+short_length : (least : ℕ) (form : Form) (len other : ℕ) → least ≤ 125 → least ≡ length_bits form len → least ≤ other
+    → IsNoLonger least form len other
+short_length least Short len other few e le = record {
+  shortest = short_is_shortest len;
+  long = omega (arith, e);
+  no_longer = omega (arith, e, le);
+}
 short_length least Two len other few e le = absurd (omega arith)
 short_length least Eight len other few e le = absurd (omega arith)
 
@@ -124,7 +149,8 @@ right_bit true false never = absurd (never (λ e. absurd cc))
 right_bit false true never = absurd (never (λ e. absurd cc))
 right_bit false false never = refl
 
-pub same_first : (f g : Bool) (r s o p : ℕ) → r < 8 → s < 8 → o < 16 → p < 16 → top_bit f + (16 * r + o) ≡ top_bit g + (16 * s + p) → SameFirst f g r s o p
+pub same_first : (f g : Bool) (r s o p : ℕ) → r < 8 → s < 8 → o < 16 → p < 16
+    → top_bit f + (16 * r + o) ≡ top_bit g + (16 * s + p) → SameFirst f g r s o p
 same_first true true r s o p lr ls lo lp e = record { fin = refl; rsv = omega arith; opcode = omega arith }
 same_first true false r s o p lr ls lo lp e = absurd (omega arith)
 same_first false true r s o p lr ls lo lp e = absurd (omega arith)
@@ -141,10 +167,27 @@ module _ (role : Role) (limits : LimitsValue) (opened : Option Message) (h o : H
   none_shorter MaskWrong w = w masked
   none_shorter NotShortest w = shortest w
   none_shorter BadLength w = none BadLength (omega (arith, w, shorter))
-  none_shorter ControlCut w = none ControlCut ((omega (arith, w.0.0, first.opcode), omega (arith, w.0.1, first.opcode)), sym first.fin ∙ w.1)
-  none_shorter ControlLong w = none ControlLong ((omega (arith, w.0.0, first.opcode), omega (arith, w.0.1, first.opcode)), omega (arith, w.1, shorter))
+  none_shorter ControlCut w = none ControlCut (
+    (omega (arith, w.0.0, first.opcode), omega (arith, w.0.1, first.opcode)),
+    sym first.fin ∙ w.1,
+  )
+  none_shorter ControlLong w = none ControlLong (
+    (
+      omega (arith, w.0.0, first.opcode),
+      omega
+          (arith, w.0.1, first.opcode),
+    ),
+    omega (arith, w.1, shorter),
+  )
   none_shorter NothingToContinue w = none NothingToContinue (sym first.opcode ∙ w.0, w.1)
-  none_shorter MessageOpen w = none MessageOpen (elim w.0 [ inl one ↦ inl (sym first.opcode ∙ one) | inr two ↦ inr (sym first.opcode ∙ two) ], w.1)
+  none_shorter MessageOpen w = none MessageOpen (
+    elim w.0 [
+      | inl one ↦ inl (sym first.opcode ∙ one)
+      | inr two ↦ inr
+          (sym first.opcode ∙ two)
+    ],
+    w.1,
+  )
   none_shorter TooBig w = none TooBig (omega (arith, w.0, first.opcode), omega (arith, w.1, shorter))
   none_shorter FrameBig w = none FrameBig (omega (arith, w.0, first.opcode), omega (arith, w.1, shorter))
   none_shorter NotText w = w
@@ -155,28 +198,35 @@ module _ (role : Role) (limits : LimitsValue) (opened : Option Message) (h o : H
 
 -- ---- the least header
 
-same_place : (start bytes more : List ℕ) (i : ℕ) → i < length start → take (length start) bytes ≡ start → slice_index bytes i ≡ slice_index (start ++ more) i
-same_place start bytes more i lt e = sym (get_or-take (length start) bytes i 0 lt) ∙ ap (λ (t : List ℕ). get_or t i 0) e ∙ sym (get_or_append_left start more 0 i lt)
+same_place : (start bytes more : List ℕ) (i : ℕ) → i < length start → take (length start) bytes ≡ start
+    → slice_index bytes i ≡ slice_index (start ++ more) i
+same_place start bytes more i lt e = sym (get_or-take (length start) bytes i 0 lt) ∙ ap (λ (t : List ℕ). get_or t i 0) e
+    ∙ sym (get_or_append_left start more 0 i lt)
 
-module _ (role : Role) (start bytes : List ℕ) (least : ℕ) (few : least ≤ 125) (some : 0 < length start) (are : AreLeastBytes role start least bytes) (h : HeaderFields) (used : ℕ) (b : Begins h used bytes) where
+module _ (role : Role) (start bytes : List ℕ) (least : ℕ) (few : least ≤ 125) (some : 0 < length start)
+    (are : AreLeastBytes role start least bytes) (h : HeaderFields) (used : ℕ) (b : Begins h used bytes) where
   -- the header doesn't end within the bytes that came
   ends_later : BeginsNoHeader start → length start < used
   ends_later none =
       elim (cases_lt (length start) used) [
         | inl lt ↦ lt
         | inr ge ↦
-            let same : take used bytes ≡ take used start = sym (take-take used (length start) bytes ge) ∙ ap (λ (t : List ℕ). take used t) are.front in
-            absurd (none h (take used bytes) (drop used start) b.front (sym (ap (λ (t : List ℕ). t ++ drop used start) same ∙ take-append-drop used start)))
+            let same : take used bytes ≡ take used start = sym (take-take used (length start) bytes ge)
+            ∙ ap (λ (t : List ℕ). take used t) are.front in
+            absurd (none h (take used bytes) (drop used start) b.front
+            (sym (ap (λ (t : List ℕ). t ++ drop used start) same ∙ take-append-drop used start)))
       ]
 
   begins_so : BeginsNoHeader start → BeginsWith start h
   begins_so none =
       let later = ends_later none in
-      let front : take (length start) (take used bytes) ≡ start = take-take (length start) used bytes (omega (arith, later)) ∙ are.front in
+      let front : take (length start) (take used bytes) ≡ start = take-take (length start) used bytes
+      (omega (arith, later)) ∙ are.front in
       record {
         is_header = b.front.fields;
         more = drop (length start) (take used bytes);
-        layout = sym b.front.layout ∙ (sym (take-append-drop (length start) (take used bytes)) ∙ ap (λ (t : List ℕ). t ++ drop (length start) (take used bytes)) front);
+        layout = sym b.front.layout ∙ (sym (take-append-drop (length start) (take used bytes))
+            ∙ ap (λ (t : List ℕ). t ++ drop (length start) (take used bytes)) front);
       }
 
   -- the length against that of another header that begins so, and the bit of MASK
@@ -185,35 +235,46 @@ module _ (role : Role) (start bytes : List ℕ) (least : ℕ) (few : least ≤ 1
     pub masked : is_masked h.key ≡ expects_key role
     pub length : IsNoLonger least h.form h.len o.len
 
-  module _ (limits : LimitsValue) (opened : Option Message) (o : HeaderFields) (w : BeginsWith start o) (fine : IsFineHeader role limits opened least o) where
+  module _ (limits : LimitsValue) (opened : Option Message) (o : HeaderFields) (w : BeginsWith start o)
+      (fine : IsFineHeader role limits opened least o) where
     whole : start ++ w.more ≡ header_bytes o ++ []
     whole = sym w.layout ∙ sym (append-nil (header_bytes o))
 
     first_is : SameFirst h.fin o.fin h.rsv o.rsv h.opcode o.opcode
     first_is =
-        let mine : slice_index bytes 0 ≡ first_byte h = ap (λ (t : List ℕ). get_or t 0 0) (header_parts h used bytes b) in
+        let mine : slice_index bytes 0 ≡ first_byte h = ap (λ (t : List ℕ). get_or t 0 0) (header_parts h used bytes b)
+        in
         let other : slice_index (start ++ w.more) 0 ≡ first_byte o = ap (λ (t : List ℕ). get_or t 0 0) whole in
-        same_first h.fin o.fin h.rsv o.rsv h.opcode o.opcode b.front.fields.rsv w.is_header.rsv b.front.fields.opcode w.is_header.opcode (sym mine ∙ same_place start bytes w.more 0 some are.front ∙ other)
+        same_first h.fin o.fin h.rsv o.rsv h.opcode o.opcode b.front.fields.rsv w.is_header.rsv b.front.fields.opcode
+        w.is_header.opcode (sym mine ∙ same_place start bytes w.more 0 some are.front ∙ other)
 
     -- with the second byte there
     beside_more : 2 ≤ length start → Beside o
     beside_more two =
-        let mine = header_ends bytes h (take used bytes) (drop used bytes) b.front (sym (take-append-drop used bytes)) in
-        let other = header_ends (start ++ w.more) o (header_bytes o) [] (record { fields = w.is_header; layout = refl }) whole in
-        let same : slice_index bytes 1 ≡ slice_index (start ++ w.more) 1 = same_place start bytes w.more 1 (omega (arith, two)) are.front in
-        let bits : length_bits h.form h.len ≡ length_bits o.form o.len = sym mine.0 ∙ ap (λ n. n % 128) same ∙ other.0 in
+        let mine = header_ends bytes h (take used bytes) (drop used bytes) b.front (sym (take-append-drop used bytes))
+        in
+        let other = header_ends (start ++ w.more) o (header_bytes o) [] (record { fields = w.is_header; layout = refl })
+        whole in
+        let same : slice_index bytes 1 ≡ slice_index (start ++ w.more) 1 = same_place start bytes w.more 1
+        (omega (arith, two)) are.front in
+        let bits : length_bits h.form h.len ≡ length_bits o.form o.len = sym mine.0 ∙ ap (λ n. n % 128) same
+        ∙ other.0 in
         let masks : is_masked h.key ≡ is_masked o.key = mine.1 ∙ ap (λ n. nat_le 128 n) same ∙ sym other.1 in
-        let all_bytes : AreBytes (start ++ w.more) = subst (λ (l : List ℕ). AreBytes l) w.layout (header_are_bytes o w.is_header) in
+        let all_bytes : AreBytes (start ++ w.more) = subst (λ (l : List ℕ). AreBytes l) w.layout
+        (header_are_bytes o w.is_header) in
         record {
           first = first_is;
           masked = masks ∙ right_bit (is_masked o.key) (expects_key role) (fine.none MaskWrong);
-          length = no_longer start bytes w.more least h.form o.form h.len o.len _ _ few all_bytes (λ e. are.two two (mine.0 ∙ e)) (λ e. are.eight two (mine.0 ∙ e)) b.front.fields.len w.is_header.len bits mine.2 other.2 (fine.none NotShortest) fine.long;
+          length = no_longer start bytes w.more least h.form o.form h.len o.len _ _ few all_bytes
+              (λ e. are.two two (mine.0 ∙ e)) (λ e. are.eight two (mine.0 ∙ e)) b.front.fields.len w.is_header.len bits
+              mine.2 other.2 (fine.none NotShortest) fine.long;
         }
 
     -- with the first byte alone
     beside_one : length start ≡ 1 → Beside o
     beside_one one =
-        let mine = header_ends bytes h (take used bytes) (drop used bytes) b.front (sym (take-append-drop used bytes)) in
+        let mine = header_ends bytes h (take used bytes) (drop used bytes) b.front (sym (take-append-drop used bytes))
+        in
         let s = second_is (expects_key role) least (slice_index bytes 1) (omega (arith, few)) (are.second one) in
         record {
           first = first_is;
@@ -222,13 +283,23 @@ module _ (role : Role) (start bytes : List ℕ) (least : ℕ) (few : least ≤ 1
         }
 
     beside : Beside o
-    beside = elim (cases_lt 1 (length start)) [ inl more ↦ beside_more more | inr most ↦ beside_one (omega (arith, most, some)) ]
+    beside = elim (cases_lt 1 (length start)) [
+      | inl more ↦ beside_more more
+      | inr most ↦ beside_one
+          (omega (arith, most, some))
+    ]
 
     fine_too : IsFineHeader role limits opened least h
     fine_too = record {
       long = beside.length.long;
-      none = none_shorter role limits opened h o beside.first beside.masked beside.length.shortest beside.length.no_longer fine.none;
+      none = none_shorter role limits opened h o beside.first beside.masked beside.length.shortest
+          beside.length.no_longer fine.none;
     }
 
-  pub least_of_bytes : BeginsNoHeader start → (limits : LimitsValue) (opened : Option Message) → IsLeastHeader role limits opened start least h
-  least_of_bytes none limits opened = record { begins = begins_so none; fine = λ o w fine. fine_too limits opened o w fine }
+  pub least_of_bytes : BeginsNoHeader start → (limits : LimitsValue) (opened : Option Message)
+      → IsLeastHeader role limits opened start least h
+  least_of_bytes none limits opened = record {
+    begins = begins_so none;
+    fine = λ o w fine. fine_too limits opened o w
+        fine;
+  }

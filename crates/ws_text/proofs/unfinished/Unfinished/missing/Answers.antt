@@ -1,6 +1,7 @@
 use Rattle.std.proofs.Common.{arith}
 use Rattle.ws_text.proofs.UnfinishedCharacters.{lead_of, two_of, three_of}
-use Rattle.ws_text.proofs.Wanted.{nothing_wanted, one_of_two, two_of_three, three_of_four, one_of_three, two_of_four, one_of_four}
+use Rattle.ws_text.proofs.Wanted.{nothing_wanted, one_of_two, two_of_three, three_of_four, one_of_three, two_of_four}
+use Rattle.ws_text.proofs.Wanted.{one_of_four}
 use Rattle.ws_text.proofs.unfinished.Unfinished.missing.Goals as goal
 
 pub returns-in-Nothing-clause-wanted : goal.returns-in-Nothing-clause-wanted
@@ -32,4 +33,5 @@ returns-else-lead-lt240-2-clause-wanted c =
 pub returns-in-Three-clause-wanted : goal.returns-in-Three-clause-wanted
 returns-in-Three-clause-wanted c =
     let three = three_of c.in-Three.field-0 c.in-Three.field-1 c.in-Three.field-2 (rw c.in-Three.is at c.requires) in
-    rw c.in-Three.is (one_of_four c.in-Three.field-0 c.in-Three.field-1 c.in-Three.field-2 three.0 three.1 three.2 three.3)
+    rw c.in-Three.is (one_of_four c.in-Three.field-0 c.in-Three.field-1 c.in-Three.field-2 three.0 three.1 three.2
+    three.3)
