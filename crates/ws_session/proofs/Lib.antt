@@ -20,6 +20,8 @@ pub mod Assembled
 pub mod Received
 pub mod Arriving
 pub mod HeaderEnds
+pub mod LeastLengths
+pub mod LeastHeaders
 pub mod Pieces
 pub mod WentOn
 pub mod Kept
@@ -50,6 +52,11 @@ pub mod ToldFrames
 pub mod Replied
 pub mod EndIsLast
 pub mod EchoReplied
+pub mod RightPayloads
+pub mod RightCloses
+pub mod RightFronts
+pub mod DoomedNow
+pub mod DoomedStreams
 pub mod DataSends
 pub mod SendCalls
 pub mod WorkedExamples

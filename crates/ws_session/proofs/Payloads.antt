@@ -21,14 +21,14 @@ use Rattle.ws_session.specs.InnerAssembly.{HasReadOpen}
 use Rattle.ws_session.specs.InnerChecking.{NoneInPayload, IsFirstInPayload}
 
 -- a front that is as long as the header says is the whole
-front_is_all : (p : List ℕ) (n len : ℕ) → n ≤ length p → length p ≤ len → length (take n p) ≡ len → (n ≡ length p) × (length p ≡ len)
+pub front_is_all : (p : List ℕ) (n len : ℕ) → n ≤ length p → length p ≤ len → length (take n p) ≡ len → (n ≡ length p) × (length p ≡ len)
 front_is_all p n len le within e = let is = length-take-le n p le in (omega arith, omega arith)
 
 pub begins_front : (a b : List ℕ) → BeginsText (a ++ b) → BeginsText a
 begins_front a b h = record { more = b ++ h.more; is_text = subst (λ (l : List ℕ). IsText l) (append_assoc a b h.more) h.is_text }
 
 -- a front of a payload with which the text goes on goes on too
-begins_take : (before p : List ℕ) (n : ℕ) → BeginsText (before ++ p) → BeginsText (before ++ take n p)
+pub begins_take : (before p : List ℕ) (n : ℕ) → BeginsText (before ++ p) → BeginsText (before ++ take n p)
 begins_take before p n h = begins_front (before ++ take n p) (drop n p) (subst (λ (l : List ℕ). BeginsText l) (ap (λ (l : List ℕ). before ++ l) (sym (take-append-drop n p)) ∙ sym (append_assoc before (take n p) (drop n p))) h)
 
 -- ---- the payload of a data frame

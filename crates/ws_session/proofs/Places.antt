@@ -49,7 +49,7 @@ masked_take key phase zero q = refl
 masked_take key phase (suc n) [] = refl
 masked_take key phase (suc n) (b ∷ q) = ap (λ (l : List ℕ). bit_xor b (slice_index key (phase % 4)) ∷ l) (masked_take key (phase + 1) n q)
 
-masked_split : (k : Option (List ℕ)) (n : ℕ) (q : List ℕ) → masked_payload k q ≡ masked_payload k (take n q) ++ drop n (masked_payload k q)
+pub masked_split : (k : Option (List ℕ)) (n : ℕ) (q : List ℕ) → masked_payload k q ≡ masked_payload k (take n q) ++ drop n (masked_payload k q)
 masked_split None n q = sym (take-append-drop n q)
 masked_split (Some key) n q = masked_take key 0 n q
 

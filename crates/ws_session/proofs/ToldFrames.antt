@@ -39,7 +39,7 @@ before_parts n (x ∷ xs) some =
     ]
 
 -- the next frame has no fault where the stream has none up to its end
-fine_next : (role : Role) (limits : LimitsValue) (s : List ℕ) (before : List KeyedFrame) (x : KeyedFrame) (u : List ℕ) → s ≡ stream_bytes before ++ (frame_bytes x ++ u) → AreSent before → AllByRecursion IsNoClose before → FitsTheLayout x
+pub fine_next : (role : Role) (limits : LimitsValue) (s : List ℕ) (before : List KeyedFrame) (x : KeyedFrame) (u : List ℕ) → s ≡ stream_bytes before ++ (frame_bytes x ++ u) → AreSent before → AllByRecursion IsNoClose before → FitsTheLayout x
     → ((n : ℕ) (r : Reason) → n ≤ length (stream_bytes before) + length (frame_bytes x) → IsFaultAt role limits s n r → ⊥) → HasNoFaultOfNext role limits (open_message_of (frames_of before)) (frame_bytes x)
 fine_next role limits s before x u e each no_close can clean k r f =
     let opened = open_message_of (frames_of before) in

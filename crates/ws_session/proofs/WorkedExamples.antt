@@ -1,9 +1,9 @@
 -- Worked examples beside those of specs/Examples.antt, whose proofs need lemmas: a first fault and the events with it, an
--- exchange, and a piece that is taken.
-use Rattle.std.proofs.Common.{◌≡◌, ℕ, zero, suc, ◌+◌, ◌<◌, ◌≤◌, true, false, List, [], ◌∷◌, ◌++◌, length, Some, None, refl, ap, ◌∙◌, subst, arith, inl, inr, lit≤}
+-- exchange, a piece that is taken, and what is doomed.
+use Rattle.std.proofs.Common.{◌≡◌, ℕ, zero, suc, ◌+◌, ◌*◌, ◌<◌, ◌≤◌, Bool, true, false, List, [], ◌∷◌, ◌++◌, length, get_or, Some, None, refl, ap, ◌∙◌, subst, arith, inl, inr, lit≤}
 use Rattle.std.specs.Prelude.{take}
 use Rattle.std.proofs.lemmas.List.{length-append}
-use Rattle.ws_wire.specs.Header.{AreBytes}
+use Rattle.ws_wire.specs.Header.{HeaderFields, IsHeader, AreBytes, top_bit}
 use Rattle.ws_wire.specs.declared.role.Role.TheVariants.{Client}
 use Rattle.ws_wire.specs.declared.header.Form.TheVariants.{Short}
 use Rattle.ws_wire.specs.Frame.{KeyedFrame, FitsTheLayout, frame_bytes}
@@ -15,16 +15,21 @@ use Rattle.ws_session.specs.declared.status.Status.TheVariants as status
 use Rattle.ws_session.specs.Limits.{LimitsValue}
 use Rattle.ws_session.specs.Faults.{frames_of, number_of, IsFaultAt, IsFirstFault, HasNoFault}
 use Rattle.ws_session.specs.Validity.{AreValidFrames}
+use Rattle.ws_session.specs.Doomed.{CanBeRight, IsDoomed}
 use Rattle.ws_session.specs.Events.{HasEvents}
 use Rattle.ws_session.specs.Replies.{reply_to}
 use Rattle.ws_session.specs.Exchange.{SessionValue, HasExchanged}
 use Rattle.ws_session.specs.Taking.{Takes}
+use Rattle.ws_session.specs.InnerChecking.{NoneAtHeader}
 use Rattle.ws_session.specs.InnerNextFrame.{BeginsNoFrame, header_of}
 use Rattle.ws_session.proofs.Calls.{exchange_of, call_of}
 use Rattle.ws_session.proofs.EventsGoOn.{one_events}
+use Rattle.ws_session.proofs.FineFrames.{begins_nothing}
 use Rattle.ws_session.proofs.Next.{place_is, two_bytes, length-frame_bytes}
 use Rattle.ws_session.proofs.OneMoreFrame.{none_in_nothing}
+use Rattle.ws_session.proofs.RightPayloads.{right_data}
 use Rattle.ws_session.proofs.ValidStreams.{valid_has_none}
+use Rattle.ws_text.proofs.Wanted.{nothing_wanted}
 
 abbrev ten_at_most : LimitsValue
 ten_at_most = record { max_message = 10; max_frame = 10 }
@@ -180,3 +185,55 @@ a_taken_piece = record {
   put = refl;
   same = (refl, refl);
 }
+
+-- ---- what is doomed
+
+-- the opcode is in the lowest four bits
+opcode_is_three : (fin : Bool) (rsv opcode : ℕ) → rsv < 8 → opcode < 16 → top_bit fin + (16 * rsv + opcode) ≡ 0x83
+    → opcode ≡ 3
+opcode_is_three true rsv opcode r o e = omega arith
+opcode_is_three false rsv opcode r o e = absurd (omega arith)
+
+-- a reserved opcode is there with the first byte, and the header that has to follow changes nothing
+doomed_in_one_byte : IsDoomed Client ten_at_most None (0x83 ∷ [])
+doomed_in_one_byte = record {
+  begun = λ e. cc;
+  never = λ can.
+      let h = can.header in
+      let first : top_bit h.fin + (16 * h.rsv + h.opcode) ≡ 0x83 = ap (λ (l : List ℕ). get_or l 0 0) can.parts in
+      let three : h.opcode ≡ 3 = opcode_is_three h.fin h.rsv h.opcode can.right.is_header.rsv can.right.is_header.opcode
+      first in
+      can.right.right 0 reason.Opcode (omega arith) (inl (refl, inl (omega arith, omega arith)));
+}
+
+-- a text of five bytes to a client
+abbrev text_of_five : HeaderFields
+text_of_five = record { fin = true; rsv = 0; opcode = 1; key = None; len = 5; form = Short }
+
+text_header_is_fine : NoneAtHeader Client ten_at_most None text_of_five
+text_header_is_fine reason.ReservedBits a = a refl
+text_header_is_fine reason.Opcode (inl a) = omega (arith, a.0)
+text_header_is_fine reason.Opcode (inr a) = omega arith
+text_header_is_fine reason.MaskWrong a = a refl
+text_header_is_fine reason.NotShortest (inl a) = let e = a.0 in absurd cc
+text_header_is_fine reason.NotShortest (inr a) = let e = a.0 in absurd cc
+text_header_is_fine reason.BadLength a = omega arith
+text_header_is_fine reason.ControlCut a = omega (arith, a.0.0)
+text_header_is_fine reason.ControlLong a = omega (arith, a.0.0)
+text_header_is_fine reason.NothingToContinue a = omega (arith, a.0)
+text_header_is_fine reason.MessageOpen a = a.1 refl
+text_header_is_fine reason.TooBig a = omega (arith, a.1)
+text_header_is_fine reason.FrameBig a = omega (arith, a.1)
+text_header_is_fine reason.NotText a = a
+text_header_is_fine reason.TextCut a = a
+text_header_is_fine reason.CloseOneByte a = a
+text_header_is_fine reason.CloseCode a = a
+text_header_is_fine reason.CloseReason a = a
+
+-- its header alone, and each front of it, can still become right
+right_so_far : CanBeRight Client ten_at_most None (0x81 ∷ 0x05 ∷ [])
+right_so_far =
+    let is : IsHeader text_of_five = record { rsv = lit≤ tt; opcode = lit≤ tt; len = lit≤ tt; key = tt } in
+    let right = right_data Client ten_at_most None text_of_five is text_header_is_fine [] no_bytes (lit≤ tt) (lit≤ tt)
+    (λ of_text. begins_nothing) (λ ends. (0, nothing_wanted, lit≤ tt)) in
+    record { header = text_of_five; payload = right.0; later = right.0; parts = refl; right = right.1 }

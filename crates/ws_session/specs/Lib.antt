@@ -2,6 +2,7 @@ pub mod Limits
 pub mod Messages
 pub mod Validity
 pub mod Faults
+pub mod Doomed
 pub mod Events
 pub mod Replies
 pub mod Exchange
@@ -14,6 +15,8 @@ pub mod Examples
 pub mod InnerNextFrame
 pub mod InnerAssembly
 pub mod InnerChecking
+pub mod LeastHeader
+pub mod InnerDoomed
 pub mod InnerMasked
 pub mod InnerReceiving
 pub mod InnerReplying

@@ -1,12 +1,13 @@
 //! Laws over the definitions, each the contract of a function that does nothing.
 
 ghost use Rattle.std.specs.Prelude.{◌≡◌, ◌≢◌, ◌≤◌, ◌<◌, ◌^◌, ◌↔◌, ℕ, List, [], ◌∷◌, ◌++◌, length, take, map};
-ghost use Rattle.std.specs.Prelude.{Bool, true, false, Option, Some, None};
+ghost use Rattle.std.specs.Prelude.{Bool, true, false, Option, Some, None, ◌⊎◌};
 ghost use Rattle.std.specs.List.{AllByRecursion};
 ghost use Rattle.ws_wire.specs.declared.role.Role.{Role};
 ghost use Rattle.ws_wire.specs.Header.{AreBytes, IsMaskingKey};
 ghost use Rattle.ws_wire.specs.Frame.{Frame, KeyedFrame, FitsTheLayout, stream_bytes};
 ghost use Rattle.ws_text.specs.Close.{CloseValue};
+ghost use Rattle.ws_session.specs.declared.message.Message.{Message};
 ghost use Rattle.ws_session.specs.declared.reason.Reason.{Reason};
 ghost use Rattle.ws_session.specs.declared.event.Event.{Event};
 ghost use Rattle.ws_session.specs.declared.event.Event.TheVariants as event;
@@ -15,6 +16,7 @@ ghost use Rattle.ws_session.specs.declared.status.Status.TheVariants.{Lost};
 ghost use Rattle.ws_session.specs.Limits.{LimitsValue};
 ghost use Rattle.ws_session.specs.Validity.{AreValidFrames, NothingAfterClose};
 ghost use Rattle.ws_session.specs.Faults.{frames_of, KeysFit, IsFirstFault, HasNoFault};
+ghost use Rattle.ws_session.specs.Doomed.{IsDoomed, EndsDoomed};
 ghost use Rattle.ws_session.specs.Messages.{messages_of, open_message_of};
 ghost use Rattle.ws_session.specs.Events.{HasEvents, IsFaultOf, events_after, messages_in};
 ghost use Rattle.ws_session.specs.Replies.{has_close, echo_replies_of, replies_by, replies_of, key_for, under_key};
@@ -47,6 +49,24 @@ pub fn events_go_on()
     ensures { (role : Role) (limits : LimitsValue) (bytes more : List ℕ) (events all : List Event) →
         HasEvents role limits bytes events → HasEvents role limits (bytes ++ more) all → (later : List Event)
         × (all ≡ events ++ later) }
+{}
+
+/// More bytes inside the frame leave it doomed.
+pub fn doomed_stays()
+    ensures { (role : Role) (limits : LimitsValue) (opened : Option Message) (bytes more : List ℕ) →
+        IsDoomed role limits opened bytes → IsDoomed role limits opened (bytes ++ more) }
+{}
+
+/// A doomed frame comes to a fault, whatever bytes follow: as long as there is none, they are inside that same frame,
+/// which isn't whole, and no event but the fault comes of them.
+pub fn doomed_frames_come_to_a_fault()
+    ensures stays { (role : Role) (limits : LimitsValue) (bytes more : List ℕ) (frames : List KeyedFrame)
+        (rest : List ℕ) → EndsDoomed role limits bytes frames rest → HasNoFault role limits (bytes ++ more) →
+        EndsDoomed role limits (bytes ++ more) frames (rest ++ more) }
+    ensures events { (role : Role) (limits : LimitsValue) (bytes more : List ℕ) (frames : List KeyedFrame)
+        (rest : List ℕ) → EndsDoomed role limits bytes frames rest → (events all : List Event) →
+        HasEvents role limits bytes events → HasEvents role limits (bytes ++ more) all →
+        (all ≡ events) ⊎ ((reason : Reason) × (all ≡ events ++ event.Failed reason ∷ [])) }
 {}
 
 /// A close or a fault is the last event of a stream.

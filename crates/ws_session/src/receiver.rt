@@ -17,12 +17,14 @@ mod checking;
 mod control_frame;
 mod data_frame;
 mod data_payload;
+mod doomed;
 mod frame_check;
 mod frame_end;
 mod header_end;
 mod header_kind;
 mod header_rules;
 mod inside;
+mod least_header;
 mod under_way;
 
 use crate::control_payload::Small;

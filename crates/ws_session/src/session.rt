@@ -1,11 +1,12 @@
 //! One endpoint: the bytes that it takes, and the frames that it sends (RFC 6455 sections 5 to 7).
 
-ghost use Rattle.std.specs.Prelude.{◌≡◌, ◌+◌, ◌≤◌, ◌<◌, ℕ, List, [], length, None, Bool, true, false, IfOk};
-ghost use Rattle.std.specs.Prelude.{IsOkAnd, OnErr};
-ghost use Rattle.ws_wire.specs.Frame.{Frame};
+ghost use Rattle.std.specs.Prelude.{◌≡◌, ◌↔◌, ◌+◌, ◌≤◌, ◌<◌, ℕ, List, [], length, None, Bool, true, false, IfOk};
+ghost use Rattle.std.specs.Prelude.{IsOkAnd, OnErr, IsTrue};
+ghost use Rattle.ws_wire.specs.Frame.{Frame, KeyedFrame};
 ghost use Rattle.ws_session.specs.declared.status.Status.TheVariants.{Lost};
 ghost use Rattle.ws_session.specs.Limits.{most_beside};
 ghost use Rattle.ws_session.specs.Faults.{open_payload};
+ghost use Rattle.ws_session.specs.Doomed.{IsDoomed, EndsDoomed};
 ghost use Rattle.ws_session.specs.Replies.{reply_to};
 ghost use Rattle.ws_session.specs.Exchange.{HasExchanged, HasSomeExchange, is_over};
 ghost use Rattle.ws_session.specs.Taking.{HasTaken, TakesNothing};
@@ -88,6 +89,22 @@ impl Session {
         ensures over { is_over self.now.status ≡ true → result ≡ 0 }
     {
         self.state.held()
+    }
+
+    /// Whether the frame under way is doomed: it has begun, and whatever bytes complete it, it is at fault. So nothing
+    /// that the other end sends can keep the connection from failing, although no fault has come: its place may be
+    /// many bytes off. Of a session that is over nothing is under way.
+    pub fn is_doomed(&self) -> bool
+        ensures doomed { IsTrue result
+            ↔ IsDoomed self.now.role self.now.limits self.now.opened self.now.partial_frame }
+        ensures over { is_over self.now.status ≡ true → result ≡ false }
+
+        // So it is of the whole stream, as far as it was taken.
+        ensures stream { (sent : List Frame) (taken : List ℕ) (ended : Bool) → HasExchanged self.now sent taken ended
+            → is_over self.now.status ≡ false → (IsTrue result ↔ ((frames : List KeyedFrame) × (rest : List ℕ)
+            × EndsDoomed self.now.role self.now.limits taken frames rest)) }
+    {
+        self.state.is_doomed()
     }
 
     /// The stream has ended: a session that waits for the other's close is lost, and keeps neither its open message nor

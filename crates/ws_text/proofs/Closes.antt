@@ -1,9 +1,10 @@
 -- Close payloads, and a close kept in place.
-use Rattle.std.proofs.Common.{◌≡◌, ℕ, ◌+◌, ◌-◌, ◌*◌, ◌/◌, ◌%◌, ◌<◌, ◌≤◌, List, [], ◌∷◌, ◌++◌, length, take, drop, replicate, get_or, refl, sym, ap, ◌∙◌, arith, subst, Option, None, Some, Result, Ok, Err}
+use Rattle.std.proofs.Common.{◌≡◌, ℕ, ◌+◌, ◌-◌, ◌*◌, ◌/◌, ◌%◌, ◌<◌, ◌≤◌, List, [], ◌∷◌, ◌++◌, length, take, drop, replicate, get_or, refl, sym, ap, ◌∙◌, arith, inl, inr, subst, Option, None, Some, Result, Ok, Err}
 use Rattle.std.specs.Prelude.{IsOk, MatchResult}
+use Rattle.std.proofs.lemmas.Bool.{cases_lt}
 use Rattle.std.proofs.lemmas.List.{length-append, length-replicate, take_at, take_rest}
 use Rattle.ws_text.specs.Text.{IsText}
-use Rattle.ws_text.specs.Close.{CloseValue, CodeAllowed, CanBeSaid, close_payload, IsClosePayload, HoldsCode}
+use Rattle.ws_text.specs.Close.{CloseValue, CodeAllowed, CodeMayBegin, CanBeSaid, close_payload, IsClosePayload, HoldsCode}
 use Rattle.ws_text.specs.InnerKept.{IsPadded}
 
 -- where the only error says that U fails, U leaves none
@@ -49,3 +50,15 @@ reason_is payload close e = sym (ap (λ (l : List ℕ). drop 2 l) e) ∙ sym (ta
 pub says_nothing : (payload : List ℕ) (close : Option CloseValue) → 2 ≤ length payload → ¬ IsText (behind_code payload) → ¬ IsClosePayload payload close
 says_nothing payload None len none p = let e = ap length p in absurd (omega arith)
 says_nothing payload (Some close) len none p = none (subst (λ (l : List ℕ). IsText l) (reason_is payload close p.1) p.0.reason)
+
+-- ---- the higher byte of a code
+
+pub three_begins : (high : ℕ) → high ≡ 3 → CodeMayBegin high
+three_begins high e = (232, omega arith, inl (omega arith, omega arith))
+
+pub eleven_begin : (high : ℕ) → 11 ≤ high → high ≤ 19 → CodeMayBegin high
+eleven_begin high low top =
+    elim (cases_lt high 12) [
+      | inl first ↦ (184, omega arith, inr (inr (omega arith, omega arith)))
+      | inr later ↦ (0, omega arith, inr (inr (omega arith, omega arith)))
+    ]

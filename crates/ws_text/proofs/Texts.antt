@@ -94,7 +94,7 @@ pub text_rest : (front x : List ℕ) → IsText front → IsText (front ++ x) �
 text_rest front x f t = rest_of f.characters t.characters x f.scalar t.scalar (ap (λ (l : List ℕ). l ++ x) (sym f.spelled) ∙ t.spelled)
 
 -- two partings of one list: the first front goes on from the second, or ends inside it
-splits : (a b c d : List ℕ) → a ++ b ≡ c ++ d → ((x : List ℕ) × (a ≡ c ++ x) × (x ++ b ≡ d)) ⊎ ((n : ℕ) × (m : List ℕ) × (c ≡ a ++ n ∷ m))
+pub splits : (a b c d : List ℕ) → a ++ b ≡ c ++ d → ((x : List ℕ) × (a ≡ c ++ x) × (x ++ b ≡ d)) ⊎ ((n : ℕ) × (m : List ℕ) × (c ≡ a ++ n ∷ m))
 splits [] b [] d e = inl ([], refl, e)
 splits [] b (y ∷ c) d e = inr (y, c, refl)
 splits (x ∷ a) b [] d e = inl (x ∷ a, refl, e)

@@ -56,10 +56,10 @@ no_empty c s e = no_shape (subst (λ (l : List ℕ). Shape l (char_bytes c ++ []
 cut_from : (tail : List ℕ) (c b : ℕ) (more : List ℕ) → IsCharacter c (tail ++ b ∷ more) → IsUnfinished tail
 cut_from tail c b more h = inr (c, record { scalar = h.scalar; next = b; more = more; missing = h.spelled })
 
-least_later : IsLater 128
+pub least_later : IsLater 128
 least_later = record { low = lit≤ tt; high = lit≤ tt }
 
-least_second : (a : ℕ) → (b : ℕ) × IsSecond a b
+pub least_second : (a : ℕ) → (b : ℕ) × IsSecond a b
 least_second a =
     elim (cases_eq a 224) [
       | inl e ↦ (160, record { later = record { low = lit≤ tt; high = lit≤ tt }; e0 = λ _. lit≤ tt; ed = λ x. absurd (omega arith); f0 = λ _. lit≤ tt; f4 = λ x. absurd (omega arith) })

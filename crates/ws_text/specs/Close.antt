@@ -1,5 +1,5 @@
 -- What a close frame says, RFC 6455 sections 5.5.1 and 7.4.
-use Rattle.std.specs.Prelude.{◌≡◌, ℕ, ◌^◌, ◌/◌, ◌%◌, ◌≤◌, ◌<◌, ◌⊎◌, List, [], ◌∷◌, length, Option, Some, None}
+use Rattle.std.specs.Prelude.{◌≡◌, ℕ, ◌+◌, ◌*◌, ◌^◌, ◌/◌, ◌%◌, ◌≤◌, ◌<◌, ◌⊎◌, List, [], ◌∷◌, length, Option, Some, None}
 use Rattle.std.specs.Int.{IsInRange}
 use Rattle.ws_text.specs.Text.{IsText}
 
@@ -14,6 +14,10 @@ pub record CloseValue : Type 0 where
 -- our choice: every other code is refused, also one that the registry may define some day
 abbrev pub CodeAllowed : ℕ → Type 0
 CodeAllowed code = IsInRange 1000 1003 code ⊎ (IsInRange 1007 1014 code ⊎ IsInRange 3000 4999 code)
+
+-- a code that an endpoint may send has this higher byte
+abbrev pub CodeMayBegin : ℕ → Type 0
+CodeMayBegin high = (low : ℕ) × (low < 256) × CodeAllowed (256 * high + low)
 
 -- the bytes of a close payload: none, or the code's two bytes, the higher first, and the reason
 abbrev pub close_payload : Option CloseValue → List ℕ

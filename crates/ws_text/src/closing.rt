@@ -1,7 +1,7 @@
 //! Close codes and close payloads (RFC 6455 sections 5.5.1 and 7.4).
 
 ghost use Rattle.std.specs.Prelude.{◌≡◌, ◌↔◌, ◌-◌, ◌≤◌, ℕ, ◌++◌, length, replicate, Option, IsTrue, Ok, Some, IsErrOf};
-ghost use Rattle.ws_text.specs.Close.{CloseValue, CodeAllowed, IsClosePayload, HasBadCode, HasBadReason};
+ghost use Rattle.ws_text.specs.Close.{CloseValue, CodeAllowed, CodeMayBegin, IsClosePayload, HasBadCode, HasBadReason};
 ghost use Rattle.ws_text.specs.Words.{close_fault_name};
 ghost use Rattle.ws_text.specs.declared.closing.TheConstants.{MAX_CONTROL_PAYLOAD, MAX_REASON};
 ghost use Rattle.ws_text.specs.declared.closing.CloseFault.TheVariants.{OneByte, BadCode, ReasonNotText};
@@ -23,6 +23,14 @@ pub fn code_allowed(code: u16) -> bool
     ensures { IsTrue result ↔ CodeAllowed code }
 {
     matches!(code, 1000..=1003 | 1007..=1014 | 3000..=4999)
+}
+
+/// Whether some code that may be sent in a close frame has this higher byte. Where only half of a code has come, it is
+/// all that is known of the code (section 5.5.1).
+pub fn code_may_begin(high: u8) -> bool
+    ensures { IsTrue result ↔ CodeMayBegin high }
+{
+    matches!(high, 3 | 11..=19)
 }
 
 /// What a close frame says: a code that may stand in one, and a reason of at most 123 bytes of text,

@@ -1,7 +1,7 @@
 //! Laws of text, each the contract of a function that does nothing (RFC 3629 section 3). Those who
 //! check a text in parts need them.
 
-ghost use Rattle.std.specs.Prelude.{◌≡◌, ◌↔◌, ◌≤◌, ℕ, List, [], ◌++◌, length, take, IsUtf8};
+ghost use Rattle.std.specs.Prelude.{◌≡◌, ◌↔◌, ◌≤◌, ◌<◌, ℕ, List, [], ◌++◌, length, take, slice_index, IsUtf8};
 ghost use Rattle.ws_text.specs.Text.{IsText, BeginsText, HasUnfinished};
 ghost use Rattle.ws_text.specs.Stream.{BreaksTextAt};
 
@@ -44,6 +44,11 @@ pub fn goes_on_by_unfinished()
         (IsText (bytes ++ more) ↔ IsText (tail ++ more)) }
     ensures unfinished { (bytes tail more next : List ℕ) → HasUnfinished bytes tail →
         (HasUnfinished (bytes ++ more) next ↔ HasUnfinished (tail ++ more) next) }
+{}
+
+/// A text is made of bytes.
+pub fn text_is_made_of_bytes()
+    ensures { (bytes : List ℕ) → IsText bytes → (i : ℕ) → slice_index bytes i < 256 }
 {}
 
 /// Text is what Rust calls UTF-8.

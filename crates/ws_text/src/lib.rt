@@ -10,5 +10,7 @@ mod streaming;
 mod unfinished;
 mod whole;
 
-pub use closing::{Close, CloseFault, ClosePayload, MAX_CONTROL_PAYLOAD, MAX_REASON, code_allowed};
+pub use closing::{
+    Close, CloseFault, ClosePayload, MAX_CONTROL_PAYLOAD, MAX_REASON, code_allowed, code_may_begin,
+};
 pub use streaming::Utf8Stream;

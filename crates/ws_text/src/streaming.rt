@@ -1,8 +1,8 @@
 //! Text that comes in pieces (RFC 6455 section 8.1).
 
-ghost use Rattle.std.specs.Prelude.{◌≡◌, ◌↔◌, ℕ, List, [], ◌++◌, IsTrue, Bool, false, IsOk, OnOk, OnErr, IfErr, Err};
+ghost use Rattle.std.specs.Prelude.{◌≡◌, ◌≤◌, ◌↔◌, ℕ, List, [], ◌++◌, IsTrue, Bool, false, IsOk, OnOk, OnErr, IfErr, Err};
 ghost use Rattle.ws_text.specs.Text.{IsText, BeginsText};
-ghost use Rattle.ws_text.specs.Stream.{HasReadText, HasFailed, BreaksTextAt};
+ghost use Rattle.ws_text.specs.Stream.{HasReadText, HasFailed, BreaksTextAt, IsWanted};
 
 use crate::unfinished::Unfinished;
 use crate::whole::valid_prefix;
@@ -79,6 +79,20 @@ impl Utf8Stream {
         match self.unfinished {
             Some(unfinished) => unfinished.is_nothing(),
             None => false,
+        }
+    }
+
+    /// How many bytes the text still wants, 0 to 3: those that are missing of the character inside which it ends. With
+    /// fewer bytes nothing makes a text of what was read, with that many something does. Once the stream has failed it
+    /// wants none.
+    pub fn wanted(&self) -> usize
+        ensures wanted { (text : List ℕ) → HasReadText self.now text → IsWanted text result }
+        ensures bound { result ≤ 3 }
+        ensures failed { HasFailed self.now → result ≡ 0 }
+    {
+        match self.unfinished {
+            Some(unfinished) => unfinished.missing(),
+            None => 0,
         }
     }
 }

@@ -4,7 +4,7 @@ ghost use Rattle.std.specs.Prelude.{◌≡◌, ◌≤◌, ◌<◌, ℕ, List, []
 ghost use Rattle.std.specs.Prelude.{MatchResult, IfOk, IfErr};
 ghost use Rattle.std.specs.Int.{IsInRange};
 ghost use Rattle.ws_text.specs.Text.{HasUnfinished, IsUnfinished};
-ghost use Rattle.ws_text.specs.Stream.{BreaksTextAt};
+ghost use Rattle.ws_text.specs.Stream.{BreaksTextAt, IsWanted};
 ghost use Rattle.ws_text.specs.InnerStep.{kept_bytes, BeginsCharacter, GoesOn};
 
 use crate::whole::valid_prefix;
@@ -24,6 +24,33 @@ impl Unfinished {
         ensures { IsTrue result ↔ (kept_bytes self ≡ []) }
     {
         matches!(self, Unfinished::Nothing)
+    }
+
+    /// How many bytes of the character are missing: its first byte tells how many it has.
+    pub(crate) fn missing(self) -> usize
+        requires { IsUnfinished (kept_bytes self) }
+        ensures wanted { IsWanted (kept_bytes self) result }
+        ensures bound { result ≤ 3 }
+    {
+        match self {
+            Unfinished::Nothing => 0,
+            Unfinished::One(lead) => {
+                if lead < 0xe0 {
+                    return 1;
+                }
+                if lead < 0xf0 {
+                    return 2;
+                }
+                3
+            }
+            Unfinished::Two(lead, _) => {
+                if lead < 0xf0 {
+                    return 1;
+                }
+                2
+            }
+            Unfinished::Three(_, _, _) => 1,
+        }
     }
 
     /// What the next byte makes of it: `None` where no character goes on so.

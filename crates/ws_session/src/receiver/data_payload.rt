@@ -203,7 +203,7 @@ fn check_text(
 }
 
 /// Whether the data frame belongs to a text message.
-fn is_of_text(assembly: &Assembly, header: &Header) -> bool
+pub(super) fn is_of_text(assembly: &Assembly, header: &Header) -> bool
     ensures { IsTrue result ↔ IsOfText assembly.now.opened header.now }
 {
     begins_text(header) || (continues_message(header) && assembly.is_text())

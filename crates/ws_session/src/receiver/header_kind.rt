@@ -25,6 +25,13 @@ pub(super) fn is_control(header: &Header) -> bool
     }
 }
 
+/// Whether it is a close frame (section 5.5.1).
+pub(super) fn is_close(header: &Header) -> bool
+    ensures { IsTrue result ↔ (header.now.opcode ≡ 8) }
+{
+    matches!(Opcode::of(header.opcode()), Opcode::Close)
+}
+
 /// Whether its opcode is reserved (section 5.2).
 pub(super) fn is_reserved(header: &Header) -> bool
     ensures { IsTrue result

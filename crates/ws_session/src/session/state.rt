@@ -1,9 +1,10 @@
 //! What a session keeps, and the calls on it: each as the session's of that name.
 
-ghost use Rattle.std.specs.Prelude.{◌≡◌, ◌+◌, ◌≤◌, ◌<◌, [], length, None, true, IfOk, IsOkAnd, OnErr};
+ghost use Rattle.std.specs.Prelude.{◌≡◌, ◌↔◌, ◌+◌, ◌≤◌, ◌<◌, [], length, None, true, false, IfOk, IsOkAnd, OnErr, IsTrue};
 ghost use Rattle.ws_session.specs.declared.status.Status.TheVariants.{Open};
 ghost use Rattle.ws_session.specs.Limits.{most_beside};
 ghost use Rattle.ws_session.specs.Faults.{open_payload};
+ghost use Rattle.ws_session.specs.Doomed.{IsDoomed};
 ghost use Rattle.ws_session.specs.Exchange.{is_over};
 ghost use Rattle.ws_session.specs.Taking.{HasTaken, TakesNothing};
 ghost use Rattle.ws_session.specs.Memory.{WantsMemory};
@@ -77,6 +78,14 @@ impl State {
         ensures over { is_over self.now.status ≡ true → result ≡ 0 }
     {
         self.receiver.held()
+    }
+
+    pub(super) fn is_doomed(&self) -> bool
+        ensures doomed { IsTrue result
+            ↔ IsDoomed self.now.role self.now.limits self.now.opened self.now.partial_frame }
+        ensures over { is_over self.now.status ≡ true → result ≡ false }
+    {
+        self.receiver.is_doomed()
     }
 
     /// All is over: nothing is kept any more.

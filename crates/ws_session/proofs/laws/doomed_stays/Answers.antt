@@ -1,0 +1,5 @@
+use Rattle.ws_session.proofs.DoomedStreams.{still_doomed}
+use Rattle.ws_session.proofs.laws.doomed_stays.Goals as goal
+
+pub returns : goal.returns
+returns c = still_doomed
