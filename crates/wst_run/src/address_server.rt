@@ -15,6 +15,7 @@ use std::net::{Net, OpenStream, TcpStream};
 use ws_base::NoMemory;
 use ws_connection::{Asked, Connection, Probe, probe};
 use ws_suite::Case;
+use wst_commands::TimeLimit;
 
 /// At most so many bytes are read in one case behind the head.
 const BUDGET: u64 = 67_108_864;
@@ -77,7 +78,7 @@ fn probe_over<S: Read + Write + OpenStream + Drop>(
     requires offers { AreOffers (map (λ name. name.now) offers.now) }
     ensures { IfOk result (λ probe. MeetsAtAddress host.now (map (λ name. name.now) offers.now) key case.now probe) }
 {
-    let stream = shared(stream);
+    let stream = shared(stream, TimeLimit::Unlimited);
     let mut connection = Connection::new(Side::of(&stream), Side::of(&stream), BUDGET);
     let host = host.as_bytes();
     let asked = Asked {

@@ -9,6 +9,8 @@ mod address_server;
 mod case_server;
 mod clients;
 mod given_cases;
+mod lingering;
+mod listening;
 mod outcome;
 mod running;
 mod serve;
