@@ -4,6 +4,7 @@ import select
 import socket
 import struct
 import subprocess
+import time
 from pathlib import Path
 
 WST = Path(__file__).resolve().parents[2] / "crates/wst/out/wst"
@@ -134,6 +135,23 @@ class Client:
         """Ends the connection by a reset, not in the orderly way."""
         self.stream.setsockopt(socket.SOL_SOCKET, socket.SO_LINGER, struct.pack("ii", 1, 0))
         self.stream.close()
+
+
+def free_port():
+    """A port at which nothing listens."""
+    with socket.create_server(("127.0.0.1", 0)) as listener:
+        return listener.getsockname()[1]
+
+
+def connected(port):
+    """A connection to a port at which something listens soon."""
+    until = time.monotonic() + SECONDS
+    while True:
+        try:
+            return socket.create_connection(("127.0.0.1", port), SECONDS)
+        except ConnectionRefusedError:
+            assert time.monotonic() < until, "nothing listens"
+            time.sleep(0.01)
 
 
 def start(*words, stdout=subprocess.PIPE):
