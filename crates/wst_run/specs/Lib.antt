@@ -1,5 +1,8 @@
+pub mod Meetings
+pub mod Connecting
 pub mod Servers
 pub mod Outcomes
+pub mod Notes
 pub mod Testing
 pub mod Test
 pub mod Serve

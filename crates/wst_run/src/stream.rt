@@ -1,6 +1,6 @@
 //! A stream of a network, as a reader and a writer.
 
-use std::cell::RefCell;
+use std::cell::{Cell, RefCell};
 use std::io;
 use std::io::{ErrorKind, Read, Write};
 use std::net::{OpenStream, Shutdown};
@@ -66,5 +66,57 @@ impl<S: Write + OpenStream> EndsDirection for Side<'_, S> {
             Ok(stream) => stream.shutdown(Shutdown::Write),
             Err(_) => Err(io::Error::from(ErrorKind::Other)),
         }
+    }
+}
+
+/// A reader or a writer that notes of which kind the first error was that a call through it answered, and through others
+/// that note it in the same place.
+#[derive(Drop)]
+pub struct Noted<'a, T> {
+    inner: T,
+    failure: &'a Cell<Option<ErrorKind>>,
+}
+
+impl<'a, T> Noted<'a, T> {
+    /// Notes it here.
+    pub fn of(inner: T, failure: &'a Cell<Option<ErrorKind>>) -> Noted<'a, T> {
+        Noted { inner, failure }
+    }
+
+    /// Notes the error that a call answered.
+    fn note<A>(&self, answer: &io::Result<A>) {
+        if let Err(error) = answer {
+            if self.failure.get().is_none() {
+                self.failure.set(Some(error.kind()));
+            }
+        }
+    }
+}
+
+impl<R: Read> Read for Noted<'_, R> {
+    fn read(&mut self, buf: &mut [u8]) -> io::Result<usize> {
+        let answer = self.inner.read(buf);
+        self.note(&answer);
+        answer
+    }
+}
+
+impl<W: Write> Write for Noted<'_, W> {
+    fn write(&mut self, buf: &[u8]) -> io::Result<usize> {
+        let answer = self.inner.write(buf);
+        self.note(&answer);
+        answer
+    }
+
+    fn flush(&mut self) -> io::Result<()> {
+        let answer = self.inner.flush();
+        self.note(&answer);
+        answer
+    }
+}
+
+impl<W: EndsDirection> EndsDirection for Noted<'_, W> {
+    fn end_direction(&mut self) -> io::Result<()> {
+        self.inner.end_direction()
     }
 }
