@@ -52,7 +52,7 @@ static ARGUMENTS: [Argument; 7] = [
         kind: Number,
         default: Some("1073741824"),
         value_name: "N",
-        help: "Read at most N bytes of a connection behind its head",
+        help: "Most bytes to read of a connection behind its head",
     },
     Argument {
         name: "timeout",

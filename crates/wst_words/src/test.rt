@@ -69,7 +69,7 @@ static ARGUMENTS: [Argument; 8] = [
         kind: Number,
         default: Some("67108864"),
         value_name: "N",
-        help: "Read at most N bytes of such a server in one case behind its head",
+        help: "Most bytes to read of it in one case behind its head",
     },
     Argument {
         name: "protocols",
