@@ -16,7 +16,8 @@ use Rattle.wst_run.specs.declared.outcome.Outcome.{Outcome}
 
 -- a device that has failed since has failed
 tells_on : (text : List ℕ) (f g : Bool) (old new : Option (List ℕ)) → (f ≡ true → g ≡ true)
-    → Tells text (record { failed = f; old = old; new = new }) → Tells text (record { failed = g; old = old; new = new })
+    → Tells text (record { failed = f; old = old; new = new }) → Tells text
+    (record { failed = g; old = old; new = new })
 tells_on text f g old new still (inl written) = inl written
 tells_on text f g old new still (inr (failed, begun)) = inr (still failed, begun)
 
@@ -41,13 +42,15 @@ tells_kept text f a b c kept (inr (failed, (front, more, parts, begun))) =
     inr (failed, (front, more, parts, keeps_then a b c front kept begun))
 
 each_kept : (texts : List (List ℕ)) (f : Bool) (a b c : Option (List ℕ)) → Keeps a b
-    → TellsEach texts (record { failed = f; old = b; new = c }) → TellsEach texts (record { failed = f; old = a; new = c })
+    → TellsEach texts (record { failed = f; old = b; new = c }) → TellsEach texts
+    (record { failed = f; old = a; new = c })
 each_kept [] f a b c kept untouched = Keeps-trans a b c kept untouched
 each_kept (text ∷ texts) f a b c kept (held, first, rest) = (held, tells_kept text f a b held kept first, rest)
 
 -- other texts behind them
 pub each_then : (first second : List (List ℕ)) (f : Bool) (a b c : Option (List ℕ))
-    → TellsEach first (record { failed = f; old = a; new = b }) → TellsEach second (record { failed = f; old = b; new = c })
+    → TellsEach first (record { failed = f; old = a; new = b }) → TellsEach second
+    (record { failed = f; old = b; new = c })
     → TellsEach (first ++ second) (record { failed = f; old = a; new = c })
 each_then [] second f a b c kept told = each_kept second f a b c kept told
 each_then (text ∷ texts) second f a b c (held, first, rest) told =
@@ -80,9 +83,11 @@ noted_more progress tests case outcome f g h a b c d first second before name wh
 
 -- the name of the next case behind the notes so far
 pub noted_next : (notes next : List (List ℕ)) (f g : Bool) (a b c : Option (List ℕ)) → (f ≡ true → g ≡ true)
-    → TellsEach notes (record { failed = f; old = a; new = b }) → TellsEach next (record { failed = g; old = b; new = c })
+    → TellsEach notes (record { failed = f; old = a; new = b }) → TellsEach next
+    (record { failed = g; old = b; new = c })
     → TellsEach (notes ++ next) (record { failed = g; old = a; new = c })
-noted_next notes next f g a b c still before told = each_then notes next g a b c (each_on notes f g a b still before) told
+noted_next notes next f g a b c still before told = each_then notes next g a b c (each_on notes f g a b still before)
+    told
 
 -- ---- cases in a row without a connection
 

@@ -1,5 +1,6 @@
 -- What the words of `test` ask for: the cases with the names that are given.
-use Rattle.std.proofs.Common.{◌≡◌, ◌∙◌, ◌+◌, ◌<◌, ℕ, Bool, Option, Result, inl, inr, true, List, [], ◌∷◌, ◌++◌, ap, ap₂, arith, sym, subst, length, map, slice_index_or, string_bytes, take}
+use Rattle.std.proofs.Common.{◌≡◌, ◌∙◌, ◌+◌, ◌<◌, ℕ, Bool, Option, Result, inl, inr, true, List, [], ◌∷◌, ◌++◌, ap}
+use Rattle.std.proofs.Common.{ap₂, arith, sym, subst, length, map, slice_index_or, string_bytes, take}
 use Rattle.std.proofs.lemmas.List.{length-map, map-append, take_more}
 use Rattle.std.proofs.lemmas.List.Elements.{All-push}
 use Rattle.std.specs.Borrow.{Bor}
@@ -77,7 +78,8 @@ target_has_host word (Address at) (is, no_server, is_host) host same =
     subst (λ (w : List ℕ). IsHost w) (sym is ∙ ap (λ (h : Bor (List ℕ)). h.now) e) is_host
 
 -- what was told while a plan was carried out, where the fault output may have failed since
-pub carries_on : (Meets : Case → Meeting → Type 0) (plan : TestPlan) (ended : Result Exit Fault) (output : Device) (f g : Bool)
+pub carries_on : (Meets : Case → Meeting → Type 0) (plan : TestPlan) (ended : Result Exit Fault) (output : Device)
+    (f g : Bool)
     (old new : Option (List ℕ)) → (f ≡ true → g ≡ true)
     → CarriesOut Meets plan ended output (record { failed = f; old = old; new = new })
     → CarriesOut Meets plan ended output (record { failed = g; old = old; new = new })

@@ -1,5 +1,7 @@
 -- Tests and their lines, one after the other.
-use Rattle.std.proofs.Common.{◌≡◌, ◌∙◌, ◌+◌, ◌<◌, ◌^◌, ◌≤◌, ℕ, Bool, true, false, not, List, [], ◌∷◌, ◌++◌, Option, Result, Ok, Err, IsErrAnd, MatchResult, if◌then◌else◌, ap, arith, refl, sym, subst, inl, inr, append-nil, append_assoc, filter, length, take}
+use Rattle.std.proofs.Common.{◌≡◌, ◌∙◌, ◌+◌, ◌<◌, ◌^◌, ◌≤◌, ℕ, Bool, true, false, not, List, [], ◌∷◌, ◌++◌, Option}
+use Rattle.std.proofs.Common.{Result, Ok, Err, IsErrAnd, MatchResult, if◌then◌else◌, ap, arith, refl, sym, subst, inl}
+use Rattle.std.proofs.Common.{inr, append-nil, append_assoc, filter, length, take}
 use Rattle.std.proofs.KnownBytes.{Appends-nil, Appends-trans}
 use Rattle.std.proofs.lemmas.Grind.{flat_map-append}
 use Rattle.std.proofs.lemmas.List.{length-append, length-map, length-take-le, map-append}
@@ -14,7 +16,8 @@ use Rattle.ws_suite.specs.declared.verdict.Verdict.TheVariants as verdict
 use Rattle.wst_commands.specs.Devices.{Delivers}
 use Rattle.wst_run.specs.Outcomes.{MayRunEach, exit_of_tests, is_fail, is_loose, is_missed, is_pass, max_missed}
 use Rattle.wst_run.specs.Outcomes.{missed_at_end, no_tally, tally_of, tally_with, total_line}
-use Rattle.wst_run.specs.Testing.{AreTested, IsNextNote, IsTested, LacksMemoryAfter, RunsCases, StopsAtConnection, StopsAtLine}
+use Rattle.wst_run.specs.Testing.{AreTested, IsNextNote, IsTested, LacksMemoryAfter, RunsCases, StopsAtConnection}
+use Rattle.wst_run.specs.Testing.{StopsAtLine}
 use Rattle.wst_run.specs.Testing.{TellsAll, outcomes_in, test_line, test_lines}
 use Rattle.wst_commands.specs.declared.exit.Exit.{Exit}
 use Rattle.wst_commands.specs.declared.exit.Exit.TheVariants.{Failed}
@@ -29,7 +32,8 @@ use Rattle.wst_run.specs.declared.testing.RunRules.{RunRules}
 use Rattle.wst_run.proofs.NoteLemmas.{may_run_more, missed_more, noted_more, noted_next}
 
 -- one more case, and what is told in it
-pub one_more_test : (Meets : Case → Meeting → Type 0) (cases more : List Case) (tests : List (Case × Outcome)) (case : Case) (outcome : Outcome)
+pub one_more_test : (Meets : Case → Meeting → Type 0) (cases more : List Case) (tests : List (Case × Outcome))
+    (case : Case) (outcome : Outcome)
     → AreTested Meets cases tests → IsTested Meets case outcome → more ≡ cases ++ case ∷ [] → AreTested Meets more (tests ++ (case, outcome) ∷ [])
 one_more_test Meets cases more tests case outcome before is grown = record {
   of_cases = map-append (λ (t : Case × Outcome). t.0) tests ((case, outcome) ∷ []) ∙ ap (λ (l : List Case). l ++ case ∷ []) before.of_cases ∙ sym grown;
@@ -99,17 +103,20 @@ delivers_after old mid new failed first second by exit before (inr (is, fails, b
 -- ---- the cases so far
 
 -- these cases were tested and counted, and their lines are written
-pub record HasTold (Meets : Case → Meeting → Type 0) (cases : List Case) (tally : Tally) (old new : Option (List ℕ)) : Type 0 where
+pub record HasTold (Meets : Case → Meeting → Type 0) (cases : List Case) (tally : Tally) (old new : Option (List ℕ)) :
+    Type 0 where
   pub tests : List (Case × Outcome)
   pub are_tested : AreTested Meets cases tests
   pub counted : tally ≡ tally_of (outcomes_in tests)
   pub written : Appends old new (test_lines tests)
 
-pub told_nothing : (Meets : Case → Meeting → Type 0) (tally : Tally) (held : Option (List ℕ)) → tally ≡ no_tally → HasTold Meets [] tally held held
+pub told_nothing : (Meets : Case → Meeting → Type 0) (tally : Tally) (held : Option (List ℕ)) → tally ≡ no_tally →
+    HasTold Meets [] tally held held
 told_nothing Meets tally held none = record { tests = []; are_tested = record { of_cases = refl; tested = tt }; counted = none; written = Appends-nil held }
 
 -- the next case
-pub told_more : (Meets : Case → Meeting → Type 0) (cases more : List Case) (case : Case) (outcome : Outcome) (tally next : Tally) (old mid new : Option (List ℕ))
+pub told_more : (Meets : Case → Meeting → Type 0) (cases more : List Case) (case : Case) (outcome : Outcome)
+    (tally next : Tally) (old mid new : Option (List ℕ))
     → HasTold Meets cases tally old mid → IsTested Meets case outcome → more ≡ cases ++ case ∷ [] → next ≡ tally_with tally outcome
     → Appends mid new (test_line (case, outcome)) → HasTold Meets more next old new
 told_more Meets cases more case outcome tally next old mid new before is grown counted written = record {
@@ -182,7 +189,8 @@ run_more Meets rules cases more case outcome tally next missed less old mid new 
       may_run = may_run_then (max_missed rules.is_limited) before.told.tests case outcome missed before.may_run
           before.counted few;
       counted = missed_then before.told.tests case outcome missed less before.counted so;
-      noted = noted_more rules.progress before.told.tests case outcome f g h a b c d runs.still_named runs.still before.noted
+      noted = noted_more rules.progress before.told.tests case outcome f g h a b c d runs.still_named runs.still
+          before.noted
           runs.named runs.why;
     }
 
@@ -198,7 +206,8 @@ pub run_stops : (Meets : Case → Meeting → Type 0) (rules : RunRules) (all : 
     → AppendsFront mid new (test_line (case, outcome))
     → RunsCases Meets rules all (Ok exit) (record { failed = failed; old = old; new = new })
     (record { failed = h; old = a; new = d })
-run_stops Meets rules all n case outcome tally missed old mid new exit failed f g h a b c d before few runs is grown fails
+run_stops Meets rules all n case outcome tally missed old mid new exit failed f g h a b c d before few runs is grown
+    fails
     broken begun =
     let tests = before.told.tests ++ (case, outcome) ∷ [] in
     let stops : StopsAtLine Meets rules all (notes_of rules.progress tests) exit
@@ -223,7 +232,8 @@ run_stops Meets rules all n case outcome tally missed old mid new exit failed f 
 -- as many in a row are without a connection as end a run
 pub run_misses : (Meets : Case → Meeting → Type 0) (rules : RunRules) (all : List Case) (n : ℕ) (tally : Tally)
     (missed : ℕ) (old new : Option (List ℕ)) (failed : Bool) (faults : Device)
-    → HasRun Meets rules (take n all) tally missed old new faults → missed ≡ max_missed rules.is_limited → failed ≡ false
+    → HasRun Meets rules (take n all) tally missed old new faults → missed ≡ max_missed rules.is_limited → failed ≡
+    false
     → RunsCases Meets rules all (Ok Failed) (record { failed = failed; old = old; new = new }) faults
 run_misses Meets rules all n tally missed old new failed faults so most works =
     let stops : StopsAtConnection Meets rules all (notes_of rules.progress so.told.tests) Failed
@@ -249,7 +259,8 @@ pub run_till_memory : (Meets : Case → Meeting → Type 0) (rules : RunRules) (
     → IsErrAnd ended (λ fault. fault ≡ NoMemory)
     → RunsCases Meets rules all ended (record { failed = failed; old = old; new = new })
     (record { failed = g; old = a; new = c })
-run_till_memory Meets rules all n tally missed old new failed f g a b c (Ok exit) next so few is_next still told works is =
+run_till_memory Meets rules all n tally missed old new failed f g a b c (Ok exit) next so few is_next still told works
+    is =
     absurd is
 run_till_memory Meets rules all n tally missed old new failed f g a b c (Err fault) next so few is_next still told works
     is =
@@ -298,11 +309,13 @@ run_all Meets rules all tally missed old mid new exit failed faults so few told 
 count_within : {X : Type 0} (p : X → Bool) (xs : List X) → length (filter p xs) ≤ length xs
 count_within p xs = omega (arith, length-filter_both p (λ x. not (p x)) (λ x. refl) xs)
 
-outcomes_of_cases : (Meets : Case → Meeting → Type 0) (cases : List Case) (tests : List (Case × Outcome)) → AreTested Meets cases tests → length (outcomes_in tests) ≡ length cases
+outcomes_of_cases : (Meets : Case → Meeting → Type 0) (cases : List Case) (tests : List (Case × Outcome)) → AreTested
+    Meets cases tests → length (outcomes_in tests) ≡ length cases
 outcomes_of_cases Meets cases tests are = length-map tests (λ (t : Case × Outcome). t.1) ∙ sym (length-map tests (λ (t : Case × Outcome). t.0)) ∙ ap (λ (l : List Case). length l) are.of_cases
 
 -- there are no more outcomes of a kind than cases
-pub tally_within : (Meets : Case → Meeting → Type 0) (cases : List Case) (tally : Tally) (old new : Option (List ℕ)) → HasTold Meets cases tally old new
+pub tally_within : (Meets : Case → Meeting → Type 0) (cases : List Case) (tally : Tally) (old new : Option (List ℕ)) →
+    HasTold Meets cases tally old new
     → (tally.pass ≤ length cases) × (tally.loose ≤ length cases) × (tally.fail ≤ length cases)
 tally_within Meets cases tally old new told =
     let long = outcomes_of_cases Meets cases told.tests told.are_tested in
@@ -315,7 +328,8 @@ tally_within Meets cases tally old new told =
     )
 
 -- so there is room for one outcome more while there is a case more
-pub tally_has_room : (Meets : Case → Meeting → Type 0) (all : List Case) (n : ℕ) (tally : Tally) (old new : Option (List ℕ)) → HasTold Meets (take n all) tally old new
+pub tally_has_room : (Meets : Case → Meeting → Type 0) (all : List Case) (n : ℕ) (tally : Tally)
+    (old new : Option (List ℕ)) → HasTold Meets (take n all) tally old new
     → n < length all → length all < 2 ^ 64 → (tally.pass + 1 < 2 ^ 64) × (tally.loose + 1 < 2 ^ 64) × (tally.fail + 1 < 2 ^ 64)
 tally_has_room Meets all n tally old new told within fits =
     let (pass, loose, fail) = tally_within Meets (take n all) tally old new told in
@@ -337,8 +351,10 @@ was_begun by exit bytes d (inl (is, works, written)) fails =
 was_begun by exit bytes d (inr (is, fails, begun)) same = (is, begun)
 
 -- after the total, or where memory ran out for it: `Same` says that nothing was written then
-pub ends_told : (Meets : Case → Meeting → Type 0) (rules : RunRules) (all : List Case) (n : ℕ) (tally : Tally) (missed : ℕ)
-    (old mid new : Option (List ℕ)) (failed f : Bool) (a b : Option (List ℕ)) (Same : Type 0) (ended : Result Exit Fault)
+pub ends_told : (Meets : Case → Meeting → Type 0) (rules : RunRules) (all : List Case) (n : ℕ) (tally : Tally)
+    (missed : ℕ)
+    (old mid new : Option (List ℕ)) (failed f : Bool) (a b : Option (List ℕ)) (Same : Type 0)
+    (ended : Result Exit Fault)
     → HasRun Meets rules (take n all) tally missed old mid (record { failed = f; old = a; new = b })
     → missed < max_missed rules.is_limited → take n all ≡ all → (Same → (failed ≡ false) × (mid ≡ new)) → Keeps b b
     → MatchResult ended
@@ -348,7 +364,8 @@ pub ends_told : (Meets : Case → Meeting → Type 0) (rules : RunRules) (all : 
     (record { failed = f; old = a; new = b })
 ends_told Meets rules all n tally missed old mid new failed f a b Same (Ok exit) so few whole same kept told =
     run_all Meets rules all tally missed old mid new exit failed (record { failed = f; old = a; new = b })
-    (subst (λ (l : List Case). HasRun Meets rules l tally missed old mid (record { failed = f; old = a; new = b })) whole so)
+    (subst (λ (l : List Case). HasRun Meets rules l tally missed old mid (record { failed = f; old = a; new = b }))
+    whole so)
     few told
 ends_told Meets rules all n tally missed old mid new failed f a b Same (Err fault) so few whole same kept (is, stays) =
     run_till_memory Meets rules all n tally missed old new failed f f a b b (Err fault) []

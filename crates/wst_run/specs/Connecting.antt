@@ -1,6 +1,7 @@
 -- Why there is no connection, by the kind of an error.
 use Rattle.std.specs.declared.io.ErrorKind.{ErrorKind}
-use Rattle.std.specs.declared.io.ErrorKind.TheVariants.{BrokenPipe, ConnectionAborted, ConnectionRefused, ConnectionReset}
+use Rattle.std.specs.declared.io.ErrorKind.TheVariants.{BrokenPipe, ConnectionAborted, ConnectionRefused}
+use Rattle.std.specs.declared.io.ErrorKind.TheVariants.{ConnectionReset}
 use Rattle.std.specs.declared.io.ErrorKind.TheVariants.{HostUnreachable, NetworkDown, NetworkUnreachable, OutOfMemory}
 use Rattle.std.specs.declared.io.ErrorKind.TheVariants.{TimedOut, WouldBlock}
 use Rattle.wst_run.specs.declared.meeting.ConnectFault.{ConnectFault}

@@ -1,5 +1,5 @@
--- What a run of `test` tells on the fault output beside its lines: the name of a case before it runs, where that is asked
--- for, and why there is no connection to its server, after its line.
+-- What a run of `test` tells on the fault output beside its lines: the name of a case before it runs, where that is
+-- asked for, and why there is no connection to its server, after its line.
 use Rattle.std.specs.Prelude.{ℕ, Bool, true, false, List, [], ◌∷◌, ◌++◌, Option, codes, flat_map, string_bytes}
 use Rattle.ws_frame.specs.Devices.{Device, IsUntouched}
 use Rattle.ws_scripts.specs.declared.script.Case.{Case}

@@ -27,7 +27,8 @@ use Rattle.wst_run.specs.declared.serve.ServePlan.{ServePlan}
 abbrev pub IsServePlan : ServeOptions → ServePlan → Type 0
 IsServePlan options plan =
     (AreLimits (limits_given options.limit options.frame) × (plan.limits ≡ limits_given options.limit options.frame))
-    × GivesTimeout options.timeout plan.timeout × (plan.budget ≡ options.budget) × (plan.address ≡ options.address) × (plan.count ≡ options.count)
+    × GivesTimeout options.timeout plan.timeout × (plan.budget ≡ options.budget) × (plan.address ≡ options.address)
+    × (plan.count ≡ options.count)
     × (AreOffers (protocols_given options.protocols) × (plan.protocols ≡ protocols_given options.protocols))
 
 -- Why there is none, the first of these that applies: the names that are given can't be offered; the seconds are no

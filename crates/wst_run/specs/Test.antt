@@ -107,15 +107,16 @@ HasAllButCases options = HasOffers options × HasTimeout options.timeout × HasK
     × CanCapture options
 
 -- The first of these that applies: the names that are given can't be offered; the seconds are no limit of time; the key
--- is none; the target is none; a capture is not of one case; a name has no case, or a case of the list of cases is missing. Memory may run out at any
--- of them. Which names have a case is said by no definition.
+-- is none; the target is none; a capture is not of one case; a name has no case, or a case of the list of cases is
+-- missing. Memory may run out at any of them. Which names have a case is said by no definition.
 abbrev pub RefusesTest : TestOptions → TestRefusal → Type 0
 RefusesTest options refusal.BadProtocols = ¬ (HasOffers options)
 RefusesTest options refusal.BadTimeout = HasOffers options × ¬ (HasTimeout options.timeout)
 RefusesTest options refusal.BadKey = HasOffers options × HasTimeout options.timeout
     × ((key : List ℕ) → ¬ (IsKeyWord key options.key.now))
 RefusesTest options refusal.BadAddress =
-    HasOffers options × HasTimeout options.timeout × HasKey options × RefusesTarget options.target.now refusal.BadAddress
+    HasOffers options × HasTimeout options.timeout × HasKey options
+    × RefusesTarget options.target.now refusal.BadAddress
 RefusesTest options refusal.NotOneCase =
     HasOffers options × HasTimeout options.timeout × HasKey options × HasTarget options × ¬ (CanCapture options)
 RefusesTest options (refusal.NoSuchCase id) =

@@ -1,5 +1,5 @@
--- Cases run over new servers: what is written of them, a line for each as soon as it is judged, and the total; and what is
--- told on the fault output.
+-- Cases run over new servers: what is written of them, a line for each as soon as it is judged, and the total; and what
+-- is told on the fault output.
 use Rattle.std.specs.Prelude.{◌≡◌, ◌⊎◌, ℕ, ◌+◌, ◌<◌, true, false, List, [], ◌∷◌, ◌++◌}
 use Rattle.std.specs.Prelude.{map, flat_map, take, Result, MatchResult, Some, codes, string_bytes}
 use Rattle.std.specs.List.{AllByRecursion, concat}
@@ -13,7 +13,8 @@ use Rattle.ws_suite.specs.declared.verdict.Verdict.{Verdict}
 use Rattle.wst_commands.specs.Devices.{Delivers}
 use Rattle.wst_commands.specs.Judge.{exit_of}
 use Rattle.wst_run.specs.Notes.{TellsEach, miss_notes, notes_of, progress_notes}
-use Rattle.wst_run.specs.Outcomes.{MayRunEach, exit_of_tests, max_missed, missed_at_end, outcome_words, tally_of, total_line}
+use Rattle.wst_run.specs.Outcomes.{MayRunEach, exit_of_tests, max_missed, missed_at_end, outcome_words, tally_of}
+use Rattle.wst_run.specs.Outcomes.{total_line}
 use Rattle.wst_commands.specs.declared.exit.Exit.{Exit}
 use Rattle.wst_commands.specs.declared.exit.Exit.TheVariants.{Damaged, Failed}
 use Rattle.wst_commands.specs.declared.fault.Fault.{Fault}
@@ -43,7 +44,8 @@ pub record IsTested (Meets : Case → Meeting → Type 0) (case : Case) (outcome
 -- ---- cases
 
 -- these are the cases in their order, each with what is told of a server of its own
-pub record AreTested (Meets : Case → Meeting → Type 0) (cases : List Case) (tests : List (Case × Outcome)) : Type 0 where
+pub record AreTested (Meets : Case → Meeting → Type 0) (cases : List Case)
+    (tests : List (Case × Outcome)) : Type 0 where
   pub of_cases : map (λ test. test.0) tests ≡ cases
   pub tested : AllByRecursion (λ test. IsTested Meets test.0 test.1) tests
 

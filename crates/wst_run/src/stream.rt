@@ -69,8 +69,8 @@ impl<S: Write + OpenStream> EndsDirection for Side<'_, S> {
     }
 }
 
-/// A reader or a writer that notes of which kind the first error was that a call through it answered, and through others
-/// that note it in the same place.
+/// A reader or a writer that notes of which kind the first error was that a call through it answered, or through another
+/// that notes it in the same place.
 #[derive(Drop)]
 pub struct Noted<'a, T> {
     inner: T,

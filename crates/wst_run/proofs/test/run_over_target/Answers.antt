@@ -30,5 +30,6 @@ returns-in-Address g c =
     λ i. record { host = made.host i; offers = offers i; budget = made.budget i } in
     let at = subst (λ (v : AddressValue). RunsPlan (λ case meeting. MeetsAtAddress v plan.key case meeting) plan
     c.run_plan-in-Address.result output faults) server c.run_plan-in-Address.ensures in
-    subst (λ (t : Target). RunsPlan (MeetsTarget t plan.protocols plan.budget plan.key) plan c.run_plan-in-Address.result
+    subst (λ (t : Target). RunsPlan (MeetsTarget t plan.protocols plan.budget plan.key) plan
+    c.run_plan-in-Address.result
     output faults) (sym c.in-Address.is) at

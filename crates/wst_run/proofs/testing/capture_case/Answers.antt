@@ -18,6 +18,7 @@ returns-in_ok-told-in-NoConnection-clause-runs g c =
       (meeting.NoConnection why, met, c.in_ok-told-in-NoConnection.ensures, refl),
       noted_next names (miss_notes (outcome.NoConnection why)) (has_failed c.tell_progress.new.faults)
           (has_failed c.tell_miss.new.faults) (g.F.Write.contents (inner_of c.args.faults.now))
-          (g.F.Write.contents (inner_of c.tell_progress.new.faults)) (g.F.Write.contents (inner_of c.tell_miss.new.faults))
+          (g.F.Write.contents (inner_of c.tell_progress.new.faults))
+          (g.F.Write.contents (inner_of c.tell_miss.new.faults))
           c.tell_miss.ensures.still c.in_ok-tell_progress.ensures.told c.tell_miss.ensures.told,
     )

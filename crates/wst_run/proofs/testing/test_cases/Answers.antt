@@ -127,7 +127,8 @@ returns-then-missed-max_missed-clause-runs g c =
     (run_more Meets c.args.rules (take at.case-index cases) (take (at.case-index + 1) cases) case outcome at.tally
     (tally_with at.tally outcome) at.missed c.missed_after-missed.result
     (g.W.Write.contents (inner_of c.args.writer.now)) (g.W.Write.contents (inner_of at.writer))
-    (g.W.Write.contents (inner_of c.tell_case.new.writer)) (has_failed at.faults) (has_failed c.tell_progress.new.faults)
+    (g.W.Write.contents (inner_of c.tell_case.new.writer)) (has_failed at.faults)
+    (has_failed c.tell_progress.new.faults)
     (has_failed c.tell_miss.new.faults) (g.F.Write.contents (inner_of c.args.faults.now))
     (g.F.Write.contents (inner_of at.faults)) (g.F.Write.contents (inner_of c.tell_progress.new.faults))
     (g.F.Write.contents (inner_of c.tell_miss.new.faults)) so few runs c.in_ok-outcome.ensures more refl
@@ -196,7 +197,8 @@ returns-clause-runs g c =
     let at = c.loop-case in
     let cases = c.args.cases.now in
     let (works, few, so, still) = at.invariant in
-    ends_told (g.S.CaseServer.meets c.args.server.now c.args.rules.key) c.args.rules cases at.case-index at.tally at.missed
+    ends_told (g.S.CaseServer.meets c.args.server.now c.args.rules.key) c.args.rules cases at.case-index at.tally
+    at.missed
     (g.W.Write.contents (inner_of c.args.writer.now)) (g.W.Write.contents (inner_of at.writer))
     (g.W.Write.contents (inner_of c.tell_total.new.writer)) (has_failed c.tell_total.new.writer) (has_failed at.faults)
     (g.F.Write.contents (inner_of c.args.faults.now)) (g.F.Write.contents (inner_of at.faults))

@@ -12,7 +12,8 @@ returns-in-Ok g c =
       offers = map (λ name. name.now) inside.offers.now;
       budget = inside.bounds.budget;
     } in
-    subst (λ (s : AddressValue). IfOk c.meet_over.result (λ meeting. MeetsAtAddress s c.args.key c.args.case.now meeting))
+    subst (λ (s : AddressValue). IfOk c.meet_over.result (λ meeting. MeetsAtAddress s c.args.key c.args.case.now
+    meeting))
     c.self.view_is
     (meets_probed server c.as_bytes.result.now c.args.key c.args.case.now c.meet_over.result c.as_bytes.ensures.value
     c.meet_over.ensures)
