@@ -1,19 +1,25 @@
 """Clients of `wst serve` that go away, or send on when their connection has ended."""
 
+import socket
+import threading
 import time
 
-from server import Server
+from server import SECONDS, Server
 from wire import CLOSE, CLOSE_BACK, FAILED_1002, HELLO, HELLO_BACK, NOT_MASKED, REQUEST, RESPONSE, binary
 
 # How often the last bytes must arrive at a client that still sends.
 TIMES = 50
 
 
-def goes_on(server, number):
-    """The server serves another connection, of this number."""
+def goes_on(server, number, seconds=SECONDS):
+    """The server serves another connection, of this number, within so many seconds."""
+    began = time.monotonic()
     client = server.client()
     client.send(REQUEST, HELLO, CLOSE)
     assert client.rest() == RESPONSE + HELLO_BACK + CLOSE_BACK
+    taken = time.monotonic() - began
+    assert taken < seconds, taken
+    client.close()
     server.ends(f"{number} clean 1000")
 
 
@@ -96,6 +102,115 @@ def sends_on_after_its_close():
     still_sends(CLOSE, CLOSE_BACK, "clean 1000")
 
 
+# A client is left after two seconds at most; the rest is for a machine that is busy.
+IN_TIME = 2.6
+
+
+def sends_a_little_without_an_end():
+    """A client that goes on sending for ever is left in time."""
+    server = Server(2)
+    client = server.client()
+    client.send(REQUEST, CLOSE)
+    assert client.rest() == RESPONSE + CLOSE_BACK
+    assert server.line() == "1 clean 1000"
+    ends = threading.Event()
+    sender = threading.Thread(target=sends_until, args=(client, ends, b"\0", 0.02))
+    sender.start()
+    try:
+        goes_on(server, 2, IN_TIME)
+    finally:
+        ends.set()
+        sender.join()
+
+
+def floods():
+    """So is one that sends as much as it can."""
+    server = Server(2)
+    client = server.client()
+    client.send(REQUEST, NOT_MASKED)
+    assert client.get(len(RESPONSE + FAILED_1002)) == RESPONSE + FAILED_1002
+    assert server.line() == "1 failed MaskWrong"
+    ends = threading.Event()
+    sender = threading.Thread(target=sends_until, args=(client, ends, bytes(65536), 0))
+    sender.start()
+    try:
+        goes_on(server, 2, IN_TIME)
+    finally:
+        ends.set()
+        sender.join()
+
+
+def sends_until(client, ends, piece, pause):
+    try:
+        while not ends.is_set():
+            client.send(piece)
+            time.sleep(pause)
+    except OSError:
+        pass
+
+
+def stays_and_is_silent():
+    """A client that neither sends nor ends behind its session is left in time."""
+    server = Server(2)
+    client = server.client()
+    client.send(REQUEST, CLOSE)
+    assert client.rest() == RESPONSE + CLOSE_BACK
+    assert server.line() == "1 clean 1000"
+    goes_on(server, 2, IN_TIME)
+    client.close()
+
+
+def ends_soon():
+    """A client that ends a little later is left at once."""
+    server = Server(2)
+    client = server.client()
+    client.send(REQUEST, CLOSE)
+    assert client.rest() == RESPONSE + CLOSE_BACK
+    assert server.line() == "1 clean 1000"
+    time.sleep(0.2)
+    client.close()
+    goes_on(server, 2, 0.5)
+
+
+def silent_for_too_long():
+    """With --timeout a client is told as stopped once it was silent for so long, wherever it is."""
+    for sent, back in ((b"", b""), (REQUEST[:-1], b""), (REQUEST, RESPONSE), (REQUEST + HELLO[:-1], RESPONSE)):
+        server = Server(2, "--timeout", "1")
+        client = server.client()
+        client.send(sent)
+        began = time.monotonic()
+        assert client.rest() == back
+        taken = time.monotonic() - began
+        assert 0.8 < taken < 2, taken
+        assert server.line() == "1 stopped"
+        client.close()
+        goes_on(server, 2)
+
+
+def slow_but_not_silent():
+    """A client that sends a byte each half second is none that is silent for a second."""
+    server = Server(1, "--timeout", "1")
+    client = server.client()
+    client.send(REQUEST)
+    assert client.get(len(RESPONSE)) == RESPONSE
+    for byte in CLOSE:
+        time.sleep(0.5)
+        client.send(bytes([byte]))
+    assert client.rest() == CLOSE_BACK
+    server.ends("1 clean 1000")
+
+
+def takes_nothing_for_too_long():
+    """Nor is one waited for that takes no byte of what is sent back."""
+    server = Server(2, "--timeout", "1", "--limit", "16777216")
+    client = server.client()
+    client.stream.setsockopt(socket.SOL_SOCKET, socket.SO_RCVBUF, 65536)
+    client.send(REQUEST, binary(16777216))
+    assert server.line() == "1 stopped"
+    client.close()
+    goes_on(server, 2)
+
+
 TESTS = [
     no_bytes,
     a_reset_before_any_byte,
@@ -105,4 +220,11 @@ TESTS = [
     a_reset_while_it_writes,
     sends_on_after_a_fault,
     sends_on_after_its_close,
+    sends_a_little_without_an_end,
+    floods,
+    stays_and_is_silent,
+    ends_soon,
+    silent_for_too_long,
+    slow_but_not_silent,
+    takes_nothing_for_too_long,
 ]

@@ -1,8 +1,10 @@
 """What `wst serve` writes, when, and how it ends."""
 
+import fcntl
+import os
 import socket
 
-from server import SECONDS, Server, run, start
+from server import SECONDS, Client, Server, connected, free_port, run, start
 from wire import BAD_REQUEST, CLOSE, CLOSE_BACK, HELLO, HELLO_BACK, NAMES_CHAT, NAMES_SUPERCHAT, OFFERING, REQUEST, RESPONSE
 
 NO_ADDRESSES = ("127.0.0.1", "127.0.0.1:", "127.0.0.1:65536", "127.0.0.1:x", ":", "", "[::1]", "no.such.host.invalid:9")
@@ -52,7 +54,7 @@ def has_version_6():
 
 def a_port_in_use():
     server = Server(1)
-    assert run("serve", server.address, "1") == (3, b"", b"")
+    assert run("serve", server.address, "1") == (3, b"", b"not listening: address in use\n")
     client = server.client()
     client.send(REQUEST, CLOSE)
     assert client.rest() == RESPONSE + CLOSE_BACK
@@ -61,12 +63,25 @@ def a_port_in_use():
 
 def an_address_that_is_none():
     for address in NO_ADDRESSES:
-        assert run("serve", address, "1") == (3, b"", b""), address
+        assert run("serve", address, "1") == (3, b"", b"not listening: no such host\n"), address
+
+
+def an_address_of_another_machine():
+    """An address that is kept for documents (RFC 5737), which no machine has."""
+    assert run("serve", "192.0.2.1:9001", "1") == (3, b"", b"not listening: failed\n")
 
 
 def limits_that_a_server_cannot_have():
     for limit in ("0", "16777217", "4294967297"):
         assert run("serve", "--limit", limit, "127.0.0.1:1", "1") == (2, b"", b"bad limits\n"), limit
+
+
+def limits_of_time_that_are_none():
+    for seconds in ("", "0", "01", "3601", "99999999999999999999", "+1", "-1", "1.5", "1s", " 1"):
+        told = run("serve", f"--timeout={seconds}", "--limit", "0", "127.0.0.1:1", "1")
+        assert told == (2, b"", b"bad timeout\n"), seconds
+    for seconds in ("1", "3600"):
+        assert run("serve", "--timeout", seconds, "--limit", "0", "127.0.0.1:1", "1") == (2, b"", b"bad limits\n")
 
 
 def subprotocols():
@@ -83,9 +98,9 @@ def subprotocols():
         server.ends("1 clean 1000")
 
 
-def a_bad_list_before_bad_limits():
+def a_bad_list_before_all_else():
     for names in ("", "chat,chat", "a/b", "chat,"):
-        words = ("serve", "--limit", "0", "--protocols", names, "127.0.0.1:1", "1")
+        words = ("serve", "--limit", "0", "--timeout", "0", "--protocols", names, "127.0.0.1:1", "1")
         assert run(*words) == (2, b"", b"bad protocol list\n"), names
 
 
@@ -94,6 +109,25 @@ def the_first_line_can_not_be_written():
         process = start("serve", "127.0.0.1:0", "1", stdout=full)
         assert process.wait(SECONDS) == 3
     assert process.stderr.read() == b""
+
+
+def a_line_that_nobody_reads():
+    """A line waits for its reader, and the client doesn't: its stream has ended before."""
+    port = free_port()
+    first = f"listening on 127.0.0.1:{port}\n".encode()
+    output, pipe = os.pipe()
+    room = fcntl.fcntl(pipe, fcntl.F_SETPIPE_SZ, 4096)
+    os.write(pipe, bytes(room - len(first)))
+    process = start("serve", f"127.0.0.1:{port}", "1", stdout=pipe)
+    os.close(pipe)
+    client = Client(connected(port))
+    client.send(REQUEST, CLOSE)
+    assert client.rest() == RESPONSE + CLOSE_BACK
+    assert process.poll() is None
+    client.close()
+    with os.fdopen(output, "rb") as lines:
+        assert lines.read().lstrip(b"\0") == first + b"1 clean 1000\n"
+    assert process.wait(SECONDS) == 0
 
 
 def a_line_can_not_be_written():
@@ -113,9 +147,12 @@ TESTS = [
     each_address,
     a_port_in_use,
     an_address_that_is_none,
+    an_address_of_another_machine,
     limits_that_a_server_cannot_have,
+    limits_of_time_that_are_none,
     subprotocols,
-    a_bad_list_before_bad_limits,
+    a_bad_list_before_all_else,
     the_first_line_can_not_be_written,
+    a_line_that_nobody_reads,
     a_line_can_not_be_written,
 ]

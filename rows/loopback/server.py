@@ -4,6 +4,7 @@ import select
 import socket
 import struct
 import subprocess
+import time
 from pathlib import Path
 
 WST = Path(__file__).resolve().parents[2] / "crates/wst/out/wst"
@@ -71,8 +72,12 @@ class Server(Running):
 class Tested(Running):
     """`wst test` with these options and cases against a socket of ours that listens."""
 
-    def __init__(self, *words, host="127.0.0.1"):
-        self.listener = socket.create_server(("127.0.0.1", 0))
+    def __init__(self, *words, host="127.0.0.1", backlog=16, waiting=0):
+        self.listener = socket.create_server(("127.0.0.1", 0), backlog=backlog)
+        self.waiting = [socket.socket() for _ in range(waiting)]
+        for client in self.waiting:
+            client.setblocking(False)
+            client.connect_ex(self.listener.getsockname())
         self.listener.settimeout(SECONDS)
         self.address = f"{host}:{self.listener.getsockname()[1]}"
         options = [word for word in words if word.startswith("-")]
@@ -91,12 +96,13 @@ class Tested(Running):
             return True
         return False
 
-    def ends(self, output, status=0):
-        """It writes this and no more, and ends with this status, with nothing on the fault output."""
+    def ends(self, output, status=0, faults=b""):
+        """It writes this and no more, this on the fault output, and ends with this status."""
         got = "".join(f"{line}\n" for line in iter(self.line, ""))
         assert got == output, got
         assert self.process.wait(SECONDS) == status, self.process.returncode
-        assert self.process.stderr.read() == b""
+        told = self.process.stderr.read()
+        assert told == faults, told
 
 
 class Client:
@@ -136,6 +142,23 @@ class Client:
         self.stream.close()
 
 
+def free_port():
+    """A port at which nothing listens."""
+    with socket.create_server(("127.0.0.1", 0)) as listener:
+        return listener.getsockname()[1]
+
+
+def connected(port):
+    """A connection to a port at which something listens soon."""
+    until = time.monotonic() + SECONDS
+    while True:
+        try:
+            return socket.create_connection(("127.0.0.1", port), SECONDS)
+        except ConnectionRefusedError:
+            assert time.monotonic() < until, "nothing listens"
+            time.sleep(0.01)
+
+
 def start(*words, stdout=subprocess.PIPE):
     process = subprocess.Popen(
         [WST, *words], stdin=subprocess.DEVNULL, stdout=stdout, stderr=subprocess.PIPE
@@ -144,10 +167,10 @@ def start(*words, stdout=subprocess.PIPE):
     return process
 
 
-def run(*words):
+def run(*words, seconds=SECONDS):
     """The status, the output and the fault output of a run."""
     process = start(*words)
-    output, faults = process.communicate(timeout=SECONDS)
+    output, faults = process.communicate(timeout=seconds)
     return process.returncode, output, faults
 
 

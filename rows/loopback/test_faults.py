@@ -1,8 +1,13 @@
 """Servers that `wst test` meets and that go away, answer something else or nothing."""
 
-from server import Tested
+import time
+
+from server import Server, Tested, run
 from test_lines import passes
-from wire import CLOSE_BACK, EMPTY_TEXT, RESPONSE, request_to
+from wire import CLOSE_BACK, EMPTY_BACK, EMPTY_TEXT, MASKED_CLOSE, RESPONSE, request_to
+
+CLOSED = b"no connection: closed before the answer\n"
+SILENT = b"no connection: timed out\n"
 
 LARGE = b"HTTP/1.1 101 Switching Protocols\r\nX: " + b"a" * 9000
 
@@ -12,7 +17,7 @@ def closes_at_once():
     passes(server)
     assert server.line() == "1.1.1 PASS"
     server.next().close()
-    server.ends("1.1.1 no connection\n", status=3)
+    server.ends("1.1.1 no connection\n", status=3, faults=CLOSED)
 
 
 def closes_in_the_head():
@@ -20,7 +25,7 @@ def closes_in_the_head():
     client = server.next()
     client.send(RESPONSE[:-1])
     client.close()
-    server.ends("1.1.1 no connection\n", status=3)
+    server.ends("1.1.1 no connection\n", status=3, faults=CLOSED)
 
 
 def resets_in_the_head():
@@ -28,7 +33,7 @@ def resets_in_the_head():
     client = server.next()
     assert client.get(4) == b"GET "
     client.reset()
-    server.ends("1.1.1 no connection\n", status=3)
+    server.ends("1.1.1 no connection\n", status=3, faults=CLOSED)
 
 
 def resets_in_mid_case():
@@ -98,6 +103,139 @@ def never_answers():
     server.ends("1.1.1 PASS\n1 pass, 0 loose, 1 fail\n", status=1)
 
 
+def silent_in_the_head():
+    """A server that sends no byte of its answer for so long, or no further one."""
+    for sent in (b"", RESPONSE[:40], RESPONSE[:-1]):
+        server = Tested("--timeout=1", "1.1.1")
+        client = server.next()
+        client.send(sent)
+        began = time.monotonic()
+        server.ends("1.1.1 no connection\n0 pass, 0 loose, 1 fail\n", status=1, faults=SILENT)
+        assert 0.8 < time.monotonic() - began < 2
+        client.close()
+
+
+def silent_behind_the_head():
+    """Each turn is sent all the same, and what the server owes is missing."""
+    server = Tested("--timeout=1", "1.1.1")
+    client = server.next()
+    client.send(RESPONSE)
+    sent = request_to(server.address) + EMPTY_TEXT + MASKED_CLOSE
+    assert client.get(len(sent)) == sent
+    server.ends("1.1.1 FAIL Messages\n0 pass, 0 loose, 1 fail\n", status=1)
+    client.close()
+
+
+def silent_in_the_last_turn():
+    server = Tested("--timeout=1", "1.1.1")
+    client = server.next()
+    client.send(RESPONSE, EMPTY_BACK)
+    sent = request_to(server.address) + EMPTY_TEXT + MASKED_CLOSE
+    assert client.get(len(sent)) == sent
+    server.ends("1.1.1 FAIL Close\n0 pass, 0 loose, 1 fail\n", status=1)
+    client.close()
+
+
+def silent_in_a_frame():
+    server = Tested("--timeout=1", "1.1.1")
+    client = server.next()
+    client.send(RESPONSE, EMPTY_BACK[:1])
+    server.ends("1.1.1 FAIL NotFrames\n0 pass, 0 loose, 1 fail\n", status=1)
+    client.close()
+
+
+def stays_behind_its_close():
+    """A server that closes the handshake and not the connection is to end it (RFC 6455 section 7.1.1)."""
+    server = Tested("--timeout=1", "1.1.1")
+    client = server.next()
+    client.send(RESPONSE, EMPTY_BACK)
+    sent = request_to(server.address) + EMPTY_TEXT + MASKED_CLOSE
+    assert client.get(len(sent)) == sent
+    client.send(CLOSE_BACK)
+    assert client.rest() == b""
+    server.ends("1.1.1 FAIL End\n0 pass, 0 loose, 1 fail\n", status=1)
+    client.close()
+
+
+def a_byte_each_half_second():
+    """A server that sends a little is none that is silent."""
+    server = Tested("--timeout=1", "1.1.1")
+    client = server.next()
+    for byte in (RESPONSE[:-2], RESPONSE[-2:-1], RESPONSE[-1:], EMPTY_BACK[:1], EMPTY_BACK[1:]):
+        client.send(byte)
+        time.sleep(0.5)
+    sent = request_to(server.address) + EMPTY_TEXT + MASKED_CLOSE
+    assert client.get(len(sent)) == sent
+    for byte in CLOSE_BACK:
+        client.send(bytes([byte]))
+        time.sleep(0.5)
+    client.close()
+    server.ends("1.1.1 PASS\n1 pass, 0 loose, 0 fail\n")
+
+
+def sends_without_an_end():
+    """No more is read of a server in a case than the budget says."""
+    server = Tested("--budget=1000000", "1.1.1", "1.1.1")
+    client = server.next()
+    client.send(RESPONSE)
+    try:
+        while True:
+            client.send(b"\x89\x00" * 32768)
+    except OSError:
+        client.close()
+    assert server.line().startswith("1.1.1 FAIL ")
+    passes(server)
+    server.ends("1.1.1 PASS\n1 pass, 0 loose, 1 fail\n", status=1)
+
+
+def takes_no_connection():
+    """A connection that is not made in time: the queue of the listener is full."""
+    server = Tested("--timeout=1", "1.1.1", backlog=0, waiting=4)
+    server.ends("1.1.1 no connection\n0 pass, 0 loose, 1 fail\n", status=1, faults=SILENT)
+
+
+def two_in_a_row():
+    """With --timeout a run goes on where there is no connection."""
+    server = Tested("--timeout=2", *["1.1.1"] * 6)
+    for closes in (True, True, False, True, True, False):
+        if closes:
+            server.next().close()
+        else:
+            passes(server)
+    lines = "1.1.1 no connection\n1.1.1 no connection\n1.1.1 PASS\n" * 2
+    server.ends(f"{lines}2 pass, 0 loose, 4 fail\n", status=1, faults=CLOSED * 4)
+
+
+def three_in_a_row():
+    """The third in a row ends it."""
+    server = Tested("--timeout=2", *["1.1.1"] * 5)
+    passes(server)
+    for _ in range(3):
+        server.next().close()
+    lines = "1.1.1 PASS\n" + 3 * "1.1.1 no connection\n"
+    server.ends(lines, status=3, faults=CLOSED * 3)
+    assert server.has_no_more_clients()
+
+
+def progress():
+    """The name of a case is told before the case runs."""
+    server = Tested("--progress", "1.1.1", "1.1.1")
+    assert server.process.stderr.readline() == b"1.1.1\n"
+    assert server.says_nothing_for(0.1)
+    passes(server)
+    assert server.line() == "1.1.1 PASS"
+    server.next().close()
+    server.ends("1.1.1 no connection\n", status=3, faults=b"1.1.1\n" + CLOSED)
+
+
+def our_own_server_in_time():
+    """With --timeout our server passes each case, also those in which the next turn would be sent in haste."""
+    server = Server(240)
+    status, output, faults = run("test", "--timeout", "2", server.address, seconds=120)
+    assert (status, faults) == (0, b"")
+    assert output.endswith(b"240 pass, 0 loose, 0 fail\n"), output[-60:]
+
+
 TESTS = [
     closes_at_once,
     closes_in_the_head,
@@ -108,4 +246,16 @@ TESTS = [
     closes_first_and_waits,
     garbage_for_a_head,
     never_answers,
+    silent_in_the_head,
+    silent_behind_the_head,
+    silent_in_the_last_turn,
+    silent_in_a_frame,
+    stays_behind_its_close,
+    a_byte_each_half_second,
+    sends_without_an_end,
+    takes_no_connection,
+    two_in_a_row,
+    three_in_a_row,
+    progress,
+    our_own_server_in_time,
 ]

@@ -132,18 +132,21 @@ def no_listener():
     with socket.socket() as closed:
         closed.bind(("127.0.0.1", 0))
         address = f"127.0.0.1:{closed.getsockname()[1]}"
-        assert run("test", address, "1.1.1", "1.1.2") == (3, b"1.1.1 no connection\n", b"")
-        assert run("test", "--capture", address, "1.1.1") == (3, b"1.1.1 no connection\n", b"")
+        told = (3, b"1.1.1 no connection\n", b"no connection: refused\n")
+        assert run("test", address, "1.1.1", "1.1.2") == told
+        assert run("test", "--capture", address, "1.1.1") == told
 
 
 def no_address_to_test():
     for address in NO_ADDRESSES:
-        assert run("test", address, "1.1.1") == (3, b"1.1.1 no connection\n", b""), address
+        told = (3, b"1.1.1 no connection\n", b"no connection: no such host\n")
+        assert run("test", address, "1.1.1") == told, address
 
 
 def no_address_before_other_faults():
     for words, told in (
-        (("--protocols", "", "--key", "x", "a b", "1.1.1"), b"bad protocol list\n"),
+        (("--protocols", "", "--timeout", "0", "--key", "x", "a b", "1.1.1"), b"bad protocol list\n"),
+        (("--timeout", "02", "--key", "x", "a b", "1.1.1"), b"bad timeout\n"),
         (("--key", "x", "a b", "1.1.1"), b"bad key\n"),
         (("a b", "0.0.0"), b"bad address\n"),
         (("--capture", "127.0.0.1:1"), b"--capture takes one case\n"),

@@ -30,7 +30,7 @@ class Served:
     faults: bytes
 
     def could_not_listen(self):
-        return (self.status, self.lines, self.faults) == (3, [], b"")
+        return (self.status, self.lines, self.faults) == (3, [], b"not listening: address in use\n")
 
     def is_whole(self):
         return self == Served(0, LINES, [SERVED, SERVED], b"")

@@ -7,8 +7,11 @@ use Rattle.wst_commands.specs.Devices.{Tells}
 use Rattle.wst_commands.specs.declared.exit.Exit.{Exit}
 use Rattle.wst_commands.specs.declared.exit.Exit.TheVariants.{Damaged, Failed, WrongWords}
 use Rattle.wst_commands.specs.declared.fault.Fault.{Fault}
-use Rattle.wst_commands.specs.declared.fault.Fault.TheVariants.{BadLimits, BadProtocols, HeadIsCut, NotACall}
-use Rattle.wst_commands.specs.declared.fault.Fault.TheVariants.{NotACapture, NotAMove, NoCase, NoText, NoTask, NoMemory}
+use Rattle.wst_commands.specs.declared.fault.Fault.TheVariants.{BadLimits, BadProtocols, BadTimeout, HeadIsCut}
+use Rattle.wst_commands.specs.declared.fault.Fault.TheVariants.{NotACall, NotACapture, NotAMove, NotListening}
+use Rattle.wst_commands.specs.declared.fault.Fault.TheVariants.{NoCase, NoText, NoTask, NoMemory}
+use Rattle.wst_commands.specs.declared.fault.ListenFault.{ListenFault}
+use Rattle.wst_commands.specs.declared.fault.ListenFault.TheVariants as why
 
 -- memory ran out, and that is told
 abbrev pub LacksMemory : Exit → Device → Type 0
@@ -23,9 +26,17 @@ abbrev pub TellsLine : ℕ → List ℕ → Exit → Device → Type 0
 TellsLine number what exit faults =
     ((exit ≡ Damaged) × Tells (damage_line number what) faults) ⊎ LacksMemory exit faults
 
+-- the line that tells why nothing can be listened at
+abbrev pub not_listening_line : ListenFault → List ℕ
+not_listening_line why.NoSuchHost = codes "not listening: no such host\n"
+not_listening_line why.AddressInUse = codes "not listening: address in use\n"
+not_listening_line why.NotPermitted = codes "not listening: not permitted\n"
+not_listening_line why.Failed = codes "not listening: failed\n"
+
 abbrev pub TellsFault : Fault → Exit → Device → Type 0
 TellsFault BadLimits exit faults = (exit ≡ WrongWords) × Tells (codes "bad limits\n") faults
 TellsFault BadProtocols exit faults = (exit ≡ WrongWords) × Tells (codes "bad protocol list\n") faults
+TellsFault BadTimeout exit faults = (exit ≡ WrongWords) × Tells (codes "bad timeout\n") faults
 TellsFault HeadIsCut exit faults = (exit ≡ Damaged) × Tells (codes "head is cut\n") faults
 TellsFault (NotAMove number) exit faults = TellsLine number (codes "not a move") exit faults
 TellsFault (NotACall number) exit faults = TellsLine number (codes "not a call") exit faults
@@ -33,6 +44,7 @@ TellsFault (NotACapture number) exit faults = TellsLine number (codes "not a cap
 TellsFault NoCase exit faults = (exit ≡ Failed) × Tells (codes "error: a case is missing\n") faults
 TellsFault NoText exit faults = (exit ≡ WrongWords) × Tells (codes "error: the words are not UTF-8\n") faults
 TellsFault NoTask exit faults = (exit ≡ WrongWords) × Tells (codes "error: the words ask for nothing\n") faults
+TellsFault (NotListening why) exit faults = (exit ≡ Failed) × Tells (not_listening_line why) faults
 TellsFault NoMemory exit faults = LacksMemory exit faults
 
 -- what is told of how a run ended, and the exit: nothing, or its fault

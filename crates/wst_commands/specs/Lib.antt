@@ -2,6 +2,7 @@ pub mod Exits
 pub mod Devices
 pub mod Faults
 pub mod Limits
+pub mod TimeLimits
 pub mod ReadingWhole
 pub mod Show
 pub mod Head

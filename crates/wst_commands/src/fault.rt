@@ -1,7 +1,8 @@
 //! What is told on the fault output in place of an answer.
 
 ghost use Rattle.std.specs.Prelude.{◌≡◌};
-ghost use Rattle.wst_commands.specs.Faults.{Ends, LacksMemory, TellsFault, TellsLine};
+ghost use Rattle.wst_commands.specs.Devices.{StaysFailed};
+ghost use Rattle.wst_commands.specs.Faults.{Ends, LacksMemory, TellsFault, TellsLine, not_listening_line};
 ghost use Rattle.wst_commands.specs.declared.fault.Fault.TheVariants as variant;
 ghost use Rattle.ws_frame.specs.Devices.{watched};
 
@@ -12,6 +13,19 @@ use std::io::Write;
 use ws_base::NoMemory;
 use ws_frame::Watched;
 
+/// Why nothing can be listened at.
+#[derive(Clone, Copy, PartialEq, Eq)]
+pub enum ListenFault {
+    /// The word is no address, or the look-up of its host failed.
+    NoSuchHost,
+    /// Something else listens at the address.
+    AddressInUse,
+    /// The system does not permit it.
+    NotPermitted,
+    /// For another reason, want of memory for the look-up among them.
+    Failed,
+}
+
 /// What a run tells on the fault output in place of an answer, in a line of ours.
 #[derive(Clone, Copy)]
 pub enum Fault {
@@ -19,6 +33,8 @@ pub enum Fault {
     BadLimits,
     /// Names that can't be offered as subprotocols.
     BadProtocols,
+    /// No number of seconds that can be waited for.
+    BadTimeout,
     /// The input ends inside a head, or is empty.
     HeadIsCut,
     /// The first line that is damaged in a script of moves, counted from 1.
@@ -34,6 +50,8 @@ pub enum Fault {
     NoText,
     /// The words of the command line ask for nothing.
     NoTask,
+    /// Nothing can be listened at.
+    NotListening(ListenFault),
     /// Memory ran out.
     NoMemory,
 }
@@ -56,7 +74,8 @@ impl From<AllocError> for Fault {
 
 /// Tells what a run has to tell on the fault output, and answers how it ended.
 pub fn end_run<F: Write>(alloc: Global, ended: Result<Exit, Fault>, faults: &mut Watched<F>) -> Exit
-    ensures { Ends ended result (watched F.contents faults.old faults.new) }
+    ensures ends { Ends ended result (watched F.contents faults.old faults.new) }
+    ensures still { StaysFailed faults.old faults.new }
 {
     match ended {
         Ok(exit) => exit,
@@ -67,7 +86,8 @@ pub fn end_run<F: Write>(alloc: Global, ended: Result<Exit, Fault>, faults: &mut
 /// Tells a fault in its line, where the fault output takes it, and answers the exit that it stands for.
 /// Where memory runs out for the line, that is told in its place.
 pub fn tell_fault<F: Write>(alloc: Global, fault: Fault, faults: &mut Watched<F>) -> Exit
-    ensures { TellsFault fault result (watched F.contents faults.old faults.new) }
+    ensures told { TellsFault fault result (watched F.contents faults.old faults.new) }
+    ensures still { StaysFailed faults.old faults.new }
 {
     match fault {
         Fault::BadLimits => {
@@ -76,6 +96,10 @@ pub fn tell_fault<F: Write>(alloc: Global, fault: Fault, faults: &mut Watched<F>
         }
         Fault::BadProtocols => {
             tell(b"bad protocol list\n", faults);
+            Exit::WrongWords
+        }
+        Fault::BadTimeout => {
+            tell(b"bad timeout\n", faults);
             Exit::WrongWords
         }
         Fault::HeadIsCut => {
@@ -97,13 +121,30 @@ pub fn tell_fault<F: Write>(alloc: Global, fault: Fault, faults: &mut Watched<F>
             tell(b"error: the words ask for nothing\n", faults);
             Exit::WrongWords
         }
+        Fault::NotListening(why) => {
+            tell(not_listening_line(why), faults);
+            Exit::Failed
+        }
         Fault::NoMemory => tell_no_memory(faults),
+    }
+}
+
+/// The line that tells why nothing can be listened at.
+fn not_listening_line(why: ListenFault) -> &'static [u8]
+    ensures { result.now ≡ not_listening_line why }
+{
+    match why {
+        ListenFault::NoSuchHost => b"not listening: no such host\n",
+        ListenFault::AddressInUse => b"not listening: address in use\n",
+        ListenFault::NotPermitted => b"not listening: not permitted\n",
+        ListenFault::Failed => b"not listening: failed\n",
     }
 }
 
 /// Tells the number of a damaged line, and what it is not.
 fn tell_line<F: Write>(alloc: Global, line: u64, what: &str, faults: &mut Watched<F>) -> Exit
-    ensures { TellsLine line what.now result (watched F.contents faults.old faults.new) }
+    ensures told { TellsLine line what.now result (watched F.contents faults.old faults.new) }
+    ensures still { StaysFailed faults.old faults.new }
 {
     match format!(in alloc; "line {line}: {what}\n") {
         Ok(text) => {
@@ -116,7 +157,8 @@ fn tell_line<F: Write>(alloc: Global, line: u64, what: &str, faults: &mut Watche
 
 /// Tells that memory ran out.
 fn tell_no_memory<F: Write>(faults: &mut Watched<F>) -> Exit
-    ensures { LacksMemory result (watched F.contents faults.old faults.new) }
+    ensures told { LacksMemory result (watched F.contents faults.old faults.new) }
+    ensures still { StaysFailed faults.old faults.new }
 {
     tell(b"no memory\n", faults);
     Exit::Failed

@@ -4,8 +4,8 @@
 //!
 //! The layer above uses a call for each command, each with one clause, what a run of that command is (`RunsShow` and
 //! its like): `run_show`, `run_moves` (of `pair`), `run_head`, `run_session`, `run_judge`, `run_convert`, `run_cases`;
-//! `end_run` and `tell_fault`, which tell a fault; `deliver` and `tell`, which write a text; `limits_given`, `exit_of`
-//! and `Exit::status`.
+//! `end_run` and `tell_fault`, which tell a fault; `deliver` and `tell`, which write a text; `limits_given`,
+//! `timeout_given`, `exit_of` and `Exit::status`.
 #![tactic(auto)]
 
 mod cases;
@@ -20,11 +20,12 @@ mod reading_whole;
 mod session;
 mod show;
 mod telling;
+mod time_limit;
 
 pub use cases::run_cases;
 pub use convert::run_convert;
 pub use exit::Exit;
-pub use fault::{Fault, end_run, tell_fault};
+pub use fault::{Fault, ListenFault, end_run, tell_fault};
 pub use head::run_head;
 pub use judge::{exit_of, run_judge};
 pub use limits::limits_given;
@@ -32,3 +33,4 @@ pub use pair::run_moves;
 pub use session::run_session;
 pub use show::run_show;
 pub use telling::{deliver, tell};
+pub use time_limit::{TimeLimit, timeout_given};

@@ -3,7 +3,7 @@
 ghost use Rattle.std.specs.Prelude.{◌≡◌, false};
 ghost use Rattle.ws_frame.specs.Devices.{watched};
 ghost use Rattle.ws_frame.specs.Watching.{has_failed};
-ghost use Rattle.wst_commands.specs.Devices.{Delivers, Tells};
+ghost use Rattle.wst_commands.specs.Devices.{Delivers, StaysFailed, Tells};
 
 use crate::exit::Exit;
 use std::io::Write;
@@ -22,7 +22,8 @@ pub fn deliver<W: Write>(done: Exit, bytes: &[u8], writer: &mut Watched<W>) -> E
 
 /// Tells a text on the fault output, where it takes it.
 pub fn tell<F: Write>(text: &[u8], faults: &mut Watched<F>)
-    ensures { Tells text.now (watched F.contents faults.old faults.new) }
+    ensures told { Tells text.now (watched F.contents faults.old faults.new) }
+    ensures still { StaysFailed faults.old faults.new }
 {
     let _ = write_whole(faults, text);
 }

@@ -1,4 +1,5 @@
 pub mod RunLemmas
+pub mod NoteLemmas
 pub mod TestLemmas
 pub mod PlanLemmas
 pub mod ServeLemmas

@@ -1,5 +1,6 @@
 -- What the words of `test` ask for: the cases with the names that are given.
-use Rattle.std.proofs.Common.{◌≡◌, ◌∙◌, ◌+◌, ◌<◌, ℕ, true, List, [], ◌∷◌, ◌++◌, ap, ap₂, arith, sym, subst, length, map, slice_index_or, string_bytes, take}
+use Rattle.std.proofs.Common.{◌≡◌, ◌∙◌, ◌+◌, ◌<◌, ℕ, Bool, Option, Result, inl, inr, true, List, [], ◌∷◌, ◌++◌, ap}
+use Rattle.std.proofs.Common.{ap₂, arith, sym, subst, length, map, slice_index_or, string_bytes, take}
 use Rattle.std.proofs.lemmas.List.{length-map, map-append, take_more}
 use Rattle.std.proofs.lemmas.List.Elements.{All-push}
 use Rattle.std.specs.Borrow.{Bor}
@@ -12,7 +13,14 @@ use Rattle.ws_upgrade.specs.Texts.{IsHost}
 use Rattle.wst_run.specs.Test.{AreCasesFor, AreCasesOf, GrowsByCase, HasHost, IsTargetOf, names_of}
 use Rattle.wst_run.specs.declared.test.Target.{Target}
 use Rattle.wst_run.specs.declared.test.Target.TheVariants.{Address, Memory}
+use Rattle.ws_frame.specs.Devices.{Device}
+use Rattle.wst_commands.specs.declared.exit.Exit.{Exit}
+use Rattle.wst_commands.specs.declared.fault.Fault.{Fault}
+use Rattle.wst_run.specs.Test.{CarriesOut}
+use Rattle.wst_run.specs.declared.meeting.Meeting.{Meeting}
+use Rattle.wst_run.specs.declared.test.TestPlan.{TestPlan}
 use Rattle.wst_commands.proofs.CaseLemmas.{next_name}
+use Rattle.wst_run.proofs.NoteLemmas.{each_on}
 
 -- one more name, and its case
 pub one_more_case : (names : List (List ℕ)) (name : List ℕ) (old new : List Case) (case : Case) → AreCasesOf names old → CanBeRun case
@@ -68,3 +76,14 @@ target_has_host word (Memory server) is host same = absurd (cc)
 target_has_host word (Address at) (is, no_server, is_host) host same =
     let e : at ≡ host = cc in
     subst (λ (w : List ℕ). IsHost w) (sym is ∙ ap (λ (h : Bor (List ℕ)). h.now) e) is_host
+
+-- what was told while a plan was carried out, where the fault output may have failed since
+pub carries_on : (Meets : Case → Meeting → Type 0) (plan : TestPlan) (ended : Result Exit Fault) (output : Device)
+    (f g : Bool)
+    (old new : Option (List ℕ)) → (f ≡ true → g ≡ true)
+    → CarriesOut Meets plan ended output (record { failed = f; old = old; new = new })
+    → CarriesOut Meets plan ended output (record { failed = g; old = old; new = new })
+carries_on Meets plan ended output f g old new still (inl (case, is, one, (notes, captured, told))) =
+    inl (case, is, one, (notes, captured, each_on notes f g old new still told))
+carries_on Meets plan ended output f g old new still (inr (is, (notes, tested, told))) =
+    inr (is, (notes, tested, each_on notes f g old new still told))

@@ -1,6 +1,11 @@
+pub mod Meetings
+pub mod Connecting
 pub mod Servers
 pub mod Outcomes
+pub mod Notes
 pub mod Testing
 pub mod Test
 pub mod Serve
+pub mod Listening
+pub mod Lingering
 pub mod Run

@@ -1,7 +1,7 @@
 -- What is told of a server in a case, and the total.
-use Rattle.std.specs.Prelude.{ℕ, ◌+◌, nat_lt, Bool, true, false, if◌then◌else◌, List, [], ◌∷◌, ◌++◌, length}
+use Rattle.std.specs.Prelude.{ℕ, ◌+◌, ◌<◌, nat_lt, take, Bool, true, false, if◌then◌else◌, List, [], ◌∷◌, ◌++◌, length}
 use Rattle.std.specs.Prelude.{filter, codes}
-use Rattle.std.specs.List.{concat}
+use Rattle.std.specs.List.{concat, suffix_len}
 use Rattle.std.specs.Fmt.{decimal}
 use Rattle.ws_suite.specs.Words.{verdict_words}
 use Rattle.ws_suite.specs.declared.verdict.Verdict.TheVariants as verdict
@@ -9,31 +9,52 @@ use Rattle.ws_upgrade.specs.Words.{head_fault_name}
 use Rattle.wst_commands.specs.declared.exit.Exit.{Exit}
 use Rattle.wst_commands.specs.declared.exit.Exit.TheVariants.{Damaged, Done}
 use Rattle.wst_run.specs.declared.outcome.Outcome.{Outcome}
-use Rattle.wst_run.specs.declared.outcome.Outcome.TheVariants.{HeadRefused, Judged}
+use Rattle.wst_run.specs.declared.outcome.Outcome.TheVariants.{HeadRefused, Judged, NoConnection}
 use Rattle.wst_run.specs.declared.outcome.Tally.{Tally}
 
 abbrev pub outcome_words : Outcome → List ℕ
 outcome_words (Judged verdict) = verdict_words verdict
 outcome_words (HeadRefused fault) = codes "FAIL Head " ++ head_fault_name fault
+outcome_words (NoConnection why) = codes "no connection"
 
 abbrev pub is_pass : Outcome → Bool
 is_pass (Judged verdict.Pass) = true
 is_pass (Judged (verdict.Loose why)) = false
 is_pass (Judged (verdict.Fail why)) = false
 is_pass (HeadRefused fault) = false
+is_pass (NoConnection why) = false
 
 abbrev pub is_loose : Outcome → Bool
 is_loose (Judged verdict.Pass) = false
 is_loose (Judged (verdict.Loose why)) = true
 is_loose (Judged (verdict.Fail why)) = false
 is_loose (HeadRefused fault) = false
+is_loose (NoConnection why) = false
 
--- a head that is to be refused counts as a Fail
+-- a head that is to be refused counts as a Fail, and so does a server to which there is no connection
 abbrev pub is_fail : Outcome → Bool
 is_fail (Judged verdict.Pass) = false
 is_fail (Judged (verdict.Loose why)) = false
 is_fail (Judged (verdict.Fail why)) = true
 is_fail (HeadRefused fault) = true
+is_fail (NoConnection why) = true
+
+abbrev pub is_missed : Outcome → Bool
+is_missed (Judged verdict) = false
+is_missed (HeadRefused fault) = false
+is_missed (NoConnection why) = true
+
+-- how many of the last ones, in a row, are without a connection
+abbrev pub missed_at_end : List Outcome → ℕ
+missed_at_end outcomes = suffix_len is_missed outcomes
+
+-- so many of them in a row end a run: three where servers are waited for in time, else one
+abbrev pub max_missed : Bool → ℕ
+max_missed is_limited = if is_limited then 3 else 1
+
+-- before each of them there are fewer in a row without a connection
+abbrev pub MayRunEach : ℕ → List Outcome → Type 0
+MayRunEach most outcomes = (k : ℕ) → k < length outcomes → missed_at_end (take k outcomes) < most
 
 -- how many of these there are of each kind
 abbrev pub tally_of : List Outcome → Tally
@@ -62,3 +83,4 @@ tally_with tally (Judged verdict.Pass) = record tally { pass = tally.pass + 1 }
 tally_with tally (Judged (verdict.Loose why)) = record tally { loose = tally.loose + 1 }
 tally_with tally (Judged (verdict.Fail why)) = record tally { fail = tally.fail + 1 }
 tally_with tally (HeadRefused fault) = record tally { fail = tally.fail + 1 }
+tally_with tally (NoConnection why) = record tally { fail = tally.fail + 1 }

@@ -11,10 +11,13 @@ use Rattle.ws_connection.specs.declared.serving.Served.{Served}
 use Rattle.wst_words.specs.declared.serve.ServeOptions.{ServeOptions}
 use Rattle.wst_commands.specs.Faults.{Ends, TellsFault}
 use Rattle.wst_commands.specs.Limits.{limits_given}
+use Rattle.wst_commands.specs.TimeLimits.{GivesTimeout, HasTimeout}
 use Rattle.wst_commands.specs.declared.exit.Exit.{Exit}
 use Rattle.wst_commands.specs.declared.exit.Exit.TheVariants.{Done, Failed}
 use Rattle.wst_commands.specs.declared.fault.Fault.{Fault}
-use Rattle.wst_commands.specs.declared.fault.Fault.TheVariants.{BadLimits, BadProtocols, NoMemory}
+use Rattle.wst_commands.specs.declared.fault.Fault.TheVariants.{BadLimits, BadProtocols, BadTimeout}
+use Rattle.wst_commands.specs.declared.fault.Fault.TheVariants.{NoMemory, NotListening}
+use Rattle.wst_commands.specs.declared.fault.ListenFault.{ListenFault}
 use Rattle.wst_run.specs.declared.serve.ServePlan.{ServePlan}
 
 -- ---- what is asked for
@@ -24,15 +27,17 @@ use Rattle.wst_run.specs.declared.serve.ServePlan.{ServePlan}
 abbrev pub IsServePlan : ServeOptions → ServePlan → Type 0
 IsServePlan options plan =
     (AreLimits (limits_given options.limit options.frame) × (plan.limits ≡ limits_given options.limit options.frame))
-    × (plan.budget ≡ options.budget) × (plan.address ≡ options.address) × (plan.count ≡ options.count)
+    × GivesTimeout options.timeout plan.timeout × (plan.budget ≡ options.budget) × (plan.address ≡ options.address)
+    × (plan.count ≡ options.count)
     × (AreOffers (protocols_given options.protocols) × (plan.protocols ≡ protocols_given options.protocols))
 
--- Why there is none, the first of these that applies: the names that are given can't be offered; no endpoint can have
--- the limits. Or memory ran out for the names.
+-- Why there is none, the first of these that applies: the names that are given can't be offered; the seconds are no
+-- limit of time; no endpoint can have the limits. Or memory ran out for the names.
 abbrev pub CanNotServe : ServeOptions → Fault → Type 0
 CanNotServe options BadProtocols = ¬ (AreOffers (protocols_given options.protocols))
-CanNotServe options BadLimits =
-    AreOffers (protocols_given options.protocols) × ¬ (AreLimits (limits_given options.limit options.frame))
+CanNotServe options BadTimeout = AreOffers (protocols_given options.protocols) × ¬ (HasTimeout options.timeout)
+CanNotServe options BadLimits = AreOffers (protocols_given options.protocols) × HasTimeout options.timeout
+    × ¬ (AreLimits (limits_given options.limit options.frame))
 CanNotServe options fault = fault ≡ NoMemory
 
 -- ---- what is told
@@ -102,10 +107,10 @@ ServesClients MayEnd count before ended output =
 
 -- ---- a run
 
--- nothing was written: a failure, or want of memory; that the address can't be listened at is not said
+-- nothing was written: it is told why nothing can be listened at, or that memory ran out; that it is so is not said
 abbrev pub ServesNone : Result Exit Fault → Device → Type 0
-ServesNone ended output =
-    ((ended ≡ Ok Failed) ⊎ (ended ≡ Err NoMemory)) × (output.failed ≡ false) × IsUntouched output
+ServesNone ended output = (((why : ListenFault) × (ended ≡ Err (NotListening why))) ⊎ (ended ≡ Err NoMemory))
+    × (output.failed ≡ false) × IsUntouched output
 
 -- the first line could not be written, or not flushed, and nothing was written after it
 abbrev pub StopsAtListening : ServePlan → Result Exit Fault → Device → Type 0

@@ -1,6 +1,6 @@
 -- A run of `test`: the cases that the words ask for are run over servers in memory, or over the one at an address; or
 -- it is told why nothing is run.
-use Rattle.std.specs.Prelude.{◌≡◌, ◌≢◌, ◌⊎◌, ℕ, ◌<◌, Bool, true, false, List, [], ◌∷◌, ◌++◌, Result, codes}
+use Rattle.std.specs.Prelude.{◌≡◌, ◌≢◌, ◌⊎◌, ℕ, ◌<◌, Bool, true, false, List, [], ◌∷◌, ◌++◌, Option, Result, codes}
 use Rattle.std.specs.Prelude.{length, map, slice_index_or, string_bytes, take}
 use Rattle.std.specs.List.{All, concat}
 use Rattle.std.specs.Borrow.{Bor}
@@ -15,13 +15,15 @@ use Rattle.wst_commands.specs.Devices.{Tells}
 use Rattle.wst_commands.specs.Faults.{Ends, LacksMemory, TellsFault}
 use Rattle.ws_connection.specs.Protocols.{protocols_given}
 use Rattle.wst_run.specs.Servers.{MeetsTarget}
-use Rattle.wst_run.specs.Testing.{CapturesCase, TestsCases}
+use Rattle.wst_run.specs.Testing.{RunsCapture, RunsCases}
+use Rattle.wst_commands.specs.TimeLimits.{GivesTimeout, HasTimeout, is_limited}
+use Rattle.wst_run.specs.declared.meeting.Meeting.{Meeting}
+use Rattle.wst_run.specs.declared.testing.RunRules.{RunRules}
 use Rattle.wst_run.specs.declared.case_server.MemoryServer.TheVariants.{Own, Tung}
 use Rattle.wst_commands.specs.declared.exit.Exit.{Exit}
 use Rattle.wst_commands.specs.declared.exit.Exit.TheVariants.{WrongWords}
 use Rattle.wst_commands.specs.declared.fault.Fault.{Fault}
 use Rattle.wst_commands.specs.declared.fault.Fault.TheVariants.{NoCase, NoMemory}
-use Rattle.ws_connection.specs.declared.probe_end.Probe.{Probe}
 use Rattle.wst_run.specs.declared.test.Target.{Target}
 use Rattle.wst_run.specs.declared.test.Target.TheVariants.{Address, Memory}
 use Rattle.wst_run.specs.declared.test.TestPlan.{TestPlan}
@@ -74,6 +76,9 @@ pub record IsPlan (options : TestOptions) (plan : TestPlan) : Type 0 where
   pub key : IsKeyWord plan.key options.key.now
   pub target : IsTargetOf options.target.now plan.target
   pub capture : plan.capture ≡ options.capture
+  pub progress : plan.progress ≡ options.progress
+  pub timeout : GivesTimeout options.timeout plan.timeout
+  pub budget : plan.budget ≡ options.budget
   pub can_capture : CanCapture options
   pub cases : AreCasesFor options.ids.items plan.cases.items
 
@@ -98,17 +103,22 @@ RefusesNames ids _ = ⊥
 
 -- nothing is wrong with the words, but for the names of the cases
 abbrev pub HasAllButCases : TestOptions → Type 0
-HasAllButCases options = HasOffers options × HasKey options × HasTarget options × CanCapture options
+HasAllButCases options = HasOffers options × HasTimeout options.timeout × HasKey options × HasTarget options
+    × CanCapture options
 
--- The first of these that applies: the names that are given can't be offered; the key is none; the target is none; a
--- capture is not of one case; a name has no case, or a case of the list of cases is missing. Memory may run out at any
--- of them. Which names have a case is said by no definition.
+-- The first of these that applies: the names that are given can't be offered; the seconds are no limit of time; the key
+-- is none; the target is none; a capture is not of one case; a name has no case, or a case of the list of cases is
+-- missing. Memory may run out at any of them. Which names have a case is said by no definition.
 abbrev pub RefusesTest : TestOptions → TestRefusal → Type 0
 RefusesTest options refusal.BadProtocols = ¬ (HasOffers options)
-RefusesTest options refusal.BadKey = HasOffers options × ((key : List ℕ) → ¬ (IsKeyWord key options.key.now))
+RefusesTest options refusal.BadTimeout = HasOffers options × ¬ (HasTimeout options.timeout)
+RefusesTest options refusal.BadKey = HasOffers options × HasTimeout options.timeout
+    × ((key : List ℕ) → ¬ (IsKeyWord key options.key.now))
 RefusesTest options refusal.BadAddress =
-    HasOffers options × HasKey options × RefusesTarget options.target.now refusal.BadAddress
-RefusesTest options refusal.NotOneCase = HasOffers options × HasKey options × HasTarget options × ¬ (CanCapture options)
+    HasOffers options × HasTimeout options.timeout × HasKey options
+    × RefusesTarget options.target.now refusal.BadAddress
+RefusesTest options refusal.NotOneCase =
+    HasOffers options × HasTimeout options.timeout × HasKey options × HasTarget options × ¬ (CanCapture options)
 RefusesTest options (refusal.NoSuchCase id) =
     HasAllButCases options × RefusesNames options.ids.items (refusal.NoSuchCase id)
 RefusesTest options (refusal.Fault fault) =
@@ -123,6 +133,7 @@ no_case_line id = concat (codes "no such case: " ∷ id ∷ codes "\n" ∷ [])
 -- what is told of a refusal, and the exit
 abbrev pub TellsRefusal : TestRefusal → Exit → Device → Type 0
 TellsRefusal refusal.BadProtocols exit faults = (exit ≡ WrongWords) × Tells (codes "bad protocol list\n") faults
+TellsRefusal refusal.BadTimeout exit faults = (exit ≡ WrongWords) × Tells (codes "bad timeout\n") faults
 TellsRefusal refusal.BadKey exit faults = (exit ≡ WrongWords) × Tells (codes "bad key\n") faults
 TellsRefusal refusal.BadAddress exit faults = (exit ≡ WrongWords) × Tells (codes "bad address\n") faults
 TellsRefusal refusal.NotOneCase exit faults = (exit ≡ WrongWords) × Tells (codes "--capture takes one case\n") faults
@@ -132,24 +143,28 @@ TellsRefusal (refusal.Fault fault) exit faults = TellsFault fault exit faults
 
 -- ---- a run
 
--- the capture of the one case is written, or the outcomes of the cases, over servers that meet cases so
-abbrev pub CarriesOut : (Case → Probe → Type 0) → TestPlan → Result Exit Fault → Device → Type 0
-CarriesOut Meets plan ended output =
-    ((case : Case) × (plan.capture ≡ true) × (plan.cases.items ≡ case ∷ [])
-    × CapturesCase plan.key Meets case ended output)
-    ⊎ ((plan.capture ≡ false) × TestsCases Meets plan.cases.items ended output)
+-- how its cases are run
+abbrev pub rules_of : TestPlan → RunRules
+rules_of plan = record { key = plan.key; progress = plan.progress; is_limited = is_limited plan.timeout }
 
--- the plan is carried out over servers that meet cases so, and how that ended is told
-abbrev pub RunsPlan : (Case → Probe → Type 0) → TestPlan → Exit → Device → Device → Type 0
-RunsPlan Meets plan exit output faults =
-    (ended : Result Exit Fault) × CarriesOut Meets plan ended output × Ends ended exit faults
+-- the capture of the one case is written, or the outcomes of the cases, over servers that meet cases so
+abbrev pub CarriesOut : (Case → Meeting → Type 0) → TestPlan → Result Exit Fault → Device → Device → Type 0
+CarriesOut Meets plan ended output faults =
+    ((case : Case) × (plan.capture ≡ true) × (plan.cases.items ≡ case ∷ [])
+    × RunsCapture Meets (rules_of plan) case ended output faults)
+    ⊎ ((plan.capture ≡ false) × RunsCases Meets (rules_of plan) plan.cases.items ended output faults)
+
+-- the plan is carried out over servers that meet cases so, and how that ended is told behind what was told before
+abbrev pub RunsPlan : (Case → Meeting → Type 0) → TestPlan → Exit → Device → Device → Type 0
+RunsPlan Meets plan exit output faults = (ended : Result Exit Fault) × (held : Option (List ℕ))
+    × CarriesOut Meets plan ended output (record faults { new = held }) × Ends ended exit (record faults { old = held })
 
 -- A run of `test`: what the words ask for is run, over the server that they name, and how that ended is told; or
 -- nothing is run, and it is told why.
 abbrev pub RunsTest : TestOptions → Exit → Device → Device → Type 0
 RunsTest options exit output faults =
     ((plan : TestPlan) × IsPlan options plan
-    × RunsPlan (MeetsTarget plan.target plan.protocols plan.key) plan exit output faults)
+    × RunsPlan (MeetsTarget plan.target plan.protocols plan.budget plan.key) plan exit output faults)
     ⊎ ((reason : TestRefusal) × RefusesTest options reason × IsUntouched output × TellsRefusal reason exit faults)
 
 -- ---- what a plan owes its run: a reader may skip what follows

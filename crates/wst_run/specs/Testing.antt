@@ -1,5 +1,6 @@
--- Cases run over new servers: what is written of them, a line for each as soon as it is judged, and the total.
-use Rattle.std.specs.Prelude.{◌≡◌, ◌⊎◌, ℕ, ◌+◌, true, false, List, [], ◌∷◌, ◌++◌}
+-- Cases run over new servers: what is written of them, a line for each as soon as it is judged, and the total; and what
+-- is told on the fault output.
+use Rattle.std.specs.Prelude.{◌≡◌, ◌⊎◌, ℕ, ◌+◌, ◌<◌, true, false, List, [], ◌∷◌, ◌++◌}
 use Rattle.std.specs.Prelude.{map, flat_map, take, Result, MatchResult, Some, codes, string_bytes}
 use Rattle.std.specs.List.{AllByRecursion, concat}
 use Rattle.ws_wire.specs.declared.role.Role.TheVariants.{Server}
@@ -11,34 +12,40 @@ use Rattle.ws_scripts.specs.declared.script.Case.{Case}
 use Rattle.ws_suite.specs.declared.verdict.Verdict.{Verdict}
 use Rattle.wst_commands.specs.Devices.{Delivers}
 use Rattle.wst_commands.specs.Judge.{exit_of}
-use Rattle.wst_run.specs.Outcomes.{exit_of_tests, outcome_words, tally_of, total_line}
+use Rattle.wst_run.specs.Notes.{TellsEach, miss_notes, notes_of, progress_notes}
+use Rattle.wst_run.specs.Outcomes.{MayRunEach, exit_of_tests, max_missed, missed_at_end, outcome_words, tally_of}
+use Rattle.wst_run.specs.Outcomes.{total_line}
 use Rattle.wst_commands.specs.declared.exit.Exit.{Exit}
 use Rattle.wst_commands.specs.declared.exit.Exit.TheVariants.{Damaged, Failed}
 use Rattle.wst_commands.specs.declared.fault.Fault.{Fault}
 use Rattle.wst_commands.specs.declared.fault.Fault.TheVariants.{NoMemory}
+use Rattle.wst_run.specs.declared.meeting.Meeting.{Meeting}
+use Rattle.wst_run.specs.declared.meeting.Meeting.TheVariants as meeting
 use Rattle.wst_run.specs.declared.outcome.Outcome.{Outcome}
 use Rattle.wst_run.specs.declared.outcome.Outcome.TheVariants as outcome
-use Rattle.ws_connection.specs.declared.probe_end.Probe.{Probe}
-use Rattle.ws_connection.specs.declared.probe_end.Probe.TheVariants as probe
+use Rattle.wst_run.specs.declared.testing.RunRules.{RunRules}
 
 -- ---- one case
 
--- what is told after such a connection: the verdict on its transcript, or that the head of the answer is to be refused
-abbrev pub IsOutcomeOf : Probe → Outcome → Type 0
-IsOutcomeOf (probe.Ran transcript) (outcome.Judged verdict) = IsVerdictOf Server transcript verdict
-IsOutcomeOf (probe.Refused fault) (outcome.HeadRefused told) = told ≡ fault
+-- what is told of such a meeting: the verdict on its transcript, that the head of the answer is to be refused, or that
+-- there is no connection
+abbrev pub IsOutcomeOf : Meeting → Outcome → Type 0
+IsOutcomeOf (meeting.Ran transcript) (outcome.Judged verdict) = IsVerdictOf Server transcript verdict
+IsOutcomeOf (meeting.Refused fault) (outcome.HeadRefused told) = told ≡ fault
+IsOutcomeOf (meeting.NoConnection why) (outcome.NoConnection told) = told ≡ why
 IsOutcomeOf _ _ = ⊥
 
 -- the outcome of a case over one of the servers that meet cases so
-pub record IsTested (Meets : Case → Probe → Type 0) (case : Case) (outcome : Outcome) : Type 0 where
-  pub probe : Probe
-  pub met : Meets case probe
-  pub told : IsOutcomeOf probe outcome
+pub record IsTested (Meets : Case → Meeting → Type 0) (case : Case) (outcome : Outcome) : Type 0 where
+  pub meeting : Meeting
+  pub met : Meets case meeting
+  pub told : IsOutcomeOf meeting outcome
 
 -- ---- cases
 
 -- these are the cases in their order, each with what is told of a server of its own
-pub record AreTested (Meets : Case → Probe → Type 0) (cases : List Case) (tests : List (Case × Outcome)) : Type 0 where
+pub record AreTested (Meets : Case → Meeting → Type 0) (cases : List Case)
+    (tests : List (Case × Outcome)) : Type 0 where
   pub of_cases : map (λ test. test.0) tests ≡ cases
   pub tested : AllByRecursion (λ test. IsTested Meets test.0 test.1) tests
 
@@ -52,54 +59,75 @@ test_line test = concat (string_bytes test.0.id ∷ codes " " ∷ outcome_words 
 abbrev pub test_lines : List (Case × Outcome) → List ℕ
 test_lines tests = flat_map test_line tests
 
--- the line of a case to whose server there is no connection
-abbrev pub no_connection_line : Case → List ℕ
-no_connection_line case = concat (string_bytes case.id ∷ codes " no connection\n" ∷ [])
-
 -- ---- a run
 
--- all cases were tested, and their lines and the total were written; or a write failed at last
-pub record TellsAll (Meets : Case → Probe → Type 0) (cases : List Case) (exit : Exit) (output : Device) : Type 0 where
+-- All cases were tested, each behind fewer in a row without a connection than end a run, and their lines and the total
+-- were written; or a write failed at last.
+pub record TellsAll (Meets : Case → Meeting → Type 0) (rules : RunRules) (cases : List Case) (notes : List (List ℕ))
+    (exit : Exit) (output : Device) : Type 0 where
   pub tests : List (Case × Outcome)
   pub are_tested : AreTested Meets cases tests
+  pub may_run : MayRunEach (max_missed rules.is_limited) (outcomes_in tests)
+  pub few : missed_at_end (outcomes_in tests) < max_missed rules.is_limited
+  pub noted : notes ≡ notes_of rules.progress tests
   pub told : Delivers (exit_of_tests (tally_of (outcomes_in tests)))
       (test_lines tests ++ total_line (tally_of (outcomes_in tests))) exit output
 
--- the first n cases were tested, and a line of theirs could not be written: a beginning of their lines was
-pub record StopsAtLine (Meets : Case → Probe → Type 0) (cases : List Case) (exit : Exit) (output : Device)
-    : Type 0 where
+-- the first n cases were tested so, and a line of theirs could not be written: a beginning of their lines was
+pub record StopsAtLine (Meets : Case → Meeting → Type 0) (rules : RunRules) (cases : List Case) (notes : List (List ℕ))
+    (exit : Exit) (output : Device) : Type 0 where
   pub n : ℕ
   pub tests : List (Case × Outcome)
   pub are_tested : AreTested Meets (take n cases) tests
+  pub may_run : MayRunEach (max_missed rules.is_limited) (outcomes_in tests)
+  pub noted : notes ≡ notes_of rules.progress tests
   pub failed : (exit ≡ Failed) × (output.failed ≡ true)
   pub begun : HasBegun (test_lines tests) output
 
--- The first n cases were tested, and in the next one there is no connection: their lines and its own were written, and
--- no total; or a write failed at last.
-pub record StopsAtConnection (Meets : Case → Probe → Type 0) (cases : List Case) (exit : Exit) (output : Device)
-    : Type 0 where
+-- The first n cases were tested so, and with the last of them as many in a row are without a connection as end a run:
+-- their lines were written, and no total.
+pub record StopsAtConnection (Meets : Case → Meeting → Type 0) (rules : RunRules) (cases : List Case)
+    (notes : List (List ℕ)) (exit : Exit) (output : Device) : Type 0 where
   pub n : ℕ
   pub tests : List (Case × Outcome)
   pub are_tested : AreTested Meets (take n cases) tests
-  pub case : Case
-  pub is_next : take (n + 1) cases ≡ take n cases ++ case ∷ []
-  pub met : Meets case probe.NoConnection
-  pub told : Delivers Failed (test_lines tests ++ no_connection_line case) exit output
+  pub may_run : MayRunEach (max_missed rules.is_limited) (outcomes_in tests)
+  pub missed : missed_at_end (outcomes_in tests) ≡ max_missed rules.is_limited
+  pub noted : notes ≡ notes_of rules.progress tests
+  pub ended : (exit ≡ Failed) × (output.failed ≡ false)
+  pub written : HasWritten (test_lines tests) output
 
--- the first n cases were tested and their lines written, and then memory ran out
-pub record LacksMemoryAfter (Meets : Case → Probe → Type 0) (cases : List Case) (output : Device) : Type 0 where
+-- the name of the case behind the first n was told, or not yet
+abbrev pub IsNextNote : RunRules → List Case → ℕ → List (List ℕ) → Type 0
+IsNextNote rules cases n next = (next ≡ []) ⊎ ((case : Case) × (take (n + 1) cases ≡ take n cases ++ case ∷ [])
+    × (next ≡ progress_notes rules.progress case))
+
+-- the first n cases were tested so and their lines written, and then memory ran out
+pub record LacksMemoryAfter (Meets : Case → Meeting → Type 0) (rules : RunRules) (cases : List Case)
+    (notes : List (List ℕ)) (output : Device) : Type 0 where
   pub n : ℕ
   pub tests : List (Case × Outcome)
   pub are_tested : AreTested Meets (take n cases) tests
+  pub may_run : MayRunEach (max_missed rules.is_limited) (outcomes_in tests)
+  pub few : missed_at_end (outcomes_in tests) < max_missed rules.is_limited
+  pub next : List (List ℕ)
+  pub is_next : IsNextNote rules cases n next
+  pub noted : notes ≡ notes_of rules.progress tests ++ next
   pub works : output.failed ≡ false
   pub written : HasWritten (test_lines tests) output
 
--- how a run of these cases ended, over servers that meet cases so
-abbrev pub TestsCases : (Case → Probe → Type 0) → List Case → Result Exit Fault → Device → Type 0
-TestsCases Meets cases ended output = MatchResult ended
-    (λ exit. TellsAll Meets cases exit output ⊎ StopsAtLine Meets cases exit output
-    ⊎ StopsAtConnection Meets cases exit output)
-    (λ fault. (fault ≡ NoMemory) × LacksMemoryAfter Meets cases output)
+-- how a run of these cases ended, over servers that meet cases so, and what was to be told beside it
+abbrev pub TestsCases : (Case → Meeting → Type 0) → RunRules → List Case → List (List ℕ) → Result Exit Fault → Device
+    → Type 0
+TestsCases Meets rules cases notes ended output = MatchResult ended
+    (λ exit. TellsAll Meets rules cases notes exit output ⊎ StopsAtLine Meets rules cases notes exit output
+    ⊎ StopsAtConnection Meets rules cases notes exit output)
+    (λ fault. (fault ≡ NoMemory) × LacksMemoryAfter Meets rules cases notes output)
+
+-- it was told
+abbrev pub RunsCases : (Case → Meeting → Type 0) → RunRules → List Case → Result Exit Fault → Device → Device → Type 0
+RunsCases Meets rules cases ended output faults = (notes : List (List ℕ))
+    × TestsCases Meets rules cases notes ended output × TellsEach notes faults
 
 -- ---- a capture
 
@@ -110,15 +138,30 @@ WritesCapture capture exit output = (verdict : Verdict) × IsVerdictOf Server ca
 
 -- the capture was written, with the key under which frames were masked; or in its place the line of a case that has
 -- none
-abbrev pub TellsProbe : List ℕ → Case → Probe → Exit → Device → Type 0
-TellsProbe key case (probe.Ran transcript) exit output =
+abbrev pub TellsMeeting : List ℕ → Case → Meeting → Exit → Device → Type 0
+TellsMeeting key case (meeting.Ran transcript) exit output =
     WritesCapture (record { key = Some key; transcript = transcript }) exit output
-TellsProbe key case (probe.Refused fault) exit output =
+TellsMeeting key case (meeting.Refused fault) exit output =
     Delivers Damaged (test_line (case, outcome.HeadRefused fault)) exit output
-TellsProbe key case probe.NoConnection exit output = Delivers Failed (no_connection_line case) exit output
+TellsMeeting key case (meeting.NoConnection why) exit output =
+    Delivers Failed (test_line (case, outcome.NoConnection why)) exit output
+
+-- what is to be told beside it
+abbrev pub meeting_notes : Meeting → List (List ℕ)
+meeting_notes (meeting.Ran transcript) = []
+meeting_notes (meeting.Refused fault) = []
+meeting_notes (meeting.NoConnection why) = miss_notes (outcome.NoConnection why)
 
 -- what came of the case over one of these servers was written; or memory ran out, and nothing was written
-abbrev pub CapturesCase : List ℕ → (Case → Probe → Type 0) → Case → Result Exit Fault → Device → Type 0
-CapturesCase key Meets case ended output = MatchResult ended
-    (λ exit. (probe : Probe) × Meets case probe × TellsProbe key case probe exit output)
-    (λ fault. (fault ≡ NoMemory) × IsUntouched output)
+abbrev pub CapturesCase : (Case → Meeting → Type 0) → RunRules → Case → List (List ℕ) → Result Exit Fault → Device
+    → Type 0
+CapturesCase Meets rules case notes ended output = MatchResult ended
+    (λ exit. (meeting : Meeting) × Meets case meeting × TellsMeeting rules.key case meeting exit output
+    × (notes ≡ progress_notes rules.progress case ++ meeting_notes meeting))
+    (λ fault. (fault ≡ NoMemory) × IsUntouched output
+    × ((notes ≡ []) ⊎ (notes ≡ progress_notes rules.progress case)))
+
+-- it was told
+abbrev pub RunsCapture : (Case → Meeting → Type 0) → RunRules → Case → Result Exit Fault → Device → Device → Type 0
+RunsCapture Meets rules case ended output faults = (notes : List (List ℕ))
+    × CapturesCase Meets rules case notes ended output × TellsEach notes faults

@@ -4,38 +4,55 @@ ghost use Rattle.std.specs.Prelude.{◌≡◌, IfOk, map};
 ghost use Rattle.ws_scripts.specs.Scripts.{CanBeRun};
 ghost use Rattle.ws_upgrade.specs.Protocols.{AreOffers};
 ghost use Rattle.ws_upgrade.specs.Texts.{IsHost};
-ghost use Rattle.wst_run.specs.Servers.{MeetsAtAddress};
+ghost use Rattle.wst_run.specs.Meetings.{probe_of};
+ghost use Rattle.wst_run.specs.Servers.{IsProbedSo, MeetsAtAddress};
 
 use crate::case_server::CaseServer;
-use crate::stream::{Side, shared};
+use crate::connecting::{connect, connect_fault};
+use crate::meeting::{ConnectFault, Meeting};
+use crate::stream::{Noted, Side, shared};
 use std::alloc::Global;
-use std::io::{Read, Write};
+use std::cell::Cell;
+use std::io::{ErrorKind, Read, Write};
 use std::marker::Model;
-use std::net::{Net, OpenStream, TcpStream};
+use std::net::{Net, OpenStream};
 use ws_base::NoMemory;
 use ws_connection::{Asked, Connection, Probe, probe};
 use ws_suite::Case;
+use wst_commands::TimeLimit;
 
-/// At most so many bytes are read in one case behind the head.
-const BUDGET: u64 = 67_108_864;
+/// How much is read of a server at an address in one case, and how long it is waited for.
+#[derive(Clone, Copy)]
+pub struct Bounds {
+    /// At most so many bytes are read behind the head of its answer.
+    pub budget: u64,
+    /// A connection, and each byte, is waited for so long.
+    pub timeout: TimeLimit,
+}
 
 /// A server at an address, which can be the host of a request. These subprotocols are offered to it. Contracts see the
-/// host and the offers.
+/// host, the offers and the budget.
 #[derive(Drop)]
 pub struct AddressServer<'a, N> {
     net: &'a N,
     host: &'a str,
     offers: &'a [&'a [u8]],
+    bounds: Bounds,
 }
 
 impl<'a, N> Model for AddressServer<'a, N> {
     ghost use Rattle.std.specs.Prelude.{List, ℕ, map};
     ghost use Rattle.ws_upgrade.specs.Protocols.{AreOffers};
     ghost use Rattle.ws_upgrade.specs.Texts.{IsHost};
+    ghost use Rattle.wst_run.specs.Servers.{AddressValue};
 
-    ghost Value = { List ℕ × List (List ℕ) };
+    ghost Value = { AddressValue };
 
-    ghost view = { λ server. (server.host.now, map (λ name. name.now) server.offers.now) };
+    ghost view = { λ server. record {
+      host = server.host.now;
+      offers = map (λ name. name.now) server.offers.now;
+      budget = server.bounds.budget;
+    } };
 
     ghost invariant = { λ server.
         IsHost server.host.now × AreOffers (map (λ name. name.now) server.offers.now) };
@@ -43,49 +60,78 @@ impl<'a, N> Model for AddressServer<'a, N> {
 
 impl<'a, N> AddressServer<'a, N> {
     /// The server at this host.
-    pub fn new(net: &'a N, host: &'a str, offers: &'a [&'a [u8]]) -> AddressServer<'a, N>
+    pub fn new(
+        net: &'a N,
+        host: &'a str,
+        offers: &'a [&'a [u8]],
+        bounds: Bounds,
+    ) -> AddressServer<'a, N>
         requires host { IsHost host.now }
         requires offers { AreOffers (map (λ name. name.now) offers.now) }
-        ensures { result ≡ (host.now, map (λ name. name.now) offers.now) }
+        ensures host { result.host ≡ host.now }
+        ensures offers { result.offers ≡ map (λ name. name.now) offers.now }
+        ensures budget { result.budget ≡ bounds.budget }
     {
-        AddressServer { net, host, offers }
-    }
-}
-
-impl<N: Net> CaseServer for AddressServer<'_, N> {
-    ghost meets = { λ server key case probe. MeetsAtAddress server.0 server.1 key case probe };
-
-    fn run(&self, alloc: Global, case: &Case, key: [u8; 4]) -> Result<Probe, NoMemory> {
-        match TcpStream::connect(self.net, self.host) {
-            Ok(stream) => probe_over(alloc, case, self.host, stream, key, self.offers),
-            Err(_) => Ok(Probe::NoConnection),
+        AddressServer {
+            net,
+            host,
+            offers,
+            bounds,
         }
     }
 }
 
-/// Runs a case over a connection.
-fn probe_over<S: Read + Write + OpenStream + Drop>(
+impl<N: Net> CaseServer for AddressServer<'_, N> {
+    ghost meets = { λ server key case meeting. MeetsAtAddress server key case meeting };
+
+    fn run(&self, alloc: Global, case: &Case, key: [u8; 4]) -> Result<Meeting, NoMemory> {
+        match connect(self.net, self.host, self.bounds.timeout) {
+            Ok(stream) => {
+                let asked = Asked {
+                    host: self.host.as_bytes(),
+                    protocols: self.offers,
+                    key,
+                    has_timeouts: self.bounds.timeout.is_limited(),
+                };
+                meet_over(alloc, case, &asked, stream, self.bounds)
+            }
+            Err(why) => Ok(Meeting::NoConnection(why)),
+        }
+    }
+}
+
+/// Runs a case over a connection, and tells why its answer was not whole, if so.
+fn meet_over<S: Read + Write + OpenStream + Drop>(
     alloc: Global,
     case: &Case,
-    host: &str,
+    asked: &Asked<'_>,
     stream: S,
-    key: [u8; 4],
-    offers: &[&[u8]],
-) -> Result<Probe, NoMemory>
+    bounds: Bounds,
+) -> Result<Meeting, NoMemory>
     requires runs { CanBeRun case.now }
-    requires host { IsHost host.now }
-    requires offers { AreOffers (map (λ name. name.now) offers.now) }
-    ensures { IfOk result (λ probe. MeetsAtAddress host.now (map (λ name. name.now) offers.now) key case.now probe) }
+    requires host { IsHost asked.now.host.now }
+    requires offers { AreOffers (map (λ name. name.now) asked.now.protocols.now) }
+    ensures { IfOk result (λ meeting. IsProbedSo asked.now.host.now (map (λ name. name.now) asked.now.protocols.now)
+        bounds.budget asked.now.key case.now (probe_of meeting)) }
 {
-    let stream = shared(stream);
-    let mut connection = Connection::new(Side::of(&stream), Side::of(&stream), BUDGET);
-    let host = host.as_bytes();
-    let asked = Asked {
-        host,
-        protocols: offers,
-        key,
-        has_timeouts: false,
-    };
-    let probe = probe(alloc, case, &asked, &mut connection)?;
-    Ok(probe)
+    let stream = shared(stream, bounds.timeout);
+    let failure = Cell::new(None);
+    let (reader, writer) = (
+        Noted::of(Side::of(&stream), &failure),
+        Noted::of(Side::of(&stream), &failure),
+    );
+    let mut connection = Connection::new(reader, writer, bounds.budget);
+    match probe(alloc, case, asked, &mut connection)? {
+        Probe::Ran(transcript) => Ok(Meeting::Ran(transcript)),
+        Probe::Refused(fault) => Ok(Meeting::Refused(fault)),
+        Probe::NoConnection => Ok(Meeting::NoConnection(fault_of(failure.get()))),
+    }
+}
+
+/// Why an answer was not whole, where a call has failed so first. Where none has, the stream has ended in it.
+fn fault_of(failure: Option<ErrorKind>) -> ConnectFault {
+    match failure {
+        Some(kind) => connect_fault(kind),
+        None => ConnectFault::ClosedBeforeAnswer,
+    }
 }

@@ -1,12 +1,12 @@
-//! Servers that cases are run over: what is known of a connection to one, and those in memory.
+//! Servers that cases are run over: what is known of a meeting with one, and those in memory.
 
 ghost use Rattle.std.specs.Prelude.{IfOk};
 ghost use Rattle.ws_scripts.specs.Scripts.{CanBeRun};
 ghost use Rattle.wst_run.specs.Servers.{IsMemoryRun, IsPeerRun, MeetsInMemory};
 
+use crate::meeting::Meeting;
 use std::alloc::Global;
 use ws_base::NoMemory;
-use ws_connection::Probe;
 use ws_peer::{TungPeer, run_case, run_over_echo};
 use ws_suite::{Case, Transcript};
 
@@ -14,15 +14,15 @@ use ws_suite::{Case, Transcript};
 pub trait CaseServer {
     ghost use Rattle.std.specs.Prelude.{List, ℕ};
     ghost use Rattle.ws_scripts.specs.declared.script.Case.{Case};
-    ghost use Rattle.ws_connection.specs.declared.probe_end.Probe.{Probe};
+    ghost use Rattle.wst_run.specs.declared.meeting.Meeting.{Meeting};
 
-    /// With this masking key, this may come of a connection to a new server in this case.
-    ghost meets: { Self → List ℕ → Case → Probe → Type 0 };
+    /// With this masking key, this may come of this case over a new server.
+    ghost meets: { Self → List ℕ → Case → Meeting → Type 0 };
 
     /// Runs a case over a new server, its frames masked with `key`.
-    fn run(&self, alloc: Global, case: &Case, key: [u8; 4]) -> Result<Probe, NoMemory>
+    fn run(&self, alloc: Global, case: &Case, key: [u8; 4]) -> Result<Meeting, NoMemory>
         requires { CanBeRun case.now }
-        ensures { IfOk result (λ probe. meets self.now key case.now probe) };
+        ensures { IfOk result (λ meeting. meets self.now key case.now meeting) };
 }
 
 /// A server in memory.
@@ -37,9 +37,9 @@ pub enum MemoryServer {
 impl CaseServer for MemoryServer {
     ghost meets = { MeetsInMemory };
 
-    fn run(&self, alloc: Global, case: &Case, key: [u8; 4]) -> Result<Probe, NoMemory> {
+    fn run(&self, alloc: Global, case: &Case, key: [u8; 4]) -> Result<Meeting, NoMemory> {
         let transcript = transcript_of(alloc, *self, case, key)?;
-        Ok(Probe::Ran(transcript))
+        Ok(Meeting::Ran(transcript))
     }
 }
 

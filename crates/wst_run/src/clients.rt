@@ -2,14 +2,17 @@
 
 ghost use Rattle.wst_run.specs.Serve.{IsServedBy};
 
+use crate::lingering::linger;
+use crate::listening::accepted;
 use crate::serve::ServePlan;
-use crate::stream::{Side, linger, shared};
+use crate::stream::{Side, half_closed, shared};
 use std::alloc::Global;
 use std::cell::RefCell;
-use std::io::{ErrorKind, Read, Write};
-use std::net::{OpenListener, OpenStream};
+use std::io::{Read, Write};
+use std::net::{Net, OpenListener, OpenStream};
 use ws_connection::{Served, serve_one};
 use ws_frame::Watched;
+use wst_commands::TimeLimit;
 
 /// Clients of one kind, which come one after the other.
 pub trait Clients {
@@ -18,6 +21,9 @@ pub trait Clients {
 
     /// A client that has come.
     type Client: Drop;
+
+    /// A client that was served, and to which nothing more is sent.
+    type HalfClosed: Drop;
 
     /// The connection of a client that is served as this plan asks may end so.
     ghost ends: { Self → ServePlan → Served → Type 0 };
@@ -29,34 +35,45 @@ pub trait Clients {
     fn serve(&self, alloc: Global, client: &Self::Client, plan: &ServePlan<'_>) -> Served
         ensures { ends self.now plan.now result };
 
-    /// Leaves a client that was served, and of which it was told.
-    fn leave(&self, client: Self::Client);
+    /// Ends the direction to a client that was served, before its end is told: so it waits for no reader of a line.
+    fn half_close(&self, client: Self::Client) -> Self::HalfClosed;
+
+    /// Leaves a client, of whose end it was told.
+    fn leave(&self, client: Self::HalfClosed);
 }
 
-/// The clients of a listener.
+/// The clients of a listener of a network, who are waited for no longer than a limit says.
 #[derive(Drop)]
-pub struct ListenerClients<'a, L> {
+pub struct ListenerClients<'a, N, L> {
+    net: &'a N,
     listener: &'a L,
+    timeout: TimeLimit,
 }
 
-impl<'a, L> ListenerClients<'a, L> {
-    /// Those of this one.
-    pub fn of(listener: &'a L) -> ListenerClients<'a, L> {
-        ListenerClients { listener }
+impl<'a, N, L> ListenerClients<'a, N, L> {
+    /// Those of this listener.
+    pub fn of(net: &'a N, listener: &'a L, timeout: TimeLimit) -> ListenerClients<'a, N, L> {
+        ListenerClients {
+            net,
+            listener,
+            timeout,
+        }
     }
 }
 
-impl<L: OpenListener> Clients for ListenerClients<'_, L>
+impl<N: Net, L: OpenListener> Clients for ListenerClients<'_, N, L>
 where
     L::Stream: Read + Write + OpenStream,
 {
     type Client = RefCell<L::Stream>;
 
+    type HalfClosed = L::Stream;
+
     ghost ends = { λ clients plan served. IsServedBy plan served };
 
     fn next_client(&self) -> Option<RefCell<L::Stream>> {
         match accepted(self.listener) {
-            Some(stream) => Some(shared(stream)),
+            Some(stream) => Some(shared(stream, self.timeout)),
             None => None,
         }
     }
@@ -65,29 +82,13 @@ where
         serve_client(alloc, client, plan)
     }
 
-    fn leave(&self, client: RefCell<L::Stream>) {
-        linger(client.into_inner());
+    fn half_close(&self, client: RefCell<L::Stream>) -> L::Stream {
+        half_closed(client.into_inner())
     }
-}
 
-/// The next connection. `None` where none can be taken. A client that went away while it waited is passed over.
-fn accepted<L: OpenListener>(listener: &L) -> Option<L::Stream> {
-    for _ in 0..u64::MAX {
-        match listener.accept() {
-            Ok((stream, _)) => return Some(stream),
-            Err(error) if went_away(error.kind()) => {}
-            Err(_) => return None,
-        }
+    fn leave(&self, client: L::Stream) {
+        linger(self.net, client);
     }
-    None
-}
-
-/// The failure of an accept is of the client that waited, not of the listener.
-fn went_away(kind: ErrorKind) -> bool {
-    matches!(
-        kind,
-        ErrorKind::ConnectionAborted | ErrorKind::ConnectionReset | ErrorKind::Interrupted
-    )
 }
 
 /// Serves one connection.

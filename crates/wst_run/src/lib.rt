@@ -8,7 +8,11 @@
 mod address_server;
 mod case_server;
 mod clients;
+mod connecting;
 mod given_cases;
+mod lingering;
+mod listening;
+mod meeting;
 mod outcome;
 mod running;
 mod serve;
@@ -19,6 +23,7 @@ mod testing;
 
 pub use case_server::{CaseServer, MemoryServer};
 pub use clients::Clients;
+pub use meeting::{ConnectFault, Meeting};
 pub use running::{run, words_are_no_text};
 pub use serve::{ServePlan, run_serve};
 pub use serving_clients::serve_clients;

@@ -3,6 +3,7 @@
 ghost use Rattle.std.specs.Prelude.{◌≡◌, ◌+◌, ◌<◌, ◌^◌};
 ghost use Rattle.wst_run.specs.Outcomes.{exit_of_tests, no_tally, outcome_words, tally_with};
 
+use crate::meeting::ConnectFault;
 use std::fmt;
 use ws_suite::Verdict;
 use ws_upgrade::HeadFault;
@@ -15,6 +16,8 @@ pub enum Outcome {
     Judged(Verdict),
     /// Its answer to the request for an upgrade is to be refused, which counts as a Fail.
     HeadRefused(HeadFault),
+    /// There is no connection to it, which counts as a Fail where a run goes on.
+    NoConnection(ConnectFault),
 }
 
 impl fmt::Display for Outcome {
@@ -26,6 +29,7 @@ impl fmt::Display for Outcome {
         match self {
             Outcome::Judged(verdict) => write!(f, "{verdict}"),
             Outcome::HeadRefused(fault) => write!(f, "FAIL Head {fault}"),
+            Outcome::NoConnection(_) => write!(f, "no connection"),
         }
     }
 }
@@ -66,7 +70,9 @@ impl Tally {
                 loose: self.loose + 1,
                 ..self
             },
-            Outcome::Judged(Verdict::Fail(_)) | Outcome::HeadRefused(_) => Tally {
+            Outcome::Judged(Verdict::Fail(_))
+            | Outcome::HeadRefused(_)
+            | Outcome::NoConnection(_) => Tally {
                 fail: self.fail + 1,
                 ..self
             },

@@ -6,14 +6,15 @@ ghost use Rattle.ws_frame.specs.Watching.{has_failed};
 ghost use Rattle.wst_run.specs.Serve.{CanNotServe, IsServePlan, RunsServer, ServesAt};
 
 use crate::clients::ListenerClients;
+use crate::listening::listen;
 use crate::serving_clients::{serve_clients, tell_listening};
 use std::alloc::Global;
 use std::io::Write;
-use std::net::{Net, TcpListener};
+use std::net::Net;
 use ws_connection::{Protocols, protocols_of};
 use ws_frame::Watched;
 use ws_session::Limits;
-use wst_commands::{Exit, Fault, end_run, limits_given};
+use wst_commands::{Exit, Fault, TimeLimit, end_run, limits_given, timeout_given};
 use wst_words::ServeOptions;
 
 /// Connections that are to be served over a network.
@@ -27,17 +28,22 @@ pub struct ServePlan<'a> {
     pub limits: Limits,
     /// At most so many bytes are read of each connection behind the head of its request.
     pub budget: u64,
+    /// How long a client is waited for from which no byte comes.
+    pub timeout: TimeLimit,
     /// The subprotocols that are known.
     pub protocols: Protocols<'a>,
 }
 
-/// What is to be served, or the first reason against it: the names that are given can't be offered, or no endpoint can
-/// have the limits.
+/// What is to be served, or the first reason against it: the names that are given can't be offered, the seconds are no
+/// limit of time, or no endpoint can have the limits.
 pub fn plan_serve<'a>(alloc: Global, options: &ServeOptions<'a>) -> Result<ServePlan<'a>, Fault>
     ensures { MatchResult result (IsServePlan options.now) (CanNotServe options.now) }
 {
     let Some(protocols) = protocols_of(alloc, options.protocols)? else {
         return Err(Fault::BadProtocols);
+    };
+    let Some(timeout) = timeout_given(options.timeout) else {
+        return Err(Fault::BadTimeout);
     };
     let Some(limits) = limits_given(options.limit, options.frame) else {
         return Err(Fault::BadLimits);
@@ -47,13 +53,15 @@ pub fn plan_serve<'a>(alloc: Global, options: &ServeOptions<'a>) -> Result<Serve
         count: options.count,
         limits,
         budget: options.budget,
+        timeout,
         protocols,
     })
 }
 
 /// Listens at the address, which is told in a line, and serves so many connections, one after the other, each of which
 /// is told in a line. The exit is that of a failure where the address can't be listened at, no connection can be taken
-/// any more, or a line could not be written or flushed. Want of memory for a line is told to `faults`.
+/// any more, or a line could not be written or flushed. Why nothing can be listened at is told to `faults`, and so is
+/// want of memory for a line.
 pub fn run_serve<N: Net, W: Write, F: Write>(
     alloc: Global,
     plan: &ServePlan<'_>,
@@ -79,12 +87,14 @@ fn serve_at<N: Net, W: Write>(
     requires { has_failed writer.old ≡ false }
     ensures { ServesAt plan.now result (watched W.contents writer.old writer.new) }
 {
-    let Ok(listener) = TcpListener::bind(net, plan.address) else {
-        return Ok(Exit::Failed);
+    let listener = match listen(net, plan.address) {
+        Ok(listener) => listener,
+        Err(why) => return Err(Fault::NotListening(why)),
     };
     let told = tell_listening(alloc, plan.address, writer)?;
     if writer.failed() {
         return Ok(told);
     }
-    serve_clients(alloc, &ListenerClients::of(&listener), plan, writer)
+    let clients = ListenerClients::of(net, &listener, plan.timeout);
+    serve_clients(alloc, &clients, plan, writer)
 }

@@ -17,7 +17,8 @@ use ws_frame::{Watched, WriteFault, write_whole};
 use wst_commands::{Exit, Fault};
 
 /// Serves so many clients, one after the other, and tells of each how its connection ended, before the next one is
-/// taken. A line that can't be written or flushed ends that, and so does it where no client can come any more.
+/// taken. A client whose end is told was half-closed, and is left then: a line that nobody reads keeps none waiting. A
+/// line that can't be written or flushed ends that, and so does it where no client can come any more.
 pub fn serve_clients<C: Clients, W: Write>(
     alloc: Global,
     clients: &C,
@@ -33,11 +34,12 @@ pub fn serve_clients<C: Clients, W: Write>(
             return Ok(Exit::Failed);
         };
         let served = clients.serve(alloc, &client, plan);
+        let client = clients.half_close(client);
         let told = tell_served(alloc, served_before + 1, served, writer)?;
+        clients.leave(client);
         if writer.failed() {
             return Ok(told);
         }
-        clients.leave(client);
     }
     Ok(Exit::Done)
 }

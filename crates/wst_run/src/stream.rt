@@ -1,26 +1,25 @@
-//! A stream of a network, as a reader and a writer, and its end.
+//! A stream of a network, as a reader and a writer.
 
-use std::cell::RefCell;
+use std::cell::{Cell, RefCell};
 use std::io;
 use std::io::{ErrorKind, Read, Write};
 use std::net::{OpenStream, Shutdown};
-use std::time::Duration;
 use ws_connection::EndsDirection;
+use wst_commands::TimeLimit;
 
-/// A peer that still sends when its connection has ended is read so often, so that it sees the last bytes sent to it:
-/// a socket that is closed over bytes that were not read is reset.
-const LINGER_READS: u32 = 16;
-
-/// At most so many bytes a read.
-const LINGER_BYTES: usize = 4096;
-
-/// A read waits at most so many milliseconds.
-const LINGER_MILLISECONDS: u64 = 100;
-
-/// A stream, which is read and written by turns. What is sent goes out at once, where the system allows it.
-pub fn shared<S: OpenStream>(stream: S) -> RefCell<S> {
+/// A stream, which is read and written by turns. What is sent goes out at once, where the system allows it. A read or a
+/// write that waits for longer than the limit answers an error of the kind `WouldBlock`.
+pub fn shared<S: OpenStream>(stream: S, timeout: TimeLimit) -> RefCell<S> {
     let _ = stream.set_nodelay(true);
+    let _ = stream.set_read_timeout(timeout.duration());
+    let _ = stream.set_write_timeout(timeout.duration());
     RefCell::new(stream)
+}
+
+/// A stream whose direction from this side was ended: the other end sees the end of its stream behind what was written.
+pub fn half_closed<S: OpenStream>(stream: S) -> S {
+    let _ = stream.shutdown(Shutdown::Write);
+    stream
 }
 
 /// One side of a stream: its reader, or its writer. No contract of a stream says which bytes pass.
@@ -70,28 +69,54 @@ impl<S: Write + OpenStream> EndsDirection for Side<'_, S> {
     }
 }
 
-/// Ends a connection from this side, and reads what still comes, until its end or enough reads. A read that waits in
-/// vain is one of them.
-pub fn linger<S: Read + OpenStream + Drop>(mut stream: S) {
-    let wait = Duration::from_millis(LINGER_MILLISECONDS);
-    if stream.shutdown(Shutdown::Write).is_err() || stream.set_read_timeout(Some(wait)).is_err() {
-        return;
+/// A reader or a writer that notes of which kind the first error was that a call through it answered, or through another
+/// that notes it in the same place.
+#[derive(Drop)]
+pub struct Noted<'a, T> {
+    inner: T,
+    failure: &'a Cell<Option<ErrorKind>>,
+}
+
+impl<'a, T> Noted<'a, T> {
+    /// Notes it here.
+    pub fn of(inner: T, failure: &'a Cell<Option<ErrorKind>>) -> Noted<'a, T> {
+        Noted { inner, failure }
     }
-    let mut passed = [0; LINGER_BYTES];
-    for _ in 0..LINGER_READS {
-        match stream.read(&mut passed) {
-            Ok(0) => return,
-            Ok(_) => {}
-            Err(error) if waited_in_vain(error.kind()) => {}
-            Err(_) => return,
+
+    /// Notes the error that a call answered.
+    fn note<A>(&self, answer: &io::Result<A>) {
+        if let Err(error) = answer {
+            if self.failure.get().is_none() {
+                self.failure.set(Some(error.kind()));
+            }
         }
     }
 }
 
-/// A read has brought nothing, and the next one may.
-fn waited_in_vain(kind: ErrorKind) -> bool {
-    matches!(
-        kind,
-        ErrorKind::WouldBlock | ErrorKind::TimedOut | ErrorKind::Interrupted
-    )
+impl<R: Read> Read for Noted<'_, R> {
+    fn read(&mut self, buf: &mut [u8]) -> io::Result<usize> {
+        let answer = self.inner.read(buf);
+        self.note(&answer);
+        answer
+    }
+}
+
+impl<W: Write> Write for Noted<'_, W> {
+    fn write(&mut self, buf: &[u8]) -> io::Result<usize> {
+        let answer = self.inner.write(buf);
+        self.note(&answer);
+        answer
+    }
+
+    fn flush(&mut self) -> io::Result<()> {
+        let answer = self.inner.flush();
+        self.note(&answer);
+        answer
+    }
+}
+
+impl<W: EndsDirection> EndsDirection for Noted<'_, W> {
+    fn end_direction(&mut self) -> io::Result<()> {
+        self.inner.end_direction()
+    }
 }

@@ -3,17 +3,17 @@
 ghost use Rattle.std.specs.Prelude.{◌≡◌, ◌≢◌, ◌⊎◌, IfOk, MatchResult, codes, false};
 ghost use Rattle.ws_frame.specs.Devices.{watched};
 ghost use Rattle.ws_frame.specs.Watching.{has_failed};
-ghost use Rattle.wst_commands.specs.Devices.{Tells};
+ghost use Rattle.wst_commands.specs.Devices.{StaysFailed, Tells};
 ghost use Rattle.wst_commands.specs.Faults.{LacksMemory};
 ghost use Rattle.wst_run.specs.Servers.{MeetsTarget};
 ghost use Rattle.wst_run.specs.Test.{CanBeTested, CarriesOut, HasHost, IsPlan, IsTargetOf};
-ghost use Rattle.wst_run.specs.Test.{RefusesTarget, RefusesTest, RunsPlan, TellsRefusal, no_case_line};
+ghost use Rattle.wst_run.specs.Test.{RefusesTarget, RefusesTest, RunsPlan, TellsRefusal, no_case_line, rules_of};
 ghost use Rattle.wst_commands.specs.declared.exit.Exit.TheVariants.{WrongWords};
 
-use crate::address_server::AddressServer;
+use crate::address_server::{AddressServer, Bounds};
 use crate::case_server::{CaseServer, MemoryServer};
 use crate::given_cases::cases_of;
-use crate::testing::{capture_case, test_cases};
+use crate::testing::{RunRules, capture_case, test_cases};
 use std::alloc::Global;
 use std::io::Write;
 use std::net::Net;
@@ -23,7 +23,7 @@ use ws_formats::read_key;
 use ws_frame::Watched;
 use ws_suite::Case;
 use ws_upgrade::is_host;
-use wst_commands::{Exit, Fault, end_run, tell, tell_fault};
+use wst_commands::{Exit, Fault, TimeLimit, end_run, tell, tell_fault, timeout_given};
 use wst_words::TestOptions;
 
 /// The server that cases are run over.
@@ -43,6 +43,12 @@ pub struct TestPlan<'a> {
     pub target: Target<'a>,
     /// The capture of the one case is written in place of the verdicts.
     pub capture: bool,
+    /// The name of each case is told before it runs.
+    pub progress: bool,
+    /// How long a server at an address is waited for.
+    pub timeout: TimeLimit,
+    /// At most so many bytes are read of such a server in one case behind the head.
+    pub budget: u64,
     pub cases: Vec<Case>,
     /// The subprotocols that are offered to a server at an address.
     pub protocols: Protocols<'a>,
@@ -53,6 +59,8 @@ pub struct TestPlan<'a> {
 pub enum TestRefusal<'a> {
     /// The names that are given can't be offered as subprotocols.
     BadProtocols,
+    /// The seconds are no limit of time.
+    BadTimeout,
     /// The key is not eight lower-case hexadecimal digits.
     BadKey,
     /// The target is no server in memory, and can't be the host of a request.
@@ -97,13 +105,17 @@ pub fn run_over_target<N: Net, W: Write, F: Write>(
     requires works { has_failed writer.old ≡ false }
     requires plan { CanBeTested plan.now }
     requires host { HasHost plan.now.target }
-    ensures { RunsPlan (MeetsTarget plan.now.target plan.now.protocols plan.now.key) plan.now result
+    ensures { RunsPlan (MeetsTarget plan.now.target plan.now.protocols plan.now.budget plan.now.key) plan.now result
         (watched W.contents writer.old writer.new) (watched F.contents faults.old faults.new) }
 {
     match plan.target {
         Target::Memory(server) => run_plan(alloc, &server, plan, writer, faults),
         Target::Address(host) => {
-            let server = AddressServer::new(net, host, plan.protocols.as_slice());
+            let bounds = Bounds {
+                budget: plan.budget,
+                timeout: plan.timeout,
+            };
+            let server = AddressServer::new(net, host, plan.protocols.as_slice(), bounds);
             run_plan(alloc, &server, plan, writer, faults)
         }
     }
@@ -122,27 +134,41 @@ pub fn run_plan<S: CaseServer, W: Write, F: Write>(
     ensures { RunsPlan (S.meets server.now plan.now.key) plan.now result
         (watched W.contents writer.old writer.new) (watched F.contents faults.old faults.new) }
 {
-    let ended = carry_out(alloc, server, plan, writer);
+    let ended = carry_out(alloc, server, plan, writer, faults);
     end_run(alloc, ended, faults)
 }
 
 /// Runs the cases of a plan.
-fn carry_out<S: CaseServer, W: Write>(
+fn carry_out<S: CaseServer, W: Write, F: Write>(
     alloc: Global,
     server: &S,
     plan: &TestPlan<'_>,
     writer: &mut Watched<W>,
+    faults: &mut Watched<F>,
 ) -> Result<Exit, Fault>
     requires works { has_failed writer.old ≡ false }
     requires plan { CanBeTested plan.now }
-    ensures { CarriesOut (S.meets server.now plan.now.key) plan.now result
-        (watched W.contents writer.old writer.new) }
+    ensures runs { CarriesOut (S.meets server.now plan.now.key) plan.now result
+        (watched W.contents writer.old writer.new) (watched F.contents faults.old faults.new) }
+    ensures still { StaysFailed faults.old faults.new }
 {
+    let rules = rules_of(plan);
     let cases = plan.cases.as_slice();
     if plan.capture {
-        capture_case(alloc, server, plan.key, &cases[0], writer)
+        capture_case(alloc, server, rules, &cases[0], writer, faults)
     } else {
-        test_cases(alloc, server, plan.key, cases, writer)
+        test_cases(alloc, server, rules, cases, writer, faults)
+    }
+}
+
+/// How the cases of a plan are run.
+fn rules_of(plan: &TestPlan<'_>) -> RunRules
+    ensures { result ≡ rules_of plan.now }
+{
+    RunRules {
+        key: plan.key,
+        progress: plan.progress,
+        is_limited: plan.timeout.is_limited(),
     }
 }
 
@@ -159,6 +185,9 @@ pub fn plan_test<'a>(
     let Some(protocols) = protocols_of(alloc, options.protocols)? else {
         return Err(TestRefusal::BadProtocols);
     };
+    let Some(timeout) = timeout_given(options.timeout) else {
+        return Err(TestRefusal::BadTimeout);
+    };
     let Some(key) = read_key(options.key.as_bytes()) else {
         return Err(TestRefusal::BadKey);
     };
@@ -171,6 +200,9 @@ pub fn plan_test<'a>(
         key,
         target,
         capture: options.capture,
+        progress: options.progress,
+        timeout,
+        budget: options.budget,
         cases,
         protocols,
     })
@@ -210,6 +242,7 @@ pub fn tell_refusal<F: Write>(
 {
     match refusal {
         TestRefusal::BadProtocols => tell_wrong(b"bad protocol list\n", faults),
+        TestRefusal::BadTimeout => tell_wrong(b"bad timeout\n", faults),
         TestRefusal::BadKey => tell_wrong(b"bad key\n", faults),
         TestRefusal::BadAddress => tell_wrong(b"bad address\n", faults),
         TestRefusal::NotOneCase => tell_wrong(b"--capture takes one case\n", faults),

@@ -1,74 +1,140 @@
 //! Cases run over new servers: each is judged, and its line is written, before the next one runs.
 
-ghost use Rattle.std.specs.Prelude.{◌≡◌, IfOk, MatchOption, MatchResult, false};
+ghost use Rattle.std.specs.Prelude.{◌≡◌, ◌+◌, ◌<◌, ◌^◌, List, ℕ, IfOk, MatchResult, OnErr, OnOk, false, if◌then◌else◌};
 ghost use Rattle.std.specs.List.{All};
 ghost use Rattle.ws_frame.specs.Devices.{watched};
 ghost use Rattle.ws_frame.specs.Watching.{has_failed};
 ghost use Rattle.ws_scripts.specs.Scripts.{CanBeRun};
-ghost use Rattle.wst_commands.specs.Devices.{Delivers};
-ghost use Rattle.wst_run.specs.Outcomes.{exit_of_tests, total_line};
-ghost use Rattle.wst_run.specs.Testing.{CapturesCase, IsTested, TestsCases, WritesCapture};
-ghost use Rattle.wst_run.specs.Testing.{no_connection_line, test_line};
-ghost use Rattle.wst_commands.specs.declared.exit.Exit.TheVariants.{Done, Failed};
+ghost use Rattle.wst_commands.specs.Devices.{Delivers, StaysFailed};
+ghost use Rattle.wst_run.specs.Notes.{TellsEach, miss_notes, progress_notes};
+ghost use Rattle.wst_run.specs.Outcomes.{exit_of_tests, is_missed, max_missed, total_line};
+ghost use Rattle.wst_run.specs.Testing.{IsTested, RunsCapture, RunsCases, WritesCapture, test_line};
 ghost use Rattle.wst_commands.specs.declared.fault.Fault.TheVariants as variant;
-ghost use Rattle.ws_connection.specs.declared.probe_end.Probe.TheVariants.{NoConnection};
 
 use crate::case_server::CaseServer;
+use crate::meeting::Meeting;
 use crate::outcome::{Outcome, Tally};
 use std::alloc::Global;
 use std::io::Write;
 use ws_base::NoMemory;
-use ws_connection::Probe;
 use ws_frame::Watched;
 use ws_suite::{Capture, Case, judge, write_capture2};
-use wst_commands::{Exit, Fault, deliver, exit_of};
+use wst_commands::{Exit, Fault, deliver, exit_of, tell};
 
-/// Runs the cases in their order, each over a new server, its frames masked with `key`, and writes a line for each as
-/// soon as it is judged, and the total last. A line that can't be written ends the run, and so does a server to which
-/// there is no connection, after its line.
-pub fn test_cases<S: CaseServer, W: Write>(
+/// How cases are run.
+#[derive(Clone, Copy)]
+pub struct RunRules {
+    /// The masking key of the frames.
+    pub key: [u8; 4],
+    /// The name of each case is told before it runs.
+    pub progress: bool,
+    /// Servers are waited for in time: a case without a connection doesn't end the run then, but the third in a row.
+    pub is_limited: bool,
+}
+
+/// Runs the cases in their order, each over a new server, and writes a line for each as soon as it is judged, and the
+/// total last. A line that can't be written ends the run, and so does, after its line, a server to which there is no
+/// connection, or the third in a row. Why there is none is told to `faults`, and the name of a case where that is asked
+/// for.
+pub fn test_cases<S: CaseServer, W: Write, F: Write>(
     alloc: Global,
     server: &S,
-    key: [u8; 4],
+    rules: RunRules,
     cases: &[Case],
     writer: &mut Watched<W>,
+    faults: &mut Watched<F>,
 ) -> Result<Exit, Fault>
     requires works { has_failed writer.old ≡ false }
     requires can_be_run { All CanBeRun cases.now }
-    ensures { TestsCases (S.meets server.now key) cases.now result (watched W.contents writer.old writer.new) }
+    ensures runs { RunsCases (S.meets server.now rules.key) rules cases.now result
+        (watched W.contents writer.old writer.new) (watched F.contents faults.old faults.new) }
+    ensures still { StaysFailed faults.old faults.new }
 {
     let mut tally = Tally::new();
+    let mut missed = 0;
     for case in cases {
-        let Some(outcome) = outcome_of(alloc, server, case, key)? else {
-            return tell_no_connection(alloc, case, writer);
-        };
+        tell_progress(alloc, rules.progress, case, faults)?;
+        let outcome = outcome_of(alloc, server, case, rules.key)?;
         let told = tell_case(alloc, case, outcome, Exit::Done, writer)?;
+        tell_miss(outcome, faults);
         if writer.failed() {
             return Ok(told);
+        }
+        missed = missed_after(missed, outcome);
+        if missed >= max_missed(rules.is_limited) {
+            return Ok(Exit::Failed);
         }
         tally = tally.with(outcome);
     }
     tell_total(alloc, tally, writer)
 }
 
-/// What is told of a new server in a case. `None` where there is no connection to it.
+/// After so many cases in a row without a connection a run ends.
+fn max_missed(is_limited: bool) -> u32
+    ensures { result ≡ max_missed is_limited }
+{
+    if is_limited { 3 } else { 1 }
+}
+
+/// How many cases in a row were without a connection, where there were so many before this outcome.
+fn missed_after(missed: u32, outcome: Outcome) -> u32
+    requires { missed + 1 < 2 ^ 32 }
+    ensures { result ≡ (if is_missed outcome then 1 + missed else 0) }
+{
+    match outcome {
+        Outcome::NoConnection(_) => missed + 1,
+        Outcome::Judged(_) | Outcome::HeadRefused(_) => 0,
+    }
+}
+
+/// Tells the name of a case that is run next, where that is asked for.
+fn tell_progress<F: Write>(
+    alloc: Global,
+    progress: bool,
+    case: &Case,
+    faults: &mut Watched<F>,
+) -> Result<(), NoMemory>
+    ensures told { OnOk result (TellsEach (progress_notes progress case.now)
+        (watched F.contents faults.old faults.new)) }
+    ensures kept { OnErr result (faults.new ≡ faults.old) }
+    ensures still { StaysFailed faults.old faults.new }
+{
+    if !progress {
+        return Ok(());
+    }
+    let line = format!(in alloc; "{}\n", case.id)?;
+    tell(line.as_bytes(), faults);
+    Ok(())
+}
+
+/// Tells why there is no connection to the server of a case, where there is none.
+fn tell_miss<F: Write>(outcome: Outcome, faults: &mut Watched<F>)
+    ensures told { TellsEach (miss_notes outcome) (watched F.contents faults.old faults.new) }
+    ensures still { StaysFailed faults.old faults.new }
+{
+    match outcome {
+        Outcome::NoConnection(why) => tell(why.line(), faults),
+        Outcome::Judged(_) | Outcome::HeadRefused(_) => {}
+    }
+}
+
+/// What is told of a new server in a case.
 fn outcome_of<S: CaseServer>(
     alloc: Global,
     server: &S,
     case: &Case,
     key: [u8; 4],
-) -> Result<Option<Outcome>, NoMemory>
+) -> Result<Outcome, NoMemory>
     requires { CanBeRun case.now }
-    ensures { IfOk result (λ told. MatchOption told (S.meets server.now key case.now NoConnection)
-        (λ outcome. IsTested (S.meets server.now key) case.now outcome)) }
+    ensures { IfOk result (λ outcome. IsTested (S.meets server.now key) case.now outcome) }
 {
     match server.run(alloc, case, key)? {
-        Probe::Ran(transcript) => {
+        Meeting::Ran(transcript) => {
             let verdict = judge(alloc, &transcript)?;
-            Ok(Some(Outcome::Judged(verdict)))
+            Ok(Outcome::Judged(verdict))
         }
-        Probe::Refused(fault) => Ok(Some(Outcome::HeadRefused(fault))),
-        Probe::NoConnection => Ok(None),
+        Meeting::Refused(fault) => Ok(Outcome::HeadRefused(fault)),
+        Meeting::NoConnection(why) => Ok(Outcome::NoConnection(why)),
     }
 }
 
@@ -89,21 +155,6 @@ fn tell_case<W: Write>(
     Ok(deliver(done, line.as_bytes(), writer))
 }
 
-/// Writes that there is no connection to the server of a case.
-fn tell_no_connection<W: Write>(
-    alloc: Global,
-    case: &Case,
-    writer: &mut Watched<W>,
-) -> Result<Exit, Fault>
-    requires { has_failed writer.old ≡ false }
-    ensures { MatchResult result
-        (λ exit. Delivers Failed (no_connection_line case.now) exit (watched W.contents writer.old writer.new))
-        (λ fault. (fault ≡ variant.NoMemory) × (writer.new ≡ writer.old)) }
-{
-    let line = format!(in alloc; "{} no connection\n", case.id)?;
-    Ok(deliver(Exit::Failed, line.as_bytes(), writer))
-}
-
 /// Writes the total.
 fn tell_total<W: Write>(alloc: Global, tally: Tally, writer: &mut Watched<W>) -> Result<Exit, Fault>
     requires { has_failed writer.old ≡ false }
@@ -118,28 +169,32 @@ fn tell_total<W: Write>(alloc: Global, tally: Tally, writer: &mut Watched<W>) ->
     Ok(deliver(tally.exit(), line.as_bytes(), writer))
 }
 
-/// Runs a case over a new server, its frames masked with `key`, and writes the capture of it in format 2. Where there
-/// is none, it writes the line of the case.
-pub fn capture_case<S: CaseServer, W: Write>(
+/// Runs a case over a new server, and writes the capture of it in format 2. Where there is none, it writes the line of
+/// the case. What is told to `faults` is told as by `test_cases`.
+pub fn capture_case<S: CaseServer, W: Write, F: Write>(
     alloc: Global,
     server: &S,
-    key: [u8; 4],
+    rules: RunRules,
     case: &Case,
     writer: &mut Watched<W>,
+    faults: &mut Watched<F>,
 ) -> Result<Exit, Fault>
     requires works { has_failed writer.old ≡ false }
     requires can_be_run { CanBeRun case.now }
-    ensures { CapturesCase key (S.meets server.now key) case.now result (watched W.contents writer.old writer.new) }
+    ensures runs { RunsCapture (S.meets server.now rules.key) rules case.now result
+        (watched W.contents writer.old writer.new) (watched F.contents faults.old faults.new) }
+    ensures still { StaysFailed faults.old faults.new }
 {
-    match server.run(alloc, case, key)? {
-        Probe::Ran(transcript) => {
+    tell_progress(alloc, rules.progress, case, faults)?;
+    match server.run(alloc, case, rules.key)? {
+        Meeting::Ran(transcript) => {
             let capture = Capture {
-                key: Some(key),
+                key: Some(rules.key),
                 transcript,
             };
             tell_capture(alloc, &capture, writer)
         }
-        Probe::Refused(fault) => {
+        Meeting::Refused(fault) => {
             tell_case(
                 alloc,
                 case,
@@ -148,7 +203,12 @@ pub fn capture_case<S: CaseServer, W: Write>(
                 writer,
             )
         }
-        Probe::NoConnection => tell_no_connection(alloc, case, writer),
+        Meeting::NoConnection(why) => {
+            let outcome = Outcome::NoConnection(why);
+            let told = tell_case(alloc, case, outcome, Exit::Failed, writer)?;
+            tell_miss(outcome, faults);
+            Ok(told)
+        }
     }
 }
 

@@ -99,11 +99,14 @@ test_lacks : (rows : List Row) (options : TestOptions) → LacksOneOf rows test_
     → AsksToTest rows options → ⊥
 test_lacks rows options (inl key) asks = no_word rows (codes "key") options.key.now key asks.0
 test_lacks rows options (inr (inl capture)) asks = capture options.capture asks.1
-test_lacks rows options (inr (inr (inl protocols))) asks = absurd protocols
-test_lacks rows options (inr (inr (inr (inl target)))) asks =
+test_lacks rows options (inr (inr (inl progress))) asks = progress options.progress asks.5
+test_lacks rows options (inr (inr (inr (inl timeout)))) asks = absurd timeout
+test_lacks rows options (inr (inr (inr (inr (inl budget))))) asks = budget options.budget asks.6
+test_lacks rows options (inr (inr (inr (inr (inr (inl protocols)))))) asks = absurd protocols
+test_lacks rows options (inr (inr (inr (inr (inr (inr (inl target))))))) asks =
     no_word rows (codes "target") options.target.now target asks.2
-test_lacks rows options (inr (inr (inr (inr (inl ids))))) asks = absurd ids
-test_lacks rows options (inr (inr (inr (inr (inr none))))) asks = absurd none
+test_lacks rows options (inr (inr (inr (inr (inr (inr (inr (inl ids)))))))) asks = absurd ids
+test_lacks rows options (inr (inr (inr (inr (inr (inr (inr (inr none)))))))) asks = absurd none
 
 pub no_test : (name : Text) (rows : List Row) → name ≡ codes "test" → LacksOneOf rows test_command.arguments
     → CommandAsksNothing (Some (name, rows))
@@ -118,11 +121,12 @@ serve_lacks : (rows : List Row) (options : ServeOptions) → LacksOneOf rows ser
 serve_lacks rows options (inl limit) asks = limit options.limit asks.0
 serve_lacks rows options (inr (inl frame)) asks = frame options.limit options.frame asks.1
 serve_lacks rows options (inr (inr (inl budget))) asks = budget options.budget asks.2
-serve_lacks rows options (inr (inr (inr (inl protocols)))) asks = absurd protocols
-serve_lacks rows options (inr (inr (inr (inr (inl address))))) asks =
+serve_lacks rows options (inr (inr (inr (inl timeout)))) asks = absurd timeout
+serve_lacks rows options (inr (inr (inr (inr (inl protocols))))) asks = absurd protocols
+serve_lacks rows options (inr (inr (inr (inr (inr (inl address)))))) asks =
     no_word rows (codes "address") options.address.now address asks.3
-serve_lacks rows options (inr (inr (inr (inr (inr (inl count)))))) asks = count options.count asks.4
-serve_lacks rows options (inr (inr (inr (inr (inr (inr none)))))) asks = absurd none
+serve_lacks rows options (inr (inr (inr (inr (inr (inr (inl count))))))) asks = count options.count asks.4
+serve_lacks rows options (inr (inr (inr (inr (inr (inr (inr none))))))) asks = absurd none
 
 pub no_serve : (name : Text) (rows : List Row) → name ≡ codes "serve" → LacksOneOf rows serve_command.arguments
     → CommandAsksNothing (Some (name, rows))

@@ -223,10 +223,21 @@ pub serve_address : (places : Places)
 unfolding on_words
 serve_address places = refl
 
+-- `wst test --timeout 02 --progress own`: how long a byte is waited for is a word here; the budget is 64 MiB
+abbrev waiting_words : List Text
+waiting_words = words (codes "test" ∷ codes "--timeout" ∷ codes "02" ∷ codes "--progress" ∷ codes "own" ∷ [])
+
+pub test_options : (places : Places)
+    → option_map (λ met. first_of (codes "timeout") met.1 ∷ one_of (codes "progress") met.1
+    ∷ one_of (codes "budget") met.1 ∷ []) (subcommand_of (wst_app places) waiting_words)
+    ≡ Some (Some (codes "02") ∷ Some (codes "true") ∷ Some (codes "67108864") ∷ [])
+unfolding on_words
+test_options places = refl
+
 -- such words can fail for want of memory alone
 pub asking_words_are_taken : (places : Places)
     → map (takes (wst_app places)) (plain_words ∷ client_words ∷ head_words ∷ protocol_words ∷ no_protocol_words
-    ∷ session_words ∷ echo_words ∷ judge_words ∷ convert_words ∷ cases_words ∷ test_words ∷ serve_words ∷ [])
-    ≡ true ∷ true ∷ true ∷ true ∷ true ∷ true ∷ true ∷ true ∷ true ∷ true ∷ true ∷ true ∷ []
+    ∷ session_words ∷ echo_words ∷ judge_words ∷ convert_words ∷ cases_words ∷ test_words ∷ serve_words ∷ waiting_words
+    ∷ []) ≡ true ∷ true ∷ true ∷ true ∷ true ∷ true ∷ true ∷ true ∷ true ∷ true ∷ true ∷ true ∷ true ∷ []
 unfolding on_words
 asking_words_are_taken places = refl

@@ -30,9 +30,13 @@ GivesNoEnd rows name = (role : Role) → GivesEnd rows name role → ⊥
 
 -- ---- a word
 
+-- the option of this name gives this word, or none
+abbrev pub GivesWord : List Row → Text → Option (Bor Text) → Type 0
+GivesWord rows name word = first_of name rows ≡ option_map (λ w. w.now) word
+
 -- the option for subprotocols gives this list, or none
 abbrev pub GivesProtocols : List Row → Option (Bor Text) → Type 0
-GivesProtocols rows list = first_of (codes "protocols") rows ≡ option_map (λ l. l.now) list
+GivesProtocols rows list = GivesWord rows (codes "protocols") list
 
 -- the words of this argument, none where it isn't given
 abbrev pub given_words : Text → List Row → List Text

@@ -4,7 +4,7 @@ use Rattle.clap.specs.Words.{Row, first_of}
 use Rattle.wst_words.specs.Arguments.{argument, argument_or}
 use Rattle.wst_words.specs.Commands.{CommandRow}
 use Rattle.wst_words.specs.declared.arguments.ArgumentKind.TheVariants.{NeededCount, NeededWord, Number, Word}
-use Rattle.wst_words.specs.Options.{GivesCount, GivesNumber, GivesNumberOr, GivesProtocols}
+use Rattle.wst_words.specs.Options.{GivesCount, GivesNumber, GivesNumberOr, GivesProtocols, GivesWord}
 use Rattle.wst_words.specs.declared.serve.ServeOptions.{ServeOptions}
 
 -- its arguments
@@ -14,6 +14,7 @@ serve_command = record {
   arguments = argument_or (codes "limit") Number (codes "1048576")
       ∷ argument (codes "frame") Number
       ∷ argument_or (codes "budget") Number (codes "1073741824")
+      ∷ argument (codes "timeout") Word
       ∷ argument (codes "protocols") Word
       ∷ argument (codes "address") NeededWord
       ∷ argument (codes "count") NeededCount ∷ [];
@@ -25,4 +26,4 @@ AsksToServe rows options = GivesNumber rows (codes "limit") options.limit
     × GivesNumberOr options.limit rows (codes "frame") options.frame
     × GivesNumber rows (codes "budget") options.budget
     × (first_of (codes "address") rows ≡ Some options.address.now) × GivesCount rows (codes "count") options.count
-    × GivesProtocols rows options.protocols
+    × GivesProtocols rows options.protocols × GivesWord rows (codes "timeout") options.timeout

@@ -21,6 +21,8 @@ pub struct ServeOptions<'a> {
     pub frame: u64,
     /// It reads at most so many bytes of a connection behind the head of its request.
     pub budget: u64,
+    /// It ends a connection on which no byte has come for so many seconds, as a word, where that is given.
+    pub timeout: Option<&'a str>,
     /// The subprotocols that it knows, joined by commas, where they are given.
     pub protocols: Option<&'a str>,
     /// The address at which it listens: an IP address or the name of a host, and a port.
@@ -30,7 +32,7 @@ pub struct ServeOptions<'a> {
 }
 
 /// Its arguments.
-static ARGUMENTS: [Argument; 6] = [
+static ARGUMENTS: [Argument; 7] = [
     Argument {
         name: "limit",
         kind: Number,
@@ -50,7 +52,14 @@ static ARGUMENTS: [Argument; 6] = [
         kind: Number,
         default: Some("1073741824"),
         value_name: "N",
-        help: "Read at most N bytes of a connection behind its head",
+        help: "Most bytes to read of a connection behind its head",
+    },
+    Argument {
+        name: "timeout",
+        kind: Word,
+        default: None,
+        value_name: "SECONDS",
+        help: "End a connection on which no byte has come for so long, 1 to 3600",
     },
     Argument {
         name: "protocols",
@@ -96,6 +105,7 @@ pub(crate) fn serve_options<'a>(options: &ArgMatches<'a>) -> Option<ServeOptions
         limit,
         frame,
         budget,
+        timeout: word_of(options, "timeout"),
         protocols: word_of(options, "protocols"),
         address,
         count,
@@ -116,8 +126,10 @@ const LONG_ABOUT: &str =
     "Listens at an address as a WebSocket server, to try clients at, and serves so many connections,
 one after the other: it answers the opening handshake, and sends each message back, until the
 connection is closed or failed or the client ends it. Other clients wait meanwhile. Nothing that a
-client does ends the command, and a client that neither sends nor ends keeps it waiting. ADDR is
-written as 127.0.0.1:9001, [::1]:9001 or localhost:9001.
+client does ends the command, and a client that neither sends nor ends keeps it waiting, unless
+--timeout says for how long: decimal, without leading zeros. What a client still sends behind the
+end of its session is read and dropped until it ends, for two seconds at most. ADDR is written as
+127.0.0.1:9001, [::1]:9001 or localhost:9001.
 
 A line is written as soon as the command listens, and one for each connection that has ended:
 
@@ -126,8 +138,11 @@ A line is written as soon as the command listens, and one for each connection th
                       `clean none`, `failed NAME`, or `lost` where the client ended the stream
                       without a close frame
   K refused NAME      the head of its request was refused
-  K stopped           it sent no whole head, reading or writing failed, or the budget or memory
-                      was used up
+  K stopped           it sent no whole head, reading or writing failed, no byte came in time, or
+                      the budget or memory was used up
+
+Where the address can't be listened at, the fault output has `not listening: WHY`. WHY is `no such
+host`, `address in use`, `not permitted` or `failed`.
 
 The NAME of a refusal is Head, Method, Version, Host, Upgrade, Connection, Key, WsVersion or
 TooLarge; that of a failure is one that `wst session --help` lists.
@@ -137,9 +152,9 @@ The limit of a data frame is 1 to that of a message. Control frames have their o
 With --protocols the response to a request names the first subprotocol that the request offers and
 that is in LIST, as `wst head --help` says; none is refused for what it offers.
 
-Exit status: 0 so many connections were served, however they ended, 2 wrong words, limits or LIST, 3
-the address can't be listened at, no more connections come, a line could not be written or memory
-ran out for it.";
+Exit status: 0 so many connections were served, however they ended, 2 wrong words, SECONDS, limits
+or LIST, 3 the address can't be listened at, no more connections come, a line could not be written
+or memory ran out for it.";
 
 /// What stands at the end of the help of `serve`.
 const AFTER_HELP: &str = "Example:

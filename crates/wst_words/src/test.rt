@@ -7,9 +7,9 @@ ghost use Rattle.wst_words.specs.Test.{AsksToTest, test_command};
 ghost use Rattle.wst_words.specs.Arguments.{argument_row};
 
 use crate::arguments::Argument;
-use crate::arguments::ArgumentKind::{Flag, NeededWord, Word, Words};
+use crate::arguments::ArgumentKind::{Flag, NeededWord, Number, Word, Words};
 use crate::commands::HelpText;
-use crate::options::{flag_of, word_of, words_of};
+use crate::options::{flag_of, number_of, word_of, words_of};
 use clap::ArgMatches;
 use std::alloc::{AllocError, Global};
 
@@ -20,6 +20,12 @@ pub struct TestOptions<'a> {
     pub key: &'a str,
     /// The capture is written in place of the verdict.
     pub capture: bool,
+    /// The name of each case is told before it runs.
+    pub progress: bool,
+    /// For so many seconds, as a word, a byte is waited for, where that is given.
+    pub timeout: Option<&'a str>,
+    /// At most so many bytes are read of a server in one case behind the head of its answer.
+    pub budget: u64,
     /// The subprotocols that are offered, joined by commas, where they are given.
     pub protocols: Option<&'a str>,
     /// The peer: `own`, `tung` or an address.
@@ -29,7 +35,7 @@ pub struct TestOptions<'a> {
 }
 
 /// Its arguments.
-static ARGUMENTS: [Argument; 5] = [
+static ARGUMENTS: [Argument; 8] = [
     Argument {
         name: "key",
         kind: Word,
@@ -43,6 +49,27 @@ static ARGUMENTS: [Argument; 5] = [
         default: None,
         value_name: "",
         help: "Write the capture of one case",
+    },
+    Argument {
+        name: "progress",
+        kind: Flag,
+        default: None,
+        value_name: "",
+        help: "Tell each ID on the fault output before its case runs",
+    },
+    Argument {
+        name: "timeout",
+        kind: Word,
+        default: None,
+        value_name: "SECONDS",
+        help: "Wait so long for each byte of a server at an address, 1 to 3600",
+    },
+    Argument {
+        name: "budget",
+        kind: Number,
+        default: Some("67108864"),
+        value_name: "N",
+        help: "Most bytes to read of it in one case behind its head",
     },
     Argument {
         name: "protocols",
@@ -96,10 +123,15 @@ fn options_with<'a>(options: &ArgMatches<'a>, ids: Vec<&'a str>) -> Option<TestO
 {
     let key = word_of(options, "key")?;
     let capture = flag_of(options, "capture")?;
+    let progress = flag_of(options, "progress")?;
+    let budget = number_of(options, "budget")?;
     let target = word_of(options, "target")?;
     Some(TestOptions {
         key,
         capture,
+        progress,
+        timeout: word_of(options, "timeout"),
+        budget,
         protocols: word_of(options, "protocols"),
         target,
         ids,
@@ -128,6 +160,9 @@ judged a line for it is written, and the total at last:
   ID FAIL WHY         it broke this rule
   ID FAIL Head NAME   its answer to the request is to be refused
   ID no connection    there is none, or no whole answer came: the last line, without a total
+                      and with `no connection: WHY` on the fault output, where WHY is `no such
+                      host`, `refused`, `unreachable`, `timed out`, `closed before the answer` or
+                      `failed`
   P pass, L loose, F fail
 
 Cases run in the order in which their IDs are given, as often as they are given, and all of them
@@ -140,12 +175,17 @@ With --protocols each request offers the subprotocols of LIST in its order, whic
 describes. An answer that names another one, or more than one, is to be refused as Protocol. A
 server in memory asks for no handshake, and so LIST is without effect there.
 
-A server that neither answers nor ends the connection keeps the command waiting; `timeout 60 wst
-test ..` ends it. In parts: wst cases | cut -d' ' -f1 | xargs -n 30 wst test 127.0.0.1:9001
+A server that neither answers nor ends the connection keeps the command waiting, unless --timeout
+says for how long: decimal, without leading zeros. Where for so long no byte has come, the next turn
+is sent, and in the last one the case ends, so that what is missing is told; before the answer is
+whole there is no connection. A run then goes on behind `ID no connection`, which counts as a FAIL
+in the total; the third in a row ends it as the first one does without --timeout. The budget used
+up, a case ends as broken off. A server in memory answers at once: there SECONDS and the budget are
+without effect. In parts: wst cases | cut -d' ' -f1 | xargs -n 30 wst test 127.0.0.1:9001
 
-Exit status: 0 no case is FAIL, 1 one is, 2 wrong words, also a word that is no LIST, no key, no ID
-or no host of a request, and --capture with other than one ID, 3 there is no connection, the output
-failed or memory ran out.";
+Exit status: 0 no case is FAIL, 1 one is, 2 wrong words, also a word that is no LIST, no SECONDS, no
+key, no ID or no host of a request, and --capture with other than one ID, 3 there is no connection,
+the output failed or memory ran out.";
 
 /// What stands at the end of the help of `test`.
 const AFTER_HELP: &str = "Example:

@@ -7,4 +7,8 @@ use Rattle.wst_run.proofs.test.tell_no_case.Goals as goal
 pub returns-in-Ok : goal.returns-in-Ok
 returns-in-Ok g c =
     let line : c.as_bytes.result.now ≡ no_case_line c.args.id.now = c.as_bytes.ensures.value ∙ c.in-Ok.ensures.ok in
-    inl (refl, subst (λ (b : List ℕ). Tells b (watched g.F.Write.contents c.args.faults.now c.tell.new.faults)) line c.tell.ensures)
+    inl (
+      refl,
+      subst (λ (b : List ℕ). Tells b (watched g.F.Write.contents c.args.faults.now c.tell.new.faults)) line
+          c.tell.ensures.told,
+    )

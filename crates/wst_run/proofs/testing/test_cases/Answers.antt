@@ -1,90 +1,208 @@
-use Rattle.std.proofs.Common.{rules, ◌≡◌, ◌∙◌, ◌+◌, ◌++◌, ◌<◌, [], ◌∷◌, Option, MatchOption, ap, arith, false, true, inl, inr, length, subst, sym, take, take_all}
+-- Each case has its line, in order, and what there is to tell beside it.
+use Rattle.std.proofs.Common.{rules, ◌≡◌, ◌∙◌, ◌+◌, ◌++◌, ◌<◌, [], ◌∷◌, ap, arith, false, true, inr, length, refl}
+use Rattle.std.proofs.Common.{IsErrAnd, subst, sym, take, take_all}
+use Rattle.std.proofs.KnownBytes.{Keeps-refl}
 use Rattle.std.proofs.lemmas.List.{take_more}
 use Rattle.ws_frame.specs.Devices.{watched}
 use Rattle.ws_frame.specs.Watching.{has_failed, inner_of}
 use Rattle.ws_scripts.specs.declared.script.Case.{Case}
-use Rattle.wst_run.specs.Testing.{IsTested, test_line}
+use Rattle.wst_run.specs.Notes.{progress_notes}
+use Rattle.wst_run.specs.Outcomes.{is_missed, max_missed, tally_with}
+use Rattle.wst_run.specs.Testing.{RunsCases, test_line}
 use Rattle.wst_commands.specs.declared.exit.Exit.TheVariants.{Done}
-use Rattle.wst_run.specs.declared.outcome.Outcome.{Outcome}
-use Rattle.ws_connection.specs.declared.probe_end.Probe.TheVariants.{NoConnection}
-use Rattle.wst_run.proofs.TestLemmas.{ends_there, ends_told, tally_has_room, told_more, told_nothing, told_stops, was_begun, was_written}
+use Rattle.wst_commands.specs.declared.fault.Fault.TheVariants.{NoMemory}
+use Rattle.wst_run.proofs.TestLemmas.{RunsNext, ends_told, missed_bound, run_misses, run_more, run_nothing, run_stops}
+use Rattle.wst_run.proofs.TestLemmas.{run_till_memory, some_missed, tally_has_room, was_begun, was_written}
 use Rattle.wst_run.proofs.testing.test_cases.Goals as goal
 
 pub loop-case-init : goal.loop-case-init
-loop-case-init g c = (c.requires.works, told_nothing _ _ (g.W.Write.contents (inner_of c.args.writer.now)) c.new-tally.ensures)
+loop-case-init g c = (
+  c.requires.works,
+  some_missed c.args.rules.is_limited,
+  run_nothing (g.S.CaseServer.meets c.args.server.now c.args.rules.key) c.args.rules c.new-tally.result
+      (g.W.Write.contents (inner_of c.args.writer.now)) (watched g.F.Write.contents c.args.faults.now c.args.faults.now)
+      c.new-tally.ensures (Keeps-refl (g.F.Write.contents (inner_of c.args.faults.now))),
+  λ failed. failed,
+)
 
-pub returns-in_default : goal.returns-in_default
-returns-in_default g c =
-    let i = c.loop-case.case-index in
+pub returns-in_err-outcome-clause-runs : goal.returns-in_err-outcome-clause-runs
+returns-in_err-outcome-clause-runs g c =
+    let at = c.loop-case in
     let cases = c.args.cases.now in
     let case = c.case-item.result in
-    let Meets = g.S.CaseServer.meets c.args.server.now c.args.key in
-    let (works, told) = c.loop-case.invariant in
-    let more : take (i + 1) cases ≡ take i cases ++ case ∷ [] =
-    take_more cases i case c.loop-case-test.true ∙ ap (λ (x : Case). take i cases ++ x ∷ []) (sym c.case-item.is) in
-    let met : Meets case NoConnection = subst (λ (o : Option Outcome). MatchOption o (Meets case NoConnection) (λ (x : Outcome). IsTested Meets case x)) c.in_default.is c.in_ok-outcome.ensures in
-    ends_there Meets cases i case c.loop-case.tally (g.W.Write.contents (inner_of c.args.writer.now)) (g.W.Write.contents (inner_of c.loop-case.writer)) (g.W.Write.contents (inner_of c.tell_no_connection.new.writer))
-    (has_failed c.tell_no_connection.new.writer) (c.tell_no_connection.new.writer ≡ c.loop-case.writer) c.tell_no_connection.result told met more
-    (λ same. (ap (λ w. has_failed w) same ∙ works, ap (λ w. g.W.Write.contents (inner_of w)) (sym same))) c.tell_no_connection.ensures
+    let (works, few, so, still) = at.invariant in
+    let more : take (at.case-index + 1) cases ≡ take at.case-index cases ++ case ∷ [] =
+    take_more cases at.case-index case c.loop-case-test.true
+    ∙ ap (λ (x : Case). take at.case-index cases ++ x ∷ []) (sym c.case-item.is) in
+    let lacks : IsErrAnd c.from_residual-in_err-outcome.result (λ fault. fault ≡ NoMemory) = search rules in
+    run_till_memory (g.S.CaseServer.meets c.args.server.now c.args.rules.key) c.args.rules cases at.case-index at.tally
+    at.missed (g.W.Write.contents (inner_of c.args.writer.now)) (g.W.Write.contents (inner_of at.writer))
+    (has_failed at.writer) (has_failed at.faults) (has_failed c.tell_progress.new.faults)
+    (g.F.Write.contents (inner_of c.args.faults.now)) (g.F.Write.contents (inner_of at.faults))
+    (g.F.Write.contents (inner_of c.tell_progress.new.faults)) c.from_residual-in_err-outcome.result
+    (progress_notes c.args.rules.progress case) so few (inr (case, more, refl)) c.in_ok-tell_progress.ensures.still
+    c.in_ok-tell_progress.ensures.told works lacks
 
-pub returns-then-failed : goal.returns-then-failed
-returns-then-failed g c =
-    let i = c.loop-case.case-index in
+pub returns-in_err-told-clause-runs : goal.returns-in_err-told-clause-runs
+returns-in_err-told-clause-runs g c =
+    let at = c.loop-case in
     let cases = c.args.cases.now in
     let case = c.case-item.result in
-    let Meets = g.S.CaseServer.meets c.args.server.now c.args.key in
-    let (works, told) = c.loop-case.invariant in
-    let more : take (i + 1) cases ≡ take i cases ++ case ∷ [] =
-    take_more cases i case c.loop-case-test.true ∙ ap (λ (x : Case). take i cases ++ x ∷ []) (sym c.case-item.is) in
-    let outcome = c.in-Some.outcome in
-    let tested : IsTested Meets case outcome = subst (λ (o : Option Outcome). MatchOption o (Meets case NoConnection) (λ (x : Outcome). IsTested Meets case x)) c.in-Some.is c.in_ok-outcome.ensures in
+    let (works, few, so, still) = at.invariant in
+    let more : take (at.case-index + 1) cases ≡ take at.case-index cases ++ case ∷ [] =
+    take_more cases at.case-index case c.loop-case-test.true
+    ∙ ap (λ (x : Case). take at.case-index cases ++ x ∷ []) (sym c.case-item.is) in
+    let lacks : IsErrAnd c.from_residual-in_err-told.result (λ fault. fault ≡ NoMemory) = search rules in
+    let same : c.tell_case.new.writer ≡ at.writer = c.in_err-told.ensures.1 in
+    let faults = watched g.F.Write.contents c.args.faults.now c.tell_progress.new.faults in
+    subst (λ w. RunsCases (g.S.CaseServer.meets c.args.server.now c.args.rules.key) c.args.rules cases
+    c.from_residual-in_err-told.result (watched g.W.Write.contents c.args.writer.now w) faults) (sym same)
+    (run_till_memory (g.S.CaseServer.meets c.args.server.now c.args.rules.key) c.args.rules cases at.case-index at.tally
+    at.missed (g.W.Write.contents (inner_of c.args.writer.now)) (g.W.Write.contents (inner_of at.writer))
+    (has_failed at.writer) (has_failed at.faults) (has_failed c.tell_progress.new.faults)
+    (g.F.Write.contents (inner_of c.args.faults.now)) (g.F.Write.contents (inner_of at.faults))
+    (g.F.Write.contents (inner_of c.tell_progress.new.faults)) c.from_residual-in_err-told.result
+    (progress_notes c.args.rules.progress case) so few (inr (case, more, refl)) c.in_ok-tell_progress.ensures.still
+    c.in_ok-tell_progress.ensures.told works lacks)
+
+pub returns-then-failed-clause-runs : goal.returns-then-failed-clause-runs
+returns-then-failed-clause-runs g c =
+    let at = c.loop-case in
+    let cases = c.args.cases.now in
+    let case = c.case-item.result in
+    let outcome = c.in_ok-outcome.outcome in
+    let (works, few, so, still) = at.invariant in
+    let more : take (at.case-index + 1) cases ≡ take at.case-index cases ++ case ∷ [] =
+    take_more cases at.case-index case c.loop-case-test.true
+    ∙ ap (λ (x : Case). take at.case-index cases ++ x ∷ []) (sym c.case-item.is) in
     let broken : has_failed c.tell_case.new.writer ≡ true = sym c.failed.ensures ∙ c.if-failed.true in
-    let (fails, begun) = was_begun Done c.in_ok-told.told (test_line (case, outcome)) (watched g.W.Write.contents c.loop-case.writer c.tell_case.new.writer) c.in_ok-told.ensures broken in
-    inr (inl (told_stops Meets cases i case outcome c.loop-case.tally (g.W.Write.contents (inner_of c.args.writer.now)) (g.W.Write.contents (inner_of c.loop-case.writer)) (g.W.Write.contents (inner_of c.tell_case.new.writer)) c.in_ok-told.told
-    (has_failed c.tell_case.new.writer) told tested more fails broken begun))
+    let (fails, begun) = was_begun Done c.in_ok-told.told (test_line (case, outcome))
+    (watched g.W.Write.contents at.writer c.tell_case.new.writer) c.in_ok-told.ensures broken in
+    let runs : RunsNext c.args.rules case outcome (has_failed at.faults) (has_failed c.tell_progress.new.faults)
+    (has_failed c.tell_miss.new.faults) (g.F.Write.contents (inner_of at.faults))
+    (g.F.Write.contents (inner_of c.tell_progress.new.faults)) (g.F.Write.contents (inner_of c.tell_miss.new.faults)) =
+    record {
+      named = c.in_ok-tell_progress.ensures.told;
+      why = c.tell_miss.ensures.told;
+      still_named = c.in_ok-tell_progress.ensures.still;
+      still = c.tell_miss.ensures.still;
+    } in
+    run_stops (g.S.CaseServer.meets c.args.server.now c.args.rules.key) c.args.rules cases at.case-index case outcome
+    at.tally at.missed (g.W.Write.contents (inner_of c.args.writer.now)) (g.W.Write.contents (inner_of at.writer))
+    (g.W.Write.contents (inner_of c.tell_case.new.writer)) c.in_ok-told.told (has_failed c.tell_case.new.writer)
+    (has_failed at.faults) (has_failed c.tell_progress.new.faults) (has_failed c.tell_miss.new.faults)
+    (g.F.Write.contents (inner_of c.args.faults.now)) (g.F.Write.contents (inner_of at.faults))
+    (g.F.Write.contents (inner_of c.tell_progress.new.faults)) (g.F.Write.contents (inner_of c.tell_miss.new.faults)) so
+    few runs c.in_ok-outcome.ensures more fails broken begun
+
+pub returns-then-missed-max_missed-clause-runs : goal.returns-then-missed-max_missed-clause-runs
+returns-then-missed-max_missed-clause-runs g c =
+    let at = c.loop-case in
+    let cases = c.args.cases.now in
+    let case = c.case-item.result in
+    let outcome = c.in_ok-outcome.outcome in
+    let Meets = g.S.CaseServer.meets c.args.server.now c.args.rules.key in
+    let (works, few, so, still) = at.invariant in
+    let more : take (at.case-index + 1) cases ≡ take at.case-index cases ++ case ∷ [] =
+    take_more cases at.case-index case c.loop-case-test.true
+    ∙ ap (λ (x : Case). take at.case-index cases ++ x ∷ []) (sym c.case-item.is) in
+    let works_still : has_failed c.tell_case.new.writer ≡ false = sym c.failed.ensures ∙ c.if-failed.false in
+    let line = was_written Done c.in_ok-told.told (test_line (case, outcome))
+    (watched g.W.Write.contents at.writer c.tell_case.new.writer) c.in_ok-told.ensures works_still in
+    let runs : RunsNext c.args.rules case outcome (has_failed at.faults) (has_failed c.tell_progress.new.faults)
+    (has_failed c.tell_miss.new.faults) (g.F.Write.contents (inner_of at.faults))
+    (g.F.Write.contents (inner_of c.tell_progress.new.faults)) (g.F.Write.contents (inner_of c.tell_miss.new.faults)) =
+    record {
+      named = c.in_ok-tell_progress.ensures.told;
+      why = c.tell_miss.ensures.told;
+      still_named = c.in_ok-tell_progress.ensures.still;
+      still = c.tell_miss.ensures.still;
+    } in
+    let bound = missed_bound (is_missed outcome) at.missed c.missed_after-missed.result c.missed_after-missed.ensures in
+    let most : c.missed_after-missed.result ≡ max_missed c.args.rules.is_limited =
+    omega (arith, bound, few, c.if-missed-max_missed.true, c.max_missed.ensures) in
+    run_misses Meets c.args.rules cases (at.case-index + 1) (tally_with at.tally outcome) c.missed_after-missed.result
+    (g.W.Write.contents (inner_of c.args.writer.now)) (g.W.Write.contents (inner_of c.tell_case.new.writer))
+    (has_failed c.tell_case.new.writer) (watched g.F.Write.contents c.args.faults.now c.tell_miss.new.faults)
+    (run_more Meets c.args.rules (take at.case-index cases) (take (at.case-index + 1) cases) case outcome at.tally
+    (tally_with at.tally outcome) at.missed c.missed_after-missed.result
+    (g.W.Write.contents (inner_of c.args.writer.now)) (g.W.Write.contents (inner_of at.writer))
+    (g.W.Write.contents (inner_of c.tell_case.new.writer)) (has_failed at.faults)
+    (has_failed c.tell_progress.new.faults)
+    (has_failed c.tell_miss.new.faults) (g.F.Write.contents (inner_of c.args.faults.now))
+    (g.F.Write.contents (inner_of at.faults)) (g.F.Write.contents (inner_of c.tell_progress.new.faults))
+    (g.F.Write.contents (inner_of c.tell_miss.new.faults)) so few runs c.in_ok-outcome.ensures more refl
+    c.missed_after-missed.ensures line) most works_still
 
 pub with-tally-requires-clause-pass : goal.with-tally-requires-clause-pass
 with-tally-requires-clause-pass g c =
-    let (works, told) = c.loop-case.invariant in
+    let (works, few, so, still) = c.loop-case.invariant in
     let fits : length c.args.cases.now < 18446744073709551616 = search rules in
-    (tally_has_room (g.S.CaseServer.meets c.args.server.now c.args.key) c.args.cases.now c.loop-case.case-index c.loop-case.tally _ _ told c.loop-case-test.true fits).0
+    (tally_has_room (g.S.CaseServer.meets c.args.server.now c.args.rules.key) c.args.cases.now c.loop-case.case-index
+    c.loop-case.tally _ _ so.told c.loop-case-test.true fits).0
 
 pub with-tally-requires-clause-loose : goal.with-tally-requires-clause-loose
 with-tally-requires-clause-loose g c =
-    let (works, told) = c.loop-case.invariant in
+    let (works, few, so, still) = c.loop-case.invariant in
     let fits : length c.args.cases.now < 18446744073709551616 = search rules in
-    (tally_has_room (g.S.CaseServer.meets c.args.server.now c.args.key) c.args.cases.now c.loop-case.case-index c.loop-case.tally _ _ told c.loop-case-test.true fits).1
+    (tally_has_room (g.S.CaseServer.meets c.args.server.now c.args.rules.key) c.args.cases.now c.loop-case.case-index
+    c.loop-case.tally _ _ so.told c.loop-case-test.true fits).1
 
 pub with-tally-requires-clause-fail : goal.with-tally-requires-clause-fail
 with-tally-requires-clause-fail g c =
-    let (works, told) = c.loop-case.invariant in
+    let (works, few, so, still) = c.loop-case.invariant in
     let fits : length c.args.cases.now < 18446744073709551616 = search rules in
-    (tally_has_room (g.S.CaseServer.meets c.args.server.now c.args.key) c.args.cases.now c.loop-case.case-index c.loop-case.tally _ _ told c.loop-case-test.true fits).2
+    (tally_has_room (g.S.CaseServer.meets c.args.server.now c.args.rules.key) c.args.cases.now c.loop-case.case-index
+    c.loop-case.tally _ _ so.told c.loop-case-test.true fits).2
 
 pub loop-case-preserved : goal.loop-case-preserved
 loop-case-preserved g c =
-    let i = c.loop-case.case-index in
+    let at = c.loop-case in
     let cases = c.args.cases.now in
     let case = c.case-item.result in
-    let Meets = g.S.CaseServer.meets c.args.server.now c.args.key in
-    let (works, told) = c.loop-case.invariant in
-    let more : take (i + 1) cases ≡ take i cases ++ case ∷ [] =
-    take_more cases i case c.loop-case-test.true ∙ ap (λ (x : Case). take i cases ++ x ∷ []) (sym c.case-item.is) in
-    let outcome = c.in-Some.outcome in
-    let tested : IsTested Meets case outcome = subst (λ (o : Option Outcome). MatchOption o (Meets case NoConnection) (λ (x : Outcome). IsTested Meets case x)) c.in-Some.is c.in_ok-outcome.ensures in
-    let still : has_failed c.tell_case.new.writer ≡ false = sym c.failed.ensures ∙ c.if-failed.false in
-    let line = was_written Done c.in_ok-told.told (test_line (case, outcome)) (watched g.W.Write.contents c.loop-case.writer c.tell_case.new.writer) c.in_ok-told.ensures still in (
-      still,
-      told_more Meets (take i cases) (take (i + 1) cases) case outcome c.loop-case.tally c.with-tally.result (g.W.Write.contents (inner_of c.args.writer.now)) (g.W.Write.contents (inner_of c.loop-case.writer))
-          (g.W.Write.contents (inner_of c.tell_case.new.writer)) told tested more c.with-tally.ensures line,
+    let outcome = c.in_ok-outcome.outcome in
+    let Meets = g.S.CaseServer.meets c.args.server.now c.args.rules.key in
+    let (works, few, so, still) = at.invariant in
+    let more : take (at.case-index + 1) cases ≡ take at.case-index cases ++ case ∷ [] =
+    take_more cases at.case-index case c.loop-case-test.true
+    ∙ ap (λ (x : Case). take at.case-index cases ++ x ∷ []) (sym c.case-item.is) in
+    let works_still : has_failed c.tell_case.new.writer ≡ false = sym c.failed.ensures ∙ c.if-failed.false in
+    let line = was_written Done c.in_ok-told.told (test_line (case, outcome))
+    (watched g.W.Write.contents at.writer c.tell_case.new.writer) c.in_ok-told.ensures works_still in
+    let runs : RunsNext c.args.rules case outcome (has_failed at.faults) (has_failed c.tell_progress.new.faults)
+    (has_failed c.tell_miss.new.faults) (g.F.Write.contents (inner_of at.faults))
+    (g.F.Write.contents (inner_of c.tell_progress.new.faults)) (g.F.Write.contents (inner_of c.tell_miss.new.faults)) =
+    record {
+      named = c.in_ok-tell_progress.ensures.told;
+      why = c.tell_miss.ensures.told;
+      still_named = c.in_ok-tell_progress.ensures.still;
+      still = c.tell_miss.ensures.still;
+    } in (
+      works_still,
+      omega (arith, c.if-missed-max_missed.false, c.max_missed.ensures),
+      run_more Meets c.args.rules (take at.case-index cases) (take (at.case-index + 1) cases) case outcome at.tally
+          c.with-tally.result at.missed c.missed_after-missed.result
+          (g.W.Write.contents (inner_of c.args.writer.now)) (g.W.Write.contents (inner_of at.writer))
+          (g.W.Write.contents (inner_of c.tell_case.new.writer)) (has_failed at.faults)
+          (has_failed c.tell_progress.new.faults) (has_failed c.tell_miss.new.faults)
+          (g.F.Write.contents (inner_of c.args.faults.now)) (g.F.Write.contents (inner_of at.faults))
+          (g.F.Write.contents (inner_of c.tell_progress.new.faults))
+          (g.F.Write.contents (inner_of c.tell_miss.new.faults)) so few runs c.in_ok-outcome.ensures more
+          c.with-tally.ensures c.missed_after-missed.ensures line,
+      λ failed. c.tell_miss.ensures.still (c.in_ok-tell_progress.ensures.still (still failed)),
     )
 
-pub returns : goal.returns
-returns g c =
-    let i = c.loop-case.case-index in
+pub returns-clause-runs : goal.returns-clause-runs
+returns-clause-runs g c =
+    let at = c.loop-case in
     let cases = c.args.cases.now in
-    let Meets = g.S.CaseServer.meets c.args.server.now c.args.key in
-    let (works, told) = c.loop-case.invariant in
-    ends_told Meets cases i c.loop-case.tally (g.W.Write.contents (inner_of c.args.writer.now)) (g.W.Write.contents (inner_of c.loop-case.writer)) (g.W.Write.contents (inner_of c.tell_total.new.writer))
-    (has_failed c.tell_total.new.writer) (c.tell_total.new.writer ≡ c.loop-case.writer) c.tell_total.result told
-    (take_all i cases (omega (arith, c.loop-case-test.false))) (λ same. (ap (λ w. has_failed w) same ∙ works, ap (λ w. g.W.Write.contents (inner_of w)) (sym same))) c.tell_total.ensures
+    let (works, few, so, still) = at.invariant in
+    ends_told (g.S.CaseServer.meets c.args.server.now c.args.rules.key) c.args.rules cases at.case-index at.tally
+    at.missed
+    (g.W.Write.contents (inner_of c.args.writer.now)) (g.W.Write.contents (inner_of at.writer))
+    (g.W.Write.contents (inner_of c.tell_total.new.writer)) (has_failed c.tell_total.new.writer) (has_failed at.faults)
+    (g.F.Write.contents (inner_of c.args.faults.now)) (g.F.Write.contents (inner_of at.faults))
+    (c.tell_total.new.writer ≡ at.writer) c.tell_total.result so few
+    (take_all at.case-index cases (omega (arith, c.loop-case-test.false)))
+    (λ same. (ap (λ w. has_failed w) same ∙ works, ap (λ w. g.W.Write.contents (inner_of w)) (sym same)))
+    (Keeps-refl (g.F.Write.contents (inner_of at.faults))) c.tell_total.ensures

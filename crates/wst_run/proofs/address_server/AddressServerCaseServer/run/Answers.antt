@@ -1,8 +1,19 @@
 -- A case at an address is a probe over some connection, or there is none.
-use Rattle.std.proofs.Common.{List, ℕ, IfOk, subst}
-use Rattle.wst_run.specs.Servers.{MeetsAtAddress}
+use Rattle.std.proofs.Common.{IfOk, map, subst}
+use Rattle.wst_run.specs.Servers.{AddressValue, MeetsAtAddress}
+use Rattle.wst_run.proofs.TargetLemmas.{meets_probed}
 use Rattle.wst_run.proofs.address_server.AddressServerCaseServer.run.Goals as goal
 
 pub returns-in-Ok : goal.returns-in-Ok
 returns-in-Ok g c =
-    subst (λ (server : List ℕ × List (List ℕ)). IfOk c.probe_over.result (λ probe. MeetsAtAddress server.0 server.1 c.args.key c.args.case.now probe)) c.self.view_is c.probe_over.ensures
+    let inside = c.self.inside in
+    let server : AddressValue = record {
+      host = inside.host.now;
+      offers = map (λ name. name.now) inside.offers.now;
+      budget = inside.bounds.budget;
+    } in
+    subst (λ (s : AddressValue). IfOk c.meet_over.result (λ meeting. MeetsAtAddress s c.args.key c.args.case.now
+    meeting))
+    c.self.view_is
+    (meets_probed server c.as_bytes.result.now c.args.key c.args.case.now c.meet_over.result c.as_bytes.ensures.value
+    c.meet_over.ensures)
