@@ -184,6 +184,12 @@ const FAULT: Answer<'static> = Answer::Bytes(b"\x83\x00");
 /// What is owed for the first turn of the case 5.19.
 const PONG: Answer<'static> = Answer::Bytes(b"\x8a\x06ping 1");
 
+/// What is owed for the ping of its second turn.
+const NEXT_PONG: Answer<'static> = Answer::Bytes(b"\x8a\x06ping 2");
+
+/// A message.
+const MESSAGE: Answer<'static> = Answer::Bytes(b"\x81\x01a");
+
 /// The answer's head, and frames that come with it.
 fn with_head(alloc: Global, frames: &[u8]) -> Result<Vec<u8>, Fail> {
     let mut answer = Vec::from_slice(alloc, RESPONSE)?;
@@ -255,6 +261,29 @@ fn waits_in_vain(rt: HostRuntime) -> Result<(), Fail> {
         got: 0,
     };
     check(&rt, alloc, 1, &run_of(&reads, BUDGET), &left)
+}
+
+/// The next turn is sent once what is due has come: as many messages, and the last pong with the payload of the last
+/// ping. Another pong doesn't count, nor do pongs without the message. Where the stream ends before, no turn is sent.
+#[test]
+fn waits_for_what_is_due(rt: HostRuntime) -> Result<(), Fail> {
+    let alloc = rt.alloc();
+    let mut left = Left {
+        calls: b"wrwrrwrz",
+        ended: Ended::Peer,
+        turns: 2,
+        got: 24,
+    };
+    let reads = [HEAD, NEXT_PONG, PONG, PONG];
+    check(&rt, alloc, 0, &run_of(&reads, BUDGET), &left)?;
+    left.calls = b"wrwrwrz";
+    left.got = 16;
+    check(&rt, alloc, 1, &run_of(&[HEAD, PONG, NEXT_PONG], BUDGET), &left)?;
+    let reads = [HEAD, PONG, MESSAGE, PONG, NEXT_PONG, CLOSE];
+    left.calls = b"wrwrwrrrwrez";
+    left.turns = 3;
+    left.got = 31;
+    check(&rt, alloc, 2, &run_of(&reads, BUDGET), &left)
 }
 
 /// The turn that holds the fault of what is sent is waited for as the last one is, where reads can wait in vain: in the

@@ -1,8 +1,8 @@
 -- What is recorded of a connection to a server, turn by turn.
-use Rattle.std.proofs.Common.{◌≡◌, ℕ, ◌+◌, ◌-◌, ◌<◌, ◌≤◌, ◌⊎◌, ◌↔◌, inl, inr, List, [], ◌∷◌, ◌++◌, length, length-append, get_or, take, drop, Bool, true, false, ◌||◌, Option, refl, sym, ap, ◌∙◌, subst, arith, append_assoc, append-nil, take_all, take-append-drop}
-use Rattle.std.proofs.lemmas.List.{take_rest, take_more, length-drop, map-append}
+use Rattle.std.proofs.Common.{◌≡◌, ap₂, ℕ, ◌+◌, ◌-◌, ◌<◌, ◌≤◌, ◌⊎◌, ◌↔◌, inl, inr, List, [], ◌∷◌, ◌++◌, length, length-append, get_or, take, drop, Bool, true, false, ◌||◌, Option, refl, sym, ap, ◌∙◌, subst, arith, append_assoc, append-nil, take_all, take-append-drop}
+use Rattle.std.proofs.lemmas.List.{length-take-le, take-append-le, take_rest, take_more, length-drop, map-append}
 use Rattle.std.proofs.lemmas.List.Folds.{concat-append}
-use Rattle.std.proofs.lemmas.Bool.{ltb-true, ltb-false}
+use Rattle.std.proofs.lemmas.Bool.{cases_lt, ltb-true, ltb-false}
 use Rattle.std.proofs.Math.Dec.{ltb}
 use Rattle.std.proofs.KnownBytes.{Appends-nil, Appends-trans, Appends-kept, Consumes-nil, Consumes-trans, Keeps-refl}
 use Rattle.std.specs.Prelude.{None, Some, map}
@@ -15,11 +15,13 @@ use Rattle.ws_scripts.specs.declared.transcript.Ended.{Ended}
 use Rattle.ws_scripts.specs.declared.transcript.Ended.TheVariants.{Tester, Peer, Broken}
 use Rattle.ws_scripts.specs.declared.transcript.Turn.{Turn}
 use Rattle.ws_scripts.specs.declared.transcript.Transcript.{Transcript}
+use Rattle.ws_wire.specs.declared.role.Role.TheVariants.{Server}
 use Rattle.ws_suite.specs.Evidence.{sent_turns}
+use Rattle.ws_suite.specs.Growing.{AreTurnsAnswered, new_turn, turn_with_got}
 use Rattle.ws_scripts.specs.Scripts.{ArePieces, turn_bytes}
 use Rattle.ws_peer.specs.Runs.{with_finish}
 use Rattle.ws_connection.specs.ConnectionValues.{InputValue, ConnectionRun, ConnectionValue, OutputValue}
-use Rattle.ws_connection.specs.Connections.{ReadsBytes, WritesBytes, HasWorked, is_open, read_failed}
+use Rattle.ws_connection.specs.Connections.{ReadsBytes, WritesBytes, HasWorked, is_open, waited_in_vain, read_failed}
 use Rattle.ws_connection.specs.Standings.{HasHeard, HasNoGotFault, Stands, standing_by}
 use Rattle.ws_connection.specs.declared.incoming.Incoming.{Incoming}
 use Rattle.ws_connection.specs.declared.incoming.Incoming.TheVariants.{Unread, Open, AtEnd, Waited as WaitedState, Failed as FailedState}
@@ -27,9 +29,9 @@ use Rattle.ws_connection.specs.declared.standing.Standing.{Standing}
 use Rattle.ws_connection.specs.declared.standing.Standing.TheVariants.{Going, Closed, Faulty}
 use Rattle.ws_connection.specs.declared.probing.turn.TurnStop.{TurnStop}
 use Rattle.ws_connection.specs.declared.probing.turn.TurnStop.TheVariants.{IsThere, Fault, Waited, End, Failed, Budget}
-use Rattle.ws_connection.specs.Probing.{EndsScript, EndsTurn, HasGotFirst, HasSentOf, MayFollow, all_got, all_sent, max_piece}
+use Rattle.ws_connection.specs.Probing.{AreWaitedFor, EndsScript, EndsTurn, HasGotFirst, HasSentOf, MayFollow, all_got, all_sent, max_piece}
 use Rattle.ws_connection.specs.InnerProbeTurns.{GoesOnOrEnds, IsGotAtStop, IsReadStop, IsReady, IsStopBefore, IsTurnStop, ReadsPiece, ReadsTurn, Records, RunsTurn, SendsTurn, StopsBefore, end_of_turn, is_closed}
-use Rattle.ws_connection.specs.InnerProbeTurns.{AnswersBehind, stop_at}
+use Rattle.ws_connection.specs.InnerProbeTurns.{AnswersBehind, HasSeen, RunValue, SeesRun, SeesTurn, stop_at, then_turn}
 use Rattle.ws_connection.specs.Connections.{IsNewConnection, MayWrite, ReadsHeadOver, brings, takes_part}
 use Rattle.ws_connection.specs.Probing.{AnswersProbe, probe_nonce}
 use Rattle.ws_connection.specs.ReadingHeads.{ReadsHead}
@@ -227,17 +229,19 @@ stopped_before one waits stop past old_got got client x y z going h s = record {
     got_at Budget (none, used) = no_fault (standing_by client.status) (past ++ got) none stands
 
 -- a read that brought nothing
-pub no_piece : (got room : List ℕ) (client : SessionValue) (stop : Option TurnStop) (count : ℕ) (x y : ConnectionValue) → count ≡ 0 → stop ≡ stop_at y.input.state → ReadsBytes (take count room) (between x y)
-    → x.input.allowance ≡ count + y.input.allowance → brings count y.input.state → y.output ≡ x.output → (y.input.state ≡ AtEnd → IsAtEnd y.input.left) → ReadsPiece stop got got client client (between x y)
-no_piece got room client stop count x y none is has spends brought output at_end = record {
+pub no_piece : (got room : List ℕ) (seen : RunValue) (stop : Option TurnStop) (count : ℕ) (x y : ConnectionValue) → count ≡ 0 → stop ≡ stop_at y.input.state → ReadsBytes (take count room) (between x y)
+    → x.input.allowance ≡ count + y.input.allowance → brings count y.input.state → y.output ≡ x.output → (y.input.state ≡ AtEnd → IsAtEnd y.input.left) → y.input.waited ≡ (x.input.waited || waited_in_vain y.input.state)
+    → ReadsPiece stop got got seen seen (between x y)
+no_piece got room seen stop count x y none is has spends brought output at_end waited = record {
   piece = [];
   bound = omega arith;
   grown = sym (append-nil got);
   has_got = subst (λ (n : ℕ). ReadsBytes (take n room) (between x y)) none has;
   spent = subst (λ (n : ℕ). x.input.allowance ≡ n + y.input.allowance) none spends;
   output = output;
-  heard = λ before h. subst (λ (l : List ℕ). HasHeard client l) (sym (append-nil before)) h;
+  seen = λ past turn h. subst (λ (l : List ℕ). HasSeen (past ++ record { sent = turn.sent; got = l } ∷ []) seen) (sym (append-nil turn.got)) h;
   over = λ e. refl;
+  waited = waited;
   stops = subst (λ (o : Option TurnStop). IsReadStop o [] y) (sym is) (pick y.input.state refl (subst (λ (n : ℕ). brings n y.input.state) none brought));
 }
   where
@@ -249,16 +253,27 @@ no_piece got room client stop count x y none is has spends brought output at_end
     pick FailedState e b = (e, refl)
 
 -- a read that brought something
-pub still_open : (got next : List ℕ) (client after : SessionValue) (z w : ConnectionValue) (read_stop : Option TurnStop) → read_stop ≡ None → ReadsPiece read_stop got next client after (between z w) → is_open w.input.state ≡ true
-still_open got next client after z w read_stop e r =
+pub some_piece : (room : List ℕ) (count : ℕ) (state : Incoming) → 0 < count → count ≤ length room → brings count state → (is_open state ≡ true) × (0 < length (take count room))
+some_piece room count state some within brought = (pick state brought, (let e = length-take-le count room within in omega (arith, e, some)))
+  where
+    pick : (state : Incoming) → brings count state → is_open state ≡ true
+    pick Unread b = absurd b
+    pick Open b = refl
+    pick WaitedState b = refl
+    pick AtEnd b = absurd (omega (arith, b, some))
+    pick FailedState b = absurd (omega (arith, b, some))
+
+pub still_open : (got next : List ℕ) (seen after : RunValue) (z w : ConnectionValue) (read_stop : Option TurnStop) → read_stop ≡ None → ReadsPiece read_stop got next seen after (between z w) → is_open w.input.state ≡ true
+still_open got next seen after z w read_stop e r =
     let stops = subst (λ (o : Option TurnStop). IsReadStop o r.piece w) e r.stops in
     stops.0
 
 -- a read, where what was got so far has no fault
-module _ (one : OneList) (past old_got got next : List ℕ) (client after : SessionValue) (x y z w : ConnectionValue) (waits : Bool) (read_stop : Option TurnStop)
-    (h : ReadsSoFar past old_got got client (between x y)) (s : StopsBefore None waits (standing_by client.status) (between y z)) (r : ReadsPiece read_stop got next client after (between z w)) where
+module _ (one : OneList) (past old_got got next : List ℕ) (seen after : RunValue) (x y z w : ConnectionValue) (waits : Bool) (read_stop : Option TurnStop)
+    (h : ReadsSoFar past old_got got seen.tester (between x y)) (s : StopsBefore None waits (standing_by seen.tester.status) (between y z)) (r : ReadsPiece read_stop got next seen after (between z w))
+    (heard_after : HasHeard after.tester (past ++ next)) where
   none_now : HasNoGotFault (past ++ got)
-  none_now = no_fault (standing_by client.status) (past ++ got) s.stops.0 (heard_stands client (past ++ got) h.heard)
+  none_now = no_fault (standing_by seen.tester.status) (past ++ got) s.stops.0 (heard_stands seen.tester (past ++ got) h.heard)
 
   all_got_now : past ++ next ≡ (past ++ got) ++ r.piece
   all_got_now = ap (λ (l : List ℕ). past ++ l) r.grown ∙ sym (append_assoc past got r.piece)
@@ -275,21 +290,18 @@ module _ (one : OneList) (past old_got got next : List ℕ) (client after : Sess
   failed_to_w : w.output.failed ≡ x.output.failed
   failed_to_w = ap (λ (o : OutputValue). o.failed) r.output ∙ s.failed ∙ h.failed
 
-  heard_after : HasHeard after (past ++ next)
-  heard_after = subst (λ (l : List ℕ). HasHeard after l) (sym all_got_now) (r.heard (past ++ got) h.heard)
-
   grown_after : next ≡ old_got ++ (h.read ++ r.piece)
   grown_after = r.grown ∙ ap (λ (l : List ℕ). l ++ r.piece) h.grown ∙ append_assoc old_got h.read r.piece
 
-  closed_to_w : w.output.ended ≡ true → standing_by client.status ≡ Closed
-  closed_to_w e = ended_then y.output.ended z.output.ended (standing_by client.status) h.closes s.ended (sym (ap (λ (o : OutputValue). o.ended) r.output) ∙ e)
+  closed_to_w : w.output.ended ≡ true → standing_by seen.tester.status ≡ Closed
+  closed_to_w e = ended_then y.output.ended z.output.ended (standing_by seen.tester.status) h.closes s.ended (sym (ap (λ (o : OutputValue). o.ended) r.output) ∙ e)
 
-  closes_after : w.output.ended ≡ true → standing_by after.status ≡ Closed
+  closes_after : w.output.ended ≡ true → standing_by after.tester.status ≡ Closed
   closes_after e =
       let closed = closed_to_w e in
-      ap (λ (v : SessionValue). standing_by v.status) (r.over (closed_is_over client.status closed)) ∙ closed
+      ap (λ (v : SessionValue). standing_by v.status) (r.over (closed_is_over seen.tester.status closed)) ∙ closed
 
-  pub more_read : ReadsSoFar past old_got next after (between x w)
+  pub more_read : ReadsSoFar past old_got next after.tester (between x w)
   more_read = record {
     read = h.read ++ r.piece;
     grown = grown_after;
@@ -306,7 +318,7 @@ module _ (one : OneList) (past old_got got next : List ℕ) (client after : Sess
     none_before = none_now;
   }
 
-  pub stopped_at_read : (stop : TurnStop) → read_stop ≡ Some stop → ReadsTurn waits stop past old_got next after (between x w)
+  pub stopped_at_read : (stop : TurnStop) → read_stop ≡ Some stop → ReadsTurn waits stop past old_got next after.tester (between x w)
   stopped_at_read stop e = record {
     read = h.read ++ r.piece;
     grown = grown_after;
@@ -318,10 +330,10 @@ module _ (one : OneList) (past old_got got next : List ℕ) (client after : Sess
     stops = stops stop stopped;
     got = got_at stop stopped;
     half_closed = (
-      λ now. subst (λ (t : Standing). Stands t (past ++ next)) (closes_after now) (heard_stands after (past ++ next) heard_after),
+      λ now. subst (λ (t : Standing). Stands t (past ++ next)) (closes_after now) (heard_stands after.tester (past ++ next) heard_after),
       λ closed. ap (λ (o : OutputValue). o.ended) r.output
-          ∙ ended_where y.output.ended z.output.ended (standing_by client.status) s.ended
-          (one_standing one (standing_by client.status) Closed (past ++ got) (heard_stands client (past ++ got) h.heard) (subst (λ (l : List ℕ). Stands Closed l) (same_got stop stopped) closed)),
+          ∙ ended_where y.output.ended z.output.ended (standing_by seen.tester.status) s.ended
+          (one_standing one (standing_by seen.tester.status) Closed (past ++ got) (heard_stands seen.tester (past ++ got) h.heard) (subst (λ (l : List ℕ). Stands Closed l) (same_got stop stopped) closed)),
     );
   }
     where
@@ -444,6 +456,121 @@ got_first_more : (first : List ℕ) (done : List Turn) (turn : Turn) → HasGotF
 got_first_more first [] turn h = absurd h
 got_first_more first (t ∷ turns) turn h = h
 
+-- ---- what is shown
+
+pub heard_by : (turns : List Turn) (seen : RunValue) → HasSeen turns seen → HasHeard seen.tester (all_got turns)
+heard_by turns seen h = record { role = h.got.same_role; limits = h.got.limits; sent = h.got.sent; exchanged = h.got.exchanged }
+
+pub heard_in_turn : (past : List Turn) (sent got : List ℕ) (seen : RunValue) → HasSeen (then_turn past sent got) seen → HasHeard seen.tester (all_got past ++ got)
+heard_in_turn past sent got seen h = subst (λ (l : List ℕ). HasHeard seen.tester l) (got_more past (record { sent = sent; got = got })) (heard_by (then_turn past sent got) seen h)
+
+-- a piece more
+pub seen_more : (past : List Turn) (sent got next piece : List ℕ) (seen after : RunValue) → next ≡ got ++ piece
+    → ((before : List Turn) (turn : Turn) → HasSeen (before ++ turn ∷ []) seen → HasSeen (before ++ turn_with_got turn piece ∷ []) after) → HasSeen (then_turn past sent got) seen → HasSeen (then_turn past sent next) after
+seen_more past sent got next piece seen after e more h = subst (λ (l : List ℕ). HasSeen (then_turn past sent l) after) (sym e) (more past (record { sent = sent; got = got }) h)
+
+waited_either : (a b c : Bool) → c ≡ (a || b) → a ≡ true → c ≡ true
+waited_either true b c is e = is
+waited_either false b c is e = absurd cc
+
+waited_now : (a b c : Bool) → c ≡ (a || b) → b ≡ true → c ≡ true
+waited_now true b c is e = is
+waited_now false b c is e = is ∙ e
+
+pub waited_through : (x y z : ConnectionValue) → (x.input.waited ≡ true → y.input.waited ≡ true) → z.input ≡ y.input → x.input.waited ≡ true → z.input.waited ≡ true
+waited_through x y z before same e = ap (λ (i : InputValue). i.waited) same ∙ before e
+
+pub waited_on : (x y z w : ConnectionValue) → (x.input.waited ≡ true → y.input.waited ≡ true) → z.input ≡ y.input → w.input.waited ≡ (z.input.waited || waited_in_vain w.input.state) → x.input.waited ≡ true → w.input.waited ≡ true
+waited_on x y z w before same is e = waited_either z.input.waited (waited_in_vain w.input.state) w.input.waited is (waited_through x y z before same e)
+
+-- no more is read before a read
+pub sees_before : (waits : Bool) (stop : TurnStop) (standing : Standing) (turns : List Turn) (seen : RunValue) (x y z : ConnectionValue) → HasSeen turns seen → (x.input.waited ≡ true → y.input.waited ≡ true)
+    → StopsBefore (Some stop) waits standing (between y z) → (Some stop ≡ Some IsThere → (turns : List Turn) → HasSeen turns seen → AreTurnsAnswered Server turns) → SeesTurn stop turns seen (between x z)
+sees_before waits stop standing turns seen x y z h before s due = record {
+  shown = h;
+  due = λ e. due (ap (λ (t : TurnStop). Some t) e) turns h;
+  waited_before = waited_through x y z before s.input;
+  waited = λ e. absurd (subst (λ (t : TurnStop). IsStopBefore (Some t) waits standing z) e s.stops);
+}
+
+-- no more is read after a read that brought nothing
+pub sees_after : (stop : TurnStop) (read_stop : Option TurnStop) (got next : List ℕ) (turns : List Turn) (seen after : RunValue) (x y z w : ConnectionValue) → read_stop ≡ Some stop → HasSeen turns after
+    → (x.input.waited ≡ true → y.input.waited ≡ true) → z.input ≡ y.input → ReadsPiece read_stop got next seen after (between z w) → SeesTurn stop turns after (between x w)
+sees_after stop read_stop got next turns seen after x y z w e h before same r = record {
+  shown = h;
+  due = λ there. absurd (subst (λ (t : TurnStop). IsReadStop (Some t) r.piece w) there stopped);
+  waited_before = waited_on x y z w before same r.waited;
+  waited = λ waits.
+      let at = subst (λ (t : TurnStop). IsReadStop (Some t) r.piece w) waits stopped in
+      waited_now z.input.waited (waited_in_vain w.input.state) w.input.waited r.waited (ap (λ (s : Incoming). waited_in_vain s) at.0);
+}
+  where
+    stopped : IsReadStop (Some stop) r.piece w
+    stopped = subst (λ (o : Option TurnStop). IsReadStop o r.piece w) e r.stops
+
+-- the script goes on where what is due has come, or a read has waited in vain
+goes_on_by : (failed ended more : Bool) (stop : TurnStop) → end_of_turn failed ended more stop ≡ None → (stop ≡ IsThere) ⊎ (stop ≡ Waited)
+goes_on_by failed ended more IsThere e = inl refl
+goes_on_by failed ended more Fault e = absurd cc
+goes_on_by failed ended more Waited e = inr refl
+goes_on_by false ended more End e = absurd cc
+goes_on_by true ended more End e = absurd cc
+goes_on_by failed ended more Failed e = absurd cc
+goes_on_by failed ended more Budget e = absurd cc
+
+pub sees_run : (failed ended more : Bool) (stop : TurnStop) (end : Option Ended) (past : List Turn) (sent got : List ℕ) (turn : Turn) (seen : RunValue) (x y z : ConnectionValue) → end ≡ end_of_turn failed ended more stop → turn.sent ≡ sent
+    → turn.got ≡ got → y.input ≡ x.input → SeesTurn stop (then_turn past sent got) seen (between y z) → SeesRun end (past ++ turn ∷ []) seen (between x z)
+sees_run failed ended more stop end past sent got turn seen x y z is s g same t = record {
+  shown = subst (λ (l : List Turn). HasSeen l seen) turns t.shown;
+  follows = λ none. pick (goes_on_by failed ended more stop (sym is ∙ none));
+  waited_before = λ e. t.waited_before (ap (λ (i : InputValue). i.waited) same ∙ e);
+}
+  where
+    turns : then_turn past sent got ≡ past ++ turn ∷ []
+    turns = ap₂ (λ (a b : List ℕ). then_turn past a b) (sym s) (sym g)
+
+    pick : (stop ≡ IsThere) ⊎ (stop ≡ Waited) → AreTurnsAnswered Server (past ++ turn ∷ []) ⊎ (z.input.waited ≡ true)
+    pick (inl there) = inl (subst (λ (l : List Turn). AreTurnsAnswered Server l) turns (t.due there))
+    pick (inr waited) = inr (t.waited waited)
+
+-- the first turn has begun, and has got what came with the head
+pub first_seen : (done : List Turn) (bytes first : List ℕ) (seen : RunValue) → done ≡ [] → bytes ≡ first → HasSeen (turn_with_got new_turn bytes ∷ []) seen → HasSeen (then_turn done [] first) seen
+first_seen done bytes first seen none is h =
+    subst (λ (l : List Turn). HasSeen (then_turn l [] first) seen) (sym none) (subst (λ (l : List ℕ). HasSeen (then_turn [] [] l) seen) is h)
+
+-- the next turn has begun
+pub next_seen : (done : List Turn) (turn : Turn) (all : List Turn) (got : List ℕ) (seen : RunValue) → all ≡ done ++ turn ∷ [] → got ≡ [] → HasSeen ((done ++ turn ∷ []) ++ new_turn ∷ []) seen → HasSeen (then_turn all [] got) seen
+next_seen done turn all got seen is none h =
+    subst (λ (l : List Turn). HasSeen (then_turn l [] got) seen) (sym is) (subst (λ (l : List ℕ). HasSeen (then_turn (done ++ turn ∷ []) [] l) seen) (sym none) h)
+
+-- one turn more was waited for
+pub waited_for_more : (done all : List Turn) (turn : Turn) (y z : ConnectionValue) → AreWaitedFor done y → (y.input.waited ≡ true → z.input.waited ≡ true) → AreTurnsAnswered Server (done ++ turn ∷ []) ⊎ (z.input.waited ≡ true)
+    → all ≡ done ++ turn ∷ [] → AreWaitedFor all z
+waited_for_more done all turn y z h before last is = subst (λ (l : List Turn). AreWaitedFor l z) (sym is) (λ n some less. pick n some less)
+  where
+    kept : (l : List Turn) → AreTurnsAnswered Server l ⊎ (y.input.waited ≡ true) → AreTurnsAnswered Server l ⊎ (z.input.waited ≡ true)
+    kept l (inl a) = inl a
+    kept l (inr w) = inr (before w)
+
+    pick : (n : ℕ) → 0 < n → n ≤ length (done ++ turn ∷ []) → AreTurnsAnswered Server (take n (done ++ turn ∷ [])) ⊎ (z.input.waited ≡ true)
+    pick n some less = elim (cases_lt (length done) n) [
+      | inl more ↦ subst (λ (l : List Turn). AreTurnsAnswered Server l ⊎ (z.input.waited ≡ true)) (sym (take_all n (done ++ turn ∷ []) (omega (arith, more, length-append done (turn ∷ []))))) last
+      | inr fewer ↦
+          subst (λ (l : List Turn). AreTurnsAnswered Server l ⊎ (z.input.waited ≡ true)) (sym (take-append-le n done (turn ∷ []) fewer)) (kept (take n done) (h n some fewer))
+    ]
+
+pub waited_for_still : (done : List Turn) (y z : ConnectionValue) → AreWaitedFor done y → (y.input.waited ≡ true → z.input.waited ≡ true) → AreWaitedFor done z
+waited_for_still done y z h before = λ n some less. kept (h n some less)
+  where
+    kept : {X : Type 0} → X ⊎ (y.input.waited ≡ true) → X ⊎ (z.input.waited ≡ true)
+    kept (inl a) = inl a
+    kept (inr w) = inr (before w)
+
+pub none_waited_for : (done : List Turn) (x : ConnectionValue) → done ≡ [] → AreWaitedFor done x
+none_waited_for done x none = λ n some less. absurd (omega (arith, some, less, ap (λ (l : List Turn). length l) none))
+
+-- ---- all turns
+
 -- what came first is still to be recorded, or was in the first turn
 abbrev pub IsFirstGot : List ℕ → List ℕ → List Turn → Type 0
 IsFirstGot first got done = ((done ≡ []) × (got ≡ first)) ⊎ HasGotFirst first done
@@ -457,7 +584,7 @@ may_follow first [] turn h = h
 may_follow first (t ∷ turns) turn h = h
 
 -- these turns were run, all bytes of them were sent, and there is one more
-pub record HasRunTurns (script : List (List (List ℕ))) (first got : List ℕ) (done : List Turn) (i : ℕ) (client : SessionValue) (run : ConnectionRun) : Type 0 where
+pub record HasRunTurns (script : List (List (List ℕ))) (first got : List ℕ) (done : List Turn) (i : ℕ) (run : ConnectionRun) : Type 0 where
   pub read : List ℕ
   pub has_got : ReadsBytes read run
   pub spent : run.old.input.allowance ≡ length read + run.new.input.allowance
@@ -468,13 +595,13 @@ pub record HasRunTurns (script : List (List (List ℕ))) (first got : List ℕ) 
   pub count : length done ≡ i
   pub more : i < length script
   pub ready : IsReady run.new
-  pub heard : HasHeard client (all_got done ++ got)
+  pub waited_for : AreWaitedFor done run.new
   pub none_faulty : HasNoGotFault (all_got done ++ got)
   pub behind : MayFollow first done
 
-pub runs_none : (script : List (List (List ℕ))) (first got : List ℕ) (done : List Turn) (client : SessionValue) (x : ConnectionValue) → got ≡ first → done ≡ [] → 0 < length script → IsReady x → HasHeard client first
-    → HasNoGotFault first → HasRunTurns script first got done 0 client (between x x)
-runs_none script first got done client x e none some ready heard none_faulty = record {
+pub runs_none : (script : List (List (List ℕ))) (first got : List ℕ) (done : List Turn) (x : ConnectionValue) → got ≡ first → done ≡ [] → 0 < length script → IsReady x
+    → HasNoGotFault first → HasRunTurns script first got done 0 (between x x)
+runs_none script first got done x e none some ready none_faulty = record {
   read = [];
   has_got = Consumes-nil x.input.left;
   spent = none_spent x.input.allowance;
@@ -485,7 +612,7 @@ runs_none script first got done client x e none some ready heard none_faulty = r
   count = ap (λ (l : List Turn). length l) none;
   more = some;
   ready = ready;
-  heard = subst (λ (l : List ℕ). HasHeard client l) (sym same) heard;
+  waited_for = none_waited_for done x none;
   none_faulty = subst (λ (l : List ℕ). HasNoGotFault l) (sym same) none_faulty;
   behind = subst (λ (l : List Turn). MayFollow first l) (sym none) none_faulty;
 }
@@ -515,8 +642,9 @@ none_left script n h = nothing (drop n script) (omega (arith, length-drop n scri
     nothing (x ∷ xs) h = absurd (omega arith)
 
 -- one turn more, and what is known of it
-module _ (script : List (List (List ℕ))) (pieces : List (List ℕ)) (first got : List ℕ) (done all : List Turn) (turn : Turn) (i : ℕ) (more : Bool) (client after : SessionValue) (x y z : ConnectionValue) (end : Option Ended)
-    (h : HasRunTurns script first got done i client (between x y)) (t : RunsTurn (concat pieces) (all_got done) got more turn end after (between y z)) (pushed : all ≡ done ++ turn ∷ []) where
+module _ (script : List (List (List ℕ))) (pieces : List (List ℕ)) (first got : List ℕ) (done all : List Turn) (turn : Turn) (i : ℕ) (more : Bool) (after : RunValue) (x y z : ConnectionValue) (end : Option Ended)
+    (h : HasRunTurns script first got done i (between x y)) (t : RunsTurn (concat pieces) (all_got done) got more turn end after.tester (between y z)) (shown : SeesRun end (done ++ turn ∷ []) after (between y z))
+    (pushed : all ≡ done ++ turn ∷ []) where
   all_now : all_got all ≡ all_got done ++ turn.got
   all_now = ap (λ (l : List Turn). all_got l) pushed ∙ got_more done turn
 
@@ -531,7 +659,7 @@ module _ (script : List (List (List ℕ))) (pieces : List (List ℕ)) (first got
   all_first : HasGotFirst first all
   all_first = subst (λ (l : List Turn). HasGotFirst first l) (sym pushed) (got_first_after first got t.read done turn h.first_got t.got)
 
-  pub goes_on : (next : List ℕ) → end ≡ None → next ≡ [] → take (i + 1) script ≡ take i script ++ pieces ∷ [] → (more ≡ true → i + 1 < length script) → HasRunTurns script first next all (i + 1) after (between x z)
+  pub goes_on : (next : List ℕ) → end ≡ None → next ≡ [] → take (i + 1) script ≡ take i script ++ pieces ∷ [] → (more ≡ true → i + 1 < length script) → HasRunTurns script first next all (i + 1) (between x z)
   goes_on next e none taken left =
       let (goes, whole, ready, stands) = subst (λ (o : Option Ended). GoesOnOrEnds o (concat pieces) more turn.sent (all_got done ++ turn.got) z) e t.ends in
       let same : all_got all ++ next ≡ all_got done ++ turn.got = ap (λ (l : List ℕ). all_got all ++ l) none ∙ append-nil (all_got all) ∙ all_now in
@@ -548,7 +676,7 @@ module _ (script : List (List (List ℕ))) (pieces : List (List ℕ)) (first got
         count = ap (λ (l : List Turn). length l) pushed ∙ length-append done (turn ∷ []) ∙ ap (λ (n : ℕ). n + 1) h.count;
         more = left goes;
         ready = ready;
-        heard = subst (λ (l : List ℕ). HasHeard after l) (sym same) t.heard;
+        waited_for = waited_for_more done all turn y z h.waited_for shown.waited_before (shown.follows e) pushed;
         none_faulty = subst (λ (l : List ℕ). HasNoGotFault l) (sym same) (inl stands);
         behind = subst (λ (l : List Turn). MayFollow first l) (sym pushed) (may_follow first done turn (subst (λ (l : List ℕ). Stands Going l) (sym (got_more done turn)) stands));
       }
@@ -570,6 +698,7 @@ module _ (script : List (List (List ℕ))) (pieces : List (List ℕ)) (first got
           last = turn;
           recorded = turns ∙ pushed;
           behind = h.behind;
+          waited_for = waited_for_still done y z h.waited_for shown.waited_before;
           bytes = concat pieces;
           others = bytes_of (drop (i + 1) script);
           sent =

@@ -1,35 +1,23 @@
 -- How what was got stands, by the status of the client that has taken it.
-use Rattle.std.proofs.Common.{◌≡◌, ◌∙◌, ℕ, inl, inr, ◌++◌, List, Bool, true, false, if◌then◌else◌, Option, refl, sym, ap, subst}
+use Rattle.std.proofs.Common.{◌≡◌, ◌∙◌, ℕ, inl, inr, List, Bool, true, false, if◌then◌else◌, Option, refl, sym, ap, subst}
 use Rattle.std.specs.Prelude.{None, Some}
 use Rattle.ws_wire.specs.declared.role.Role.{Role}
 use Rattle.ws_wire.specs.declared.role.Role.TheVariants.{Client}
 use Rattle.ws_wire.specs.Frame.{Frame}
 use Rattle.ws_session.specs.declared.event.Event.{Event}
 use Rattle.ws_session.specs.declared.event.Event.TheVariants as event
-use Rattle.ws_session.specs.declared.event.PlacedEvent.{PlacedEvent}
 use Rattle.ws_session.specs.declared.status.Status.{Status}
 use Rattle.ws_session.specs.declared.status.Status.TheVariants as status
 use Rattle.ws_session.specs.Limits.{LimitsValue}
 use Rattle.ws_session.specs.Events.{HasEvents}
 use Rattle.ws_session.specs.Exchange.{SessionValue, is_over, last_event, status_after}
-use Rattle.ws_session.specs.Replies.{has_close, replies_by, reply_to}
+use Rattle.ws_session.specs.Replies.{has_close}
 use Rattle.ws_session.specs.Sends.{most_limits}
-use Rattle.ws_session.specs.Taking.{HasTakenAll, events_in}
+use Rattle.ws_suite.specs.Growing.{is_failed}
 use Rattle.ws_connection.specs.Standings.{HasHeard, HasNoGotFault, Stands, standing_at, standing_by}
 use Rattle.ws_connection.specs.InnerProbeTurns.{is_closed, is_faulty}
 use Rattle.ws_connection.specs.declared.standing.Standing.{Standing}
 use Rattle.ws_connection.specs.declared.standing.Standing.TheVariants.{Going, Closed, Faulty}
-
-pub heard_more : (old new : SessionValue) (got bytes key x y : List ℕ) (first told : List PlacedEvent) → HasTakenAll reply_to old new (record { piece = bytes; key = key; before = x; after = y }) first told
-    → HasHeard old got → HasHeard new (got ++ bytes)
-heard_more old new got bytes key x y first told taken h =
-    let takes = taken.takes (record { sent = h.sent; taken = got; ended = false }) refl h.exchanged in
-    record {
-      role = taken.same.0 ∙ h.role;
-      limits = taken.same.1 ∙ h.limits;
-      sent = h.sent ++ replies_by reply_to h.sent (events_in taken.told);
-      exchanged = takes.agrees;
-    }
 
 -- ---- by the status
 
@@ -84,7 +72,16 @@ closed_is Going e = absurd cc
 closed_is Closed e = refl
 closed_is Faulty e = absurd cc
 
-pub faulty_is : (s : Standing) → is_faulty s ≡ true → s ≡ Faulty
-faulty_is Going e = absurd cc
-faulty_is Closed e = absurd cc
-faulty_is Faulty e = refl
+pub failed_is : (s : Status) → is_failed s ≡ true → standing_by s ≡ Faulty
+failed_is status.Open e = absurd cc
+failed_is status.Closing e = absurd cc
+failed_is (status.Clean code) e = absurd cc
+failed_is (status.Failed reason) e = refl
+failed_is status.Lost e = absurd cc
+
+pub not_failed : (s : Status) → is_failed s ≡ false → is_faulty (standing_by s) ≡ false
+not_failed status.Open e = refl
+not_failed status.Closing e = refl
+not_failed (status.Clean code) e = refl
+not_failed (status.Failed reason) e = absurd cc
+not_failed status.Lost e = refl

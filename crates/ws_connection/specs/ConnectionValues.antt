@@ -2,11 +2,12 @@
 use Rattle.std.specs.Prelude.{ℕ, Bool, List, Option}
 use Rattle.ws_connection.specs.declared.incoming.Incoming.{Incoming}
 
--- the direction that is read: what the reader has left, where that is known; how its reads stand; and how many bytes
--- may still be read behind the head of the answer
+-- the direction that is read: what the reader has left, where that is known; how its reads stand; whether some read
+-- behind the head of the answer has waited in vain; and how many bytes may still be read behind it
 pub record InputValue : Type 0 where
   pub left : Option (List ℕ)
   pub state : Incoming
+  pub waited : Bool
   pub allowance : ℕ
 
 -- the direction that is written: what the writer holds, where that is known; whether a write has failed; and whether

@@ -53,6 +53,11 @@ brings count Waited = count ≡ 0
 brings count AtEnd = count ≡ 0
 brings count Failed = count ≡ 0
 
+-- the last read has waited in vain
+abbrev pub waited_in_vain : Incoming → Bool
+waited_in_vain Waited = true
+waited_in_vain _ = false
+
 -- so many bytes fewer may still be read
 abbrev pub spent : ℕ → ℕ → ℕ → Type 0
 spent before count after = before ≡ count + after
@@ -88,5 +93,6 @@ pub record ReadsHeadOver {D : Type 0} (needs : List ℕ → Type 0) (decides : L
     (end : HeadEnd D) (read : List ℕ) (run : ConnectionRun) : Type 0 where
   pub reads : ReadsHead needs decides end read (input_of run)
   pub state : run.new.input.state ≡ state_after_head end
+  pub waited : run.new.input.waited ≡ run.old.input.waited
   pub allowance : run.new.input.allowance ≡ run.old.input.allowance
   pub output : run.new.output ≡ run.old.output

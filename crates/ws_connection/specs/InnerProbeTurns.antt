@@ -1,15 +1,18 @@
 -- Inside the crate: one turn of a script that is run against a server, and all of them. A reader may skip this file.
-use Rattle.std.specs.Prelude.{◌≡◌, ℕ, ◌+◌, ◌<◌, ◌≤◌, ◌↔◌, ◌||◌, Bool, true, false, ⊤, List, [], ◌++◌, length}
+use Rattle.std.specs.Prelude.{◌≡◌, ℕ, ◌+◌, ◌<◌, ◌≤◌, ◌↔◌, ◌⊎◌, ◌||◌, Bool, true, false, ⊤, List, [], ◌∷◌, ◌++◌, length}
 use Rattle.std.specs.Prelude.{Option, None, Some}
 use Rattle.std.specs.Io.KnownBytes.{Keeps}
+use Rattle.ws_wire.specs.declared.role.Role.TheVariants.{Server}
 use Rattle.ws_session.specs.Exchange.{SessionValue, is_over}
 use Rattle.ws_scripts.specs.declared.transcript.Ended.{Ended}
 use Rattle.ws_scripts.specs.declared.transcript.Ended.TheVariants.{Tester, Peer, Broken}
 use Rattle.ws_scripts.specs.declared.transcript.Turn.{Turn}
 use Rattle.ws_scripts.specs.declared.transcript.Transcript.{Transcript}
 use Rattle.ws_connection.specs.ConnectionValues.{ConnectionRun, ConnectionValue}
-use Rattle.ws_connection.specs.Connections.{ReadsBytes, WritesBytes, is_open}
-use Rattle.ws_connection.specs.Standings.{HasHeard, HasHeardMore, HasNoGotFault, Stands}
+use Rattle.ws_suite.specs.declared.evidence.keeping.ReplyTally.{ReplyTally}
+use Rattle.ws_suite.specs.Growing.{AreTurnsAnswered, GrowingValue, HasGrown, IsTallyOf, turn_with_got}
+use Rattle.ws_connection.specs.Connections.{ReadsBytes, WritesBytes, is_open, waited_in_vain}
+use Rattle.ws_connection.specs.Standings.{HasHeard, HasNoGotFault, Stands}
 use Rattle.ws_connection.specs.Probing.{all_got, all_sent, max_piece, EndsByFault, EndsScript, EndsTurn, HasEnded}
 use Rattle.ws_connection.specs.Probing.{HasSentOf}
 use Rattle.ws_connection.specs.Probing.{RefusesResponse, RunsScript, StopsInResponse}
@@ -22,6 +25,20 @@ use Rattle.ws_connection.specs.declared.standing.Standing.{Standing}
 use Rattle.ws_connection.specs.declared.standing.Standing.TheVariants.{Going, Closed, Faulty}
 use Rattle.ws_connection.specs.declared.probing.turn.TurnStop.{TurnStop}
 use Rattle.ws_connection.specs.declared.probing.turn.TurnStop.TheVariants.{IsThere, Fault, Waited, End, Failed, Budget}
+
+-- ---- what is shown
+
+-- what went over the connection so far, as far as a run asks about it
+abbrev pub RunValue : Type 0
+RunValue = GrowingValue ReplyTally
+
+-- it has grown with just these turns of a connection to a server
+abbrev pub HasSeen : List Turn → RunValue → Type 0
+HasSeen turns seen = HasGrown IsTallyOf Server turns seen
+
+-- these turns, and then one that has sent and got these bytes
+abbrev pub then_turn : List Turn → List ℕ → List ℕ → List Turn
+then_turn past sent got = past ++ record { sent = sent; got = got } ∷ []
 
 -- ---- what is sent
 
@@ -82,7 +99,7 @@ stop_at FailedState = Some Failed
 stop_at _ = None
 
 -- a piece was read, and put behind what was got
-pub record ReadsPiece (stop : Option TurnStop) (old_got new_got : List ℕ) (old_client new_client : SessionValue)
+pub record ReadsPiece (stop : Option TurnStop) (old_got new_got : List ℕ) (old_seen new_seen : RunValue)
     (run : ConnectionRun) : Type 0 where
   pub piece : List ℕ
   pub bound : length piece ≤ max_piece
@@ -90,8 +107,10 @@ pub record ReadsPiece (stop : Option TurnStop) (old_got new_got : List ℕ) (old
   pub has_got : ReadsBytes piece run
   pub spent : run.old.input.allowance ≡ length piece + run.new.input.allowance
   pub output : run.new.output ≡ run.old.output
-  pub heard : HasHeardMore old_client new_client piece
-  pub over : is_over old_client.status ≡ true → new_client ≡ old_client
+  pub seen : (past : List Turn) (turn : Turn) → HasSeen (past ++ turn ∷ []) old_seen
+      → HasSeen (past ++ turn_with_got turn piece ∷ []) new_seen
+  pub over : is_over old_seen.tester.status ≡ true → new_seen.tester ≡ old_seen.tester
+  pub waited : run.new.input.waited ≡ (run.old.input.waited || waited_in_vain run.new.input.state)
   pub stops : IsReadStop stop piece run.new
 
 -- why no more is read in a turn
@@ -127,6 +146,14 @@ pub record ReadsTurn (waits : Bool) (stop : TurnStop) (past old_got new_got : Li
   pub got : IsGotAtStop stop (past ++ new_got)
   pub half_closed : (run.new.output.ended ≡ true) ↔ Stands Closed (past ++ new_got)
 
+-- What is shown where no more is read: where that is because what is due has come, it has; and whether some read has
+-- waited in vain is known.
+pub record SeesTurn (stop : TurnStop) (turns : List Turn) (seen : RunValue) (run : ConnectionRun) : Type 0 where
+  pub shown : HasSeen turns seen
+  pub due : stop ≡ IsThere → AreTurnsAnswered Server turns
+  pub waited_before : run.old.input.waited ≡ true → run.new.input.waited ≡ true
+  pub waited : stop ≡ Waited → run.new.input.waited ≡ true
+
 -- ---- how a turn ends
 
 -- how the script ends after a turn, if it does: whether a write has failed, whether the own direction was ended,
@@ -160,6 +187,12 @@ pub record RunsTurn (bytes past before : List ℕ) (more : Bool) (turn : Turn) (
   pub has_put : WritesBytes turn.sent run
   pub heard : HasHeard client (past ++ turn.got)
   pub ends : GoesOnOrEnds end bytes more turn.sent (past ++ turn.got) run.new
+
+-- What is shown after a turn: where the script goes on, what is due has come, or some read has waited in vain.
+pub record SeesRun (end : Option Ended) (turns : List Turn) (seen : RunValue) (run : ConnectionRun) : Type 0 where
+  pub shown : HasSeen turns seen
+  pub follows : end ≡ None → AreTurnsAnswered Server turns ⊎ (run.new.input.waited ≡ true)
+  pub waited_before : run.old.input.waited ≡ true → run.new.input.waited ≡ true
 
 -- ---- all turns
 

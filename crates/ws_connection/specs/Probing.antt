@@ -1,10 +1,11 @@
 -- A script that is run against a server (RFC 6455 sections 4.1 and 5 to 7): what is recorded is what went over the
--- connection, and how it ended. That what is owed has come before the next turn is sent is shown by tests alone.
-use Rattle.std.specs.Prelude.{◌≡◌, ℕ, ◌+◌, ◌≤◌, ◌⊎◌, ◌↔◌, Bool, true, false, List, [], ◌∷◌, ◌++◌, length}
-use Rattle.std.specs.Prelude.{drop, map, codes, Option}
+-- connection, how long was waited for what is due, and how it ended.
+use Rattle.std.specs.Prelude.{◌≡◌, ℕ, ◌+◌, ◌<◌, ◌≤◌, ◌⊎◌, ◌↔◌, Bool, true, false, List, [], ◌∷◌, ◌++◌, length}
+use Rattle.std.specs.Prelude.{drop, map, take, codes, Option}
 use Rattle.std.specs.List.{concat}
 use Rattle.std.specs.Io.KnownBytes.{IsAtEnd}
 use Rattle.ws_frame.specs.Devices.{HasBegun, IsUntouched}
+use Rattle.ws_wire.specs.declared.role.Role.TheVariants.{Server}
 use Rattle.ws_upgrade.specs.Accept.{key_of}
 use Rattle.ws_upgrade.specs.declared.faults.HeadFault.{HeadFault}
 use Rattle.ws_upgrade.specs.Reading.{max_head}
@@ -16,6 +17,7 @@ use Rattle.ws_scripts.specs.declared.transcript.Turn.{Turn}
 use Rattle.ws_scripts.specs.declared.transcript.Transcript.{Transcript}
 use Rattle.ws_scripts.specs.Scripts.{turns_of, turn_bytes}
 use Rattle.ws_suite.specs.Evidence.{sent_turns, got_turns}
+use Rattle.ws_suite.specs.Growing.{AreTurnsAnswered}
 use Rattle.ws_peer.specs.Runs.{with_finish}
 use Rattle.ws_connection.specs.ConnectionValues.{ConnectionRun, ConnectionValue}
 use Rattle.ws_connection.specs.Connections.{ReadsBytes, WritesBytes, HasWorked, input_of, output_of}
@@ -103,9 +105,14 @@ abbrev pub MayFollow : List ℕ → List Turn → Type 0
 MayFollow first [] = HasNoGotFault first
 MayFollow first (turn ∷ turns) = Stands Going (all_got (turn ∷ turns))
 
--- The script ended in the turn that is recorded last: those before it sent all of their bytes, that one too or a write
--- failed, none was sent after it, and what came with the head was got in the first. Its own direction was ended just
--- where what was got has a close.
+-- Behind each of these turns another one was sent: what was due by then had come, or some read has waited in vain.
+abbrev pub AreWaitedFor : List Turn → ConnectionValue → Type 0
+AreWaitedFor turns connection = (n : ℕ) → 0 < n → n ≤ length turns
+    → AreTurnsAnswered Server (take n turns) ⊎ (connection.input.waited ≡ true)
+
+-- The script ended in the turn that is recorded last: those before it sent all of their bytes and were waited for, that
+-- one sent all of its bytes too or a write failed, none was sent after it, and what came with the head was got in the
+-- first. Its own direction was ended just where what was got has a close.
 pub record EndsInTurn (turns : List (List ℕ)) (first : List ℕ) (transcript : Transcript)
     (connection : ConnectionValue) : Type 0 where
   pub with_head : HasGotFirst first transcript.turns
@@ -113,6 +120,7 @@ pub record EndsInTurn (turns : List (List ℕ)) (first : List ℕ) (transcript :
   pub last : Turn
   pub recorded : transcript.turns ≡ before ++ last ∷ []
   pub behind : MayFollow first before
+  pub waited_for : AreWaitedFor before connection
   pub bytes : List ℕ
   pub others : List (List ℕ)
   pub sent : turns ≡ sent_turns before ++ bytes ∷ others

@@ -1,5 +1,5 @@
 -- How what was got from a server stands, at a client that takes the largest messages (RFC 6455 sections 5 and 7.1).
-use Rattle.std.specs.Prelude.{◌≡◌, ℕ, ◌⊎◌, ◌++◌, false, List, Option, Some}
+use Rattle.std.specs.Prelude.{◌≡◌, ℕ, ◌⊎◌, false, List, Option, Some}
 use Rattle.ws_wire.specs.declared.role.Role.TheVariants.{Client}
 use Rattle.ws_wire.specs.Frame.{Frame}
 use Rattle.ws_session.specs.declared.event.Event.{Event}
@@ -35,10 +35,6 @@ pub record HasHeard (client : SessionValue) (got : List ℕ) : Type 0 where
   pub limits : client.limits ≡ most_limits
   pub sent : List Frame
   pub exchanged : HasExchanged client sent got false
-
--- whatever it had taken, it has taken these bytes too
-abbrev pub HasHeardMore : SessionValue → SessionValue → List ℕ → Type 0
-HasHeardMore old new bytes = (got : List ℕ) → HasHeard old got → HasHeard new (got ++ bytes)
 
 -- by the status of that client, whose stream has not ended
 abbrev pub standing_by : Status → Standing

@@ -2,10 +2,10 @@
 //! when is asked of the caller: nothing is read behind the end of a stream, and nothing is written behind that of its
 //! own direction.
 
-ghost use Rattle.std.specs.Prelude.{◌≡◌, ◌≤◌, ◌<◌, ◌↔◌, length, take, nat_lt, true, false};
+ghost use Rattle.std.specs.Prelude.{◌≡◌, ◌≤◌, ◌<◌, ◌↔◌, ◌||◌, length, take, nat_lt, true, false};
 ghost use Rattle.std.specs.Io.KnownBytes.{Appends, IsAtEnd, Keeps};
 ghost use Rattle.ws_connection.specs.Connections.{IsNewConnection, MayRead, MayWrite, ReadsBytes, ReadsHeadOver};
-ghost use Rattle.ws_connection.specs.Connections.{WritesBytes, brings, spent};
+ghost use Rattle.ws_connection.specs.Connections.{WritesBytes, brings, waited_in_vain, spent};
 ghost use Rattle.std.specs.declared.io.ErrorKind.TheVariants.{WouldBlock};
 ghost use Rattle.ws_connection.specs.declared.incoming.Incoming.TheVariants.{AtEnd, Unread};
 
@@ -30,6 +30,7 @@ pub struct Connection<R: Read, W: EndsDirection> {
     reader: Watched<R>,
     writer: W,
     incoming: Incoming,
+    has_waited: bool,
     allowance: u64,
     write_failed: bool,
     is_half_closed: bool,
@@ -48,6 +49,7 @@ impl<R: Read, W: EndsDirection> Model for Connection<R, W> {
       input = record {
         left = R.remaining (inner_of connection.reader);
         state = connection.incoming;
+        waited = connection.has_waited;
         allowance = connection.allowance;
       };
       output = record {
@@ -67,12 +69,14 @@ impl<R: Read, W: EndsDirection> Connection<R, W> {
         ensures new { IsNewConnection result }
         ensures left { result.input.left ≡ R.remaining reader }
         ensures held { result.output.held ≡ W.contents writer }
+        ensures waited { result.input.waited ≡ false }
         ensures budget { result.input.allowance ≡ budget }
     {
         Connection {
             reader: Watched::new(reader),
             writer,
             incoming: Incoming::Unread,
+            has_waited: false,
             allowance: budget,
             write_failed: false,
             is_half_closed: false,
@@ -93,6 +97,13 @@ impl<R: Read, W: EndsDirection> Connection<R, W> {
         ensures { result ≡ self.now.input.state }
     {
         self.incoming
+    }
+
+    /// Whether some read behind the head has waited in vain.
+    pub fn has_waited(&self) -> bool
+        ensures { result ≡ self.now.input.waited }
+    {
+        self.has_waited
     }
 
     /// How many bytes may still be read behind the head.
@@ -144,6 +155,7 @@ impl<R: Read, W: EndsDirection> Connection<R, W> {
         ensures got { ReadsBytes (take result room.new) (record { old = self.old; new = self.new }) }
         ensures spent { spent self.old.input.allowance result self.new.input.allowance }
         ensures brings { brings result self.new.input.state }
+        ensures waited { self.new.input.waited ≡ (self.old.input.waited || waited_in_vain self.new.input.state) }
         ensures end { self.new.input.state ≡ AtEnd → IsAtEnd self.new.input.left }
         ensures output { self.new.output ≡ self.old.output }
     {
@@ -160,6 +172,7 @@ impl<R: Read, W: EndsDirection> Connection<R, W> {
             }
             Err(error) if is_wait(error.kind()) => {
                 self.incoming = Incoming::Waited;
+                self.has_waited = true;
                 0
             }
             Err(_) => {

@@ -7,7 +7,6 @@
 //! take.
 #![tactic(auto)]
 
-mod awaiting;
 mod connection;
 mod incoming;
 mod probe_end;

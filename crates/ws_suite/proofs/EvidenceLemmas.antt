@@ -1,4 +1,4 @@
--- The evidence of a direction, one turn more at a time.
+-- The evidence of a direction, one turn or one piece more at a time.
 use Rattle.std.proofs.Common.{◌≡◌, ◌≢◌, ◌∙◌, ℕ, suc, ◌+◌, ◌-◌, ◌<◌, ◌≤◌, nat_le, Bool, true, false, if◌then◌else◌, List, [], ◌∷◌, ◌++◌, length, take, drop, reverse, flat_map, Option, Some, ap, sym, refl, subst, arith, append_assoc, append-nil}
 use Rattle.std.proofs.lemmas.Bool.Decides.{nat_tests}
 use Rattle.std.proofs.lemmas.Grind.{flat_map-append}
@@ -12,6 +12,7 @@ use Rattle.ws_session.specs.Events.{HasEvents}
 use Rattle.ws_session.specs.Sends.{most_limits}
 use Rattle.ws_session.specs.Taking.{ending_by, events_in}
 use Rattle.ws_suite.specs.declared.evidence.InTurn.{InTurn}
+use Rattle.ws_suite.specs.declared.evidence.Reply.{Reply}
 use Rattle.ws_suite.specs.declared.evidence.collecting.Way.{Way}
 use Rattle.ws_suite.specs.declared.evidence.collecting.Collected.{Collected}
 use Rattle.ws_suite.specs.Evidence.{AreEventsByTurn, HasRest, by_turn, ending_in, joined_events}
@@ -43,23 +44,40 @@ last_joined {X} o (x ∷ xs) ys = last_joined (Some x) xs ys
 
 -- ---- events of one turn
 
-pub nothing_collected : (way : Way) (turn : ℕ) (c : Collected) → AreCollected way turn [] c c
-nothing_collected way turn c = record { replies = sym (append-nil c.replies.items); ending = refl; has_rest = refl }
+pub nothing_collected : {K : Type 0} {keeps : K → List (InTurn Reply) → Type 0} (way : Way) (turn : ℕ) (c : Collected K) → AreCollected keeps way turn [] c c
+nothing_collected {K} {keeps} way turn c = record {
+  replies = λ replies h. subst (λ (l : List (InTurn Reply)). keeps c.replies l) (sym (append-nil replies)) h;
+  ending = refl;
+  has_rest = refl;
+}
 
-pub collected_joined : (way : Way) (turn : ℕ) (a b : List Event) (old mid new : Collected) → AreCollected way turn a old mid → AreCollected way turn b mid new → AreCollected way turn (a ++ b) old new
-collected_joined way turn a b old mid new p q = record {
-  replies = q.replies ∙ (ap (λ (l : List (InTurn _)). l ++ at_turn turn (flat_map (found_by way) b)) p.replies
-      ∙ (append_assoc old.replies.items (at_turn turn (flat_map (found_by way) a)) (at_turn turn (flat_map (found_by way) b))
-      ∙ ap (λ (l : List (InTurn _)). old.replies.items ++ l) (both (found_by way))));
+found_twice : {X : Type 0} (found : Event → List X) (turn : ℕ) (a b : List Event) → at_turn turn (flat_map found a) ++ at_turn turn (flat_map found b) ≡ at_turn turn (flat_map found (a ++ b))
+found_twice {X} found turn a b =
+    sym (map-append (λ (x : X). record { turn = turn; what = x }) (flat_map found a) (flat_map found b))
+    ∙ ap (λ (l : List X). at_turn turn l) (sym (flat_map-append found a b))
+
+pub collected_joined : {K : Type 0} {keeps : K → List (InTurn Reply) → Type 0} (way : Way) (turn : ℕ) (a b : List Event) (old mid new : Collected K) → AreCollected keeps way turn a old mid → AreCollected keeps way turn b mid new
+    → AreCollected keeps way turn (a ++ b) old new
+collected_joined {K} {keeps} way turn a b old mid new p q = record {
+  replies = λ replies h.
+      let first = at_turn turn (flat_map (found_by way) a) in
+      let second = at_turn turn (flat_map (found_by way) b) in
+      subst (λ (l : List (InTurn Reply)). keeps new.replies l) (append_assoc replies first second ∙ ap (λ (l : List (InTurn Reply)). replies ++ l) (found_twice (found_by way) turn a b))
+      (q.replies (replies ++ first) (p.replies replies h));
   ending = q.ending ∙ (ap (λ (o : Option (InTurn _)). last_or o (at_turn turn (flat_map ending_in b))) p.ending
-      ∙ (sym (last_joined old.ending (at_turn turn (flat_map ending_in a)) (at_turn turn (flat_map ending_in b))) ∙ ap (λ (l : List (InTurn _)). last_or old.ending l) (both ending_in)));
+      ∙ (sym (last_joined old.ending (at_turn turn (flat_map ending_in a)) (at_turn turn (flat_map ending_in b))) ∙ ap (λ (l : List (InTurn _)). last_or old.ending l) (found_twice ending_in turn a b)));
   has_rest = q.has_rest ∙ p.has_rest;
 }
-  where
-    both : {X : Type 0} (found : Event → List X) → at_turn turn (flat_map found a) ++ at_turn turn (flat_map found b) ≡ at_turn turn (flat_map found (a ++ b))
-    both {X} found =
-        sym (map-append (λ (x : X). record { turn = turn; what = x }) (flat_map found a) (flat_map found b))
-        ∙ ap (λ (l : List X). at_turn turn l) (sym (flat_map-append found a b))
+
+-- the last turn has told more events
+pub by_turn_grown : {X : Type 0} (found : Event → List X) (events : List (List Event)) (told added : List Event) →
+    by_turn found 0 (events ++ (told ++ added) ∷ []) ≡ by_turn found 0 (events ++ told ∷ []) ++ at_turn (0 + length events) (flat_map found added)
+by_turn_grown {X} found events told added =
+    let before = by_turn found 0 events in
+    let n = 0 + length events in
+    by_turn_more found 0 events (told ++ added) ∙ ap (λ (l : List (InTurn X)). before ++ l) (sym (found_twice found n told added))
+    ∙ sym (append_assoc before (at_turn n (flat_map found told)) (at_turn n (flat_map found added)))
+    ∙ ap (λ (l : List (InTurn X)). l ++ at_turn n (flat_map found added)) (sym (by_turn_more found 0 events told))
 
 -- ---- turns
 
@@ -97,6 +115,27 @@ events_by_turn_more role turns events bytes told are has = record {
 
     so_far : (n : ℕ) → n ≤ length (turns ++ bytes ∷ []) → HasEvents role most_limits (concat (take n (turns ++ bytes ∷ []))) (joined_events (take n (events ++ told ∷ [])))
     so_far n less = pick n (nat_le n (length turns)) refl
+
+-- without the last turn
+pub events_before : (role : Role) (turns : List (List ℕ)) (events : List (List Event)) (bytes : List ℕ) (told : List Event) → AreEventsByTurn role (turns ++ bytes ∷ []) (events ++ told ∷ [])
+    → AreEventsByTurn role turns events
+events_before role turns events bytes told are =
+    let each : length events ≡ length turns = omega (arith, are.each, length-append events (told ∷ []), length-append turns (bytes ∷ [])) in
+    record {
+      each = each;
+      so_far = λ n less.
+          subst (λ (l : List (List ℕ)). HasEvents role most_limits (concat l) (joined_events (take n events))) (take-append-le n turns (bytes ∷ []) less)
+          (subst (λ (l : List (List Event)). HasEvents role most_limits (concat (take n (turns ++ bytes ∷ []))) (joined_events l)) (take-append-le n events (told ∷ []) (omega (arith, each, less)))
+          (are.so_far n (omega (arith, less, length-append turns (bytes ∷ [])))));
+    }
+
+-- the last of a list
+pub last_apart : {X : Type 0} (xs : List X) → 0 < length xs → (front : List X) × (last : X) × (xs ≡ front ++ last ∷ [])
+last_apart [] h = absurd (omega arith)
+last_apart {X} (x ∷ []) h = ([], x, refl)
+last_apart {X} (x ∷ y ∷ xs) h =
+    let (front, last, e) = last_apart (y ∷ xs) (omega arith) in
+    (x ∷ front, last, ap (λ (l : List X). x ∷ l) e)
 
 -- ---- bytes after the last event
 

@@ -1,5 +1,5 @@
 -- Lists of replies, walked from the front.
-use Rattle.std.proofs.Common.{◌≡◌, ◌≢◌, ◌∙◌, ℕ, zero, suc, ◌+◌, ◌-◌, ◌<◌, ◌≤◌, nat_lt, nat_le, Bool, true, false, ◌||◌, cond, if◌then◌else◌, List, [], ◌∷◌, ◌++◌, length, take, drop, get_or, find, Option, None, Some, Bor, MatchBool, ap, ap₂, sym, refl, subst, inl, inr, arith, append-nil}
+use Rattle.std.proofs.Common.{◌≡◌, ◌≢◌, ◌↔◌, ◌∙◌, ℕ, zero, suc, ◌+◌, ◌-◌, ◌<◌, ◌≤◌, nat_lt, Bool, true, false, ◌||◌, cond, if◌then◌else◌, List, [], ◌∷◌, ◌++◌, length, take, drop, get_or, find, Option, None, Some, Bor, MatchBool, ap, ap₂, sym, refl, subst, inl, inr, arith, append-nil}
 use Rattle.std.proofs.lemmas.Bool.Decides.{nat_tests}
 use Rattle.std.proofs.lemmas.List.{drop_more, length-append, map-append, take_all, take_more}
 use Rattle.std.specs.List.{drop-map, last_or, list_any, take-map, zip}
@@ -147,27 +147,25 @@ found_at pong (suc p) (x ∷ due) d rest none e is = pick (λ h. found_at pong p
 some_same : {X : Type 0} (x y : X) → Some x ≡ Some y → x ≡ y
 some_same x y e = cc
 
--- where the last two are the same, the last due pong is there exactly where it is not later
-pub last_pong_decides : (dues gots : List (InTurn Reply)) (due got : InTurn Reply) → last_or None dues ≡ Some due → last_or None gots ≡ Some got → got.what ≡ due.what
-    → ((nat_le due.turn got.turn ≡ true) → IsLastPong dues gots) × (IsLastPong dues gots → (nat_le due.turn got.turn ≡ true))
-last_pong_decides dues gots due got is_due is_got same = (
-  λ e. record { due = due; is_due = is_due; got = got; is_got = is_got; same = same; turn = grind (arith, nat_tests) },
-  λ p.
-      let d = ap (λ (x : InTurn Reply). x.turn) (some_same p.due due (sym p.is_due ∙ is_due)) in
-      let g = ap (λ (x : InTurn Reply). x.turn) (some_same p.got got (sym p.is_got ∙ is_got)) in
-      let less : due.turn ≤ got.turn = omega (arith, d, g, p.turn) in
-      grind (arith, nat_tests),
-)
+pub last_turns : (dues gots : List (InTurn Reply)) (due got : InTurn Reply) → last_or None dues ≡ Some due → last_or None gots ≡ Some got → IsLastPong dues gots → due.turn ≤ got.turn
+last_turns dues gots due got is_due is_got p =
+    let d = ap (λ (x : InTurn Reply). x.turn) (some_same p.due due (sym p.is_due ∙ is_due)) in
+    let g = ap (λ (x : InTurn Reply). x.turn) (some_same p.got got (sym p.is_got ∙ is_got)) in
+    omega (arith, d, g, p.turn)
 
-last_same : (dues gots : List (InTurn Reply)) (due got : InTurn Reply) → last_or None dues ≡ Some due → last_or None gots ≡ Some got → IsLastPong dues gots → got.what ≡ due.what
+pub last_same : (dues gots : List (InTurn Reply)) (due got : InTurn Reply) → last_or None dues ≡ Some due → last_or None gots ≡ Some got → IsLastPong dues gots → got.what ≡ due.what
 last_same dues gots due got is_due is_got p =
     let d = ap (λ (x : InTurn Reply). x.what) (some_same p.due due (sym p.is_due ∙ is_due)) in
     let g = ap (λ (x : InTurn Reply). x.what) (some_same p.got got (sym p.is_got ∙ is_got)) in
     sym g ∙ (p.same ∙ d)
 
-pub last_pong_differs : (dues gots : List (InTurn Reply)) (due got : InTurn Reply) (r : Bool) → last_or None dues ≡ Some due → last_or None gots ≡ Some got → r ≡ false → ((got.what ≡ due.what) → r ≡ true)
-    → ((r ≡ true) → IsLastPong dues gots) × (IsLastPong dues gots → (r ≡ true))
-last_pong_differs dues gots due got r is_due is_got differs same = (λ e. absurd (let w : false ≡ true = sym differs ∙ e in cc), λ p. same (last_same dues gots due got is_due is_got p))
+-- where this tells of the last two whether the one answers the other, it tells whether the last due pong is there
+pub last_pong_by : (dues gots : List (InTurn Reply)) (due got : InTurn Reply) (r : Bool) → last_or None dues ≡ Some due → last_or None gots ≡ Some got → ((r ≡ true) ↔ (got.what ≡ due.what) × (due.turn ≤ got.turn))
+    → ((r ≡ true) ↔ IsLastPong dues gots)
+last_pong_by dues gots due got r is_due is_got tells = (
+  λ e. record { due = due; is_due = is_due; got = got; is_got = is_got; same = (tells.0 e).0; turn = (tells.0 e).1 },
+  λ p. tells.1 (last_same dues gots due got is_due is_got p, last_turns dues gots due got is_due is_got p),
+)
 
 -- at the end nothing is left out of nothing but nothing
 pub none_left : (xs alls : List Reply) → alls ≡ [] → IsWithSomeLeftOut xs alls → length xs ≡ 0

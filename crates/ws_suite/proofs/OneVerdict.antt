@@ -60,7 +60,7 @@ module _ (laws : EventLaws) where
       ap₂ (λ (r : List (InTurn Reply)) (e : Option (InTurn Ending)). record { replies = r; ending = e; has_rest = a.has_rest }) replies ending
       ∙ ap (λ (r : Bool). record { replies = b.replies; ending = b.ending; has_rest = r }) has_rest
 
-  one_evidence : (tested : Role) (transcript : Transcript) (a b : Evidence) → IsEvidenceOf tested transcript a → IsEvidenceOf tested transcript b → a ≡ b
+  pub one_evidence : (tested : Role) (transcript : Transcript) (a b : Evidence) → IsEvidenceOf tested transcript a → IsEvidenceOf tested transcript b → a ≡ b
   one_evidence tested transcript a b p q =
       let due = one_direction _ _ _ a.due b.due p.due q.due in
       let got = one_direction _ _ _ a.got b.got p.got q.got in

@@ -1,31 +1,30 @@
--- What is collected of a direction, with one turn more.
-use Rattle.std.proofs.Common.{◌≡◌, ◌∙◌, ℕ, zero, suc, ◌+◌, ◌<◌, ◌≤◌, ◌↔◌, nat_lt, get_or, Bool, true, false, List, [], ◌∷◌, ◌++◌, length, take, flat_map, Option, None, ap, ap₂, sym, refl, subst, arith, append-nil}
+-- What is collected of a direction, with one turn or one piece more.
+use Rattle.std.proofs.Common.{◌≡◌, ◌∙◌, ℕ, zero, suc, ◌+◌, ◌<◌, ◌↔◌, nat_lt, Bool, true, false, List, [], ◌∷◌, ◌++◌, length, take, flat_map, Option, None, ap, sym, refl, subst, arith, append_assoc, append-nil}
 use Rattle.std.proofs.lemmas.Bool.Decides.{nat_tests}
-use Rattle.std.proofs.lemmas.List.{length-map, length-take, map-append, take_all, take_more}
-use Rattle.std.specs.List.{concat, flat_map, last_or}
+use Rattle.std.proofs.lemmas.List.{length-append, take_all}
+use Rattle.std.specs.List.{concat, last_or}
 use Rattle.ws_wire.specs.declared.role.Role.{Role}
-use Rattle.ws_wire.specs.Frame.{Frame, stream_bytes}
+use Rattle.ws_wire.specs.Frame.{stream_bytes}
 use Rattle.ws_session.specs.declared.event.Event.{Event}
 use Rattle.ws_session.specs.declared.event.PlacedEvent.{PlacedEvent}
 use Rattle.ws_session.specs.Limits.{LimitsValue}
 use Rattle.ws_session.specs.Events.{HasEvents}
 use Rattle.ws_session.specs.Exchange.{SessionValue, HasExchanged}
-use Rattle.ws_session.specs.Replies.{reply_to}
+use Rattle.ws_session.specs.Replies.{replies_by, reply_to}
 use Rattle.ws_session.specs.Sends.{most_limits}
-use Rattle.ws_session.specs.Taking.{HasTakenAll, ending_by, events_in}
-use Rattle.ws_scripts.specs.declared.transcript.Turn.{Turn}
+use Rattle.ws_session.specs.Taking.{HasTakenAll, TakesAll, ending_by, events_in}
 use Rattle.ws_suite.specs.declared.evidence.InTurn.{InTurn}
 use Rattle.ws_suite.specs.declared.evidence.Reply.{Reply}
 use Rattle.ws_suite.specs.declared.evidence.Ending.{Ending}
 use Rattle.ws_suite.specs.declared.evidence.collecting.Way.{Way}
 use Rattle.ws_suite.specs.declared.evidence.collecting.Collected.{Collected}
-use Rattle.ws_suite.specs.Evidence.{AreEventsByTurn, HasRest, IsDirectionOf, by_turn, ending_in, joined_events}
-use Rattle.ws_suite.specs.InnerCollecting.{AreCollected, HasCollected, EventLaws, at_turn, found_by, last_end, turn_by, turns_by}
-use Rattle.ws_suite.proofs.EvidenceLemmas.{joined_more}
-use Rattle.ws_suite.proofs.EvidenceLemmas.{by_turn_more, events_by_turn_more, joined_events_more, last_joined, no_rest_is_there, nothing_collected, rest_is_there}
+use Rattle.ws_suite.specs.Evidence.{AreEventsByTurn, HasRest, by_turn, ending_in, joined_events}
+use Rattle.ws_suite.specs.Growing.{HasTakenTurns}
+use Rattle.ws_suite.specs.InnerCollecting.{AreCollected, EventLaws, HasTakenWay, at_turn, found_by, last_end}
+use Rattle.ws_suite.proofs.EvidenceLemmas.{by_turn_grown, by_turn_more, events_before, events_by_turn_more, joined_events_more, joined_more, last_apart, last_joined, no_rest_is_there, rest_is_there}
 
 -- the same but for the bytes after the last event
-abbrev pub make_collected : Collected → Bool → Collected
+abbrev pub make_collected : {K : Type 0} → Collected K → Bool → Collected K
 make_collected c rest = record { replies = c.replies; ending = c.ending; has_rest = rest }
 
 -- all turns so far have all events so far
@@ -36,43 +35,40 @@ whole_events role turns events are =
 
 -- ---- one turn more
 
-more_collected : (way : Way) (role : Role) (turns : List (List ℕ)) (events : List (List Event)) (bytes : List ℕ) (told : List Event) (old new : SessionValue) (a b : Collected) (rest : Bool) (sent : List Frame)
-    → HasCollected way role turns events old a → HasEvents role most_limits (concat turns ++ bytes) (joined_events events ++ told)
-    → HasExchanged new sent (concat turns ++ bytes) false → new.role ≡ role → new.limits ≡ most_limits
-    → AreCollected way (length turns) told (make_collected a rest) b
-    → ((rest ≡ true) ↔ HasRest role (concat turns ++ bytes) (joined_events events ++ told))
-    → HasCollected way role (turns ++ bytes ∷ []) (events ++ told ∷ []) new b
-more_collected way role turns events bytes told old new a b rest sent h has exchanged same limits are tells = record {
-  are_events = events_by_turn_more role turns events bytes told h.are_events has;
-  sent = sent;
-  exchanged = subst (λ (l : List ℕ). HasExchanged new sent l false) (sym (joined_more turns bytes)) exchanged;
-  same_role = same;
-  limits = limits;
-  replies = are.replies ∙ (ap₂ (λ (l : List (InTurn Reply)) (n : ℕ). l ++ at_turn n (flat_map (found_by way) told)) h.replies number ∙ sym (by_turn_more (found_by way) 0 events told));
-  ending = are.ending ∙ (ap₂ (λ (o : Option (InTurn Ending)) (n : ℕ). last_or o (at_turn n (flat_map ending_in told))) h.ending number
-      ∙ (sym (last_joined None (by_turn ending_in 0 events) (at_turn (0 + length events) (flat_map ending_in told)))
-      ∙ ap (λ (l : List (InTurn Ending)). last_or None l) (sym (by_turn_more ending_in 0 events told))));
-  has_rest =
-      subst (λ (r : Bool). (r ≡ true) ↔ HasRest role (concat (turns ++ bytes ∷ [])) (joined_events (events ++ told ∷ []))) (sym are.has_rest)
-      (subst (λ (l : List ℕ). (rest ≡ true) ↔ HasRest role l (joined_events (events ++ told ∷ []))) (sym (joined_more turns bytes))
-      (subst (λ (l : List Event). (rest ≡ true) ↔ HasRest role (concat turns ++ bytes) l) (sym (joined_events_more events told)) tells));
+-- the next turn has begun, in which nothing was taken yet
+pub turn_begun : {K : Type 0} {keeps : K → List (InTurn Reply) → Type 0} (found : Event → List Reply) (role : Role) (turns : List (List ℕ)) (session : SessionValue) (c : Collected K)
+    → HasTakenTurns keeps found role turns session c → HasTakenTurns keeps found role (turns ++ [] ∷ []) session c
+turn_begun {K} {keeps} found role turns session c h = record {
+  shown = h.shown;
+  is_shown = record {
+    events = h.is_shown.events ++ [] ∷ [];
+    are_events = events_by_turn_more role turns h.is_shown.events [] [] h.is_shown.are_events
+        (subst (λ (l : List ℕ). HasEvents role most_limits l (joined_events h.is_shown.events ++ [])) (sym (append-nil (concat turns)))
+        (subst (λ (l : List Event). HasEvents role most_limits (concat turns) l) (sym (append-nil (joined_events h.is_shown.events))) (whole_events role turns h.is_shown.events h.is_shown.are_events)));
+    replies = h.is_shown.replies ∙ same_found found;
+    ending = h.is_shown.ending ∙ ap (λ (l : List (InTurn Ending)). last_or None l) (same_found ending_in);
+    has_rest = subst (λ (l : List ℕ). (h.shown.has_rest ≡ true) ↔ HasRest role l (joined_events (h.is_shown.events ++ [] ∷ []))) (sym same_bytes)
+        (subst (λ (l : List Event). (h.shown.has_rest ≡ true) ↔ HasRest role (concat turns) l) (sym same_events) h.is_shown.has_rest);
+  };
+  replies = h.replies;
+  ending = h.ending;
+  has_rest = h.has_rest;
+  sent = h.sent;
+  exchanged = subst (λ (l : List ℕ). HasExchanged session h.sent l false) (sym same_bytes) h.exchanged;
+  same_role = h.same_role;
+  limits = h.limits;
 }
   where
-    number : length turns ≡ 0 + length events
-    number = omega (arith, h.are_events.each)
+    same_bytes : concat (turns ++ [] ∷ []) ≡ concat turns
+    same_bytes = joined_more turns [] ∙ append-nil (concat turns)
 
--- a turn in which nothing came
-pub turn_without_bytes : (way : Way) (role : Role) (turns : List (List ℕ)) (events : List (List Event)) (bytes : List ℕ) (session : SessionValue) (a : Collected) → bytes ≡ []
-    → HasCollected way role turns events session a → HasCollected way role (turns ++ bytes ∷ []) (events ++ [] ∷ []) session a
-turn_without_bytes way role turns events bytes session a none h =
-    let same : concat turns ≡ concat turns ++ bytes = sym (ap (λ (l : List ℕ). concat turns ++ l) none ∙ append-nil (concat turns)) in
-    let events_same : joined_events events ≡ joined_events events ++ [] = sym (append-nil (joined_events events)) in
-    more_collected way role turns events bytes [] session session a a a.has_rest h.sent h
-    (subst (λ (l : List ℕ). HasEvents role most_limits l (joined_events events ++ [])) same
-    (subst (λ (l : List Event). HasEvents role most_limits (concat turns) l) events_same (whole_events role turns events h.are_events)))
-    (subst (λ (l : List ℕ). HasExchanged session h.sent l false) same h.exchanged) h.same_role h.limits (nothing_collected way (length turns) a)
-    (subst (λ (l : List ℕ). (a.has_rest ≡ true) ↔ HasRest role l (joined_events events ++ [])) same
-    (subst (λ (l : List Event). (a.has_rest ≡ true) ↔ HasRest role (concat turns) l) events_same h.has_rest))
+    same_events : joined_events (h.is_shown.events ++ [] ∷ []) ≡ joined_events h.is_shown.events
+    same_events = joined_events_more h.is_shown.events [] ∙ append-nil (joined_events h.is_shown.events)
+
+    same_found : {X : Type 0} (found : Event → List X) → by_turn found 0 h.is_shown.events ≡ by_turn found 0 (h.is_shown.events ++ [] ∷ [])
+    same_found found = sym (by_turn_more found 0 h.is_shown.events [] ∙ append-nil (by_turn found 0 h.is_shown.events))
+
+-- ---- one piece more
 
 under : (r s : Role) (l m : LimitsValue) (bytes : List ℕ) (events : List Event) → r ≡ s → l ≡ m → HasEvents r l bytes events → HasEvents s m bytes events
 under r s l m bytes events e f h = subst (λ (x : Role). HasEvents x m bytes events) e (subst (λ (x : LimitsValue). HasEvents r x bytes events) f h)
@@ -89,25 +85,119 @@ rest_told laws role before bytes events told some has places = (
     pick rest true e = refl
     pick rest false e = absurd (no_rest_is_there laws role before bytes events told some (grind (arith, nat_tests)) has places rest)
 
--- a turn whose bytes the session took
-pub turn_taken : EventLaws → (way : Way) (role : Role) (turns : List (List ℕ)) (events : List (List Event)) (bytes key x y : List ℕ) (first placed : List PlacedEvent) (old new : SessionValue) (a b : Collected)
-    → 0 < length bytes → first ≡ [] → HasTakenAll reply_to old new (record { piece = bytes; key = key; before = x; after = y }) first placed
-    → HasCollected way role turns events old a → new.role ≡ old.role → new.limits ≡ old.limits
-    → AreCollected way (length turns) (events_in placed) (make_collected a (nat_lt (last_end placed) (length bytes))) b
-    → HasCollected way role (turns ++ bytes ∷ []) (events ++ events_in placed ∷ []) new b
-turn_taken laws way role turns events bytes key x y first placed old new a b some empty taken h kept limits are =
-    let same : placed ≡ taken.told = taken.added ∙ ap (λ (l : List PlacedEvent). l ++ taken.told) empty in
-    let takes = taken.takes (record { sent = h.sent; taken = concat turns; ended = false }) refl h.exchanged in
-    let whole = whole_events role turns events h.are_events in
-    let own = under role old.role most_limits old.limits (concat turns) (joined_events events) (sym h.same_role) (sym h.limits) whole in
-    let places : (n : ℕ) → HasEvents role most_limits (concat turns ++ take n bytes) (joined_events events ++ events_in (ending_by n placed)) =
-    λ n. subst (λ (l : List PlacedEvent). HasEvents role most_limits (concat turns ++ take n bytes) (joined_events events ++ events_in (ending_by n l))) (sym same)
-    (under old.role role old.limits most_limits (concat turns ++ take n bytes) (joined_events events ++ events_in (ending_by n taken.told)) h.same_role h.limits (takes.places n (joined_events events) own)) in
-    let has : HasEvents role most_limits (concat turns ++ bytes) (joined_events events ++ events_in placed) =
-    subst (λ (l : List PlacedEvent). HasEvents role most_limits (concat turns ++ bytes) (joined_events events ++ events_in l)) (sym same)
-    (under old.role role old.limits most_limits (concat turns ++ bytes) (joined_events events ++ events_in taken.told) h.same_role h.limits (takes.events (joined_events events) own)) in
-    more_collected way role turns events bytes (events_in placed) old new a b (nat_lt (last_end placed) (length bytes)) _ h has takes.agrees (kept ∙ h.same_role) (limits ∙ h.limits) are
-    (rest_told laws role (concat turns) bytes (joined_events events) placed some whole places)
+-- a piece of the last turn that the session took
+module _ {K : Type 0} {keeps : K → List (InTurn Reply) → Type 0} (laws : EventLaws) (way : Way) (role : Role) (turns : List (List ℕ)) (last piece key x y : List ℕ) (first placed : List PlacedEvent)
+    (old new : SessionValue) (a b : Collected K) (some : 0 < length piece) (empty : first ≡ []) (taken : HasTakenAll reply_to old new (record { piece = piece; key = key; before = x; after = y }) first placed)
+    (h : HasTakenWay keeps way role (turns ++ last ∷ []) old a) (kept : new.role ≡ old.role) (limits : new.limits ≡ old.limits)
+    (are : AreCollected keeps way (length turns) (events_in placed) (make_collected a (nat_lt (last_end placed) (length piece))) b) where
+  abbrev before : List (List ℕ)
+  before = turns ++ last ∷ []
+
+  abbrev events : List (List Event)
+  events = h.is_shown.events
+
+  abbrev added : List Event
+  added = events_in placed
+
+  apart : (front : List (List Event)) × (told : List Event) × (events ≡ front ++ told ∷ [])
+  apart = last_apart events (omega (arith, h.is_shown.are_events.each, length-append turns (last ∷ [])))
+
+  abbrev front : List (List Event)
+  front = apart.0
+
+  abbrev told : List Event
+  told = apart.1
+
+  abbrev after : List (List Event)
+  after = front ++ (told ++ added) ∷ []
+
+  are_events : AreEventsByTurn role before (front ++ told ∷ [])
+  are_events = subst (λ (l : List (List Event)). AreEventsByTurn role before l) apart.2 h.is_shown.are_events
+
+  as_many : length front ≡ length turns
+  as_many = omega (arith, are_events.each, length-append front (told ∷ []), length-append turns (last ∷ []))
+
+  -- ---- what the session took
+
+  same_placed : placed ≡ taken.told
+  same_placed = taken.added ∙ ap (λ (l : List PlacedEvent). l ++ taken.told) empty
+
+  takes : TakesAll reply_to old new (record { sent = h.sent; taken = concat before; ended = false }) (record { piece = piece; key = key; before = x; after = y }) taken.told
+  takes = taken.takes (record { sent = h.sent; taken = concat before; ended = false }) refl h.exchanged
+
+  whole : HasEvents role most_limits (concat before) (joined_events events)
+  whole = whole_events role before events h.is_shown.are_events
+
+  own : HasEvents old.role old.limits (concat before) (joined_events events)
+  own = under role old.role most_limits old.limits (concat before) (joined_events events) (sym h.same_role) (sym h.limits) whole
+
+  places : (n : ℕ) → HasEvents role most_limits (concat before ++ take n piece) (joined_events events ++ events_in (ending_by n placed))
+  places n =
+      subst (λ (l : List PlacedEvent). HasEvents role most_limits (concat before ++ take n piece) (joined_events events ++ events_in (ending_by n l))) (sym same_placed)
+      (under old.role role old.limits most_limits (concat before ++ take n piece) (joined_events events ++ events_in (ending_by n taken.told)) h.same_role h.limits (takes.places n (joined_events events) own))
+
+  has : HasEvents role most_limits (concat before ++ piece) (joined_events events ++ added)
+  has =
+      subst (λ (l : List PlacedEvent). HasEvents role most_limits (concat before ++ piece) (joined_events events ++ events_in l)) (sym same_placed)
+      (under old.role role old.limits most_limits (concat before ++ piece) (joined_events events ++ events_in taken.told) h.same_role h.limits (takes.events (joined_events events) own))
+
+  -- ---- the last turn, grown
+
+  joined_before : joined_events events ≡ joined_events front ++ told
+  joined_before = ap (λ (l : List (List Event)). joined_events l) apart.2 ∙ joined_events_more front told
+
+  bytes_are : concat before ++ piece ≡ concat turns ++ (last ++ piece)
+  bytes_are = ap (λ (l : List ℕ). l ++ piece) (joined_more turns last) ∙ append_assoc (concat turns) last piece
+
+  events_are : joined_events events ++ added ≡ joined_events front ++ (told ++ added)
+  events_are = ap (λ (l : List Event). l ++ added) joined_before ∙ append_assoc (joined_events front) told added
+
+  grown : HasEvents role most_limits (concat turns ++ (last ++ piece)) (joined_events front ++ (told ++ added))
+  grown =
+      subst (λ (l : List ℕ). HasEvents role most_limits l (joined_events front ++ (told ++ added))) bytes_are
+      (subst (λ (l : List Event). HasEvents role most_limits (concat before ++ piece) l) events_are has)
+
+  all_bytes : concat (turns ++ (last ++ piece) ∷ []) ≡ concat before ++ piece
+  all_bytes = joined_more turns (last ++ piece) ∙ sym bytes_are
+
+  all_events : joined_events after ≡ joined_events events ++ added
+  all_events = joined_events_more front (told ++ added) ∙ sym events_are
+
+  more_found : {X : Type 0} (found : Event → List X) (old : List (InTurn X)) → old ≡ by_turn found 0 events → old ++ at_turn (length turns) (flat_map found added) ≡ by_turn found 0 after
+  more_found {X} found old e =
+      ap (λ (l : List (InTurn X)). l ++ at_turn (length turns) (flat_map found added)) (e ∙ ap (λ (l : List (List Event)). by_turn found 0 l) apart.2)
+      ∙ ap (λ (n : ℕ). by_turn found 0 (front ++ told ∷ []) ++ at_turn n (flat_map found added)) (let n : length turns ≡ 0 + length front = omega (arith, as_many) in n) ∙ sym (by_turn_grown found front told added)
+
+  pub piece_taken : HasTakenWay keeps way role (turns ++ (last ++ piece) ∷ []) new b
+  piece_taken = record {
+    shown = record { replies = by_turn (found_by way) 0 after; ending = last_or None (by_turn ending_in 0 after); has_rest = nat_lt (last_end placed) (length piece) };
+    is_shown = record {
+      events = after;
+      are_events = events_by_turn_more role turns front (last ++ piece) (told ++ added) (events_before role turns front last told are_events) grown;
+      replies = refl;
+      ending = refl;
+      has_rest =
+          subst (λ (l : List ℕ). (nat_lt (last_end placed) (length piece) ≡ true) ↔ HasRest role l (joined_events after)) (sym all_bytes)
+          (subst (λ (l : List Event). (nat_lt (last_end placed) (length piece) ≡ true) ↔ HasRest role (concat before ++ piece) l) (sym all_events)
+          (rest_told laws role (concat before) piece (joined_events events) placed some whole places));
+    };
+    replies = subst (λ (l : List (InTurn Reply)). keeps b.replies l) (more_found (found_by way) h.shown.replies h.is_shown.replies) (are.replies h.shown.replies h.replies);
+    ending =
+        are.ending ∙ ap (λ (o : Option (InTurn Ending)). last_or o (at_turn (length turns) (flat_map ending_in added))) (h.ending ∙ h.is_shown.ending)
+        ∙ sym (last_joined None (by_turn ending_in 0 events) (at_turn (length turns) (flat_map ending_in added)))
+        ∙ ap (λ (l : List (InTurn Ending)). last_or None l) (more_found ending_in (by_turn ending_in 0 events) refl);
+    has_rest = are.has_rest;
+    sent = h.sent ++ replies_by reply_to h.sent (events_in taken.told);
+    exchanged = subst (λ (l : List ℕ). HasExchanged new (h.sent ++ replies_by reply_to h.sent (events_in taken.told)) l false) (sym all_bytes) takes.agrees;
+    same_role = kept ∙ h.same_role;
+    limits = limits ∙ h.limits;
+  }
+
+-- a piece without bytes
+pub nothing_taken : {K : Type 0} {keeps : K → List (InTurn Reply) → Type 0} (way : Way) (role : Role) (turns : List (List ℕ)) (last piece : List ℕ) (session : SessionValue) (c : Collected K) → piece ≡ []
+    → HasTakenWay keeps way role (turns ++ last ∷ []) session c → HasTakenWay keeps way role (turns ++ (last ++ piece) ∷ []) session c
+nothing_taken {K} {keeps} way role turns last piece session c none h =
+    subst (λ (l : List ℕ). HasTakenWay keeps way role (turns ++ l ∷ []) session c) (sym (ap (λ (l : List ℕ). last ++ l) none ∙ append-nil last)) h
 
 -- ---- at the start
 
@@ -130,39 +220,27 @@ no_events role limits = record {
   are = refl;
 }
 
-pub collected_at_start : (way : Way) (role : Role) (session : SessionValue) (c : Collected) → c.replies.items ≡ [] → c.ending ≡ None → c.has_rest ≡ false → session.role ≡ role → session.limits ≡ most_limits
-    → HasExchanged session [] [] false → HasCollected way role [] [] session c
-collected_at_start way role session c replies ending rest same limits exchanged = record {
-  are_events = record {
-    each = refl;
-    so_far = λ n less.
-        let none : n ≡ 0 = omega arith in
-        subst (λ (k : ℕ). HasEvents role most_limits (concat (take k [])) (joined_events (take k []))) (sym none) (no_events role most_limits);
+pub taken_at_start : {K : Type 0} {keeps : K → List (InTurn Reply) → Type 0} (found : Event → List Reply) (role : Role) (session : SessionValue) (c : Collected K) → keeps c.replies [] → c.ending ≡ None → c.has_rest ≡ false
+    → session.role ≡ role → session.limits ≡ most_limits → HasExchanged session [] [] false → HasTakenTurns keeps found role [] session c
+taken_at_start found role session c replies ending rest same limits exchanged = record {
+  shown = record { replies = []; ending = None; has_rest = false };
+  is_shown = record {
+    events = [];
+    are_events = record {
+      each = refl;
+      so_far = λ n less.
+          let none : n ≡ 0 = omega arith in
+          subst (λ (k : ℕ). HasEvents role most_limits (concat (take k [])) (joined_events (take k []))) (sym none) (no_events role most_limits);
+    };
+    replies = refl;
+    ending = refl;
+    has_rest = (λ e. absurd cc, λ r. absurd (let less : r.n < 0 = r.fewer in omega arith));
   };
+  replies = replies;
+  ending = ending;
+  has_rest = rest;
   sent = [];
   exchanged = exchanged;
   same_role = same;
   limits = limits;
-  replies = replies;
-  ending = ending;
-  has_rest = (λ e. absurd (let wrong : false ≡ true = sym rest ∙ e in cc), λ r. absurd (let less : r.n < 0 = r.fewer in omega arith));
-}
-
--- ---- all turns
-
-pub turns_more : (way : Way) (turns : List Turn) (n : ℕ) (turn : Turn) → n < length turns → turn ≡ get_or turns n turn → turns_by way (take (n + 1) turns) ≡ turns_by way (take n turns) ++ turn_by way turn ∷ []
-turns_more way turns n turn less is =
-    ap (λ (l : List Turn). turns_by way l) (take_more turns n turn less ∙ ap (λ (t : Turn). take n turns ++ t ∷ []) (sym is)) ∙ map-append (turn_by way) (take n turns) (turn ∷ [])
-
-pub turns_length : (way : Way) (turns : List Turn) (n : ℕ) → n ≤ length turns → n ≡ length (turns_by way (take n turns))
-turns_length way turns n less = omega (arith, length-map (take n turns) (turn_by way), length-take n turns)
-
-pub all_collected : (way : Way) (role : Role) (turns : List (List ℕ)) (events : List (List Event)) (session : SessionValue) (c : Collected) (replies : List (InTurn Reply)) → replies ≡ c.replies.items
-    → HasCollected way role turns events session c → IsDirectionOf role (found_by way) turns (record { replies = replies; ending = c.ending; has_rest = c.has_rest })
-all_collected way role turns events session c replies same h = record {
-  events = events;
-  are_events = h.are_events;
-  replies = same ∙ h.replies;
-  ending = h.ending;
-  has_rest = h.has_rest;
 }

@@ -1,5 +1,5 @@
--- Worked verdicts: a ping, and what is got for it.
-use Rattle.std.proofs.Common.{◌≡◌, ◌≢◌, ℕ, ◌<◌, true, false, List, [], ◌∷◌, ◌++◌, Some, None, refl, arith, inl, inr, lit≤}
+-- Worked verdicts: a ping, and what is got for it; and whether that is an answer.
+use Rattle.std.proofs.Common.{◌≡◌, ◌≢◌, ℕ, ◌<◌, ◌≤◌, true, false, List, [], ◌∷◌, ◌++◌, Some, None, refl, subst, arith, inl, inr, lit≤}
 use Rattle.ws_wire.specs.declared.role.Role.TheVariants.{Client, Server}
 use Rattle.ws_scripts.specs.declared.transcript.Ended.{Ended}
 use Rattle.ws_scripts.specs.declared.transcript.Ended.TheVariants.{Tester, Peer, Broken}
@@ -12,10 +12,14 @@ use Rattle.ws_suite.specs.declared.evidence.InTurn.{InTurn}
 use Rattle.ws_suite.specs.declared.evidence.Reply.{Reply}
 use Rattle.ws_suite.specs.declared.evidence.Direction.{Direction}
 use Rattle.ws_suite.specs.declared.evidence.Evidence.{Evidence}
-use Rattle.ws_suite.specs.Evidence.{IsDirectionOf, due_for, got_in}
+use Rattle.ws_scripts.specs.declared.transcript.Transcript.{Transcript}
+use Rattle.ws_suite.specs.Evidence.{IsDirectionOf, IsEvidenceOf, due_for, got_in}
+use Rattle.ws_suite.specs.Growing.{AreTurnsAnswered, IsAnswered}
 use Rattle.ws_suite.specs.Verdicts.{Fails, HasOtherClose, HasOtherEnd, IsLoose, IsNotFrames, IsVerdictOf, fail_number, loose_number}
 use Rattle.ws_suite.specs.Examples.{in_one_turn, in_two_turns, ping_sent, pong, pong_got}
-use Rattle.ws_suite.specs.InnerCollecting.{FrameLaws}
+use Rattle.ws_suite.specs.InnerCollecting.{EventLaws, FrameLaws}
+use Rattle.ws_suite.proofs.JudgeLemmas.{last_turns}
+use Rattle.ws_suite.proofs.OneVerdict.{one_evidence}
 use Rattle.ws_suite.proofs.ValidDirections.{valid_direction}
 use Rattle.ws_suite.proofs.WorkedFrames.{answer, answer_fits, answer_valid, none_valid, ping, ping_fits, ping_valid, pings_valid}
 
@@ -185,3 +189,35 @@ module _ (laws : FrameLaws) where
       ((lit≤ tt, record { due = pong 0 []; is_due = refl; got = pong 0 []; is_got = refl; same = refl; turn = lit≤ tt }), below_skipped),
     );
   }
+
+  -- ---- what has come
+
+  pub ping_is_answered : AreTurnsAnswered Server (in_one_turn ping_sent pong_got Tester).turns
+  ping_is_answered = record {
+    evidence = answered Tester;
+    is_evidence = record { due = ping_due; got = pong_is_got; turns = refl; ended = refl };
+    answered = (λ less. omega (arith, less), λ some. record { due = pong 0 []; is_due = refl; got = pong 0 []; is_got = refl; same = refl; turn = lit≤ tt });
+  }
+
+  pub latest_is_answered : AreTurnsAnswered Server (in_one_turn (ping_sent ++ ping_sent) pong_got Tester).turns
+  latest_is_answered = record {
+    evidence = latest;
+    is_evidence = record { due = pings_due; got = pong_is_got; turns = refl; ended = refl };
+    answered = (λ less. omega (arith, less), λ some. record { due = pong 0 []; is_due = refl; got = pong 0 []; is_got = refl; same = refl; turn = lit≤ tt });
+  }
+
+  module _ (events : EventLaws) where
+    shown_is : (transcript : Transcript) (x y : Evidence) → IsEvidenceOf Server transcript x → IsEvidenceOf Server transcript y → IsAnswered x → IsAnswered y
+    shown_is transcript x y p q h = subst (λ (e : Evidence). IsAnswered e) (one_evidence events Server transcript x y p q) h
+
+    pub silence_is_none : AreTurnsAnswered Server (in_one_turn ping_sent [] Tester).turns → ⊥
+    silence_is_none a =
+        let h = shown_is (in_one_turn ping_sent [] Tester) a.evidence silent a.is_evidence (record { due = ping_due; got = nothing_is_got; turns = refl; ended = refl }) a.answered in
+        let last = h.1 (lit≤ tt) in
+        absurd (let wrong : None ≡ Some last.got = last.is_got in cc)
+
+    pub earlier_is_none : AreTurnsAnswered Server (in_two_turns [] pong_got ping_sent [] Tester).turns → ⊥
+    earlier_is_none a =
+        let h = shown_is (in_two_turns [] pong_got ping_sent [] Tester) a.evidence early a.is_evidence (record { due = later_ping_due; got = first_pong_is_got; turns = refl; ended = refl }) a.answered in
+        let wrong : 1 ≤ 0 = last_turns (pong 1 [] ∷ []) (pong 0 [] ∷ []) (pong 1 []) (pong 0 []) refl refl (h.1 (lit≤ tt)) in
+        omega (arith, wrong)

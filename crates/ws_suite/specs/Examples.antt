@@ -4,9 +4,7 @@ use Rattle.std.specs.Prelude.{◌≡◌, ℕ, true, false, List, [], ◌∷◌, 
 use Rattle.ws_wire.specs.declared.role.Role.TheVariants.{Client, Server}
 use Rattle.ws_session.specs.declared.reason.Reason.TheVariants.{Opcode}
 use Rattle.ws_session.specs.declared.event.Event.TheVariants as event
-use Rattle.ws_scripts.specs.declared.transcript.Turn.{Turn}
 use Rattle.ws_scripts.specs.declared.transcript.Ended.{Ended}
-use Rattle.ws_scripts.specs.declared.transcript.Ended.TheVariants.{Tester}
 use Rattle.ws_scripts.specs.declared.transcript.Transcript.{Transcript}
 use Rattle.ws_scripts.specs.Examples.{turn_of}
 use Rattle.ws_suite.specs.declared.evidence.InTurn.{InTurn}

@@ -1,8 +1,8 @@
--- Inside the crate: how the evidence of a direction is collected, turn by turn. A reader may skip this file.
-use Rattle.std.specs.Prelude.{◌≡◌, ℕ, ◌≤◌, ◌↔◌, max, true, false, List, [], ◌∷◌, ◌++◌, map, take, flat_map, None}
-use Rattle.std.specs.List.{AllByRecursion, concat, last_or}
+-- Inside the crate: how the evidence of a direction is collected, piece by piece. A reader may skip this file.
+use Rattle.std.specs.Prelude.{◌≡◌, ℕ, ◌≤◌, max, List, [], ◌∷◌, ◌++◌, map, take, flat_map, None}
+use Rattle.std.specs.List.{AllByRecursion, last_or}
 use Rattle.ws_wire.specs.declared.role.Role.{Role}
-use Rattle.ws_wire.specs.Frame.{Frame, KeyedFrame, FitsTheLayout, stream_bytes}
+use Rattle.ws_wire.specs.Frame.{KeyedFrame, FitsTheLayout, stream_bytes}
 use Rattle.ws_session.specs.declared.event.Event.{Event}
 use Rattle.ws_session.specs.declared.event.PlacedEvent.{PlacedEvent}
 use Rattle.ws_session.specs.Limits.{LimitsValue}
@@ -10,26 +10,18 @@ use Rattle.ws_session.specs.Events.{HasEvents}
 use Rattle.ws_session.specs.Faults.{KeysFit, frames_of}
 use Rattle.ws_session.specs.Reach.{events_within, first_passing, fitting}
 use Rattle.ws_session.specs.Validity.{AreValidFrames}
-use Rattle.ws_session.specs.Exchange.{SessionValue, HasExchanged}
-use Rattle.ws_session.specs.Sends.{most_limits}
-use Rattle.ws_scripts.specs.declared.transcript.Turn.{Turn}
+use Rattle.ws_session.specs.Exchange.{SessionValue}
 use Rattle.ws_suite.specs.declared.evidence.InTurn.{InTurn}
 use Rattle.ws_suite.specs.declared.evidence.Reply.{Reply}
 use Rattle.ws_suite.specs.declared.evidence.collecting.Way.{Way}
 use Rattle.ws_suite.specs.declared.evidence.collecting.Way.TheVariants.{Sent, Got}
 use Rattle.ws_suite.specs.declared.evidence.collecting.Collected.{Collected}
-use Rattle.ws_suite.specs.Evidence.{AreEventsByTurn, HasRest, by_turn, due_for, ending_in, got_in, joined_events}
+use Rattle.ws_suite.specs.Evidence.{due_for, ending_in, got_in}
+use Rattle.ws_suite.specs.Growing.{HasTakenTurns}
 
 abbrev pub found_by : Way → Event → List Reply
 found_by Sent e = due_for e
 found_by Got e = got_in e
-
-abbrev pub turn_by : Way → Turn → List ℕ
-turn_by Sent turn = turn.sent
-turn_by Got turn = turn.got
-
-abbrev pub turns_by : Way → List Turn → List (List ℕ)
-turns_by way turns = map (turn_by way) turns
 
 -- these, each with the number of this turn
 abbrev pub at_turn : {X : Type 0} → ℕ → List X → List (InTurn X)
@@ -40,21 +32,17 @@ abbrev pub last_end : List PlacedEvent → ℕ
 last_end [] = 0
 last_end (x ∷ xs) = max x.end (last_end xs)
 
--- the turns so far have these events at this role; its session has taken them, and what is collected is what they say
-pub record HasCollected (way : Way) (role : Role) (turns : List (List ℕ)) (events : List (List Event))
-    (session : SessionValue) (collected : Collected) : Type 0 where
-  pub are_events : AreEventsByTurn role turns events
-  pub sent : List Frame
-  pub exchanged : HasExchanged session sent (concat turns) false
-  pub same_role : session.role ≡ role
-  pub limits : session.limits ≡ most_limits
-  pub replies : collected.replies.items ≡ by_turn (found_by way) 0 events
-  pub ending : collected.ending ≡ last_or None (by_turn ending_in 0 events)
-  pub has_rest : (collected.has_rest ≡ true) ↔ HasRest role (concat turns) (joined_events events)
+-- the turns so far of a direction were taken by a session of this role
+abbrev pub HasTakenWay : {K : Type 0} → (K → List (InTurn Reply) → Type 0) → Way → Role → List (List ℕ) → SessionValue
+    → Collected K → Type 0
+HasTakenWay keeps way role turns session collected =
+    HasTakenTurns keeps (found_by way) role turns session collected
 
 -- events of one turn are collected after what was
-pub record AreCollected (way : Way) (turn : ℕ) (events : List Event) (old new : Collected) : Type 0 where
-  pub replies : new.replies.items ≡ old.replies.items ++ at_turn turn (flat_map (found_by way) events)
+pub record AreCollected {K : Type 0} (keeps : K → List (InTurn Reply) → Type 0) (way : Way) (turn : ℕ)
+    (events : List Event) (old new : Collected K) : Type 0 where
+  pub replies : (replies : List (InTurn Reply)) → keeps old.replies replies
+      → keeps new.replies (replies ++ at_turn turn (flat_map (found_by way) events))
   pub ending : new.ending ≡ last_or old.ending (at_turn turn (flat_map ending_in events))
   pub has_rest : new.has_rest ≡ old.has_rest
 

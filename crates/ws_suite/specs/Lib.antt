@@ -2,6 +2,7 @@ pub mod Evidence
 pub mod Matching
 pub mod Verdicts
 pub mod Fairness
+pub mod Growing
 pub mod Words
 pub mod Examples
 pub mod InnerCollecting

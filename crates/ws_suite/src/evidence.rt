@@ -1,22 +1,29 @@
 //! What a transcript shows of the tested end: the events of both directions, each with its turn.
 
 mod collecting;
+mod growing;
+mod keeping;
 
-pub(crate) use collecting::evidence_of;
+ghost use Rattle.std.specs.Prelude.{◌≡◌, ◌≤◌, ◌↔◌, IsTrue};
+ghost use Rattle.ws_suite.specs.Matching.{is_message};
+
+pub(crate) use growing::evidence_of;
+pub use growing::{GrowingEvidence, RunEvidence};
+pub use keeping::{KeepsReplies, ReplyTally};
 use ws_base::Sequence;
 use ws_scripts::Ended;
 use ws_session::{Message, Reason, Small};
 
 /// Something, and the number of its turn, from 0.
 #[derive(Drop)]
-pub(crate) struct InTurn<T> {
+pub struct InTurn<T> {
     pub turn: usize,
     pub what: T,
 }
 
 /// What an echo sends back for one event.
 #[derive(Drop)]
-pub(crate) enum Reply {
+pub enum Reply {
     /// The message itself.
     Message(Message),
     /// A pong with the payload of the ping.
@@ -25,7 +32,7 @@ pub(crate) enum Reply {
 
 /// What ends the events of a direction.
 #[derive(Clone, Copy)]
-pub(crate) enum Ending {
+pub enum Ending {
     /// A close frame with this code, or an empty one.
     Closed(Option<u16>),
     /// The bytes break a rule.
@@ -50,4 +57,34 @@ pub(crate) struct Evidence {
     pub got: Direction,
     pub turns: usize,
     pub ended: Ended,
+}
+
+/// Whether a reply is a message.
+pub(crate) fn is_message(reply: &Reply) -> bool
+    ensures { result ≡ is_message reply.now }
+{
+    match reply {
+        Reply::Message(_) => true,
+        Reply::Pong(_) => false,
+    }
+}
+
+/// Whether two replies are one: messages of one kind and payload, or pongs of one payload.
+pub(crate) fn are_same(one: &Reply, other: &Reply) -> bool
+    ensures { IsTrue result ↔ (one.now ≡ other.now) }
+{
+    match (one, other) {
+        (Reply::Message(one), Reply::Message(other)) => {
+            one.kind == other.kind && one.payload.as_slice() == other.payload.as_slice()
+        }
+        (Reply::Pong(one), Reply::Pong(other)) => one.as_slice() == other.as_slice(),
+        _ => false,
+    }
+}
+
+/// Whether a reply that was got is the one that is due, and stands in no earlier turn than its cause.
+pub(crate) fn is_answer(due: &InTurn<Reply>, got: &InTurn<Reply>) -> bool
+    ensures { IsTrue result ↔ (got.now.what ≡ due.now.what) × (due.now.turn ≤ got.now.turn) }
+{
+    are_same(&got.what, &due.what) && due.turn <= got.turn
 }

@@ -14,6 +14,7 @@ ghost use Rattle.ws_suite.specs.declared.verdict.Verdict.TheVariants.{Fail, Loos
 ghost use Rattle.ws_suite.specs.Evidence.{AreEventsByTurn, EndsWithByte, StandsInTurn, HoldsByte};
 ghost use Rattle.ws_suite.specs.Examples.{in_one_turn, in_two_turns, ping_sent, pong_got};
 ghost use Rattle.ws_suite.specs.Fairness.{IsEchoTranscript};
+ghost use Rattle.ws_suite.specs.Growing.{AreTurnsAnswered};
 ghost use Rattle.ws_suite.specs.Verdicts.{IsVerdictOf};
 
 use crate::lemmas::{echo_reply_laws, frame_laws, session_laws};
@@ -55,4 +56,16 @@ pub fn worked_verdicts()
         (Loose loose.PongsSkipped) }
 {
     frame_laws();
+}
+
+/// Worked examples of what has come for a ping: its pong in its turn answers it; none doesn't, nor does one that comes in
+/// the turn before; and of two pings one pong answers the latter.
+pub fn worked_answers()
+    ensures answered { AreTurnsAnswered Server (in_one_turn ping_sent pong_got Tester).turns }
+    ensures silent { ¬ (AreTurnsAnswered Server (in_one_turn ping_sent [] Tester).turns) }
+    ensures early { ¬ (AreTurnsAnswered Server (in_two_turns [] pong_got ping_sent [] Tester).turns) }
+    ensures latest { AreTurnsAnswered Server (in_one_turn (ping_sent ++ ping_sent) pong_got Tester).turns }
+{
+    frame_laws();
+    session_laws();
 }

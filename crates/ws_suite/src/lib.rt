@@ -2,7 +2,8 @@
 //! rules were broken. Scripts, transcripts and captures are those of `ws_scripts`, which is handed on.
 //!
 //! The layers above use the contract of `judge`, for a tested server, or of `judge_end`, for a tested end of either
-//! role: it gives the one verdict that the definition has for a transcript.
+//! role: it gives the one verdict that the definition has for a transcript. A run that goes on uses `RunEvidence`: it
+//! tells by what went over a connection so far whether what is due has come.
 #![tactic(auto)]
 
 mod evidence;
@@ -11,6 +12,7 @@ pub mod laws;
 mod lemmas;
 mod verdict;
 
+pub use evidence::{GrowingEvidence, KeepsReplies, ReplyTally, RunEvidence};
 pub use judging::{judge, judge_end};
 pub use verdict::{FailWhy, LooseWhy, Verdict};
 pub use ws_scripts::{

@@ -5,13 +5,13 @@ ghost use Rattle.std.specs.List.{concat};
 ghost use Rattle.ws_peer.specs.Runs.{with_finish};
 ghost use Rattle.ws_connection.specs.InnerProbeTurns.{IsReady, Records};
 
-use crate::awaiting::Awaited;
 use crate::connection::{Connection, EndsDirection};
 use crate::probing::turn::{TurnRules, run_turn};
 use std::alloc::Global;
 use std::io::Read;
 use ws_base::{NoMemory, Payload, Sequence};
-use ws_suite::{Ended, Transcript, Turn};
+use ws_suite::{Ended, RunEvidence, Transcript, Turn};
+use ws_wire::Role;
 
 /// Sends the turns and reads what comes for each. `first` came with the head: where it has a fault, nothing is sent.
 /// `waits_at_end` is that of each turn.
@@ -26,13 +26,14 @@ pub fn run_turns<R: Read, W: EndsDirection>(
     ensures { IfOk result (λ transcript. Records (map concat script.now) first.items transcript
         (record { old = connection.old; new = connection.new })) }
 {
-    let mut awaited = Awaited::new(alloc);
-    awaited.on_got(first.as_slice())?;
+    let mut evidence = RunEvidence::new(alloc, Role::Server);
+    evidence.begin_turn();
+    evidence.on_got(first.as_slice())?;
     if script.is_empty() {
         let turns = without_turns(alloc, first)?;
         return Ok(transcript_of(turns, Ended::Tester));
     }
-    if awaited.is_faulty() {
+    if evidence.has_got_fault() {
         let turns = without_turns(alloc, first)?;
         return Ok(transcript_of(turns, Ended::Tester));
     }
@@ -42,12 +43,12 @@ pub fn run_turns<R: Read, W: EndsDirection>(
         let more = done.len() < script.len() - 1;
         let rules = TurnRules { more, waits_at_end };
         let bytes = pieces.as_slice();
-        let (turn, end) = run_turn(alloc, bytes, got, rules, connection, &mut awaited)?;
+        let (turn, end) = run_turn(alloc, bytes, got, rules, connection, &mut evidence)?;
         done.push(turn)?;
         got = Vec::new(alloc);
         match end {
             Some(ended) => return Ok(transcript_of(done, ended)),
-            None => {}
+            None => evidence.begin_turn(),
         }
     }
     // The last turn doesn't go on, so that the script ends there.

@@ -1,22 +1,27 @@
 //! One turn of a script that is run against a server: its pieces are sent, and what comes for them is read.
 
-ghost use Rattle.std.specs.Prelude.{◌≡◌, ◌++◌, ℕ, List, true, false, IfOk};
+ghost use Rattle.std.specs.Prelude.{◌≡◌, ◌++◌, ◌∷◌, [], ℕ, List, Some, true, false, IfOk};
 ghost use Rattle.std.specs.List.{concat};
 ghost use Rattle.ws_connection.specs.Connections.{MayRead, is_open};
-ghost use Rattle.ws_connection.specs.Standings.{HasHeard, HasNoGotFault, standing_by};
-ghost use Rattle.ws_connection.specs.InnerProbeTurns.{IsReady, ReadsPiece, ReadsTurn, RunsTurn, SendsTurn};
-ghost use Rattle.ws_connection.specs.InnerProbeTurns.{StopsBefore, end_of_turn, stop_at};
+ghost use Rattle.ws_wire.specs.declared.role.Role.TheVariants.{Server};
+ghost use Rattle.ws_scripts.specs.declared.transcript.Turn.{Turn};
+ghost use Rattle.ws_suite.specs.Growing.{AreTurnsAnswered};
+ghost use Rattle.ws_connection.specs.Probing.{all_got};
+ghost use Rattle.ws_connection.specs.Standings.{HasNoGotFault, standing_by};
+ghost use Rattle.ws_connection.specs.InnerProbeTurns.{HasSeen, IsReady, ReadsPiece, ReadsTurn, RunsTurn, SeesRun};
+ghost use Rattle.ws_connection.specs.InnerProbeTurns.{SeesTurn, SendsTurn, StopsBefore, end_of_turn, stop_at};
+ghost use Rattle.ws_connection.specs.InnerProbeTurns.{then_turn};
+ghost use Rattle.ws_connection.specs.declared.probing.turn.TurnStop.TheVariants.{IsThere};
 
-use crate::awaiting::Awaited;
 use crate::connection::{Connection, EndsDirection};
 use crate::incoming::Incoming;
-use crate::standing::Standing;
+use crate::standing::{Standing, standing_of};
 use std::alloc::Global;
 use std::io::Read;
 use ws_base::{NoMemory, Payload};
 use ws_frame::READ_SIZE;
 use ws_session::laws::one_list_of_events;
-use ws_suite::{Ended, Turn};
+use ws_suite::{Ended, RunEvidence, Turn};
 
 /// How long is read in a turn.
 #[derive(Clone, Copy)]
@@ -47,21 +52,22 @@ pub fn run_turn<R: Read, W: EndsDirection>(
     before: Vec<u8>,
     rules: TurnRules,
     connection: &mut Connection<R, W>,
-    awaited: &mut Awaited,
+    evidence: &mut RunEvidence,
 ) -> Result<(Turn, Option<Ended>), NoMemory>
     requires { IsReady connection.old }
-    ensures { IfOk result (λ run. (past : List ℕ) → HasHeard awaited.old (past ++ before.items)
-        → HasNoGotFault (past ++ before.items)
-        → RunsTurn (concat pieces.now) past before.items rules.more run.0 run.1 awaited.new
-        (record { old = connection.old; new = connection.new })) }
+    ensures { IfOk result (λ run. (past : List Turn) → HasSeen (then_turn past [] before.items) evidence.old
+        → HasNoGotFault (all_got past ++ before.items)
+        → RunsTurn (concat pieces.now) (all_got past) before.items rules.more run.0 run.1 evidence.new.tester
+        (record { old = connection.old; new = connection.new })
+        × SeesRun run.1 (past ++ run.0 ∷ []) evidence.new (record { old = connection.old; new = connection.new })) }
 {
     one_list_of_events();
     let sent = send(alloc, pieces, connection)?;
-    let was_over = awaited.is_server_over();
-    awaited.on_sent(sent.as_slice())?;
-    let waits = rules.wait(!was_over && awaited.is_server_over());
+    let had_ended = evidence.has_sent_end();
+    evidence.on_sent(sent.as_slice())?;
+    let waits = rules.wait(!had_ended && evidence.has_sent_end());
     let mut got = before;
-    let stop = read_turn(connection, waits, awaited, &mut got)?;
+    let stop = read_turn(connection, waits, evidence, &mut got)?;
     let turn = Turn {
         sent: Payload::from_vec(sent),
         got: Payload::from_vec(got),
@@ -134,24 +140,26 @@ fn end_of_turn<R: Read, W: EndsDirection>(
 fn read_turn<R: Read, W: EndsDirection>(
     connection: &mut Connection<R, W>,
     waits: bool,
-    awaited: &mut Awaited,
+    evidence: &mut RunEvidence,
     got: &mut Vec<u8>,
 ) -> Result<TurnStop, NoMemory>
     requires open { is_open connection.old.input.state ≡ true }
     requires ended { connection.old.output.ended ≡ false }
-    ensures { IfOk result (λ stop. (past : List ℕ) → HasHeard awaited.old (past ++ got.old.items)
-        → HasNoGotFault (past ++ got.old.items)
-        → ReadsTurn waits stop past got.old.items got.new.items awaited.new
+    ensures { IfOk result (λ stop. (past : List Turn) (sent : List ℕ)
+        → HasSeen (then_turn past sent got.old.items) evidence.old → HasNoGotFault (all_got past ++ got.old.items)
+        → ReadsTurn waits stop (all_got past) got.old.items got.new.items evidence.new.tester
+        (record { old = connection.old; new = connection.new })
+        × SeesTurn stop (then_turn past sent got.new.items) evidence.new
         (record { old = connection.old; new = connection.new })) }
 {
     one_list_of_events();
     let mut room = [0; READ_SIZE];
     'reads: loop {
-        match stop_before(connection, waits, awaited) {
+        match stop_before(connection, waits, evidence) {
             Some(stop) => return Ok(stop),
             None => {}
         }
-        match read_piece(connection, &mut room, awaited, got)? {
+        match read_piece(connection, &mut room, evidence, got)? {
             Some(stop) => return Ok(stop),
             None => {}
         }
@@ -163,12 +171,14 @@ fn read_turn<R: Read, W: EndsDirection>(
 fn stop_before<R: Read, W: EndsDirection>(
     connection: &mut Connection<R, W>,
     waits: bool,
-    awaited: &Awaited,
+    evidence: &RunEvidence,
 ) -> Option<TurnStop>
-    ensures { StopsBefore result waits (standing_by awaited.now.status)
+    ensures stops { StopsBefore result waits (standing_by evidence.now.tester.status)
         (record { old = connection.old; new = connection.new }) }
+    ensures due { result ≡ Some IsThere → (turns : List Turn) → HasSeen turns evidence.now →
+        AreTurnsAnswered Server turns }
 {
-    let standing = awaited.standing();
+    let standing = standing_of(evidence);
     if standing == Standing::Faulty {
         return Some(TurnStop::Fault);
     }
@@ -179,7 +189,7 @@ fn stop_before<R: Read, W: EndsDirection>(
         return Some(TurnStop::Budget);
     }
     let may_go = standing == Standing::Going && !waits && !connection.has_write_failed();
-    if may_go && awaited.is_there() {
+    if may_go && evidence.is_answered() {
         return Some(TurnStop::IsThere);
     }
     None
@@ -189,11 +199,11 @@ fn stop_before<R: Read, W: EndsDirection>(
 fn read_piece<R: Read, W: EndsDirection>(
     connection: &mut Connection<R, W>,
     room: &mut [u8; READ_SIZE],
-    awaited: &mut Awaited,
+    evidence: &mut RunEvidence,
     got: &mut Vec<u8>,
 ) -> Result<Option<TurnStop>, NoMemory>
     requires { MayRead connection.old }
-    ensures { IfOk result (λ stop. ReadsPiece stop got.old.items got.new.items awaited.old awaited.new
+    ensures { IfOk result (λ stop. ReadsPiece stop got.old.items got.new.items evidence.old evidence.new
         (record { old = connection.old; new = connection.new })) }
 {
     let count = connection.read(room);
@@ -201,7 +211,7 @@ fn read_piece<R: Read, W: EndsDirection>(
         return Ok(stop_at(connection.incoming()));
     }
     got.extend_from_slice(&room[..count])?;
-    awaited.on_got(&room[..count])?;
+    evidence.on_got(&room[..count])?;
     Ok(None)
 }
 

@@ -1,24 +1,24 @@
-//! From a transcript to its evidence: what both directions say, by two sessions that take them turn by turn.
+//! What one direction says, piece by piece: a session takes the bytes, and what it tells is collected.
 
-ghost use Rattle.std.specs.Prelude.{◌≡◌, ℕ, List, [], ◌∷◌, ◌++◌, length, IfOk, OnOk, option_to_list};
+ghost use Rattle.std.specs.Prelude.{◌≡◌, ℕ, List, [], ◌∷◌, ◌++◌, length, true, OnOk, option_to_list};
 ghost use Rattle.ws_wire.specs.declared.role.Role.{Role};
 ghost use Rattle.ws_session.specs.declared.event.Event.{Event};
+ghost use Rattle.ws_session.specs.Exchange.{is_over};
+ghost use Rattle.ws_session.specs.Sends.{most_limits};
 ghost use Rattle.ws_session.specs.Taking.{events_in};
-ghost use Rattle.ws_suite.specs.Evidence.{IsDirectionOf, IsEvidenceOf, ending_in, other_role};
-ghost use Rattle.ws_suite.specs.InnerCollecting.{AreCollected, HasCollected, found_by, last_end};
-ghost use Rattle.ws_suite.specs.InnerCollecting.{turn_by, turns_by};
+ghost use Rattle.ws_suite.specs.Evidence.{ending_in};
+ghost use Rattle.ws_suite.specs.InnerCollecting.{AreCollected, HasTakenWay, found_by, last_end};
 
-use crate::evidence::{Direction, Ending, Evidence, InTurn, Reply};
+use crate::evidence::{Ending, InTurn, KeepsReplies, Reply};
 use crate::lemmas::session_laws;
 use std::alloc::Global;
-use ws_base::{NoMemory, Sequence};
-use ws_scripts::{Transcript, Turn};
+use ws_base::NoMemory;
 use ws_session::{Event, Limits, MAX_MESSAGE, PlacedEvent, Session};
 use ws_wire::{NO_KEY, Role};
 
 /// One of the two directions.
 #[derive(Clone, Copy)]
-pub(crate) enum Way {
+pub(super) enum Way {
     /// From the tester to the tested end.
     Sent,
     /// From the tested end to the tester.
@@ -27,103 +27,68 @@ pub(crate) enum Way {
 
 /// What is collected of a direction so far.
 #[derive(Drop)]
-pub(crate) struct Collected {
-    replies: Vec<InTurn<Reply>>,
-    ending: Option<InTurn<Ending>>,
-    has_rest: bool,
+pub(super) struct Collected<K> {
+    pub replies: K,
+    pub ending: Option<InTurn<Ending>>,
+    pub has_rest: bool,
 }
 
-/// The evidence of a transcript, where the tested end has this role.
-pub(crate) fn evidence_of(
-    alloc: Global,
-    tested: Role,
-    transcript: &Transcript,
-) -> Result<Evidence, NoMemory>
-    ensures { IfOk result (λ evidence. IsEvidenceOf tested transcript.now evidence) }
-{
-    let turns = transcript.turns.as_slice();
-    let due = direction_of(alloc, Way::Sent, tested, turns)?;
-    let got = direction_of(alloc, Way::Got, other(tested), turns)?;
-    Ok(Evidence {
-        due,
-        got,
-        turns: turns.len(),
-        ended: transcript.ended,
-    })
+/// A direction: the session of the end that takes it, and what is collected.
+#[derive(Drop)]
+pub(super) struct Taken<K> {
+    pub session: Session,
+    pub collected: Collected<K>,
 }
 
-/// The other end.
-fn other(role: Role) -> Role
-    ensures { result ≡ other_role role }
+/// A direction of which an end with this role has taken nothing.
+pub(super) fn nothing_taken<K: KeepsReplies>(alloc: Global, way: Way, role: Role) -> Taken<K>
+    ensures { HasTakenWay K.keeps way role [] result.session result.collected }
 {
-    match role {
-        Role::Client => Role::Server,
-        Role::Server => Role::Client,
+    Taken {
+        session: Session::new(alloc, role, most()),
+        collected: Collected {
+            replies: K::none(alloc),
+            ending: None,
+            has_rest: false,
+        },
     }
 }
 
-/// What one direction says to the end that takes it, which has this role.
-fn direction_of(alloc: Global, way: Way, role: Role, turns: &[Turn]) -> Result<Direction, NoMemory>
-    ensures { IfOk result (λ direction. IsDirectionOf role (found_by way) (turns_by way turns.now) direction) }
+/// The largest limits.
+fn most() -> Limits
+    ensures { result ≡ most_limits }
 {
-    let Some(limits) = Limits::new(MAX_MESSAGE) else {
-        unreachable!()
-    };
-    let mut session = Session::new(alloc, role, limits);
-    let mut collected = Collected {
-        replies: Vec::new(alloc),
-        ending: None,
-        has_rest: false,
-    };
-    for number in 0..turns.len() {
-        let bytes = bytes_of(way, &turns[number]);
-        collect_turn(alloc, way, number, bytes, &mut session, &mut collected)?;
-    }
-    let Collected {
-        replies,
-        ending,
-        has_rest,
-    } = collected;
-    Ok(Direction {
-        replies: Sequence::from_vec(replies),
-        ending,
-        has_rest,
-    })
-}
-
-/// The bytes of a turn.
-fn bytes_of(way: Way, turn: &Turn) -> &[u8]
-    ensures { result.now ≡ turn_by way turn.now }
-{
-    match way {
-        Way::Sent => turn.sent.as_slice(),
-        Way::Got => turn.got.as_slice(),
+    match Limits::new(MAX_MESSAGE) {
+        Some(limits) => limits,
+        None => unreachable!(),
     }
 }
 
-/// Takes the bytes of one more turn, and collects what they say.
-fn collect_turn(
+/// Takes a piece of the turn with this number, which is the last, and collects what it says.
+pub(super) fn take_piece<K: KeepsReplies>(
     alloc: Global,
     way: Way,
     number: usize,
-    bytes: &[u8],
-    session: &mut Session,
-    collected: &mut Collected,
+    piece: &[u8],
+    taken: &mut Taken<K>,
 ) -> Result<(), NoMemory>
-    ensures { (role : Role) (turns : List (List ℕ)) (events : List (List Event)) → number ≡ length turns →
-        HasCollected way role turns events session.old collected.old →
-        OnOk result ((added : List Event)
-        × HasCollected way role (turns ++ bytes.now ∷ []) (events ++ added ∷ []) session.new collected.new) }
+    ensures taken { (role : Role) (turns : List (List ℕ)) (last : List ℕ) → number ≡ length turns →
+        HasTakenWay K.keeps way role (turns ++ last ∷ []) taken.old.session taken.old.collected →
+        OnOk result (HasTakenWay K.keeps way role (turns ++ (last ++ piece.now) ∷ [])
+        taken.new.session taken.new.collected) }
+    ensures over { is_over taken.old.session.status ≡ true → taken.new.session ≡ taken.old.session }
 {
     session_laws();
-    if bytes.is_empty() {
+    if piece.is_empty() {
         return Ok(());
     }
     let mut out = Vec::new(alloc);
     let mut events = Vec::new(alloc);
-    session.take_all(bytes, NO_KEY, &mut out, &mut events)?;
-    collected.has_rest = last_end(&events) < bytes.len();
-    collect_events(way, number, events, collected)?;
+    taken
+        .session
+        .take_all(piece, NO_KEY, &mut out, &mut events)?;
+    taken.collected.has_rest = last_end(&events) < piece.len();
+    collect_events(way, number, events, &mut taken.collected)?;
     Ok(())
 }
 
@@ -141,13 +106,13 @@ fn last_end(events: &[PlacedEvent]) -> usize
 }
 
 /// Collects what the events of a turn say.
-fn collect_events(
+fn collect_events<K: KeepsReplies>(
     way: Way,
     number: usize,
     events: Vec<PlacedEvent>,
-    collected: &mut Collected,
+    collected: &mut Collected<K>,
 ) -> Result<(), NoMemory>
-    ensures { OnOk result (AreCollected way number (events_in events.items) collected.old collected.new) }
+    ensures { OnOk result (AreCollected K.keeps way number (events_in events.items) collected.old collected.new) }
 {
     let mut later = events;
     later.reverse();
@@ -158,19 +123,19 @@ fn collect_events(
 }
 
 /// Collects what an event says.
-fn collect_event(
+fn collect_event<K: KeepsReplies>(
     way: Way,
     turn: usize,
     event: Event,
-    collected: &mut Collected,
+    collected: &mut Collected<K>,
 ) -> Result<(), NoMemory>
-    ensures { OnOk result (AreCollected way turn (event ∷ []) collected.old collected.new) }
+    ensures { OnOk result (AreCollected K.keeps way turn (event ∷ []) collected.old collected.new) }
 {
     if let Some(what) = ending_of(&event) {
         collected.ending = Some(InTurn { turn, what });
     }
     if let Some(what) = reply_of(way, event) {
-        collected.replies.push(InTurn { turn, what })?;
+        collected.replies.keep(InTurn { turn, what })?;
     }
     Ok(())
 }

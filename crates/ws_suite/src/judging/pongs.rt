@@ -6,8 +6,7 @@ ghost use Rattle.ws_suite.specs.InnerJudging.{IsAtFront, targets};
 ghost use Rattle.ws_suite.specs.Matching.{IsLastPong, due_after, has_payload_of, matches_of, payload_of};
 ghost use Rattle.ws_suite.specs.Verdicts.{is_before_match, is_unmatched};
 
-use crate::evidence::{InTurn, Reply};
-use crate::judging::replies::are_same;
+use crate::evidence::{InTurn, Reply, is_answer};
 
 /// What comes of the matching: each got pong with the first due pong after the last one matched that has its payload.
 #[derive(Clone, Copy)]
@@ -116,5 +115,5 @@ pub(super) fn has_last_pong(due: &[&InTurn<Reply>], got: &[&InTurn<Reply>]) -> b
     }
     let due = due[due.len() - 1];
     let got = got[got.len() - 1];
-    are_same(&got.what, &due.what) && due.turn <= got.turn
+    is_answer(due, got)
 }

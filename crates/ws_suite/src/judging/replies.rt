@@ -4,11 +4,11 @@ ghost use Rattle.std.specs.Prelude.{◌≡◌, ◌↔◌, ◌∷◌, List, IfOk,
 ghost use Rattle.ws_suite.specs.declared.evidence.Reply.{Reply};
 ghost use Rattle.ws_suite.specs.InnerJudging.{AreListsOf, targets};
 ghost use Rattle.std.specs.List.{list_any, zip};
-ghost use Rattle.ws_suite.specs.Matching.{IsBeginningOf, IsWithSomeLeftOut, bare, is_message};
+ghost use Rattle.ws_suite.specs.Matching.{IsBeginningOf, IsWithSomeLeftOut, bare};
 ghost use Rattle.ws_suite.specs.Matching.{message_replies, pong_replies};
 ghost use Rattle.ws_suite.specs.Verdicts.{is_before};
 
-use crate::evidence::{Evidence, InTurn, Reply};
+use crate::evidence::{Evidence, InTurn, Reply, are_same, is_message};
 use std::alloc::Global;
 use ws_base::NoMemory;
 
@@ -67,29 +67,6 @@ fn pongs<'a>(
         }
     }
     Ok(found)
-}
-
-/// Whether a reply is a message.
-fn is_message(reply: &Reply) -> bool
-    ensures { result ≡ is_message reply.now }
-{
-    match reply {
-        Reply::Message(_) => true,
-        Reply::Pong(_) => false,
-    }
-}
-
-/// Whether two replies are one: messages of one kind and payload, or pongs of one payload.
-pub(super) fn are_same(one: &Reply, other: &Reply) -> bool
-    ensures { IsTrue result ↔ (one.now ≡ other.now) }
-{
-    match (one, other) {
-        (Reply::Message(one), Reply::Message(other)) => {
-            one.kind == other.kind && one.payload.as_slice() == other.payload.as_slice()
-        }
-        (Reply::Pong(one), Reply::Pong(other)) => one.as_slice() == other.as_slice(),
-        _ => false,
-    }
 }
 
 /// Whether the first replies are a beginning of the others, without their turns.

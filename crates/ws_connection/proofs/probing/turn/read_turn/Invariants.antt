@@ -1,14 +1,18 @@
--- What was read so far was put behind what was got, whatever was got in the turns before.
+-- What was read so far was put behind what was got and is shown, whatever was got in the turns before.
 use Rattle.std.proofs.Common.{◌≡◌, ◌++◌, ◌-◌, ◌^◌, List, ℕ, true, length}
 use Rattle.ws_connection.specs.Connections.{is_open}
-use Rattle.ws_connection.specs.Standings.{HasHeard, HasNoGotFault}
+use Rattle.ws_scripts.specs.declared.transcript.Turn.{Turn}
+use Rattle.ws_connection.specs.InnerProbeTurns.{HasSeen, then_turn}
+use Rattle.ws_connection.specs.Probing.{all_got}
+use Rattle.ws_connection.specs.Standings.{HasNoGotFault}
 use Rattle.ws_connection.proofs.ProbingLemmas.{ReadsSoFar, between}
 use Rattle.ws_connection.proofs.probing.turn.read_turn.Given as goal
 
 abbrev pub invariant-reads : goal.invariant-reads
 invariant-reads g l = (is_open l.connection.input.state ≡ true)
-    × ((past : List ℕ) → HasHeard l.fn.awaited (past ++ l.fn.got.items) → HasNoGotFault (past ++ l.fn.got.items)
-    → ReadsSoFar past l.fn.got.items l.got.items l.awaited (between l.fn.connection l.connection))
+    × ((past : List Turn) (sent : List ℕ) → HasSeen (then_turn past sent l.fn.got.items) l.fn.evidence → HasNoGotFault (all_got past ++ l.fn.got.items)
+    → ReadsSoFar (all_got past) l.fn.got.items l.got.items l.evidence.tester (between l.fn.connection l.connection) × HasSeen (then_turn past sent l.got.items) l.evidence)
+    × (l.fn.connection.input.waited ≡ true → l.connection.input.waited ≡ true)
 
 -- how many bytes a vector could still take
 abbrev pub decreases-reads : goal.decreases-reads

@@ -1,15 +1,24 @@
 -- A turn sent its pieces, and read what came.
-use Rattle.std.proofs.Common.{◌≡◌, ◌++◌, subst, sym}
+use Rattle.std.proofs.Common.{[], List, ℕ, subst}
 use Rattle.std.specs.List.{concat}
-use Rattle.ws_session.specs.Exchange.{SessionValue}
-use Rattle.ws_connection.specs.Standings.{HasHeard}
-use Rattle.ws_connection.proofs.ProbingLemmas.{turn_run}
+use Rattle.ws_scripts.specs.declared.transcript.Turn.{Turn}
+use Rattle.ws_wire.specs.declared.role.Role.TheVariants.{Server}
+use Rattle.ws_connection.specs.InnerProbeTurns.{HasSeen, then_turn}
+use Rattle.ws_connection.specs.Probing.{all_got}
+use Rattle.ws_connection.proofs.ProbingLemmas.{sees_run, turn_run}
 use Rattle.ws_connection.proofs.probing.turn.run_turn.Goals as goal
 
 pub returns : goal.returns
-returns g c = λ past heard none.
-    let same : c.on_sent.new.self ≡ c.args.awaited.now = c.on_sent.ensures in
-    turn_run c.one_list_of_events.ensures (concat c.args.pieces.now) past c.args.before.items c.in_ok-sent.sent.items c.read_turn.new.got.items c.args.rules.more c.wait-waits.result c.in_ok-stop.stop
-    (record { sent = c.from_vec.result; got = c.from_vec-2.result }) c.end_of_turn.result c.read_turn.new.awaited c.args.connection.now c.send.new.connection c.read_turn.new.connection
-    c.in_ok-sent.ensures (c.in_ok-stop.ensures past (subst (λ (v : SessionValue). HasHeard v (past ++ c.args.before.items)) (sym same) heard) none)
-    c.wait-waits.ensures.last c.from_vec.ensures c.from_vec-2.ensures c.end_of_turn.ensures
+returns g c = λ past seen none.
+    let turn : Turn = record { sent = c.from_vec.result; got = c.from_vec-2.result } in
+    let sent = c.in_ok-sent.sent.items in
+    let before = c.args.before.items in
+    let shown = c.in_ok-on_sent.ensures Server past (record { sent = []; got = before }) seen in
+    let there = subst (λ (l : List ℕ). HasSeen (then_turn past l before) c.on_sent.new.self) c.as_slice.ensures.value shown in
+    let (reads, sees) = c.in_ok-stop.ensures past sent there none in (
+      turn_run c.one_list_of_events.ensures (concat c.args.pieces.now) (all_got past) before sent c.read_turn.new.got.items c.args.rules.more c.wait-waits.result c.in_ok-stop.stop
+          turn c.end_of_turn.result c.read_turn.new.evidence.tester c.args.connection.now c.send.new.connection c.read_turn.new.connection
+          c.in_ok-sent.ensures reads c.wait-waits.ensures.last c.from_vec.ensures c.from_vec-2.ensures c.end_of_turn.ensures,
+      sees_run _ _ c.args.rules.more c.in_ok-stop.stop c.end_of_turn.result past sent c.read_turn.new.got.items turn c.read_turn.new.evidence c.args.connection.now c.send.new.connection c.read_turn.new.connection
+          c.end_of_turn.ensures c.from_vec.ensures c.from_vec-2.ensures c.in_ok-sent.ensures.input sees,
+    )

@@ -5,7 +5,7 @@ use Rattle.ws_suite.proofs.EvidenceLemmas.{collected_joined, popped_first}
 use Rattle.ws_suite.proofs.evidence.collecting.collect_events.Goals as goal
 
 pub loop-placed-preserved : goal.loop-placed-preserved
-loop-placed-preserved c =
+loop-placed-preserved g c =
     let i = c.loop-placed.invariant in
     let placed = c.in-Some.placed in
     let left = c.pop.new.self.items in

@@ -6,8 +6,8 @@ use Rattle.ws_suite.proofs.evidence.collecting.collect_events.Given as goal
 
 -- the events before those that are left are collected
 abbrev pub invariant-loop-placed : goal.invariant-loop-placed
-invariant-loop-placed l = (done : List Event) × (events_in l.fn.events.items ≡ done ++ events_in (reverse l.later.items))
-    × AreCollected l.way l.number done l.fn.collected l.collected
+invariant-loop-placed g l = (done : List Event) × (events_in l.fn.events.items ≡ done ++ events_in (reverse l.later.items))
+    × AreCollected g.K.KeepsReplies.keeps l.way l.number done l.fn.collected l.collected
 
 abbrev pub decreases-loop-placed : goal.decreases-loop-placed
-decreases-loop-placed l = length l.later.items
+decreases-loop-placed g l = length l.later.items

@@ -1,0 +1,165 @@
+-- Evidence that grows: what is kept of the replies, and the turns with one turn or one piece more.
+use Rattle.std.proofs.Common.{◌≡◌, ◌∙◌, ℕ, ◌+◌, ◌-◌, ◌^◌, ◌<◌, ◌≤◌, ◌↔◌, min, Bool, true, false, if◌then◌else◌, List, [], ◌∷◌, ◌++◌, get_or, length, take, Option, None, Some, inl, inr, ap, sym, refl, subst, arith, append-nil, length-append}
+use Rattle.std.proofs.lemmas.Bool.{cases_lt}
+use Rattle.std.proofs.lemmas.List.{map-append, take_more}
+use Rattle.std.proofs.lemmas.List.Elements.{filter-append}
+use Rattle.std.specs.List.{filter, last_or}
+use Rattle.ws_wire.specs.declared.role.Role.{Role}
+use Rattle.ws_session.specs.Exchange.{SessionValue}
+use Rattle.ws_scripts.specs.declared.transcript.Turn.{Turn}
+use Rattle.ws_scripts.specs.declared.transcript.Ended.TheVariants.{Tester}
+use Rattle.ws_suite.specs.declared.evidence.InTurn.{InTurn}
+use Rattle.ws_suite.specs.declared.evidence.Reply.{Reply}
+use Rattle.ws_suite.specs.declared.evidence.Reply.TheVariants as reply
+use Rattle.ws_suite.specs.declared.evidence.Evidence.{Evidence}
+use Rattle.ws_suite.specs.declared.evidence.collecting.Collected.{Collected}
+use Rattle.ws_suite.specs.declared.evidence.keeping.ReplyTally.{ReplyTally}
+use Rattle.ws_suite.specs.Evidence.{IsEvidenceOf, due_for, got_in, got_turns, other_role, sent_turns}
+use Rattle.ws_suite.specs.Growing.{AnswersTally, AreTurnsAnswered, GrowingValue, HasGrown, HasTakenTurns, IsAnswered, IsAnsweredPong, IsTallyOf, new_turn, turn_with_got, turn_with_sent}
+use Rattle.ws_suite.specs.InnerCollecting.{EventLaws}
+use Rattle.ws_suite.specs.Matching.{IsLastPong, is_message, is_pong, message_replies, pong_replies}
+use Rattle.ws_suite.proofs.EvidenceLemmas.{last_joined}
+use Rattle.ws_suite.proofs.JudgeLemmas.{last_same, last_turns}
+use Rattle.ws_suite.proofs.OneVerdict.{one_evidence}
+use Rattle.ws_suite.proofs.TurnsCollected.{turn_begun}
+
+-- ---- what is kept
+
+no_message_is_pong : (r : Reply) → is_message r ≡ false → is_pong r ≡ true
+no_message_is_pong (reply.Message message) e = absurd cc
+no_message_is_pong (reply.Pong payload) e = refl
+
+one_left : (test : InTurn Reply → Bool) (r : InTurn Reply) → test r ≡ true → filter test (r ∷ []) ≡ r ∷ []
+one_left test r e = ap (λ (b : Bool). if b then r ∷ [] else []) e
+
+none_left : (test : InTurn Reply → Bool) (r : InTurn Reply) → test r ≡ false → filter test (r ∷ []) ≡ []
+none_left test r e = ap (λ (b : Bool). if b then r ∷ [] else []) e
+
+-- one pong more
+pub pong_kept : (tally : ReplyTally) (replies : List (InTurn Reply)) (r : InTurn Reply) → is_message r.what ≡ false → IsTallyOf tally replies
+    → IsTallyOf (record { messages = tally.messages; last_pong = Some r }) (replies ++ r ∷ [])
+pong_kept tally replies r not h = record {
+  messages =
+      h.messages ∙ ap (λ (l : List (InTurn Reply)). length l)
+      (sym (append-nil (message_replies replies)) ∙ ap (λ (l : List (InTurn Reply)). message_replies replies ++ l) (sym (none_left (λ x. is_message x.what) r not)) ∙ sym (filter-append (λ x. is_message x.what) replies (r ∷ [])));
+  last_pong =
+      sym (ap (λ (l : List (InTurn Reply)). last_or None l) (filter-append (λ x. is_pong x.what) replies (r ∷ []) ∙ ap (λ (l : List (InTurn Reply)). pong_replies replies ++ l) (one_left (λ x. is_pong x.what) r (no_message_is_pong r.what not)))
+      ∙ last_joined None (pong_replies replies) (r ∷ []));
+}
+
+-- ---- what is kept tells whether what is due has come
+
+never_none : {X : Type 0} (x : X) (xs : List X) → last_or (Some x) xs ≡ None → ⊥
+never_none x [] e = absurd cc
+never_none x (y ∷ xs) e = never_none y xs e
+
+without_last : {X : Type 0} (xs : List X) → last_or None xs ≡ None → 0 < length xs → ⊥
+without_last [] e some = omega arith
+without_last (x ∷ xs) e some = never_none x xs e
+
+with_last : {X : Type 0} (xs : List X) (x : X) → last_or None xs ≡ Some x → 0 < length xs
+with_last [] x e = absurd cc
+with_last (y ∷ xs) x e = omega arith
+
+module _ (dues gots : List (InTurn Reply)) where
+  pong_there : (o p : Option (InTurn Reply)) → last_or None dues ≡ o → last_or None gots ≡ p → IsAnsweredPong o p → 0 < length dues → IsLastPong dues gots
+  pong_there None p is_due is_got h some = absurd (without_last dues is_due some)
+  pong_there (Some due) None is_due is_got h some = absurd h
+  pong_there (Some due) (Some got) is_due is_got h some = record { due = due; is_due = is_due; got = got; is_got = is_got; same = h.0; turn = h.1 }
+
+  there_pong : (o p : Option (InTurn Reply)) → last_or None dues ≡ o → last_or None gots ≡ p → (0 < length dues → IsLastPong dues gots) → IsAnsweredPong o p
+  there_pong None p is_due is_got h = tt
+  there_pong (Some due) None is_due is_got h =
+      let last = h (with_last dues due is_due) in
+      absurd (let wrong : None ≡ Some last.got = sym is_got ∙ last.is_got in cc)
+  there_pong (Some due) (Some got) is_due is_got h =
+      let last = h (with_last dues due is_due) in
+      (last_same dues gots due got is_due is_got last, last_turns dues gots due got is_due is_got last)
+
+tallies_tell : (x : Evidence) (due got : ReplyTally) → IsTallyOf due x.due.replies → IsTallyOf got x.got.replies → AnswersTally due got ↔ IsAnswered x
+tallies_tell x due got d g = (
+  λ h. (
+    λ short. omega (arith, short, h.0, d.messages, g.messages),
+    λ some. pong_there (pong_replies x.due.replies) (pong_replies x.got.replies) due.last_pong got.last_pong (sym d.last_pong) (sym g.last_pong) h.1 some,
+  ),
+  λ h. (fewer (h.0), there_pong (pong_replies x.due.replies) (pong_replies x.got.replies) due.last_pong got.last_pong (sym d.last_pong) (sym g.last_pong) h.1),
+)
+  where
+    fewer : (length (message_replies x.got.replies) < length (message_replies x.due.replies) → ⊥) → due.messages ≤ got.messages
+    fewer not = elim (cases_lt got.messages due.messages) [
+      | inl less ↦ absurd (not (omega (arith, less, d.messages, g.messages)))
+      | inr most ↦ most
+    ]
+
+-- ---- what the turns show
+
+pub tells_answered : EventLaws → (tested : Role) (turns : List Turn) (x v : GrowingValue ReplyTally) (r : Bool) → x ≡ v → ((r ≡ true) ↔ AnswersTally x.due.replies x.got.replies) → HasGrown IsTallyOf tested turns v
+    → ((r ≡ true) ↔ AreTurnsAnswered tested turns)
+tells_answered laws tested turns x v r same tells grown =
+    let h = subst (λ (y : GrowingValue ReplyTally). HasGrown IsTallyOf tested turns y) (sym same) grown in
+    let shown : Evidence = record { due = h.due.shown; got = h.got.shown; turns = length turns; ended = Tester } in
+    let is : IsEvidenceOf tested (record { turns = turns; ended = Tester }) shown = record { due = h.due.is_shown; got = h.got.is_shown; turns = refl; ended = refl } in
+    let both = tallies_tell shown x.due.replies x.got.replies h.due.replies h.got.replies in (
+      λ e. record { evidence = shown; is_evidence = is; answered = both.0 (tells.0 e) },
+      λ a. tells.1 (both.1 (subst (λ (v : Evidence). IsAnswered v) (one_evidence laws tested (record { turns = turns; ended = Tester }) a.evidence shown a.is_evidence is) a.answered)),
+    )
+
+-- ---- the turns with one turn or one piece more
+
+sent_last : (turns : List Turn) (turn : Turn) → sent_turns (turns ++ turn ∷ []) ≡ sent_turns turns ++ turn.sent ∷ []
+sent_last turns turn = map-append (λ (t : Turn). t.sent) turns (turn ∷ [])
+
+got_last : (turns : List Turn) (turn : Turn) → got_turns (turns ++ turn ∷ []) ≡ got_turns turns ++ turn.got ∷ []
+got_last turns turn = map-append (λ (t : Turn). t.got) turns (turn ∷ [])
+
+module _ {K : Type 0} {keeps : K → List (InTurn Reply) → Type 0} (tested : Role) (x v : GrowingValue K) (same : x ≡ v) where
+  pub next_turn : (turns : List Turn) (n : ℕ) → n ≡ min (x.turns + 1) (2 ^ 64 - 1) → length turns + 1 < 2 ^ 64 → HasGrown keeps tested turns v
+      → HasGrown keeps tested (turns ++ new_turn ∷ []) (record { due = x.due; got = x.got; tested = x.tested; tester = x.tester; turns = n })
+  next_turn turns n e room grown =
+      let h = subst (λ (y : GrowingValue K). HasGrown keeps tested turns y) (sym same) grown in
+      record {
+        due = subst (λ (l : List (List ℕ)). HasTakenTurns keeps due_for tested l x.tested x.due) (sym (sent_last turns new_turn)) (turn_begun due_for tested (sent_turns turns) x.tested x.due h.due);
+        got = subst (λ (l : List (List ℕ)). HasTakenTurns keeps got_in (other_role tested) l x.tester x.got) (sym (got_last turns new_turn)) (turn_begun got_in (other_role tested) (got_turns turns) x.tester x.got h.got);
+        count = omega (arith, e, room, h.count, length-append turns (new_turn ∷ []));
+      }
+
+  module _ (before : List Turn) (turn : Turn) (grown : HasGrown keeps tested (before ++ turn ∷ []) v) where
+    h : HasGrown keeps tested (before ++ turn ∷ []) x
+    h = subst (λ (y : GrowingValue K). HasGrown keeps tested (before ++ turn ∷ []) y) (sym same) grown
+
+    -- the number of the last turn
+    pub last_number : (n : ℕ) → n ≡ x.turns - 1 → n ≡ length before
+    last_number n e = omega (arith, e, h.count, length-append before (turn ∷ []))
+
+    pub due_so_far : HasTakenTurns keeps due_for tested (sent_turns before ++ turn.sent ∷ []) x.tested x.due
+    due_so_far = subst (λ (l : List (List ℕ)). HasTakenTurns keeps due_for tested l x.tested x.due) (sent_last before turn) h.due
+
+    pub got_so_far : HasTakenTurns keeps got_in (other_role tested) (got_turns before ++ turn.got ∷ []) x.tester x.got
+    got_so_far = subst (λ (l : List (List ℕ)). HasTakenTurns keeps got_in (other_role tested) l x.tester x.got) (got_last before turn) h.got
+
+    same_count : (other : Turn) → x.turns ≡ length (before ++ other ∷ [])
+    same_count other = omega (arith, h.count, length-append before (turn ∷ []), length-append before (other ∷ []))
+
+    pub more_sent : (bytes : List ℕ) (session : SessionValue) (due : Collected K) → HasTakenTurns keeps due_for tested (sent_turns before ++ (turn.sent ++ bytes) ∷ []) session due
+        → HasGrown keeps tested (before ++ turn_with_sent turn bytes ∷ []) (record { due = due; got = x.got; tested = session; tester = x.tester; turns = x.turns })
+    more_sent bytes session due t = record {
+      due = subst (λ (l : List (List ℕ)). HasTakenTurns keeps due_for tested l session due) (sym (sent_last before (turn_with_sent turn bytes))) t;
+      got = subst (λ (l : List (List ℕ)). HasTakenTurns keeps got_in (other_role tested) l x.tester x.got) (sym (got_last before (turn_with_sent turn bytes))) got_so_far;
+      count = same_count (turn_with_sent turn bytes);
+    }
+
+    pub more_got : (bytes : List ℕ) (session : SessionValue) (got : Collected K) → HasTakenTurns keeps got_in (other_role tested) (got_turns before ++ (turn.got ++ bytes) ∷ []) session got
+        → HasGrown keeps tested (before ++ turn_with_got turn bytes ∷ []) (record { due = x.due; got = got; tested = x.tested; tester = session; turns = x.turns })
+    more_got bytes session got t = record {
+      due = subst (λ (l : List (List ℕ)). HasTakenTurns keeps due_for tested l x.tested x.due) (sym (sent_last before (turn_with_got turn bytes))) due_so_far;
+      got = subst (λ (l : List (List ℕ)). HasTakenTurns keeps got_in (other_role tested) l session got) (sym (got_last before (turn_with_got turn bytes))) t;
+      count = same_count (turn_with_got turn bytes);
+    }
+
+-- a turn of the transcript was sent and got
+pub turn_by_turn : {K : Type 0} {keeps : K → List (InTurn Reply) → Type 0} (turns : List Turn) (i : ℕ) (turn : Turn) (sent got : List ℕ) (tested : Role) (x : GrowingValue K) → i < length turns → turn ≡ get_or turns i turn
+    → sent ≡ turn.sent → got ≡ turn.got → HasGrown keeps tested (take i turns ++ turn_with_got (turn_with_sent new_turn sent) got ∷ []) x → HasGrown keeps tested (take (i + 1) turns) x
+turn_by_turn {K} {keeps} turns i turn sent got tested x less is s g h =
+    subst (λ (l : List Turn). HasGrown keeps tested l x) (sym (take_more turns i turn less ∙ ap (λ (t : Turn). take i turns ++ t ∷ []) (sym is)))
+    (subst (λ (l : List ℕ). HasGrown keeps tested (take i turns ++ record { sent = turn.sent; got = l } ∷ []) x) g
+    (subst (λ (l : List ℕ). HasGrown keeps tested (take i turns ++ record { sent = l; got = got } ∷ []) x) s h))

@@ -1,0 +1,205 @@
+//! Evidence that grows with a connection: turn by turn, and in a turn piece by piece, as bytes are sent and got. The
+//! judge builds its evidence so, and a run over a connection asks of it what has come.
+
+ghost use Rattle.std.specs.Prelude.{◌≡◌, ◌+◌, ◌^◌, ◌<◌, ◌↔◌, List, [], ◌∷◌, ◌++◌, length, true, IfOk, IsTrue, OnOk};
+ghost use Rattle.ws_wire.specs.declared.role.Role.{Role};
+ghost use Rattle.ws_scripts.specs.declared.transcript.Turn.{Turn};
+ghost use Rattle.ws_session.specs.Exchange.{is_over};
+ghost use Rattle.ws_suite.specs.Evidence.{IsEvidenceOf, other_role};
+ghost use Rattle.ws_suite.specs.Growing.{AreAll, AreTurnsAnswered, HasGrown, IsTallyOf, is_clean, is_failed};
+ghost use Rattle.ws_suite.specs.Growing.{new_turn, turn_with_got, turn_with_sent};
+
+use crate::evidence::collecting::{Collected, Taken, Way, nothing_taken, take_piece};
+use crate::evidence::keeping::{AllReplies, KeepsReplies, ReplyTally};
+use crate::evidence::{Direction, Evidence};
+use crate::lemmas::session_laws;
+use std::alloc::Global;
+use std::marker::Model;
+use ws_base::{NoMemory, Sequence};
+use ws_scripts::{Ended, Transcript};
+use ws_session::Status;
+use ws_wire::Role;
+
+/// What went over a connection so far, as far as it shows whether the tested end keeps the rules: what is due for what
+/// was sent, what was got, and how the sessions of both ends stand. `K` keeps the replies. After `NoMemory` it shows
+/// nothing more.
+#[derive(Drop)]
+pub struct GrowingEvidence<K> {
+    alloc: Global,
+    sent: Taken<K>,
+    got: Taken<K>,
+    turns: usize,
+}
+
+/// The evidence of a run that goes on. It takes memory for the messages that are under way, and for no others.
+pub type RunEvidence = GrowingEvidence<ReplyTally>;
+
+impl<K> Model for GrowingEvidence<K> {
+    ghost use Rattle.ws_suite.specs.Growing.{GrowingValue};
+
+    ghost Value = { GrowingValue K };
+
+    ghost view = { λ x. record {
+      due = x.sent.collected;
+      got = x.got.collected;
+      tested = x.sent.session;
+      tester = x.got.session;
+      turns = x.turns;
+    } };
+}
+
+impl<K: KeepsReplies> GrowingEvidence<K> {
+    /// Nothing went over the connection, and no turn has begun. The tested end has this role.
+    pub fn new(alloc: Global, tested: Role) -> GrowingEvidence<K>
+        ensures { HasGrown K.keeps tested [] result }
+    {
+        GrowingEvidence {
+            alloc,
+            sent: nothing_taken(alloc, Way::Sent, tested),
+            got: nothing_taken(alloc, Way::Got, other(tested)),
+            turns: 0,
+        }
+    }
+
+    /// The next turn begins. There are at most as many as a list can hold.
+    pub fn begin_turn(&mut self)
+        ensures { (tested : Role) (turns : List Turn) → length turns + 1 < 2 ^ 64 →
+            HasGrown K.keeps tested turns self.old → HasGrown K.keeps tested (turns ++ new_turn ∷ []) self.new }
+    {
+        self.turns = self.turns.saturating_add(1);
+    }
+
+    /// These bytes were sent in the turn that has begun last.
+    pub fn on_sent(&mut self, bytes: &[u8]) -> Result<(), NoMemory>
+        ensures { (tested : Role) (before : List Turn) (turn : Turn) →
+            HasGrown K.keeps tested (before ++ turn ∷ []) self.old →
+            OnOk result (HasGrown K.keeps tested (before ++ turn_with_sent turn bytes.now ∷ []) self.new) }
+    {
+        let number = self.turns.saturating_sub(1);
+        take_piece(self.alloc, Way::Sent, number, bytes, &mut self.sent)?;
+        Ok(())
+    }
+
+    /// These bytes were got in the turn that has begun last.
+    pub fn on_got(&mut self, bytes: &[u8]) -> Result<(), NoMemory>
+        ensures grown { (tested : Role) (before : List Turn) (turn : Turn) →
+            HasGrown K.keeps tested (before ++ turn ∷ []) self.old →
+            OnOk result (HasGrown K.keeps tested (before ++ turn_with_got turn bytes.now ∷ []) self.new) }
+
+        // Nothing is told of what comes after a close or a fault.
+        ensures over { is_over self.old.tester.status ≡ true → self.new.tester ≡ self.old.tester }
+    {
+        let number = self.turns.saturating_sub(1);
+        take_piece(self.alloc, Way::Got, number, bytes, &mut self.got)?;
+        Ok(())
+    }
+
+    /// Whether a close was got: no event follows it.
+    pub fn has_got_close(&self) -> bool
+        ensures { result ≡ is_clean self.now.tester.status }
+    {
+        match self.got.session.status() {
+            Status::Clean(_) => true,
+            Status::Open | Status::Closing | Status::Failed(_) | Status::Lost => false,
+        }
+    }
+
+    /// Whether what was got breaks a rule of frames: no event follows that.
+    pub fn has_got_fault(&self) -> bool
+        ensures { result ≡ is_failed self.now.tester.status }
+    {
+        match self.got.session.status() {
+            Status::Failed(_) => true,
+            Status::Open | Status::Closing | Status::Clean(_) | Status::Lost => false,
+        }
+    }
+
+    /// Whether what was sent holds a close or breaks a rule of frames: nothing more is due for what follows.
+    pub fn has_sent_end(&self) -> bool
+        ensures { result ≡ is_over self.now.tested.status }
+    {
+        self.sent.session.status().is_over()
+    }
+}
+
+impl GrowingEvidence<ReplyTally> {
+    /// Whether what is due for what was sent has come: no fewer messages were got than are due, and the last due pong
+    /// is there. It takes the same time whatever went over the connection.
+    pub fn is_answered(&self) -> bool
+        ensures { (tested : Role) (turns : List Turn) → HasGrown IsTallyOf tested turns self.now →
+            IsTrue result ↔ AreTurnsAnswered tested turns }
+    {
+        session_laws();
+        self.got
+            .collected
+            .replies
+            .answers(&self.sent.collected.replies)
+    }
+}
+
+impl GrowingEvidence<AllReplies> {
+    /// All that it shows, where the connection has ended so.
+    fn into_evidence(self, ended: Ended) -> Evidence
+        ensures { (tested : Role) (turns : List Turn) → HasGrown AreAll tested turns self →
+            IsEvidenceOf tested (record { turns = turns; ended = ended }) result }
+    {
+        let GrowingEvidence {
+            sent,
+            got,
+            turns,
+            ..
+        } = self;
+        Evidence {
+            due: direction_of(sent.collected),
+            got: direction_of(got.collected),
+            turns,
+            ended,
+        }
+    }
+}
+
+/// A direction as it was collected.
+fn direction_of(collected: Collected<AllReplies>) -> Direction
+    ensures replies { AreAll collected.replies result.replies }
+    ensures ending { result.ending ≡ collected.ending }
+    ensures has_rest { result.has_rest ≡ collected.has_rest }
+{
+    let Collected {
+        replies,
+        ending,
+        has_rest,
+    } = collected;
+    Direction {
+        replies: Sequence::from_vec(replies.list),
+        ending,
+        has_rest,
+    }
+}
+
+/// The other end.
+fn other(role: Role) -> Role
+    ensures { result ≡ other_role role }
+{
+    match role {
+        Role::Client => Role::Server,
+        Role::Server => Role::Client,
+    }
+}
+
+/// The evidence of a transcript, where the tested end has this role.
+pub(crate) fn evidence_of(
+    alloc: Global,
+    tested: Role,
+    transcript: &Transcript,
+) -> Result<Evidence, NoMemory>
+    ensures { IfOk result (λ evidence. IsEvidenceOf tested transcript.now evidence) }
+{
+    let mut growing: GrowingEvidence<AllReplies> = GrowingEvidence::new(alloc, tested);
+    let turns = transcript.turns.as_slice();
+    for turn in turns {
+        growing.begin_turn();
+        growing.on_sent(turn.sent.as_slice())?;
+        growing.on_got(turn.got.as_slice())?;
+    }
+    Ok(growing.into_evidence(transcript.ended))
+}
