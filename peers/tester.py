@@ -82,8 +82,10 @@ def run_client(score, peer, cases, options):
     words = [PROGRAM, "test", "--role", "client", *options, "127.0.0.1:0", *cases]
     with Running(words, "tester.log") as tester:
         address = tester.line(START_SECONDS).removeprefix("listening on ")
-        with Running([*peer.command("client"), f"ws://{address}"], f"{peer.name}-client.log"):
+        with Running([*peer.command("client"), f"ws://{address}"], f"{peer.name}-client.log") as client:
             read_verdicts(score, tester, cases)
+            if score.left_of(cases) and client.process.poll():
+                raise OSError(f"it ended with status {client.process.poll()}")
 
 
 def read_verdicts(score, tester, cases):
