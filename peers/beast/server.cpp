@@ -1,0 +1,45 @@
+// An echo server over Boost.Beast, a thread a connection: server PORT.
+#include <boost/asio.hpp>
+#include <boost/beast/core.hpp>
+#include <boost/beast/websocket.hpp>
+#include <iostream>
+#include <string>
+#include <thread>
+#include <utility>
+
+namespace asio = boost::asio;
+namespace beast = boost::beast;
+using asio::ip::tcp;
+
+const std::size_t limit = 16 * 1024 * 1024;  // bytes of a message
+
+void echo(tcp::socket socket) {
+    try {
+        beast::websocket::stream<tcp::socket> connection{std::move(socket)};
+        connection.read_message_max(limit);
+        connection.accept();
+        for (;;) {
+            beast::flat_buffer buffer;
+            connection.read(buffer);
+            connection.text(connection.got_text());
+            connection.write(buffer.data());
+        }
+    } catch (const beast::system_error& error) {
+        if (error.code() != beast::websocket::error::closed) {
+            std::cerr << "a connection ended: " << error.what() << std::endl;
+        }
+    }
+}
+
+int main(int, char** words) {
+    asio::io_context context;
+    const auto port = static_cast<unsigned short>(std::stoi(words[1]));
+    tcp::acceptor acceptor{context, {asio::ip::make_address("127.0.0.1"), port}};
+    std::cout << "listening" << std::endl;
+    for (;;) {
+        tcp::socket socket{context};
+        acceptor.accept(socket);
+        socket.set_option(tcp::no_delay(true));
+        std::thread(echo, std::move(socket)).detach();
+    }
+}
