@@ -26,12 +26,22 @@ pub struct Book<'a> {
     pub reads: Failing,
     /// Which writes to each connection fail. Each takes a byte.
     pub writes: Failing,
+    /// Which reads of each connection wait in vain, as they do where a time-out expires. They bring no byte.
+    pub waits: Failing,
     /// Which connections are not made or taken, and how that is told.
-    pub refused: (Failing, ErrorKind),
-    /// Whether an address can be listened at.
-    pub listens: bool,
+    pub refused: (Failing, io::Error),
+    /// Why no address can be listened at, if none can.
+    pub deaf: Option<ErrorKind>,
+    /// The most seconds that a read was to wait.
+    pub read_seconds: Cell<u64>,
+    /// The most seconds that a write was to wait.
+    pub write_seconds: Cell<u64>,
+    /// The most seconds in which a connection was to be made.
+    pub connect_seconds: Cell<u64>,
     /// How many connections were asked for.
     pub asked: Cell<u64>,
+    /// How many reads were made of all connections.
+    pub read: Cell<u64>,
     /// What was written to all connections.
     pub written: RefCell<Vec<u8>>,
     /// How many of them were ended from this side.
@@ -45,9 +55,17 @@ impl<'a> Book<'a> {
             input,
             reads: Failing::Never,
             writes: Failing::Never,
-            refused: (Failing::Never, ErrorKind::ConnectionRefused),
-            listens: true,
+            waits: Failing::Never,
+            refused: (
+                Failing::Never,
+                io::Error::from(ErrorKind::ConnectionRefused),
+            ),
+            deaf: None,
+            read_seconds: Cell::new(0),
+            write_seconds: Cell::new(0),
+            connect_seconds: Cell::new(0),
             asked: Cell::new(0),
+            read: Cell::new(0),
             written: RefCell::new(Vec::new(alloc)),
             ended: Cell::new(0),
         }
@@ -57,13 +75,14 @@ impl<'a> Book<'a> {
     fn next(&'a self) -> io::Result<MemoryStream<'a>> {
         let number = self.asked.get().saturating_add(1);
         self.asked.set(number);
-        let (failing, kind) = self.refused;
+        let (failing, error) = self.refused;
         if failing.fails_at(number) {
-            return Err(io::Error::from(kind));
+            return Err(error);
         }
         Ok(MemoryStream {
             book: self,
             reader: ByteReader::new(self.input, self.reads),
+            reads: 0,
             writes: 0,
         })
     }
@@ -80,6 +99,13 @@ impl<'a> Book<'a> {
     }
 }
 
+/// Keeps for how long was to be waited, where that is longer than before.
+fn keep_most(seconds: &Cell<u64>, time: Option<Duration>) {
+    if let Some(time) = time {
+        seconds.set(seconds.get().max(time.as_secs()));
+    }
+}
+
 /// A network that does what its book says.
 #[derive(Clone, Copy)]
 pub struct MemoryNet<'a> {
@@ -92,10 +118,12 @@ impl<'a> Net for MemoryNet<'a> {
     type Listener = MemoryListener<'a>;
 
     fn bind(&self, addr: SocketAddr) -> io::Result<MemoryListener<'a>> {
-        if self.book.listens && addr.port() == PORT {
-            Ok(MemoryListener { book: self.book })
-        } else {
-            Err(io::Error::from(ErrorKind::AddrInUse))
+        if addr.port() != PORT {
+            return Err(io::Error::from(ErrorKind::AddrNotAvailable));
+        }
+        match self.book.deaf {
+            Some(kind) => Err(io::Error::from(kind)),
+            None => Ok(MemoryListener { book: self.book }),
         }
     }
 
@@ -105,6 +133,11 @@ impl<'a> Net for MemoryNet<'a> {
         } else {
             Err(io::Error::from(ErrorKind::AddrNotAvailable))
         }
+    }
+
+    fn connect_timeout(&self, addr: SocketAddr, time: Duration) -> io::Result<MemoryStream<'a>> {
+        keep_most(&self.book.connect_seconds, Some(time));
+        self.connect(addr)
     }
 
     fn lookup_host(&self, host: &str, port: u16, found: &mut [SocketAddr]) -> io::Result<usize>
@@ -149,11 +182,17 @@ impl AsRawFd for MemoryListener<'_> {
 pub struct MemoryStream<'a> {
     book: &'a Book<'a>,
     reader: ByteReader<'a>,
+    reads: u64,
     writes: u64,
 }
 
 impl Read for MemoryStream<'_> {
     fn read(&mut self, buf: &mut [u8]) -> io::Result<usize> {
+        self.reads = self.reads.saturating_add(1);
+        self.book.read.set(self.book.read.get().saturating_add(1));
+        if self.book.waits.fails_at(self.reads) {
+            return Err(io::Error::from(ErrorKind::WouldBlock));
+        }
         self.reader.read(buf)
     }
 }
@@ -185,7 +224,17 @@ impl OpenStream for MemoryStream<'_> {
         Ok(())
     }
 
-    fn set_read_timeout(&self, _dur: Option<Duration>) -> io::Result<()> {
+    fn set_nonblocking(&self, _nonblocking: bool) -> io::Result<()> {
+        Ok(())
+    }
+
+    fn set_read_timeout(&self, dur: Option<Duration>) -> io::Result<()> {
+        keep_most(&self.book.read_seconds, dur);
+        Ok(())
+    }
+
+    fn set_write_timeout(&self, dur: Option<Duration>) -> io::Result<()> {
+        keep_most(&self.book.write_seconds, dur);
         Ok(())
     }
 }

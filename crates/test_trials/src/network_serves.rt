@@ -6,6 +6,7 @@ use crate::memory_net::{Book, MemoryNet};
 use crate::running::run_over;
 use crate::serves::{BUDGET, REQUEST, RESPONSE, after_bytes};
 use std::alloc::Global;
+use std::io;
 use std::io::ErrorKind;
 use std::process::Abort;
 use std::test::Fail;
@@ -29,11 +30,23 @@ fn check(
     status: u8,
     lines: &[u8],
 ) -> Result<(), Fail> {
-    let net = MemoryNet { book };
-    let after = run_over(alloc, TWO, &net, Failing::Never, Failing::Never)?;
+    check_words(rt, alloc, case, (TWO, book), status, (lines, b""))
+}
+
+/// The run of these words has this exit, and writes these lines and these faults.
+fn check_words(
+    rt: &impl Abort,
+    alloc: Global,
+    case: u64,
+    run: (&str, &Book<'_>),
+    status: u8,
+    told: (&[u8], &[u8]),
+) -> Result<(), Fail> {
+    let net = MemoryNet { book: run.1 };
+    let after = run_over(alloc, run.0, &net, Failing::Never, Failing::Never)?;
     same_number(rt, case, u64::from(after.status), u64::from(status));
-    same_bytes(rt, case, after.written.as_slice(), lines);
-    same_bytes(rt, case, after.faults.as_slice(), b"");
+    same_bytes(rt, case, after.written.as_slice(), told.0);
+    same_bytes(rt, case, after.faults.as_slice(), told.1);
     Ok(())
 }
 
@@ -55,13 +68,86 @@ fn two_connections(rt: HostRuntime) -> Result<(), Fail> {
     Ok(())
 }
 
-/// An address that can't be listened at: nothing is written.
+/// An address that can't be listened at: nothing is written, and the reason is told.
 #[test]
 fn no_listener(rt: HostRuntime) -> Result<(), Fail> {
-    let mut book = Book::new(rt.alloc(), REQUEST);
-    book.listens = false;
-    check(&rt, rt.alloc(), 0, &book, 3, b"")?;
-    same_number(&rt, 1, book.asked.get(), 0);
+    let reasons: [(ErrorKind, &[u8]); 4] = [
+        (ErrorKind::AddrInUse, b"not listening: address in use\n"),
+        (
+            ErrorKind::PermissionDenied,
+            b"not listening: not permitted\n",
+        ),
+        (ErrorKind::AddrNotAvailable, b"not listening: failed\n"),
+        (ErrorKind::OutOfMemory, b"not listening: failed\n"),
+    ];
+    for (kind, faults) in reasons {
+        let mut book = Book::new(rt.alloc(), REQUEST);
+        book.deaf = Some(kind);
+        check_words(&rt, rt.alloc(), 0, (TWO, &book), 3, (b"", faults))?;
+        same_number(&rt, 1, book.asked.get(), 0);
+    }
+    Ok(())
+}
+
+/// A word that is no address, and a host that has none.
+#[test]
+fn no_such_host(rt: HostRuntime) -> Result<(), Fail> {
+    for words in [
+        "serve localhost 2",
+        "serve localhost:65536 2",
+        "serve remotehost:9001 2",
+    ] {
+        let book = Book::new(rt.alloc(), REQUEST);
+        let told = (b"".as_slice(), b"not listening: no such host\n".as_slice());
+        check_words(&rt, rt.alloc(), 0, (words, &book), 3, told)?;
+    }
+    Ok(())
+}
+
+/// Reads and writes wait for as long as the words say, and where they say nothing for as long as it takes.
+#[test]
+fn limits_of_time(rt: HostRuntime) -> Result<(), Fail> {
+    for (words, seconds) in [
+        ("serve localhost:9001 2", 0),
+        ("serve localhost:9001 2 --timeout 1", 1),
+        ("serve --timeout 3600 localhost:9001 2", 3600),
+    ] {
+        let book = Book::new(rt.alloc(), REQUEST);
+        check_words(&rt, rt.alloc(), 0, (words, &book), 0, (LINES, b""))?;
+        same_number(&rt, 1, book.read_seconds.get(), seconds);
+        same_number(&rt, 2, book.write_seconds.get(), seconds);
+    }
+    Ok(())
+}
+
+/// A client from which no byte comes in time, wherever it stops, is told as stopped.
+#[test]
+fn silent_clients(rt: HostRuntime) -> Result<(), Fail> {
+    let lines = b"listening on localhost:9001\n1 stopped\n2 stopped\n";
+    for read in 0..REQUEST.len() {
+        let mut book = Book::new(rt.alloc(), REQUEST);
+        book.waits = Failing::Once(read as u64 + 1);
+        let words = "serve --timeout 2 localhost:9001 2";
+        check_words(&rt, rt.alloc(), 0, (words, &book), 0, (lines, b""))?;
+        same_number(&rt, 1, book.ended.get(), 2);
+    }
+    Ok(())
+}
+
+/// A client that has ended its session and sends on is read to its end, also where a read has waited in vain.
+#[test]
+fn clients_that_send_on(rt: HostRuntime) -> Result<(), Fail> {
+    let mut sent = Vec::from_slice(rt.alloc(), REQUEST)?;
+    sent.extend_from_slice(&[0; 20_000])?;
+    let reads = sent.len() as u64 + 1;
+    let in_vain = Failing::Once(REQUEST.len() as u64 + 2);
+    for (waits, reads) in [(Failing::Never, reads), (in_vain, reads + 1)] {
+        let mut book = Book::new(rt.alloc(), sent.as_slice());
+        book.waits = waits;
+        check(&rt, rt.alloc(), 0, &book, 0, LINES)?;
+        same_number(&rt, 1, book.ended.get(), 2);
+        same_number(&rt, 2, book.read.get(), 2 * reads);
+    }
     Ok(())
 }
 
@@ -70,7 +156,8 @@ fn no_listener(rt: HostRuntime) -> Result<(), Fail> {
 fn no_more_connections(rt: HostRuntime) -> Result<(), Fail> {
     for before in 0..2u64 {
         let mut book = Book::new(rt.alloc(), REQUEST);
-        book.refused = (Failing::Once(before + 1), ErrorKind::InvalidInput);
+        let error = io::Error::from(ErrorKind::InvalidInput);
+        book.refused = (Failing::Once(before + 1), error);
         let len = if before == 0 { ENDS[0] } else { ENDS[1] };
         check(&rt, rt.alloc(), before, &book, 3, &LINES[..len])?;
         same_number(&rt, before, book.asked.get(), before + 1);
@@ -78,18 +165,47 @@ fn no_more_connections(rt: HostRuntime) -> Result<(), Fail> {
     Ok(())
 }
 
-/// A client that went away while it waited is passed over.
+/// A client that went away while it waited, or that the network failed, is passed over.
+fn check_passed_over(rt: &impl Abort, alloc: Global, error: io::Error) -> Result<(), Fail> {
+    let mut book = Book::new(alloc, REQUEST);
+    book.refused = (Failing::Once(2), error);
+    check(rt, alloc, 0, &book, 0, LINES)?;
+    same_number(rt, 1, book.asked.get(), 3);
+    Ok(())
+}
+
 #[test]
 fn clients_that_went_away(rt: HostRuntime) -> Result<(), Fail> {
     for kind in [
         ErrorKind::ConnectionAborted,
         ErrorKind::ConnectionReset,
+        ErrorKind::HostUnreachable,
+        ErrorKind::NetworkUnreachable,
+        ErrorKind::NetworkDown,
         ErrorKind::Interrupted,
     ] {
+        check_passed_over(&rt, rt.alloc(), io::Error::from(kind))?;
+    }
+    Ok(())
+}
+
+/// The numbers of ENONET, EPROTO, ENOPROTOOPT, EOPNOTSUPP and EHOSTDOWN, and those of ENETDOWN, ENETUNREACH,
+/// ECONNABORTED and EHOSTUNREACH, as Linux has them.
+#[test]
+fn clients_that_the_network_failed(rt: HostRuntime) -> Result<(), Fail> {
+    for number in [64, 71, 92, 95, 112, 100, 101, 103, 113] {
+        check_passed_over(&rt, rt.alloc(), io::Error::from_raw_os_error(number))?;
+    }
+    Ok(())
+}
+
+/// EBADF, EMFILE and ENOTSOCK are no failures of a client.
+#[test]
+fn failures_of_a_listener(rt: HostRuntime) -> Result<(), Fail> {
+    for number in [9, 24, 88] {
         let mut book = Book::new(rt.alloc(), REQUEST);
-        book.refused = (Failing::Once(2), kind);
-        check(&rt, rt.alloc(), 0, &book, 0, LINES)?;
-        same_number(&rt, 1, book.asked.get(), 3);
+        book.refused = (Failing::Once(2), io::Error::from_raw_os_error(number));
+        check(&rt, rt.alloc(), 0, &book, 3, &LINES[..ENDS[1]])?;
     }
     Ok(())
 }

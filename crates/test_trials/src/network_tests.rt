@@ -4,9 +4,10 @@
 use crate::comparing::{same_bytes, same_number};
 use crate::memory_net::{Book, MemoryNet};
 use crate::probe_faults::{REQUEST, answer};
-use crate::probes::{BUDGET, run_case};
+use crate::probes::{BUDGET, RESPONSE, run_case};
 use crate::running::run_over;
 use std::alloc::Global;
+use std::io;
 use std::io::ErrorKind;
 use std::process::Abort;
 use std::test::Fail;
@@ -25,14 +26,14 @@ const ONE: &str = "test localhost:9001 5.19";
 
 const TWO: &str = "test localhost:9001 5.19 5.19";
 
-/// The run of these words over a network has this exit, and writes these lines.
+/// The run of these words over a network has this exit, and writes these lines and these faults.
 fn check(
     rt: &impl Abort,
     alloc: Global,
     words: &str,
     book: &Book<'_>,
     status: u8,
-    lines: &[u8],
+    told: (&[u8], &[u8]),
 ) -> Result<(), Fail> {
     let case = book.asked.get();
     let after = run_over(
@@ -42,8 +43,8 @@ fn check(
         Failing::Never,
         Failing::Never,
     )?;
-    same_bytes(rt, case, after.written.as_slice(), lines);
-    same_bytes(rt, case, after.faults.as_slice(), b"");
+    same_bytes(rt, case, after.written.as_slice(), told.0);
+    same_bytes(rt, case, after.faults.as_slice(), told.1);
     same_number(rt, case, u64::from(after.status), u64::from(status));
     Ok(())
 }
@@ -54,7 +55,7 @@ fn two_connections(rt: HostRuntime) -> Result<(), Fail> {
     let answer = answer(rt.alloc(), GOT)?;
     let book = Book::new(rt.alloc(), answer.as_slice());
     let lines = b"5.19 PASS\n5.19 PASS\n2 pass, 0 loose, 0 fail\n";
-    check(&rt, rt.alloc(), TWO, &book, 0, lines)?;
+    check(&rt, rt.alloc(), TWO, &book, 0, (lines, b""))?;
     same_number(&rt, 0, book.asked.get(), 2);
     same_number(&rt, 3, book.ended.get(), 2);
     let written = book.written.into_inner();
@@ -79,11 +80,194 @@ fn refused_connections(rt: HostRuntime) -> Result<(), Fail> {
     ];
     for (number, lines) in (1u64..3).zip(refused) {
         let mut book = Book::new(rt.alloc(), answer.as_slice());
-        book.refused = (Failing::From(number), ErrorKind::ConnectionRefused);
-        check(&rt, rt.alloc(), TWO, &book, 3, lines)?;
+        book.refused = (Failing::From(number), refusal());
+        check(&rt, rt.alloc(), TWO, &book, 3, (lines, REFUSED))?;
         same_number(&rt, number, book.asked.get(), number);
     }
     Ok(())
+}
+
+/// A connection that is refused.
+fn refusal() -> io::Error {
+    io::Error::from(ErrorKind::ConnectionRefused)
+}
+
+/// What is told of it.
+const REFUSED: &[u8] = b"no connection: refused\n";
+
+/// Why a connection is not made.
+#[test]
+fn reasons_against_a_connection(rt: HostRuntime) -> Result<(), Fail> {
+    let reasons: [(ErrorKind, &[u8]); 7] = [
+        (ErrorKind::ConnectionRefused, REFUSED),
+        (ErrorKind::HostUnreachable, b"no connection: unreachable\n"),
+        (
+            ErrorKind::NetworkUnreachable,
+            b"no connection: unreachable\n",
+        ),
+        (ErrorKind::NetworkDown, b"no connection: unreachable\n"),
+        (ErrorKind::TimedOut, b"no connection: timed out\n"),
+        (ErrorKind::PermissionDenied, b"no connection: failed\n"),
+        (ErrorKind::OutOfMemory, b"no connection: failed\n"),
+    ];
+    for (kind, faults) in reasons {
+        let mut book = Book::new(rt.alloc(), b"");
+        book.refused = (Failing::From(1), io::Error::from(kind));
+        let told = (b"5.19 no connection\n".as_slice(), faults);
+        check(&rt, rt.alloc(), ONE, &book, 3, told)?;
+    }
+    Ok(())
+}
+
+/// A word that is no address, and a host that has none.
+#[test]
+fn no_such_host(rt: HostRuntime) -> Result<(), Fail> {
+    for words in ["test localhost 5.19", "test remotehost:9001 5.19"] {
+        let book = Book::new(rt.alloc(), b"");
+        let told = (
+            b"5.19 no connection\n".as_slice(),
+            b"no connection: no such host\n".as_slice(),
+        );
+        check(&rt, rt.alloc(), words, &book, 3, told)?;
+        same_number(&rt, 0, book.asked.get(), 0);
+    }
+    Ok(())
+}
+
+/// With a limit of time a case without a connection counts as a Fail, and the run goes on.
+#[test]
+fn goes_on_in_time(rt: HostRuntime) -> Result<(), Fail> {
+    let answer = answer(rt.alloc(), GOT)?;
+    let mut book = Book::new(rt.alloc(), answer.as_slice());
+    book.refused = (Failing::Once(2), refusal());
+    let lines = b"5.19 PASS\n5.19 no connection\n5.19 PASS\n2 pass, 0 loose, 1 fail\n";
+    let words = "test --timeout 2 localhost:9001 5.19 5.19 5.19";
+    check(&rt, rt.alloc(), words, &book, 1, (lines, REFUSED))?;
+    check_seconds(&rt, &book, 2);
+    Ok(())
+}
+
+/// A connection, a read and a write were to wait for so many seconds.
+fn check_seconds(rt: &impl Abort, book: &Book<'_>, seconds: u64) {
+    same_number(rt, 1, book.connect_seconds.get(), seconds);
+    same_number(rt, 2, book.read_seconds.get(), seconds);
+    same_number(rt, 3, book.write_seconds.get(), seconds);
+}
+
+/// The third in a row ends it, without a total.
+#[test]
+fn three_in_a_row(rt: HostRuntime) -> Result<(), Fail> {
+    let answer = answer(rt.alloc(), GOT)?;
+    let mut book = Book::new(rt.alloc(), answer.as_slice());
+    book.refused = (Failing::From(2), refusal());
+    let told = (
+        b"5.19 PASS\n5.19 no connection\n5.19 no connection\n5.19 no connection\n".as_slice(),
+        b"no connection: refused\nno connection: refused\nno connection: refused\n".as_slice(),
+    );
+    let words = "test --timeout 2 localhost:9001 5.19 5.19 5.19 5.19 5.19";
+    check(&rt, rt.alloc(), words, &book, 3, told)?;
+    same_number(&rt, 1, book.asked.get(), 4);
+    Ok(())
+}
+
+/// Two in a row at the end do not.
+#[test]
+fn two_in_a_row(rt: HostRuntime) -> Result<(), Fail> {
+    let answer = answer(rt.alloc(), GOT)?;
+    let mut book = Book::new(rt.alloc(), answer.as_slice());
+    book.refused = (Failing::From(2), refusal());
+    let told = (
+        b"5.19 PASS\n5.19 no connection\n5.19 no connection\n1 pass, 0 loose, 2 fail\n".as_slice(),
+        b"no connection: refused\nno connection: refused\n".as_slice(),
+    );
+    let words = "test --timeout 2 localhost:9001 5.19 5.19 5.19";
+    check(&rt, rt.alloc(), words, &book, 1, told)
+}
+
+/// Without one a read waits for as long as it takes.
+#[test]
+fn no_limit_of_time(rt: HostRuntime) -> Result<(), Fail> {
+    let answer = answer(rt.alloc(), GOT)?;
+    let book = Book::new(rt.alloc(), answer.as_slice());
+    let lines = b"5.19 PASS\n1 pass, 0 loose, 0 fail\n";
+    check(&rt, rt.alloc(), ONE, &book, 0, (lines, b""))?;
+    check_seconds(&rt, &book, 0);
+    Ok(())
+}
+
+/// A server from which no byte of the answer comes in time, wherever it stops.
+#[test]
+fn silent_in_the_head(rt: HostRuntime) -> Result<(), Fail> {
+    let answer = answer(rt.alloc(), GOT)?;
+    let lines = b"5.19 no connection\n0 pass, 0 loose, 1 fail\n";
+    for read in 1..=RESPONSE.len() as u64 {
+        let mut book = Book::new(rt.alloc(), answer.as_slice());
+        book.waits = Failing::From(read);
+        let told = (lines.as_slice(), b"no connection: timed out\n".as_slice());
+        check(&rt, rt.alloc(), IN_TIME, &book, 1, told)?;
+    }
+    Ok(())
+}
+
+const IN_TIME: &str = "test --timeout 2 localhost:9001 5.19";
+
+/// A server that is silent behind the head: all turns are sent, and what it owes is missing.
+#[test]
+fn silent_behind_the_head(rt: HostRuntime) -> Result<(), Fail> {
+    let answer = answer(rt.alloc(), GOT)?;
+    let mut book = Book::new(rt.alloc(), answer.as_slice());
+    book.waits = Failing::From(RESPONSE.len() as u64 + 1);
+    let lines = b"5.19 FAIL Messages\n0 pass, 0 loose, 1 fail\n";
+    check(&rt, rt.alloc(), IN_TIME, &book, 1, (lines, b""))?;
+    let written = book.written.into_inner().len();
+    same_number(&rt, 1, written as u64, (REQUEST.len() + SENT) as u64);
+    Ok(())
+}
+
+/// No more is read of a server than the budget says.
+#[test]
+fn budgets(rt: HostRuntime) -> Result<(), Fail> {
+    let answer = answer(rt.alloc(), GOT)?;
+    let head = RESPONSE.len() as u64;
+    for (words, status, reads) in [
+        ("test --budget 0 localhost:9001 5.19", 1, head),
+        ("test --budget 3 localhost:9001 5.19", 1, head + 3),
+        ("test --budget 68 localhost:9001 5.19", 0, head + 68),
+    ] {
+        let book = Book::new(rt.alloc(), answer.as_slice());
+        let net = MemoryNet { book: &book };
+        let after = run_over(rt.alloc(), words, &net, Failing::Never, Failing::Never)?;
+        same_number(&rt, 0, u64::from(after.status), status);
+        same_number(&rt, 1, book.read.get(), reads);
+    }
+    Ok(())
+}
+
+/// The name of each case is told before it runs, and why there is no connection behind it.
+#[test]
+fn progress(rt: HostRuntime) -> Result<(), Fail> {
+    let answer = answer(rt.alloc(), GOT)?;
+    let mut book = Book::new(rt.alloc(), answer.as_slice());
+    book.refused = (Failing::From(2), refusal());
+    let told = (
+        b"5.19 PASS\n5.19 no connection\n".as_slice(),
+        b"5.19\n5.19\nno connection: refused\n".as_slice(),
+    );
+    let words = "test --progress localhost:9001 5.19 5.19 5.19";
+    check(&rt, rt.alloc(), words, &book, 3, told)
+}
+
+/// So is it with a capture.
+#[test]
+fn progress_of_a_capture(rt: HostRuntime) -> Result<(), Fail> {
+    let mut book = Book::new(rt.alloc(), b"");
+    book.refused = (Failing::From(1), refusal());
+    let told = (
+        b"5.19 no connection\n".as_slice(),
+        b"5.19\nno connection: refused\n".as_slice(),
+    );
+    let words = "test --capture --timeout 2 --progress localhost:9001 5.19";
+    check(&rt, rt.alloc(), words, &book, 3, told)
 }
 
 /// The name of a case, and what is told of a probe of it over devices that fail so.
@@ -101,13 +285,14 @@ fn line_of(alloc: Global, answer: &[u8], reads: Failing, writes: Failing) -> Res
     Ok(Vec::from_slice(alloc, line.as_bytes())?)
 }
 
-/// Over a connection that fails so, the first line is that of such a probe.
+/// Over a connection that fails so, the first line is that of such a probe, and the reason is this one where there is
+/// no connection.
 fn check_connection(
     rt: &impl Abort,
     alloc: Global,
     answer: &[u8],
-    reads: Failing,
-    writes: Failing,
+    (reads, writes): (Failing, Failing),
+    why: &[u8],
 ) -> Result<(), Fail> {
     let mut book = Book::new(alloc, answer);
     book.reads = reads;
@@ -122,7 +307,9 @@ fn check_connection(
     let line = line_of(alloc, answer, reads, writes)?;
     let first = &after.written.as_slice()[..line.len().min(after.written.len())];
     same_bytes(rt, 0, first, line.as_slice());
-    same_bytes(rt, 1, after.faults.as_slice(), b"");
+    let is_missed = line.as_slice() == b"5.19 no connection\n".as_slice();
+    let faults = if is_missed { why } else { b"" };
+    same_bytes(rt, 1, after.faults.as_slice(), faults);
     Ok(())
 }
 
@@ -133,7 +320,9 @@ fn each_read_fails(rt: HostRuntime) -> Result<(), Fail> {
     let reads = answer.len() as u64 + 1;
     for place in 1..=reads {
         for failing in [Failing::Once(place), Failing::From(place)] {
-            check_connection(&rt, rt.alloc(), answer.as_slice(), failing, Failing::Never)?;
+            let why = b"no connection: failed\n";
+            let fails = (failing, Failing::Never);
+            check_connection(&rt, rt.alloc(), answer.as_slice(), fails, why)?;
         }
     }
     Ok(())
@@ -146,7 +335,9 @@ fn each_write_fails(rt: HostRuntime) -> Result<(), Fail> {
     let writes = (REQUEST.len() + SENT) as u64;
     for place in 1..=writes {
         for failing in [Failing::Once(place), Failing::From(place)] {
-            check_connection(&rt, rt.alloc(), answer.as_slice(), Failing::Never, failing)?;
+            let why = b"no connection: closed before the answer\n";
+            let fails = (Failing::Never, failing);
+            check_connection(&rt, rt.alloc(), answer.as_slice(), fails, why)?;
         }
     }
     Ok(())
@@ -182,6 +373,7 @@ fn refused_words(rt: HostRuntime) -> Result<(), Fail> {
     let net = MemoryNet { book: &book };
     for words in [
         "test localhost:9001 nine",
+        "test localhost:9001 5.19 --timeout 02",
         "serve localhost:9001 1 --limit 99999999999999",
     ] {
         let after = run_over(rt.alloc(), words, &net, Failing::Never, Failing::Never)?;

@@ -27,8 +27,11 @@ pub fn run_words<R: Read, W: Write, F: Write>(
 {
     let words = command_line(alloc, words)?;
     let mut book = Book::new(alloc, b"");
-    book.listens = false;
-    book.refused = (Failing::From(1), ErrorKind::ConnectionRefused);
+    book.deaf = Some(ErrorKind::AddrInUse);
+    book.refused = (
+        Failing::From(1),
+        io::Error::from(ErrorKind::ConnectionRefused),
+    );
     let net = MemoryNet { book: &book };
     Ok(run(alloc, words.as_slice(), &net, reader, writer, faults).status())
 }
