@@ -5,6 +5,7 @@
 
 mod captures;
 mod cases;
+mod dooms;
 mod echoes;
 mod frames;
 mod peers;
@@ -52,6 +53,7 @@ fn answer_to(alloc: Global, row: &str) -> Result<String, RowFault> {
         "echo" => echoes::take_frames(alloc, words, &mut out)?,
         "echo_all" => echoes::take_pieces(alloc, words, &mut out)?,
         "session" => sessions::play(alloc, words, &mut out)?,
+        "doomed" => dooms::mark_lengths(alloc, words, &mut out)?,
         "cases" => cases::count_group(alloc, words, &mut out)?,
         "case" => cases::tell_case(alloc, words, &mut out)?,
         "capture" => captures::write_again(alloc, words, &mut out)?,
@@ -82,7 +84,9 @@ fn answer_below_sessions(
         "text" => texts::judge_pieces(alloc, words, out),
         "push" => texts::push_pieces(alloc, words, out),
         "copy" => texts::push_to_copy(alloc, words, out),
+        "wanted" => texts::count_wanted(alloc, words, out),
         "code_allowed" => texts::allow_code(words, out),
+        "code_may_begin" => texts::begin_code(words, out),
         "close_payload" => texts::read_close(alloc, words, out),
         "accept_of" => upgrades::accept(alloc, words, out),
         "request" => upgrades::make_request(alloc, words, out),

@@ -1,11 +1,11 @@
 //! Rows of text by pieces, and of close payloads.
 
 use crate::row_fault::RowFault;
-use crate::words::{bytes_of, code_of};
+use crate::words::{bytes_of, code_of, small_number_of};
 use std::alloc::Global;
 use std::fmt::Write;
 use ws_formats::Hex;
-use ws_text::{ClosePayload, MAX_CONTROL_PAYLOAD, Utf8Stream, code_allowed};
+use ws_text::{ClosePayload, MAX_CONTROL_PAYLOAD, Utf8Stream, code_allowed, code_may_begin};
 
 /// `text PIECE ..`: what the joined pieces turn out to be: `whole`, `cut`, or `fault` and the place, in all of them,
 /// of the first byte from which on nothing completes them.
@@ -54,17 +54,36 @@ pub fn push_to_copy(alloc: Global, words: &[&str], out: &mut String) -> Result<(
     put_end(out, &copy)
 }
 
+/// `wanted PIECE ..`: how many bytes the text still wants before the first piece and after each.
+pub fn count_wanted(alloc: Global, words: &[&str], out: &mut String) -> Result<(), RowFault> {
+    let mut stream = Utf8Stream::new();
+    write!(out, "{}", stream.wanted())?;
+    for word in words {
+        let piece = bytes_of(alloc, word)?;
+        let _ = stream.push(piece.as_slice());
+        write!(out, " {}", stream.wanted())?;
+    }
+    Ok(())
+}
+
 /// `code_allowed CODE`: `yes` or `no`.
 pub fn allow_code(words: &[&str], out: &mut String) -> Result<(), RowFault> {
     let [code] = words else {
         return Err(RowFault::NotARow);
     };
-    let answer = if code_allowed(code_of(code)?) {
-        "yes"
-    } else {
-        "no"
+    put_answer(out, code_allowed(code_of(code)?))
+}
+
+/// `code_may_begin BYTE`: whether a code may have this higher byte: `yes` or `no`.
+pub fn begin_code(words: &[&str], out: &mut String) -> Result<(), RowFault> {
+    let [high] = words else {
+        return Err(RowFault::NotARow);
     };
-    out.push_str(answer)?;
+    put_answer(out, code_may_begin(small_number_of(high)?))
+}
+
+fn put_answer(out: &mut String, is_so: bool) -> Result<(), RowFault> {
+    out.push_str(if is_so { "yes" } else { "no" })?;
     Ok(())
 }
 

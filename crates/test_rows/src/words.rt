@@ -38,6 +38,12 @@ pub fn limits_of(word: &str) -> Result<Limits, RowFault> {
     Limits::new(most_of(word)?).ok_or(RowFault::NotARow)
 }
 
+/// The limits of messages, and of frames, of at most so many bytes.
+pub fn both_limits_of(max_message: &str, max_frame: &str) -> Result<Limits, RowFault> {
+    let (max_message, max_frame) = (most_of(max_message)?, most_of(max_frame)?);
+    Limits::with_frame(max_message, max_frame).ok_or(RowFault::NotARow)
+}
+
 /// `client` or `server`.
 pub fn role_of(word: &str) -> Result<Role, RowFault> {
     match word {
