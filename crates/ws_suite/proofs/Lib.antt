@@ -1,6 +1,7 @@
 mod EvidenceLemmas
 mod TurnsCollected
 mod JudgeLemmas
+mod DoomLemmas
 mod LastBytes
 mod OneVerdict
 mod ValidDirections

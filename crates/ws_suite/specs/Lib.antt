@@ -1,9 +1,11 @@
 pub mod Evidence
 pub mod Matching
+pub mod Doom
 pub mod Verdicts
 pub mod Fairness
 pub mod Words
 pub mod Examples
 pub mod InnerCollecting
+pub mod InnerDoom
 pub mod InnerEchoReplyLaws
 pub mod InnerJudging

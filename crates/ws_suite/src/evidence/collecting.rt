@@ -49,6 +49,7 @@ pub(crate) fn evidence_of(
         got,
         turns: turns.len(),
         ended: transcript.ended,
+        answers_doom: false,
     })
 }
 

@@ -11,4 +11,5 @@ returns c = record {
       (subst (λ (r : Role). IsDirectionOf r got_in (got_turns c.as_slice-turns.result.now) c.in_ok-got.got) c.other.ensures c.in_ok-got.ensures);
   turns = ap (λ (l : List Turn). length l) c.as_slice-turns.ensures;
   ended = refl;
+  uncounted = refl;
 }
