@@ -80,4 +80,4 @@ def written(turns, end):
     for sent, got in turns:
         lines += [f"> {sent.hex()}"] if sent else []
         lines += [f"< {got.hex()}"] if got else []
-    return "\n".join([*lines, f"end {end}", ""]).encode()
+    return "\n".join([*lines, f"end {'tester' if end == 'tester' else 'peer'}", ""]).encode()

@@ -5,6 +5,7 @@ from dataclasses import dataclass
 from runner.calls import in_hex, parted
 from runner.commands import run_of
 from runner.row_files import BadFile, read_file
+from twin import CLIENT, SERVER
 
 
 @dataclass
@@ -16,6 +17,7 @@ class Row:
     name: str
     text: bytes
     transcript: tuple
+    tested: str
     is_written: bool
     wanted: str
 
@@ -41,18 +43,19 @@ def row_of_run(run):
     wanted = (run.wanted["output"] + run.wanted["faults"]).decode().removesuffix("\n")
     if run.words != [b"judge"] or run.wanted["status"] != (not wanted.startswith(("PASS", "LOOSE"))):
         raise BadFile(f"{run.where}: no row of judge, or not the status of its verdict")
-    return Row(run.where, run.name, run.input, None, False, wanted)
+    return Row(run.where, run.name, run.input, None, SERVER, False, wanted)
 
 
 def row_of_call(entry, number, call, wanted):
-    """A call `judge END SENT GOT ..` or `capture TEXT`."""
+    """A call `judge END SENT GOT ..`, `judge_client` with the same, `capture TEXT`, or `written END SENT GOT ..`."""
     where, (name, *words) = f"{entry.file}:{number}", call.split(" ")
     if name == "capture":
-        return Row(where, call, bytes_of(words[0]), None, True, wanted)
-    if name != "judge":
-        raise BadFile(f"{where}: neither judge nor capture")
+        return Row(where, call, bytes_of(words[0]), None, SERVER, True, wanted)
+    if name not in ("judge", "judge_client", "written"):
+        raise BadFile(f"{where}: none of judge, judge_client, capture and written")
     pieces = [bytes_of(word) for word in words[1:]]
-    return Row(where, call, None, (list(zip(pieces[::2], pieces[1::2])), words[0]), False, wanted)
+    tested = CLIENT if name == "judge_client" else SERVER
+    return Row(where, call, None, (list(zip(pieces[::2], pieces[1::2])), words[0]), tested, name == "written", wanted)
 
 
 def bytes_of(word):
@@ -63,6 +66,8 @@ def read(captures, row):
     """The transcript of a row, or the line that tells where its text is damaged."""
     if row.transcript:
         return row.transcript
+    if row.is_written and row.text.startswith(b"wst-capture 2\n"):
+        return "line 1: not a capture"  # `capture` reads format 1 alone
     try:
         return captures.read_capture(row.text)
     except captures.Damaged as error:
@@ -73,4 +78,4 @@ def answer(captures, twin, row, transcript):
     """What is answered to a row that was read so."""
     if isinstance(transcript, str):
         return transcript
-    return captures.written(*transcript).hex() if row.is_written else twin.verdict(*transcript)
+    return captures.written(*transcript).hex() if row.is_written else twin.verdict(*transcript, row.tested)

@@ -85,10 +85,10 @@ BY_HAND = {
         "data[header.end : end], b'' if is_control(header) else header.key)",
         "data[header.end : end], (header.key * 2)[len(message) % 4 :][:4])",
     ],
-    "len(turns), end)": [
-        "sum(bool(sent) for sent, _ in turns), end)",
-        "sum(bool(got) for _, got in turns), end)",
-        "sum(bool(sent or got) for sent, got in turns), end)",
+    "len(turns), end, answers_doom)": [
+        "sum(bool(sent) for sent, _ in turns), end, answers_doom)",
+        "sum(bool(got) for _, got in turns), end, answers_doom)",
+        "sum(bool(sent or got) for sent, got in turns), end, answers_doom)",
     ],
     "x._replace(kind=PONG) if x.kind == PING else x": [
         "x",
@@ -210,11 +210,13 @@ BY_HAND = {
     "due is not None and got.turn < due.turn for": [
         "due is None or got.turn < due.turn for",
     ],
-    "close and ending and close.turn < ending.turn": [
-        "close and (not ending or close.turn < ending.turn)",
+    "close and ending and close.turn < ending.turn and not x.answers_doom": [
+        "close and (not ending or close.turn < ending.turn) and not x.answers_doom",
+        "close and ending and ending.kind == CLOSE and close.turn < ending.turn",
+        "close and ending and ending.kind != DOOMED and close.turn < ending.turn and not x.answers_doom",
     ],
-    "close and ending and close.value != ending.value": [
-        "ending and (not close or close.value != ending.value)",
+    "close and ending and ending.kind != DOOMED and close.value != ending.value": [
+        "ending and ending.kind != DOOMED and (not close or close.value != ending.value)",
     ],
     "return [x for x in events if x.kind == PONG]": [
         "return [x for x in events if x.kind in (PING, PONG)]",
@@ -247,7 +249,18 @@ EQUAL = {
     "has_other_close: close_of -> ending_of (2)": GOT_FAULT,
     "has_other_close: close_of -> ending_of (3)": GOT_FAULT,
     "has_other_code: close_of -> ending_of": GOT_FAULT,
-    "has_other_code: close and ending and close.value != ending.value -> ((close) and (close.value != ending.value))": (
+    "top: 5000 -> 5001": "5000 is no code that is allowed",
+    "whole_headers: len(data) == 1 -> len(data) <= 1": "what stands behind whole frames has a byte",
+    "wants: 0 -> -1 (3)": "a whole text wants no byte, and of the open lengths 0 is tried too",
+    "counts_doom: close_of -> ending_of": GOT_FAULT,
+    "evidence_of: close and fault_of(due) and is_doomed_after(tested, pieces[: close.turn + 1])"
+    " -> ((close) and (is_doomed_after(tested, pieces[: close.turn + 1])))": "no close comes of what is doomed",
+    "evidence_of: fault_of -> ending_of": "no close comes of what is doomed",
+    "evidence_of: close_of -> ending_of": GOT_FAULT,
+    "has_other_end: close_of -> ending_of": GOT_FAULT,
+    "ends_late: close_of -> ending_of": GOT_FAULT,
+    "has_other_code: close and ending and ending.kind != DOOMED and close.value != ending.value"
+    " -> ((close) and (ending.kind != DOOMED) and (close.value != ending.value))": (
         "a close that was got where neither a close nor a fault was sent is told before as Close"
     ),
     "echoes_short: fault_of(x.due) and (is_short(messages, x) or (is_short(pongs, x) and not has_last_pong(x)))"

@@ -5,13 +5,13 @@ A transcript is a list of turns, each the bytes that were sent and that were got
 """
 
 from bisect import bisect_right
-from itertools import accumulate
+from itertools import accumulate, count
 from typing import NamedTuple
 
 SERVER, CLIENT = "server", "client"
 PEER, TESTER, BROKEN = "peer", "tester", "broken"
 CONTINUATION, TEXT, BINARY, CLOSE, PING, PONG = 0, 1, 2, 8, 9, 10
-FAULT, REST = "fault", "rest"
+FAULT, REST, DOOMED = "fault", "rest", "doomed"
 PROTOCOL_ERROR, NOT_TEXT, TOO_BIG = 1002, 1007, 1009
 MOST = 16777216
 
@@ -107,12 +107,68 @@ def close_fault(payload):
     return None
 
 
+# ---- frames of which the last bytes are missing
+
+CODES = [code.to_bytes(2, "big") for code in range(5000) if is_code(code)]
+
+
+def least_lengths(form, known):
+    """The bytes of the least length that the form may have where it begins so; else these, behind which zeros stand."""
+    least = {0: 0, 2: 126, 8: 65536}[form].to_bytes(form, "big")
+    return least if least.startswith(known) else known
+
+
+def whole_headers(role, data, lengths):
+    """The bytes with a whole header: of these lengths where the length is open, else of the least; its key is of zeros."""
+    if len(data) == 1:
+        starts = [data + bytes([length + 128 if role == SERVER else length]) for length in lengths]
+    else:
+        form = {126: 2, 127: 8}.get(data[1] % 128, 0)
+        starts = [data[:2] + least_lengths(form, data[2 : 2 + form]) + data[2 + form :]]
+    return [next(x for x in (start + bytes(zeros) for zeros in count()) if header_at(x, 0)) for start in starts]
+
+
+def wants(text):
+    """How many bytes are missing of the character inside which the text ends: its first byte tells how many it has."""
+    last = text[len(text.decode(errors="ignore").encode()) :]
+    return 2 + (last[0] >= 0xE0) + (last[0] >= 0xF0) - len(last) if last else 0
+
+
+def can_be_text(text, missing):
+    """So many more bytes can make a text of these."""
+    return bad_byte(text) in (None, len(text)) and wants(text) <= missing
+
+
+def can_be_close(payload, missing):
+    """So many more bytes can make a close payload of these."""
+    if len(payload) + missing == 1:
+        return False
+    return any(code.startswith(payload[:2]) for code in CODES) and can_be_text(payload[2:], missing)
+
+
+def is_doomed(role, data, kind, message):
+    """No right frame begins with these bytes, behind what is open of a message of this kind. None of them is a fault."""
+    for begun in whole_headers(role, data, [0, wants(message) * (kind == TEXT)]):
+        header = header_at(begun, 0)
+        payload = unmasked(begun[header.end :], header.key)
+        missing = header.length - len(payload)
+        ends_text = header.fin and (kind if header.opcode == CONTINUATION else header.opcode) == TEXT
+        if header_fault(role, header, kind, len(message)):
+            continue
+        if ends_text and not can_be_text(message + payload, missing):
+            continue
+        if header.opcode == CLOSE and not can_be_close(payload, missing):
+            continue
+        return False
+    return True
+
+
 # ---- what is told of a stream (sections 5.4 to 5.6, 7.1.7)
 
 
 class Event(NamedTuple):
     kind: object  # of a message, PING, PONG; CLOSE and FAULT, behind which nothing is told; REST where bytes follow
-    value: object  # the payload, or the close code
+    value: object  # the payload, or the close code; of a REST whether it is doomed
     place: int  # that of its last byte, of the fault, or of the first byte that follows
 
 
@@ -120,6 +176,7 @@ def walk(role, data):
     """The events of what comes to an endpoint of this role."""
     at, kind, message = 0, None, b""
     while header := header_at(data, at):
+        opened = kind
         fault = header_fault(role, header, kind, len(message))
         if fault:
             yield Event(FAULT, fault, header.end - 1)
@@ -134,12 +191,15 @@ def walk(role, data):
                 yield Event(FAULT, NOT_TEXT, header.end + bad - len(message))
                 return
         if end > len(data):
+            kind = opened
             break
         at = end
         if header.opcode == CLOSE:
             fault = close_fault(payload)
             yield Event(FAULT, fault, end - 1) if fault else Event(CLOSE, close_code(payload), end - 1)
-            break
+            if at < len(data):
+                yield Event(REST, False, at)
+            return
         if is_control(header):
             yield Event(header.opcode, payload, end - 1)
             continue
@@ -151,7 +211,7 @@ def walk(role, data):
             yield Event(kind, message, end - 1)
             kind, message = None, b""
     if at < len(data):
-        yield Event(REST, None, at)
+        yield Event(REST, is_doomed(role, data[at:], kind, message), at)
 
 
 # ---- what a transcript shows
@@ -164,10 +224,12 @@ class InTurn(NamedTuple):
 
 
 class Evidence(NamedTuple):
+    tested: str
     due: list
     got: list
     turns: int
     end: str
+    answers_doom: bool  # when the turn of the close that was got was over, what was sent was doomed
 
 
 def in_turns(role, pieces):
@@ -176,11 +238,27 @@ def in_turns(role, pieces):
     return [InTurn(x.kind, x.value, bisect_right(ends, x.place)) for x in walk(role, b"".join(pieces))]
 
 
-def evidence_of(turns, end):
+def is_doomed_after(role, pieces):
+    """What was sent in these turns is doomed."""
+    return any(x.kind == REST and x.value for x in walk(role, b"".join(pieces)))
+
+
+def counts_doom(tested, got, end):
+    """What is doomed counts as a fault: the tester didn't end the connection, or it did behind a client's close."""
+    return end != TESTER or (tested == CLIENT and close_of(got) is not None)
+
+
+def evidence_of(tested, turns, end):
     """Each message is due again, a pong for a ping, and nothing for a pong."""
-    sent = in_turns(SERVER, [sent for sent, _ in turns])
+    pieces = [sent for sent, _ in turns]
+    sent = in_turns(tested, pieces)
     due = [x._replace(kind=PONG) if x.kind == PING else x for x in sent if x.kind != PONG]
-    return Evidence(due, in_turns(CLIENT, [got for _, got in turns]), len(turns), end)
+    got = in_turns(CLIENT if tested == SERVER else SERVER, [got for _, got in turns])
+    if is_doomed_after(tested, pieces) and counts_doom(tested, got, end):
+        due.append(InTurn(DOOMED, None, max(turn for turn, piece in enumerate(pieces) if piece)))
+    close = close_of(got)
+    answers_doom = close and fault_of(due) and is_doomed_after(tested, pieces[: close.turn + 1])
+    return Evidence(tested, due, got, len(turns), end, answers_doom)
 
 
 def messages(events):
@@ -209,11 +287,11 @@ def close_of(events):
 
 
 def fault_of(events):
-    return first([FAULT], events)
+    return first([FAULT, DOOMED], events)
 
 
 def ending_of(events):
-    return first([CLOSE, FAULT], events)
+    return first([CLOSE, FAULT, DOOMED], events)
 
 
 def matches(x):
@@ -257,7 +335,7 @@ def is_early(x):
         [
             any(got.turn < due.turn for got, due in zip(messages(x.got), messages(x.due))),
             any(due is not None and got.turn < due.turn for got, due in matches(x)),
-            close and ending and close.turn < ending.turn,
+            close and ending and close.turn < ending.turn and not x.answers_doom,
         ]
     )
 
@@ -286,7 +364,9 @@ def has_other_close(x):
 
 
 def has_other_end(x):
-    return x.end == TESTER if ending_of(x.due) else x.end != TESTER
+    if ending_of(x.due):
+        return x.end == TESTER and (x.tested == SERVER or not close_of(x.got))
+    return x.end != TESTER
 
 
 # ---- the Looses
@@ -306,12 +386,12 @@ def has_pong_elsewhere(x):
 
 def has_other_code(x):
     close, ending = close_of(x.got), ending_of(x.due)
-    return close and ending and close.value != ending.value
+    return close and ending and ending.kind != DOOMED and close.value != ending.value
 
 
 def ends_late(x):
-    ending = ending_of(x.due)
-    return ending and ending.turn + 1 < x.turns
+    close, ending = close_of(x.got), ending_of(x.due)
+    return ending and ending.turn + 1 < x.turns and (x.tested == SERVER or not close or close.turn != ending.turn)
 
 
 def echoes_short(x):
@@ -343,9 +423,9 @@ LOOSES = [
 ]
 
 
-def verdict(turns, end):
+def verdict(turns, end, tested=SERVER):
     """The first Fail that applies, else the first Loose, else PASS."""
-    x = evidence_of(turns, end)
+    x = evidence_of(tested, turns, end)
     for word, rules in (("FAIL", FAILS), ("LOOSE", LOOSES)):
         for why, applies in rules:
             if applies(x):

@@ -30,6 +30,7 @@ pub mod Wants
 pub mod Owed
 pub mod SessionParts
 pub mod Over
+pub mod DoomedSessions
 pub mod SomeExchange
 pub mod PlacedEvents
 pub mod TakenPieces

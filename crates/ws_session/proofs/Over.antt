@@ -99,16 +99,16 @@ event_ends_not_by false false before f m e h = h
 pub event_ends_not : (before : List Frame) (f : Frame) → is_close f ≡ false → Ends (event_of before f) → ⊥
 event_ends_not before f e h = event_ends_not_by (is_control f) f.fin before f (message_of ((groups_of (data_frames before)).unfinished ++ f ∷ [])) e h
 
-abbrev EndsLast : Option Event → Type 0
+abbrev pub EndsLast : Option Event → Type 0
 EndsLast None = ⊥
 EndsLast (Some e) = Ends e
 
-last_ends_not : (before : List Frame) (xs : List KeyedFrame) → AllByRecursion IsNoClose xs → EndsLast (last_event (events_after before (frames_of xs))) → ⊥
+pub last_ends_not : (before : List Frame) (xs : List KeyedFrame) → AllByRecursion IsNoClose xs → EndsLast (last_event (events_after before (frames_of xs))) → ⊥
 last_ends_not before [] h is = is
 last_ends_not before (x ∷ []) h is = event_ends_not before x.frame h.0 is
 last_ends_not before (x ∷ y ∷ xs) h is = last_ends_not (before ++ x.frame ∷ []) (y ∷ xs) h.1 is
 
-status_unless : (sent : List Frame) (ended : Bool) (o : Option Event) → (EndsLast o → ⊥) → status_after sent ended o ≡ status_before_close sent ended
+pub status_unless : (sent : List Frame) (ended : Bool) (o : Option Event) → (EndsLast o → ⊥) → status_after sent ended o ≡ status_before_close sent ended
 status_unless sent ended None h = refl
 status_unless sent ended (Some event.Part) h = refl
 status_unless sent ended (Some (event.Message m)) h = refl

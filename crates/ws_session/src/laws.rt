@@ -69,6 +69,13 @@ pub fn doomed_frames_come_to_a_fault()
         (all ≡ events) ⊎ ((reason : Reason) × (all ≡ events ++ event.Failed reason ∷ [])) }
 {}
 
+/// A session goes on while what it took ends doomed, and its stream has not ended.
+pub fn doomed_streams_go_on()
+    ensures { (session : SessionValue) (sent : List Frame) (bytes : List ℕ) (frames : List KeyedFrame)
+        (rest : List ℕ) → HasExchanged session sent bytes false →
+        EndsDoomed session.role session.limits bytes frames rest → is_over session.status ≡ false }
+{}
+
 /// A close or a fault is the last event of a stream.
 pub fn the_end_comes_last()
     ensures close { (role : Role) (limits : LimitsValue) (bytes : List ℕ) (events later : List Event)

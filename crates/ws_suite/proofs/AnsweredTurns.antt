@@ -1,5 +1,5 @@
 -- An echo's answers, turn by turn: each stands in the turn of what it answers.
-use Rattle.std.proofs.Common.{◌≡◌, ◌∙◌, ℕ, zero, suc, ◌+◌, ◌<◌, Bool, true, false, cond, List, [], ◌∷◌, ◌++◌, length, map, take, flat_map, Some, None, ap, ap₂, sym, refl, arith, append-nil}
+use Rattle.std.proofs.Common.{◌≡◌, ◌∙◌, ℕ, zero, suc, ◌+◌, ◌<◌, Bool, true, false, cond, List, [], ◌∷◌, ◌++◌, length, map, take, flat_map, Option, Some, None, ap, ap₂, sym, refl, arith, append-nil}
 use Rattle.std.proofs.lemmas.List.{map-append}
 use Rattle.std.specs.Prelude.{◌||◌}
 use Rattle.ws_wire.specs.declared.role.Role.{Role}
@@ -8,14 +8,13 @@ use Rattle.ws_session.specs.declared.event.Event.{Event}
 use Rattle.ws_session.specs.declared.event.Event.TheVariants as event
 use Rattle.ws_session.specs.Faults.{frames_of}
 use Rattle.ws_session.specs.Events.{events_after}
-use Rattle.ws_session.specs.Replies.{echo_replies_of, has_close, under_key}
+use Rattle.ws_session.specs.Replies.{close_code_of, echo_replies_of, has_close, under_key}
 use Rattle.ws_suite.specs.declared.evidence.InTurn.{InTurn}
 use Rattle.ws_suite.specs.declared.evidence.Reply.{Reply}
 use Rattle.ws_suite.specs.declared.evidence.Reply.TheVariants as reply
 use Rattle.ws_suite.specs.declared.evidence.Ending.{Ending}
-use Rattle.ws_suite.specs.declared.evidence.Ending.TheVariants.{Closed, Failed}
+use Rattle.ws_suite.specs.declared.evidence.Ending.TheVariants.{Closed, Failed, Doomed}
 use Rattle.ws_suite.specs.Evidence.{by_turn, due_for, ending_in, got_in, joined_events}
-use Rattle.ws_suite.specs.Matching.{code_due_for}
 use Rattle.ws_suite.specs.InnerCollecting.{at_turn}
 use Rattle.ws_suite.specs.InnerEchoReplyLaws.{EchoReplyLaws}
 use Rattle.ws_suite.proofs.ValidDirections.{events_by, joined_frames}
@@ -111,6 +110,12 @@ got_when_due turn (events ∷ turns) =
     ap₂ (λ (x : List Reply) (xs : List (InTurn Reply)). at_turn turn x ++ xs) (got_back events) (got_when_due (turn + 1) turns)
 
 -- ---- the end
+
+-- the code of the close by which an echo answers a close or a fault
+abbrev pub code_due_for : Ending → Option ℕ
+code_due_for (Closed code) = code
+code_due_for (Failed reason) = Some (close_code_of reason)
+code_due_for Doomed = None
 
 -- the close that answers a close or a fault
 abbrev pub close_back : Ending → Ending

@@ -1,10 +1,11 @@
 -- The evidence of an echo's transcript: what was got is what was due, turn by turn.
-use Rattle.std.proofs.Common.{◌≡◌, ◌∙◌, ℕ, suc, ◌+◌, ◌<◌, ◌≤◌, ◌↔◌, Bool, true, false, cond, List, [], ◌++◌, length, map, take, drop, Option, None, ap, sym, refl, subst, arith, inl, inr}
+use Rattle.std.proofs.Common.{◌≡◌, ◌∙◌, ℕ, suc, ◌+◌, ◌<◌, ◌≤◌, ◌↔◌, Bool, true, false, cond, List, [], ◌++◌, length, map, take, drop, Option, None, Some, MatchBool, ap, sym, refl, subst, arith, inl, inr}
 use Rattle.std.proofs.lemmas.Bool.{cases_lt}
 use Rattle.std.proofs.lemmas.List.{length-map, take_all}
 use Rattle.std.proofs.Math.Seq.{drop-append_seam}
 use Rattle.std.specs.List.{AllByRecursion, concat, last_or}
 use Rattle.ws_wire.specs.declared.role.Role.{Role}
+use Rattle.ws_wire.specs.declared.role.Role.TheVariants.{Client, Server}
 use Rattle.ws_wire.specs.Frame.{Frame, KeyedFrame, FitsTheLayout, stream_bytes}
 use Rattle.ws_session.specs.declared.event.Event.{Event}
 use Rattle.ws_session.specs.Validity.{AreValidFrames}
@@ -13,12 +14,14 @@ use Rattle.ws_session.specs.Events.{HasEvents}
 use Rattle.ws_session.specs.Replies.{echo_replies_of}
 use Rattle.ws_session.specs.Sends.{most_limits}
 use Rattle.ws_scripts.specs.declared.transcript.Turn.{Turn}
+use Rattle.ws_scripts.specs.declared.transcript.Ended.{Ended}
 use Rattle.ws_scripts.specs.declared.transcript.Ended.TheVariants.{Tester, Peer}
 use Rattle.ws_scripts.specs.declared.transcript.Transcript.{Transcript}
 use Rattle.ws_suite.specs.declared.verdict.Verdict.TheVariants.{Pass}
 use Rattle.ws_suite.specs.declared.evidence.InTurn.{InTurn}
 use Rattle.ws_suite.specs.declared.evidence.Ending.{Ending}
 use Rattle.ws_suite.specs.Evidence.{AreEventsByTurn, HasRest, IsDirectionOf, IsEvidenceOf, by_turn, due_for, ending_in, got_in, got_turns, joined_events, other_role, sent_turns}
+use Rattle.ws_suite.specs.Doom.{AnswersDoom, CountsAs, HasDoomCounted, IsDoomOf, counts_doom}
 use Rattle.ws_suite.specs.Verdicts.{IsVerdictOf}
 use Rattle.ws_suite.specs.Fairness.{IsEchoTranscript, echo_bytes, ends_echo, got_within, sent_within}
 use Rattle.ws_suite.specs.InnerEchoReplyLaws.{EchoReplyLaws}
@@ -27,6 +30,21 @@ use Rattle.ws_suite.proofs.AnsweredEvents.{OnlyLastEnds, has_end, over_by_end}
 use Rattle.ws_suite.proofs.AnsweredTurns.{answered, answers_by, answers_so_far, end_when_due, ends_nowhere, ends_somewhere, frames_keyed, got_when_due, keyed, length-answers_by, told_by_turn}
 use Rattle.ws_suite.proofs.FairVerdict.{EndsRightly, answered_end, fully_answered, fully_answered_passes}
 use Rattle.ws_suite.proofs.TurnsAdded.{Grows, added_from, added_so_far, last_of_map, length-added, one_turn_more, only_by, rest_told, same_parts}
+
+-- ---- nothing of an echo is counted as doomed
+
+-- where nothing ended what was sent the tester ended the connection, without a close
+counts_rightly : (tested : Role) (transcript : Transcript) (due : Option (InTurn Ending)) (turns : ℕ) → EndsRightly due turns transcript.ended → CountsAs tested transcript (answered_end due) due due
+counts_rightly tested transcript (Some due) turns right = refl
+counts_rightly Client transcript None turns right =
+    subst (λ (e : Ended). MatchBool (counts_doom Client e None) (IsDoomOf Client (sent_turns transcript.turns) None) (◌≡◌ {A = Option (InTurn Ending)} None None)) (sym right) refl
+counts_rightly Server transcript None turns right =
+    subst (λ (e : Ended). MatchBool (counts_doom Server e None) (IsDoomOf Server (sent_turns transcript.turns) None) (◌≡◌ {A = Option (InTurn Ending)} None None)) (sym right) refl
+
+-- a close that is got in the turn of what it answers comes in no earlier one
+answers_no_doom : (tested : Role) (turns : List (List ℕ)) (due : Option (InTurn Ending)) → AnswersDoom tested turns (answered_end due) due → ⊥
+answers_no_doom tested turns None d = d
+answers_no_doom tested turns (Some due) d = omega (arith, d.2)
 
 -- ---- a transcript of an echo
 
@@ -170,11 +188,25 @@ module _ (laws : EchoReplyLaws) (tested : Role) (transcript : Transcript) (h : I
         (valid_direction laws.frames (other_role tested) frames layout keys valid got_in (record { replies = by_turn due_for 0 turns; ending = answered_end due_end; has_rest = false }) got_replies got_end refl);
     turns = refl;
     ended = refl;
+    uncounted = refl;
+  }
+
+  counted_is : HasDoomCounted tested transcript (fully_answered (by_turn due_for 0 turns) due_end rest.0 count transcript.ended) (fully_answered (by_turn due_for 0 turns) due_end rest.0 count transcript.ended)
+  counted_is = record {
+    replies = refl;
+    ending = counts_rightly tested transcript due_end count (ends_by (has_end (joined_events turns)) refl);
+    has_rest = refl;
+    got = refl;
+    turns = refl;
+    ended = refl;
+    answers_doom = (λ e. absurd (let wrong : false ≡ true = e in cc), λ d. absurd (answers_no_doom tested sents due_end d));
   }
 
   pub echo_passes : IsVerdictOf tested transcript Pass
   echo_passes = record {
     evidence = fully_answered (by_turn due_for 0 turns) due_end rest.0 count transcript.ended;
     is_evidence = evidence_is;
+    counted = fully_answered (by_turn due_for 0 turns) due_end rest.0 count transcript.ended;
+    is_counted = counted_is;
     is_verdict = fully_answered_passes tested (by_turn due_for 0 turns) rest.0 count transcript.ended due_end (ends_by (has_end (joined_events turns)) refl);
   }

@@ -15,11 +15,11 @@ use Rattle.ws_suite.specs.declared.verdict.LooseWhy.TheVariants as loose
 use Rattle.ws_suite.specs.declared.evidence.InTurn.{InTurn}
 use Rattle.ws_suite.specs.declared.evidence.Reply.{Reply}
 use Rattle.ws_suite.specs.declared.evidence.Ending.{Ending}
-use Rattle.ws_suite.specs.declared.evidence.Ending.TheVariants.{Closed}
+use Rattle.ws_suite.specs.declared.evidence.Ending.TheVariants.{Closed, Failed, Doomed}
 use Rattle.ws_suite.specs.declared.evidence.Evidence.{Evidence}
-use Rattle.ws_suite.specs.Matching.{IsBeginningOf, IsLastPong, IsWithSomeLeftOut, after_match, bare, code_due_for, has_payload_of, matches_of, message_replies, payload_of, pong_replies}
+use Rattle.ws_suite.specs.Matching.{IsBeginningOf, IsLastPong, IsCodeFor, IsWithSomeLeftOut, after_match, bare, has_payload_of, matches_of, message_replies, payload_of, pong_replies}
 use Rattle.ws_suite.specs.Verdicts.{Fails, IsLoose, IsVerdictOn, is_before, is_before_match, is_unmatched}
-use Rattle.ws_suite.proofs.AnsweredTurns.{answer_in_turn}
+use Rattle.ws_suite.proofs.AnsweredTurns.{answer_in_turn, code_due_for}
 
 -- ---- lists against themselves
 
@@ -68,6 +68,12 @@ last_is_there (x ∷ xs) some =
 not_true : (b : Bool) → b ≡ false → b ≡ true → ⊥
 not_true b e f = let both : false ≡ true = sym e ∙ f in absurd cc
 
+-- the code that an echo sends is right
+right_code : (due : Ending) (code : Option ℕ) → code ≡ code_due_for due → IsCodeFor due code
+right_code (Closed due) code e = e
+right_code (Failed reason) code e = e
+right_code Doomed code e = tt
+
 -- ---- the evidence of an echo
 
 -- the close that answers what ended the other direction
@@ -87,6 +93,7 @@ fully_answered replies due has_rest turns ended = record {
   got = record { replies = replies; ending = answered_end due; has_rest = false };
   turns = turns;
   ended = ended;
+  answers_doom = false;
 }
 
 module _ (tested : Role) (replies : List (InTurn Reply)) (has_rest : Bool) (turns : ℕ) (ended : Ended) where
@@ -101,8 +108,8 @@ module _ (tested : Role) (replies : List (InTurn Reply)) (has_rest : Bool) (turn
   fails_nowhere due right fail.NotFrames (inr (inr h)) = not_true false refl h.0
   fails_nowhere due right fail.Early (inl h) = not_true _ (none_before (message_replies replies)) h
   fails_nowhere due right fail.Early (inr (inl h)) = not_true _ (ap (λ l. list_any is_before_match l) (matched_with_itself (pong_replies replies)) ∙ no_early_match (pong_replies replies)) h
-  fails_nowhere None right fail.Early (inr (inr h)) = h
-  fails_nowhere (Some due) right fail.Early (inr (inr h)) = omega (arith, h.1)
+  fails_nowhere None right fail.Early (inr (inr h)) = h.0
+  fails_nowhere (Some due) right fail.Early (inr (inr h)) = omega (arith, h.0.1)
   fails_nowhere due right fail.Messages h = messages_right _ h
   fails_nowhere due right fail.Pongs (inl h) = not_true _ (ap (λ l. list_any is_unmatched l) (matched_with_itself (pong_replies replies)) ∙ all_matched (pong_replies replies)) h
   fails_nowhere due right fail.Pongs (inr h) = h.2 (last_is_there (pong_replies replies) h.1)
@@ -123,7 +130,7 @@ module _ (tested : Role) (replies : List (InTurn Reply)) (has_rest : Bool) (turn
       let same : due ≡ h.1 = let e : Some due ≡ Some h.1 = h.4 in cc in
       let got : answer_in_turn due ≡ h.0 = let e : Some (answer_in_turn due) ≡ Some h.0 = h.3 in cc in
       let closed : Closed (code_due_for h.1.what) ≡ Closed h.2 = ap (λ (x : InTurn Ending). Closed (code_due_for x.what)) (sym same) ∙ (ap (λ (x : InTurn Ending). x.what) got ∙ h.5) in
-      h.6 (let code : h.2 ≡ code_due_for h.1.what = cc in code)
+      h.6 (right_code h.1.what h.2 (let code : h.2 ≡ code_due_for h.1.what = cc in code))
   nowhere_loose None right loose.LateEnd h = absurd (let no : None ≡ Some h.0 = h.1 in cc)
   nowhere_loose (Some due) right loose.LateEnd h =
       let same : due ≡ h.0 = let e : Some due ≡ Some h.0 = h.1 in cc in

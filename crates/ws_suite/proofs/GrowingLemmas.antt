@@ -97,8 +97,8 @@ pub tells_answered : EventLaws → (tested : Role) (turns : List Turn) (x v : Gr
     → ((r ≡ true) ↔ AreTurnsAnswered tested turns)
 tells_answered laws tested turns x v r same tells grown =
     let h = subst (λ (y : GrowingValue ReplyTally). HasGrown IsTallyOf tested turns y) (sym same) grown in
-    let shown : Evidence = record { due = h.due.shown; got = h.got.shown; turns = length turns; ended = Tester } in
-    let is : IsEvidenceOf tested (record { turns = turns; ended = Tester }) shown = record { due = h.due.is_shown; got = h.got.is_shown; turns = refl; ended = refl } in
+    let shown : Evidence = record { due = h.due.shown; got = h.got.shown; turns = length turns; ended = Tester; answers_doom = false } in
+    let is : IsEvidenceOf tested (record { turns = turns; ended = Tester }) shown = record { due = h.due.is_shown; got = h.got.is_shown; turns = refl; ended = refl; uncounted = refl } in
     let both = tallies_tell shown x.due.replies x.got.replies h.due.replies h.got.replies in (
       λ e. record { evidence = shown; is_evidence = is; answered = both.0 (tells.0 e) },
       λ a. tells.1 (both.1 (subst (λ (v : Evidence). IsAnswered v) (one_evidence laws tested (record { turns = turns; ended = Tester }) a.evidence shown a.is_evidence is) a.answered)),

@@ -2,6 +2,7 @@ mod EvidenceLemmas
 mod TurnsCollected
 mod JudgeLemmas
 mod GrowingLemmas
+mod DoomLemmas
 mod LastBytes
 mod OneVerdict
 mod ValidDirections

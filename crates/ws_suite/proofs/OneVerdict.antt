@@ -1,5 +1,5 @@
 -- A transcript has one list of events a direction, one evidence and one verdict.
-use Rattle.std.proofs.Common.{◌≡◌, ◌∙◌, ℕ, suc, zero, ◌≤◌, ◌↔◌, Bool, true, false, List, [], ◌∷◌, ◌++◌, length, take, Option, None, ap, ap₂, sym, refl, subst, inl, inr, arith, append-nil}
+use Rattle.std.proofs.Common.{◌≡◌, ◌∙◌, ℕ, suc, zero, ◌≤◌, ◌↔◌, Bool, true, false, List, [], ◌∷◌, ◌++◌, length, take, Option, None, Some, MatchBool, ap, ap₂, sym, refl, subst, inl, inr, arith, append-nil}
 use Rattle.std.proofs.lemmas.Bool.{cases_lt}
 use Rattle.std.proofs.lemmas.List.{append_cancel_left}
 use Rattle.std.specs.List.{concat, last_or}
@@ -19,7 +19,8 @@ use Rattle.ws_suite.specs.declared.evidence.Reply.{Reply}
 use Rattle.ws_suite.specs.declared.evidence.Ending.{Ending}
 use Rattle.ws_suite.specs.declared.evidence.Direction.{Direction}
 use Rattle.ws_suite.specs.declared.evidence.Evidence.{Evidence}
-use Rattle.ws_suite.specs.Evidence.{AreEventsByTurn, HasRest, IsDirectionOf, IsEvidenceOf, by_turn, ending_in, joined_events}
+use Rattle.ws_suite.specs.Evidence.{AreEventsByTurn, HasRest, IsDirectionOf, IsEvidenceOf, by_turn, ending_in, joined_events, sent_turns}
+use Rattle.ws_suite.specs.Doom.{AnswersDoom, CountsAs, HasDoomCounted, IsDoomOf, IsLastWithBytes, counts_doom}
 use Rattle.ws_suite.specs.Verdicts.{IsLowestFail, IsLowestLoose, IsVerdictOf, IsVerdictOn, fail_number, loose_number}
 use Rattle.ws_suite.specs.InnerCollecting.{EventLaws}
 
@@ -39,6 +40,12 @@ same_flags : (x y : Bool) → (x ≡ true → y ≡ true) → (y ≡ true → x 
 same_flags true y on back = sym (on refl)
 same_flags false true on back = back refl
 same_flags false false on back = refl
+
+same_evidence : (a b : Evidence) → a.due ≡ b.due → a.got ≡ b.got → a.turns ≡ b.turns → a.ended ≡ b.ended → a.answers_doom ≡ b.answers_doom → a ≡ b
+same_evidence a b due got turns ended doom =
+    ap₂ (λ (d g : Direction). record { due = d; got = g; turns = a.turns; ended = a.ended; answers_doom = a.answers_doom }) due got
+    ∙ (ap₂ (λ (n : ℕ) (e : Ended). record { due = b.due; got = b.got; turns = n; ended = e; answers_doom = a.answers_doom }) turns ended
+    ∙ ap (λ (f : Bool). record { due = b.due; got = b.got; turns = b.turns; ended = b.ended; answers_doom = f }) doom)
 
 module _ (laws : EventLaws) where
   one_by_turn : (role : Role) (turns : List (List ℕ)) (events others : List (List Event)) → AreEventsByTurn role turns events → AreEventsByTurn role turns others → events ≡ others
@@ -64,8 +71,45 @@ module _ (laws : EventLaws) where
   one_evidence tested transcript a b p q =
       let due = one_direction _ _ _ a.due b.due p.due q.due in
       let got = one_direction _ _ _ a.got b.got p.got q.got in
-      ap₂ (λ (d g : Direction). record { due = d; got = g; turns = a.turns; ended = a.ended }) due got
-      ∙ ap₂ (λ (n : ℕ) (e : Ended). record { due = b.due; got = b.got; turns = n; ended = e }) (p.turns ∙ sym q.turns) (p.ended ∙ sym q.ended)
+      same_evidence a b due got (p.turns ∙ sym q.turns) (p.ended ∙ sym q.ended) (p.uncounted ∙ sym q.uncounted)
+
+-- ---- one way in which doom counts
+
+one_last : (turns : List (List ℕ)) (a b : ℕ) → IsLastWithBytes turns a → IsLastWithBytes turns b → a ≡ b
+one_last turns a b p q = elim (cases_lt a b) [
+  | inl lt ↦ absurd (q.some (p.last b lt))
+  | inr le ↦ elim (cases_lt b a) [ inl lt ↦ absurd (p.some (q.last a lt)) | inr other ↦ omega (arith, le, other) ]
+]
+
+same_ending : (a b : InTurn Ending) → a.turn ≡ b.turn → a.what ≡ b.what → Some a ≡ Some b
+same_ending a b turn what = ap₂ (λ (n : ℕ) (e : Ending). Some (record { turn = n; what = e })) turn what
+
+one_doom : (tested : Role) (turns : List (List ℕ)) (a b : Option (InTurn Ending)) → IsDoomOf tested turns a → IsDoomOf tested turns b → a ≡ b
+one_doom tested turns None None p q = refl
+one_doom tested turns None (Some b) p q = absurd (p q.2)
+one_doom tested turns (Some a) None p q = absurd (q p.2)
+one_doom tested turns (Some a) (Some b) p q = same_ending a b (one_last turns a.turn b.turn p.1 q.1) (p.0 ∙ sym q.0)
+
+one_count_by : (counts : Bool) (tested : Role) (turns : List (List ℕ)) (a b : Option (InTurn Ending)) → MatchBool counts (IsDoomOf tested turns a) (a ≡ None) → MatchBool counts (IsDoomOf tested turns b) (b ≡ None) → a ≡ b
+one_count_by true tested turns a b p q = one_doom tested turns a b p q
+one_count_by false tested turns a b p q = p ∙ sym q
+
+one_count : (tested : Role) (transcript : Transcript) (got sent a b : Option (InTurn Ending)) → CountsAs tested transcript got sent a → CountsAs tested transcript got sent b → a ≡ b
+one_count tested transcript got (Some sent) a b p q = p ∙ sym q
+one_count tested transcript got None a b p q = one_count_by (counts_doom tested transcript.ended got) tested (sent_turns transcript.turns) a b p q
+
+same_direction : (a b : Direction) → a.replies ≡ b.replies → a.ending ≡ b.ending → a.has_rest ≡ b.has_rest → a ≡ b
+same_direction a b replies ending rest =
+    ap₂ (λ (r : List (InTurn Reply)) (e : Option (InTurn Ending)). record { replies = r; ending = e; has_rest = a.has_rest }) replies ending
+    ∙ ap (λ (f : Bool). record { replies = b.replies; ending = b.ending; has_rest = f }) rest
+
+one_counted : (tested : Role) (transcript : Transcript) (shown a b : Evidence) → HasDoomCounted tested transcript shown a → HasDoomCounted tested transcript shown b → a ≡ b
+one_counted tested transcript shown a b p q =
+    let ending = one_count tested transcript shown.got.ending shown.due.ending a.due.ending b.due.ending p.ending q.ending in
+    let answers : (a.answers_doom ≡ true) ↔ AnswersDoom tested (sent_turns transcript.turns) shown.got.ending b.due.ending =
+    subst (λ (e : Option (InTurn Ending)). (a.answers_doom ≡ true) ↔ AnswersDoom tested (sent_turns transcript.turns) shown.got.ending e) ending p.answers_doom in
+    same_evidence a b (same_direction a.due b.due (p.replies ∙ sym q.replies) ending (p.has_rest ∙ sym q.has_rest)) (p.got ∙ sym q.got) (p.turns ∙ sym q.turns) (p.ended ∙ sym q.ended)
+    (same_flags a.answers_doom b.answers_doom (λ e. q.answers_doom.1 (answers.0 e)) (λ e. answers.1 (q.answers_doom.0 e)))
 
 -- ---- one verdict
 
@@ -139,4 +183,5 @@ one_on_evidence tested x Pass Pass p q = refl
 pub one_verdict_of : EventLaws → (tested : Role) (transcript : Transcript) (one other : Verdict) → IsVerdictOf tested transcript one → IsVerdictOf tested transcript other → one ≡ other
 one_verdict_of laws tested transcript one other p q =
     let same = one_evidence laws tested transcript q.evidence p.evidence q.is_evidence p.is_evidence in
-    one_on_evidence tested p.evidence one other p.is_verdict (subst (λ (x : Evidence). IsVerdictOn tested x other) same q.is_verdict)
+    let counted = one_counted tested transcript p.evidence q.counted p.counted (subst (λ (x : Evidence). HasDoomCounted tested transcript x q.counted) same q.is_counted) p.is_counted in
+    one_on_evidence tested p.counted one other p.is_verdict (subst (λ (x : Evidence). IsVerdictOn tested x other) counted q.is_verdict)

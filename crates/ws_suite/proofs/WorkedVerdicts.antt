@@ -1,20 +1,25 @@
--- Worked verdicts: a ping, and what is got for it; and whether that is an answer.
-use Rattle.std.proofs.Common.{◌≡◌, ◌≢◌, ℕ, ◌<◌, ◌≤◌, true, false, List, [], ◌∷◌, ◌++◌, Some, None, refl, subst, arith, inl, inr, lit≤}
+-- Worked verdicts: a ping, and what is got for it; whether that is an answer; and doom.
+use Rattle.std.proofs.Common.{◌≡◌, ◌≢◌, ℕ, ◌<◌, ◌≤◌, true, false, List, [], ◌∷◌, ◌++◌, Option, Some, None, MatchBool}
+use Rattle.std.proofs.Common.{take, sym, refl, subst, arith, inl, inr, lit≤}
+use Rattle.std.specs.List.{concat}
 use Rattle.ws_wire.specs.declared.role.Role.TheVariants.{Client, Server}
+use Rattle.ws_wire.specs.Stream.{SplitsInto}
 use Rattle.ws_scripts.specs.declared.transcript.Ended.{Ended}
 use Rattle.ws_scripts.specs.declared.transcript.Ended.TheVariants.{Tester, Peer, Broken}
+use Rattle.ws_scripts.specs.declared.transcript.Transcript.{Transcript}
 use Rattle.ws_suite.specs.declared.verdict.Verdict.TheVariants.{Pass, Loose, Fail}
 use Rattle.ws_suite.specs.declared.verdict.FailWhy.{FailWhy}
 use Rattle.ws_suite.specs.declared.verdict.FailWhy.TheVariants as fail
 use Rattle.ws_suite.specs.declared.verdict.LooseWhy.{LooseWhy}
 use Rattle.ws_suite.specs.declared.verdict.LooseWhy.TheVariants as loose
 use Rattle.ws_suite.specs.declared.evidence.InTurn.{InTurn}
+use Rattle.ws_suite.specs.declared.evidence.Ending.{Ending}
 use Rattle.ws_suite.specs.declared.evidence.Reply.{Reply}
 use Rattle.ws_suite.specs.declared.evidence.Direction.{Direction}
 use Rattle.ws_suite.specs.declared.evidence.Evidence.{Evidence}
-use Rattle.ws_scripts.specs.declared.transcript.Transcript.{Transcript}
-use Rattle.ws_suite.specs.Evidence.{IsDirectionOf, IsEvidenceOf, due_for, got_in}
+use Rattle.ws_suite.specs.Evidence.{IsDirectionOf, IsEvidenceOf, due_for, got_in, sent_turns}
 use Rattle.ws_suite.specs.Growing.{AreTurnsAnswered, IsAnswered}
+use Rattle.ws_suite.specs.Doom.{HasDoomCounted, IsDoomOf, IsDoomedAfter, counts_doom}
 use Rattle.ws_suite.specs.Verdicts.{Fails, HasOtherClose, HasOtherEnd, IsLoose, IsNotFrames, IsVerdictOf, fail_number, loose_number}
 use Rattle.ws_suite.specs.Examples.{in_one_turn, in_two_turns, ping_sent, pong, pong_got}
 use Rattle.ws_suite.specs.InnerCollecting.{EventLaws, FrameLaws}
@@ -29,7 +34,7 @@ abbrev saying : List (InTurn Reply) → Direction
 saying replies = record { replies = replies; ending = None; has_rest = false }
 
 abbrev quiet : List (InTurn Reply) → List (InTurn Reply) → ℕ → Ended → Evidence
-quiet due got turns ended = record { due = saying due; got = saying got; turns = turns; ended = ended }
+quiet due got turns ended = record { due = saying due; got = saying got; turns = turns; ended = ended; answers_doom = false }
 
 are_frames : (due got : List (InTurn Reply)) (turns : ℕ) (end : Ended) → IsNotFrames (quiet due got turns end) → ⊥
 are_frames due got turns end (inl h) = absurd (let wrong : false ≡ true = h in cc)
@@ -44,6 +49,20 @@ right_end : (due got : List (InTurn Reply)) (turns : ℕ) → HasOtherEnd Server
 right_end due got turns (inl h) = h.0 refl
 right_end due got turns (inr h) = h.1 refl
 
+-- where neither was sent or got nothing but what is doomed at the end is counted
+counted_quietly : (transcript : Transcript) (due got : List (InTurn Reply)) (turns : ℕ) (end : Ended)
+    → MatchBool (counts_doom Server transcript.ended None) (IsDoomOf Server (sent_turns transcript.turns) None) (◌≡◌ {A = Option (InTurn Ending)} None None)
+    → HasDoomCounted Server transcript (quiet due got turns end) (quiet due got turns end)
+counted_quietly transcript due got turns end h = record {
+  replies = refl;
+  ending = h;
+  has_rest = refl;
+  got = refl;
+  turns = refl;
+  ended = refl;
+  answers_doom = (λ e. absurd (let wrong : false ≡ true = e in cc), λ d. absurd d);
+}
+
 -- ---- the five
 
 abbrev answered : Ended → Evidence
@@ -54,7 +73,7 @@ answered_fails : (end : Ended) (why : FailWhy) → why ≢ fail.End → Fails Se
 answered_fails end fail.NotFrames other h = are_frames (pong 0 [] ∷ []) (pong 0 [] ∷ []) 1 end h
 answered_fails end fail.Early other (inl h) = absurd (let wrong : false ≡ true = h in cc)
 answered_fails end fail.Early other (inr (inl h)) = absurd (let wrong : false ≡ true = h in cc)
-answered_fails end fail.Early other (inr (inr h)) = absurd h
+answered_fails end fail.Early other (inr (inr h)) = absurd h.0
 answered_fails end fail.Messages other h = h refl
 answered_fails end fail.Pongs other (inl h) = absurd (let wrong : false ≡ true = h in cc)
 answered_fails end fail.Pongs other (inr h) = h.2 (record { due = pong 0 []; is_due = refl; got = pong 0 []; is_got = refl; same = refl; turn = lit≤ tt })
@@ -103,7 +122,7 @@ below_pongs : (lower : FailWhy) → fail_number lower < 4 → Fails Server silen
 below_pongs fail.NotFrames less h = are_frames (pong 0 [] ∷ []) [] 1 Tester h
 below_pongs fail.Early less (inl h) = absurd (let wrong : false ≡ true = h in cc)
 below_pongs fail.Early less (inr (inl h)) = absurd (let wrong : false ≡ true = h in cc)
-below_pongs fail.Early less (inr (inr h)) = absurd h
+below_pongs fail.Early less (inr (inr h)) = absurd h.0
 below_pongs fail.Messages less h = h refl
 below_pongs fail.Pongs less h = absurd (omega (arith, less))
 below_pongs fail.Close less h = absurd (omega (arith, less))
@@ -116,7 +135,7 @@ latest_fails : (why : FailWhy) → Fails Server latest why → ⊥
 latest_fails fail.NotFrames h = are_frames (pong 0 [] ∷ pong 0 [] ∷ []) (pong 0 [] ∷ []) 1 Tester h
 latest_fails fail.Early (inl h) = absurd (let wrong : false ≡ true = h in cc)
 latest_fails fail.Early (inr (inl h)) = absurd (let wrong : false ≡ true = h in cc)
-latest_fails fail.Early (inr (inr h)) = absurd h
+latest_fails fail.Early (inr (inr h)) = absurd h.0
 latest_fails fail.Messages h = h refl
 latest_fails fail.Pongs (inl h) = absurd (let wrong : false ≡ true = h in cc)
 latest_fails fail.Pongs (inr h) = h.2 (record { due = pong 0 []; is_due = refl; got = pong 0 []; is_got = refl; same = refl; turn = lit≤ tt })
@@ -152,38 +171,57 @@ module _ (laws : FrameLaws) where
   nothing_is_got : IsDirectionOf Client got_in ([] ∷ []) (saying [])
   nothing_is_got = valid_direction laws Client ([] ∷ []) tt tt none_valid got_in (saying []) refl refl refl
 
+  -- the bytes are whole frames
+  ping_splits : SplitsInto (concat (take 1 (ping_sent ∷ []))) (ping ∷ []) []
+  ping_splits = record { each = (ping_fits, tt); whole = refl; left = λ x more fits e. absurd cc }
+
+  ping_is_whole : IsDoomedAfter Server (ping_sent ∷ []) 1 → ⊥
+  ping_is_whole (frames, rest, d) =
+      let same = laws.one_split (concat (take 1 (ping_sent ∷ []))) (ping ∷ []) frames [] rest ping_splits d.split in
+      d.doomed.begun (sym same.1)
+
   pub answered_ping : IsVerdictOf Server (in_one_turn ping_sent pong_got Tester) Pass
   answered_ping = record {
     evidence = answered Tester;
-    is_evidence = record { due = ping_due; got = pong_is_got; turns = refl; ended = refl };
+    is_evidence = record { due = ping_due; got = pong_is_got; turns = refl; ended = refl; uncounted = refl };
+    counted = answered Tester;
+    is_counted = counted_quietly _ (pong 0 [] ∷ []) (pong 0 [] ∷ []) 1 Tester refl;
     is_verdict = (passes, nothing_loose);
   }
 
   pub ended_by_peer : IsVerdictOf Server (in_one_turn ping_sent pong_got Peer) (Fail fail.End)
   ended_by_peer = record {
     evidence = answered Peer;
-    is_evidence = record { due = ping_due; got = pong_is_got; turns = refl; ended = refl };
+    is_evidence = record { due = ping_due; got = pong_is_got; turns = refl; ended = refl; uncounted = refl };
+    counted = answered Peer;
+    is_counted = counted_quietly _ (pong 0 [] ∷ []) (pong 0 [] ∷ []) 1 Peer ping_is_whole;
     is_verdict = (inr (refl, λ e. absurd cc), below_end);
   }
 
   pub before_its_ping : IsVerdictOf Server (in_two_turns [] pong_got ping_sent [] Tester) (Fail fail.Early)
   before_its_ping = record {
     evidence = early;
-    is_evidence = record { due = later_ping_due; got = first_pong_is_got; turns = refl; ended = refl };
+    is_evidence = record { due = later_ping_due; got = first_pong_is_got; turns = refl; ended = refl; uncounted = refl };
+    counted = early;
+    is_counted = counted_quietly _ early.due.replies early.got.replies 2 Tester refl;
     is_verdict = (inr (inl refl), below_early);
   }
 
   pub no_answer : IsVerdictOf Server (in_one_turn ping_sent [] Tester) (Fail fail.Pongs)
   no_answer = record {
     evidence = silent;
-    is_evidence = record { due = ping_due; got = nothing_is_got; turns = refl; ended = refl };
+    is_evidence = record { due = ping_due; got = nothing_is_got; turns = refl; ended = refl; uncounted = refl };
+    counted = silent;
+    is_counted = counted_quietly _ silent.due.replies silent.got.replies 1 Tester refl;
     is_verdict = (inr (refl, lit≤ tt, λ last. absurd (let wrong : None ≡ Some last.got = last.is_got in cc)), below_pongs);
   }
 
   pub latest_answered : IsVerdictOf Server (in_one_turn (ping_sent ++ ping_sent) pong_got Tester) (Loose loose.PongsSkipped)
   latest_answered = record {
     evidence = latest;
-    is_evidence = record { due = pings_due; got = pong_is_got; turns = refl; ended = refl };
+    is_evidence = record { due = pings_due; got = pong_is_got; turns = refl; ended = refl; uncounted = refl };
+    counted = latest;
+    is_counted = counted_quietly _ latest.due.replies latest.got.replies 1 Tester refl;
     is_verdict = (
       latest_fails,
       ((lit≤ tt, record { due = pong 0 []; is_due = refl; got = pong 0 []; is_got = refl; same = refl; turn = lit≤ tt }), below_skipped),
@@ -195,14 +233,14 @@ module _ (laws : FrameLaws) where
   pub ping_is_answered : AreTurnsAnswered Server (in_one_turn ping_sent pong_got Tester).turns
   ping_is_answered = record {
     evidence = answered Tester;
-    is_evidence = record { due = ping_due; got = pong_is_got; turns = refl; ended = refl };
+    is_evidence = record { due = ping_due; got = pong_is_got; turns = refl; ended = refl; uncounted = refl };
     answered = (λ less. omega (arith, less), λ some. record { due = pong 0 []; is_due = refl; got = pong 0 []; is_got = refl; same = refl; turn = lit≤ tt });
   }
 
   pub latest_is_answered : AreTurnsAnswered Server (in_one_turn (ping_sent ++ ping_sent) pong_got Tester).turns
   latest_is_answered = record {
     evidence = latest;
-    is_evidence = record { due = pings_due; got = pong_is_got; turns = refl; ended = refl };
+    is_evidence = record { due = pings_due; got = pong_is_got; turns = refl; ended = refl; uncounted = refl };
     answered = (λ less. omega (arith, less), λ some. record { due = pong 0 []; is_due = refl; got = pong 0 []; is_got = refl; same = refl; turn = lit≤ tt });
   }
 
@@ -212,12 +250,12 @@ module _ (laws : FrameLaws) where
 
     pub silence_is_none : AreTurnsAnswered Server (in_one_turn ping_sent [] Tester).turns → ⊥
     silence_is_none a =
-        let h = shown_is (in_one_turn ping_sent [] Tester) a.evidence silent a.is_evidence (record { due = ping_due; got = nothing_is_got; turns = refl; ended = refl }) a.answered in
+        let h = shown_is (in_one_turn ping_sent [] Tester) a.evidence silent a.is_evidence (record { due = ping_due; got = nothing_is_got; turns = refl; ended = refl; uncounted = refl }) a.answered in
         let last = h.1 (lit≤ tt) in
         absurd (let wrong : None ≡ Some last.got = last.is_got in cc)
 
     pub earlier_is_none : AreTurnsAnswered Server (in_two_turns [] pong_got ping_sent [] Tester).turns → ⊥
     earlier_is_none a =
-        let h = shown_is (in_two_turns [] pong_got ping_sent [] Tester) a.evidence early a.is_evidence (record { due = later_ping_due; got = first_pong_is_got; turns = refl; ended = refl }) a.answered in
+        let h = shown_is (in_two_turns [] pong_got ping_sent [] Tester) a.evidence early a.is_evidence (record { due = later_ping_due; got = first_pong_is_got; turns = refl; ended = refl; uncounted = refl }) a.answered in
         let wrong : 1 ≤ 0 = last_turns (pong 1 [] ∷ []) (pong 0 [] ∷ []) (pong 1 []) (pong 0 []) refl refl (h.1 (lit≤ tt)) in
         omega (arith, wrong)

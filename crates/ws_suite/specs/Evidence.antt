@@ -1,5 +1,5 @@
 -- The events of a transcript, and the turns in which they stand: what is due for what was sent, and what was got.
-use Rattle.std.specs.Prelude.{◌≡◌, ℕ, ◌+◌, ◌<◌, ◌≤◌, ◌↔◌, true, List, [], ◌∷◌, ◌++◌, length, map, take, flat_map, None}
+use Rattle.std.specs.Prelude.{◌≡◌, ℕ, ◌+◌, ◌<◌, ◌≤◌, ◌↔◌, true, false, List, [], ◌∷◌, ◌++◌, length, map, take, flat_map, None}
 use Rattle.std.specs.List.{concat, last_or}
 use Rattle.ws_wire.specs.declared.role.Role.{Role}
 use Rattle.ws_wire.specs.declared.role.Role.TheVariants.{Client, Server}
@@ -123,3 +123,5 @@ pub record IsEvidenceOf (tested : Role) (transcript : Transcript) (evidence : Ev
   pub got : IsDirectionOf (other_role tested) got_in (got_turns transcript.turns) evidence.got
   pub turns : evidence.turns ≡ length transcript.turns
   pub ended : evidence.ended ≡ transcript.ended
+  -- nothing is counted yet of what was doomed
+  pub uncounted : evidence.answers_doom ≡ false

@@ -3,6 +3,7 @@ use Rattle.std.specs.Prelude.{◌≡◌, ℕ, ◌≤◌, max, List, [], ◌∷�
 use Rattle.std.specs.List.{AllByRecursion, last_or}
 use Rattle.ws_wire.specs.declared.role.Role.{Role}
 use Rattle.ws_wire.specs.Frame.{KeyedFrame, FitsTheLayout, stream_bytes}
+use Rattle.ws_wire.specs.Stream.{SplitsInto}
 use Rattle.ws_session.specs.declared.event.Event.{Event}
 use Rattle.ws_session.specs.declared.event.PlacedEvent.{PlacedEvent}
 use Rattle.ws_session.specs.Limits.{LimitsValue}
@@ -64,3 +65,5 @@ pub record FrameLaws : Type 0 where
   pub fit : (limits most : LimitsValue) (xs : List KeyedFrame) → AreValidFrames most (frames_of xs)
       → most.max_message ≤ limits.max_message → most.max_frame ≤ limits.max_frame
       → (fitting limits xs ≡ xs) × (first_passing limits xs ≡ None)
+  pub one_split : (bytes : List ℕ) (xs ys : List KeyedFrame) (a b : List ℕ) → SplitsInto bytes xs a
+      → SplitsInto bytes ys b → (xs ≡ ys) × (a ≡ b)

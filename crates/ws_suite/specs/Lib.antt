@@ -1,10 +1,12 @@
 pub mod Evidence
 pub mod Matching
+pub mod Doom
 pub mod Verdicts
 pub mod Fairness
 pub mod Growing
 pub mod Words
 pub mod Examples
 pub mod InnerCollecting
+pub mod InnerDoom
 pub mod InnerEchoReplyLaws
 pub mod InnerJudging

@@ -1,6 +1,6 @@
 -- What a verdict compares, RFC 6455 sections 5.4 to 5.6: the messages and pongs that are due with those that were got,
 -- the close or fault on either side, and which ping a pong answers.
-use Rattle.std.specs.Prelude.{◌≡◌, ℕ, ◌<◌, ◌≤◌, ◌⊎◌, Bool, true, false, if◌then◌else◌, List, [], ◌∷◌, ◌++◌, length}
+use Rattle.std.specs.Prelude.{◌≡◌, ℕ, ◌<◌, ◌≤◌, ◌⊎◌, Bool, true, false, if◌then◌else◌, List, [], ◌∷◌, ◌++◌, length, ⊤}
 use Rattle.std.specs.Prelude.{map, filter, find, is_some, bytes_eq, Option, Some, None}
 use Rattle.std.specs.List.{last_or}
 use Rattle.ws_session.specs.Replies.{close_code_of}
@@ -8,7 +8,7 @@ use Rattle.ws_suite.specs.declared.evidence.InTurn.{InTurn}
 use Rattle.ws_suite.specs.declared.evidence.Reply.{Reply}
 use Rattle.ws_suite.specs.declared.evidence.Reply.TheVariants as reply
 use Rattle.ws_suite.specs.declared.evidence.Ending.{Ending}
-use Rattle.ws_suite.specs.declared.evidence.Ending.TheVariants.{Closed, Failed}
+use Rattle.ws_suite.specs.declared.evidence.Ending.TheVariants.{Closed, Failed, Doomed}
 use Rattle.ws_suite.specs.declared.evidence.Evidence.{Evidence}
 
 -- ---- replies
@@ -72,6 +72,7 @@ IsBeginningOf front all = (more : List Reply) × (all ≡ front ++ more)
 abbrev pub is_close_ending : Ending → Bool
 is_close_ending (Closed code) = true
 is_close_ending (Failed reason) = false
+is_close_ending Doomed = false
 
 abbrev pub ends_with_close : Option (InTurn Ending) → Bool
 ends_with_close None = false
@@ -81,10 +82,12 @@ abbrev pub ends_with_fault : Option (InTurn Ending) → Bool
 ends_with_fault None = false
 ends_with_fault (Some x) = if is_close_ending x.what then false else true
 
--- the code of the close that is due for a close, or right for a fault
-abbrev pub code_due_for : Ending → Option ℕ
-code_due_for (Closed code) = code
-code_due_for (Failed reason) = Some (close_code_of reason)
+-- the code that a close has which answers this, or its want of one: that of the close, or the right one for the fault.
+-- No code is asked where the fault has not come
+abbrev pub IsCodeFor : Ending → Option ℕ → Type 0
+IsCodeFor (Closed due) code = code ≡ due
+IsCodeFor (Failed reason) code = code ≡ Some (close_code_of reason)
+IsCodeFor Doomed code = ⊤
 
 -- ---- pongs and what they answer
 

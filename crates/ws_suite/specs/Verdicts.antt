@@ -21,8 +21,9 @@ use Rattle.ws_suite.specs.declared.evidence.Ending.{Ending}
 use Rattle.ws_suite.specs.declared.evidence.Ending.TheVariants.{Closed}
 use Rattle.ws_suite.specs.declared.evidence.Evidence.{Evidence}
 use Rattle.ws_suite.specs.Evidence.{IsEvidenceOf}
+use Rattle.ws_suite.specs.Doom.{HasDoomCounted}
 use Rattle.ws_suite.specs.Matching.{HasLastPong, IsBeginningOf, IsShortOfMessages, IsShortOfPongs, IsWithSomeLeftOut}
-use Rattle.ws_suite.specs.Matching.{bare, code_due_for, due_messages, due_pongs, ends_with_close, ends_with_fault}
+use Rattle.ws_suite.specs.Matching.{IsCodeFor, bare, due_messages, due_pongs, ends_with_close, ends_with_fault}
 use Rattle.ws_suite.specs.Matching.{got_messages, is_close_ending, matches}
 
 -- ---- Fails
@@ -51,11 +52,11 @@ IsEarlyClose (Some got) (Some due) = (is_close_ending got.what ≡ true) × (got
 
 -- Fail 2 (sections 5.5.1 and 5.5.3): a message that was got stands in an earlier turn than the message due in its
 -- place; or a matched pong in an earlier turn than its ping; or a close in an earlier turn than the close or fault that
--- was sent. Nothing is asked of a message in whose place none is due.
+-- was sent, and what was sent by then wasn't doomed. Nothing is asked of a message in whose place none is due.
 abbrev pub IsEarly : Evidence → Type 0
 IsEarly x = (list_any is_before (zip (got_messages x) (due_messages x)) ≡ true)
     ⊎ ((list_any is_before_match (matches x) ≡ true)
-    ⊎ IsEarlyClose x.got.ending x.due.ending)
+    ⊎ (IsEarlyClose x.got.ending x.due.ending × (x.answers_doom ≡ false)))
 
 -- Fail 3 (sections 5.4 and 5.6): where what was sent holds a fault, the messages that were got aren't a beginning of
 -- those due; where it holds none, they aren't those due.
@@ -108,10 +109,10 @@ abbrev pub HasPongElsewhere : Evidence → Type 0
 HasPongElsewhere x = ¬ (IsWithSomeLeftOut (bare x.got.replies) (bare x.due.replies))
 
 -- Loose 3 (sections 5.5.1 and 7.4.1): a close was got, and its code, or want of one, is another than is due for the
--- close that was sent or right for the fault.
+-- close that was sent or right for the fault. Where the fault has not come no code is asked.
 abbrev pub HasOtherCode : Evidence → Type 0
 HasOtherCode x = (got : InTurn Ending) × (due : InTurn Ending) × (code : Option ℕ)
-    × (x.got.ending ≡ Some got) × (x.due.ending ≡ Some due) × (got.what ≡ Closed code) × (code ≢ code_due_for due.what)
+    × (x.got.ending ≡ Some got) × (x.due.ending ≡ Some due) × (got.what ≡ Closed code) × ¬ (IsCodeFor due.what code)
 
 -- a close was got in this turn
 abbrev pub IsCloseInTurn : Option (InTurn Ending) → ℕ → Type 0
@@ -184,8 +185,10 @@ IsVerdictOn tested x (Fail why) = IsLowestFail tested x why
 IsVerdictOn tested x (Loose why) = FailsNowhere tested x × IsLowestLoose tested x why
 IsVerdictOn tested x Pass = FailsNowhere tested x × IsNowhereLoose tested x
 
--- the verdict on the evidence of a transcript, where the tested end has this role
+-- the verdict on the evidence of a transcript, with what was doomed counted, where the tested end has this role
 pub record IsVerdictOf (tested : Role) (transcript : Transcript) (verdict : Verdict) : Type 0 where
   pub evidence : Evidence
   pub is_evidence : IsEvidenceOf tested transcript evidence
-  pub is_verdict : IsVerdictOn tested evidence verdict
+  pub counted : Evidence
+  pub is_counted : HasDoomCounted tested transcript evidence counted
+  pub is_verdict : IsVerdictOn tested counted verdict

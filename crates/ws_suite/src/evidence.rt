@@ -1,12 +1,14 @@
 //! What a transcript shows of the tested end: the events of both directions, each with its turn.
 
+ghost use Rattle.std.specs.Prelude.{◌≡◌, ◌≤◌, ◌↔◌, IsTrue};
+ghost use Rattle.ws_suite.specs.Matching.{ends_with_close, ends_with_fault, is_close_ending, is_message};
+
 mod collecting;
+mod doom;
 mod growing;
 mod keeping;
 
-ghost use Rattle.std.specs.Prelude.{◌≡◌, ◌≤◌, ◌↔◌, IsTrue};
-ghost use Rattle.ws_suite.specs.Matching.{is_message};
-
+pub(crate) use doom::with_doom;
 pub(crate) use growing::evidence_of;
 pub use growing::{GrowingEvidence, RunEvidence};
 pub use keeping::{KeepsReplies, ReplyTally};
@@ -37,6 +39,8 @@ pub enum Ending {
     Closed(Option<u16>),
     /// The bytes break a rule.
     Failed(Reason),
+    /// They end inside a frame that breaks one whatever bytes complete it.
+    Doomed,
 }
 
 /// One direction of a connection.
@@ -57,6 +61,38 @@ pub(crate) struct Evidence {
     pub got: Direction,
     pub turns: usize,
     pub ended: Ended,
+    /// The close that was got answers what was doomed when it came, before the fault itself was sent.
+    pub answers_doom: bool,
+}
+
+/// Whether the events end with a fault.
+pub(crate) fn ends_with_fault(ending: &Option<InTurn<Ending>>) -> bool
+    ensures { result ≡ ends_with_fault ending.now }
+{
+    match ending {
+        Some(ending) => !is_close_ending(&ending.what),
+        None => false,
+    }
+}
+
+/// Whether they end with a close.
+pub(crate) fn ends_with_close(ending: &Option<InTurn<Ending>>) -> bool
+    ensures { result ≡ ends_with_close ending.now }
+{
+    match ending {
+        Some(ending) => is_close_ending(&ending.what),
+        None => false,
+    }
+}
+
+/// Whether it is a close.
+pub(crate) fn is_close_ending(ending: &Ending) -> bool
+    ensures { result ≡ is_close_ending ending.now }
+{
+    match ending {
+        Ending::Closed(_) => true,
+        Ending::Failed(_) | Ending::Doomed => false,
+    }
 }
 
 /// Whether a reply is a message.

@@ -9,7 +9,7 @@ ghost use Rattle.std.specs.Prelude.{IfOk};
 ghost use Rattle.ws_wire.specs.declared.role.Role.TheVariants.{Server};
 ghost use Rattle.ws_suite.specs.Verdicts.{IsVerdictOf, IsVerdictOn};
 
-use crate::evidence::{Evidence, evidence_of};
+use crate::evidence::{Evidence, evidence_of, with_doom};
 use crate::judging::fails::first_fail;
 use crate::judging::looses::first_loose;
 use crate::judging::replies::lists_of;
@@ -34,8 +34,9 @@ pub fn judge(alloc: Global, transcript: &Transcript) -> Result<Verdict, NoMemory
 pub fn judge_end(alloc: Global, tested: Role, transcript: &Transcript) -> Result<Verdict, NoMemory>
     ensures { IfOk result (λ verdict. IsVerdictOf tested transcript.now verdict) }
 {
-    let evidence = evidence_of(alloc, tested, transcript)?;
-    let verdict = verdict_on(alloc, tested, &evidence)?;
+    let shown = evidence_of(alloc, tested, transcript)?;
+    let counted = with_doom(alloc, tested, transcript, shown)?;
+    let verdict = verdict_on(alloc, tested, &counted)?;
     Ok(verdict)
 }
 

@@ -4,6 +4,7 @@ ghost use Rattle.ws_suite.specs.InnerCollecting.{FrameLaws, EventLaws};
 ghost use Rattle.ws_suite.specs.InnerEchoReplyLaws.{EchoReplyLaws};
 
 use ws_session::laws;
+use ws_wire::laws as wire_laws;
 
 /// The laws of the layer below that serve here. Nothing runs.
 pub(crate) fn session_laws()
@@ -20,6 +21,7 @@ pub(crate) fn frame_laws()
     laws::one_list_of_events();
     laws::valid_frames_are_told();
     laws::greater_limits_pass_none();
+    wire_laws::one_split();
 }
 
 /// Those that speak of what an echo owes.

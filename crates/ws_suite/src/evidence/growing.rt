@@ -154,6 +154,7 @@ impl GrowingEvidence<AllReplies> {
             got: direction_of(got.collected),
             turns,
             ended,
+            answers_doom: false,
         }
     }
 }

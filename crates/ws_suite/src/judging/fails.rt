@@ -2,11 +2,12 @@
 
 ghost use Rattle.std.specs.Prelude.{◌≡◌, ◌↔◌, IsTrue};
 ghost use Rattle.ws_suite.specs.InnerJudging.{AreListsOf, IsFirstFail};
-ghost use Rattle.ws_suite.specs.Matching.{ends_with_close, ends_with_fault, is_close_ending};
 ghost use Rattle.ws_suite.specs.Verdicts.{HasOtherClose, HasOtherEnd, HasOtherMessages, HasOtherPongs};
 ghost use Rattle.ws_suite.specs.Verdicts.{IsEarly, IsEarlyClose, IsNotFrames};
 
-use crate::evidence::{Ending, Evidence, InTurn};
+use crate::evidence::{
+    Ending, Evidence, InTurn, ends_with_close, ends_with_fault, is_close_ending,
+};
 use crate::judging::pongs::{has_last_pong, match_pongs};
 use crate::judging::replies::{Lists, any_before, begins};
 use crate::verdict::FailWhy;
@@ -47,14 +48,15 @@ fn is_not_frames(x: &Evidence) -> bool
         || (x.got.has_rest && (ends_with_close(&x.got.ending) || x.ended != Ended::Broken))
 }
 
-/// Whether a message, a pong or the close was got before what it answers was sent.
+/// Whether a message, a pong or the close was got before what it answers was sent, and the close doesn't answer what
+/// was doomed by then.
 fn is_early(x: &Evidence, lists: &Lists<'_>) -> bool
     requires { AreListsOf x.now lists.now }
     ensures { IsTrue result ↔ IsEarly x.now }
 {
     any_before(&lists.got_messages, &lists.due_messages)
         || match_pongs(&lists.due_pongs, &lists.got_pongs).is_early
-        || is_early_close(&x.got.ending, &x.due.ending)
+        || (is_early_close(&x.got.ending, &x.due.ending) && !x.answers_doom)
 }
 
 /// Whether a close was got before the close or the fault was sent.
@@ -111,35 +113,5 @@ fn has_other_end(tested: Role, x: &Evidence) -> bool
         x.ended != Ended::Tester
     } else {
         x.ended == Ended::Tester && (tested == Role::Server || !ends_with_close(&x.got.ending))
-    }
-}
-
-/// Whether the events end with a fault.
-pub(super) fn ends_with_fault(ending: &Option<InTurn<Ending>>) -> bool
-    ensures { result ≡ ends_with_fault ending.now }
-{
-    match ending {
-        Some(ending) => !is_close_ending(&ending.what),
-        None => false,
-    }
-}
-
-/// Whether they end with a close.
-fn ends_with_close(ending: &Option<InTurn<Ending>>) -> bool
-    ensures { result ≡ ends_with_close ending.now }
-{
-    match ending {
-        Some(ending) => is_close_ending(&ending.what),
-        None => false,
-    }
-}
-
-/// Whether it is a close.
-pub(super) fn is_close_ending(ending: &Ending) -> bool
-    ensures { result ≡ is_close_ending ending.now }
-{
-    match ending {
-        Ending::Closed(_) => true,
-        Ending::Failed(_) => false,
     }
 }

@@ -2,11 +2,10 @@
 
 ghost use Rattle.std.specs.Prelude.{◌≡◌, ◌↔◌, IsTrue};
 ghost use Rattle.ws_suite.specs.InnerJudging.{AreListsOf, IsFirstLoose};
-ghost use Rattle.ws_suite.specs.Matching.{code_due_for};
+ghost use Rattle.ws_suite.specs.Matching.{IsCodeFor};
 ghost use Rattle.ws_suite.specs.Verdicts.{EchoesShort, EndsLate, HasOtherCode, IsCloseInTurn, SkipsPongs};
 
-use crate::evidence::{Ending, Evidence, InTurn};
-use crate::judging::fails::{ends_with_fault, is_close_ending};
+use crate::evidence::{Ending, Evidence, InTurn, ends_with_fault, is_close_ending};
 use crate::judging::pongs::has_last_pong;
 use crate::judging::replies::{Lists, are_left};
 use crate::verdict::LooseWhy;
@@ -54,20 +53,22 @@ fn has_other_code(x: &Evidence) -> bool
 {
     match (&x.got.ending, &x.due.ending) {
         (Some(got), Some(due)) => match got.what {
-            Ending::Closed(code) => code != code_due_for(&due.what),
-            Ending::Failed(_) => false,
+            Ending::Closed(code) => !is_code_for(&due.what, code),
+            Ending::Failed(_) | Ending::Doomed => false,
         },
         _ => false,
     }
 }
 
-/// The code of the close that is due for a close, or right for a fault.
-fn code_due_for(ending: &Ending) -> Option<u16>
-    ensures { result ≡ code_due_for ending.now }
+/// Whether a close has the code, or the want of one, that is due for a close or right for a fault. No code is asked
+/// where the fault has not come.
+fn is_code_for(ending: &Ending, code: Option<u16>) -> bool
+    ensures { IsTrue result ↔ IsCodeFor ending.now code }
 {
     match ending {
-        Ending::Closed(code) => *code,
-        Ending::Failed(reason) => Some(reason.close_code()),
+        Ending::Closed(due) => code == *due,
+        Ending::Failed(reason) => code == Some(reason.close_code()),
+        Ending::Doomed => true,
     }
 }
 
