@@ -17,7 +17,7 @@ use Rattle.ws_scripts.specs.declared.script_text.fields.FrameFields.{FrameFields
 use Rattle.ws_scripts.specs.declared.script_text.frame_line.FrameName.{FrameName}
 use Rattle.ws_scripts.specs.declared.script_text.frame_line.FrameName.TheVariants.{CloseWith, Kind}
 use Rattle.ws_scripts.specs.ScriptLines.{IsFrameLine, IsFrameName, IsFrameStepLine, IsPayloadField, frame_name_word}
-use Rattle.ws_scripts.specs.ScriptLines.{IsDataWord, IsField, frame_step, opcode_of}
+use Rattle.ws_scripts.specs.ScriptLines.{IsDataWord, IsField, frame_step, named_opcode}
 use Rattle.ws_scripts.specs.InnerScripting.{CutsFields, CutsWord, IsFrameRest, IsLaidOut, IsReserved, NoSpace}
 use Rattle.ws_scripts.proofs.ScriptData.{data_one}
 use Rattle.ws_scripts.proofs.ScriptFields.{after_frame_name, cut_of_line, fields_cut, line_of_cut, tail_is_rest}
@@ -203,7 +203,7 @@ rest_of_line words word rest step name cut named same (other, fields, payload, h
           (cut_of_line other fields payload words h);
       is_payload = subst (λ (n : FrameName). IsPayloadField n payload h.last) names h.is_payload;
       fits = h.fits;
-      is_step = e ∙ ap (λ (n : FrameName). frame_step fields (opcode_of n) payload) names;
+      is_step = e ∙ ap (λ (n : FrameName). frame_step fields (named_opcode n) payload) names;
     }
 
 pub line_of_rest : (words word rest : List ℕ) (step : Step) (name : FrameName) → words ≡ word ++ rest
@@ -224,7 +224,7 @@ rest_one a b name text h i =
     let payloads = payload_one name h.payload i.payload h.last h.is_payload
     (subst (λ (l : List ℕ). IsPayloadField name i.payload l) (sym cuts.1) i.is_payload) in
     h.is_step
-    ∙ (ap₂ (λ (fields : FrameFields) (payload : List ℕ). frame_step fields (opcode_of name) payload) cuts.0 payloads
+    ∙ (ap₂ (λ (fields : FrameFields) (payload : List ℕ). frame_step fields (named_opcode name) payload) cuts.0 payloads
     ∙ sym i.is_step)
 
 pub frame_one : (a b : Step) (words : List ℕ) → IsFrameStepLine a words → IsFrameStepLine b words → a ≡ b
@@ -287,7 +287,7 @@ frame_payload step name text fields last cut h =
     (h.payload, subst (λ (l : List ℕ). IsPayloadField name h.payload l) cuts.1 h.is_payload)
 
 pub frame_laid_out : (step : Step) (name : FrameName) (text : List ℕ) (fields : FrameFields) (last : List ℕ)
-    (opcode : ℕ) (payload : List ℕ) → opcode ≡ opcode_of name → CutsFields fields last text
+    (opcode : ℕ) (payload : List ℕ) → opcode ≡ named_opcode name → CutsFields fields last text
     → IsPayloadField name payload last → IsFrameRest name step text → IsLaidOut fields opcode payload step
 frame_laid_out step name text fields last opcode payload same cut is h =
     let cuts = fields_cut h.fields fields h.last last text h.cut cut in

@@ -16,7 +16,7 @@ use Rattle.ws_scripts.specs.declared.script_text.reading.Script.{Script}
 use Rattle.ws_scripts.specs.ScriptLines.{IsScriptLine}
 use Rattle.ws_scripts.specs.ScriptTexts.{AreScriptLines, IsBlank, IsNoChop, IsTextOfScript, steps_in}
 use Rattle.ws_scripts.specs.InnerCapturing.{Adds}
-use Rattle.ws_scripts.specs.InnerScripting.{TellScript, chop_or_whole, part_of, part_with, read_of, script_of}
+use Rattle.ws_scripts.specs.InnerScripting.{TellScript, chop_or_whole, part_of, longer_by, read_by_all, script_of}
 use Rattle.ws_scripts.proofs.ScriptSteps.{line_one, lines_one}
 
 abbrev Lines : Type 0
@@ -24,44 +24,44 @@ Lines = List ScriptLine
 
 -- ---- one line more
 
-none_read : (lines : Lines) → read_of lines None ≡ None
+none_read : (lines : Lines) → read_by_all lines None ≡ None
 none_read [] = refl
 none_read (line ∷ lines) = none_read lines
 
-none_whole : (lines : Lines) (whole : PartialScript) → read_of lines None ≡ Some whole → ⊥
+none_whole : (lines : Lines) (whole : PartialScript) → read_by_all lines None ≡ Some whole → ⊥
 none_whole lines whole e = let wrong : None ≡ Some whole = sym (none_read lines) ∙ e in absurd cc
 
 -- the lines that go on begin with this one
 first_told : (part : PartialScript) (script : Script) (line : ScriptLine) (words : List ℕ) (more : List (List ℕ))
     → IsScriptLine line words → TellScript part script (words ∷ more)
     → (lines : Lines) × AllZip IsScriptLine lines more × (whole : PartialScript)
-    × (read_of lines (part_with part line) ≡ Some whole) × (script ≡ script_of whole)
+    × (read_by_all lines (longer_by part line) ≡ Some whole) × (script ≡ script_of whole)
 first_told part script line words more is ([], zip, whole, e, f) = absurd zip
 first_told part script line words more is (x ∷ lines, zip, whole, e, f) = (
   lines,
   zip.1,
   whole,
-  subst (λ (l : ScriptLine). read_of lines (part_with part l) ≡ Some whole) (line_one x line words zip.0 is) e,
+  subst (λ (l : ScriptLine). read_by_all lines (longer_by part l) ≡ Some whole) (line_one x line words zip.0 is) e,
   f,
 )
 
 pub line_taken : (part : PartialScript) (line : ScriptLine) (words : List ℕ) (result : Result PartialScript LineFault)
-    → IsScriptLine line words → Adds (part_with part line) result → TakesLine TellScript part words result
+    → IsScriptLine line words → Adds (longer_by part line) result → TakesLine TellScript part words result
 line_taken part line words (Ok longer) is e = λ script more. (
   λ told.
       let (lines, zip, whole, f, g) = first_told part script line words more is told in
-      (script, (lines, zip, whole, ap (λ (p : Option PartialScript). read_of lines p) (sym e) ∙ f, g)),
+      (script, (lines, zip, whole, ap (λ (p : Option PartialScript). read_by_all lines p) (sym e) ∙ f, g)),
   λ told. (
     line ∷ told.0,
     (is, told.1),
     told.2,
-    ap (λ (p : Option PartialScript). read_of told.0 p) e ∙ told.3,
+    ap (λ (p : Option PartialScript). read_by_all told.0 p) e ∙ told.3,
     told.4,
   ),
 )
 line_taken part line words (Err fault) is e = λ damaged script more told.
     let (lines, zip, whole, f, g) = first_told part script line words more is told in
-    none_whole lines whole (ap (λ (p : Option PartialScript). read_of lines p) (sym (e damaged)) ∙ f)
+    none_whole lines whole (ap (λ (p : Option PartialScript). read_by_all lines p) (sym (e damaged)) ∙ f)
 
 -- words that tell no line
 pub none_taken : (part : PartialScript) (words : List ℕ) (fault : LineFault)
@@ -81,7 +81,7 @@ NoChops lines = AllByRecursion IsNoChop lines
 
 -- lines without a chop add their steps
 steps_read : (lines : Lines) (chop : Option Chop) (steps : List Step) → NoChops lines
-    → read_of lines (Some (part_of chop steps)) ≡ Some (part_of chop (steps ++ steps_in lines))
+    → read_by_all lines (Some (part_of chop steps)) ≡ Some (part_of chop (steps ++ steps_in lines))
 steps_read [] chop steps h = ap (λ (l : List Step). Some (part_of chop l)) (sym (append-nil steps))
 steps_read (Blank ∷ lines) chop steps h = steps_read lines chop steps h.1
 steps_read (Cut other ∷ lines) chop steps h = absurd h.0
@@ -91,7 +91,7 @@ steps_read (Does step ∷ lines) chop steps h =
 
 -- after a chop's line there is none
 one_chop : (lines : Lines) (chop : Chop) (steps : List Step) (whole : PartialScript)
-    → read_of lines (Some (part_of (Some chop) steps)) ≡ Some whole → NoChops lines
+    → read_by_all lines (Some (part_of (Some chop) steps)) ≡ Some whole → NoChops lines
 one_chop [] chop steps whole e = tt
 one_chop (Blank ∷ lines) chop steps whole e = (tt, one_chop lines chop steps whole e)
 one_chop (Cut other ∷ lines) chop steps whole e = absurd (none_whole lines whole e)
@@ -99,7 +99,7 @@ one_chop (Does step ∷ lines) chop steps whole e = (tt, one_chop lines chop (st
 
 -- nor after a step
 no_late_chop : (lines : Lines) (step : Step) (steps : List Step) (whole : PartialScript)
-    → read_of lines (Some (part_of None (step ∷ steps))) ≡ Some whole → NoChops lines
+    → read_by_all lines (Some (part_of None (step ∷ steps))) ≡ Some whole → NoChops lines
 no_late_chop [] step steps whole e = tt
 no_late_chop (Blank ∷ lines) step steps whole e = (tt, no_late_chop lines step steps whole e)
 no_late_chop (Cut other ∷ lines) step steps whole e = absurd (none_whole lines whole e)
@@ -121,7 +121,7 @@ blank_before chop steps lines (inl (h, e, f)) = inl ((tt, h), e, f)
 blank_before chop steps lines (inr (blank, rest, h, i, e, f)) =
     inr (Blank ∷ blank, rest, (tt, h), i, ap (λ (l : Lines). Blank ∷ l) e, f)
 
-start_lines : (lines : Lines) (whole : PartialScript) → read_of lines (Some (part_of None [])) ≡ Some whole
+start_lines : (lines : Lines) (whole : PartialScript) → read_by_all lines (Some (part_of None [])) ≡ Some whole
     → AreLinesOf whole lines
 start_lines [] whole e = are_by [] (part_of None []) whole (inl (tt, refl, refl)) e
 start_lines (Blank ∷ lines) whole e =
@@ -136,7 +136,7 @@ start_lines (Does step ∷ lines) whole e =
     (sym (steps_read lines None (step ∷ []) rest) ∙ e)
 
 blanks_read : (blank rest : Lines) (part : PartialScript) → AllByRecursion IsBlank blank
-    → read_of (blank ++ rest) (Some part) ≡ read_of rest (Some part)
+    → read_by_all (blank ++ rest) (Some part) ≡ read_by_all rest (Some part)
 blanks_read [] rest part h = refl
 blanks_read (Blank ∷ blank) rest part h = blanks_read blank rest part h.1
 blanks_read (Cut chop ∷ blank) rest part h = absurd h.0
@@ -146,7 +146,7 @@ abbrev script_with : Chop → List Step → Script
 script_with c s = record { steps = s; chop = c }
 
 lines_read : (chop : Chop) (steps : List Step) (lines : Lines) → AreScriptLines chop steps lines
-    → (whole : PartialScript) × (read_of lines (Some (part_of None [])) ≡ Some whole)
+    → (whole : PartialScript) × (read_by_all lines (Some (part_of None [])) ≡ Some whole)
     × (record { steps = steps; chop = chop } ≡ script_of whole)
 lines_read chop steps lines (inl (h, e, f)) = (
   part_of None (steps_in lines),
@@ -155,7 +155,7 @@ lines_read chop steps lines (inl (h, e, f)) = (
 )
 lines_read chop steps lines (inr (blank, rest, h, i, e, f)) = (
   part_of (Some chop) (steps_in rest),
-  ap (λ (l : Lines). read_of l (Some (part_of None []))) e
+  ap (λ (l : Lines). read_by_all l (Some (part_of None []))) e
       ∙ (blanks_read blank (Cut chop ∷ rest) (part_of None []) h ∙ steps_read rest (Some chop) [] i),
   ap (λ (s : List Step). script_with chop s) f,
 )
@@ -196,6 +196,6 @@ one_script a b text p q = of_told (is_told a text p) (is_told b text q)
         let told = lines_one lines more words zip
         (subst (λ (l : List (List ℕ)). AllZip IsScriptLine more l) (sym same) zips) in
         let wholes : Some whole ≡ Some all =
-        sym e ∙ (ap (λ (l : Lines). read_of l (Some (part_of None []))) told ∙ i) in
+        sym e ∙ (ap (λ (l : Lines). read_by_all l (Some (part_of None []))) told ∙ i) in
         let last : whole ≡ all = cc in
         f ∙ (ap (λ (p : PartialScript). script_of p) last ∙ sym j)

@@ -18,7 +18,7 @@ use Rattle.ws_scripts.specs.declared.script_text.frame_line.FrameName.TheVariant
 use Rattle.ws_scripts.specs.declared.script_text.line.ScriptLine.{ScriptLine}
 use Rattle.ws_scripts.specs.declared.script_text.line.ScriptLine.TheVariants.{Blank, Cut, Does}
 use Rattle.ws_scripts.specs.ScriptLines.{IsChopLine, IsFrameName, IsRsvField, IsScriptLine, IsStepLine}
-use Rattle.ws_scripts.specs.ScriptLines.{laid_out, opcode_of}
+use Rattle.ws_scripts.specs.ScriptLines.{laid_out, named_opcode}
 use Rattle.ws_scripts.specs.ScriptTexts.{AreScriptLines, IsScriptText, IsTextOfScript, script_in, steps_in}
 use Rattle.ws_scripts.specs.InnerScripting.{TellScript, part_of}
 use Rattle.ws_scripts.specs.declared.script_text.reading.PartialScript.{PartialScript}
@@ -30,7 +30,7 @@ small_rsv : (rsv : ℕ) (words : List ℕ) → IsRsvField rsv words → rsv < 8
 small_rsv rsv words (inl (e, f)) = omega (arith, e)
 small_rsv rsv words (inr (word, h, f)) = omega (arith, h.0)
 
-small_opcode : (name : FrameName) → IsFrameName name → opcode_of name < 16
+small_opcode : (name : FrameName) → IsFrameName name → named_opcode name < 16
 small_opcode (Kind opcode) h = h
 small_opcode (CloseWith code) h = omega arith
 
@@ -48,7 +48,7 @@ step_fits step words (inl (e, f)) = λ fin r o p g. let wrong : Wait ≡ Frame f
 step_fits step words (inr (inl (bytes, word, e, is, f))) = λ fin r o p g.
     let wrong : Raw bytes ≡ Frame fin r o p = sym e ∙ g in absurd cc
 step_fits step words (inr (inr (name, fields, payload, h, e))) =
-    laid_fits fields.layout fields.fin fields.rsv (opcode_of name) payload step (small_rsv fields.rsv h.rsv h.is_rsv)
+    laid_fits fields.layout fields.fin fields.rsv (named_opcode name) payload step (small_rsv fields.rsv h.rsv h.is_rsv)
     (small_opcode name h.named) e
 
 steps_fit : (lines : List ScriptLine) (words : List (List ℕ)) → AllZip IsScriptLine lines words

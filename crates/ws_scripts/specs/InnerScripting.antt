@@ -20,7 +20,7 @@ use Rattle.ws_scripts.specs.declared.script_text.line.ScriptLine.TheVariants.{Bl
 use Rattle.ws_scripts.specs.declared.script_text.reading.PartialScript.{PartialScript}
 use Rattle.ws_scripts.specs.declared.script_text.reading.Script.{Script}
 use Rattle.ws_scripts.specs.ScriptLines.{FormFits, IsFinWord, IsFormValue, IsKeyValue, IsPayloadField, IsRsvWord}
-use Rattle.ws_scripts.specs.ScriptLines.{IsScriptLine, frame_step, opcode_of}
+use Rattle.ws_scripts.specs.ScriptLines.{IsScriptLine, frame_step, named_opcode}
 use Rattle.std.specs.Fmt.{decimal}
 use Rattle.ws_scripts.specs.ScriptTexts.{written_step}
 
@@ -47,9 +47,9 @@ BeginsWith name text None = Lacks name text
 BeginsWith name text (Some after) = text ≡ name ++ after.now
 
 -- what stands before the last part, or the text doesn't end with it
-abbrev pub EndsWith : List ℕ → List ℕ → Option (Bor (List ℕ)) → Type 0
-EndsWith part text None = (front : List ℕ) → text ≡ front ++ part → ⊥
-EndsWith part text (Some front) = text ≡ front.now ++ part
+abbrev pub EndsIn : List ℕ → List ℕ → Option (Bor (List ℕ)) → Type 0
+EndsIn part text None = (front : List ℕ) → text ≡ front ++ part → ⊥
+EndsIn part text (Some front) = text ≡ front.now ++ part
 
 -- a value and the rest of which this holds, or there are none
 abbrev pub FindsCut : {T : Type 0} → (T → List ℕ → Type 0) → Option (T × Bor (List ℕ)) → Type 0
@@ -97,7 +97,7 @@ pub record IsFrameRest (name : FrameName) (step : Step) (text : List ℕ) : Type
   pub cut : CutsFields fields last text
   pub is_payload : IsPayloadField name payload last
   pub fits : FormFits fields.layout (length payload)
-  pub is_step : step ≡ frame_step fields (opcode_of name) payload
+  pub is_step : step ≡ frame_step fields (named_opcode name) payload
 
 -- the step of a frame with these fields, where its form holds its length
 abbrev pub IsLaidOut : FrameFields → ℕ → List ℕ → Step → Type 0
@@ -125,19 +125,19 @@ chop_with None (step ∷ steps) chop = None
 chop_with (Some other) steps chop = None
 
 -- what a line makes of what was read, where it may stand there
-abbrev pub part_with : PartialScript → ScriptLine → Option PartialScript
-part_with part Blank = Some part
-part_with part (Cut chop) = chop_with part.chop part.steps chop
-part_with part (Does step) = Some (part_of part.chop (part.steps ++ step ∷ []))
+abbrev pub longer_by : PartialScript → ScriptLine → Option PartialScript
+longer_by part Blank = Some part
+longer_by part (Cut chop) = chop_with part.chop part.steps chop
+longer_by part (Does step) = Some (part_of part.chop (part.steps ++ step ∷ []))
 
-abbrev pub maybe_with : Option PartialScript → ScriptLine → Option PartialScript
-maybe_with None line = None
-maybe_with (Some part) line = part_with part line
+abbrev pub maybe_longer : Option PartialScript → ScriptLine → Option PartialScript
+maybe_longer None line = None
+maybe_longer (Some part) line = longer_by part line
 
 -- what lines make of it
-abbrev pub read_of : List ScriptLine → Option PartialScript → Option PartialScript
-read_of [] part = part
-read_of (line ∷ lines) part = read_of lines (maybe_with part line)
+abbrev pub read_by_all : List ScriptLine → Option PartialScript → Option PartialScript
+read_by_all [] part = part
+read_by_all (line ∷ lines) part = read_by_all lines (maybe_longer part line)
 
 abbrev pub chop_or_whole : Option Chop → Chop
 chop_or_whole None = Whole
@@ -150,7 +150,7 @@ script_of part = record { steps = part.steps; chop = chop_or_whole part.chop }
 -- with lines of these words after what was read, the script is read
 abbrev pub TellScript : PartialScript → Script → List (List ℕ) → Type 0
 TellScript part script words = (lines : List ScriptLine) × AllZip IsScriptLine lines words
-    × (whole : PartialScript) × (read_of lines (Some part) ≡ Some whole) × (script ≡ script_of whole)
+    × (whole : PartialScript) × (read_by_all lines (Some part) ≡ Some whole) × (script ≡ script_of whole)
 
 -- what was read of a script begins one: it is one
 pub script_goes_on : (part : PartialScript) → CanBeTold (TellScript part)

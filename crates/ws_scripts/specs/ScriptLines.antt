@@ -97,9 +97,9 @@ abbrev pub IsFrameName : FrameName → Type 0
 IsFrameName (Kind opcode) = opcode < 16
 IsFrameName (CloseWith code) = code ≤ 65535
 
-abbrev pub opcode_of : FrameName → ℕ
-opcode_of (Kind opcode) = opcode
-opcode_of (CloseWith code) = 8
+abbrev pub named_opcode : FrameName → ℕ
+named_opcode (Kind opcode) = opcode
+named_opcode (CloseWith code) = 8
 
 -- the payload: data; after a code, the two bytes of the code and then data, which may be left out for none
 abbrev pub IsPayloadField : FrameName → List ℕ → List ℕ → Type 0
@@ -154,7 +154,7 @@ pub record IsFrameLine (name : FrameName) (fields : FrameFields) (payload words 
 -- a frame's line tells the step
 abbrev pub IsFrameStepLine : Step → List ℕ → Type 0
 IsFrameStepLine step words = (name : FrameName) × (fields : FrameFields) × (payload : List ℕ)
-    × IsFrameLine name fields payload words × (step ≡ frame_step fields (opcode_of name) payload)
+    × IsFrameLine name fields payload words × (step ≡ frame_step fields (named_opcode name) payload)
 
 -- the bytes of this line go as they are
 abbrev pub IsRawLine : Step → List ℕ → Type 0

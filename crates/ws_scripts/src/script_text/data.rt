@@ -5,7 +5,7 @@ ghost use Rattle.std.specs.List.{list_all};
 ghost use Rattle.ws_base.specs.Finding.{Finds};
 ghost use Rattle.ws_formats.specs.Reading.{Reads};
 ghost use Rattle.ws_scripts.specs.ScriptLines.{IsDataWord, IsPlain, IsQuoted, IsRepeated};
-ghost use Rattle.ws_scripts.specs.InnerScripting.{EndsWith};
+ghost use Rattle.ws_scripts.specs.InnerScripting.{EndsIn};
 ghost use Rattle.ws_scripts.specs.ScriptTexts.{is_counted, written_data};
 
 use crate::script_text::numbers::read_number;
@@ -75,7 +75,7 @@ fn read_quoted(alloc: Global, word: &[u8]) -> Result<Payload, LineFault>
 
 /// What stands before a quote that stands last.
 fn before_quote(text: &[u8]) -> Option<&[u8]>
-    ensures { EndsWith (34 ∷ []) text.now result }
+    ensures { EndsIn (34 ∷ []) text.now result }
 {
     match text {
         [front @ .., b'"'] => Some(front),

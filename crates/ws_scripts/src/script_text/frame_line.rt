@@ -8,7 +8,7 @@ ghost use Rattle.std.specs.Fmt.{decimal};
 ghost use Rattle.ws_base.specs.declared.text_fault.LineFault.TheVariants.{NoMemory};
 ghost use Rattle.ws_wire.specs.Header.{CanHold, IsMaskingKey, header_bytes};
 ghost use Rattle.ws_wire.specs.Masking.{masked_payload};
-ghost use Rattle.ws_scripts.specs.ScriptLines.{IsFrameName, IsPayloadField, form_for, frame_name_word, opcode_of};
+ghost use Rattle.ws_scripts.specs.ScriptLines.{IsFrameName, IsPayloadField, form_for, frame_name_word, named_opcode};
 ghost use Rattle.ws_scripts.specs.ScriptLines.{own_header};
 ghost use Rattle.ws_scripts.specs.InnerScripting.{HasMaskingKey, IsFrameRest, IsLaidOut, IsReserved};
 ghost use Rattle.ws_scripts.specs.declared.script_text.frame_line.FrameName.TheVariants.{CloseWith};
@@ -41,7 +41,7 @@ pub(crate) enum FrameName {
 impl FrameName {
     /// The opcode of the frame.
     fn opcode(self) -> u8
-        ensures { result ≡ opcode_of self }
+        ensures { result ≡ named_opcode self }
     {
         match self {
             FrameName::Kind(opcode) => opcode,

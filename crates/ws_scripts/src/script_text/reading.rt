@@ -7,7 +7,7 @@ ghost use Rattle.ws_formats.specs.Lines.{Damages};
 ghost use Rattle.ws_scripts.specs.Scripts.{CanBeRun};
 ghost use Rattle.ws_scripts.specs.ScriptTexts.{IsScriptText, IsTextOfScript, script_in};
 ghost use Rattle.ws_scripts.specs.InnerCapturing.{Adds};
-ghost use Rattle.ws_scripts.specs.InnerScripting.{TellScript, chop_or_whole, chop_with, part_of, part_with};
+ghost use Rattle.ws_scripts.specs.InnerScripting.{TellScript, chop_or_whole, chop_with, part_of, longer_by};
 ghost use Rattle.ws_scripts.specs.InnerScripting.{script_goes_on};
 
 use crate::script::{Case, Chop, Step};
@@ -105,7 +105,7 @@ impl PartialScript {
 
     /// What is read with one more line, where it may stand there.
     fn with(self, line: ScriptLine) -> Result<PartialScript, LineFault>
-        ensures { Adds (part_with self line) result }
+        ensures { Adds (longer_by self line) result }
     {
         match line {
             ScriptLine::Blank => Ok(self),
