@@ -4,13 +4,14 @@ from runner.commands import Run
 
 BESIDE = (".out", ".args", ".faults", ".status")
 
-# The folder of the example of two commands, which `rows/loopback/run` runs.
-LOOPBACK = "loopback"
+# Folders that no command is run on: the example of two commands, which `rows/loopback/run` runs, and the scripts, which
+# `rows/cases/scripts.rows` reads.
+OTHERS = ("loopback", "scripts")
 
 
 def examples_below(folder):
     """A run for each example."""
-    files = [file for file in sorted(folder.glob("*/*")) if file.parent.name != LOOPBACK]
+    files = [file for file in sorted(folder.glob("*/*")) if file.parent.name not in OTHERS]
     inputs = [file for file in files if file.suffix not in BESIDE]
     return [example_of(file) for file in inputs]
 

@@ -12,7 +12,7 @@ use Rattle.ws_frame.specs.declared.showing.StreamEnd.{StreamEnd}
 use Rattle.ws_frame.specs.declared.showing.StreamEnd.TheVariants.{Whole, CutAt, BadLengthAt}
 use Rattle.ws_frame.specs.declared.showing.ShowEnd.{ShowEnd}
 use Rattle.ws_frame.specs.declared.showing.ShowEnd.TheVariants as show_end
-use Rattle.ws_wire.specs.Header.{HeaderFields, form_word, is_longer_than_needed}
+use Rattle.ws_wire.specs.Header.{HeaderFields, bit_word, form_word, is_longer_than_needed, opcode_word}
 use Rattle.ws_wire.specs.Frame.{WireFrame, wire_bytes}
 use Rattle.ws_wire.specs.Stream.{SplitsIntoAnyForm}
 use Rattle.ws_wire.specs.Reading.{BeginsBadLength}
@@ -20,21 +20,6 @@ use Rattle.ws_frame.specs.Devices.{Device, HasRead, HasWritten}
 pub use Rattle.ws_formats.specs.Words.{hex}
 
 -- ---- the words of a line
-
--- the name of an opcode (section 5.2); a reserved one is `op` and its number
-abbrev pub opcode_word : ℕ → List ℕ
-opcode_word opcode =
-    if opcode == 0 then codes "cont"
-    else (if opcode == 1 then codes "text"
-    else (if opcode == 2 then codes "binary"
-    else (if opcode == 8 then codes "close"
-    else (if opcode == 9 then codes "ping"
-    else (if opcode == 10 then codes "pong"
-    else codes "op" ++ decimal opcode)))))
-
-abbrev pub bit_word : Bool → List ℕ
-bit_word true = codes "1"
-bit_word false = codes "0"
 
 -- the masking key as eight digits, or a dash
 abbrev pub key_word : Option (List ℕ) → List ℕ

@@ -1,6 +1,6 @@
 -- Worked examples of scripts and captures, each a theorem.
-use Rattle.std.specs.Prelude.{◌≡◌, ⊤, ℕ, true, List, [], ◌∷◌, Some, None, codes, refl}
-use Rattle.std.proofs.Common.{lit≤}
+use Rattle.std.specs.Prelude.{◌≡◌, ⊤, ℕ, true, false, List, [], ◌∷◌, Some, None, codes, refl, replicate}
+use Rattle.std.proofs.Common.{inl, inr, lit≤}
 use Rattle.std.specs.Fmt.{digits}
 use Rattle.ws_scripts.specs.declared.script.Step.{Step}
 use Rattle.ws_scripts.specs.declared.script.Step.TheVariants.{Frame, Raw, Wait}
@@ -9,6 +9,12 @@ use Rattle.ws_scripts.specs.declared.transcript.Turn.{Turn}
 use Rattle.ws_scripts.specs.declared.transcript.Ended.TheVariants.{Broken, Tester}
 use Rattle.ws_scripts.specs.declared.capture.line.Line.TheVariants.{Sent, Got}
 use Rattle.ws_scripts.specs.Scripts.{ArePieces, turn_bytes, turns_of}
+use Rattle.ws_wire.specs.declared.header.Form.TheVariants.{Two}
+use Rattle.ws_scripts.specs.declared.script_text.fields.Layout.TheVariants.{Own}
+use Rattle.ws_scripts.specs.declared.script_text.frame_line.FrameName.TheVariants.{CloseWith}
+use Rattle.ws_scripts.specs.declared.script_text.line.ScriptLine.TheVariants.{Blank, Cut, Does}
+use Rattle.ws_scripts.specs.ScriptLines.{IsDataWord, IsPayloadField, frame_step}
+use Rattle.ws_scripts.specs.ScriptTexts.{AreScriptLines, steps_in, written_chop, written_step}
 use Rattle.ws_scripts.specs.Captures.{run_together, turns_in, written_capture}
 use Rattle.ws_scripts.specs.Captures2.{written_capture2}
 
@@ -52,6 +58,61 @@ by_step = record { joined = refl; none_empty = (lit≤ tt, (lit≤ tt, tt)); cut
 -- nor does a turn without bytes
 pub no_piece : ArePieces Whole key [] []
 no_piece = record { joined = refl; none_empty = tt; cut = lit≤ tt }
+
+-- ---- scripts as text
+
+pub written_frame : written_step (Frame false 4 1 (97 ∷ [])) ≡ codes "text fin=0 rsv=4 61"
+unfolding on_numbers
+written_frame = refl
+
+pub written_ping : written_step ping ≡ codes "ping -"
+written_ping = refl
+
+-- seventeen bytes that are the same are told by their number, and sixteen aren't
+pub written_seventeen : written_step (Raw (replicate 17 42)) ≡ codes "raw 2a*17"
+unfolding on_numbers
+written_seventeen = refl
+
+pub written_sixteen : written_step (Raw (replicate 16 42)) ≡ codes "raw 2a2a2a2a2a2a2a2a2a2a2a2a2a2a2a2a"
+unfolding on_numbers
+written_sixteen = refl
+
+pub written_cut : written_chop (Octets 997) ≡ codes "chop octets 997" ∷ []
+unfolding on_numbers
+written_cut = refl
+
+pub steps_of_lines : steps_in (Blank ∷ Cut PerFrame ∷ Does ping ∷ Blank ∷ Does Wait ∷ []) ≡ ping ∷ Wait ∷ []
+steps_of_lines = refl
+
+-- only comments and empty lines stand before the chop's line
+pub chop_before_steps : AreScriptLines PerFrame (ping ∷ []) (Blank ∷ Cut PerFrame ∷ Does ping ∷ [])
+chop_before_steps = inr (Blank ∷ [], Does ping ∷ [], (tt, tt), (tt, tt), refl, refl)
+
+-- a frame without a key whose length stands in two bytes
+pub unmasked_in_two : frame_step (record { fin = true; rsv = 0; layout = Own None (Some Two) }) 1 (97 ∷ [])
+    ≡ Raw (0x81 ∷ 0x7e ∷ 0x00 ∷ 0x01 ∷ 97 ∷ [])
+unmasked_in_two = refl
+
+-- one under a key of its own, in the shortest form
+pub masked_by_its_key : frame_step (record { fin = true; rsv = 0; layout = Own (Some key) None }) 1 (97 ∷ [])
+    ≡ Raw (0x81 ∷ 0x81 ∷ 0x37 ∷ 0xfa ∷ 0x21 ∷ 0x3d ∷ 0x56 ∷ [])
+masked_by_its_key = refl
+
+-- the higher byte of a code stands first, and data may be left out after it
+pub code_alone : IsPayloadField (CloseWith 1000) (0x03 ∷ 0xe8 ∷ []) []
+code_alone = ([], inl (refl, refl), refl)
+
+pub two_of_a_byte : IsDataWord (42 ∷ 42 ∷ []) (codes "2a*2")
+unfolding on_numbers
+two_of_a_byte = inr (inl (record {
+  byte = 42;
+  times = 2;
+  is_byte = lit≤ tt;
+  some = lit≤ tt;
+  most = lit≤ tt;
+  are = refl;
+  spelled = refl;
+}))
 
 -- ---- captures
 

@@ -2,6 +2,9 @@ pub mod Scripts
 pub mod CaptureLines
 pub mod Captures
 pub mod Captures2
+pub mod ScriptLines
+pub mod ScriptTexts
 pub mod InnerCapturing
+pub mod InnerScripting
 pub mod InnerCases
 pub mod Examples

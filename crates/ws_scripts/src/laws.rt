@@ -1,7 +1,9 @@
-//! Laws over the definitions of captures, each the contract of a function that does nothing.
+//! Laws over the definitions of captures and of scripts as text, each the contract of a function that does nothing.
 
 ghost use Rattle.std.specs.Prelude.{◌≡◌, ◌≢◌, ℕ, List};
 ghost use Rattle.std.specs.List.{AllByRecursion};
+ghost use Rattle.ws_scripts.specs.ScriptTexts.{CanBeWritten, IsScriptText, written_script};
+ghost use Rattle.ws_scripts.specs.declared.script.Case.{Case};
 ghost use Rattle.ws_scripts.specs.declared.capture.Capture.{Capture};
 ghost use Rattle.ws_scripts.specs.declared.transcript.Ended.TheVariants.{Broken};
 ghost use Rattle.ws_scripts.specs.declared.transcript.Transcript.{Transcript};
@@ -50,4 +52,15 @@ pub fn format_1_gives_back()
     ensures alone { (transcript other : Transcript) → AllByRecursion AreOfBytes transcript.turns →
         AreAnsweredTurns transcript.turns → transcript.ended ≢ Broken →
         IsCaptureOf other (written_capture transcript) → other ≡ transcript }
+{}
+
+/// What is written of a case is a text of it.
+pub fn written_scripts_are_texts()
+    ensures { (case : Case) → CanBeWritten case → IsScriptText case (written_script case) }
+{}
+
+/// Two cases with one text have the same steps, cut in the same way.
+pub fn one_script_of_a_text()
+    ensures { (text : List ℕ) (one other : Case) → IsScriptText one text → IsScriptText other text →
+        (one.steps ≡ other.steps) × (one.chop ≡ other.chop) }
 {}

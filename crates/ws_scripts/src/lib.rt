@@ -1,8 +1,9 @@
 //! Scripts that test a peer (RFC 6455 sections 5 to 8): what to send, in which turns and pieces; the transcript of what
-//! was sent and got; and a capture of a transcript as text.
+//! was sent and got; and scripts, and captures of transcripts, as text.
 //!
-//! The layers above use four contracts: a script of `case` can be run, `turns` cuts it as its definition says,
-//! `read_capture2` gives the one capture that a text is, and `write_capture2` its lines.
+//! The layers above use six contracts: a script of `case` can be run, `turns` cuts it as its definition says,
+//! `read_script` gives the script that a text is, `write_script` a text of it, `read_capture2` the one capture that a
+//! text is, and `write_capture2` its lines.
 #![tactic(auto)]
 
 mod capture;
@@ -10,6 +11,7 @@ mod cases;
 mod cutting;
 pub mod laws;
 mod script;
+mod script_text;
 mod transcript;
 
 pub use capture::{
@@ -18,4 +20,5 @@ pub use capture::{
 pub use cases::{case, ids};
 pub use cutting::turns;
 pub use script::{Case, Chop, Step};
+pub use script_text::{read_script, write_script};
 pub use transcript::{Ended, Transcript, Turn};
