@@ -1,6 +1,6 @@
 -- The words of our text formats: bytes and masking keys in hexadecimal, numbers in decimal.
 use Rattle.std.specs.Prelude.{◌≡◌, ℕ, ◌/◌, ◌%◌, ◌≤◌, ◌⊎◌, ◌==◌, Bool, true, false, List, [], ◌∷◌, ◌++◌, length}
-use Rattle.std.specs.Prelude.{Option, Some, None, codes, String, string_bytes}
+use Rattle.std.specs.Prelude.{if◌then◌else◌, Option, Some, None, codes, String, string_bytes}
 use Rattle.std.specs.List.{flat_map, slice_split}
 use Rattle.std.specs.Fmt.{decimal, digits}
 use Rattle.std.specs.declared.alloc.Global.{Global}
@@ -33,6 +33,22 @@ IsKeyOrDash key word = AreFourBytes key × ((word ≡ hex key) ⊎ ((word ≡ co
 -- the word is the number in decimal digits without leading zeros, and it is no larger than the most
 abbrev pub IsNumberWord : ℕ → ℕ → List ℕ → Type 0
 IsNumberWord most number word = (number ≤ most) × (word ≡ decimal number)
+
+-- the name of an opcode (RFC 6455 section 5.2); a reserved one is `op` and its number
+abbrev pub opcode_word : ℕ → List ℕ
+opcode_word opcode =
+    if opcode == 0 then codes "cont"
+    else (if opcode == 1 then codes "text"
+    else (if opcode == 2 then codes "binary"
+    else (if opcode == 8 then codes "close"
+    else (if opcode == 9 then codes "ping"
+    else (if opcode == 10 then codes "pong"
+    else codes "op" ++ decimal opcode)))))
+
+-- one bit
+abbrev pub bit_word : Bool → List ℕ
+bit_word true = codes "1"
+bit_word false = codes "0"
 
 -- the last frame of a message, or one that others follow
 abbrev pub fin_word : Bool → List ℕ

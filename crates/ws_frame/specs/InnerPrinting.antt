@@ -3,7 +3,7 @@ use Rattle.std.specs.Prelude.{ℕ, List, [], ◌∷◌, codes}
 use Rattle.std.specs.List.{concat}
 use Rattle.std.specs.Fmt.{decimal}
 use Rattle.ws_wire.specs.Header.{HeaderFields, form_word}
-use Rattle.ws_wire.specs.Header.{opcode_word, bit_word}
+use Rattle.ws_formats.specs.Words.{opcode_word, bit_word}
 use Rattle.ws_frame.specs.Lines.{key_word}
 
 -- where a frame begins, and what its first byte says

@@ -12,11 +12,12 @@ use Rattle.ws_frame.specs.declared.showing.StreamEnd.{StreamEnd}
 use Rattle.ws_frame.specs.declared.showing.StreamEnd.TheVariants.{Whole, CutAt, BadLengthAt}
 use Rattle.ws_frame.specs.declared.showing.ShowEnd.{ShowEnd}
 use Rattle.ws_frame.specs.declared.showing.ShowEnd.TheVariants as show_end
-use Rattle.ws_wire.specs.Header.{HeaderFields, bit_word, form_word, is_longer_than_needed, opcode_word}
+use Rattle.ws_wire.specs.Header.{HeaderFields, form_word, is_longer_than_needed}
 use Rattle.ws_wire.specs.Frame.{WireFrame, wire_bytes}
 use Rattle.ws_wire.specs.Stream.{SplitsIntoAnyForm}
 use Rattle.ws_wire.specs.Reading.{BeginsBadLength}
 use Rattle.ws_frame.specs.Devices.{Device, HasRead, HasWritten}
+use Rattle.ws_formats.specs.Words.{bit_word, opcode_word}
 pub use Rattle.ws_formats.specs.Words.{hex}
 
 -- ---- the words of a line

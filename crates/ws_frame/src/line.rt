@@ -1,7 +1,7 @@
 //! The line that tells of one frame (RFC 6455 section 5.2).
 
 ghost use Rattle.std.specs.Prelude.{◌≡◌, ◌≤◌, ◌+◌, ◌++◌, length};
-ghost use Rattle.ws_wire.specs.Header.{opcode_word, bit_word};
+ghost use Rattle.ws_formats.specs.Words.{opcode_word, bit_word};
 ghost use Rattle.ws_frame.specs.Lines.{key_word, data_word, mask_mark, form_mark};
 ghost use Rattle.ws_frame.specs.Lines.{line_with};
 ghost use Rattle.ws_frame.specs.InnerPrinting.{bits_words, layout_words};

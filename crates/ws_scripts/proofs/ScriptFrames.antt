@@ -11,7 +11,7 @@ use Rattle.std.specs.Int.{w16, to_be_bytes}
 use Rattle.std.specs.Str.Parse.{digits_value}
 use Rattle.ws_formats.specs.Words.{IsNumberWord}
 use Rattle.ws_formats.proofs.NumberWords.{number_one}
-use Rattle.ws_frame.specs.Lines.{opcode_word}
+use Rattle.ws_formats.specs.Words.{opcode_word}
 use Rattle.ws_scripts.specs.declared.script.Step.{Step}
 use Rattle.ws_scripts.specs.declared.script_text.fields.FrameFields.{FrameFields}
 use Rattle.ws_scripts.specs.declared.script_text.frame_line.FrameName.{FrameName}

@@ -12,7 +12,7 @@ use Rattle.ws_base.specs.Bytes.{AreBytes}
 use Rattle.ws_formats.specs.Lines.{IsLine, ended}
 use Rattle.ws_formats.specs.Words.{hex}
 use Rattle.ws_formats.proofs.PartialTexts.{ended_joined}
-use Rattle.ws_frame.specs.Lines.{bit_word, opcode_word}
+use Rattle.ws_formats.specs.Words.{bit_word, opcode_word}
 use Rattle.ws_scripts.specs.declared.script.Step.{Step}
 use Rattle.ws_scripts.specs.declared.script.Step.TheVariants.{Frame, Raw, Wait}
 use Rattle.ws_scripts.specs.declared.script.Chop.{Chop}

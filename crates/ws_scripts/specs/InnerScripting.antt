@@ -42,9 +42,9 @@ abbrev pub Lacks : List ℕ → List ℕ → Type 0
 Lacks name text = (more : List ℕ) → text ≡ name ++ more → ⊥
 
 -- what stands after the name, or the text doesn't begin with it
-abbrev pub BeginsWith : List ℕ → List ℕ → Option (Bor (List ℕ)) → Type 0
-BeginsWith name text None = Lacks name text
-BeginsWith name text (Some after) = text ≡ name ++ after.now
+abbrev pub CutsFront : List ℕ → List ℕ → Option (Bor (List ℕ)) → Type 0
+CutsFront name text None = Lacks name text
+CutsFront name text (Some after) = text ≡ name ++ after.now
 
 -- what stands before the last part, or the text doesn't end with it
 abbrev pub EndsIn : List ℕ → List ℕ → Option (Bor (List ℕ)) → Type 0

@@ -7,7 +7,7 @@ use Rattle.ws_formats.specs.Words.{IsHexWord, IsKeyWord, IsNumberWord, hex}
 use Rattle.ws_wire.specs.declared.header.Form.{Form}
 use Rattle.ws_wire.specs.Header.{CanHold, HeaderFields, form_word, shortest_form}
 use Rattle.ws_wire.specs.Frame.{wire_bytes}
-use Rattle.ws_wire.specs.Header.{bit_word, opcode_word}
+use Rattle.ws_formats.specs.Words.{bit_word, opcode_word}
 use Rattle.ws_scripts.specs.declared.script.Step.{Step}
 use Rattle.ws_scripts.specs.declared.script.Step.TheVariants.{Frame, Raw, Wait}
 use Rattle.ws_scripts.specs.declared.script.Chop.{Chop}

@@ -6,7 +6,7 @@ use Rattle.std.specs.Fmt.{decimal}
 use Rattle.ws_base.specs.Bytes.{AreBytes}
 use Rattle.ws_formats.specs.Lines.{IsTextOfLines, ended}
 use Rattle.ws_formats.specs.Words.{hex}
-use Rattle.ws_wire.specs.Header.{bit_word, opcode_word}
+use Rattle.ws_formats.specs.Words.{bit_word, opcode_word}
 use Rattle.ws_scripts.specs.declared.script.Step.{Step}
 use Rattle.ws_scripts.specs.declared.script.Step.TheVariants.{Frame, Raw, Wait}
 use Rattle.ws_scripts.specs.declared.script.Chop.{Chop}

@@ -1,7 +1,6 @@
 -- A frame's header on the wire, from its fields to its bytes: RFC 6455 section 5.2.
 use Rattle.std.specs.Prelude.{◌≡◌, ℕ, ◌+◌, ◌*◌, ◌^◌, ◌<◌, ◌≤◌, Bool, true, false, cond, List, [], ◌∷◌, ◌++◌, length}
-use Rattle.std.specs.Prelude.{nat_lt, ◌==◌, if◌then◌else◌, Option, Some, None, codes}
-use Rattle.std.specs.Fmt.{decimal}
+use Rattle.std.specs.Prelude.{nat_lt, if◌then◌else◌, Option, Some, None, codes}
 use Rattle.std.specs.Int.{w16, w64, to_be_bytes}
 use Rattle.ws_wire.specs.declared.header.Form.{Form}
 use Rattle.ws_wire.specs.declared.header.Form.TheVariants.{Short, Two, Eight}
@@ -95,25 +94,8 @@ shortest_form len = if nat_lt len 126 then Short else (if nat_lt len 65536 then 
 abbrev pub is_longer_than_needed : Form → ℕ → Bool
 is_longer_than_needed form len = nat_lt (extra_bytes (shortest_form len)) (extra_bytes form)
 
--- ---- words for the parts of a header
+-- ---- the word for a form
 
--- the name of an opcode; a reserved one is `op` and its number
-abbrev pub opcode_word : ℕ → List ℕ
-opcode_word opcode =
-    if opcode == 0 then codes "cont"
-    else (if opcode == 1 then codes "text"
-    else (if opcode == 2 then codes "binary"
-    else (if opcode == 8 then codes "close"
-    else (if opcode == 9 then codes "ping"
-    else (if opcode == 10 then codes "pong"
-    else codes "op" ++ decimal opcode)))))
-
--- one bit
-abbrev pub bit_word : Bool → List ℕ
-bit_word true = codes "1"
-bit_word false = codes "0"
-
--- the form of the length
 abbrev pub form_word : Form → List ℕ
 form_word Short = codes "short"
 form_word Two = codes "two"

@@ -2,7 +2,7 @@
 
 ghost use Rattle.std.specs.Prelude.{◌≡◌};
 ghost use Rattle.ws_base.specs.Finding.{Finds};
-ghost use Rattle.ws_frame.specs.Lines.{bit_word};
+ghost use Rattle.ws_formats.specs.Words.{bit_word};
 ghost use Rattle.ws_wire.specs.Header.{form_word};
 ghost use Rattle.ws_scripts.specs.ScriptLines.{IsKeyValue};
 ghost use Rattle.ws_scripts.specs.InnerScripting.{CutsFields, CutsFin, CutsForm, CutsLayout, CutsRsv, FindsCut};

@@ -3,7 +3,7 @@
 ghost use Rattle.std.specs.Prelude.{◌≡◌, ◌++◌, ◌<◌, IfErr, IfOk, MatchOption, codes, length};
 ghost use Rattle.ws_base.specs.Finding.{Finds};
 ghost use Rattle.ws_formats.specs.Reading.{Reads};
-ghost use Rattle.ws_frame.specs.Lines.{opcode_word};
+ghost use Rattle.ws_formats.specs.Words.{opcode_word};
 ghost use Rattle.std.specs.Fmt.{decimal};
 ghost use Rattle.ws_base.specs.declared.text_fault.LineFault.TheVariants.{NoMemory};
 ghost use Rattle.ws_wire.specs.Header.{CanHold, IsMaskingKey, header_bytes};

@@ -1,11 +1,11 @@
 //! The words of a script's line, cut from its front. They are parted by one space, but a text between quotes has spaces
 //! of its own.
 
-ghost use Rattle.ws_scripts.specs.InnerScripting.{BeginsWith, CutsWord, TakesField};
+ghost use Rattle.ws_scripts.specs.InnerScripting.{CutsFront, CutsWord, TakesField};
 
 /// What stands after the name, where the text begins with it.
 pub(crate) fn after_name<'a>(name: &[u8], text: &'a [u8]) -> Option<&'a [u8]>
-    ensures { BeginsWith name.now text.now result }
+    ensures { CutsFront name.now text.now result }
 {
     if text.len() < name.len() {
         return None;

@@ -1,7 +1,7 @@
 //! Writing a script.
 
 ghost use Rattle.std.specs.Prelude.{◌≡◌, IfOk, Some};
-ghost use Rattle.ws_frame.specs.Lines.{opcode_word};
+ghost use Rattle.ws_formats.specs.Words.{opcode_word};
 ghost use Rattle.ws_scripts.specs.Scripts.{CanBeRun};
 ghost use Rattle.ws_scripts.specs.ScriptTexts.{written_fin, written_rsv, written_script, written_step};
 ghost use Rattle.ws_scripts.specs.InnerScripting.{chop_text, script_text};
