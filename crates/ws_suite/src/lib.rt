@@ -17,5 +17,5 @@ pub use judging::{judge, judge_end};
 pub use verdict::{FailWhy, LooseWhy, Verdict};
 pub use ws_scripts::{
     Capture, CaptureFault, Case, Chop, Ended, Step, Transcript, Turn, case, ids, read_capture,
-    read_capture2, turns, write_capture, write_capture2,
+    read_capture2, read_script, turns, write_capture, write_capture2, write_script,
 };
