@@ -4,7 +4,8 @@ from runner.commands import Run
 
 BESIDE = (".out", ".args", ".faults", ".status")
 
-# Folders that no command is run on: the example of two commands, which `rows/loopback/run` runs, and the scripts.
+# Folders that no command is run on: the example of two commands, which `rows/loopback/run` runs, and the scripts, which
+# `rows/cases/scripts.rows` reads.
 OTHERS = ("loopback", "scripts")
 
 

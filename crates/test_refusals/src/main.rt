@@ -11,6 +11,7 @@ mod feeding;
 mod pairs;
 mod parts;
 mod peers;
+mod script_texts;
 mod scripts;
 mod sending;
 mod spent;

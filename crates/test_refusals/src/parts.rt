@@ -4,7 +4,7 @@ use crate::captures::{self, Capture};
 use crate::pairs::{self, Script};
 use crate::streams::{self, Stream};
 use crate::tally::Tally;
-use crate::{feeding, peers, scripts, sending, spent, taking};
+use crate::{feeding, peers, script_texts, scripts, sending, spent, taking};
 use std::alloc::Global;
 use ws_base::NoMemory;
 
@@ -25,6 +25,8 @@ pub enum Part {
     Capture(&'static Capture),
     /// `ids`, `case` and `turns`.
     Scripts,
+    /// `read_script` and `write_script`.
+    ScriptText,
     /// `run_case` over an echo.
     EchoRun,
     /// `run_case` over `tungstenite`.
@@ -35,7 +37,7 @@ pub enum Part {
     TungFeed,
 }
 
-pub const PARTS: [Part; 28] = [
+pub const PARTS: [Part; 29] = [
     Part::Take(&streams::HELLO),
     Part::Take(&streams::CUT_TEXT),
     Part::Take(&streams::OVERSIZED),
@@ -60,6 +62,7 @@ pub const PARTS: [Part; 28] = [
     Part::Capture(&captures::EARLY),
     Part::Capture(&captures::FRAGMENTS),
     Part::Scripts,
+    Part::ScriptText,
     Part::EchoRun,
     Part::TungRun,
     Part::EchoFeed,
@@ -77,6 +80,7 @@ impl Part {
             Part::Pair(_) => "run_pair",
             Part::Capture(_) => "read_capture, judge, write_capture",
             Part::Scripts => "ids, case, turns",
+            Part::ScriptText => "read_script, write_script",
             Part::EchoRun => "run_case over an echo",
             Part::TungRun => "run_case over tungstenite",
             Part::EchoFeed => "feed and finish of an echo",
@@ -108,6 +112,7 @@ impl Part {
             Part::Pair(script) => pairs::play(alloc, script, tally),
             Part::Capture(capture) => captures::play(alloc, capture, tally),
             Part::Scripts => scripts::make(alloc, tally),
+            Part::ScriptText => script_texts::play(alloc, tally),
             Part::EchoRun => peers::run_over_echo(alloc, tally),
             Part::TungRun => peers::run_over_tungstenite(alloc, tally),
             Part::EchoFeed => spent::feed_echo(alloc, tally),

@@ -89,7 +89,8 @@ fn put_fault(alloc: Global, case: &Case, out: &mut String) -> Result<(), RowFaul
     Ok(())
 }
 
-fn put_step(step: &Step, out: &mut String) -> Result<(), RowFault> {
+/// A step as the table of cases has it.
+pub(crate) fn put_step(step: &Step, out: &mut String) -> Result<(), RowFault> {
     match step {
         Step::Frame {
             fin,
@@ -123,7 +124,7 @@ struct Equal {
 }
 
 /// Bytes in pairs of digits, long runs of equal bytes by their number, and `+` beside those; `-` where there are none.
-fn put_data(bytes: &[u8], out: &mut String) -> Result<(), RowFault> {
+pub(crate) fn put_data(bytes: &[u8], out: &mut String) -> Result<(), RowFault> {
     let Some(first) = bytes.first() else {
         out.push_str("-")?;
         return Ok(());

@@ -12,6 +12,7 @@ mod peers;
 mod printing;
 mod protocols;
 mod row_fault;
+mod scripts;
 mod sessions;
 mod streams;
 mod takes;
@@ -41,31 +42,74 @@ fn main(rt: HostRuntime) -> io::Result<ExitCode> {
 /// The answer to a row.
 fn answer_to(alloc: Global, row: &str) -> Result<String, RowFault> {
     let words: Vec<&str> = row.split(' ').collect(alloc)?;
-    let [call, words @ ..] = words.as_slice() else {
+    let mut out = String::new(alloc);
+    answer_words(alloc, words.as_slice(), &mut out)?;
+    Ok(out)
+}
+
+/// Puts the answer to a row of these words.
+fn answer_words(alloc: Global, words: &[&str], out: &mut String) -> Result<(), RowFault> {
+    let [call, words @ ..] = words else {
         return Err(RowFault::NotARow);
     };
-    let mut out = String::new(alloc);
-    match *call {
-        "limits" => streams::make_limits(words, &mut out)?,
-        "feed_all" => streams::feed(alloc, words, &mut out)?,
-        "take_all" => streams::take_pieces(alloc, words, &mut out)?,
-        "take" => takes::take_frames(alloc, words, &mut out)?,
-        "echo" => echoes::take_frames(alloc, words, &mut out)?,
-        "echo_all" => echoes::take_pieces(alloc, words, &mut out)?,
-        "session" => sessions::play(alloc, words, &mut out)?,
-        "doomed" => dooms::mark_lengths(alloc, words, &mut out)?,
-        "cases" => cases::count_group(alloc, words, &mut out)?,
-        "case" => cases::tell_case(alloc, words, &mut out)?,
-        "capture" => captures::write_again(alloc, words, &mut out)?,
-        "capture_fault" => captures::tell_no_memory(words, &mut out)?,
-        "judge" => captures::judge_turns(alloc, words, &mut out)?,
-        "judge_client" => captures::judge_client_turns(alloc, words, &mut out)?,
-        "written" => captures::write_turns(alloc, words, &mut out)?,
-        "verdict" => peers::tell_verdict(alloc, words, &mut out)?,
-        "verdicts" => peers::count_passes(alloc, words, &mut out)?,
-        _ => answer_below_sessions(alloc, call, words, &mut out)?,
+    answer_of_sessions(alloc, call, words, out)
+}
+
+/// Puts the answer of a call at a session or an echo, or of another call.
+fn answer_of_sessions(
+    alloc: Global,
+    call: &str,
+    words: &[&str],
+    out: &mut String,
+) -> Result<(), RowFault> {
+    match call {
+        "limits" => streams::make_limits(words, out),
+        "feed_all" => streams::feed(alloc, words, out),
+        "take_all" => streams::take_pieces(alloc, words, out),
+        "take" => takes::take_frames(alloc, words, out),
+        "echo" => echoes::take_frames(alloc, words, out),
+        "echo_all" => echoes::take_pieces(alloc, words, out),
+        "session" => sessions::play(alloc, words, out),
+        "doomed" => dooms::mark_lengths(alloc, words, out),
+        _ => answer_of_scripts(alloc, call, words, out),
     }
-    Ok(out)
+}
+
+/// Puts the answer of a call of cases and scripts, or of another that is made at no session.
+fn answer_of_scripts(
+    alloc: Global,
+    call: &str,
+    words: &[&str],
+    out: &mut String,
+) -> Result<(), RowFault> {
+    match call {
+        "cases" => cases::count_group(alloc, words, out),
+        "case" => cases::tell_case(alloc, words, out),
+        "script" => scripts::tell_script(alloc, words, out),
+        "script_back" => scripts::write_again(alloc, words, out),
+        "script_of" => scripts::write_case(alloc, words, out),
+        "scripts_kept" => scripts::count_kept(alloc, words, out),
+        _ => answer_of_verdicts(alloc, call, words, out),
+    }
+}
+
+/// Puts the answer of a call of captures and verdicts, or of another below them.
+fn answer_of_verdicts(
+    alloc: Global,
+    call: &str,
+    words: &[&str],
+    out: &mut String,
+) -> Result<(), RowFault> {
+    match call {
+        "capture" => captures::write_again(alloc, words, out),
+        "capture_fault" => captures::tell_no_memory(words, out),
+        "judge" => captures::judge_turns(alloc, words, out),
+        "judge_client" => captures::judge_client_turns(alloc, words, out),
+        "written" => captures::write_turns(alloc, words, out),
+        "verdict" => peers::tell_verdict(alloc, words, out),
+        "verdicts" => peers::count_passes(alloc, words, out),
+        _ => answer_below_sessions(alloc, call, words, out),
+    }
 }
 
 /// Puts the answer of a call that no session makes: of frames, texts or the opening handshake.

@@ -278,7 +278,13 @@ fn waits_for_what_is_due(rt: HostRuntime) -> Result<(), Fail> {
     check(&rt, alloc, 0, &run_of(&reads, BUDGET), &left)?;
     left.calls = b"wrwrwrz";
     left.got = 16;
-    check(&rt, alloc, 1, &run_of(&[HEAD, PONG, NEXT_PONG], BUDGET), &left)?;
+    check(
+        &rt,
+        alloc,
+        1,
+        &run_of(&[HEAD, PONG, NEXT_PONG], BUDGET),
+        &left,
+    )?;
     let reads = [HEAD, PONG, MESSAGE, PONG, NEXT_PONG, CLOSE];
     left.calls = b"wrwrwrrrwrez";
     left.turns = 3;
