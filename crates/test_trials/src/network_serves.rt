@@ -134,6 +134,22 @@ fn silent_clients(rt: HostRuntime) -> Result<(), Fail> {
     Ok(())
 }
 
+/// Serves two clients that send these bytes, each of which is read so often, where a read waits in vain so.
+fn check_sent_on(
+    rt: &impl Abort,
+    alloc: Global,
+    sent: &[u8],
+    waits: Failing,
+    reads: u64,
+) -> Result<(), Fail> {
+    let mut book = Book::new(alloc, sent);
+    book.waits = waits;
+    check(rt, alloc, 0, &book, 0, LINES)?;
+    same_number(rt, 1, book.ended.get(), 2);
+    same_number(rt, 2, book.read.get(), reads.saturating_mul(2));
+    Ok(())
+}
+
 /// A client that has ended its session and sends on is read to its end, also where a read has waited in vain.
 #[test]
 fn clients_that_send_on(rt: HostRuntime) -> Result<(), Fail> {
@@ -141,14 +157,8 @@ fn clients_that_send_on(rt: HostRuntime) -> Result<(), Fail> {
     sent.extend_from_slice(&[0; 20_000])?;
     let reads = sent.len() as u64 + 1;
     let in_vain = Failing::Once(REQUEST.len() as u64 + 2);
-    for (waits, reads) in [(Failing::Never, reads), (in_vain, reads + 1)] {
-        let mut book = Book::new(rt.alloc(), sent.as_slice());
-        book.waits = waits;
-        check(&rt, rt.alloc(), 0, &book, 0, LINES)?;
-        same_number(&rt, 1, book.ended.get(), 2);
-        same_number(&rt, 2, book.read.get(), 2 * reads);
-    }
-    Ok(())
+    check_sent_on(&rt, rt.alloc(), sent.as_slice(), Failing::Never, reads)?;
+    check_sent_on(&rt, rt.alloc(), sent.as_slice(), in_vain, reads + 1)
 }
 
 /// An accept that fails for good ends the run.
