@@ -5,3 +5,4 @@ pub mod LineLemmas
 pub mod Partials
 pub mod Runs
 pub mod RunEnds
+pub mod Streams

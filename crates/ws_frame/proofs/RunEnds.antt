@@ -3,7 +3,7 @@ use Rattle.std.proofs.Common.{◌≡◌, ℕ, ◌+◌, ◌-◌, ◌<◌, ◌≤�
 use Rattle.std.proofs.lemmas.List.{length-append, length-take-le}
 use Rattle.std.specs.Io.KnownBytes.{IsAtEnd, Consumes}
 use Rattle.std.proofs.KnownBytes.{Consumes-trans}
-use Rattle.ws_wire.specs.declared.role.Role.{Role}
+use Rattle.ws_frame.specs.declared.source.Source.{Source}
 use Rattle.ws_frame.specs.declared.showing.StreamEnd.{StreamEnd}
 use Rattle.ws_frame.specs.declared.showing.StreamEnd.TheVariants.{Whole, CutAt, BadLengthAt}
 use Rattle.ws_frame.specs.declared.showing.ShowEnd.{ShowEnd}
@@ -28,12 +28,12 @@ piece_within taken budget count want read buf e le size least below =
 
 -- ---- how a run ends
 
-abbrev pub run_of : Role → ℕ → List ℕ → Option (List ℕ) → List ℕ → ShowRun
-run_of from budget read unread written = record { from = from; budget = budget; read = read; unread = unread; written = written }
+abbrev pub run_of : Source → ℕ → List ℕ → Option (List ℕ) → List ℕ → ShowRun
+run_of source budget read unread written = record { source = source; budget = budget; read = read; unread = unread; written = written }
 
 -- what begins the lines of a stream that may go on begins what is due
-pub due_on : (from : Role) (budget : ℕ) (unread : Option (List ℕ)) (read front : List ℕ) → BeginsLines from read front → BeginsDueLines (run_of from budget read unread front)
-due_on from budget unread read front b = record {
+pub due_on : (source : Source) (budget : ℕ) (unread : Option (List ℕ)) (read front : List ℕ) → BeginsLines source read front → BeginsDueLines (run_of source budget read unread front)
+due_on source budget unread read front b = record {
   lines = b.lines;
   more = b.more;
   due = elim b.are [ inl frames ↦ inl frames | inr bad ↦ inr (inl bad) ];
@@ -41,16 +41,16 @@ due_on from budget unread read front b = record {
 }
 
 -- of a read, the lines of all before it were written
-pub earlier_lines : (from : Role) (budget : ℕ) (unread : Option (List ℕ)) (before last lines more : List ℕ) → length last ≤ 65536 → AreFrameLinesOf from before lines → HasEarlierLines (run_of from budget (before ++ last) unread (lines ++ more))
-earlier_lines from budget unread before last lines more few are =
+pub earlier_lines : (source : Source) (budget : ℕ) (unread : Option (List ℕ)) (before last lines more : List ℕ) → length last ≤ 65536 → AreFrameLinesOf source before lines → HasEarlierLines (run_of source budget (before ++ last) unread (lines ++ more))
+earlier_lines source budget unread before last lines more few are =
     record { before = before; last = last; parts = refl; one_read = few; lines = lines; are = are; more = more; begins = refl }
 
-earlier_more : (from : Role) (budget : ℕ) (unread : Option (List ℕ)) (read written more : List ℕ) → HasEarlierLines (run_of from budget read unread written) → HasEarlierLines (run_of from budget read unread (written ++ more))
-earlier_more from budget unread read written more h =
+earlier_more : (source : Source) (budget : ℕ) (unread : Option (List ℕ)) (read written more : List ℕ) → HasEarlierLines (run_of source budget read unread written) → HasEarlierLines (run_of source budget read unread (written ++ more))
+earlier_more source budget unread read written more h =
     record { before = h.before; last = h.last; parts = h.parts; one_read = h.one_read; lines = h.lines; are = h.are; more = h.more ++ more; begins = ap (λ (t : List ℕ). t ++ more) h.begins ∙ append_assoc h.lines h.more more }
 
-pub earlier_all : (from : Role) (budget : ℕ) (unread : Option (List ℕ)) (read lines : List ℕ) → AreFrameLinesOf from read lines → HasEarlierLines (run_of from budget read unread lines)
-earlier_all from budget unread read lines are =
+pub earlier_all : (source : Source) (budget : ℕ) (unread : Option (List ℕ)) (read lines : List ℕ) → AreFrameLinesOf source read lines → HasEarlierLines (run_of source budget read unread lines)
+earlier_all source budget unread read lines are =
     record { before = read; last = []; parts = sym (append-nil read); one_read = omega arith; lines = lines; are = are; more = []; begins = sym (append-nil lines) }
 
 -- what has to hold where a run ends so
@@ -65,53 +65,53 @@ may_end (CutAt place) budget read input below works end = (below, works, end)
 may_end (BadLengthAt place) budget read input below works end = tt
 
 -- a beginning of the last line was written
-begun : (from : Role) (budget : ℕ) (left : StreamEnd) (read written front more : List ℕ) (input : Device) → MayEnd left budget read input → IsLeft from read left written → last_line left ≡ front ++ more
-    → BeginsDueLines (run_of from budget read input.new (written ++ front))
-begun from budget Whole read written front more input (below, f, end) is part = record {
-  lines = written ++ last_line Whole;
+begun : (source : Source) (budget : ℕ) (left : StreamEnd) (read written front more : List ℕ) (input : Device) → MayEnd left budget read input → IsLeft source read left written → last_line source left ≡ front ++ more
+    → BeginsDueLines (run_of source budget read input.new (written ++ front))
+begun source budget Whole read written front more input (below, f, end) is part = record {
+  lines = written ++ last_line source Whole;
   more = more;
-  due = inr (inr (below, end, (Whole, all_lines from read Whole written is)));
+  due = inr (inr (below, end, (Whole, all_lines source read Whole written is)));
   begins = ap (λ (t : List ℕ). written ++ t) part ∙ sym (append_assoc written front more);
 }
-begun from budget (CutAt at) read written front more input (below, f, end) is part = record {
-  lines = written ++ last_line (CutAt at);
+begun source budget (CutAt at) read written front more input (below, f, end) is part = record {
+  lines = written ++ last_line source (CutAt at);
   more = more;
-  due = inr (inr (below, end, (CutAt at, all_lines from read (CutAt at) written is)));
+  due = inr (inr (below, end, (CutAt at, all_lines source read (CutAt at) written is)));
   begins = ap (λ (t : List ℕ). written ++ t) part ∙ sym (append_assoc written front more);
 }
-begun from budget (BadLengthAt at) read written front more input may is part = record {
-  lines = written ++ last_line (BadLengthAt at);
+begun source budget (BadLengthAt at) read written front more input may is part = record {
+  lines = written ++ last_line source (BadLengthAt at);
   more = more;
-  due = inr (inl (at, all_lines from read (BadLengthAt at) written is));
+  due = inr (inl (at, all_lines source read (BadLengthAt at) written is));
   begins = ap (λ (t : List ℕ). written ++ t) part ∙ sym (append_assoc written front more);
 }
 
 -- the last line was written
-pub record Ended (from : Role) (budget : ℕ) (result : ShowEnd) (read written : List ℕ) (input output : Device) : Type 0 where
+pub record Ended (source : Source) (budget : ℕ) (result : ShowEnd) (read written : List ℕ) (input output : Device) : Type 0 where
   pub last : List ℕ
   pub was_written : HasWritten last output
-  pub shown : IsShownAt result (run_of from budget read input.new (written ++ last))
+  pub shown : IsShownAt result (run_of source budget read input.new (written ++ last))
   pub fair : IsFairEnd result input output
   pub memory : result ≡ show_end.NoMemory → ⊥
 
-ended_so : (from : Role) (budget : ℕ) (left : StreamEnd) (read written : List ℕ) (input output : Device) → MayEnd left budget read input → IsLeft from read left written → HasWritten (last_line left) output
-    → output.failed ≡ false → Ended from budget (run_end left) read written input output
-ended_so from budget Whole read written input output (below, f, end) is wrote works =
-    record { last = last_line Whole; was_written = wrote; shown = (all_lines from read Whole written is, below); fair = (f, works, end); memory = λ e. absurd cc }
-ended_so from budget (CutAt at) read written input output (below, f, end) is wrote works =
-    record { last = last_line (CutAt at); was_written = wrote; shown = (all_lines from read (CutAt at) written is, below); fair = (f, works, end); memory = λ e. absurd cc }
-ended_so from budget (BadLengthAt at) read written input output may is wrote works =
-    record { last = last_line (BadLengthAt at); was_written = wrote; shown = all_lines from read (BadLengthAt at) written is; fair = works; memory = λ e. absurd cc }
+ended_so : (source : Source) (budget : ℕ) (left : StreamEnd) (read written : List ℕ) (input output : Device) → MayEnd left budget read input → IsLeft source read left written → HasWritten (last_line source left) output
+    → output.failed ≡ false → Ended source budget (run_end left) read written input output
+ended_so source budget Whole read written input output (below, f, end) is wrote works =
+    record { last = last_line source Whole; was_written = wrote; shown = (all_lines source read Whole written is, below); fair = (f, works, end); memory = λ e. absurd cc }
+ended_so source budget (CutAt at) read written input output (below, f, end) is wrote works =
+    record { last = last_line source (CutAt at); was_written = wrote; shown = (all_lines source read (CutAt at) written is, below); fair = (f, works, end); memory = λ e. absurd cc }
+ended_so source budget (BadLengthAt at) read written input output may is wrote works =
+    record { last = last_line source (BadLengthAt at); was_written = wrote; shown = all_lines source read (BadLengthAt at) written is; fair = works; memory = λ e. absurd cc }
 
-pub ended : (from : Role) (budget : ℕ) (left : StreamEnd) (result : ShowEnd) (read written : List ℕ) (input output : Device) → MayEnd left budget read input → IsLeft from read left written
-    → HasEarlierLines (run_of from budget read input.new written) → EndsWith left output result → Ended from budget result read written input output
-ended from budget left result read written input output may is earlier (inl (same, wrote, works)) =
-    subst (λ (x : ShowEnd). Ended from budget x read written input output) (sym same) (ended_so from budget left read written input output may is wrote works)
-ended from budget left result read written input output may is earlier (inr (same, failed, (front, more, wrote, part))) =
-    subst (λ (x : ShowEnd). Ended from budget x read written input output) (sym same) (record {
+pub ended : (source : Source) (budget : ℕ) (left : StreamEnd) (result : ShowEnd) (read written : List ℕ) (input output : Device) → MayEnd left budget read input → IsLeft source read left written
+    → HasEarlierLines (run_of source budget read input.new written) → EndsWith source left output result → Ended source budget result read written input output
+ended source budget left result read written input output may is earlier (inl (same, wrote, works)) =
+    subst (λ (x : ShowEnd). Ended source budget x read written input output) (sym same) (ended_so source budget left read written input output may is wrote works)
+ended source budget left result read written input output may is earlier (inr (same, failed, (front, more, wrote, part))) =
+    subst (λ (x : ShowEnd). Ended source budget x read written input output) (sym same) (record {
       last = front;
       was_written = wrote;
-      shown = (begun from budget left read written front more input may is part, earlier_more from budget input.new read written front earlier);
+      shown = (begun source budget left read written front more input may is part, earlier_more source budget input.new read written front earlier);
       fair = failed;
       memory = λ e. absurd cc;
     })

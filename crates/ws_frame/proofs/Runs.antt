@@ -4,7 +4,7 @@ use Rattle.std.specs.List.{flat_map}
 use Rattle.std.specs.Prelude.{IsTrue, ◌↔◌}
 use Rattle.std.proofs.lemmas.List.{length-append, length-take-le, take-append-drop, take_rest, take_all}
 use Rattle.std.proofs.lemmas.Grind.{flat_map-append}
-use Rattle.ws_wire.specs.declared.role.Role.{Role}
+use Rattle.ws_frame.specs.declared.source.Source.{Source}
 use Rattle.ws_frame.specs.declared.showing.StreamEnd.{StreamEnd}
 use Rattle.ws_frame.specs.declared.showing.StreamEnd.TheVariants.{BadLengthAt}
 use Rattle.ws_frame.specs.declared.partial.Partial.{Partial}
@@ -27,16 +27,16 @@ use Rattle.ws_frame.proofs.Partials.{AreBytes-append, kept_is_no_frame, kept_is_
 
 -- ---- where a run stands
 
-pub nothing_taken : (from : Role) (partial : Partial) → IsPartialFrame [] partial → AreLinesSoFar from [] 0 partial []
-nothing_taken from partial k = record { are_bytes = λ i. omega arith; frames = []; rest = []; each = tt; parts = refl; place = refl; are_lines = refl; is_kept = k }
+pub nothing_taken : (source : Source) (partial : Partial) → IsPartialFrame [] partial → AreLinesSoFar source [] 0 partial []
+nothing_taken source partial k = record { are_bytes = λ i. omega arith; frames = []; rest = []; each = tt; parts = refl; place = refl; are_lines = refl; is_kept = k }
 
-pub rest_are_bytes : (from : Role) (taken : List ℕ) (offset : ℕ) (partial : Partial) (lines : List ℕ) → (s : AreLinesSoFar from taken offset partial lines) → AreBytes s.rest
-rest_are_bytes from taken offset partial lines s = rest_bytes taken (flat_map wire_bytes s.frames) s.rest s.parts s.are_bytes
+pub rest_are_bytes : (source : Source) (taken : List ℕ) (offset : ℕ) (partial : Partial) (lines : List ℕ) → (s : AreLinesSoFar source taken offset partial lines) → AreBytes s.rest
+rest_are_bytes source taken offset partial lines s = rest_bytes taken (flat_map wire_bytes s.frames) s.rest s.parts s.are_bytes
 
 -- more of the frame under way
-pub part_taken : (from : Role) (taken : List ℕ) (offset : ℕ) (partial new : Partial) (lines more : List ℕ) → (s : AreLinesSoFar from taken offset partial lines) → AreBytes more → IsPartialFrame (s.rest ++ more) new
-    → AreLinesSoFar from (taken ++ more) offset new lines
-part_taken from taken offset partial new lines more s are k = record {
+pub part_taken : (source : Source) (taken : List ℕ) (offset : ℕ) (partial new : Partial) (lines more : List ℕ) → (s : AreLinesSoFar source taken offset partial lines) → AreBytes more → IsPartialFrame (s.rest ++ more) new
+    → AreLinesSoFar source (taken ++ more) offset new lines
+part_taken source taken offset partial new lines more s are k = record {
   are_bytes = AreBytes-append taken more s.are_bytes are;
   frames = s.frames;
   rest = s.rest ++ more;
@@ -48,17 +48,17 @@ part_taken from taken offset partial new lines more s are k = record {
 }
 
 -- the frame under way is whole
-pub frame_taken : (from : Role) (taken : List ℕ) (offset place : ℕ) (partial new : Partial) (lines more : List ℕ) (header : HeaderFields) (first : List ℕ) → (s : AreLinesSoFar from taken offset partial lines)
+pub frame_taken : (source : Source) (taken : List ℕ) (offset place : ℕ) (partial new : Partial) (lines more : List ℕ) (header : HeaderFields) (first : List ℕ) → (s : AreLinesSoFar source taken offset partial lines)
     → AreBytes more → IsWhole (s.rest ++ more) header first → IsPartialFrame [] new → place ≡ length (taken ++ more)
-    → AreLinesSoFar from (taken ++ more) place new (lines ++ line_with from offset header (masked_payload header.key first))
-frame_taken from taken offset place partial new lines more header first s are w k e =
+    → AreLinesSoFar source (taken ++ more) place new (lines ++ line_with source offset header (masked_payload header.key first))
+frame_taken source taken offset place partial new lines more header first s are w k e =
     let x = w.frame in
     let frames = s.frames ++ x ∷ [] in
     let joined : flat_map wire_bytes frames ≡ flat_map wire_bytes s.frames ++ wire_bytes x = flat_map-append wire_bytes s.frames (x ∷ []) ∙ ap (λ (t : List ℕ). flat_map wire_bytes s.frames ++ t) (append-nil (wire_bytes x)) in
     let whole : taken ++ more ≡ flat_map wire_bytes frames =
     ap (λ (t : List ℕ). t ++ more) s.parts ∙ append_assoc (flat_map wire_bytes s.frames) s.rest more ∙ ap (λ (t : List ℕ). flat_map wire_bytes s.frames ++ t) w.bytes_are ∙ sym joined in
     let unmasked : masked_payload header.key first ≡ masked_payload header.key (take 16 (masked_payload header.key x.payload)) = ap (λ (t : List ℕ). masked_payload header.key t) w.first_are in
-    let line : line_with from offset header (masked_payload header.key first) ≡ line_of from offset x = line_shown from offset x header (masked_payload header.key x.payload) (masked_payload header.key first) w.header_is refl unmasked in
+    let line : line_with source offset header (masked_payload header.key first) ≡ line_of source offset x = line_shown source offset x header (masked_payload header.key x.payload) (masked_payload header.key first) w.header_is refl unmasked in
     let at : offset ≡ 0 + length (flat_map wire_bytes s.frames) = s.place ∙ sym (zero-add (length (flat_map wire_bytes s.frames))) in
     record {
       are_bytes = AreBytes-append taken more s.are_bytes are;
@@ -67,33 +67,33 @@ frame_taken from taken offset place partial new lines more header first s are w 
       each = all-append IsWireFrame s.frames (x ∷ []) s.each (w.is_wire, tt);
       parts = whole ∙ sym (append-nil (flat_map wire_bytes frames));
       place = e ∙ ap (λ (t : List ℕ). length t) whole;
-      are_lines = ap (λ (t : List ℕ). lines ++ t) line ∙ ap (λ (t : List ℕ). t ++ line_of from offset x) s.are_lines
-          ∙ ap (λ (t : List ℕ). frame_lines from 0 s.frames ++ t) (sym (append-nil (line_of from offset x)) ∙ ap (λ n. line_of from n x ++ []) at)
-          ∙ sym (frame_lines-append from 0 s.frames (x ∷ []));
+      are_lines = ap (λ (t : List ℕ). lines ++ t) line ∙ ap (λ (t : List ℕ). t ++ line_of source offset x) s.are_lines
+          ∙ ap (λ (t : List ℕ). frame_lines source 0 s.frames ++ t) (sym (append-nil (line_of source offset x)) ∙ ap (λ n. line_of source n x ++ []) at)
+          ∙ sym (frame_lines-append source 0 s.frames (x ∷ []));
       is_kept = k;
     }
 
 -- ---- what its lines are
 
-split_of : (from : Role) (taken : List ℕ) (offset : ℕ) (partial : Partial) (lines : List ℕ) → (s : AreLinesSoFar from taken offset partial lines) → SplitsIntoAnyForm taken s.frames s.rest
-split_of from taken offset partial lines s = record { each = s.each; whole = s.parts; left = kept_is_no_frame s.rest partial.header partial.first partial.to_come s.is_kept }
+split_of : (source : Source) (taken : List ℕ) (offset : ℕ) (partial : Partial) (lines : List ℕ) → (s : AreLinesSoFar source taken offset partial lines) → SplitsIntoAnyForm taken s.frames s.rest
+split_of source taken offset partial lines s = record { each = s.each; whole = s.parts; left = kept_is_no_frame s.rest partial.header partial.first partial.to_come s.is_kept }
 
-pub left_at_end : (from : Role) (taken : List ℕ) (offset : ℕ) (partial : Partial) (lines : List ℕ) (left : StreamEnd) → (s : AreLinesSoFar from taken offset partial lines) → Leaves left offset s.rest → IsLeft from taken left lines
-left_at_end from taken offset partial lines left s leaves =
-    record { frames = s.frames; rest = s.rest; split = split_of from taken offset partial lines s; leaves = subst (λ n. Leaves left n s.rest) s.place leaves; all = s.are_lines }
+pub left_at_end : (source : Source) (taken : List ℕ) (offset : ℕ) (partial : Partial) (lines : List ℕ) (left : StreamEnd) → (s : AreLinesSoFar source taken offset partial lines) → Leaves left offset s.rest → IsLeft source taken left lines
+left_at_end source taken offset partial lines left s leaves =
+    record { frames = s.frames; rest = s.rest; split = split_of source taken offset partial lines s; leaves = subst (λ n. Leaves left n s.rest) s.place leaves; all = s.are_lines }
 
-pub lines_of_frames : (from : Role) (taken : List ℕ) (offset : ℕ) (partial : Partial) (lines : List ℕ) → AreLinesSoFar from taken offset partial lines → AreFrameLinesOf from taken lines
-lines_of_frames from taken offset partial lines s = record {
+pub lines_of_frames : (source : Source) (taken : List ℕ) (offset : ℕ) (partial : Partial) (lines : List ℕ) → AreLinesSoFar source taken offset partial lines → AreFrameLinesOf source taken lines
+lines_of_frames source taken offset partial lines s = record {
   frames = s.frames;
   rest = s.rest;
-  split = split_of from taken offset partial lines s;
+  split = split_of source taken offset partial lines s;
   goes_on = kept_is_no_bad_length s.rest partial.header partial.first partial.to_come s.is_kept;
   all = s.are_lines;
 }
 
-pub left_at_bad_length : (from : Role) (taken : List ℕ) (offset : ℕ) (partial : Partial) (lines more : List ℕ) → (s : AreLinesSoFar from taken offset partial lines) → BeginsBadLength (s.rest ++ more)
-    → IsLeft from (taken ++ more) (BadLengthAt offset) lines
-left_at_bad_length from taken offset partial lines more s (h, used, b, big) = record {
+pub left_at_bad_length : (source : Source) (taken : List ℕ) (offset : ℕ) (partial : Partial) (lines more : List ℕ) → (s : AreLinesSoFar source taken offset partial lines) → BeginsBadLength (s.rest ++ more)
+    → IsLeft source (taken ++ more) (BadLengthAt offset) lines
+left_at_bad_length source taken offset partial lines more s (h, used, b, big) = record {
   frames = s.frames;
   rest = s.rest ++ more;
   split = record {
@@ -106,19 +106,19 @@ left_at_bad_length from taken offset partial lines more s (h, used, b, big) = re
 }
 
 -- what begins the lines so far begins those of more bytes
-pub begins_more : (from : Role) (taken : List ℕ) (offset : ℕ) (partial : Partial) (lines more front behind : List ℕ) → AreLinesSoFar from taken offset partial lines → AreBytes more → lines ≡ front ++ behind
-    → BeginsLines from (taken ++ more) front
-begins_more from taken offset partial lines more front behind s are e =
-    begins_so_far from (taken ++ more) (s.rest ++ more) s.frames front behind (AreBytes-append s.rest more (rest_are_bytes from taken offset partial lines s) are) s.each
+pub begins_more : (source : Source) (taken : List ℕ) (offset : ℕ) (partial : Partial) (lines more front behind : List ℕ) → AreLinesSoFar source taken offset partial lines → AreBytes more → lines ≡ front ++ behind
+    → BeginsLines source (taken ++ more) front
+begins_more source taken offset partial lines more front behind s are e =
+    begins_so_far source (taken ++ more) (s.rest ++ more) s.frames front behind (AreBytes-append s.rest more (rest_are_bytes source taken offset partial lines s) are) s.each
     (ap (λ (t : List ℕ). t ++ more) s.parts ∙ append_assoc (flat_map wire_bytes s.frames) s.rest more) (sym s.are_lines ∙ e)
 
 -- what is left at a bad length begins the lines
-pub begins_left : (from : Role) (bytes written front behind : List ℕ) (place : ℕ) → IsLeft from bytes (BadLengthAt place) written → written ≡ front ++ behind → BeginsLines from bytes front
-begins_left from bytes written front behind place is e = record {
-  lines = written ++ last_line (BadLengthAt place);
-  more = behind ++ last_line (BadLengthAt place);
-  are = inr (place, all_lines from bytes (BadLengthAt place) written is);
-  begins = ap (λ (t : List ℕ). t ++ last_line (BadLengthAt place)) e ∙ append_assoc front behind (last_line (BadLengthAt place));
+pub begins_left : (source : Source) (bytes written front behind : List ℕ) (place : ℕ) → IsLeft source bytes (BadLengthAt place) written → written ≡ front ++ behind → BeginsLines source bytes front
+begins_left source bytes written front behind place is e = record {
+  lines = written ++ last_line source (BadLengthAt place);
+  more = behind ++ last_line source (BadLengthAt place);
+  are = inr (place, all_lines source bytes (BadLengthAt place) written is);
+  begins = ap (λ (t : List ℕ). t ++ last_line source (BadLengthAt place)) e ∙ append_assoc front behind (last_line source (BadLengthAt place));
 }
 
 not_true : (b : Bool) → b ≡ false → IsTrue b → ⊥
@@ -137,52 +137,52 @@ front_and_rest taken piece used = append_assoc taken (take used piece) (drop use
 counted : (count used : ℕ) (taken piece : List ℕ) → count ≡ length taken → used ≤ length piece → count + used ≡ length (taken ++ take used piece)
 counted count used taken piece e le = omega (arith, e, length-append taken (take used piece), length-take-le used piece le)
 
-pub part_told : (from : Role) (taken written piece lines : List ℕ) (count offset used : ℕ) (partial new : Partial) → count ≡ length taken → (s : AreLinesSoFar from taken offset partial (written ++ lines)) → AreBytes piece → used ≤ length piece
-    → IsPartialFrame (s.rest ++ take used piece) new → (count + used ≡ length (taken ++ take used piece)) × AreLinesSoFar from (taken ++ take used piece) offset new ((written ++ []) ++ lines)
-part_told from taken written piece lines count offset used partial new e s are le k = (
+pub part_told : (source : Source) (taken written piece lines : List ℕ) (count offset used : ℕ) (partial new : Partial) → count ≡ length taken → (s : AreLinesSoFar source taken offset partial (written ++ lines)) → AreBytes piece → used ≤ length piece
+    → IsPartialFrame (s.rest ++ take used piece) new → (count + used ≡ length (taken ++ take used piece)) × AreLinesSoFar source (taken ++ take used piece) offset new ((written ++ []) ++ lines)
+part_told source taken written piece lines count offset used partial new e s are le k = (
   counted count used taken piece e le,
-  subst (λ (t : List ℕ). AreLinesSoFar from (taken ++ take used piece) offset new (t ++ lines)) (sym (append-nil written))
-      (part_taken from taken offset partial new (written ++ lines) (take used piece) s (front_bytes used piece are) k),
+  subst (λ (t : List ℕ). AreLinesSoFar source (taken ++ take used piece) offset new (t ++ lines)) (sym (append-nil written))
+      (part_taken source taken offset partial new (written ++ lines) (take used piece) s (front_bytes used piece are) k),
 )
 
 -- a frame is whole, and its line put behind those that wait, of which some may be written
 due_again : (written lines line w waiting : List ℕ) → lines ++ line ≡ w ++ waiting → (written ++ lines) ++ line ≡ (written ++ w) ++ waiting
 due_again written lines line w waiting due = append_assoc written lines line ∙ ap (λ (t : List ℕ). written ++ t) due ∙ sym (append_assoc written w waiting)
 
-pub frame_told : (from : Role) (taken written piece lines w waiting : List ℕ) (count offset used : ℕ) (partial new : Partial) (header : HeaderFields) (first : List ℕ) → count ≡ length taken
-    → (s : AreLinesSoFar from taken offset partial (written ++ lines)) → AreBytes piece → used ≤ length piece → IsWhole (s.rest ++ take used piece) header first → IsPartialFrame [] new
-    → lines ++ line_with from offset header (masked_payload header.key first) ≡ w ++ waiting
-    → (count + used ≡ length (taken ++ take used piece)) × AreLinesSoFar from (taken ++ take used piece) (count + used) new ((written ++ w) ++ waiting)
-frame_told from taken written piece lines w waiting count offset used partial new header first e s are le whole k due =
+pub frame_told : (source : Source) (taken written piece lines w waiting : List ℕ) (count offset used : ℕ) (partial new : Partial) (header : HeaderFields) (first : List ℕ) → count ≡ length taken
+    → (s : AreLinesSoFar source taken offset partial (written ++ lines)) → AreBytes piece → used ≤ length piece → IsWhole (s.rest ++ take used piece) header first → IsPartialFrame [] new
+    → lines ++ line_with source offset header (masked_payload header.key first) ≡ w ++ waiting
+    → (count + used ≡ length (taken ++ take used piece)) × AreLinesSoFar source (taken ++ take used piece) (count + used) new ((written ++ w) ++ waiting)
+frame_told source taken written piece lines w waiting count offset used partial new header first e s are le whole k due =
     let place = counted count used taken piece e le in (
       place,
-      subst (λ (t : List ℕ). AreLinesSoFar from (taken ++ take used piece) (count + used) new t) (due_again written lines (line_with from offset header (masked_payload header.key first)) w waiting due)
-          (frame_taken from taken offset (count + used) partial new (written ++ lines) (take used piece) header first s (front_bytes used piece are) whole k place),
+      subst (λ (t : List ℕ). AreLinesSoFar source (taken ++ take used piece) (count + used) new t) (due_again written lines (line_with source offset header (masked_payload header.key first)) w waiting due)
+          (frame_taken source taken offset (count + used) partial new (written ++ lines) (take used piece) header first s (front_bytes used piece are) whole k place),
     )
 
-pub frame_begun : (from : Role) (taken written piece lines front behind : List ℕ) (count offset used : ℕ) (partial new : Partial) (header : HeaderFields) (first : List ℕ) → count ≡ length taken
-    → (s : AreLinesSoFar from taken offset partial (written ++ lines)) → AreBytes piece → used ≤ length piece → IsWhole (s.rest ++ take used piece) header first → IsPartialFrame [] new
-    → lines ++ line_with from offset header (masked_payload header.key first) ≡ front ++ behind → BeginsLines from (taken ++ piece) (written ++ front)
-frame_begun from taken written piece lines front behind count offset used partial new header first e s are le whole k due =
-    let next = frame_told from taken written piece lines front behind count offset used partial new header first e s are le whole k due in
-    subst (λ (t : List ℕ). BeginsLines from t (written ++ front)) (front_and_rest taken piece used)
-    (begins_more from (taken ++ take used piece) (count + used) new ((written ++ front) ++ behind) (drop used piece) (written ++ front) behind next.1 (AreBytes-drop used piece are) refl)
+pub frame_begun : (source : Source) (taken written piece lines front behind : List ℕ) (count offset used : ℕ) (partial new : Partial) (header : HeaderFields) (first : List ℕ) → count ≡ length taken
+    → (s : AreLinesSoFar source taken offset partial (written ++ lines)) → AreBytes piece → used ≤ length piece → IsWhole (s.rest ++ take used piece) header first → IsPartialFrame [] new
+    → lines ++ line_with source offset header (masked_payload header.key first) ≡ front ++ behind → BeginsLines source (taken ++ piece) (written ++ front)
+frame_begun source taken written piece lines front behind count offset used partial new header first e s are le whole k due =
+    let next = frame_told source taken written piece lines front behind count offset used partial new header first e s are le whole k due in
+    subst (λ (t : List ℕ). BeginsLines source t (written ++ front)) (front_and_rest taken piece used)
+    (begins_more source (taken ++ take used piece) (count + used) new ((written ++ front) ++ behind) (drop used piece) (written ++ front) behind next.1 (AreBytes-drop used piece are) refl)
 
-pub bad_told : (from : Role) (taken written piece lines : List ℕ) (offset : ℕ) (partial : Partial) → (s : AreLinesSoFar from taken offset partial (written ++ lines)) → BeginsBadLength (s.rest ++ piece)
-    → IsLeft from (taken ++ piece) (BadLengthAt offset) ((written ++ []) ++ lines)
-bad_told from taken written piece lines offset partial s bad =
-    subst (λ (t : List ℕ). IsLeft from (taken ++ piece) (BadLengthAt offset) (t ++ lines)) (sym (append-nil written)) (left_at_bad_length from taken offset partial (written ++ lines) piece s bad)
+pub bad_told : (source : Source) (taken written piece lines : List ℕ) (offset : ℕ) (partial : Partial) → (s : AreLinesSoFar source taken offset partial (written ++ lines)) → BeginsBadLength (s.rest ++ piece)
+    → IsLeft source (taken ++ piece) (BadLengthAt offset) ((written ++ []) ++ lines)
+bad_told source taken written piece lines offset partial s bad =
+    subst (λ (t : List ℕ). IsLeft source (taken ++ piece) (BadLengthAt offset) (t ++ lines)) (sym (append-nil written)) (left_at_bad_length source taken offset partial (written ++ lines) piece s bad)
 
 -- ---- a piece
 
 pub told_so : (run : Run) (taken taken' written written' : List ℕ) → HasTold run taken written → taken ≡ taken' → written ≡ written' → HasTold run taken' written'
 told_so run taken taken' written written' h et ew = subst (λ (t : List ℕ). HasTold run t written') et (subst (λ (t : List ℕ). HasTold run taken t) ew h)
 
-pub begins_so : (from : Role) (bytes bytes' front front' : List ℕ) → BeginsLines from bytes front → bytes ≡ bytes' → front ≡ front' → BeginsLines from bytes' front'
-begins_so from bytes bytes' front front' b eb ef = subst (λ (t : List ℕ). BeginsLines from t front') eb (subst (λ (t : List ℕ). BeginsLines from bytes t) ef b)
+pub begins_so : (source : Source) (bytes bytes' front front' : List ℕ) → BeginsLines source bytes front → bytes ≡ bytes' → front ≡ front' → BeginsLines source bytes' front'
+begins_so source bytes bytes' front front' b eb ef = subst (λ (t : List ℕ). BeginsLines source t front') eb (subst (λ (t : List ℕ). BeginsLines source bytes t) ef b)
 
-pub left_so : (from : Role) (left : StreamEnd) (bytes bytes' lines lines' : List ℕ) → IsLeft from bytes left lines → bytes ≡ bytes' → lines ≡ lines' → IsLeft from bytes' left lines'
-left_so from left bytes bytes' lines lines' is eb el = subst (λ (t : List ℕ). IsLeft from t left lines') eb (subst (λ (t : List ℕ). IsLeft from bytes left t) el is)
+pub left_so : (source : Source) (left : StreamEnd) (bytes bytes' lines lines' : List ℕ) → IsLeft source bytes left lines → bytes ≡ bytes' → lines ≡ lines' → IsLeft source bytes' left lines'
+left_so source left bytes bytes' lines lines' is eb el = subst (λ (t : List ℕ). IsLeft source t left lines') eb (subst (λ (t : List ℕ). IsLeft source bytes left t) el is)
 
 pub whole_piece : (taken piece : List ℕ) (at : ℕ) → (taken ++ take at piece) ++ take (length piece - at) (drop at piece) ≡ taken ++ piece
 whole_piece taken piece at = ap (λ (t : List ℕ). (taken ++ take at piece) ++ t) (take_rest piece at) ∙ front_and_rest taken piece at
@@ -201,18 +201,18 @@ pub all_out : (written more next lines w waiting : List ℕ) → lines ≡ w ++ 
 all_out written more next lines w waiting due none =
     out_behind_two written more next lines w waiting due ∙ ap (λ (t : List ℕ). (written ++ (more ++ (next ++ w))) ++ t) none ∙ append-nil (written ++ (more ++ (next ++ w)))
 
-pub end_begun : (from : Role) (taken piece written more lines front behind : List ℕ) (offset at : ℕ) (partial : Partial) → AreLinesSoFar from (taken ++ take at piece) offset partial ((written ++ more) ++ lines) → length piece ≤ at
-    → lines ≡ front ++ behind → BeginsLines from (taken ++ piece) (written ++ (more ++ front))
-end_begun from taken piece written more lines front behind offset at partial s end due =
-    begins_so from ((taken ++ take at piece) ++ []) (taken ++ piece) (written ++ (more ++ front)) (written ++ (more ++ front))
-    (begins_more from (taken ++ take at piece) offset partial ((written ++ more) ++ lines) [] (written ++ (more ++ front)) behind s (λ i. omega arith) (out_behind written more lines front behind due))
+pub end_begun : (source : Source) (taken piece written more lines front behind : List ℕ) (offset at : ℕ) (partial : Partial) → AreLinesSoFar source (taken ++ take at piece) offset partial ((written ++ more) ++ lines) → length piece ≤ at
+    → lines ≡ front ++ behind → BeginsLines source (taken ++ piece) (written ++ (more ++ front))
+end_begun source taken piece written more lines front behind offset at partial s end due =
+    begins_so source ((taken ++ take at piece) ++ []) (taken ++ piece) (written ++ (more ++ front)) (written ++ (more ++ front))
+    (begins_more source (taken ++ take at piece) offset partial ((written ++ more) ++ lines) [] (written ++ (more ++ front)) behind s (λ i. omega arith) (out_behind written more lines front behind due))
     (append-nil (taken ++ take at piece) ∙ ap (λ (t : List ℕ). taken ++ t) (take_all at piece end)) refl
 
-pub end_told : (from : Role) (taken piece written more lines w waiting : List ℕ) (offset at : ℕ) (partial : Partial) → AreLinesSoFar from (taken ++ take at piece) offset partial ((written ++ more) ++ lines) → length piece ≤ at
-    → lines ≡ w ++ waiting → AreLinesSoFar from (taken ++ piece) offset partial ((written ++ (more ++ w)) ++ waiting)
-end_told from taken piece written more lines w waiting offset at partial s end due =
-    subst (λ (t : List ℕ). AreLinesSoFar from t offset partial ((written ++ (more ++ w)) ++ waiting)) (ap (λ (t : List ℕ). taken ++ t) (take_all at piece end))
-    (subst (λ (t : List ℕ). AreLinesSoFar from (taken ++ take at piece) offset partial t) (out_behind written more lines w waiting due) s)
+pub end_told : (source : Source) (taken piece written more lines w waiting : List ℕ) (offset at : ℕ) (partial : Partial) → AreLinesSoFar source (taken ++ take at piece) offset partial ((written ++ more) ++ lines) → length piece ≤ at
+    → lines ≡ w ++ waiting → AreLinesSoFar source (taken ++ piece) offset partial ((written ++ (more ++ w)) ++ waiting)
+end_told source taken piece written more lines w waiting offset at partial s end due =
+    subst (λ (t : List ℕ). AreLinesSoFar source t offset partial ((written ++ (more ++ w)) ++ waiting)) (ap (λ (t : List ℕ). taken ++ t) (take_all at piece end))
+    (subst (λ (t : List ℕ). AreLinesSoFar source (taken ++ take at piece) offset partial t) (out_behind written more lines w waiting due) s)
 
 pub next_is : (old new : Run) (piece : List ℕ) (output : Device) (next other : Option ℕ) → next ≡ other → ShowsNext old new piece output (Ok next) → ShowsNext old new piece output (Ok other)
 next_is old new piece output next other e shown = subst (λ (o : Option ℕ). ShowsNext old new piece output (Ok o)) e shown
@@ -221,6 +221,6 @@ pub piece_is : (old new : Run) (piece : List ℕ) (output : Device) (end other :
 piece_is old new piece output end other e shown = subst (λ (o : PieceEnd). ShowsPiece old new piece output (Ok o)) e shown
 
 -- all lines of what was read are written
-pub all_written : (from from' : Role) (read : List ℕ) (offset : ℕ) (partial : Partial) (written lines : List ℕ) → AreLinesSoFar from read offset partial (written ++ lines) → lines ≡ [] → from ≡ from' → AreLinesSoFar from' read offset partial written
-all_written from from' read offset partial written lines s none e =
-    subst (λ (r : Role). AreLinesSoFar r read offset partial written) e (subst (λ (t : List ℕ). AreLinesSoFar from read offset partial t) (ap (λ (t : List ℕ). written ++ t) none ∙ append-nil written) s)
+pub all_written : (source source' : Source) (read : List ℕ) (offset : ℕ) (partial : Partial) (written lines : List ℕ) → AreLinesSoFar source read offset partial (written ++ lines) → lines ≡ [] → source ≡ source' → AreLinesSoFar source' read offset partial written
+all_written source source' read offset partial written lines s none e =
+    subst (λ (r : Source). AreLinesSoFar r read offset partial written) e (subst (λ (t : List ℕ). AreLinesSoFar source read offset partial t) (ap (λ (t : List ℕ). written ++ t) none ∙ append-nil written) s)

@@ -3,7 +3,7 @@
 use Rattle.std.specs.Prelude.{◌⊎◌, ◌≡◌, ℕ, ◌+◌, ◌^◌, ◌≤◌, ◌<◌, Bool, true, false, ⊤}
 use Rattle.std.specs.Prelude.{List, [], ◌++◌, length, take, Option, Some, None, Result, Ok, Err}
 use Rattle.std.specs.List.{flat_map, AllByRecursion}
-use Rattle.ws_wire.specs.declared.role.Role.{Role}
+use Rattle.ws_frame.specs.declared.source.Source.{Source}
 use Rattle.ws_frame.specs.declared.showing.StreamEnd.{StreamEnd}
 use Rattle.ws_frame.specs.declared.showing.StreamEnd.TheVariants as end
 use Rattle.ws_frame.specs.declared.showing.ShowEnd.{ShowEnd}
@@ -85,38 +85,39 @@ BeginsPayload header used new BadLength = ⊥
 -- ---- a run
 
 -- what was read are whole frames, whose lines these are, and less than a frame, which is kept and begins at this place
-pub record AreLinesSoFar (from : Role) (read : List ℕ) (offset : ℕ) (partial : Partial) (lines : List ℕ) : Type 0 where
+pub record AreLinesSoFar (source : Source) (read : List ℕ) (offset : ℕ) (partial : Partial) (lines : List ℕ)
+    : Type 0 where
   pub are_bytes : AreBytes read
   pub frames : List WireFrame
   pub rest : List ℕ
   pub each : AllByRecursion IsWireFrame frames
   pub parts : read ≡ flat_map wire_bytes frames ++ rest
   pub place : offset ≡ length (flat_map wire_bytes frames)
-  pub are_lines : lines ≡ frame_lines from 0 frames
+  pub are_lines : lines ≡ frame_lines source 0 frames
   pub is_kept : IsPartialFrame rest partial
 
 -- a run that has taken these bytes: their lines were written or wait
 pub record HasTold (run : Run) (taken written : List ℕ) : Type 0 where
   pub count : run.taken ≡ length taken
-  pub so_far : AreLinesSoFar run.from taken run.offset run.partial (written ++ run.lines)
+  pub so_far : AreLinesSoFar run.source taken run.offset run.partial (written ++ run.lines)
 
 -- some bytes were taken so, and more can be
 abbrev pub CanShowMore : Run → Type 0
 CanShowMore run = (taken : List ℕ) × (written : List ℕ) × HasTold run taken written
 
 -- these lines of the whole frames were written, and this is left
-pub record IsLeft (from : Role) (bytes : List ℕ) (left : StreamEnd) (written : List ℕ) : Type 0 where
+pub record IsLeft (source : Source) (bytes : List ℕ) (left : StreamEnd) (written : List ℕ) : Type 0 where
   pub frames : List WireFrame
   pub rest : List ℕ
   pub split : SplitsIntoAnyForm bytes frames rest
   pub leaves : Leaves left (length (flat_map wire_bytes frames)) rest
-  pub all : written ≡ frame_lines from 0 frames
+  pub all : written ≡ frame_lines source 0 frames
 
 -- a beginning of the lines of a stream that may go on: of those of its whole frames, and that of a bad length
-pub record BeginsLines (from : Role) (bytes front : List ℕ) : Type 0 where
+pub record BeginsLines (source : Source) (bytes front : List ℕ) : Type 0 where
   pub lines : List ℕ
   pub more : List ℕ
-  pub are : AreFrameLinesOf from bytes lines ⊎ ((place : ℕ) × AreLinesOf from bytes (end.BadLengthAt place) lines)
+  pub are : AreFrameLinesOf source bytes lines ⊎ ((place : ℕ) × AreLinesOf source bytes (end.BadLengthAt place) lines)
   pub begins : lines ≡ front ++ more
 
 -- what came of the next part of a piece: so many bytes were taken; or a bad length stands there; or a beginning of the
@@ -125,8 +126,8 @@ abbrev pub IsNext : Run → List ℕ → List ℕ → List ℕ → Bool → Resu
 IsNext new taken piece written failed (Ok (Some used)) =
     (failed ≡ false) × HasTold new (taken ++ take used piece) written
 IsNext new taken piece written failed (Ok None) =
-    (failed ≡ false) × IsLeft new.from (taken ++ piece) (end.BadLengthAt new.offset) (written ++ new.lines)
-IsNext new taken piece written failed (Err _) = (failed ≡ true) × BeginsLines new.from (taken ++ piece) written
+    (failed ≡ false) × IsLeft new.source (taken ++ piece) (end.BadLengthAt new.offset) (written ++ new.lines)
+IsNext new taken piece written failed (Err _) = (failed ≡ true) × BeginsLines new.source (taken ++ piece) written
 
 abbrev pub ShowsNext : Run → Run → List ℕ → Device → Result (Option ℕ) WriteFault → Type 0
 ShowsNext old new piece output result = (taken : List ℕ) (written : List ℕ) → HasTold old taken written
@@ -138,8 +139,8 @@ abbrev pub IsShown : Run → List ℕ → List ℕ → Bool → Result PieceEnd 
 IsShown new taken written failed (Ok piece_end.Inside) =
     (failed ≡ false) × (new.lines ≡ []) × HasTold new taken written
 IsShown new taken written failed (Ok piece_end.BadLength) =
-    (failed ≡ false) × (new.lines ≡ []) × IsLeft new.from taken (end.BadLengthAt new.offset) written
-IsShown new taken written failed (Err _) = (failed ≡ true) × BeginsLines new.from taken written
+    (failed ≡ false) × (new.lines ≡ []) × IsLeft new.source taken (end.BadLengthAt new.offset) written
+IsShown new taken written failed (Err _) = (failed ≡ true) × BeginsLines new.source taken written
 
 abbrev pub ShowsPiece : Run → Run → List ℕ → Device → Result PieceEnd WriteFault → Type 0
 ShowsPiece old new piece output result = (taken : List ℕ) (written : List ℕ) → HasTold old taken written
@@ -161,8 +162,8 @@ run_end (end.CutAt place) = show_end.CutAt place
 run_end (end.BadLengthAt place) = show_end.BadLengthAt place
 
 -- the line for this end of the stream was written; or a beginning of it
-abbrev pub EndsWith : StreamEnd → Device → ShowEnd → Type 0
-EndsWith last output result =
-    ((result ≡ run_end last) × HasWritten (last_line last) output × (output.failed ≡ false))
+abbrev pub EndsWith : Source → StreamEnd → Device → ShowEnd → Type 0
+EndsWith source last output result =
+    ((result ≡ run_end last) × HasWritten (last_line source last) output × (output.failed ≡ false))
     ⊎ ((result ≡ show_end.WriteFault) × (output.failed ≡ true)
-    × ((front : List ℕ) × (more : List ℕ) × HasWritten front output × (last_line last ≡ front ++ more)))
+    × ((front : List ℕ) × (more : List ℕ) × HasWritten front output × (last_line source last ≡ front ++ more)))

@@ -9,6 +9,7 @@ pub mod Devices
 pub mod ReadingInput
 pub mod TestDevices
 pub mod Lines
+pub mod Streaming
 pub mod Examples
 pub mod InnerShowing
 pub mod InnerPrinting

@@ -1,12 +1,16 @@
 -- The lines of `show`: one for each frame of a stream (RFC 6455 section 5.2), in any form, and a last one where the
--- stream stops inside a frame. A line ends with LF.
-use Rattle.std.specs.Prelude.{◌⊎◌, ◌≡◌, ℕ, ◌+◌, ◌<◌, ◌≤◌, Bool, true, false, nat_lt, ◌==◌, if◌then◌else◌}
+-- stream stops inside a frame. A line ends with LF. Where the streams of both ends are shown, each line begins with the
+-- mark of its stream.
+use Rattle.std.specs.Prelude.{◌⊎◌, ◌≡◌, ℕ, ◌+◌, ◌<◌, ◌≤◌, true, false, nat_lt, ◌==◌, if◌then◌else◌}
 use Rattle.std.specs.Prelude.{List, [], ◌∷◌, ◌++◌, length, take, Option, Some, None, codes}
 use Rattle.std.specs.List.{flat_map, concat}
 use Rattle.std.specs.Fmt.{decimal}
 use Rattle.std.specs.Io.KnownBytes.{IsAtEnd}
 use Rattle.ws_wire.specs.declared.role.Role.{Role}
 use Rattle.ws_wire.specs.declared.role.Role.TheVariants.{Client, Server}
+use Rattle.ws_frame.specs.declared.source.Source.{Source}
+use Rattle.ws_frame.specs.declared.source.Mark.{Mark}
+use Rattle.ws_frame.specs.declared.source.Mark.TheVariants.{Plain, Sent, Got}
 use Rattle.ws_wire.specs.declared.header.Form.{Form}
 use Rattle.ws_frame.specs.declared.showing.StreamEnd.{StreamEnd}
 use Rattle.ws_frame.specs.declared.showing.StreamEnd.TheVariants.{Whole, CutAt, BadLengthAt}
@@ -43,25 +47,36 @@ mask_mark Server (Some _) = codes " !mask"
 abbrev pub form_mark : Form → ℕ → List ℕ
 form_mark form len = if is_longer_than_needed form len then codes " !form" else []
 
+-- what stands before each line of a stream
+abbrev pub mark_word : Mark → List ℕ
+mark_word Plain = []
+mark_word Sent = codes "> "
+mark_word Got = codes "< "
+
+-- the stream of this end, shown alone
+abbrev pub plain : Role → Source
+plain from = record { from = from; mark = Plain }
+
 -- ---- the lines
 
 -- the line of a frame that begins at this place of the stream, by its header and the first bytes of its payload
-abbrev pub line_with : Role → ℕ → HeaderFields → List ℕ → List ℕ
-line_with from offset header first = concat (
-    decimal offset ∷ codes " " ∷ opcode_word header.opcode
+abbrev pub line_with : Source → ℕ → HeaderFields → List ℕ → List ℕ
+line_with source offset header first = concat (
+    mark_word source.mark ∷ decimal offset ∷ codes " " ∷ opcode_word header.opcode
     ∷ codes " fin=" ∷ bit_word header.fin ∷ codes " rsv=" ∷ decimal header.rsv
     ∷ codes " key=" ∷ key_word header.key ∷ codes " len=" ∷ decimal header.len
     ∷ codes " " ∷ form_word header.form ∷ codes " " ∷ data_word header.len first
-    ∷ mask_mark from header.key ∷ form_mark header.form header.len ∷ codes "\n" ∷ [])
+    ∷ mask_mark source.from header.key ∷ form_mark header.form header.len ∷ codes "\n" ∷ [])
 
 -- the line shows the first sixteen bytes, unmasked
-abbrev pub line_of : Role → ℕ → WireFrame → List ℕ
-line_of from offset x = line_with from offset x.header (take 16 x.payload)
+abbrev pub line_of : Source → ℕ → WireFrame → List ℕ
+line_of source offset x = line_with source offset x.header (take 16 x.payload)
 
 -- the lines of frames that stand one after the other, the first at this place
-abbrev pub frame_lines : Role → ℕ → List WireFrame → List ℕ
-frame_lines from offset [] = []
-frame_lines from offset (x ∷ frames) = line_of from offset x ++ frame_lines from (offset + length (wire_bytes x)) frames
+abbrev pub frame_lines : Source → ℕ → List WireFrame → List ℕ
+frame_lines source offset [] = []
+frame_lines source offset (x ∷ frames) =
+    line_of source offset x ++ frame_lines source (offset + length (wire_bytes x)) frames
 
 -- what is left after the whole frames, at this place, of a stream that ends so: nothing; or part of a frame; or a
 -- header at the front whose length has the top bit set
@@ -71,26 +86,33 @@ Leaves (CutAt place) at rest = (place ≡ at) × (0 < length rest) × (BeginsBad
 Leaves (BadLengthAt place) at rest = (place ≡ at) × BeginsBadLength rest
 
 -- the line for what is left: none after whole frames
-abbrev pub last_line : StreamEnd → List ℕ
-last_line Whole = []
-last_line (CutAt place) = codes "cut at " ++ (decimal place ++ codes "\n")
-last_line (BadLengthAt place) = codes "bad length at " ++ (decimal place ++ codes "\n")
+abbrev pub last_line : Source → StreamEnd → List ℕ
+last_line source Whole = []
+last_line source (CutAt place) = mark_word source.mark ++ (codes "cut at " ++ (decimal place ++ codes "\n"))
+last_line source (BadLengthAt place) =
+    mark_word source.mark ++ (codes "bad length at " ++ (decimal place ++ codes "\n"))
 
 -- the lines of a stream that has ended so: one for each whole frame, and that for what is left
-pub record AreLinesOf (from : Role) (bytes : List ℕ) (end : StreamEnd) (lines : List ℕ) : Type 0 where
+pub record AreLinesOf (source : Source) (bytes : List ℕ) (end : StreamEnd) (lines : List ℕ) : Type 0 where
   pub frames : List WireFrame
   pub rest : List ℕ
   pub split : SplitsIntoAnyForm bytes frames rest
   pub leaves : Leaves end (length (flat_map wire_bytes frames)) rest
-  pub all : lines ≡ frame_lines from 0 frames ++ last_line end
+  pub all : lines ≡ frame_lines source 0 frames ++ last_line source end
 
 -- the lines of the whole frames of a stream that may go on
-pub record AreFrameLinesOf (from : Role) (bytes : List ℕ) (lines : List ℕ) : Type 0 where
+pub record AreFrameLinesOf (source : Source) (bytes : List ℕ) (lines : List ℕ) : Type 0 where
   pub frames : List WireFrame
   pub rest : List ℕ
   pub split : SplitsIntoAnyForm bytes frames rest
   pub goes_on : BeginsBadLength rest → ⊥
-  pub all : lines ≡ frame_lines from 0 frames
+  pub all : lines ≡ frame_lines source 0 frames
+
+-- the lines that are certain once these bytes of a stream have come, and more may: those of its whole frames, and that
+-- of a bad length
+abbrev pub AreCertainLines : Source → List ℕ → List ℕ → Type 0
+AreCertainLines source bytes lines =
+    AreFrameLinesOf source bytes lines ⊎ ((place : ℕ) × AreLinesOf source bytes (BadLengthAt place) lines)
 
 -- ---- a run of `show`
 
@@ -100,8 +122,8 @@ read_size = 65536
 
 -- what a run was asked and did
 pub record ShowRun : Type 0 where
-  -- the role of the endpoint that sent the stream
-  pub from : Role
+  -- whose stream is shown
+  pub source : Source
   -- how many bytes may be read
   pub budget : ℕ
   -- what was read
@@ -115,10 +137,10 @@ pub record ShowRun : Type 0 where
 -- reader is at its end, before the budget is used up, they are all lines.
 abbrev pub AreDue : ShowRun → List ℕ → Type 0
 AreDue run lines =
-    AreFrameLinesOf run.from run.read lines
-    ⊎ (((place : ℕ) × AreLinesOf run.from run.read (BadLengthAt place) lines)
+    AreFrameLinesOf run.source run.read lines
+    ⊎ (((place : ℕ) × AreLinesOf run.source run.read (BadLengthAt place) lines)
     ⊎ ((length run.read < run.budget) × IsAtEnd run.unread
-    × ((end : StreamEnd) × AreLinesOf run.from run.read end lines)))
+    × ((end : StreamEnd) × AreLinesOf run.source run.read end lines)))
 
 -- a beginning of the lines that are due was written
 pub record BeginsDueLines (run : ShowRun) : Type 0 where
@@ -134,18 +156,18 @@ pub record HasEarlierLines (run : ShowRun) : Type 0 where
   pub parts : run.read ≡ before ++ last
   pub one_read : length last ≤ read_size
   pub lines : List ℕ
-  pub are : AreFrameLinesOf run.from before lines
+  pub are : AreFrameLinesOf run.source before lines
   pub more : List ℕ
   pub begins : run.written ≡ lines ++ more
 
 -- what was written for what was read, by how the run ended
 abbrev pub IsShownAt : ShowEnd → ShowRun → Type 0
-IsShownAt show_end.Done run = AreLinesOf run.from run.read Whole run.written × (length run.read < run.budget)
+IsShownAt show_end.Done run = AreLinesOf run.source run.read Whole run.written × (length run.read < run.budget)
 IsShownAt (show_end.CutAt place) run =
-    AreLinesOf run.from run.read (CutAt place) run.written × (length run.read < run.budget)
-IsShownAt (show_end.BadLengthAt place) run = AreLinesOf run.from run.read (BadLengthAt place) run.written
-IsShownAt show_end.Budget run = AreFrameLinesOf run.from run.read run.written × (length run.read ≡ run.budget)
-IsShownAt show_end.ReadFault run = AreFrameLinesOf run.from run.read run.written × (length run.read < run.budget)
+    AreLinesOf run.source run.read (CutAt place) run.written × (length run.read < run.budget)
+IsShownAt (show_end.BadLengthAt place) run = AreLinesOf run.source run.read (BadLengthAt place) run.written
+IsShownAt show_end.Budget run = AreFrameLinesOf run.source run.read run.written × (length run.read ≡ run.budget)
+IsShownAt show_end.ReadFault run = AreFrameLinesOf run.source run.read run.written × (length run.read < run.budget)
 IsShownAt show_end.WriteFault run = BeginsDueLines run × HasEarlierLines run
 IsShownAt show_end.NoMemory run = ⊥
 
@@ -158,7 +180,7 @@ pub record Shows (from : Role) (budget : ℕ) (end : ShowEnd) (input output : De
   pub has_written : HasWritten written output
   pub within : length read ≤ budget
   pub shown : IsShownAt end
-      (record { from = from; budget = budget; read = read; unread = input.new; written = written })
+      (record { source = plain from; budget = budget; read = read; unread = input.new; written = written })
 
 -- which device has failed, and that the reader is at its end where the run says so
 abbrev pub IsFairEnd : ShowEnd → Device → Device → Type 0

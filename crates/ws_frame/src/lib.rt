@@ -16,6 +16,8 @@ mod partial;
 mod reading_input;
 mod room;
 mod showing;
+mod source;
+mod stream_lines;
 mod watching;
 mod writing_lines;
 mod writing_whole;
@@ -25,6 +27,8 @@ pub use counting::Counting;
 pub use failing::Failing;
 pub use reading_input::{InputEnd, READ_SIZE, read_input};
 pub use showing::{ShowEnd, StreamEnd, show};
+pub use source::{Mark, Source};
+pub use stream_lines::StreamLines;
 pub use watching::Watched;
 pub use writing_whole::{WriteFault, write_whole};
 pub use ws_wire::{

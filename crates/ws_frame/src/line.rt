@@ -8,6 +8,7 @@ ghost use Rattle.ws_frame.specs.InnerPrinting.{bits_words, layout_words};
 
 use crate::first_bytes::SHOWN;
 use crate::room::Room;
+use crate::source::Source;
 use ws_wire::{Header, Opcode, Role};
 
 /// No line has more bytes than this.
@@ -15,15 +16,16 @@ pub(crate) const MAX_LINE: usize = 200;
 
 /// Puts the line of a frame that begins at `offset` into the room, ended by LF. `first` are the first bytes of the
 /// payload, unmasked: as many as there are, at most `SHOWN`.
-pub(crate) fn push_line(room: &mut Room, from: Role, offset: u64, header: &Header, first: &[u8])
+pub(crate) fn push_line(room: &mut Room, source: Source, offset: u64, header: &Header, first: &[u8])
     requires room { length room.old + 200 ≤ 65536 }
     requires few { length first.now ≤ 16 }
-    ensures { room.new ≡ room.old ++ line_with from offset header.now first.now }
+    ensures { room.new ≡ room.old ++ line_with source offset header.now first.now }
 {
+    room.push(source.mark.word().as_bytes());
     push_bits(room, offset, header);
     push_layout(room, header);
     push_data(room, header.payload_len(), first);
-    room.push(mask_mark_of(from, header).as_bytes());
+    room.push(mask_mark_of(source.from, header).as_bytes());
     room.push(form_mark_of(header).as_bytes());
     room.push(b"\n");
 }

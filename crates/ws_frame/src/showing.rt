@@ -10,7 +10,7 @@ ghost use Rattle.ws_frame.specs.declared.showing.ShowEnd.TheVariants.{NoMemory};
 use crate::partial::{Partial, Taken};
 use crate::room::Room;
 use crate::writing_lines::{end_with, flush, put_line};
-use crate::{Watched, WriteFault};
+use crate::{Source, Watched, WriteFault};
 use std::io::{Read, Write};
 use ws_wire::Role;
 
@@ -84,7 +84,7 @@ pub fn show<R: Read, W: Write>(
     ensures memory { result ≡ NoMemory → ⊥ }
 {
     let mut room = [0; SHOW_READ_SIZE];
-    let mut run = Run::new(from);
+    let mut run = Run::new(Source::plain(from));
     while run.taken < budget {
         let want = (budget - run.taken).min(SHOW_READ_SIZE as u64) as usize;
         let buf = &mut room[..want];
@@ -92,7 +92,7 @@ pub fn show<R: Read, W: Write>(
             Err(_) => return ShowEnd::ReadFault,
             Ok(0) => {
                 let end = run.end_of_input();
-                return end_with(&mut run.lines, writer, end);
+                return end_with(&mut run.lines, writer, run.source, end);
             }
             Ok(count) => count,
         };
@@ -100,7 +100,7 @@ pub fn show<R: Read, W: Write>(
             Err(_) => return ShowEnd::WriteFault,
             Ok(PieceEnd::BadLength) => {
                 let end = StreamEnd::BadLengthAt(run.offset);
-                return end_with(&mut run.lines, writer, end);
+                return end_with(&mut run.lines, writer, run.source, end);
             }
             Ok(PieceEnd::Inside) => {}
         }
@@ -110,7 +110,7 @@ pub fn show<R: Read, W: Write>(
 
 /// How a piece of the stream ended.
 #[derive(Clone, Copy)]
-enum PieceEnd {
+pub(crate) enum PieceEnd {
     /// Between two frames, or inside one.
     Inside,
     /// A header stands there whose length has the top bit set.
@@ -119,26 +119,26 @@ enum PieceEnd {
 
 /// A run of `show`.
 #[derive(Drop)]
-struct Run {
-    from: Role,
+pub(crate) struct Run {
+    pub(crate) source: Source,
     /// How many bytes of the stream were taken.
     taken: u64,
     /// The place of the frame under way.
-    offset: u64,
+    pub(crate) offset: u64,
     partial: Partial,
     /// Lines that wait to be written.
-    lines: Room,
+    pub(crate) lines: Room,
 }
 
 impl Run {
     /// Nothing was taken.
-    fn new(from: Role) -> Run
-        ensures from { result.from ≡ from }
+    pub(crate) fn new(source: Source) -> Run
+        ensures source { result.source ≡ source }
         ensures begun { HasTold result [] [] }
         ensures empty { result.lines ≡ [] }
     {
         Run {
-            from,
+            source,
             taken: 0,
             offset: 0,
             partial: Partial::new(),
@@ -147,7 +147,7 @@ impl Run {
     }
 
     /// Takes a piece of the stream, and writes the lines of the frames that it completes.
-    fn show_piece<W: Write>(
+    pub(crate) fn show_piece<W: Write>(
         &mut self,
         writer: &mut Watched<W>,
         piece: &[u8],
@@ -155,7 +155,7 @@ impl Run {
         requires writer_works { has_failed writer.old ≡ false }
         requires going { CanShowMore self.old }
         requires count { self.old.taken + length piece.now < 2 ^ 64 }
-        ensures from { self.new.from ≡ self.old.from }
+        ensures source { self.new.source ≡ self.old.source }
         ensures shown { ShowsPiece self.old self.new piece.now (watched W.contents writer.old writer.new) result }
     {
         let mut at = 0;
@@ -184,7 +184,7 @@ impl Run {
         requires going { CanShowMore self.old }
         requires some { 0 < length piece.now }
         requires count { self.old.taken + length piece.now < 2 ^ 64 }
-        ensures from { self.new.from ≡ self.old.from }
+        ensures source { self.new.source ≡ self.old.source }
         ensures used { IfOk result (λ found. IfSome found (λ used. (0 < used) × (used ≤ length piece.now)
             × (self.new.taken ≡ self.old.taken + used))) }
         ensures shown { ShowsNext self.old self.new piece.now (watched W.contents writer.old writer.new) result }
@@ -202,7 +202,7 @@ impl Run {
                 put_line(
                     &mut self.lines,
                     writer,
-                    self.from,
+                    self.source,
                     self.offset,
                     header,
                     first,
@@ -216,7 +216,7 @@ impl Run {
     }
 
     /// How the stream ends where the reader is at its end.
-    fn end_of_input(&self) -> StreamEnd
+    pub(crate) fn end_of_input(&self) -> StreamEnd
         ensures { (rest : List ℕ) → IsPartialFrame rest self.now.partial → Leaves result self.now.offset rest }
     {
         if self.partial.is_empty() {

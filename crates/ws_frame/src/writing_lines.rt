@@ -6,32 +6,33 @@ ghost use Rattle.ws_frame.specs.Devices.{watched};
 ghost use Rattle.ws_wire.specs.Masking.{masked_payload};
 ghost use Rattle.ws_frame.specs.Lines.{line_with, last_line};
 ghost use Rattle.ws_frame.specs.InnerShowing.{WritesSome, EndsWith};
+ghost use Rattle.ws_frame.specs.Streaming.{WritesAll};
 
 use crate::first_bytes::FirstBytes;
 use crate::line::{MAX_LINE, push_line};
 use crate::room::{ROOM, Room};
 use crate::showing::{ShowEnd, StreamEnd};
-use crate::{Watched, WriteFault, write_whole};
+use crate::{Source, Watched, WriteFault, write_whole};
 use std::io::Write;
-use ws_wire::{Header, Role};
+use ws_wire::Header;
 
 /// Puts the line of a frame behind those that wait, which are written first where there is no room for one more.
 /// `first` are the first bytes of the payload as they stand on the wire.
 pub(crate) fn put_line<W: Write>(
     lines: &mut Room,
     writer: &mut Watched<W>,
-    from: Role,
+    source: Source,
     offset: u64,
     header: Header,
     first: FirstBytes,
 ) -> Result<(), WriteFault>
     requires { has_failed writer.old ≡ false }
-    ensures { WritesSome (lines.old ++ line_with from offset header (masked_payload header.key first)) lines.new
+    ensures { WritesSome (lines.old ++ line_with source offset header (masked_payload header.key first)) lines.new
         (watched W.contents writer.old writer.new) result }
 {
     make_room(lines, writer)?;
     let shown = unmasked(header.key(), first);
-    push_line(lines, from, offset, &header, shown.as_slice());
+    push_line(lines, source, offset, &header, shown.as_slice());
     Ok(())
 }
 
@@ -73,29 +74,48 @@ pub(crate) fn flush<W: Write>(lines: &mut Room, writer: &mut Watched<W>) -> Resu
 pub(crate) fn end_with<W: Write>(
     lines: &mut Room,
     writer: &mut Watched<W>,
+    source: Source,
     end: StreamEnd,
 ) -> ShowEnd
     requires works { has_failed writer.old ≡ false }
     requires empty { lines.old ≡ [] }
-    ensures { EndsWith end (watched W.contents writer.old writer.new) result }
+    ensures { EndsWith source end (watched W.contents writer.old writer.new) result }
 {
-    push_last_line(lines, end);
+    push_last_line(lines, source, end);
     match flush(lines, writer) {
         Ok(()) => end.run_end(),
         Err(_) => ShowEnd::WriteFault,
     }
 }
 
+/// Writes the line for this end of the stream, if it has one.
+pub(crate) fn write_last_line<W: Write>(
+    lines: &mut Room,
+    writer: &mut Watched<W>,
+    source: Source,
+    end: StreamEnd,
+) -> Result<(), WriteFault>
+    requires works { has_failed writer.old ≡ false }
+    requires empty { lines.old ≡ [] }
+    ensures written { WritesAll (last_line source end) (watched W.contents writer.old writer.new) result }
+    ensures empty { OnOk result (lines.new ≡ []) }
+{
+    push_last_line(lines, source, end);
+    flush(lines, writer)?;
+    Ok(())
+}
+
 /// Puts the line for this end of the stream, if it has one.
-fn push_last_line(lines: &mut Room, end: StreamEnd)
+fn push_last_line(lines: &mut Room, source: Source, end: StreamEnd)
     requires { lines.old ≡ [] }
-    ensures { lines.new ≡ last_line end }
+    ensures { lines.new ≡ last_line source end }
 {
     let (words, place) = match end {
         StreamEnd::Whole => return,
         StreamEnd::CutAt(place) => (b"cut at ".as_slice(), place),
         StreamEnd::BadLengthAt(place) => (b"bad length at ".as_slice(), place),
     };
+    lines.push(source.mark.word().as_bytes());
     lines.push(words);
     lines.push_decimal(place);
     lines.push(b"\n");

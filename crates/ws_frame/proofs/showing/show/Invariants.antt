@@ -1,5 +1,6 @@
 use Rattle.std.proofs.Common.{◌≡◌, ◌≤◌, ◌-◌, false, List, [], ℕ}
 use Rattle.std.specs.Io.KnownBytes.{Appends, Consumes}
+use Rattle.ws_frame.specs.Lines.{plain}
 use Rattle.ws_frame.specs.Watching.{has_failed, inner_of}
 use Rattle.ws_frame.specs.InnerShowing.{HasTold}
 use Rattle.ws_frame.proofs.showing.show.Given as goal
@@ -9,7 +10,7 @@ abbrev pub invariant-loop-run : goal.invariant-loop-run
 invariant-loop-run g l = record {
   reads : has_failed l.reader ≡ false;
   writes : has_failed l.writer ≡ false;
-  from : l.run.from ≡ l.fn.from;
+  source : l.run.source ≡ plain l.fn.from;
   within : l.run.taken ≤ l.budget;
   none_wait : l.run.lines ≡ [];
   told : (read : List ℕ) × (written : List ℕ) × Consumes (g.R.Read.remaining (inner_of l.initial.reader)) (g.R.Read.remaining (inner_of l.reader)) read

@@ -6,7 +6,7 @@ use Rattle.ws_frame.proofs.writing_lines.put_line.Goals as goal
 
 pub returns-in_err-make_room : goal.returns-in_err-make_room
 returns-in_err-make_room g c =
-    let line = line_with c.args.from c.args.offset c.args.header (masked_payload c.args.header.key c.args.first) in
+    let line = line_with c.args.source c.args.offset c.args.header (masked_payload c.args.header.key c.args.first) in
     let (front, more, wrote, failed, due) = c.in_err-make_room.ensures.written in
     let p = err_from_is_err_and c.from_residual.result c.from_residual.ensures.1 in
     rw p.1 (front, more ++ line, wrote, failed, ap (λ (t : List ℕ). t ++ line) due ∙ append_assoc front more line)

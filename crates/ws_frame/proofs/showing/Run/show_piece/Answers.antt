@@ -13,7 +13,7 @@ pub loop-at-init : goal.loop-at-init
 loop-at-init g c = record {
   works = c.requires.writer_works;
   within = omega arith;
-  from = refl;
+  source = refl;
   count = omega arith;
   told = λ taken written t. ([], Appends-nil _, told_so c.args.self.now taken (taken ++ []) written (written ++ []) t (sym (append-nil taken)) (sym (append-nil written)));
 }
@@ -30,7 +30,7 @@ returns-in_err-next-clause-shown g c = λ taken written t.
     let at = c.loop-at.at in
     let (more, appended, told) = c.loop-at.invariant.told taken written t in
     let (next, wrote, (failed, begins)) = c.in_err-next.ensures.shown (taken ++ take at piece) (written ++ more) told in
-    let begun = begins_so c.show_next.new.self.from _ (taken ++ piece) _ (written ++ (more ++ next)) begins (whole_piece taken piece at) (append_assoc written more next) in
+    let begun = begins_so c.show_next.new.self.source _ (taken ++ piece) _ (written ++ (more ++ next)) begins (whole_piece taken piece at) (append_assoc written more next) in
     let p = err_from_is_err_and c.from_residual.result c.from_residual.ensures.1 in
     rw p.1 (more ++ next, Appends-trans _ _ _ _ _ appended wrote, (failed, begun))
 
@@ -53,8 +53,8 @@ returns-in_err-flush-in-None-clause-shown g c = λ taken written t.
     let (next, wrote, (works, left)) = shown (taken ++ take at piece) (written ++ more) told in
     let (front, behind, flushed, failed, due) = c.in_err-flush-in-None.ensures.written in
     let new = c.show_next.new.self in
-    let is_left = left_so new.from (BadLengthAt new.offset) _ (taken ++ piece) _ _ left (whole_piece taken piece at) refl in
-    let begun = begins_left new.from (taken ++ piece) (((written ++ more) ++ next) ++ new.lines) (written ++ (more ++ (next ++ front))) behind new.offset is_left (out_behind_two written more next new.lines front behind due) in
+    let is_left = left_so new.source (BadLengthAt new.offset) _ (taken ++ piece) _ _ left (whole_piece taken piece at) refl in
+    let begun = begins_left new.source (taken ++ piece) (((written ++ more) ++ next) ++ new.lines) (written ++ (more ++ (next ++ front))) behind new.offset is_left (out_behind_two written more next new.lines front behind due) in
     let p = err_from_is_err_and c.from_residual-in_err-flush-in-None.result c.from_residual-in_err-flush-in-None.ensures.1 in
     rw p.1 (more ++ (next ++ front), Appends-trans _ _ _ _ _ appended (Appends-trans _ _ _ _ _ wrote flushed), (failed, begun))
 
@@ -68,7 +68,7 @@ returns-in-None-clause-shown g c = λ taken written t.
     let (w, flushed, flush_works, due) = c.in_ok-flush-in-None.ensures.written in
     let none = c.in_ok-flush-in-None.ensures.empty in
     let new = c.show_next.new.self in
-    let is_left = left_so new.from (BadLengthAt new.offset) _ (taken ++ piece) (((written ++ more) ++ next) ++ new.lines) (written ++ (more ++ (next ++ w))) left (whole_piece taken piece at)
+    let is_left = left_so new.source (BadLengthAt new.offset) _ (taken ++ piece) (((written ++ more) ++ next) ++ new.lines) (written ++ (more ++ (next ++ w))) left (whole_piece taken piece at)
     (all_out written more next new.lines w c.flush.new.lines due none) in
     (more ++ (next ++ w), Appends-trans _ _ _ _ _ appended (Appends-trans _ _ _ _ _ wrote flushed), (flush_works, none, is_left))
 
@@ -88,7 +88,7 @@ loop-at-preserved g c =
     record {
       works = works;
       within = rest_length at used piece c.loop-at.invariant.within uses.1;
-      from = c.in_ok-next.ensures.from ∙ c.loop-at.invariant.from;
+      source = c.in_ok-next.ensures.source ∙ c.loop-at.invariant.source;
       count = omega (arith, uses.2, c.loop-at.invariant.count);
       told = λ taken written t.
           let (more, appended, told) = c.loop-at.invariant.told taken written t in
@@ -102,7 +102,7 @@ returns-in_err-flush-clause-shown g c = λ taken written t.
     let self = c.loop-at.self in
     let (more, appended, told) = c.loop-at.invariant.told taken written t in
     let (front, behind, flushed, failed, due) = c.in_err-flush.ensures.written in
-    let begun = end_begun self.from taken piece written more self.lines front behind self.offset c.loop-at.at self.partial told.so_far c.loop-at-test.false due in
+    let begun = end_begun self.source taken piece written more self.lines front behind self.offset c.loop-at.at self.partial told.so_far c.loop-at-test.false due in
     let p = err_from_is_err_and c.from_residual-in_err-flush.result c.from_residual-in_err-flush.ensures.1 in
     rw p.1 (more ++ front, Appends-trans _ _ _ _ _ appended flushed, (failed, begun))
 
@@ -119,7 +119,7 @@ returns-clause-shown g c = λ taken written t.
         c.in_ok-flush.ensures.empty,
         record {
           count = told.count ∙ ap (λ (l : List ℕ). length (taken ++ l)) (take_all c.loop-at.at piece c.loop-at-test.false);
-          so_far = end_told self.from taken piece written more self.lines w c.flush-2.new.lines self.offset c.loop-at.at self.partial told.so_far c.loop-at-test.false due;
+          so_far = end_told self.source taken piece written more self.lines w c.flush-2.new.lines self.offset c.loop-at.at self.partial told.so_far c.loop-at-test.false due;
         },
       ),
     )

@@ -9,7 +9,7 @@ abbrev pub invariant-loop-at : goal.invariant-loop-at
 invariant-loop-at g l = record {
   works : has_failed l.writer ≡ false;
   within : l.at ≤ length l.piece;
-  from : l.self.from ≡ l.initial.self.from;
+  source : l.self.source ≡ l.initial.self.source;
   count : l.self.taken ≡ l.initial.self.taken + l.at;
   told : (taken written : List ℕ) → HasTold l.initial.self taken written
       → (more : List ℕ) × Appends (g.W.Write.contents (inner_of l.initial.writer)) (g.W.Write.contents (inner_of l.writer)) more × HasTold l.self (taken ++ take l.at l.piece) (written ++ more);

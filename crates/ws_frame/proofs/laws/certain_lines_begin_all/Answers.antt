@@ -1,0 +1,5 @@
+use Rattle.ws_frame.proofs.Streams.{certain_lines_end}
+use Rattle.ws_frame.proofs.laws.certain_lines_begin_all.Goals as goal
+
+pub returns : goal.returns
+returns c = certain_lines_end

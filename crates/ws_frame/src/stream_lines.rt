@@ -1,0 +1,76 @@
+//! The lines of a stream that comes piece by piece (RFC 6455 section 5.2).
+
+ghost use Rattle.std.specs.Prelude.{◌≡◌, [], length, false, true, OnOk};
+ghost use Rattle.ws_frame.specs.Watching.{has_failed};
+ghost use Rattle.ws_frame.specs.Devices.{watched};
+ghost use Rattle.ws_frame.specs.Lines.{last_line};
+ghost use Rattle.ws_frame.specs.Streaming.{HasShown, HasRoomFor, CanEnd, ShowsMore, ShowsEnd, WritesAll, source_of};
+
+use crate::showing::{PieceEnd, Run, StreamEnd};
+use crate::writing_lines::write_last_line;
+use crate::{Source, Watched, WriteFault};
+use std::io::Write;
+
+/// The lines of a stream that comes piece by piece: those of `show`, each written with the piece that makes it certain.
+/// No memory is taken.
+#[derive(Drop)]
+pub struct StreamLines {
+    run: Run,
+    /// A header stands there whose length has the top bit set: nothing behind it is a frame.
+    stopped: bool,
+}
+
+impl StreamLines {
+    /// Nothing of the stream has come.
+    pub fn new(source: Source) -> StreamLines
+        ensures source { source_of result ≡ source }
+        ensures begun { HasShown result [] [] }
+    {
+        StreamLines {
+            run: Run::new(source),
+            stopped: false,
+        }
+    }
+
+    /// More bytes come: the lines of the frames that they complete are written, and that of a bad length, behind which
+    /// no line follows. At an error a beginning of these lines was written.
+    pub fn take<W: Write>(
+        &mut self,
+        writer: &mut Watched<W>,
+        piece: &[u8],
+    ) -> Result<(), WriteFault>
+        requires writer_works { has_failed writer.old ≡ false }
+        requires room { HasRoomFor (length piece.now) self.old }
+        ensures source { source_of self.new ≡ source_of self.old }
+        ensures shown { ShowsMore self.old self.new piece.now (watched W.contents writer.old writer.new) result }
+    {
+        if self.stopped {
+            return Ok(());
+        }
+        match self.run.show_piece(writer, piece)? {
+            PieceEnd::Inside => Ok(()),
+            PieceEnd::BadLength => {
+                self.stopped = true;
+                let end = StreamEnd::BadLengthAt(self.run.offset);
+                write_last_line(&mut self.run.lines, writer, self.run.source, end)?;
+                Ok(())
+            }
+        }
+    }
+
+    /// The stream is at its end: `cut at OFFSET` is written where it ends inside a frame. At an error a beginning of
+    /// that line was written.
+    pub fn end<W: Write>(&mut self, writer: &mut Watched<W>) -> Result<(), WriteFault>
+        requires writer_works { has_failed writer.old ≡ false }
+        requires going { CanEnd self.old }
+        ensures source { source_of self.new ≡ source_of self.old }
+        ensures ended { ShowsEnd self.old (watched W.contents writer.old writer.new) result }
+    {
+        if self.stopped {
+            return Ok(());
+        }
+        let end = self.run.end_of_input();
+        write_last_line(&mut self.run.lines, writer, self.run.source, end)?;
+        Ok(())
+    }
+}
