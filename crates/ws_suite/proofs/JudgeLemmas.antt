@@ -1,7 +1,7 @@
 -- Lists of replies, walked from the front.
 use Rattle.std.proofs.Common.{◌≡◌, ◌≢◌, ◌↔◌, ◌∙◌, ℕ, zero, suc, ◌+◌, ◌-◌, ◌<◌, ◌≤◌, nat_lt, Bool, true, false, ◌||◌, cond, if◌then◌else◌, List, [], ◌∷◌, ◌++◌, length, take, drop, get_or, find, Option, None, Some, Bor, MatchBool, ap, ap₂, sym, refl, subst, inl, inr, arith, append-nil}
 use Rattle.std.proofs.lemmas.Bool.Decides.{nat_tests}
-use Rattle.std.proofs.lemmas.List.{drop_more, length-append, map-append, take_all, take_more}
+use Rattle.std.proofs.lemmas.List.{drop_more, length-append, length-map, map-append, take_all, take_more}
 use Rattle.std.specs.List.{drop-map, last_or, list_any, take-map, zip}
 use Rattle.ws_suite.specs.declared.evidence.InTurn.{InTurn}
 use Rattle.ws_suite.specs.declared.evidence.Reply.{Reply}
@@ -216,18 +216,19 @@ pub other_by_start : (b : Bool) (xs ys : List Reply) → (IsBeginningOf xs ys �
 other_by_start true xs ys not = not
 other_by_start false xs ys not = λ e. not ([], sym e ∙ sym (append-nil xs))
 
-pub other_by_length : (b : Bool) (xs ys : List Reply) (n m : ℕ) → b ≡ false → IsBeginningOf xs ys → n ≡ length xs → m ≡ length ys
-    → ((nat_lt n m ≡ true) → MatchBool b (¬ (IsBeginningOf xs ys)) (xs ≢ ys)) × (MatchBool b (¬ (IsBeginningOf xs ys)) (xs ≢ ys) → (nat_lt n m ≡ true))
-other_by_length true xs ys n m e start f g = absurd cc
-other_by_length false xs ys n m e start f g = (
-  λ less same.
-      let short : n < m = grind (arith, nat_tests) in
-      omega (arith, ap (λ (l : List Reply). length l) same),
-  λ not. pick not (nat_lt n m) refl,
+pub other_by_count : (b : Bool) (gs ds : List (InTurn Reply)) (r : Bool) → b ≡ false → IsBeginningOf (bare gs) (bare ds) → ((r ≡ true) ↔ (length gs < length ds))
+    → ((r ≡ true) ↔ MatchBool b (¬ (IsBeginningOf (bare gs) (bare ds))) (bare gs ≢ bare ds))
+other_by_count true gs ds r e start tells = absurd cc
+other_by_count false gs ds r e start tells = (
+  λ yes same.
+      let short : length gs < length ds = tells.0 yes in
+      omega (arith, ap (λ (l : List Reply). length l) same, length-map gs (λ (x : InTurn Reply). x.what), length-map ds (λ (x : InTurn Reply). x.what)),
+  λ not. pick not r refl,
 )
   where
-    pick : (xs ≢ ys) → (b : Bool) → nat_lt n m ≡ b → b ≡ true
+    pick : (bare gs ≢ bare ds) → (b : Bool) → r ≡ b → b ≡ true
     pick not true h = refl
     pick not false h =
-        let more : m ≤ n = grind (arith, nat_tests) in
-        absurd (not (begins_all xs ys start (omega arith)))
+        let no : length gs < length ds → false ≡ true = λ less. sym h ∙ tells.1 less in
+        let more : length ds ≤ length gs = grind (arith, nat_tests, no) in
+        absurd (not (begins_all (bare gs) (bare ds) start (omega (arith, more, length-map gs (λ (x : InTurn Reply). x.what), length-map ds (λ (x : InTurn Reply). x.what)))))

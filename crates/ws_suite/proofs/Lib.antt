@@ -1,6 +1,7 @@
 mod EvidenceLemmas
 mod TurnsCollected
 mod JudgeLemmas
+mod PlaceLemmas
 mod GrowingLemmas
 mod DoomLemmas
 mod LastBytes

@@ -1,15 +1,22 @@
 -- Inside the crate: lists of replies as the judge's functions see them. A reader may skip this file.
-use Rattle.std.specs.Prelude.{◌≡◌, Bool, true, List, [], ◌∷◌, map, Option, None, Some}
+use Rattle.std.specs.Prelude.{◌≡◌, ◌↔◌, ℕ, ◌<◌, ◌≤◌, Bool, true, List, [], ◌∷◌, length, map, Option, None, Some}
 use Rattle.std.specs.Borrow.{Bor}
+use Rattle.std.specs.BTreeMap.{BTreeMap, get_by}
+use Rattle.std.specs.Cmp.Lexicographic.{slice_cmp}
+use Rattle.std.specs.List.{list_any, slice_get, zip}
+use Rattle.std.specs.Ordering.{nat_cmp}
 use Rattle.ws_wire.specs.declared.role.Role.{Role}
 use Rattle.ws_suite.specs.declared.verdict.FailWhy.{FailWhy}
 use Rattle.ws_suite.specs.declared.verdict.LooseWhy.{LooseWhy}
 use Rattle.ws_suite.specs.declared.evidence.InTurn.{InTurn}
 use Rattle.ws_suite.specs.declared.evidence.Reply.{Reply}
 use Rattle.ws_suite.specs.declared.evidence.Evidence.{Evidence}
+use Rattle.ws_suite.specs.declared.judging.findings.Findings.{Findings}
 use Rattle.ws_suite.specs.declared.judging.replies.Lists.{Lists}
-use Rattle.ws_suite.specs.Matching.{due_messages, due_pongs, got_messages, got_pongs}
-use Rattle.ws_suite.specs.Verdicts.{FailsNowhere, IsLowestFail, IsLowestLoose, IsNowhereLoose}
+use Rattle.ws_suite.specs.Matching.{HasLastPong, IsBeginningOf, IsShortOfMessages, IsShortOfPongs, IsWithSomeLeftOut}
+use Rattle.ws_suite.specs.Matching.{bare, due_messages, due_pongs, got_messages, got_pongs, matches, payload_of}
+use Rattle.ws_suite.specs.Verdicts.{FailsNowhere, IsLowestFail, IsLowestLoose, IsNowhereLoose, is_before}
+use Rattle.ws_suite.specs.Verdicts.{is_before_match, is_unmatched}
 
 -- what references to replies point to
 abbrev pub targets : List (Bor (InTurn Reply)) → List (InTurn Reply)
@@ -21,6 +28,23 @@ pub record AreListsOf (x : Evidence) (lists : Lists) : Type 0 where
   pub got_messages : targets lists.got_messages.items ≡ got_messages x
   pub due_pongs : targets lists.due_pongs.items ≡ due_pongs x
   pub got_pongs : targets lists.got_pongs.items ≡ got_pongs x
+
+-- what was found by comparing what was got with what is due, with the words of the verdict's definition
+pub record AreFindingsOf (x : Evidence) (found : Findings) : Type 0 where
+  pub has_early_message : found.has_early_message ≡ list_any is_before (zip (got_messages x) (due_messages x))
+  pub has_early_pong : found.has_early_pong ≡ list_any is_before_match (matches x)
+  pub has_unmatched_pong : found.has_unmatched_pong ≡ list_any is_unmatched (matches x)
+  pub begins : (found.begins ≡ true) ↔ IsBeginningOf (bare (got_messages x)) (bare (due_messages x))
+  pub is_short_of_messages : (found.is_short_of_messages ≡ true) ↔ IsShortOfMessages x
+  pub is_short_of_pongs : (found.is_short_of_pongs ≡ true) ↔ IsShortOfPongs x
+  pub owes_pongs : (found.owes_pongs ≡ true) ↔ (0 < length (due_pongs x))
+  pub has_last_pong : (found.has_last_pong ≡ true) ↔ HasLastPong x
+  pub keeps_order : (found.keeps_order ≡ true) ↔ IsWithSomeLeftOut (bare x.got.replies) (bare x.due.replies)
+
+-- each of these pongs stands at no later place than the one that is known as the last of its payload
+abbrev pub AreLastPlaces : List (InTurn Reply) → BTreeMap (Bor (List ℕ)) ℕ → Type 0
+AreLastPlaces due places = (place : ℕ) (pong : InTurn Reply) → slice_get due place ≡ Some pong
+    → (last : ℕ) × (get_by (λ (k : Bor (List ℕ)). slice_cmp nat_cmp (payload_of pong.what) k.now) places ≡ Some last) × (place ≤ last)
 
 -- the lowest Fail that applies, or there is none
 abbrev pub IsFirstFail : Role → Evidence → Option FailWhy → Type 0

@@ -1,6 +1,7 @@
 //! The judge: which rules the tested end broke, by what a transcript shows.
 
 mod fails;
+mod findings;
 mod looses;
 mod pongs;
 mod replies;
@@ -11,8 +12,8 @@ ghost use Rattle.ws_suite.specs.Verdicts.{IsVerdictOf, IsVerdictOn};
 
 use crate::evidence::{Evidence, evidence_of, with_doom};
 use crate::judging::fails::first_fail;
+use crate::judging::findings::findings_of;
 use crate::judging::looses::first_loose;
-use crate::judging::replies::lists_of;
 use crate::verdict::Verdict;
 use std::alloc::Global;
 use ws_base::NoMemory;
@@ -44,11 +45,11 @@ pub fn judge_end(alloc: Global, tested: Role, transcript: &Transcript) -> Result
 fn verdict_on(alloc: Global, tested: Role, evidence: &Evidence) -> Result<Verdict, NoMemory>
     ensures { IfOk result (λ verdict. IsVerdictOn tested evidence.now verdict) }
 {
-    let lists = lists_of(alloc, evidence)?;
-    if let Some(why) = first_fail(tested, evidence, &lists) {
+    let found = findings_of(alloc, evidence)?;
+    if let Some(why) = first_fail(tested, evidence, found) {
         return Ok(Verdict::Fail(why));
     }
-    match first_loose(tested, evidence, &lists) {
+    match first_loose(tested, evidence, found) {
         Some(why) => Ok(Verdict::Loose(why)),
         None => Ok(Verdict::Pass),
     }

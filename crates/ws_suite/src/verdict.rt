@@ -6,7 +6,7 @@ ghost use Rattle.ws_suite.specs.Words.{fail_name, loose_name, verdict_words};
 use std::fmt;
 
 /// Whether the tested end kept the rules: the first `Fail` that applies, else the first `Loose`, else `Pass`.
-#[derive(Clone, Copy)]
+#[derive(Clone, Copy, Debug, PartialEq, Eq)]
 pub enum Verdict {
     /// It sent what is due, and ended the connection as it should.
     Pass,
@@ -17,7 +17,7 @@ pub enum Verdict {
 }
 
 /// Which rule was broken: of several, the one with the lowest number.
-#[derive(Clone, Copy)]
+#[derive(Clone, Copy, Debug, PartialEq, Eq)]
 pub enum FailWhy {
     /// What was got breaks the rules of frames (RFC 6455 section 5), goes on after a close frame, or ends inside a
     /// frame.
@@ -36,7 +36,7 @@ pub enum FailWhy {
 }
 
 /// What was otherwise: of several, the one with the lowest number.
-#[derive(Clone, Copy)]
+#[derive(Clone, Copy, Debug, PartialEq, Eq)]
 pub enum LooseWhy {
     /// Not every ping was answered, but the last one was.
     PongsSkipped = 1,

@@ -1,34 +1,33 @@
 //! The six Fails, in their order.
 
 ghost use Rattle.std.specs.Prelude.{◌≡◌, ◌↔◌, IsTrue};
-ghost use Rattle.ws_suite.specs.InnerJudging.{AreListsOf, IsFirstFail};
+ghost use Rattle.ws_suite.specs.InnerJudging.{AreFindingsOf, IsFirstFail};
 ghost use Rattle.ws_suite.specs.Verdicts.{HasOtherClose, HasOtherEnd, HasOtherMessages, HasOtherPongs};
 ghost use Rattle.ws_suite.specs.Verdicts.{IsEarly, IsEarlyClose, IsNotFrames};
 
 use crate::evidence::{
     Ending, Evidence, InTurn, ends_with_close, ends_with_fault, is_close_ending,
 };
-use crate::judging::pongs::{has_last_pong, match_pongs};
-use crate::judging::replies::{Lists, any_before, begins};
+use crate::judging::findings::Findings;
 use crate::verdict::FailWhy;
 use ws_scripts::Ended;
 use ws_wire::Role;
 
 /// The lowest Fail that applies.
-pub(super) fn first_fail(tested: Role, x: &Evidence, lists: &Lists<'_>) -> Option<FailWhy>
-    requires { AreListsOf x.now lists.now }
+pub(super) fn first_fail(tested: Role, x: &Evidence, found: Findings) -> Option<FailWhy>
+    requires { AreFindingsOf x.now found }
     ensures { IsFirstFail tested x.now result }
 {
     if is_not_frames(x) {
         return Some(FailWhy::NotFrames);
     }
-    if is_early(x, lists) {
+    if is_early(x, found) {
         return Some(FailWhy::Early);
     }
-    if has_other_messages(x, lists) {
+    if has_other_messages(x, found) {
         return Some(FailWhy::Messages);
     }
-    if has_other_pongs(x, lists) {
+    if has_other_pongs(x, found) {
         return Some(FailWhy::Pongs);
     }
     if has_other_close(x) {
@@ -50,12 +49,12 @@ fn is_not_frames(x: &Evidence) -> bool
 
 /// Whether a message, a pong or the close was got before what it answers was sent, and the close doesn't answer what
 /// was doomed by then.
-fn is_early(x: &Evidence, lists: &Lists<'_>) -> bool
-    requires { AreListsOf x.now lists.now }
+fn is_early(x: &Evidence, found: Findings) -> bool
+    requires { AreFindingsOf x.now found }
     ensures { IsTrue result ↔ IsEarly x.now }
 {
-    any_before(&lists.got_messages, &lists.due_messages)
-        || match_pongs(&lists.due_pongs, &lists.got_pongs).is_early
+    found.has_early_message
+        || found.has_early_pong
         || (is_early_close(&x.got.ending, &x.due.ending) && !x.answers_doom)
 }
 
@@ -70,27 +69,20 @@ fn is_early_close(got: &Option<InTurn<Ending>>, due: &Option<InTurn<Ending>>) ->
 }
 
 /// Whether the messages that were got aren't those that are due, or after a fault aren't a beginning of them.
-fn has_other_messages(x: &Evidence, lists: &Lists<'_>) -> bool
-    requires { AreListsOf x.now lists.now }
+fn has_other_messages(x: &Evidence, found: Findings) -> bool
+    requires { AreFindingsOf x.now found }
     ensures { IsTrue result ↔ HasOtherMessages x.now }
 {
-    if !begins(&lists.got_messages, &lists.due_messages) {
-        return true;
-    }
-    !ends_with_fault(&x.due.ending) && lists.got_messages.len() < lists.due_messages.len()
+    !found.begins || (!ends_with_fault(&x.due.ending) && found.is_short_of_messages)
 }
 
 /// Whether a pong that was got has no match, or the last pong that is due isn't there.
-fn has_other_pongs(x: &Evidence, lists: &Lists<'_>) -> bool
-    requires { AreListsOf x.now lists.now }
+fn has_other_pongs(x: &Evidence, found: Findings) -> bool
+    requires { AreFindingsOf x.now found }
     ensures { IsTrue result ↔ HasOtherPongs x.now }
 {
-    if match_pongs(&lists.due_pongs, &lists.got_pongs).is_unmatched {
-        return true;
-    }
-    !ends_with_fault(&x.due.ending)
-        && !lists.due_pongs.is_empty()
-        && !has_last_pong(&lists.due_pongs, &lists.got_pongs)
+    found.has_unmatched_pong
+        || (!ends_with_fault(&x.due.ending) && found.owes_pongs && !found.has_last_pong)
 }
 
 /// Whether a close is due and none was got, or one was got without a cause.

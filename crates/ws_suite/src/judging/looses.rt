@@ -1,26 +1,25 @@
 //! The six Looses, in their order.
 
 ghost use Rattle.std.specs.Prelude.{◌≡◌, ◌↔◌, IsTrue};
-ghost use Rattle.ws_suite.specs.InnerJudging.{AreListsOf, IsFirstLoose};
+ghost use Rattle.ws_suite.specs.InnerJudging.{AreFindingsOf, IsFirstLoose};
 ghost use Rattle.ws_suite.specs.Matching.{IsCodeFor};
 ghost use Rattle.ws_suite.specs.Verdicts.{EchoesShort, EndsLate, HasOtherCode, IsCloseInTurn, SkipsPongs};
 
 use crate::evidence::{Ending, Evidence, InTurn, ends_with_fault, is_close_ending};
-use crate::judging::pongs::has_last_pong;
-use crate::judging::replies::{Lists, are_left};
+use crate::judging::findings::Findings;
 use crate::verdict::LooseWhy;
 use ws_scripts::Ended;
 use ws_wire::Role;
 
 /// The lowest Loose that applies.
-pub(super) fn first_loose(tested: Role, x: &Evidence, lists: &Lists<'_>) -> Option<LooseWhy>
-    requires { AreListsOf x.now lists.now }
+pub(super) fn first_loose(tested: Role, x: &Evidence, found: Findings) -> Option<LooseWhy>
+    requires { AreFindingsOf x.now found }
     ensures { IsFirstLoose tested x.now result }
 {
-    if skips_pongs(x, lists) {
+    if skips_pongs(x, found) {
         return Some(LooseWhy::PongsSkipped);
     }
-    if !are_left(x.got.replies.as_slice(), x.due.replies.as_slice()) {
+    if !found.keeps_order {
         return Some(LooseWhy::PongElsewhere);
     }
     if has_other_code(x) {
@@ -29,7 +28,7 @@ pub(super) fn first_loose(tested: Role, x: &Evidence, lists: &Lists<'_>) -> Opti
     if ends_late(tested, x) {
         return Some(LooseWhy::LateEnd);
     }
-    if echoes_short(x, lists) {
+    if echoes_short(x, found) {
         return Some(LooseWhy::EchoShort);
     }
     if x.ended == Ended::Broken {
@@ -39,12 +38,11 @@ pub(super) fn first_loose(tested: Role, x: &Evidence, lists: &Lists<'_>) -> Opti
 }
 
 /// Whether there are fewer pongs than are due, and the last one is there.
-fn skips_pongs(x: &Evidence, lists: &Lists<'_>) -> bool
-    requires { AreListsOf x.now lists.now }
+fn skips_pongs(x: &Evidence, found: Findings) -> bool
+    requires { AreFindingsOf x.now found }
     ensures { IsTrue result ↔ SkipsPongs x.now }
 {
-    lists.got_pongs.len() < lists.due_pongs.len()
-        && has_last_pong(&lists.due_pongs, &lists.got_pongs)
+    found.is_short_of_pongs && found.has_last_pong
 }
 
 /// Whether a close was got with another code than is due or right.
@@ -98,16 +96,12 @@ fn is_close_in_turn(got: &Option<InTurn<Ending>>, turn: usize) -> bool
 }
 
 /// Whether after a fault there are fewer messages than are due, or fewer pongs and not the last.
-fn echoes_short(x: &Evidence, lists: &Lists<'_>) -> bool
-    requires { AreListsOf x.now lists.now }
+fn echoes_short(x: &Evidence, found: Findings) -> bool
+    requires { AreFindingsOf x.now found }
     ensures { IsTrue result ↔ EchoesShort x.now }
 {
     if !ends_with_fault(&x.due.ending) {
         return false;
     }
-    if lists.got_messages.len() < lists.due_messages.len() {
-        return true;
-    }
-    lists.got_pongs.len() < lists.due_pongs.len()
-        && !has_last_pong(&lists.due_pongs, &lists.got_pongs)
+    found.is_short_of_messages || (found.is_short_of_pongs && !found.has_last_pong)
 }

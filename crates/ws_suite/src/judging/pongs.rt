@@ -1,12 +1,17 @@
 //! Pongs and the pings that they answer (RFC 6455 section 5.5.3).
 
-ghost use Rattle.std.specs.Prelude.{◌≡◌, ◌↔◌, ◌<◌, ◌≤◌, ◌||◌, IsTrue, None, drop, find, length, take};
+ghost use Rattle.std.specs.Prelude.{◌≡◌, ◌↔◌, ◌<◌, ◌≤◌, ◌||◌, List, IfOk, IsTrue, None, drop, false, find, length, take};
 ghost use Rattle.std.specs.List.{list_any};
-ghost use Rattle.ws_suite.specs.InnerJudging.{IsAtFront, targets};
+ghost use Rattle.ws_suite.specs.declared.evidence.InTurn.{InTurn};
+ghost use Rattle.ws_suite.specs.declared.evidence.Reply.{Reply};
+ghost use Rattle.ws_suite.specs.InnerJudging.{AreLastPlaces, IsAtFront, targets};
 ghost use Rattle.ws_suite.specs.Matching.{IsLastPong, due_after, has_payload_of, matches_of, payload_of};
 ghost use Rattle.ws_suite.specs.Verdicts.{is_before_match, is_unmatched};
 
 use crate::evidence::{InTurn, Reply, is_answer};
+use std::alloc::Global;
+use std::collections::BTreeMap;
+use ws_base::NoMemory;
 
 /// What comes of the matching: each got pong with the first due pong after the last one matched that has its payload.
 #[derive(Clone, Copy)]
@@ -17,23 +22,57 @@ pub(super) struct Matched {
     pub is_unmatched: bool,
 }
 
-/// Matches the pongs from the front. A pong without a match costs a pass over those that are due.
-pub(super) fn match_pongs(due: &[&InTurn<Reply>], got: &[&InTurn<Reply>]) -> Matched
-    ensures early { result.is_early ≡ list_any is_before_match (matches_of (targets due.now) (targets got.now)) }
-    ensures unmatched { result.is_unmatched ≡ list_any is_unmatched (matches_of (targets due.now) (targets got.now)) }
+/// Matches the pongs from the front. Only a pong that has a match walks over those that are due, up to its match: so
+/// each due pong is passed once.
+pub(super) fn match_pongs<'a>(
+    alloc: Global,
+    due: &[&'a InTurn<Reply>],
+    got: &[&'a InTurn<Reply>],
+) -> Result<Matched, NoMemory>
+    ensures early { IfOk result (λ matched.
+        matched.is_early ≡ list_any is_before_match (matches_of (targets due.now) (targets got.now))) }
+    ensures unmatched { IfOk result (λ matched.
+        matched.is_unmatched ≡ list_any is_unmatched (matches_of (targets due.now) (targets got.now))) }
 {
+    let places = last_places(alloc, due)?;
     let mut next = 0;
     let mut is_early = false;
     let mut is_unmatched = false;
     for pong in got {
-        let first = match_first(pong, &due[next..]);
+        let is_left = is_left(pong, &places, next);
+        let first = match_first(pong, &due[next..], is_left);
         is_early = either(is_early, first.is_early);
         is_unmatched = either(is_unmatched, first.is_unmatched);
         next += first.passed;
     }
-    Matched {
+    Ok(Matched {
         is_early,
         is_unmatched,
+    })
+}
+
+/// The place at which each payload stands last among pongs.
+type LastPlaces<'a> = BTreeMap<&'a [u8], usize>;
+
+/// Where the payloads of the due pongs stand last.
+fn last_places<'a>(alloc: Global, due: &[&'a InTurn<Reply>]) -> Result<LastPlaces<'a>, NoMemory>
+    ensures { IfOk result (λ places. AreLastPlaces (targets due.now) places) }
+{
+    let mut places = BTreeMap::new(alloc);
+    for place in 0..due.len() {
+        places.insert(payload(&due[place].what), place)?;
+    }
+    Ok(places)
+}
+
+/// Whether a due pong with the payload of this one stands at this place or after it.
+fn is_left<'a>(pong: &'a InTurn<Reply>, places: &LastPlaces<'a>, next: usize) -> bool
+    ensures { (due : List (InTurn Reply)) → AreLastPlaces due places.now → result ≡ false
+        → find (has_payload_of pong.now) (drop next due) ≡ None }
+{
+    match places.get(&payload(&pong.what)) {
+        Some(last) => next <= *last,
+        None => false,
     }
 }
 
@@ -53,14 +92,15 @@ struct First {
     passed: usize,
 }
 
-/// Matches one pong with the first due pong that has its payload.
-fn match_first(pong: &InTurn<Reply>, due: &[&InTurn<Reply>]) -> First
+/// Matches one pong with the first due pong that has its payload, where it is known whether one may have it.
+fn match_first(pong: &InTurn<Reply>, due: &[&InTurn<Reply>], is_left: bool) -> First
+    requires { is_left ≡ false → find (has_payload_of pong.now) (targets due.now) ≡ None }
     ensures early { result.is_early ≡ is_before_match (pong.now, find (has_payload_of pong.now) (targets due.now)) }
     ensures no_match { result.is_unmatched ≡ is_unmatched (pong.now, find (has_payload_of pong.now) (targets due.now)) }
     ensures within { result.passed ≤ length due.now }
     ensures left { targets (drop result.passed due.now) ≡ due_after pong.now (targets due.now) }
 {
-    let place = first_with(pong, due);
+    let place = first_left(pong, due, is_left);
     if place < due.len() {
         First {
             is_early: pong.turn < due[place].turn,
@@ -73,6 +113,21 @@ fn match_first(pong: &InTurn<Reply>, due: &[&InTurn<Reply>]) -> First
             is_unmatched: true,
             passed: 0,
         }
+    }
+}
+
+/// The place of the first due pong with the payload of this one, or how many there are. Nothing is walked where none has
+/// it.
+fn first_left(pong: &InTurn<Reply>, due: &[&InTurn<Reply>], is_left: bool) -> usize
+    requires { is_left ≡ false → find (has_payload_of pong.now) (targets due.now) ≡ None }
+    ensures within { result ≤ length due.now }
+    ensures passed { find (has_payload_of pong.now) (targets (take result due.now)) ≡ None }
+    ensures there { result < length due.now → IsAtFront (has_payload_of pong.now) (targets (drop result due.now)) }
+{
+    if is_left {
+        first_with(pong, due)
+    } else {
+        due.len()
     }
 }
 

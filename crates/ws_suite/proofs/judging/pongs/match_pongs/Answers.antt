@@ -1,5 +1,6 @@
-use Rattle.std.proofs.Common.{◌≡◌, ◌∙◌, ◌+◌, List, Bor, find, ap, sym, subst, drop, length, arith}
+use Rattle.std.proofs.Common.{◌≡◌, ◌∙◌, ◌+◌, List, None, Bor, find, ap, sym, subst, drop, length, arith}
 use Rattle.std.proofs.lemmas.List.{drop-drop, length-drop, take_rest}
+use Rattle.std.specs.List.{drop-map}
 use Rattle.ws_suite.specs.declared.evidence.InTurn.{InTurn}
 use Rattle.ws_suite.specs.declared.evidence.Reply.{Reply}
 use Rattle.ws_suite.specs.InnerJudging.{targets}
@@ -29,3 +30,11 @@ loop-pong-preserved c =
       unmatched = match_step is_unmatched c.loop-pong.is_unmatched first.is_unmatched c.either-is_unmatched.result _ pong.now (drop i (targets c.args.got.now)) (drop (i + 1) (targets c.args.got.now)) (targets here) (targets (drop (next + first.passed) due))
           laters unmatched left c.either-is_unmatched.ensures c.loop-pong.invariant.unmatched;
     }
+
+pub match_first-first-requires : goal.match_first-first-requires
+match_first-first-requires c = λ no.
+    let due = c.args.due.now in
+    let next = c.loop-pong.next in
+    let none = c.is_left-is_left.ensures (targets due) c.in_ok-places.ensures no in
+    subst (λ (l : List (Bor (InTurn Reply))). find (has_payload_of c.pong-item.result.now) (targets l) ≡ None) (sym (take_rest due next))
+    (subst (λ (l : List (InTurn Reply)). find (has_payload_of c.pong-item.result.now) l ≡ None) (drop-map (λ (r : Bor (InTurn Reply)). r.now) next due) none)
