@@ -150,12 +150,14 @@ def sends_until(client, ends, piece, pause):
 
 
 def stays_and_is_silent():
-    """A client that neither sends nor ends behind its session is left in time."""
+    """A client that neither sends nor ends behind its session is told at once, and left in time."""
     server = Server(2)
     client = server.client()
     client.send(REQUEST, CLOSE)
     assert client.rest() == RESPONSE + CLOSE_BACK
+    began = time.monotonic()
     assert server.line() == "1 clean 1000"
+    assert time.monotonic() - began < 1
     goes_on(server, 2, IN_TIME)
     client.close()
 

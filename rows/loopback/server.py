@@ -148,6 +148,12 @@ def free_port():
         return listener.getsockname()[1]
 
 
+def max_resident(process):
+    """The most memory that a process has had so far, in bytes."""
+    with open(f"/proc/{process}/status", encoding="ascii") as lines:
+        return next(1024 * int(line.split()[1]) for line in lines if line.startswith("VmHWM:"))
+
+
 def connected(port):
     """A connection to a port at which something listens soon."""
     until = time.monotonic() + SECONDS

@@ -1,13 +1,20 @@
 """Servers that `wst test` meets and that go away, answer something else or nothing."""
 
+import socket
 import time
 
-from server import Server, Tested, run
+from server import Server, Tested, max_resident, run
 from test_lines import passes
-from wire import CLOSE_BACK, EMPTY_BACK, EMPTY_TEXT, MASKED_CLOSE, RESPONSE, request_to
+from wire import CLOSE_BACK, EMPTY_BACK, EMPTY_TEXT, FAILED_1002, MASKED_CLOSE, RESPONSE, request_to
 
 CLOSED = b"no connection: closed before the answer\n"
 SILENT = b"no connection: timed out\n"
+
+# The first byte of the case 5.11: a continuation, where no message is under way.
+FIRST_OF_5_11 = b"\x80"
+
+# The length of the ping of the case 2.6, which is sent byte by byte: a header of six bytes, and 125.
+PING_OF_2_6 = 131
 
 LARGE = b"HTTP/1.1 101 Switching Protocols\r\nX: " + b"a" * 9000
 
@@ -75,6 +82,39 @@ def closes_first_and_waits():
     assert client.rest() == request_to(server.address) + EMPTY_TEXT
     client.close()
     server.ends("1.1.1 FAIL Messages\n0 pass, 0 loose, 1 fail\n", status=1)
+
+
+def fails_at_the_first_byte():
+    """A server that fails the connection at the first byte of a wrong frame, and resets it soon or late, does right:
+    the bytes of the frame that are still under way break the tester's writes (RFC 6455 sections 5.4 and 7.1.7)."""
+    for pause in (0, 0, 0, 0, 0.001, 0.05):
+        server = Tested("5.11")
+        client = server.next()
+        client.send(RESPONSE)
+        sent = request_to(server.address) + FIRST_OF_5_11
+        assert client.get(len(sent)) == sent
+        client.send(FAILED_1002)
+        time.sleep(pause)
+        client.reset()
+        server.ends("5.11 LOOSE BrokenEnd\n0 pass, 1 loose, 0 fail\n")
+
+
+def unlawful_and_waits():
+    """Nor does one whose frame is masked, whose pong nobody asked for comes where a message is owed, or that goes on
+    behind its close. Only one that owes something keeps the test waiting, and no longer than its limit of time."""
+    for sent, verdict in (
+        (b"\x81\x80\0\0\0\0", "NotFrames"),
+        (b"\x8a\x01q", "Messages"),
+        (CLOSE_BACK, "Messages"),
+        (CLOSE_BACK + EMPTY_BACK, "NotFrames"),
+    ):
+        server = Tested("--timeout=1", "1.1.1")
+        client = server.next()
+        began = time.monotonic()
+        client.send(RESPONSE, sent)
+        server.ends(f"1.1.1 FAIL {verdict}\n0 pass, 0 loose, 1 fail\n", status=1)
+        assert time.monotonic() - began < 3
+        client.close()
 
 
 def garbage_for_a_head():
@@ -188,6 +228,45 @@ def sends_without_an_end():
     server.ends("1.1.1 PASS\n1 pass, 0 loose, 1 fail\n", status=1)
 
 
+def floods_a_case():
+    """One that sends as much as it can costs little more memory than the bytes that are read of it."""
+    server = Tested("--budget=16777216", "1.1.1")
+    client = server.next()
+    client.send(RESPONSE)
+    messages = b"\x82\x7e\xff\xff" + bytes(65535)
+    most = 0
+    try:
+        while True:
+            client.send(messages)
+            most = max_resident(server.process.pid)
+    except OSError:
+        client.close()
+    assert 16_777_216 < most < 80_000_000, most
+    server.ends("1.1.1 FAIL Messages\n0 pass, 0 loose, 1 fail\n", status=1)
+
+
+def each_piece_goes_out_at_once():
+    """What is sent in pieces is not held back until the server acknowledges the first: one that delays that, as Linux
+    does by at least 40 ms, has the whole turn at once. The quickest of ten runs counts, on a machine that is busy."""
+    assert min(time_of_the_pieces() for _ in range(10)) < 0.02
+
+
+def time_of_the_pieces():
+    """How long the bytes of a frame are on their way that is sent byte by byte, between the first and the last one."""
+    server = Tested("2.6")
+    client = server.next()
+    client.stream.setsockopt(socket.IPPROTO_TCP, socket.TCP_QUICKACK, 0)
+    client.get(len(request_to(server.address)))
+    client.send(RESPONSE)
+    client.get(1)
+    began = time.monotonic()
+    assert len(client.get(PING_OF_2_6 - 1)) == PING_OF_2_6 - 1
+    taken = time.monotonic() - began
+    client.reset()
+    assert server.line().startswith("2.6 FAIL")
+    return taken
+
+
 def takes_no_connection():
     """A connection that is not made in time: the queue of the listener is full."""
     server = Tested("--timeout=1", "1.1.1", backlog=0, waiting=4)
@@ -244,6 +323,8 @@ TESTS = [
     ends_in_a_frame,
     sends_a_fault_and_waits,
     closes_first_and_waits,
+    fails_at_the_first_byte,
+    unlawful_and_waits,
     garbage_for_a_head,
     never_answers,
     silent_in_the_head,
@@ -253,6 +334,8 @@ TESTS = [
     stays_behind_its_close,
     a_byte_each_half_second,
     sends_without_an_end,
+    floods_a_case,
+    each_piece_goes_out_at_once,
     takes_no_connection,
     two_in_a_row,
     three_in_a_row,
