@@ -140,6 +140,7 @@ fn answer_below_sessions(
         "upgrade" => upgrades::tell_upgrade(alloc, words, out),
         "read_response" => upgrades::read_a_response(alloc, words, out),
         "request_with" => protocols::make_request(alloc, words, out),
+        "request_for" => protocols::make_request_for(alloc, words, out),
         "response_with" => protocols::make_response(alloc, words, out),
         "read_request_with" => protocols::read_a_request(alloc, words, out),
         "read_response_with" => protocols::read_a_response(alloc, words, out),

@@ -7,7 +7,8 @@ use std::alloc::Global;
 use std::fmt::Write;
 use ws_formats::Hex;
 use ws_upgrade::{
-    RequestRead, ResponseRead, read_request_with, read_response_with, request_with, response_with,
+    AddedHeader, RequestRead, ResponseRead, read_request_with, read_response_with, request_for,
+    request_with, response_with,
 };
 
 /// `request_with HOST PATH NONCE OFFER ..`: the text, or why there is none.
@@ -24,6 +25,40 @@ pub fn make_request(alloc: Global, words: &[&str], out: &mut String) -> Result<(
         Err(fault) => write!(out, "refused {fault}")?,
     }
     Ok(())
+}
+
+/// `request_for HOST PATH NONCE OFFER NAME VALUE ..`: the text, or why there is none. Where the offer has no byte there
+/// is none.
+pub fn make_request_for(alloc: Global, words: &[&str], out: &mut String) -> Result<(), RowFault> {
+    let [host, path, nonce, offer, parts @ ..] = words else {
+        return Err(RowFault::NotARow);
+    };
+    let (host, path) = (bytes_of(alloc, host)?, bytes_of(alloc, path)?);
+    let nonce = nonce_of(alloc, nonce)?;
+    let offer = bytes_of(alloc, offer)?;
+    let offer = [offer.as_slice()];
+    let offers = if offer[0].is_empty() { &offer[..0] } else { &offer[..] };
+    let parts = pieces_of(alloc, parts)?;
+    let headers = headers_of(alloc, &parts)?;
+    match request_for(alloc, host.as_slice(), path.as_slice(), nonce, offers, &headers) {
+        Ok(text) => write!(out, "{}", Hex(text.as_slice()))?,
+        Err(fault) => write!(out, "refused {fault}")?,
+    }
+    Ok(())
+}
+
+/// The headers whose names and values these are by turns.
+fn headers_of(alloc: Global, parts: &[Vec<u8>]) -> Result<Vec<AddedHeader<'_>>, RowFault> {
+    let mut headers = Vec::new(alloc);
+    let mut rest = parts;
+    while let [name, value, others @ ..] = rest {
+        headers.push(AddedHeader {
+            name: name.as_slice(),
+            value: value.as_slice(),
+        })?;
+        rest = others;
+    }
+    Ok(headers)
 }
 
 /// `response_with ACCEPT`, and `response_with ACCEPT NAME`: the text, or why there is none.

@@ -98,8 +98,8 @@ pub first_elsewhere : (names : List (List ℕ)) (name : List ℕ) (n : ℕ) (fou
 first_elsewhere names name n None unknown there differs distinct = unknown (n, slice_get_within names n name there, get_or_from_slice_get names n name name there)
 first_elsewhere names name n (Some place) at there differs distinct = AreDistinctBelow-fails names name n place there at (λ same. differs (ap Some same)) distinct
 
--- what is asked of each element of a list of texts
-pub All-unmap : {X : Type 0} (P : List ℕ → Type 0) (text : X → List ℕ) (xs : List X) → All P (map text xs) → All (λ x. P (text x)) xs
+-- what is asked of each element of a list
+pub All-unmap : {X Y : Type 0} (P : Y → Type 0) (text : X → Y) (xs : List X) → All P (map text xs) → All (λ x. P (text x)) xs
 All-unmap P text xs each k d lt =
     let inside : k < length (map text xs) = rw (length-map xs text) lt in
     subst P (get_or-map text xs k d (text d) lt) (each k (text d) inside)

@@ -8,7 +8,8 @@ use Rattle.ws_upgrade.specs.Accept.{key_of, accept_value_of}
 use Rattle.ws_upgrade.specs.Members.{HeaderPairs, members_in, members_of, has_member}
 use Rattle.ws_upgrade.specs.Heads.{RequestParts, IsRequestRefusal, IsResponseRefusal}
 use Rattle.ws_upgrade.specs.Protocols.{protocols_in, AreOffers, IsChoice, NamesOffered}
-use Rattle.ws_upgrade.specs.Texts.{request_text, request_bytes, response_text, response_bytes, refusal_bytes}
+use Rattle.ws_upgrade.specs.AddedHeaders.{is_kept_name}
+use Rattle.ws_upgrade.specs.Texts.{request_text, request_text_for, request_bytes, response_text, response_bytes, refusal_bytes}
 use Rattle.ws_upgrade.specs.declared.faults.HeadFault.TheVariants.{Head, Method, Host, Connection, Status, WsVersion}
 
 -- ---- the key and its accept value
@@ -144,6 +145,26 @@ pub request_of_two_offers : request_text (codes "a") (codes "/") sample_key (sup
     ++ codes "Sec-WebSocket-Key: dGhlIHNhbXBsZSBub25jZQ==\r\nSec-WebSocket-Version: 13\r\n"
     ++ codes "Sec-WebSocket-Protocol: superchat, chat\r\n\r\n"
 request_of_two_offers = refl
+
+pub request_of_two_headers : request_text_for (codes "a") (codes "/?x=1+2") sample_key (chat ∷ [])
+    ((codes "Origin", codes "http://b") ∷ (codes "X", []) ∷ [])
+    ≡ codes "GET /?x=1+2 HTTP/1.1\r\nHost: a\r\nUpgrade: websocket\r\nConnection: Upgrade\r\n"
+    ++ codes "Sec-WebSocket-Key: dGhlIHNhbXBsZSBub25jZQ==\r\nSec-WebSocket-Version: 13\r\n"
+    ++ codes "Sec-WebSocket-Protocol: chat\r\nOrigin: http://b\r\nX: \r\n\r\n"
+request_of_two_headers = refl
+
+-- a name that is kept, in another case, and what begins like the protocol's own; and two that are not
+pub host_in_lower_case_is_kept : is_kept_name (codes "host") ≡ true
+host_in_lower_case_is_kept = refl
+
+pub own_header_of_the_protocol_is_kept : is_kept_name (codes "SEC-websocket-x") ≡ true
+own_header_of_the_protocol_is_kept = refl
+
+pub longer_name_is_free : is_kept_name (codes "Hosts") ≡ false
+longer_name_is_free = refl
+
+pub shorter_front_is_free : is_kept_name (codes "Sec-WebSocket") ≡ false
+shorter_front_is_free = refl
 
 pub response_of_superchat : response_text sample_accept (Some superchat)
     ≡ codes "HTTP/1.1 101 Switching Protocols\r\nUpgrade: websocket\r\nConnection: Upgrade\r\n"

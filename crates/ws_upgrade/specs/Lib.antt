@@ -1,6 +1,7 @@
 pub mod Accept
 pub mod Members
 pub mod Protocols
+pub mod AddedHeaders
 pub mod Heads
 pub mod Reading
 pub mod Texts

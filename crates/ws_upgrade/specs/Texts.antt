@@ -1,9 +1,9 @@
 -- The heads that are written: RFC 6455 sections 4.1, 4.2.2 and 4.4.
-use Rattle.std.specs.Prelude.{◌≡◌, ℕ, ◌≤◌, List, [], ◌∷◌, ◌++◌, length, codes, Bool, ◌||◌, ◌==◌, All, IsTrue, slice_get}
+use Rattle.std.specs.Prelude.{◌≡◌, ℕ, ◌≤◌, List, [], ◌∷◌, ◌++◌, length, map, codes, ◌==◌, not, All, IsTrue, slice_get}
 use Rattle.std.specs.Prelude.{Option, Some, None}
 use Rattle.std.specs.List.{flat_map, list_any, join_by}
-use Rattle.std.specs.Char.{is_ascii_alphanumeric}
 use Rattle.ws_upgrade.specs.Accept.{key_of}
+use Rattle.ws_upgrade.specs.Members.{HeaderPairs}
 use Rattle.ws_upgrade.specs.declared.faults.HeadFault.{HeadFault}
 use Rattle.ws_upgrade.specs.declared.faults.HeadFault.TheVariants.{WsVersion}
 
@@ -33,16 +33,21 @@ header_line name value = name ++ codes ": " ++ value
 abbrev pub IsHost : List ℕ → Type 0
 IsHost host = (1 ≤ length host) × (length host ≤ 255) × All (λ byte. (0x21 ≤ byte) × (byte ≤ 0x7e)) host
 
--- a letter, a digit or one of /-._~?=&%
-abbrev pub is_path_byte : ℕ → Bool
-is_path_byte byte = is_ascii_alphanumeric byte || list_any (λ other. other == byte) (codes "/-._~?=&%")
+-- the ten visible ASCII characters that no path has: " and \, and # < > ^ ` { | }
+abbrev pub no_path_bytes : List ℕ
+no_path_bytes = 34 ∷ 92 ∷ codes "#<>^`{|}"
+
+-- a byte of a path: a visible ASCII character but those
+abbrev pub IsPathByte : ℕ → Type 0
+IsPathByte byte =
+    (0x21 ≤ byte) × (byte ≤ 0x7e) × IsTrue (not (list_any (λ other. other == byte) no_path_bytes))
 
 abbrev pub slash : ℕ
 slash = 47
 
--- a path that can be asked for, our choice: a slash first, at most 2048 bytes, and only those above
+-- a path that can be asked for, our choice: a slash first, and at most 2048 bytes
 abbrev pub IsPath : List ℕ → Type 0
-IsPath path = (slice_get path 0 ≡ Some slash) × (length path ≤ 2048) × All (λ byte. IsTrue (is_path_byte byte)) path
+IsPath path = (slice_get path 0 ≡ Some slash) × (length path ≤ 2048) × All IsPathByte path
 
 -- the line that names these subprotocols, where there are any (section 11.3.4)
 abbrev pub protocol_lines : List (List ℕ) → List (List ℕ)
@@ -50,16 +55,21 @@ protocol_lines [] = []
 protocol_lines (first ∷ others) =
     header_line (codes "Sec-WebSocket-Protocol") (join_by (λ name. name) (codes ", ") (first ∷ others)) ∷ []
 
--- the request of a client with this key and these subprotocols offered (section 4.1)
-abbrev pub request_text : List ℕ → List ℕ → List ℕ → List (List ℕ) → List ℕ
-request_text host path key offers = head_bytes (
+-- the request of a client with this key, these subprotocols offered and these headers added, in their order (section
+-- 4.1)
+abbrev pub request_text_for : List ℕ → List ℕ → List ℕ → List (List ℕ) → HeaderPairs → List ℕ
+request_text_for host path key offers headers = head_bytes (
     request_line path
     ∷ header_line (codes "Host") host
     ∷ header_line (codes "Upgrade") (codes "websocket")
     ∷ header_line (codes "Connection") (codes "Upgrade")
     ∷ header_line (codes "Sec-WebSocket-Key") key
     ∷ header_line (codes "Sec-WebSocket-Version") (codes "13")
-    ∷ protocol_lines offers)
+    ∷ protocol_lines offers ++ map (λ header. header_line header.0 header.1) headers)
+
+-- the request to which no header is added
+abbrev pub request_text : List ℕ → List ℕ → List ℕ → List (List ℕ) → List ℕ
+request_text host path key offers = request_text_for host path key offers []
 
 -- the request of a client with this nonce that offers no subprotocol
 abbrev pub request_bytes : List ℕ → List ℕ → List ℕ → List ℕ

@@ -27,6 +27,7 @@ request_fault_name asked.BadHost = codes "BadHost"
 request_fault_name asked.BadPath = codes "BadPath"
 request_fault_name asked.NoMemory = codes "NoMemory"
 request_fault_name asked.BadProtocol = codes "BadProtocol"
+request_fault_name asked.BadHeader = codes "BadHeader"
 
 abbrev pub response_fault_name : ResponseFault → List ℕ
 response_fault_name answered.BadProtocol = codes "BadProtocol"

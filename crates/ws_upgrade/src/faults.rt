@@ -64,20 +64,21 @@ impl fmt::Display for HeadFault {
 
 impl Error for HeadFault {}
 
-/// Why a request is not made. A bad list of subprotocols is told after a bad path and before want of
-/// memory.
+/// Why a request is not made: the first of these that applies, but want of memory is told last.
 #[derive(Clone, Copy, Debug, PartialEq, Eq)]
 pub enum RequestFault {
     /// The host has not 1 to 255 bytes, or one of them is no visible ASCII character.
     BadHost = 1,
-    /// The path does not begin with `/`, has more than 2048 bytes, or has a byte other than
-    /// letters, digits and `/-._~?=&%`.
+    /// The path does not begin with `/`, has more than 2048 bytes, or has a byte that is no visible ASCII character
+    /// or one of ``"#<>\^`{|}``.
     BadPath = 2,
     /// Memory ran out.
     NoMemory = 3,
     /// More than 16 subprotocols are offered, two that are equal, or one whose name has not 1 to 64
     /// bytes or has a byte other than letters, digits and ``!#$%&'*+-.^_`|~``.
     BadProtocol = 4,
+    /// More than 32 headers are added, or one that `are_added_headers` denies.
+    BadHeader = 5,
 }
 
 impl From<NoMemory> for RequestFault {
@@ -101,6 +102,7 @@ impl fmt::Display for RequestFault {
             RequestFault::BadPath => write!(f, "BadPath"),
             RequestFault::NoMemory => write!(f, "NoMemory"),
             RequestFault::BadProtocol => write!(f, "BadProtocol"),
+            RequestFault::BadHeader => write!(f, "BadHeader"),
         }
     }
 }

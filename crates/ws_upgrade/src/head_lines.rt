@@ -4,7 +4,9 @@ ghost use Rattle.std.specs.Prelude.{◌≡◌, ◌++◌, OnOk, map, codes};
 ghost use Rattle.std.specs.List.{flat_map};
 ghost use Rattle.ws_upgrade.specs.Texts.{line_end, request_line, header_line, lines_bytes, protocol_lines};
 ghost use Rattle.ws_upgrade.specs.Texts.{chosen_names};
+ghost use Rattle.ws_upgrade.specs.AddedHeaders.{header_pair};
 
+use crate::added_headers::AddedHeader;
 use crate::protocols::{PROTOCOL_HEADER, ProtocolName};
 use std::alloc::AllocError;
 
@@ -26,6 +28,20 @@ pub(crate) fn push_header(text: &mut Vec<u8>, name: &[u8], value: &[u8]) -> Resu
     text.extend_from_slice(b": ")?;
     text.extend_from_slice(value)?;
     text.extend_from_slice(b"\r\n")?;
+    Ok(())
+}
+
+/// Adds the lines of headers.
+pub(crate) fn push_headers(
+    text: &mut Vec<u8>,
+    headers: &[AddedHeader<'_>],
+) -> Result<(), AllocError>
+    ensures { OnOk result (text.new.items ≡ text.old.items
+        ++ flat_map (λ header. header_line header.0 header.1 ++ line_end) (map header_pair headers.now)) }
+{
+    for header in headers {
+        push_header(text, header.name, header.value)?;
+    }
     Ok(())
 }
 

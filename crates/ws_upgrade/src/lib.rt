@@ -5,6 +5,7 @@
 #![tactic(auto)]
 
 mod accepting;
+mod added_headers;
 mod faults;
 mod head_lines;
 mod headers;
@@ -17,6 +18,7 @@ mod responses;
 mod writing;
 
 pub use accepting::accept_of;
+pub use added_headers::{AddedHeader, AddedHeaders, are_added_headers};
 pub use faults::{HeadFault, RequestFault, ResponseFault};
 pub use parts::{Host, Path, is_host, is_path};
 pub use protocols::{Offers, ProtocolName, are_offers, is_protocol_name};
@@ -24,5 +26,5 @@ pub use reading::MAX_HEAD;
 pub use requests::{RequestRead, Upgrade, read_request, read_request_with};
 pub use responses::{ResponseRead, read_response, read_response_with};
 pub use writing::{
-    refusal, request, request_of, request_with, response, response_of, response_with,
+    refusal, request, request_for, request_of, request_with, response, response_of, response_with,
 };

@@ -149,7 +149,7 @@ fn first_comma(value: &[u8]) -> Option<usize>
 }
 
 /// The bytes without the spaces and tabs at both ends.
-fn trim(bytes: &[u8]) -> &[u8]
+pub(crate) fn trim(bytes: &[u8]) -> &[u8]
     ensures { result.now ≡ trim_ows bytes.now }
 {
     trim_end(trim_start(bytes))

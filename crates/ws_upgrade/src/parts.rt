@@ -1,7 +1,7 @@
 //! What a request is made of (RFC 6455 section 4.1): a host and a path, each a type whose values were proved fit.
 
 ghost use Rattle.std.specs.Prelude.{◌≡◌, ◌↔◌, IsTrue, MatchOption, codes};
-ghost use Rattle.ws_upgrade.specs.Texts.{IsHost, is_path_byte, IsPath};
+ghost use Rattle.ws_upgrade.specs.Texts.{IsHost, IsPathByte, IsPath};
 
 use std::marker::Model;
 
@@ -75,8 +75,8 @@ impl<'a> Model for Path<'a> {
 }
 
 impl<'a> Path<'a> {
-    /// The path of these bytes: `/` first, at most 2048 bytes, letters, digits and `/-._~?=&%`. `None` where they are
-    /// none.
+    /// The path of these bytes: `/` first, at most 2048 bytes, visible ASCII characters but ``"#<>\^`{|}``. `None`
+    /// where they are none.
     pub fn new(bytes: &'a [u8]) -> Option<Path<'a>>
         ensures { MatchOption result (¬ (IsPath bytes.now)) (λ path. (path ≡ bytes.now) × IsPath bytes.now) }
     {
@@ -131,7 +131,7 @@ pub fn is_path(bytes: &[u8]) -> bool
 
 /// Whether a byte can stand in a path.
 fn is_path_byte(byte: u8) -> bool
-    ensures { result ≡ is_path_byte byte }
+    ensures { IsTrue result ↔ IsPathByte byte }
 {
-    byte.is_ascii_alphanumeric() || b"/-._~?=&%".contains(&byte)
+    matches!(byte, 0x21..=0x7e) && !b"\"#<>\\^`{|}".contains(&byte)
 }

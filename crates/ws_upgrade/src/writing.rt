@@ -3,12 +3,16 @@
 ghost use Rattle.std.specs.Prelude.{◌≡◌, ◌↔◌, IfOk, OnOk, IsErrOf, MatchResult, map, option_map};
 ghost use Rattle.ws_upgrade.specs.Accept.{key_of};
 ghost use Rattle.ws_upgrade.specs.Protocols.{AreOffers, CanBeNamed};
-ghost use Rattle.ws_upgrade.specs.Texts.{IsHost, IsPath, request_text, request_bytes};
+ghost use Rattle.ws_upgrade.specs.AddedHeaders.{AreAddedHeaders, header_pair};
+ghost use Rattle.ws_upgrade.specs.Texts.{IsHost, IsPath, request_text, request_text_for, request_bytes};
 ghost use Rattle.ws_upgrade.specs.Texts.{response_text, response_bytes, refusal_bytes};
 
 use crate::accepting::key_text;
+use crate::added_headers::{AddedHeader, AddedHeaders};
 use crate::faults::{HeadFault, RequestFault, ResponseFault};
-use crate::head_lines::{push_chosen, push_header, push_protocols, push_request_line};
+use crate::head_lines::{
+    push_chosen, push_header, push_headers, push_protocols, push_request_line,
+};
 use crate::parts::{Host, Path};
 use crate::protocols::{Offers, ProtocolName};
 use std::alloc::Global;
@@ -28,7 +32,7 @@ const BAD_REQUEST: &[u8] = b"HTTP/1.1 400 Bad Request\r\n\
 
 /// The head with which a client asks a host for an upgrade at a path, with the key for this nonce.
 /// The host has 1 to 255 visible ASCII characters, and a port where it needs one; the path begins
-/// with `/` and has at most 2048 bytes: letters, digits and `/-._~?=&%`.
+/// with `/` and has at most 2048 bytes, visible ASCII characters but ``"#<>\^`{|}``.
 pub fn request(
     alloc: Global,
     host: &[u8],
@@ -42,6 +46,7 @@ pub fn request(
     ensures bad_host { IsErrOf result RequestFault.BadHost ↔ ¬ (IsHost host.now) }
     ensures bad_path { IsErrOf result RequestFault.BadPath ↔ (IsHost host.now × ¬ (IsPath path.now)) }
     ensures bad_protocol { ¬ (IsErrOf result RequestFault.BadProtocol) }
+    ensures bad_header { ¬ (IsErrOf result RequestFault.BadHeader) }
     ensures memory { IsErrOf result RequestFault.NoMemory → (IsHost host.now × IsPath path.now) }
 {
     let text = request_with(alloc, host, path, nonce, &[])?;
@@ -67,8 +72,40 @@ pub fn request_with(
     ensures bad_path { IsErrOf result RequestFault.BadPath ↔ (IsHost host.now × ¬ (IsPath path.now)) }
     ensures bad_protocol { IsErrOf result RequestFault.BadProtocol
         ↔ (IsHost host.now × IsPath path.now × ¬ (AreOffers (map (λ name. name.now) offers.now))) }
+    ensures bad_header { ¬ (IsErrOf result RequestFault.BadHeader) }
     ensures memory { IsErrOf result RequestFault.NoMemory
         → (IsHost host.now × IsPath path.now × AreOffers (map (λ name. name.now) offers.now)) }
+{
+    let text = request_for(alloc, host, path, nonce, offers, &[])?;
+    Ok(text)
+}
+
+/// The head of `request_with` that also has these headers, behind all others and in this order: those of which
+/// `are_added_headers` says that they can be added.
+pub fn request_for(
+    alloc: Global,
+    host: &[u8],
+    path: &[u8],
+    nonce: [u8; 16],
+    offers: &[&[u8]],
+    headers: &[AddedHeader<'_>],
+) -> Result<Vec<u8>, RequestFault>
+    ensures text { IfOk result (λ text. text.items ≡ request_text_for host.now path.now (key_of nonce)
+        (map (λ name. name.now) offers.now) (map header_pair headers.now)) }
+    ensures asked { OnOk result (IsHost host.now × IsPath path.now × AreOffers (map (λ name. name.now) offers.now)
+        × AreAddedHeaders (map header_pair headers.now)) }
+
+    // Which refusal it is.
+    ensures bad_host { IsErrOf result RequestFault.BadHost ↔ ¬ (IsHost host.now) }
+    ensures bad_path { IsErrOf result RequestFault.BadPath ↔ (IsHost host.now × ¬ (IsPath path.now)) }
+    ensures bad_protocol { IsErrOf result RequestFault.BadProtocol
+        ↔ (IsHost host.now × IsPath path.now × ¬ (AreOffers (map (λ name. name.now) offers.now))) }
+    ensures bad_header { IsErrOf result RequestFault.BadHeader
+        ↔ (IsHost host.now × IsPath path.now × AreOffers (map (λ name. name.now) offers.now)
+        × ¬ (AreAddedHeaders (map header_pair headers.now))) }
+    ensures memory { IsErrOf result RequestFault.NoMemory
+        → (IsHost host.now × IsPath path.now × AreOffers (map (λ name. name.now) offers.now)
+        × AreAddedHeaders (map header_pair headers.now)) }
 {
     let Some(host) = Host::new(host) else {
         return Err(RequestFault::BadHost);
@@ -79,19 +116,24 @@ pub fn request_with(
     let Some(offers) = Offers::new(offers) else {
         return Err(RequestFault::BadProtocol);
     };
-    let text = request_of(alloc, &host, &path, nonce, &offers)?;
+    let Some(headers) = AddedHeaders::new(headers) else {
+        return Err(RequestFault::BadHeader);
+    };
+    let text = request_of(alloc, &host, &path, nonce, &offers, &headers)?;
     Ok(text)
 }
 
-/// The head of `request_with`, made of parts that were proved fit: only memory can lack.
+/// The head of `request_for`, made of parts that were proved fit: only memory can lack.
 pub fn request_of(
     alloc: Global,
     host: &Host<'_>,
     path: &Path<'_>,
     nonce: [u8; 16],
     offers: &Offers<'_, '_>,
+    headers: &AddedHeaders<'_, '_>,
 ) -> Result<Vec<u8>, NoMemory>
-    ensures { IfOk result (λ text. text.items ≡ request_text host.now path.now (key_of nonce) offers.now) }
+    ensures { IfOk result (λ text. text.items
+        ≡ request_text_for host.now path.now (key_of nonce) offers.now headers.now) }
 {
     let mut text = Vec::new(alloc);
     push_request_line(&mut text, path.as_bytes())?;
@@ -101,6 +143,7 @@ pub fn request_of(
     push_header(&mut text, b"Sec-WebSocket-Key", &key_text(&nonce))?;
     push_header(&mut text, b"Sec-WebSocket-Version", b"13")?;
     push_protocols(&mut text, offers.as_slice())?;
+    push_headers(&mut text, headers.as_slice())?;
     text.extend_from_slice(b"\r\n")?;
     Ok(text)
 }
