@@ -3,6 +3,7 @@
 ghost use Rattle.std.specs.Prelude.{◌≡◌, ◌↔◌, ◌+◌, ◌≤◌, ◌<◌, ℕ, List, [], length, None, true, false, IfOk, IsOkAnd, OnOk};
 ghost use Rattle.std.specs.Prelude.{OnErr, IsTrue};
 ghost use Rattle.ws_session.specs.declared.status.Status.TheVariants.{Open};
+ghost use Rattle.ws_session.specs.declared.session.Answering.{Answering};
 ghost use Rattle.ws_session.specs.Limits.{most_beside};
 ghost use Rattle.ws_session.specs.Faults.{open_payload};
 ghost use Rattle.ws_session.specs.Doomed.{IsDoomed};
@@ -163,11 +164,11 @@ impl State {
 impl State {
     /// Takes a piece that gives no event, whole. `NoMemory` where it would give one, or a growth was refused: then
     /// nothing has changed.
-    pub(super) fn take_quiet(&mut self, answering: Answering, piece: &[u8]) -> Result<Taken, NoMemory>
-        requires answering { CanAnswer answering self.old.sending }
-        requires going { is_over self.old.status ≡ false }
+    pub(super) fn take_quiet(&mut self, piece: &[u8]) -> Result<Taken, NoMemory>
+        requires { is_over self.old.status ≡ false }
         ensures whole { IfOk result (λ taken. taken ≡ record { used = length piece.now; event = None }) }
-        ensures taken { (key before : List ℕ) → OnOk result (HasTaken (reply_by answering) self.old self.new
+        ensures taken { (answering : Answering) (key before : List ℕ) → CanAnswer answering self.old.sending
+            → OnOk result (HasTaken (reply_by answering) self.old self.new
             (record { piece = piece.now; key = key; before = before; after = before })
             (record { used = length piece.now; event = None })) }
         ensures role { self.new.role ≡ self.old.role }
@@ -176,7 +177,6 @@ impl State {
         ensures kept { OnErr result (self.new ≡ self.old) }
         ensures memory { OnErr result (WantsMemoryToTell self.old piece.now) }
     {
-        let _ = answering;
         match self.receiver.take_quiet(piece) {
             Ok(taken) => Ok(taken),
             Err(refused) => {

@@ -2,6 +2,7 @@
 
 ghost use Rattle.std.specs.Prelude.{◌≡◌, ◌+◌, ◌^◌, ◌≤◌, ◌<◌, ℕ, List, length, drop, None, true, false, IsOk, IfOk, IfErr};
 ghost use Rattle.std.specs.Prelude.{OnOk, OnErr};
+ghost use Rattle.ws_session.specs.declared.session.Answering.{Answering};
 ghost use Rattle.ws_session.specs.Replies.{reply_to};
 ghost use Rattle.ws_session.specs.Exchange.{is_over};
 ghost use Rattle.ws_session.specs.Taking.{HasTaken, HasTakenAll, front_taken};
@@ -97,7 +98,7 @@ impl Session {
         match events.reserve(1) {
             Ok(()) => {}
             Err(_) => {
-                let taken = self.take_quiet(answering, piece)?;
+                let taken = self.take_quiet(piece)?;
                 return Ok(taken.used);
             }
         }
@@ -113,11 +114,11 @@ impl Session {
 
     /// Takes a piece that gives no event, whole. `NoMemory` where it would give one, or a growth was refused: then
     /// nothing has changed.
-    fn take_quiet(&mut self, answering: Answering, piece: &[u8]) -> Result<Taken, NoMemory>
-        requires answering { CanAnswer answering self.old.sending }
-        requires going { is_over self.old.status ≡ false }
+    fn take_quiet(&mut self, piece: &[u8]) -> Result<Taken, NoMemory>
+        requires { is_over self.old.status ≡ false }
         ensures whole { IfOk result (λ taken. taken ≡ record { used = length piece.now; event = None }) }
-        ensures taken { (key before : List ℕ) → OnOk result (HasTaken (reply_by answering) self.old self.new
+        ensures taken { (answering : Answering) (key before : List ℕ) → CanAnswer answering self.old.sending
+            → OnOk result (HasTaken (reply_by answering) self.old self.new
             (record { piece = piece.now; key = key; before = before; after = before })
             (record { used = length piece.now; event = None })) }
         ensures role { self.new.role ≡ self.old.role }
@@ -126,7 +127,7 @@ impl Session {
         ensures kept { OnErr result (self.new ≡ self.old) }
         ensures memory { OnErr result (WantsMemoryToTell self.old piece.now) }
     {
-        let taken = self.state.take_quiet(answering, piece)?;
+        let taken = self.state.take_quiet(piece)?;
         Ok(taken)
     }
 }

@@ -30,7 +30,7 @@ returns-in-Err-clause-taken c =
       event = None;
       added = c.in-Err.ensures.items ∙ sym (append-nil c.args.events.now.items);
       same = (quiet.role, quiet.limits);
-      takes = subst (λ n. HasTaken (reply_by c.args.answering) c.args.self.now c.take_quiet.new.self (call_of c.args.piece.now c.args.key c.args.out.now.items c.args.out.now.items) (record { used = n; event = None })) (sym all) (quiet.taken c.args.key c.args.out.now.items);
+      takes = subst (λ n. HasTaken (reply_by c.args.answering) c.args.self.now c.take_quiet.new.self (call_of c.args.piece.now c.args.key c.args.out.now.items c.args.out.now.items) (record { used = n; event = None })) (sym all) (quiet.taken c.args.answering c.args.key c.args.out.now.items c.requires.answering);
     }
 
 pub returns-in_err-used-clause-memory : goal.returns-in_err-used-clause-memory
