@@ -24,7 +24,7 @@ no_events role limits = record {
   are = refl;
 }
 
-pub fresh : (role : Role) (limits : LimitsValue) → HasExchanged (record { role = role; limits = limits; opened = None; partial_frame = []; sending = None; status = status.Open }) [] [] false
+pub fresh : (role : Role) (limits : LimitsValue) → HasExchanged (record { role = role; limits = limits; opened = None; partial_frame = []; kept = 0; sending = None; status = status.Open }) [] [] false
 unfolding no_events
 fresh role limits = record { bytes = λ i. omega arith; events = []; has_events = no_events role limits; status = refl; taking = λ going. (refl, refl); sending = tt }
 

@@ -29,8 +29,8 @@ pub no_header_in_nothing : BeginsNoHeader []
 no_header_in_nothing h bytes rest is e = let no : [] ≡ header_bytes h ++ rest = e ∙ ap (λ (l : List ℕ). l ++ rest) is.layout in absurd cc
 
 -- nothing of the next frame has come
-pub not_begun : (role : Role) (limits : LimitsValue) (a : AssemblyValue) → IsJoined a → HasReadOpen a.opened a.text → limits.max_message ≤ MAX_MESSAGE → length (open_payload a.opened) ≤ limits.max_message → IsReceiving role limits a NotBegun
-not_begun role limits a joined reads limit size = record {
+pub not_begun : (role : Role) (limits : LimitsValue) (a : AssemblyValue) → IsJoined a → HasReadOpen a.opened a.text → limits.max_message ≤ MAX_MESSAGE → length (open_payload a.opened) ≤ limits.max_message → length a.payload ≤ limits.max_message → IsReceiving role limits a NotBegun
+not_begun role limits a joined reads limit size room = record {
   under_way = record { bytes = λ i. omega arith; joined = joined; kept = (no_header_in_nothing, reads) };
-  sound = record { part = part_of_header role limits a.opened [] no_header_in_nothing; limit = limit; size = size; held = omega (arith, size) };
+  sound = record { part = part_of_header role limits a.opened [] no_header_in_nothing; limit = limit; size = size; held = omega (arith, size); room = room };
 }

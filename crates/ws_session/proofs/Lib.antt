@@ -25,6 +25,7 @@ pub mod LeastHeaders
 pub mod Pieces
 pub mod WentOn
 pub mod Kept
+pub mod Exact
 pub mod Receipts
 pub mod Wants
 pub mod Owed

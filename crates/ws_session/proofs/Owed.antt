@@ -1,6 +1,6 @@
 -- When a call that takes bytes may want memory for an answer.
-use Rattle.std.proofs.Common.{◌≡◌, ◌≢◌, ℕ, ◌+◌, ◌⊎◌, false, List, [], ◌∷◌, ◌++◌, length, take, drop, Option, Some, None, refl, sym, ap, ◌∙◌, arith, inl, inr, subst}
-use Rattle.std.specs.Prelude.{option_to_list}
+use Rattle.std.proofs.Common.{◌≡◌, ◌≢◌, ℕ, ◌+◌, ◌⊎◌, true, false, Bool, if◌then◌else◌, List, [], ◌∷◌, ◌++◌, length, take, drop, Option, Some, None, refl, sym, ap, ◌∙◌, arith, inl, inr, subst}
+use Rattle.std.specs.Prelude.{option_to_list, Result, Ok, Err}
 use Rattle.std.proofs.lemmas.Bool.{cases_lt}
 use Rattle.std.proofs.lemmas.List.{length-append}
 use Rattle.std.proofs.Math.Seq.{drop-append_seam}
@@ -11,16 +11,20 @@ use Rattle.ws_session.specs.declared.event.Event.{Event}
 use Rattle.ws_session.specs.declared.event.Event.TheVariants as event
 use Rattle.ws_session.specs.declared.event.Taken.{Taken}
 use Rattle.ws_session.specs.declared.replying.Replying.{Replying}
+use Rattle.ws_session.specs.declared.session.Answering.TheVariants.{Plain}
+use Rattle.ws_session.specs.declared.status.Status.{Status}
 use Rattle.ws_session.specs.declared.receiver.under_way.UnderWay.{UnderWay}
 use Rattle.ws_session.specs.declared.receiver.frame_check.Content.{Content}
+use Rattle.ws_session.specs.declared.receiver.frame_check.FrameCheck.{FrameCheck}
+use Rattle.ws_session.specs.declared.receiver.frame_check.FrameCheck.TheVariants as check
 use Rattle.ws_session.specs.Events.{HasEvents}
-use Rattle.ws_session.specs.Replies.{replies_by}
+use Rattle.ws_session.specs.Replies.{replies_by, until_close, has_close}
 use Rattle.ws_session.specs.Exchange.{SendingValue, SessionValue, Exchange, HasExchanged, is_over}
 use Rattle.ws_session.specs.Taking.{Takes}
-use Rattle.ws_session.specs.Memory.{WouldTake, HoldsData}
+use Rattle.ws_session.specs.Memory.{WouldTake, HoldsData, WantsMemory, WantsMemoryToTell}
 use Rattle.ws_session.specs.InnerNextFrame.{IsFirstFaultOfNext}
 use Rattle.ws_session.specs.InnerInvariant.{CanAnswer, reply_by}
-use Rattle.ws_session.specs.InnerReceiving.{AssemblyValue, IsWholeFrame}
+use Rattle.ws_session.specs.InnerReceiving.{AssemblyValue, IsWholeFrame, IsFrameCheck, next_in}
 use Rattle.ws_session.specs.InnerReplying.{bytes_put}
 use Rattle.ws_session.specs.InnerReceiver.{ReceiverValue, receiver_of, session_with, status_by, event_of_kept, opened_by, HasReceived, IsOwed}
 use Rattle.ws_session.proofs.Calls.{exchange_of, call_of}
@@ -71,27 +75,82 @@ module _ (r : Replying) (old : ReceiverValue) (sending : Option SendingValue) (e
 
   -- such a side as it would be afterwards
   after_of : AssemblyValue → UnderWay → Content → ReceiverValue
-  after_of a f x = record { role = old.role; limits = old.limits; opened = opened_by (receiver_of old.role old.limits a f) x; partial_frame = []; assembled = []; text = None }
+  after_of a f x = record { role = old.role; limits = old.limits; opened = opened_by (receiver_of old.role old.limits a f) x; partial_frame = []; assembled = []; came = 0; text = None }
 
-  pub wants_frame : (a : AssemblyValue) (f : UnderWay) (used : ℕ) (x : Content) → a.opened ≡ old.opened → IsWholeFrame old.role old.limits a (old.partial_frame ++ piece) (length old.partial_frame + used) x → IsOwed r (event_of_kept (receiver_of old.role old.limits a f) x)
-      → (t : Taken) → WouldTake (session_with old sending r.status) exchange piece t → HoldsData exchange.taken piece t.used ⊎ (replies_by (reply_by r.answering) exchange.sent (option_to_list t.event) ≢ [])
+  pub tells_frame : (a : AssemblyValue) (f : UnderWay) (used : ℕ) (x : Content) → a.opened ≡ old.opened → IsWholeFrame old.role old.limits a (old.partial_frame ++ piece) (length old.partial_frame + used) x
+      → (t : Taken) → WouldTake (session_with old sending r.status) exchange piece t → t.event ≡ Some (event_of_kept (receiver_of old.role old.limits a f) x)
   unfolding after_of
-  wants_frame a f used x opened w owed t would =
+  tells_frame a f used x opened w t would =
       let e = event_of_kept (receiver_of old.role old.limits a f) x in
       let put = bytes_put r (reply_by r.answering e) in
       let received : HasReceived r (receiver_of old.role old.limits a f) (after_of a f x) [] ([] ++ put) e (opened_by (receiver_of old.role old.limits a f) x) = record { role = refl; limits = refl; opened_is = refl; partial = refl; put = refl } in
       let takes = received_frame r old (after_of a f x) sending exchange.sent exchange.taken piece exchange.ended [] ([] ++ put) can same_role going h bytes a f used x e opened w refl received in
-      inr (owed_by t e (would_tell (session_with old sending r.status) (session_with (after_of a f x) sending (status_by r.status (Some e))) (reply_by r.answering) exchange r.key piece [] ([] ++ put) used e h takes t would) owed)
+      would_tell (session_with old sending r.status) (session_with (after_of a f x) sending (status_by r.status (Some e))) (reply_by r.answering) exchange r.key piece [] ([] ++ put) used e h takes t would
+
+  pub wants_frame : (a : AssemblyValue) (f : UnderWay) (used : ℕ) (x : Content) → a.opened ≡ old.opened → IsWholeFrame old.role old.limits a (old.partial_frame ++ piece) (length old.partial_frame + used) x → IsOwed r (event_of_kept (receiver_of old.role old.limits a f) x)
+      → (t : Taken) → WouldTake (session_with old sending r.status) exchange piece t → HoldsData exchange.taken piece t.used ⊎ (replies_by (reply_by r.answering) exchange.sent (option_to_list t.event) ≢ [])
+  wants_frame a f used x opened w owed t would = inr (owed_by t (event_of_kept (receiver_of old.role old.limits a f) x) (tells_frame a f used x opened w t would) owed)
 
   nothing_after : ReceiverValue
-  nothing_after = record { role = old.role; limits = old.limits; opened = None; partial_frame = []; assembled = []; text = None }
+  nothing_after = record { role = old.role; limits = old.limits; opened = None; partial_frame = []; assembled = []; came = 0; text = None }
 
-  pub wants_fault : (a : AssemblyValue) (f : UnderWay) (used : ℕ) (reason : Reason) → a.opened ≡ old.opened → AreBytes (old.partial_frame ++ piece) → IsFirstFaultOfNext old.role old.limits a.opened (old.partial_frame ++ piece) (length old.partial_frame + used) reason → IsOwed r (event.Failed reason)
-      → (t : Taken) → WouldTake (session_with old sending r.status) exchange piece t → HoldsData exchange.taken piece t.used ⊎ (replies_by (reply_by r.answering) exchange.sent (option_to_list t.event) ≢ [])
+  pub tells_fault : (a : AssemblyValue) (f : UnderWay) (used : ℕ) (reason : Reason) → a.opened ≡ old.opened → AreBytes (old.partial_frame ++ piece) → IsFirstFaultOfNext old.role old.limits a.opened (old.partial_frame ++ piece) (length old.partial_frame + used) reason
+      → (t : Taken) → WouldTake (session_with old sending r.status) exchange piece t → t.event ≡ Some (event.Failed reason)
   unfolding nothing_after
-  wants_fault a f used reason opened are first owed t would =
+  tells_fault a f used reason opened are first t would =
       let e = event.Failed reason in
       let put = bytes_put r (reply_by r.answering e) in
       let received : HasReceived r (receiver_of old.role old.limits a f) nothing_after [] ([] ++ put) e None = record { role = refl; limits = refl; opened_is = refl; partial = refl; put = refl } in
       let takes = received_fault r old nothing_after sending exchange.sent exchange.taken piece exchange.ended [] ([] ++ put) can same_role going h bytes a f used reason e opened are first refl received in
-      inr (owed_by t e (would_tell (session_with old sending r.status) (session_with nothing_after sending (status_by r.status (Some e))) (reply_by r.answering) exchange r.key piece [] ([] ++ put) used e h takes t would) owed)
+      would_tell (session_with old sending r.status) (session_with nothing_after sending (status_by r.status (Some e))) (reply_by r.answering) exchange r.key piece [] ([] ++ put) used e h takes t would
+
+  pub wants_fault : (a : AssemblyValue) (f : UnderWay) (used : ℕ) (reason : Reason) → a.opened ≡ old.opened → AreBytes (old.partial_frame ++ piece) → IsFirstFaultOfNext old.role old.limits a.opened (old.partial_frame ++ piece) (length old.partial_frame + used) reason → IsOwed r (event.Failed reason)
+      → (t : Taken) → WouldTake (session_with old sending r.status) exchange piece t → HoldsData exchange.taken piece t.used ⊎ (replies_by (reply_by r.answering) exchange.sent (option_to_list t.event) ≢ [])
+  wants_fault a f used reason opened are first owed t would = inr (owed_by t (event.Failed reason) (tells_fault a f used reason opened are first t would) owed)
+
+-- ---- a call that keeps the events
+
+none_of_none : (b : Bool) → (if b then [] else until_close []) ≡ []
+none_of_none true = refl
+none_of_none false = refl
+
+some_is_not : (o : Option Event) (e : Event) → o ≡ Some e → o ≢ None
+some_is_not o e is none = let no : Some e ≡ None = sym is ∙ none in absurd cc
+
+-- an answer is owed for an event alone
+no_replies : (reply : Event → List Frame) (sent : List Frame) (o : Option Event) → o ≡ None → replies_by reply sent (option_to_list o) ≡ []
+no_replies reply sent None none = none_of_none (has_close sent)
+no_replies reply sent (Some e) none = absurd cc
+
+pub wants_to_tell : (reply : Event → List Frame) (v : SessionValue) (piece : List ℕ) → WantsMemory reply v piece → WantsMemoryToTell v piece
+wants_to_tell reply v piece wants exchange unended h t would = elim (wants exchange unended h t would) [ inl held ↦ inl held | inr owed ↦ inr (λ none. owed (no_replies reply exchange.sent t.event none)) ]
+
+-- so it is where the piece holds a whole frame or a fault
+module _ (old : ReceiverValue) (sending : Option SendingValue) (status : Status) (going : is_over status ≡ false) (piece : List ℕ) (bytes : AreBytes piece) where
+  plain : Replying
+  plain = record { role = old.role; status = status; answering = Plain; key = [] }
+
+  pub frame_tells : (a : AssemblyValue) (f : UnderWay) (used : ℕ) (x : Content) → a.opened ≡ old.opened → IsWholeFrame old.role old.limits a (old.partial_frame ++ piece) (length old.partial_frame + used) x → WantsMemoryToTell (session_with old sending status) piece
+  unfolding plain
+  frame_tells a f used x opened w exchange unended h t would = inr (some_is_not t.event (event_of_kept (receiver_of old.role old.limits a f) x) (tells_frame plain old sending exchange piece tt refl going h bytes a f used x opened w t would))
+
+  pub fault_tells : (a : AssemblyValue) (f : UnderWay) (used : ℕ) (reason : Reason) → a.opened ≡ old.opened → AreBytes (old.partial_frame ++ piece) → IsFirstFaultOfNext old.role old.limits a.opened (old.partial_frame ++ piece) (length old.partial_frame + used) reason → WantsMemoryToTell (session_with old sending status) piece
+  unfolding plain
+  fault_tells a f used reason opened are first exchange unended h t would = inr (some_is_not t.event (event.Failed reason) (tells_fault plain old sending exchange piece tt refl going h bytes a f used reason opened are first t would))
+
+  pub check_tells : (a : AssemblyValue) (f : UnderWay) (j : FrameCheck) (x : Option Content) → a.opened ≡ old.opened → AreBytes (old.partial_frame ++ piece) → IsFrameCheck old.role old.limits a (length old.partial_frame) (old.partial_frame ++ piece) j → next_in j ≡ Err x → WantsMemoryToTell (session_with old sending status) piece
+  check_tells a f (check.Need next text) x opened are is none = absurd cc
+  check_tells a f (check.Whole used held) x opened are is none = frame_tells a f used held opened is
+  check_tells a f (check.Fault reason used) x opened are is none = fault_tells a f used reason opened are is
+
+ok_same : (x y : UnderWay × Option (List ℕ)) (r : Result (UnderWay × Option (List ℕ)) (Option Content)) → r ≡ Ok x → r ≡ Ok y → x ≡ y
+ok_same x y r e f = cc
+
+need_by : (x y : UnderWay × Option (List ℕ)) → x ≡ y → check.Need x.0 x.1 ≡ check.Need y.0 y.1
+need_by x y e = ap (λ (z : UnderWay × Option (List ℕ)). check.Need z.0 z.1) e
+
+-- what is under way next is that of the check
+pub next_is : (j : FrameCheck) (next : UnderWay) (text : Option (List ℕ)) → next_in j ≡ Ok (next, text) → j ≡ check.Need next text
+next_is (check.Need n t) next text e = need_by (n, t) (next, text) (ok_same (n, t) (next, text) (next_in (check.Need n t)) refl e)
+next_is (check.Whole used x) next text e = absurd cc
+next_is (check.Fault reason used) next text e = absurd cc

@@ -41,7 +41,7 @@ module _ (old new : SessionValue) where
       let s = sends some.0 some.1 in
       (exchange_of (some.0.sent ++ frame_of send ∷ []) some.0.taken some.0.ended, s.agrees)
 
-  pub after_end : HasSomeExchange old → is_over old.status ≡ false → new ≡ record old { opened = None; partial_frame = []; status = status.Lost } → HasSomeExchange new
+  pub after_end : HasSomeExchange old → is_over old.status ≡ false → new ≡ record old { opened = None; partial_frame = []; kept = 0; status = status.Lost } → HasSomeExchange new
   after_end some going same =
       let h = some.1 in
       subst (λ (v : SessionValue). HasSomeExchange v) (sym same) (

@@ -25,8 +25,8 @@ module _ (role : Role) (limits : LimitsValue) (a : AssemblyValue) (h : HeaderFie
   pub partial_inside : partial_of (with_text b text) (under_way.Data h (came + length piece)) ≡ partial_of a (under_way.Data h came) ++ piece
   partial_inside = is_checked.2
 
-  pub receives_inside : IsSoundReceiver (receiver_of role limits a (under_way.Data h came)) → IsReceiving role limits (with_text b text) (under_way.Data h (came + length piece))
-  receives_inside sound =
+  pub receives_inside : IsSoundReceiver (receiver_of role limits a (under_way.Data h came)) → length b.payload ≤ limits.max_message → IsReceiving role limits (with_text b text) (under_way.Data h (came + length piece))
+  receives_inside sound kept =
       let size : length (open_payload b.opened) ≡ length (open_payload a.opened) = ap (λ (o : Option Message). length (open_payload o)) opened in
       let all : length (partial_of b (under_way.Data h (came + length piece))) ≡ length (partial_of a (under_way.Data h came) ++ piece) = ap (λ (l : List ℕ). length l) is_checked.2 in
       let fits : length (open_payload b.opened) ≤ limits.max_message = omega (arith, size, sound.size) in
@@ -39,12 +39,13 @@ module _ (role : Role) (limits : LimitsValue) (a : AssemblyValue) (h : HeaderFie
           limit = sound.limit;
           size = fits;
           held = omega (arith, room, all);
+          room = kept;
         };
       }
 
-  pub room_inside : IsSoundReceiver (receiver_of role limits a (under_way.Data h came)) → length_so_far (under_way.Data h came) + length piece < 18446744073709551616
-  room_inside sound =
-      let r = receives_inside sound in
+  pub room_inside : IsSoundReceiver (receiver_of role limits a (under_way.Data h came)) → length b.payload ≤ limits.max_message → length_so_far (under_way.Data h came) + length piece < 18446744073709551616
+  room_inside sound kept =
+      let r = receives_inside sound kept in
       let held : length (open_payload b.opened) + length (partial_of b (under_way.Data h (came + length piece))) ≤ limits.max_message + most_beside = r.sound.held in
       let len : length (partial_of b (under_way.Data h (came + length piece))) ≡ length (header_bytes h) + (came + length piece) = partial_len role limits (with_text b text) (under_way.Data h (came + length piece)) r.under_way in
       omega (arith, held, len, sound.limit)
@@ -54,8 +55,8 @@ module _ (role : Role) (limits : LimitsValue) (a : AssemblyValue) (h : HeaderFie
   pub partial_passed : partial_of b (under_way.Data h came) ≡ partial_of a (under_way.Data h came)
   partial_passed = same_partial role limits a h came u b opened first
 
-  pub receives_passed : IsSoundReceiver (receiver_of role limits a (under_way.Data h came)) → IsReceiving role limits b (under_way.Data h came)
-  receives_passed sound =
+  pub receives_passed : IsSoundReceiver (receiver_of role limits a (under_way.Data h came)) → length b.payload ≤ limits.max_message → IsReceiving role limits b (under_way.Data h came)
+  receives_passed sound kept =
       let size : length (open_payload b.opened) ≡ length (open_payload a.opened) = ap (λ (o : Option Message). length (open_payload o)) opened in
       let all : length (partial_of b (under_way.Data h came)) ≡ length (partial_of a (under_way.Data h came)) = ap (λ (l : List ℕ). length l) partial_passed in
       record {
@@ -65,5 +66,6 @@ module _ (role : Role) (limits : LimitsValue) (a : AssemblyValue) (h : HeaderFie
           limit = sound.limit;
           size = omega (arith, size, sound.size);
           held = omega (arith, size, all, sound.held);
+          room = kept;
         };
       }

@@ -119,7 +119,7 @@ no_fault_yet : HasNoFault Client ten_at_most first_byte
 no_fault_yet place r fault = omega (arith, place_after_one first_byte place r fault, fault.long)
 
 abbrev waiting : SessionValue
-waiting = record { role = Client; limits = ten_at_most; opened = None; partial_frame = first_byte; sending = None; status = status.Open }
+waiting = record { role = Client; limits = ten_at_most; opened = None; partial_frame = first_byte; kept = 0; sending = None; status = status.Open }
 
 -- a client that has sent nothing and taken this byte keeps it
 an_exchange : HasExchanged waiting [] first_byte false

@@ -59,13 +59,14 @@ pub record SendingValue : Type 0 where
   pub size : ℕ
   pub unfinished : List ℕ
 
--- a session as contracts see it: the open message that it takes and the bytes of the unfinished frame after it, the
--- open message that it sends, and its status
+-- a session as contracts see it: the open message that it takes and the bytes of the unfinished frame after it, how many
+-- payload bytes it keeps in all, the open message that it sends, and its status
 pub record SessionValue : Type 0 where
   pub role : Role
   pub limits : LimitsValue
   pub opened : Option Message
   pub partial_frame : List ℕ
+  pub kept : ℕ
   pub sending : Option SendingValue
   pub status : Status
 

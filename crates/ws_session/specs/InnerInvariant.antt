@@ -21,6 +21,7 @@ pub record IsSound (v : SessionValue) : Type 0 where
   pub limit : v.limits.max_message ≤ MAX_MESSAGE
   pub size : length (open_payload v.opened) ≤ v.limits.max_message
   pub held : length (open_payload v.opened) + length v.partial_frame ≤ v.limits.max_message + most_beside
+  pub kept : v.kept ≤ v.limits.max_message
   pub over : is_over v.status ≡ true → length (open_payload v.opened) + length v.partial_frame ≡ 0
 
 -- ---- replies

@@ -20,17 +20,18 @@ use Rattle.ws_session.specs.Exchange.{SendingValue, SessionValue}
 use Rattle.ws_session.specs.InnerAssembly.{IsTextOf, HasReadOpen}
 use Rattle.ws_session.specs.InnerNextFrame.{IsPartOfFrame, due_at, status_with}
 use Rattle.ws_session.specs.InnerInvariant.{reply_by}
-use Rattle.ws_session.specs.InnerReceiving.{AssemblyValue, partial_of, IsUnderWay}
+use Rattle.ws_session.specs.InnerReceiving.{AssemblyValue, partial_of, came_of, IsUnderWay}
 use Rattle.ws_session.specs.InnerReplying.{bytes_put}
 
 -- what contracts see: the open message, the bytes of the frame under way as they came, all payload bytes that are kept,
--- and the stream that reads them
+-- how many of its payload are of the frame under way, and the stream that reads them
 pub record ReceiverValue : Type 0 where
   pub role : Role
   pub limits : LimitsValue
   pub opened : Option Message
   pub partial_frame : List ℕ
   pub assembled : List ℕ
+  pub came : ℕ
   pub text : Option (List ℕ)
 
 abbrev pub receiver_of : Role → LimitsValue → AssemblyValue → UnderWay → ReceiverValue
@@ -40,15 +41,22 @@ receiver_of role limits a frame = record {
   opened = a.opened;
   partial_frame = partial_of a frame;
   assembled = a.payload;
+  came = came_of frame;
   text = a.text;
 }
 
--- what is shown is a part of one frame and a message within the limits
+-- what is shown is a part of one frame and a message within the limits, and what is kept has at most the bytes of one
+-- message
 pub record IsSoundReceiver (v : ReceiverValue) : Type 0 where
   pub part : IsPartOfFrame v.role v.limits v.opened v.partial_frame
   pub limit : v.limits.max_message ≤ MAX_MESSAGE
   pub size : length (open_payload v.opened) ≤ v.limits.max_message
   pub held : length (open_payload v.opened) + length v.partial_frame ≤ v.limits.max_message + most_beside
+  pub room : length v.assembled ≤ v.limits.max_message
+
+-- no payload is kept but that of the open message and of the frame under way
+abbrev pub IsExact : ReceiverValue → Type 0
+IsExact v = length v.assembled ≡ length (open_payload v.opened) + v.came
 
 pub record IsReceiving (role : Role) (limits : LimitsValue) (a : AssemblyValue) (frame : UnderWay) : Type 0 where
   pub under_way : IsUnderWay role limits a frame
@@ -83,6 +91,7 @@ session_with v sending status = record {
   limits = v.limits;
   opened = v.opened;
   partial_frame = v.partial_frame;
+  kept = length v.assembled;
   sending = sending;
   status = status;
 }
@@ -102,6 +111,12 @@ kept_message v kind = record { kind = kind; payload = v.assembled }
 abbrev pub IsContentKept : ReceiverValue → Content → Type 0
 IsContentKept v (content.Data fin kind text) = IsTextOf (kept_message v kind) text
 IsContentKept v _ = HasReadOpen v.opened v.text
+
+-- behind a control frame the open message alone is kept
+abbrev pub IsExactFor : ReceiverValue → Content → Type 0
+IsExactFor v (content.Ping payload) = length v.assembled ≡ length (open_payload v.opened)
+IsExactFor v (content.Pong payload) = length v.assembled ≡ length (open_payload v.opened)
+IsExactFor v _ = Unit {0}
 
 -- it is within the limit
 abbrev pub FitsLimit : ReceiverValue → Content → Type 0

@@ -1,7 +1,7 @@
 -- Inside the crate: the frame under way as it is kept, and what the check of more bytes of it answers, for contracts of
 -- private functions. A reader may skip this file.
 use Rattle.std.specs.Prelude.{◌≡◌, ℕ, ◌+◌, ◌-◌, ◌≤◌, ◌<◌, true, false, List, ◌++◌, length, take, drop, Option}
-use Rattle.std.specs.Prelude.{Some, None}
+use Rattle.std.specs.Prelude.{Some, None, Result, Ok, Err}
 use Rattle.ws_wire.specs.declared.role.Role.{Role}
 use Rattle.ws_wire.specs.Header.{HeaderFields, IsHeader, AreBytes, header_bytes}
 use Rattle.ws_wire.specs.Masking.{masked_payload}
@@ -71,6 +71,16 @@ HasKept a came = length (open_payload a.opened) + came ≤ length a.payload
 -- a payload of which this much came before, with what is there of it now
 abbrev pub arrived_payload : HeaderFields → List ℕ → List ℕ → List ℕ
 arrived_payload header came rest = came ++ masked_from header.key (length came) (take (header.len - length came) rest)
+
+-- so many bytes of its payload are kept
+abbrev pub came_of : UnderWay → ℕ
+came_of (under_way.Header bytes) = 0
+came_of (under_way.Data header came) = came
+came_of (under_way.Control header payload) = 0
+
+-- nothing is kept but the open message and these
+abbrev pub IsExactly : AssemblyValue → UnderWay → Type 0
+IsExactly a frame = length a.payload ≡ length (open_payload a.opened) + came_of frame
 
 -- its bytes so far, as they came
 abbrev pub partial_of : AssemblyValue → UnderWay → List ℕ
@@ -182,6 +192,12 @@ IsWholeControl header used payload a (check.Fault reason place) = (place ≡ use
 
 -- ---- the frame
 
+-- behind a control frame the open message alone is kept
+abbrev pub IsExactContent : AssemblyValue → Content → Type 0
+IsExactContent a (content.Ping payload) = length a.payload ≡ length (open_payload a.opened)
+IsExactContent a (content.Pong payload) = length a.payload ≡ length (open_payload a.opened)
+IsExactContent a _ = Unit {0}
+
 -- its bytes take the message no further than the limit allows
 abbrev pub FitsIn : LimitsValue → AssemblyValue → Content → Type 0
 FitsIn limits a (content.Data fin kind text) = length a.payload ≤ limits.max_message
@@ -199,6 +215,18 @@ pub record IsWholeFrame (role : Role) (limits : LimitsValue) (a : AssemblyValue)
   pub is_content : IsContentOf a frame.frame content
   pub reads : is_control frame.frame ≡ true → HasReadOpen a.opened a.text
   pub fits : FitsIn limits a content
+
+-- what is under way next with the stream that has read it, or what the whole frame holds, and none at a fault
+abbrev pub next_in : FrameCheck → Result (UnderWay × Option (List ℕ)) (Option Content)
+next_in (check.Need next text) = Ok (next, text)
+next_in (check.Whole used content) = Err (Some content)
+next_in (check.Fault reason used) = Err None
+
+-- no more is kept than the open message and what is under way next, and behind a ping or a pong the open message alone
+abbrev pub IsExactCheck : AssemblyValue → FrameCheck → Type 0
+IsExactCheck a (check.Need next text) = IsExactly a next
+IsExactCheck a (check.Whole used content) = IsExactContent a content
+IsExactCheck a (check.Fault reason used) = Unit {0}
 
 -- The check of bytes of which so many were kept before. What isn't whole is under way next
 abbrev pub IsFrameCheck : Role → LimitsValue → AssemblyValue → ℕ → List ℕ → FrameCheck → Type 0

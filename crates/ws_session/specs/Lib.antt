@@ -22,4 +22,5 @@ pub mod InnerReceiving
 pub mod InnerReplying
 pub mod InnerReceiver
 pub mod InnerInvariant
+pub mod InnerStanding
 pub mod InnerSending

@@ -45,3 +45,11 @@ WantsMemory reply session piece = (exchange : Exchange) → exchange.ended ≡ f
     → HasExchanged session exchange.sent exchange.taken exchange.ended
     → (taken : Taken) → WouldTake session exchange piece taken
     → HoldsData exchange.taken piece taken.used ⊎ (replies_by reply exchange.sent (option_to_list taken.event) ≢ [])
+
+-- The same of a call that keeps the events: the bytes that a call of one event would use hold payload of a data frame,
+-- or an event comes. An answer is owed for an event alone
+abbrev pub WantsMemoryToTell : SessionValue → List ℕ → Type 0
+WantsMemoryToTell session piece = (exchange : Exchange) → exchange.ended ≡ false
+    → HasExchanged session exchange.sent exchange.taken exchange.ended
+    → (taken : Taken) → WouldTake session exchange piece taken
+    → HoldsData exchange.taken piece taken.used ⊎ (taken.event ≢ None)

@@ -1,13 +1,13 @@
 //! An endpoint that sends each message back (RFC 6455 section 5.6).
 
-ghost use Rattle.std.specs.Prelude.{◌≡◌, ◌≤◌, ◌<◌, ℕ, List, [], length, None, Bool, true, false, IsOk, IfOk, IfErr};
+ghost use Rattle.std.specs.Prelude.{◌≡◌, ◌≤◌, ◌<◌, ℕ, List, [], length, drop, None, Bool, true, false, IsOk, IfOk, IfErr};
 ghost use Rattle.std.specs.Prelude.{IsOkAnd, OnErr};
 ghost use Rattle.ws_wire.specs.Frame.{Frame};
 ghost use Rattle.ws_session.specs.declared.status.Status.TheVariants.{Lost};
 ghost use Rattle.ws_session.specs.Replies.{echo_reply_to};
 ghost use Rattle.ws_session.specs.Exchange.{HasExchanged, HasSomeExchange, is_over};
 ghost use Rattle.ws_session.specs.Taking.{HasTaken, TakesNothing, HasTakenAll, front_taken};
-ghost use Rattle.ws_session.specs.Memory.{WantsMemory};
+ghost use Rattle.ws_session.specs.Memory.{WantsMemory, WantsMemoryToTell};
 
 use crate::event::{PlacedEvent, TakeStop, Taken};
 use crate::limits::Limits;
@@ -55,9 +55,11 @@ impl Echo {
         self.session.status()
     }
 
-    /// Does nothing: every echo agrees with some frames sent and some bytes taken.
+    /// Does nothing: every echo agrees with some frames sent and some bytes taken, and keeps at most the payload of one
+    /// message, also after a call that memory was refused to.
     pub fn agrees(&self)
-        ensures { HasSomeExchange self.now }
+        ensures exchange { HasSomeExchange self.now }
+        ensures kept { self.now.kept ≤ self.now.limits.max_message }
     {
         self.session.agrees();
     }
@@ -69,6 +71,7 @@ impl Echo {
             HasExchanged self.old sent bytes ended → HasExchanged self.new sent bytes true }
         ensures lost { is_over self.old.status ≡ false → self.new.status ≡ Lost }
         ensures forgets { is_over self.old.status ≡ false → (self.new.opened ≡ None) × (self.new.partial_frame ≡ []) }
+        ensures drops { is_over self.old.status ≡ false → self.new.kept ≡ 0 }
         ensures over { is_over self.old.status ≡ true → self.new ≡ self.old }
         ensures role { self.new.role ≡ self.old.role }
         ensures limits { self.new.limits ≡ self.old.limits }
@@ -116,11 +119,13 @@ impl Echo {
 
         // Where memory ran out some bytes are left.
         ensures used { IfErr result (λ stop. stop.used < length piece.now) }
+
+        // Memory is wanted where the bytes that would be used next hold payload of a data frame, or an event comes.
+        ensures memory { IfErr result (λ stop. WantsMemoryToTell self.new (drop stop.used piece.now)) }
         ensures role { self.new.role ≡ self.old.role }
         ensures limits { self.new.limits ≡ self.old.limits }
     {
         self.session
-            .take_all_by(Answering::Echoing, piece, key, out, events)?;
-        Ok(())
+            .take_all_by(Answering::Echoing, piece, key, out, events)
     }
 }

@@ -10,7 +10,7 @@ ghost use Rattle.ws_session.specs.Exchange.{SendingValue, is_over};
 ghost use Rattle.ws_session.specs.Taking.{HasTaken};
 ghost use Rattle.ws_session.specs.Memory.{WantsMemory};
 ghost use Rattle.ws_session.specs.InnerInvariant.{CanAnswer, reply_by};
-ghost use Rattle.ws_session.specs.InnerReceiver.{IsSoundReceiver, session_with, status_by};
+ghost use Rattle.ws_session.specs.InnerReceiver.{IsSoundReceiver, IsExact, session_with, status_by};
 
 mod assembly;
 mod checking;
@@ -25,6 +25,7 @@ mod header_kind;
 mod header_rules;
 mod inside;
 mod least_header;
+mod quiet;
 mod under_way;
 
 use crate::control_payload::Small;
@@ -67,7 +68,9 @@ impl Receiver {
         ensures limits { result.limits ≡ limits }
         ensures opened { result.opened ≡ None }
         ensures partial { result.partial_frame ≡ [] }
+        ensures assembled { result.assembled ≡ [] }
         ensures sound { IsSoundReceiver result }
+        ensures exact { IsExact result }
     {
         // Sees that the limit is in its range, on which the bound of `held` rests.
         let _ = limits.max_message();
@@ -89,6 +92,7 @@ impl Receiver {
     pub(crate) fn held(&self) -> usize
         ensures held { result ≡ length (open_payload self.now.opened) + length self.now.partial_frame }
         ensures bound { result ≤ self.now.limits.max_message + most_beside }
+        ensures told { length (open_payload self.now.opened) + self.now.came ≤ result }
     {
         self.assembly.open_len() + self.frame.len()
     }
@@ -99,10 +103,27 @@ impl Receiver {
         ensures limits { self.new.limits ≡ self.old.limits }
         ensures opened { self.new.opened ≡ None }
         ensures partial { self.new.partial_frame ≡ [] }
+        ensures assembled { self.new.assembled ≡ [] }
         ensures sound { IsSoundReceiver self.new }
+        ensures exact { IsExact self.new }
     {
         self.assembly.clear();
         self.frame = nothing();
+    }
+
+    /// Cuts off what a call that wasn't carried out put into the assembly: nothing is kept but the open message and the
+    /// frame under way.
+    pub(crate) fn cut(&mut self)
+        ensures role { self.new.role ≡ self.old.role }
+        ensures limits { self.new.limits ≡ self.old.limits }
+        ensures opened { self.new.opened ≡ self.old.opened }
+        ensures partial { self.new.partial_frame ≡ self.old.partial_frame }
+        ensures came { self.new.came ≡ self.old.came }
+        ensures sound { IsSoundReceiver self.new }
+        ensures exact { IsExact self.new }
+    {
+        let came = self.frame.came();
+        self.assembly.cut(came);
     }
 
     /// Takes bytes from the front of a piece, up to the end of one frame or to a fault, and puts what is owed for that
@@ -115,6 +136,7 @@ impl Receiver {
     ) -> Result<Taken, NoMemory>
         requires role { replying.now.role ≡ self.old.role }
         requires going { is_over replying.now.status ≡ false }
+        requires exact { IsExact self.old }
         ensures taken { (sending : Option SendingValue) → CanAnswer replying.now.answering sending
             → IfOk result (λ taken. HasTaken (reply_by replying.now.answering)
             (session_with self.old sending replying.now.status)
@@ -126,12 +148,14 @@ impl Receiver {
         ensures used { IfOk result (λ taken. (0 < length piece.now → 0 < taken.used)
             × (taken.used ≤ length piece.now)) }
         ensures sound { IsSoundReceiver self.new }
+        ensures exact { IfOk result (λ taken. IsExact self.new) }
         ensures role { self.new.role ≡ self.old.role }
         ensures limits { self.new.limits ≡ self.old.limits }
         ensures over { IfOk result (λ taken. is_over (status_by replying.now.status taken.event) ≡ true →
             (self.new.opened ≡ None) × (self.new.partial_frame ≡ [])) }
         ensures kept { OnErr result ((self.new.opened ≡ self.old.opened)
             × (self.new.partial_frame ≡ self.old.partial_frame) × (out.new.items ≡ out.old.items)) }
+        ensures came { OnErr result (self.new.came ≡ self.old.came) }
         ensures memory { (sending : Option SendingValue) → CanAnswer replying.now.answering sending
             → OnErr result (WantsMemory (reply_by replying.now.answering)
             (session_with self.old sending replying.now.status) piece.now) }
@@ -139,6 +163,7 @@ impl Receiver {
         if let Some(taken) = self.take_data_frame(replying, piece, out)? {
             return Ok(taken);
         }
+        self.cut();
         let taken = self.take_checked(replying, piece, out)?;
         Ok(taken)
     }
@@ -152,6 +177,7 @@ impl Receiver {
     ) -> Result<Taken, NoMemory>
         requires role { replying.now.role ≡ self.old.role }
         requires going { is_over replying.now.status ≡ false }
+        requires exact { IsExact self.old }
         ensures taken { (sending : Option SendingValue) → CanAnswer replying.now.answering sending
             → IfOk result (λ taken. HasTaken (reply_by replying.now.answering)
             (session_with self.old sending replying.now.status)
@@ -163,12 +189,14 @@ impl Receiver {
         ensures used { IfOk result (λ taken. (0 < length piece.now → 0 < taken.used)
             × (taken.used ≤ length piece.now)) }
         ensures sound { IsSoundReceiver self.new }
+        ensures exact { IfOk result (λ taken. IsExact self.new) }
         ensures role { self.new.role ≡ self.old.role }
         ensures limits { self.new.limits ≡ self.old.limits }
         ensures over { IfOk result (λ taken. is_over (status_by replying.now.status taken.event) ≡ true →
             (self.new.opened ≡ None) × (self.new.partial_frame ≡ [])) }
         ensures kept { OnErr result ((self.new.opened ≡ self.old.opened)
             × (self.new.partial_frame ≡ self.old.partial_frame) × (out.new.items ≡ out.old.items)) }
+        ensures came { OnErr result (self.new.came ≡ self.old.came) }
         ensures memory { (sending : Option SendingValue) → CanAnswer replying.now.answering sending
             → OnErr result (WantsMemory (reply_by replying.now.answering)
             (session_with self.old sending replying.now.status) piece.now) }

@@ -74,11 +74,13 @@ impl Session {
         self.state.status()
     }
 
-    /// Does nothing: every session agrees with some frames sent and some bytes taken.
+    /// Does nothing: every session agrees with some frames sent and some bytes taken, and keeps at most the payload of
+    /// one message, also after a call that memory was refused to.
     pub fn agrees(&self)
-        ensures { HasSomeExchange self.now }
+        ensures exchange { HasSomeExchange self.now }
+        ensures kept { self.now.kept ≤ self.now.limits.max_message }
     {
-        let _ = &self.state;
+        let _ = self.state.held();
     }
 
     /// The number of input bytes that are kept: those of the open message and of the unfinished frame,
@@ -87,6 +89,9 @@ impl Session {
         ensures held { result ≡ length (open_payload self.now.opened) + length self.now.partial_frame }
         ensures bound { result ≤ self.now.limits.max_message + most_beside }
         ensures over { is_over self.now.status ≡ true → result ≡ 0 }
+
+        // No payload byte is kept that isn't told.
+        ensures kept { self.now.kept ≤ result }
     {
         self.state.held()
     }
@@ -114,6 +119,7 @@ impl Session {
             HasExchanged self.old sent bytes ended → HasExchanged self.new sent bytes true }
         ensures lost { is_over self.old.status ≡ false → self.new.status ≡ Lost }
         ensures forgets { is_over self.old.status ≡ false → (self.new.opened ≡ None) × (self.new.partial_frame ≡ []) }
+        ensures drops { is_over self.old.status ≡ false → self.new.kept ≡ 0 }
         ensures over { is_over self.old.status ≡ true → self.new ≡ self.old }
         ensures role { self.new.role ≡ self.old.role }
         ensures limits { self.new.limits ≡ self.old.limits }

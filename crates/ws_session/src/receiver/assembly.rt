@@ -1,7 +1,7 @@
 //! The message that is open on the receiving side, and the payload of the frame under way after it (RFC 6455
 //! section 5.4).
 
-ghost use Rattle.std.specs.Prelude.{◌≡◌, ◌↔◌, ◌≤◌, ◌<◌, ◌++◌, ◌∷◌, [], length, drop, is_some, IsTrue};
+ghost use Rattle.std.specs.Prelude.{◌≡◌, ◌↔◌, ◌+◌, ◌≤◌, ◌<◌, ◌++◌, ◌∷◌, [], length, drop, is_some, IsTrue};
 ghost use Rattle.std.specs.Prelude.{OnOk, OnErr, Some, None};
 ghost use Rattle.ws_text.specs.Stream.{HasReadText};
 ghost use Rattle.ws_session.specs.Faults.{open_payload, IsOpenText};
@@ -115,6 +115,17 @@ impl Assembly {
         &self.payload[self.before + came..]
     }
 
+    /// Keeps of the frame under way the first bytes that came: the others are cut off.
+    pub(crate) fn cut(&mut self, came: usize)
+        requires { HasKept self.old came }
+        ensures opened { self.new.opened ≡ self.old.opened }
+        ensures text { self.new.text ≡ self.old.text }
+        ensures payload { self.new.payload ≡ first_bytes self.old came }
+        ensures joined { IsJoined self.new }
+    {
+        self.payload.truncate(self.before + came);
+    }
+
     /// Keeps of the frame under way the first bytes that came, and puts these after them, unmasked.
     pub(crate) fn add(
         &mut self,
@@ -129,6 +140,7 @@ impl Assembly {
         ensures kept { OnErr result (self.new.payload ≡ first_bytes self.old came) }
         ensures wants { OnErr result (0 < length bytes.now) }
         ensures joined { IsJoined self.new }
+        ensures size { length self.new.payload ≤ length (open_payload self.old.opened) + came + length bytes.now }
     {
         self.payload.truncate(self.before + came);
         append_masked(&mut self.payload, came % 4, key, bytes)?;

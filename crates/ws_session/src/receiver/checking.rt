@@ -1,11 +1,12 @@
 //! What a piece makes of the frame under way, and of it alone: no byte behind that frame is looked at.
 
-ghost use Rattle.std.specs.Prelude.{◌≡◌, ◌++◌, length, IfOk, IfSome, OnErr};
+ghost use Rattle.std.specs.Prelude.{◌≡◌, ◌≤◌, ◌++◌, length, IfOk, IfSome, OnErr};
 ghost use Rattle.ws_wire.specs.Header.{AreBytes};
 ghost use Rattle.ws_session.specs.declared.receiver.frame_check.FrameCheck.TheVariants as FrameCheck;
 ghost use Rattle.ws_session.specs.declared.receiver.frame_check.Content.TheVariants as Content;
 ghost use Rattle.ws_session.specs.declared.receiver.under_way.UnderWay.TheVariants as UnderWay;
-ghost use Rattle.ws_session.specs.InnerReceiving.{IsUnderWay, IsJoined, HasNewData, partial_of, IsFrameCheck};
+ghost use Rattle.ws_session.specs.InnerReceiving.{IsUnderWay, IsJoined, IsExactly, HasNewData, partial_of, IsFrameCheck};
+ghost use Rattle.ws_session.specs.InnerReceiving.{IsExactCheck};
 
 use crate::control_payload::Small;
 use crate::limits::Limits;
@@ -29,7 +30,9 @@ pub(super) fn check_piece(
     frame: &UnderWay,
     piece: &[u8],
 ) -> Result<FrameCheck, NoMemory>
-    requires { IsUnderWay role limits assembly.old frame.now }
+    requires under_way { IsUnderWay role limits assembly.old frame.now }
+    requires room { length assembly.old.payload ≤ limits.max_message }
+    requires exact { IsExactly assembly.old frame.now }
     ensures checked { IfOk result (λ check. IsFrameCheck role limits assembly.new
         (length (partial_of assembly.old frame.now)) (partial_of assembly.old frame.now ++ piece.now) check) }
 
@@ -37,6 +40,8 @@ pub(super) fn check_piece(
     ensures opened { assembly.new.opened ≡ assembly.old.opened }
     ensures partial { partial_of assembly.new frame.now ≡ partial_of assembly.old frame.now }
     ensures under_way { IsUnderWay role limits assembly.new frame.now }
+    ensures room { length assembly.new.payload ≤ limits.max_message }
+    ensures exact { IfOk result (λ check. IsExactCheck assembly.new check) }
     ensures bytes { AreBytes (partial_of assembly.old frame.now ++ piece.now) }
 
     // Want of memory: a byte of the piece is of the payload of a data frame.
@@ -67,13 +72,15 @@ pub(super) fn check_data_frame(
     kept: &Small,
     piece: &[u8],
 ) -> Result<Option<DataFrame>, NoMemory>
-    requires { IsUnderWay role limits assembly.old (UnderWay.Header kept.now) }
+    requires under_way { IsUnderWay role limits assembly.old (UnderWay.Header kept.now) }
+    requires room { length assembly.old.payload ≤ limits.max_message }
     ensures checked { IfOk result (λ found. IfSome found (λ frame. IsFrameCheck role limits assembly.new
         (length kept.now) (kept.now ++ piece.now)
         (FrameCheck.Whole frame.used (Content.Data frame.fin frame.kind frame.text)))) }
     ensures opened { assembly.new.opened ≡ assembly.old.opened }
     ensures text { assembly.new.text ≡ assembly.old.text }
     ensures joined { IsJoined assembly.new }
+    ensures room { length assembly.new.payload ≤ limits.max_message }
     ensures wants { OnErr result (HasNewData role limits assembly.old.opened (length kept.now)
         (kept.now ++ piece.now)) }
 {
@@ -104,12 +111,16 @@ fn check_header(
     kept: &Small,
     piece: &[u8],
 ) -> Result<FrameCheck, NoMemory>
-    requires { IsUnderWay role limits assembly.old (UnderWay.Header kept.now) }
+    requires under_way { IsUnderWay role limits assembly.old (UnderWay.Header kept.now) }
+    requires room { length assembly.old.payload ≤ limits.max_message }
+    requires exact { IsExactly assembly.old (UnderWay.Header kept.now) }
     ensures checked { IfOk result (λ check. IsFrameCheck role limits assembly.new (length kept.now)
         (kept.now ++ piece.now) check) }
     ensures opened { assembly.new.opened ≡ assembly.old.opened }
     ensures text { assembly.new.text ≡ assembly.old.text }
     ensures joined { IsJoined assembly.new }
+    ensures room { length assembly.new.payload ≤ limits.max_message }
+    ensures exact { IfOk result (λ check. IsExactCheck assembly.new check) }
     ensures wants { OnErr result (HasNewData role limits assembly.old.opened (length kept.now)
         (kept.now ++ piece.now)) }
 {

@@ -5,7 +5,7 @@ ghost use Rattle.ws_session.specs.Exchange.{SendingValue, is_over};
 ghost use Rattle.ws_session.specs.Taking.{HasTaken};
 ghost use Rattle.ws_session.specs.Memory.{WantsMemory};
 ghost use Rattle.ws_session.specs.InnerInvariant.{CanAnswer, reply_by};
-ghost use Rattle.ws_session.specs.InnerReceiver.{IsSoundReceiver, session_with, status_by};
+ghost use Rattle.ws_session.specs.InnerReceiver.{IsSoundReceiver, IsExact, session_with, status_by};
 
 use crate::event::Taken;
 use crate::receiver::Receiver;
@@ -37,15 +37,18 @@ impl Receiver {
         ensures used { IfOk result (λ found. IfSome found (λ taken. (0 < length piece.now → 0 < taken.used)
             × (taken.used ≤ length piece.now))) }
         ensures sound { IsSoundReceiver self.new }
+        ensures exact { IfOk result (λ found. IfSome found (λ taken. IsExact self.new)) }
         ensures role { self.new.role ≡ self.old.role }
         ensures limits { self.new.limits ≡ self.old.limits }
         ensures over { IfOk result (λ found. IfSome found (λ taken.
             is_over (status_by replying.now.status taken.event) ≡ true →
             (self.new.opened ≡ None) × (self.new.partial_frame ≡ []))) }
         ensures passed { IfOk result (λ found. found ≡ None → (self.new.opened ≡ self.old.opened)
-            × (self.new.partial_frame ≡ self.old.partial_frame) × (out.new.items ≡ out.old.items)) }
+            × (self.new.partial_frame ≡ self.old.partial_frame) × (out.new.items ≡ out.old.items)
+            × (self.new.came ≡ self.old.came)) }
         ensures kept { OnErr result ((self.new.opened ≡ self.old.opened)
             × (self.new.partial_frame ≡ self.old.partial_frame) × (out.new.items ≡ out.old.items)) }
+        ensures came { OnErr result (self.new.came ≡ self.old.came) }
         ensures memory { (sending : Option SendingValue) → CanAnswer replying.now.answering sending
             → OnErr result (WantsMemory (reply_by replying.now.answering)
             (session_with self.old sending replying.now.status) piece.now) }

@@ -8,7 +8,7 @@ ghost use Rattle.ws_session.specs.declared.receiver.under_way.UnderWay.TheVarian
 ghost use Rattle.ws_text.specs.Text.{IsText};
 ghost use Rattle.ws_text.specs.Stream.{HasReadText};
 ghost use Rattle.ws_session.specs.Messages.{kind_of};
-ghost use Rattle.ws_session.specs.Faults.{IsOfText};
+ghost use Rattle.ws_session.specs.Faults.{IsOfText, open_payload};
 ghost use Rattle.ws_session.specs.InnerReceiving.{HasKept, IsJoined, first_bytes, frame_payload, arrived_payload};
 ghost use Rattle.ws_session.specs.InnerReceiving.{IsPayloadCheck, IsTextRead, IsTextFault, IsWithoutFault};
 
@@ -48,6 +48,7 @@ pub(super) fn check_data(
     ensures text { assembly.new.text ≡ assembly.old.text }
     ensures first { first_bytes assembly.new came ≡ first_bytes assembly.old came }
     ensures wants { OnErr result ((came < header.now.len) × (0 < length rest.now)) }
+    ensures size { length assembly.new.payload ≤ length (open_payload assembly.old.opened) + header.now.len }
 {
     let left = header.payload_len() - came as u64;
     let here = left.min(rest.len() as u64) as usize;
@@ -85,6 +86,7 @@ pub(super) fn check_inside(
     ensures text { assembly.new.text ≡ assembly.old.text }
     ensures first { first_bytes assembly.new came ≡ first_bytes assembly.old came }
     ensures wants { OnErr result (0 < length piece.now) }
+    ensures size { length assembly.new.payload ≤ length (open_payload assembly.old.opened) + header.now.len }
 {
     assembly.add(came, header.key(), piece)?;
     match check_text(assembly, header, came) {
@@ -116,6 +118,7 @@ pub(super) fn check_whole(
     ensures opened { assembly.new.opened ≡ assembly.old.opened }
     ensures text { assembly.new.text ≡ assembly.old.text }
     ensures wants { OnErr result (0 < header.now.len) }
+    ensures size { length assembly.new.payload ≤ length (open_payload assembly.old.opened) + header.now.len }
 {
     let here = header.payload_len() as usize;
     assembly.add(0, header.key(), &rest[..here])?;

@@ -1,5 +1,8 @@
 //! What a piece makes of the frame under way.
 
+ghost use Rattle.std.specs.Prelude.{◌≡◌};
+ghost use Rattle.ws_session.specs.InnerReceiving.{next_in};
+
 use crate::control_payload::Small;
 use crate::message::Kind;
 use crate::reason::Reason;
@@ -31,6 +34,19 @@ pub(crate) enum FrameCheck {
     Whole { used: usize, content: Content },
     /// The first fault is told at the last of the first `used` bytes of the piece.
     Fault { reason: Reason, used: usize },
+}
+
+impl FrameCheck {
+    /// What is under way next with the stream that has read it, or what the whole frame holds, and none at a fault.
+    pub(super) fn into_next(self) -> Result<(UnderWay, Utf8Stream), Option<Content>>
+        ensures { result ≡ next_in self }
+    {
+        match self {
+            FrameCheck::Need { next, text } => Ok((next, text)),
+            FrameCheck::Whole { content, .. } => Err(Some(content)),
+            FrameCheck::Fault { .. } => Err(None),
+        }
+    }
 }
 
 /// A whole data frame in which nothing is wrong. Its payload stands in the assembly, read by the stream where it is

@@ -3,9 +3,10 @@
 
 ghost use Rattle.std.specs.Prelude.{◌≡◌, ◌≤◌, length, if◌then◌else◌, IfOk, OnErr, Some, None};
 ghost use Rattle.ws_session.specs.declared.event.Event.TheVariants as Event;
+ghost use Rattle.ws_session.specs.Faults.{open_payload};
 ghost use Rattle.ws_session.specs.InnerAssembly.{IsTextOf, HasReadOpen};
 ghost use Rattle.ws_session.specs.InnerReceiver.{HasReceived, IsContentKept, FitsLimit, event_of_kept, opened_by};
-ghost use Rattle.ws_session.specs.InnerReceiver.{IsOwed, kept_message};
+ghost use Rattle.ws_session.specs.InnerReceiver.{IsOwed, IsExact, IsExactFor, kept_message};
 
 use crate::control_payload::Small;
 use crate::event::Event;
@@ -29,9 +30,12 @@ impl Receiver {
     ) -> Result<Event, NoMemory>
         requires read { IsContentKept self.old content }
         requires fits { FitsLimit self.old content }
+        requires exact { IsExactFor self.old content }
         ensures event { IfOk result (λ event. event ≡ event_of_kept self.old content) }
         ensures received { IfOk result (λ event. HasReceived replying.now self.old self.new
             out.old.items out.new.items event (opened_by self.old content)) }
+        ensures exact { IfOk result (λ event. IsExact self.new) }
+        ensures room { IfOk result (λ event. length self.new.assembled ≤ self.new.limits.max_message) }
         ensures kept { OnErr result ((self.new ≡ self.old) × (out.new.items ≡ out.old.items)) }
         ensures owed { OnErr result (IsOwed replying.now (event_of_kept self.old content)) }
     {
@@ -70,6 +74,8 @@ impl Receiver {
             ≡ (if fin then Event.Message (kept_message self.old kind) else Event.Part)) }
         ensures received { IfOk result (λ event. HasReceived replying.now self.old self.new
             out.old.items out.new.items event (if fin then None else Some (kept_message self.old kind))) }
+        ensures exact { IfOk result (λ event. IsExact self.new) }
+        ensures room { IfOk result (λ event. length self.new.assembled ≤ self.new.limits.max_message) }
         ensures kept { OnErr result ((self.new ≡ self.old) × (out.new.items ≡ out.old.items)) }
         ensures owed { OnErr result (IsOwed replying.now
             (if fin then Event.Message (kept_message self.old kind) else Event.Part)) }
@@ -93,9 +99,12 @@ impl Receiver {
         out: &mut Vec<u8>,
     ) -> Result<Event, NoMemory>
         requires read { HasReadOpen self.old.opened self.old.text }
+        requires exact { length self.old.assembled ≡ length (open_payload self.old.opened) }
         ensures event { IfOk result (λ event. event ≡ Event.Ping payload) }
         ensures received { IfOk result (λ event. HasReceived replying.now self.old self.new
             out.old.items out.new.items event self.old.opened) }
+        ensures exact { IfOk result (λ event. IsExact self.new) }
+        ensures room { IfOk result (λ event. length self.new.assembled ≤ self.new.limits.max_message) }
         ensures kept { OnErr result ((self.new ≡ self.old) × (out.new.items ≡ out.old.items)) }
         ensures owed { OnErr result (IsOwed replying.now (Event.Ping payload)) }
     {
@@ -114,6 +123,8 @@ impl Receiver {
         ensures event { IfOk result (λ event. event ≡ Event.Close close) }
         ensures received { IfOk result (λ event. HasReceived replying.now self.old self.new
             out.old.items out.new.items event None) }
+        ensures exact { IfOk result (λ event. IsExact self.new) }
+        ensures room { IfOk result (λ event. length self.new.assembled ≤ self.new.limits.max_message) }
         ensures kept { OnErr result ((self.new ≡ self.old) × (out.new.items ≡ out.old.items)) }
         ensures owed { OnErr result (IsOwed replying.now (Event.Close close)) }
     {
@@ -135,6 +146,8 @@ impl Receiver {
         ensures event { IfOk result (λ event. event ≡ Event.Failed reason) }
         ensures received { IfOk result (λ event. HasReceived replying.now self.old self.new
             out.old.items out.new.items event None) }
+        ensures exact { IfOk result (λ event. IsExact self.new) }
+        ensures room { IfOk result (λ event. length self.new.assembled ≤ self.new.limits.max_message) }
         ensures kept { OnErr result ((self.new ≡ self.old) × (out.new.items ≡ out.old.items)) }
         ensures owed { OnErr result (IsOwed replying.now (Event.Failed reason)) }
     {

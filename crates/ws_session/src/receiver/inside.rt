@@ -4,7 +4,7 @@ ghost use Rattle.std.specs.Prelude.{◌≡◌, ◌++◌, length, true, false, If
 ghost use Rattle.ws_wire.specs.Header.{AreBytes};
 ghost use Rattle.ws_session.specs.InnerNextFrame.{IsPartOfFrame};
 ghost use Rattle.ws_session.specs.InnerReceiving.{HasNewData};
-ghost use Rattle.ws_session.specs.InnerReceiver.{IsSoundReceiver};
+ghost use Rattle.ws_session.specs.InnerReceiver.{IsSoundReceiver, IsExact};
 
 use crate::receiver::Receiver;
 use crate::receiver::data_payload::check_inside;
@@ -24,6 +24,9 @@ impl Receiver {
         ensures kept { OnErr result (self.new.partial_frame ≡ self.old.partial_frame) }
         ensures opened { self.new.opened ≡ self.old.opened }
         ensures sound { IsSoundReceiver self.new }
+        ensures came { IfOk result (λ inside. inside ≡ false → self.new.came ≡ self.old.came) }
+        ensures came_of { OnErr result (self.new.came ≡ self.old.came) }
+        ensures exact { IfOk result (λ inside. inside ≡ true → IsExact self.new) }
         ensures role { self.new.role ≡ self.old.role }
         ensures limits { self.new.limits ≡ self.old.limits }
 

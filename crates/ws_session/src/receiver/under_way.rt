@@ -2,6 +2,7 @@
 
 ghost use Rattle.std.specs.Prelude.{◌≡◌, ◌+◌, ◌^◌, ◌≤◌, ◌<◌, length};
 ghost use Rattle.ws_wire.specs.Header.{header_bytes};
+ghost use Rattle.ws_session.specs.InnerReceiving.{came_of};
 ghost use Rattle.ws_session.specs.InnerReceiver.{NotBegun, HasRoom, length_so_far, after_more};
 
 use crate::control_payload::Small;
@@ -34,6 +35,16 @@ impl UnderWay {
     {
         if let UnderWay::Data { came, .. } = self {
             *came += more;
+        }
+    }
+
+    /// How many bytes of its payload stand in the assembly.
+    pub(super) fn came(&self) -> usize
+        ensures { result ≡ came_of self.now }
+    {
+        match self {
+            UnderWay::Data { came, .. } => *came,
+            UnderWay::Header(_) | UnderWay::Control { .. } => 0,
         }
     }
 

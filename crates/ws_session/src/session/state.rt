@@ -1,13 +1,15 @@
 //! What a session keeps, and the calls on it: each as the session's of that name.
 
-ghost use Rattle.std.specs.Prelude.{◌≡◌, ◌↔◌, ◌+◌, ◌≤◌, ◌<◌, [], length, None, true, false, IfOk, IsOkAnd, OnErr, IsTrue};
+ghost use Rattle.std.specs.Prelude.{◌≡◌, ◌↔◌, ◌+◌, ◌≤◌, ◌<◌, ℕ, List, [], length, None, true, false, IfOk, IsOkAnd, OnOk};
+ghost use Rattle.std.specs.Prelude.{OnErr, IsTrue};
 ghost use Rattle.ws_session.specs.declared.status.Status.TheVariants.{Open};
+ghost use Rattle.ws_session.specs.declared.session.Answering.{Answering};
 ghost use Rattle.ws_session.specs.Limits.{most_beside};
 ghost use Rattle.ws_session.specs.Faults.{open_payload};
 ghost use Rattle.ws_session.specs.Doomed.{IsDoomed};
 ghost use Rattle.ws_session.specs.Exchange.{is_over};
 ghost use Rattle.ws_session.specs.Taking.{HasTaken, TakesNothing};
-ghost use Rattle.ws_session.specs.Memory.{WantsMemory};
+ghost use Rattle.ws_session.specs.Memory.{WantsMemory, WantsMemoryToTell};
 ghost use Rattle.ws_session.specs.InnerInvariant.{CanAnswer, reply_by};
 ghost use Rattle.ws_session.specs.InnerReceiver.{status_by};
 
@@ -39,12 +41,12 @@ impl Model for State {
 
     ghost Value = { SessionValue };
 
-    ghost use Rattle.ws_session.specs.InnerInvariant.{IsSound};
     ghost use Rattle.ws_session.specs.InnerReceiver.{session_with};
+    ghost use Rattle.ws_session.specs.InnerStanding.{IsStanding};
 
     ghost view = { λ s. session_with s.receiver s.sending s.status };
 
-    ghost invariant = { λ s. IsSound (session_with s.receiver s.sending s.status) };
+    ghost invariant = { λ s. IsStanding s.receiver s.sending s.status };
 }
 
 impl State {
@@ -55,6 +57,7 @@ impl State {
           limits = limits;
           opened = None;
           partial_frame = [];
+          kept = 0;
           sending = None;
           status = Open;
         } }
@@ -75,6 +78,8 @@ impl State {
     pub(super) fn held(&self) -> usize
         ensures held { result ≡ length (open_payload self.now.opened) + length self.now.partial_frame }
         ensures bound { result ≤ self.now.limits.max_message + most_beside }
+        ensures most { self.now.kept ≤ self.now.limits.max_message }
+        ensures told { self.now.kept ≤ result }
         ensures over { is_over self.now.status ≡ true → result ≡ 0 }
     {
         self.receiver.held()
@@ -91,7 +96,7 @@ impl State {
     /// All is over: nothing is kept any more.
     pub(super) fn end_with(&mut self, status: Status)
         requires { is_over status ≡ true }
-        ensures { self.new ≡ record self.old { opened = None; partial_frame = []; status = status } }
+        ensures { self.new ≡ record self.old { opened = None; partial_frame = []; kept = 0; status = status } }
     {
         self.receiver.end();
         self.status = status;
@@ -124,11 +129,18 @@ impl State {
                 event: None,
             });
         }
-        if self.receiver.take_inside(piece)? {
-            return Ok(Taken {
-                used: piece.len(),
-                event: None,
-            });
+        match self.receiver.take_inside(piece) {
+            Err(refused) => {
+                self.receiver.cut();
+                return Err(refused);
+            }
+            Ok(true) => {
+                return Ok(Taken {
+                    used: piece.len(),
+                    event: None,
+                });
+            }
+            Ok(false) => self.receiver.cut(),
         }
         let replying = Replying {
             role: self.receiver.role(),
@@ -136,9 +148,42 @@ impl State {
             answering,
             key,
         };
-        let taken = self.receiver.take(&replying, piece, out)?;
-        self.status = status_after(self.status, &taken.event);
-        Ok(taken)
+        match self.receiver.take(&replying, piece, out) {
+            Err(refused) => {
+                self.receiver.cut();
+                Err(refused)
+            }
+            Ok(taken) => {
+                self.status = status_after(self.status, &taken.event);
+                Ok(taken)
+            }
+        }
+    }
+}
+
+impl State {
+    /// Takes a piece that gives no event, whole. `NoMemory` where it would give one, or a growth was refused: then
+    /// nothing has changed.
+    pub(super) fn take_quiet(&mut self, piece: &[u8]) -> Result<Taken, NoMemory>
+        requires { is_over self.old.status ≡ false }
+        ensures whole { IfOk result (λ taken. taken ≡ record { used = length piece.now; event = None }) }
+        ensures taken { (answering : Answering) (key before : List ℕ) → CanAnswer answering self.old.sending
+            → OnOk result (HasTaken (reply_by answering) self.old self.new
+            (record { piece = piece.now; key = key; before = before; after = before })
+            (record { used = length piece.now; event = None })) }
+        ensures role { self.new.role ≡ self.old.role }
+        ensures limits { self.new.limits ≡ self.old.limits }
+        ensures sending { self.new.sending ≡ self.old.sending }
+        ensures kept { OnErr result (self.new ≡ self.old) }
+        ensures memory { OnErr result (WantsMemoryToTell self.old piece.now) }
+    {
+        match self.receiver.take_quiet(piece) {
+            Ok(taken) => Ok(taken),
+            Err(refused) => {
+                self.receiver.cut();
+                Err(refused)
+            }
+        }
     }
 }
 

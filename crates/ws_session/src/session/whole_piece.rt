@@ -1,9 +1,12 @@
 //! A piece that is taken whole, whatever number of frames it holds (RFC 6455 section 5.4).
 
-ghost use Rattle.std.specs.Prelude.{◌≡◌, ◌+◌, ◌^◌, ◌≤◌, ◌<◌, length, true, IsOk, IfOk, IfErr, OnErr};
+ghost use Rattle.std.specs.Prelude.{◌≡◌, ◌+◌, ◌^◌, ◌≤◌, ◌<◌, ℕ, List, length, drop, None, true, false, IsOk, IfOk, IfErr};
+ghost use Rattle.std.specs.Prelude.{OnOk, OnErr};
+ghost use Rattle.ws_session.specs.declared.session.Answering.{Answering};
 ghost use Rattle.ws_session.specs.Replies.{reply_to};
 ghost use Rattle.ws_session.specs.Exchange.{is_over};
-ghost use Rattle.ws_session.specs.Taking.{HasTakenAll, front_taken};
+ghost use Rattle.ws_session.specs.Taking.{HasTaken, HasTakenAll, front_taken};
+ghost use Rattle.ws_session.specs.Memory.{WantsMemoryToTell};
 ghost use Rattle.ws_session.specs.InnerInvariant.{CanAnswer, HasTakenFront, reply_by};
 
 use crate::event::{PlacedEvent, TakeStop, Taken};
@@ -30,11 +33,13 @@ impl Session {
 
         // Where memory ran out some bytes are left.
         ensures used { IfErr result (λ stop. stop.used < length piece.now) }
+
+        // Memory is wanted where the bytes that would be used next hold payload of a data frame, or an event comes.
+        ensures memory { IfErr result (λ stop. WantsMemoryToTell self.new (drop stop.used piece.now)) }
         ensures role { self.new.role ≡ self.old.role }
         ensures limits { self.new.limits ≡ self.old.limits }
     {
-        self.take_all_by(Answering::Plain, piece, key, out, events)?;
-        Ok(())
+        self.take_all_by(Answering::Plain, piece, key, out, events)
     }
 
     /// Takes a whole piece as `take_all` does, and where it is echoing sends each message back.
@@ -53,6 +58,7 @@ impl Session {
         ensures over { is_over self.old.status ≡ true → IsOk result × (self.new ≡ self.old)
             × (out.new.items ≡ out.old.items) × (events.new.items ≡ events.old.items) }
         ensures used { IfErr result (λ stop. stop.used < length piece.now) }
+        ensures memory { IfErr result (λ stop. WantsMemoryToTell self.new (drop stop.used piece.now)) }
         ensures sending { self.new.sending ≡ self.old.sending }
     {
         let mut used = 0;
@@ -66,7 +72,8 @@ impl Session {
     }
 
     /// Takes the front of what is left of a piece, of which so many bytes were taken before, as much as one call takes:
-    /// how much that is. `NoMemory` leaves all as it was.
+    /// how much that is. Where there is no room for an event, only what gives none is taken. `NoMemory` leaves all as it
+    /// was.
     fn take_front(
         &mut self,
         answering: Answering,
@@ -77,6 +84,7 @@ impl Session {
         events: &mut Vec<PlacedEvent>,
     ) -> Result<usize, NoMemory>
         requires answering { CanAnswer answering self.old.sending }
+        requires going { is_over self.old.status ≡ false }
         requires room { before + length piece.now < 2 ^ 64 }
         ensures used { IfOk result (λ used. (0 < length piece.now → 0 < used) × (used ≤ length piece.now)) }
         ensures taken { IfOk result (λ used. HasTakenFront (reply_by answering) self.old self.new
@@ -85,8 +93,15 @@ impl Session {
         ensures sending { self.new.sending ≡ self.old.sending }
         ensures kept { OnErr result ((self.new ≡ self.old) × (out.new.items ≡ out.old.items)
             × (events.new.items ≡ events.old.items)) }
+        ensures memory { OnErr result (WantsMemoryToTell self.old piece.now) }
     {
-        events.reserve(1)?;
+        match events.reserve(1) {
+            Ok(()) => {}
+            Err(_) => {
+                let taken = self.take_quiet(piece)?;
+                return Ok(taken.used);
+            }
+        }
         let Taken { used, event } = self.take_by(answering, piece, key, out)?;
         if let Some(event) = event {
             events.push_reserved(PlacedEvent {
@@ -95,5 +110,24 @@ impl Session {
             });
         }
         Ok(used)
+    }
+
+    /// Takes a piece that gives no event, whole. `NoMemory` where it would give one, or a growth was refused: then
+    /// nothing has changed.
+    fn take_quiet(&mut self, piece: &[u8]) -> Result<Taken, NoMemory>
+        requires { is_over self.old.status ≡ false }
+        ensures whole { IfOk result (λ taken. taken ≡ record { used = length piece.now; event = None }) }
+        ensures taken { (answering : Answering) (key before : List ℕ) → CanAnswer answering self.old.sending
+            → OnOk result (HasTaken (reply_by answering) self.old self.new
+            (record { piece = piece.now; key = key; before = before; after = before })
+            (record { used = length piece.now; event = None })) }
+        ensures role { self.new.role ≡ self.old.role }
+        ensures limits { self.new.limits ≡ self.old.limits }
+        ensures sending { self.new.sending ≡ self.old.sending }
+        ensures kept { OnErr result (self.new ≡ self.old) }
+        ensures memory { OnErr result (WantsMemoryToTell self.old piece.now) }
+    {
+        let taken = self.state.take_quiet(piece)?;
+        Ok(taken)
     }
 }

@@ -10,4 +10,4 @@ invariant_of-self c =
     let i = c.self.inside in
     let sound = c.self.invariant.sound in
     let reads : HasReadOpen i.assembly.opened i.assembly.text = subst (λ (v : ReceiverValue). HasReadOpen v.opened v.text) (sym c.self.view_is) c.requires.read in
-    subst (λ (f : UnderWay). IsReceiving i.role i.limits i.assembly f) (sym c.nothing-self-inside.ensures) (not_begun i.role i.limits i.assembly c.self.invariant.under_way.joined reads sound.limit sound.size)
+    subst (λ (f : UnderWay). IsReceiving i.role i.limits i.assembly f) (sym c.nothing-self-inside.ensures) (not_begun i.role i.limits i.assembly c.self.invariant.under_way.joined reads sound.limit sound.size sound.room)

@@ -10,6 +10,7 @@ use Rattle.ws_session.specs.InnerReceiver.{ReceiverValue, receiver_of, after_mor
 use Rattle.ws_session.proofs.ByteLists.{bytes_append}
 use Rattle.ws_session.proofs.Pieces.{none_open, more_data}
 use Rattle.ws_session.proofs.WentOn.{part_inside, partial_inside, receives_inside, room_inside, partial_passed, receives_passed}
+use Rattle.ws_session.proofs.Exact.{room_data}
 use Rattle.ws_session.proofs.Wants.{on_err}
 use Rattle.ws_session.proofs.receiver.Receiver.take_inside.Goals as goal
 
@@ -30,7 +31,7 @@ invariant_of-self c =
     let u : IsUnderWay i.role i.limits i.assembly (under_way.Data h came) = subst (λ (f : UnderWay). IsUnderWay i.role i.limits i.assembly f) c.in-Data.is c.self.invariant.under_way in
     let sound : IsSoundReceiver (receiver_of i.role i.limits i.assembly (under_way.Data h came)) = subst (λ (f : UnderWay). IsSoundReceiver (receiver_of i.role i.limits i.assembly f)) c.in-Data.is c.self.invariant.sound in
     let e = c.check_inside.ensures in
-    subst (λ (f : UnderWay). IsReceiving i.role i.limits b f) (sym c.in-Data.is) (receives_passed i.role i.limits i.assembly h came u b e.opened e.text e.first e.kept e.joined sound)
+    subst (λ (f : UnderWay). IsReceiving i.role i.limits b f) (sym c.in-Data.is) (receives_passed i.role i.limits i.assembly h came u b e.opened e.text e.first e.kept e.joined sound (room_data i.role i.limits i.assembly h came u b e.size))
 
 pub returns-in_err-text-clause-kept : goal.returns-in_err-text-clause-kept
 returns-in_err-text-clause-kept c =
@@ -53,7 +54,20 @@ returns-in_err-text-clause-sound c =
     let u : IsUnderWay i.role i.limits i.assembly (under_way.Data h came) = subst (λ (f : UnderWay). IsUnderWay i.role i.limits i.assembly f) c.in-Data.is c.self.invariant.under_way in
     let sound : IsSoundReceiver (receiver_of i.role i.limits i.assembly (under_way.Data h came)) = subst (λ (f : UnderWay). IsSoundReceiver (receiver_of i.role i.limits i.assembly f)) c.in-Data.is c.self.invariant.sound in
     let e = c.check_inside.ensures in
-    let r : IsReceiving i.role i.limits b i.frame = subst (λ (f : UnderWay). IsReceiving i.role i.limits b f) (sym c.in-Data.is) (receives_passed i.role i.limits i.assembly h came u b e.opened e.text e.first e.kept e.joined sound) in
+    let r : IsReceiving i.role i.limits b i.frame = subst (λ (f : UnderWay). IsReceiving i.role i.limits b f) (sym c.in-Data.is) (receives_passed i.role i.limits i.assembly h came u b e.opened e.text e.first e.kept e.joined sound (room_data i.role i.limits i.assembly h came u b e.size)) in
+    r.sound
+
+pub returns-in_default-2-clause-sound : goal.returns-in_default-2-clause-sound
+returns-in_default-2-clause-sound c =
+    let i = c.self.inside in
+    let h = c.in-Data.header in
+    let came = c.in-Data.came in
+    let b = c.check_inside.new.assembly in
+    let piece = c.args.piece.now in
+    let u : IsUnderWay i.role i.limits i.assembly (under_way.Data h came) = subst (λ (f : UnderWay). IsUnderWay i.role i.limits i.assembly f) c.in-Data.is c.self.invariant.under_way in
+    let sound : IsSoundReceiver (receiver_of i.role i.limits i.assembly (under_way.Data h came)) = subst (λ (f : UnderWay). IsSoundReceiver (receiver_of i.role i.limits i.assembly f)) c.in-Data.is c.self.invariant.sound in
+    let e = c.check_inside.ensures in
+    let r : IsReceiving i.role i.limits b i.frame = subst (λ (f : UnderWay). IsReceiving i.role i.limits b f) (sym c.in-Data.is) (receives_passed i.role i.limits i.assembly h came u b e.opened e.text e.first e.kept e.joined sound (room_data i.role i.limits i.assembly h came u b e.size)) in
     r.sound
 
 pub returns-in_err-text-clause-bytes : goal.returns-in_err-text-clause-bytes
@@ -83,7 +97,7 @@ invariant_of-self-in_default-2 c =
     let u : IsUnderWay i.role i.limits i.assembly (under_way.Data h came) = subst (λ (f : UnderWay). IsUnderWay i.role i.limits i.assembly f) c.in-Data.is c.self.invariant.under_way in
     let sound : IsSoundReceiver (receiver_of i.role i.limits i.assembly (under_way.Data h came)) = subst (λ (f : UnderWay). IsSoundReceiver (receiver_of i.role i.limits i.assembly f)) c.in-Data.is c.self.invariant.sound in
     let e = c.check_inside.ensures in
-    subst (λ (f : UnderWay). IsReceiving i.role i.limits b f) (sym c.in-Data.is) (receives_passed i.role i.limits i.assembly h came u b e.opened e.text e.first e.kept e.joined sound)
+    subst (λ (f : UnderWay). IsReceiving i.role i.limits b f) (sym c.in-Data.is) (receives_passed i.role i.limits i.assembly h came u b e.opened e.text e.first e.kept e.joined sound (room_data i.role i.limits i.assembly h came u b e.size))
 
 pub returns-in_default-2-clause-bytes : goal.returns-in_default-2-clause-bytes
 returns-in_default-2-clause-bytes c =
@@ -104,7 +118,7 @@ go_on-requires-2 c =
     let text = c.in-Some.text in
     let are : AreBytes piece = λ k. omega (arith, c.type_inv.piece k) in
     let checked : IfSome (Some text) (λ (t : Option (List ℕ)). IsPayloadCheck h came 0 b (frame_payload b) (check.Need (under_way.Data h (came + length piece)) t)) = subst (λ (o : Option (Option (List ℕ))). IfSome o (λ (t : Option (List ℕ)). IsPayloadCheck h came 0 b (frame_payload b) (check.Need (under_way.Data h (came + length piece)) t))) c.in-Some.is c.in_ok-text.ensures.checked in
-    subst (λ (f : UnderWay). length_so_far f + length piece < 18446744073709551616) (sym c.in-Data.is) (room_inside i.role i.limits i.assembly h came u b piece text are e.opened e.joined c.in_ok-text.ensures.payload checked sound)
+    subst (λ (f : UnderWay). length_so_far f + length piece < 18446744073709551616) (sym c.in-Data.is) (room_inside i.role i.limits i.assembly h came u b piece text are e.opened e.joined c.in_ok-text.ensures.payload checked sound (room_data i.role i.limits i.assembly h came u b e.size))
 
 pub invariant_of-self-2 : goal.invariant_of-self-2
 invariant_of-self-2 c =
@@ -120,7 +134,7 @@ invariant_of-self-2 c =
     let are : AreBytes piece = λ k. omega (arith, c.type_inv.piece k) in
     let checked : IfSome (Some text) (λ (t : Option (List ℕ)). IsPayloadCheck h came 0 b (frame_payload b) (check.Need (under_way.Data h (came + length piece)) t)) = subst (λ (o : Option (Option (List ℕ))). IfSome o (λ (t : Option (List ℕ)). IsPayloadCheck h came 0 b (frame_payload b) (check.Need (under_way.Data h (came + length piece)) t))) c.in-Some.is c.in_ok-text.ensures.checked in
     let same_next : c.go_on-2.new.self ≡ under_way.Data h (came + length piece) = c.go_on-2.ensures ∙ ap (λ (f : UnderWay). after_more f (length piece)) c.in-Data.is in
-    subst (λ (x : AssemblyValue). IsReceiving i.role i.limits x c.go_on-2.new.self) (sym c.go_on.ensures) (subst (λ (f : UnderWay). IsReceiving i.role i.limits (with_text b text) f) (sym same_next) (receives_inside i.role i.limits i.assembly h came u b piece text are e.opened e.joined c.in_ok-text.ensures.payload checked sound))
+    subst (λ (x : AssemblyValue). IsReceiving i.role i.limits x c.go_on-2.new.self) (sym c.go_on.ensures) (subst (λ (f : UnderWay). IsReceiving i.role i.limits (with_text b text) f) (sym same_next) (receives_inside i.role i.limits i.assembly h came u b piece text are e.opened e.joined c.in_ok-text.ensures.payload checked sound (room_data i.role i.limits i.assembly h came u b e.size)))
 
 pub returns-clause-part : goal.returns-clause-part
 returns-clause-part c = λ yes.
@@ -168,5 +182,5 @@ returns-clause-sound c =
     let are : AreBytes piece = λ k. omega (arith, c.type_inv.piece k) in
     let checked : IfSome (Some text) (λ (t : Option (List ℕ)). IsPayloadCheck h came 0 b (frame_payload b) (check.Need (under_way.Data h (came + length piece)) t)) = subst (λ (o : Option (Option (List ℕ))). IfSome o (λ (t : Option (List ℕ)). IsPayloadCheck h came 0 b (frame_payload b) (check.Need (under_way.Data h (came + length piece)) t))) c.in-Some.is c.in_ok-text.ensures.checked in
     let same_next : c.go_on-2.new.self ≡ under_way.Data h (came + length piece) = c.go_on-2.ensures ∙ ap (λ (f : UnderWay). after_more f (length piece)) c.in-Data.is in
-    let r : IsReceiving i.role i.limits c.go_on.new.self c.go_on-2.new.self = subst (λ (x : AssemblyValue). IsReceiving i.role i.limits x c.go_on-2.new.self) (sym c.go_on.ensures) (subst (λ (f : UnderWay). IsReceiving i.role i.limits (with_text b text) f) (sym same_next) (receives_inside i.role i.limits i.assembly h came u b piece text are e.opened e.joined c.in_ok-text.ensures.payload checked sound)) in
+    let r : IsReceiving i.role i.limits c.go_on.new.self c.go_on-2.new.self = subst (λ (x : AssemblyValue). IsReceiving i.role i.limits x c.go_on-2.new.self) (sym c.go_on.ensures) (subst (λ (f : UnderWay). IsReceiving i.role i.limits (with_text b text) f) (sym same_next) (receives_inside i.role i.limits i.assembly h came u b piece text are e.opened e.joined c.in_ok-text.ensures.payload checked sound (room_data i.role i.limits i.assembly h came u b e.size))) in
     r.sound

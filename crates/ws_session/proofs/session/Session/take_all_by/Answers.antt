@@ -1,8 +1,9 @@
-use Rattle.std.proofs.Common.{◌≡◌, ◌-◌, ◌<◌, ◌∙◌, true, false, List, ℕ, ap, sym, refl, arith, length, take, drop}
+use Rattle.std.proofs.Common.{◌≡◌, ◌-◌, ◌<◌, ◌∙◌, true, false, List, ℕ, ap, sym, refl, subst, arith, length, take, drop}
 use Rattle.std.proofs.lemmas.List.{take_rest, length-drop}
 use Rattle.ws_session.specs.declared.status.Status.{Status}
 use Rattle.ws_session.specs.Exchange.{SessionValue, is_over}
 use Rattle.ws_session.specs.InnerInvariant.{reply_by}
+use Rattle.ws_session.specs.Memory.{WantsMemoryToTell}
 use Rattle.ws_session.proofs.TakenPieces.{nothing_taken, taken_to, taken_at_the_end, taken_whole}
 use Rattle.ws_session.proofs.session.Session.take_all_by.Goals as goal
 
@@ -42,3 +43,13 @@ returns-after-loop-used-clause-taken c =
 
 pub returns-in-Err-clause-taken : goal.returns-in-Err-clause-taken
 returns-in-Err-clause-taken c = let kept = c.in-Err.ensures.kept in rw (kept.0, kept.1, kept.2) c.loop-used.invariant.taken
+
+pub take_front-requires-clause-going : goal.take_front-requires-clause-going
+take_front-requires-clause-going c = ap (λ (s : Status). is_over s) (sym c.status.ensures) ∙ sym c.is_over.ensures ∙ c.if-not-is_over.true
+
+pub returns-in-Err-clause-memory : goal.returns-in-Err-clause-memory
+returns-in-Err-clause-memory c =
+    let used = c.loop-used.used in
+    let piece = c.args.piece.now in
+    let kept = c.in-Err.ensures.kept in
+    subst (λ (x : SessionValue). WantsMemoryToTell x (drop used piece)) (sym kept.0) (subst (λ (l : List ℕ). WantsMemoryToTell c.loop-used.self l) (take_rest piece used) c.in-Err.ensures.memory)

@@ -1,0 +1,158 @@
+-- No payload is kept but that of the open message and of the frame under way, and at most that of one message.
+use Rattle.std.proofs.Common.{◌≡◌, ℕ, ◌+◌, ◌≤◌, List, [], ◌++◌, length, take, Option, sym, ap, ◌∙◌, arith, inl, inr, subst, refl}
+use Rattle.std.proofs.lemmas.Bool.{cases_lt}
+use Rattle.std.proofs.lemmas.List.{length-take-le, length-drop, take-take}
+use Rattle.ws_wire.specs.declared.role.Role.{Role}
+use Rattle.ws_wire.specs.Header.{HeaderFields}
+use Rattle.ws_session.specs.declared.limits.TheConstants.{MAX_MESSAGE}
+use Rattle.ws_session.specs.declared.message.Message.{Message}
+use Rattle.ws_session.specs.declared.reason.Reason.TheVariants.{TooBig}
+use Rattle.ws_session.specs.declared.receiver.under_way.UnderWay.{UnderWay}
+use Rattle.ws_session.specs.declared.receiver.under_way.UnderWay.TheVariants as under_way
+use Rattle.ws_session.specs.declared.receiver.frame_check.Content.{Content}
+use Rattle.ws_session.specs.declared.receiver.frame_check.Content.TheVariants as content
+use Rattle.ws_session.specs.declared.receiver.frame_check.FrameCheck.{FrameCheck}
+use Rattle.ws_session.specs.declared.receiver.frame_check.FrameCheck.TheVariants as check
+use Rattle.ws_session.specs.Limits.{LimitsValue}
+use Rattle.ws_session.specs.Faults.{open_payload, IsControl}
+use Rattle.ws_session.specs.InnerAssembly.{HasReadOpen}
+use Rattle.ws_session.specs.InnerChecking.{NoneAtHeader}
+use Rattle.ws_session.specs.InnerNextFrame.{IsPartOfFrame}
+use Rattle.ws_session.specs.InnerReceiving.{AssemblyValue, frame_payload, first_bytes, HasKept, IsJoined, partial_of, came_of, IsExactly, IsUnderWay, IsPayloadCheck, IsFrameCheck, with_text, IsExactCheck, IsExactContent}
+use Rattle.ws_session.specs.InnerReceiver.{ReceiverValue, receiver_of, IsReceiving, IsExact, IsExactFor}
+use Rattle.ws_session.proofs.Pieces.{kept_first, same_partial, still_data, still_header}
+
+-- ---- at most the payload of one message
+
+-- a data frame that breaks no rule takes its message no further than the limit
+pub data_fits : (role : Role) (limits : LimitsValue) (opened : Option Message) (h : HeaderFields) → NoneAtHeader role limits opened h → h.opcode ≤ 2 → length (open_payload opened) + h.len ≤ limits.max_message
+data_fits role limits opened h none le = elim (cases_lt limits.max_message (length (open_payload opened) + h.len)) [ inl big ↦ absurd (none TooBig (le, big)) | inr fits ↦ fits ]
+
+pub room_data : (role : Role) (limits : LimitsValue) (a : AssemblyValue) (h : HeaderFields) (came : ℕ) → IsUnderWay role limits a (under_way.Data h came) → (b : AssemblyValue) → length b.payload ≤ length (open_payload a.opened) + h.len → length b.payload ≤ limits.max_message
+room_data role limits a h came u b size = let k = u.kept in omega (arith, size, data_fits role limits a.opened h k.1 k.2)
+
+-- ---- what the check leaves
+
+exact_next : (h : HeaderFields) (came start : ℕ) (a : AssemblyValue) (next : UnderWay) (text : Option (List ℕ)) → HasKept a came → h.opcode ≤ 2 → IsPayloadCheck h came start a (frame_payload a) (check.Need next text) → IsExactly a next
+exact_next h came start a (under_way.Header bytes) text has le c = absurd (c.2)
+exact_next h came start a (under_way.Data same n) text has le c = let k = c.2 in omega (arith, k.1, has, length-drop (length (open_payload a.opened)) a.payload)
+exact_next h came start a (under_way.Control same bytes) text has le c = let k = c.2 in let control = k.2 in absurd (omega (arith, control.0, le))
+
+exact_content : (h : HeaderFields) (came start used : ℕ) (a : AssemblyValue) (x : Content) → h.opcode ≤ 2 → IsPayloadCheck h came start a (frame_payload a) (check.Whole used x) → IsExactContent a x
+exact_content h came start used a (content.Data fin kind text) le c = tt
+exact_content h came start used a (content.Ping payload) le c = let k = c.3 in absurd (omega (arith, k.0, le))
+exact_content h came start used a (content.Pong payload) le c = let k = c.3 in absurd (omega (arith, k.0, le))
+exact_content h came start used a (content.Close close) le c = tt
+
+-- of a data frame
+pub exact_data : (h : HeaderFields) (came start : ℕ) (a : AssemblyValue) (j : FrameCheck) → HasKept a came → h.opcode ≤ 2 → IsPayloadCheck h came start a (frame_payload a) j → IsExactCheck a j
+exact_data h came start a (check.Need next text) has le c = exact_next h came start a next text has le c
+exact_data h came start a (check.Whole used x) has le c = exact_content h came start used a x le c
+exact_data h came start a (check.Fault reason used) has le c = tt
+
+control_next : (h : HeaderFields) (came start : ℕ) (a : AssemblyValue) (payload : List ℕ) (next : UnderWay) (text : Option (List ℕ)) → length a.payload ≡ length (open_payload a.opened) → IsControl h → IsPayloadCheck h came start a payload (check.Need next text) → IsExactly a next
+control_next h came start a payload (under_way.Header bytes) text all control c = absurd (c.2)
+control_next h came start a payload (under_way.Data same n) text all control c = let k = c.2 in absurd (omega (arith, control.0, k.3))
+control_next h came start a payload (under_way.Control same bytes) text all control c = omega (arith, all)
+
+control_content : (a : AssemblyValue) (x : Content) → length a.payload ≡ length (open_payload a.opened) → IsExactContent a x
+control_content a (content.Data fin kind text) all = tt
+control_content a (content.Ping payload) all = all
+control_content a (content.Pong payload) all = all
+control_content a (content.Close close) all = tt
+
+-- of a control frame
+pub exact_control : (h : HeaderFields) (came start : ℕ) (a : AssemblyValue) (payload : List ℕ) (j : FrameCheck) → length a.payload ≡ length (open_payload a.opened) → IsControl h → IsPayloadCheck h came start a payload j → IsExactCheck a j
+exact_control h came start a payload (check.Need next text) all control c = control_next h came start a payload next text all control c
+exact_control h came start a payload (check.Whole used x) all control c = control_content a x all
+exact_control h came start a payload (check.Fault reason used) all control c = tt
+
+-- the same of the receiving side
+pub exact_for : (role : Role) (limits : LimitsValue) (a : AssemblyValue) (f : UnderWay) (x : Content) → IsExactContent a x → IsExactFor (receiver_of role limits a f) x
+exact_for role limits a f (content.Data fin kind text) is = tt
+exact_for role limits a f (content.Ping payload) is = is
+exact_for role limits a f (content.Pong payload) is = is
+exact_for role limits a f (content.Close close) is = tt
+
+-- ---- what is cut off
+
+-- the bytes that are shown are there
+pub has_shown : (role : Role) (limits : LimitsValue) (a : AssemblyValue) (f : UnderWay) → IsUnderWay role limits a f → HasKept a (came_of f)
+has_shown role limits a (under_way.Header bytes) u = kept_first a u.joined
+has_shown role limits a (under_way.Data h came) u = let k = u.kept in k.4
+has_shown role limits a (under_way.Control h payload) u = kept_first a u.joined
+
+module _ (role : Role) (limits : LimitsValue) (a b : AssemblyValue) (opened : b.opened ≡ a.opened) (text : b.text ≡ a.text) (joined : IsJoined b) where
+  size : length (open_payload b.opened) ≡ length (open_payload a.opened)
+  size = ap (λ (o : Option Message). length (open_payload o)) opened
+
+  cut_len : (came : ℕ) → HasKept a came → b.payload ≡ first_bytes a came → length b.payload ≡ length (open_payload a.opened) + came
+  cut_len came has payload = ap (λ (l : List ℕ). length l) payload ∙ length-take-le (length (open_payload a.opened) + came) a.payload has
+
+  pub cut_exact : (f : UnderWay) → IsUnderWay role limits a f → b.payload ≡ first_bytes a (came_of f) → IsExactly b f
+  cut_exact f u payload = omega (arith, size, cut_len (came_of f) (has_shown role limits a f u) payload)
+
+  cut_first : (came : ℕ) → b.payload ≡ first_bytes a came → first_bytes b came ≡ first_bytes a came
+  cut_first came payload =
+      let n = length (open_payload a.opened) + came in
+      ap (λ (l : List ℕ). take (length (open_payload b.opened) + came) l) payload ∙ ap (λ (m : ℕ). take (m + came) (take n a.payload)) size ∙ take-take n n a.payload (omega arith)
+
+  cut_has : (came : ℕ) → HasKept a came → b.payload ≡ first_bytes a came → HasKept b came
+  cut_has came has payload = omega (arith, size, cut_len came has payload)
+
+  pub cut_partial : (f : UnderWay) → IsUnderWay role limits a f → b.payload ≡ first_bytes a (came_of f) → partial_of b f ≡ partial_of a f
+  cut_partial (under_way.Header bytes) u payload = refl
+  cut_partial (under_way.Data h came) u payload = same_partial role limits a h came u b opened (cut_first came payload)
+  cut_partial (under_way.Control h p) u payload = refl
+
+  pub cut_under : (f : UnderWay) → IsUnderWay role limits a f → b.payload ≡ first_bytes a (came_of f) → IsUnderWay role limits b f
+  cut_under (under_way.Header bytes) u payload = still_header role limits a b bytes u opened text joined
+  cut_under (under_way.Data h came) u payload = let k = u.kept in still_data role limits a h came u b opened text (cut_first came payload) (cut_has came k.4 payload) joined
+  cut_under (under_way.Control h p) u payload =
+      let k = u.kept in
+      record {
+        bytes = u.bytes;
+        joined = joined;
+        kept = (k.0, subst (λ (o : Option Message). NoneAtHeader role limits o h) (sym opened) k.1, k.2, k.3, subst (λ (o : Option Message). HasReadOpen o b.text) (sym opened) (subst (λ (t : Option (List ℕ)). HasReadOpen a.opened t) (sym text) k.4));
+      }
+
+  pub cut_receives : (f : UnderWay) → IsReceiving role limits a f → b.payload ≡ first_bytes a (came_of f) → IsReceiving role limits b f
+  cut_receives f r payload =
+      let u = r.under_way in
+      let sound = r.sound in
+      let all : length (partial_of b f) ≡ length (partial_of a f) = ap (λ (l : List ℕ). length l) (cut_partial f u payload) in
+      let less : length b.payload ≤ length a.payload = omega (arith, cut_len (came_of f) (has_shown role limits a f u) payload, has_shown role limits a f u) in
+      record {
+        under_way = cut_under f u payload;
+        sound = record {
+          part = subst (λ (o : Option Message). IsPartOfFrame role limits o (partial_of b f)) (sym opened) (subst (λ (l : List ℕ). IsPartOfFrame role limits a.opened l) (sym (cut_partial f u payload)) sound.part);
+          limit = sound.limit;
+          size = omega (arith, size, sound.size);
+          held = omega (arith, size, all, sound.held);
+          room = omega (arith, less, sound.room);
+        };
+      }
+
+-- as much is kept on two receiving sides that show the same and keep no more
+pub kept_same : (v w : ReceiverValue) → IsExact v → IsExact w → v.opened ≡ w.opened → v.came ≡ w.came → length v.assembled ≡ length w.assembled
+kept_same v w first second opened came = omega (arith, first, second, came, ap (λ (o : Option Message). length (open_payload o)) opened)
+
+-- what is under way next is kept
+pub need_receives : (role : Role) (limits : LimitsValue) (a b : AssemblyValue) (k : ℕ) (bytes : List ℕ) (next : UnderWay) (text : Option (List ℕ)) → b.opened ≡ a.opened → limits.max_message ≤ MAX_MESSAGE → length (open_payload a.opened) ≤ limits.max_message → length b.payload ≤ limits.max_message
+    → IsFrameCheck role limits b k bytes (check.Need next text) → IsReceiving role limits (with_text b text) next
+need_receives role limits a b k bytes next text opened limit fit kept is =
+    let size : length (open_payload b.opened) ≡ length (open_payload a.opened) = ap (λ (o : Option Message). length (open_payload o)) opened in
+    let all : length (partial_of b next) ≡ length bytes = ap (λ (l : List ℕ). length l) is.2 in
+    let fits : length (open_payload b.opened) ≤ limits.max_message = omega (arith, size, fit) in
+    let held = is.1 in
+    let room = held.held fits in
+    record {
+      under_way = is.3;
+      sound = record {
+        part = subst (λ (l : List ℕ). IsPartOfFrame role limits b.opened l) (sym is.2) is.0;
+        limit = limit;
+        size = fits;
+        held = omega (arith, room, all);
+        room = kept;
+      };
+    }
