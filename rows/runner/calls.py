@@ -1,6 +1,7 @@
 """Rows of calls, answered by the program `test_rows`: all those of a file in one run."""
 
 import re
+import resource
 import shlex
 import subprocess
 from dataclasses import dataclass
@@ -17,12 +18,14 @@ SECONDS = 120
 
 @dataclass
 class Call:
-    """A row: its lines for `test_rows`, one for each cut, and the answer that each of them wants."""
+    """A row: its lines for `test_rows`, one for each cut, and the answer that each of them wants; and the KiB of memory
+    that the program may have for it, where that is said."""
 
     where: str
     name: str
     lines: list
     wanted: str
+    memory: int = None
 
 
 def calls_of(entry):
@@ -36,7 +39,16 @@ def calls_of(entry):
 
 def call_of(entry, number, text):
     call, wanted = parted(entry, number, text)
-    return Call(f"{entry.file}:{number}", f"{entry.name}: {call}", cuts_of(entry, call), in_hex(entry, wanted))
+    lines, memory = cuts_of(entry, call), memory_of(entry)
+    return Call(f"{entry.file}:{number}", f"{entry.name}: {call}", lines, in_hex(entry, wanted), memory)
+
+
+def memory_of(entry):
+    """The KiB of memory for the calls of an entry, None where none are said."""
+    text = "".join(part.strip() for _, part in entry.values.get("memory", []))
+    if text and not text.isdigit():
+        raise BadFile(f"{entry.file}:{entry.line}: no number behind memory: {text}")
+    return int(text) if text else None
 
 
 def session_of(entry):
@@ -99,7 +111,15 @@ def word(value):
 
 def run_calls(program, calls):
     """The failures of these rows."""
-    answers = answers_to(program, [line for call in calls for line in call.lines])
+    failures = []
+    for memory in dict.fromkeys(call.memory for call in calls):
+        failures += run_within(program, [call for call in calls if call.memory == memory], memory)
+    return failures
+
+
+def run_within(program, calls, memory):
+    """The failures of these rows, in one run that may have so many KiB of memory, as much as there is for None."""
+    answers = answers_to(program, [line for call in calls for line in call.lines], memory)
     failures, at = [], 0
     for call in calls:
         got = answers[at : at + len(call.lines)]
@@ -116,14 +136,15 @@ def failure(program, call, number, answer):
     return Failure(call.where, call.name, f"{words} | {program}", [("answer", call.wanted, answer)])
 
 
-def answers_to(program, lines):
+def answers_to(program, lines, memory):
     """An answer for each line. A line that the program stops at is answered by what it says of it. Lines beyond those
     that were asked for are told with the last answer, which then is none that is wanted."""
     answers = []
     while len(answers) < len(lines):
         rest = "".join(f"{line}\n" for line in lines[len(answers) :])
         try:
-            ran = subprocess.run([program], input=rest.encode(), stdout=subprocess.PIPE, timeout=SECONDS)
+            pipes = {"input": rest.encode(), "stdout": subprocess.PIPE, "preexec_fn": limited(memory)}
+            ran = subprocess.run([program], timeout=SECONDS, **pipes)
         except (OSError, subprocess.TimeoutExpired) as error:
             return answers + [f"nothing: {error}"] * (len(lines) - len(answers))
         got = ran.stdout.decode(errors="replace").split("\n")[:-1]
@@ -134,3 +155,9 @@ def answers_to(program, lines):
     if beyond:
         answers[-1] += f" and {len(beyond)} lines beyond, the first: {beyond[0]}"
     return answers
+
+
+def limited(memory):
+    """What gives a new process so many KiB of memory, as `ulimit -v` does."""
+    size = None if memory is None else (memory * 1024, memory * 1024)
+    return size and (lambda: resource.setrlimit(resource.RLIMIT_AS, size))

@@ -8,6 +8,7 @@ from runner.byte_texts import BadBytes, read_bytes
 
 HEADINGS = ("row", "calls", "session")
 VALUES = ("words", "input", "cuts", "output", "columns", "faults", "status", "stdin", "stdout", "stderr")
+OF_CALLS = ("memory",)
 KEY = re.compile(r"([a-z]+):(?: (.*))?$")
 DEFINITION = re.compile(r"([A-Z][A-Z_]*) (.*)$")
 
@@ -57,7 +58,7 @@ def read_file(file):
             define(names, text or "", file, where)
         elif key in HEADINGS:
             entries.append(Entry(file, number, key, text or "", dict(names)))
-        elif key in VALUES and entries and entries[-1].kind == "row":
+        elif entries and key in {"row": VALUES, "calls": OF_CALLS}.get(entries[-1].kind, ()):
             entries[-1].values.setdefault(key, []).extend([(True, text)] if text else [])
         else:
             raise BadFile(f"{where}: no such key here: {key}")

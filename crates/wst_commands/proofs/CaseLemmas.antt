@@ -1,29 +1,23 @@
--- The lines of cases, one after the other.
-use Rattle.std.proofs.Common.{◌≡◌, ◌∙◌, ◌+◌, ◌<◌, ap, ap₂, refl, subst, sym, ℕ, List, [], ◌∷◌, ◌++◌, append-nil, length, map, slice_index_or, string_bytes, take}
+-- Cases one after the other: their names, their lines, and those for which words stand.
+use Rattle.std.proofs.Common.{◌≡◌, ◌≢◌, ◌∙◌, ◌+◌, ◌-◌, ◌<◌, ap, ap₂, arith, cond, refl, subst, sym, ℕ, Bool, true, false}
+use Rattle.std.proofs.Common.{List, [], ◌∷◌, ◌++◌, append-nil, append_assoc, codes, filter, flat_map, length, map}
+use Rattle.std.proofs.Common.{slice_index_or, string_bytes, take, drop}
 use Rattle.std.proofs.lemmas.Grind.{flat_map-append}
-use Rattle.std.proofs.lemmas.List.{map-append, take_more}
+use Rattle.std.proofs.lemmas.List.{length-map, map-append, take-append-drop, take_more}
+use Rattle.std.proofs.lemmas.List.Elements.{All-append, All-nil, All-push, filter-append}
 use Rattle.std.proofs.lemmas.Slice.Zip.{AllZip-long}
-use Rattle.std.specs.Fmt.{decimal}
+use Rattle.std.specs.Borrow.{Bor}
+use Rattle.std.specs.List.{All}
 use Rattle.std.specs.declared.alloc.Global.{Global}
 use Rattle.std.specs.declared.string.String.{String}
-use Rattle.ws_wire.proofs.Splits.{all-append}
 use Rattle.ws_scripts.specs.Scripts.{ArePieces, AreTurns, CanBeRun, turns_of}
+use Rattle.ws_scripts.specs.ScriptTexts.{written_script}
 use Rattle.ws_scripts.specs.declared.script.Case.{Case}
-use Rattle.wst_commands.specs.Cases.{AreCaseLines, case_line}
+use Rattle.wst_commands.specs.Cases.{case_line, cases_text}
+use Rattle.wst_commands.specs.GivenCases.{AreCasesBy, AreCasesFor, AreCasesOf, GrowsByCase, GrowsByCases, ids_for}
+use Rattle.wst_commands.specs.GivenCases.{is_glob, is_meant, names_of, or_all}
 
--- no names have no lines
-pub no_lines : (lines : List ℕ) → lines ≡ [] → AreCaseLines [] lines
-no_lines lines none = record { cases = []; can_be_run = tt; named = refl; are_lines = none }
-
--- one more name, and its line
-pub one_more : (names : List (List ℕ)) (lines more : List ℕ) (case : Case) → AreCaseLines names lines → CanBeRun case
-    → more ≡ lines ++ case_line case → AreCaseLines (names ++ string_bytes case.id ∷ []) more
-one_more names lines more case before runs is = record {
-  cases = before.cases ++ case ∷ [];
-  can_be_run = all-append CanBeRun before.cases (case ∷ []) before.can_be_run (runs, tt);
-  named = map-append (λ c. string_bytes c.id) before.cases (case ∷ []) ∙ ap (λ (l : List (List ℕ)). l ++ string_bytes case.id ∷ []) before.named;
-  are_lines = is ∙ ap₂ (λ (a b : List ℕ). a ++ b) before.are_lines (sym (append-nil (case_line case))) ∙ sym (flat_map-append case_line before.cases (case ∷ []));
-}
+-- ---- names
 
 -- the names so far and the next one
 pub next_name : (names : List (String Global)) (i : ℕ) (name : String Global) → i < length names → name ≡ slice_index_or names i name
@@ -33,21 +27,146 @@ next_name names i name within is =
     ∙ (map-append string_bytes (take i names) (slice_index_or names i name ∷ [])
     ∙ ap (λ (n : String Global). map string_bytes (take i names) ++ string_bytes n ∷ []) (sym is))
 
--- and the line of the next one
-pub next_line : (names : List (String Global)) (i : ℕ) (name : String Global) (lines more : List ℕ) (case : Case) → i < length names
-    → name ≡ slice_index_or names i name → AreCaseLines (map string_bytes (take i names)) lines → CanBeRun case
-    → string_bytes case.id ≡ string_bytes name → more ≡ lines ++ case_line case → AreCaseLines (map string_bytes (take (i + 1) names)) more
-next_line names i name lines more case within is before runs named line =
-    subst (λ (l : List (List ℕ)). AreCaseLines l more)
-    (ap (λ (n : List ℕ). map string_bytes (take i names) ++ n ∷ []) named ∙ sym (next_name names i name within is))
-    (one_more (map string_bytes (take i names)) lines more case before runs line)
+-- the words so far and the next one
+pub next_word : (words : List (Bor (List ℕ))) (i : ℕ) (d : Bor (List ℕ)) → i < length words
+    → names_of (take (i + 1) words) ≡ names_of (take i words) ++ (slice_index_or words i d).now ∷ []
+next_word words i d within =
+    ap (λ (l : List (Bor (List ℕ))). names_of l) (take_more words i d within)
+    ∙ map-append (λ (x : Bor (List ℕ)). x.now) (take i words) (slice_index_or words i d ∷ [])
+
+-- a name that passes a test is the next of those that do
+pub next_meant : (p : List ℕ → Bool) (names : List (String Global)) (i : ℕ) (name : String Global) (ids more : List (Bor (List ℕ))) (last : Bor (List ℕ))
+    → i < length names → name ≡ slice_index_or names i name → names_of ids ≡ filter p (map string_bytes (take i names))
+    → p (string_bytes name) ≡ true → more ≡ ids ++ last ∷ [] → last.now ≡ string_bytes name
+    → names_of more ≡ filter p (map string_bytes (take (i + 1) names))
+next_meant p names i name ids more last within is before passes grown same =
+    ap (λ (l : List (Bor (List ℕ))). names_of l) grown
+    ∙ map-append (λ (x : Bor (List ℕ)). x.now) ids (last ∷ [])
+    ∙ ap₂ (λ (a : List (List ℕ)) (b : List ℕ). a ++ b ∷ []) before same
+    ∙ sym (ap (λ (l : List (List ℕ)). filter p l) (next_name names i name within is)
+    ∙ filter-append p (map string_bytes (take i names)) (string_bytes name ∷ [])
+    ∙ ap (λ (b : Bool). filter p (map string_bytes (take i names)) ++ cond b (string_bytes name ∷ []) []) passes)
+
+-- and another one changes nothing
+pub next_left_out : (p : List ℕ → Bool) (names : List (String Global)) (i : ℕ) (name : String Global) (ids : List (Bor (List ℕ)))
+    → i < length names → name ≡ slice_index_or names i name → names_of ids ≡ filter p (map string_bytes (take i names))
+    → p (string_bytes name) ≡ false → names_of ids ≡ filter p (map string_bytes (take (i + 1) names))
+next_left_out p names i name ids within is before fails =
+    before ∙ sym (ap (λ (l : List (List ℕ)). filter p l) (next_name names i name within is)
+    ∙ filter-append p (map string_bytes (take i names)) (string_bytes name ∷ [])
+    ∙ ap (λ (b : Bool). filter p (map string_bytes (take i names)) ++ cond b (string_bytes name ∷ []) []) fails
+    ∙ append-nil (filter p (map string_bytes (take i names))))
+
+-- ---- cases
+
+-- one more name, and its case
+pub one_more_case : (names : List (List ℕ)) (name : List ℕ) (old new : List Case) (case : Case) → AreCasesOf names old → CanBeRun case
+    → string_bytes case.id ≡ name → new ≡ old ++ case ∷ [] → AreCasesOf (names ++ name ∷ []) new
+one_more_case names name old new case before runs called is = record {
+  can_be_run = subst (λ (l : List Case). All CanBeRun l) (sym is) (All-push CanBeRun old case before.can_be_run runs);
+  named = ap (λ (l : List Case). map (λ c. string_bytes c.id) l) is ∙ map-append (λ (c : Case). string_bytes c.id) old (case ∷ [])
+      ∙ ap₂ (λ (a b : List (List ℕ)). a ++ b) before.named (ap (λ (n : List ℕ). n ∷ []) called);
+}
+
+-- more names, and their cases
+pub more_cases : (names others : List (List ℕ)) (old more new : List Case) → AreCasesOf names old → AreCasesOf others more
+    → new ≡ old ++ more → AreCasesOf (names ++ others) new
+more_cases names others old more new before behind is = record {
+  can_be_run = subst (λ (l : List Case). All CanBeRun l) (sym is) (All-append CanBeRun old more before.can_be_run behind.can_be_run);
+  named = ap (λ (l : List Case). map (λ c. string_bytes c.id) l) is ∙ map-append (λ (c : Case). string_bytes c.id) old more
+      ∙ ap₂ (λ (a b : List (List ℕ)). a ++ b) before.named behind.named;
+}
+
+-- the case of the next id was put behind those of the ids so far
+pub next_id : (ids : List (Bor (List ℕ))) (i : ℕ) (d : Bor (List ℕ)) (first old more new : List Case) → i < length ids
+    → AreCasesOf (names_of (take i ids)) more → old ≡ first ++ more → GrowsByCase (slice_index_or ids i d).now true old new
+    → (longer : List Case) × AreCasesOf (names_of (take (i + 1) ids)) longer × (new ≡ first ++ longer)
+next_id ids i d first old more new within before is (case, runs, called, grown) = (
+  more ++ case ∷ [],
+  subst (λ (l : List (List ℕ)). AreCasesOf l (more ++ case ∷ [])) (sym (next_word ids i d within))
+      (one_more_case (names_of (take i ids)) (slice_index_or ids i d).now more (more ++ case ∷ []) case before runs called refl),
+  grown ∙ ap (λ (l : List Case). l ++ case ∷ []) is ∙ append_assoc first more (case ∷ []),
+)
+
+-- the cases of the next word were put behind those of the words so far
+pub next_cases : (names : List (List ℕ)) (words : List (Bor (List ℕ))) (i : ℕ) (d : Bor (List ℕ)) (old new : List Case) → i < length words
+    → AreCasesBy names (names_of (take i words)) old → GrowsByCases (ids_for names (slice_index_or words i d).now) true old new
+    → AreCasesBy names (names_of (take (i + 1) words)) new
+next_cases names words i d old new within before (some, more, are, grown) =
+    let word = (slice_index_or words i d).now in
+    let front = names_of (take i words) in
+    let ids : flat_map (ids_for names) (front ++ word ∷ []) ≡ flat_map (ids_for names) front ++ ids_for names word =
+    flat_map-append (ids_for names) front (word ∷ []) ∙ ap (λ (l : List (List ℕ)). flat_map (ids_for names) front ++ l) (append-nil (ids_for names word)) in
+    subst (λ (l : List (List ℕ)). AreCasesBy names l new) (sym (next_word words i d within)) record {
+      have = subst (λ (l : List (List ℕ)). AreCasesOf l new) (sym ids)
+          (more_cases (flat_map (ids_for names) front) (ids_for names word) old more new before.have are grown);
+      some = All-push (λ (w : List ℕ). ids_for names w ≢ []) front word before.some some;
+    }
+
+-- no words stand for no cases
+pub no_cases : (names : List (List ℕ)) → AreCasesBy names [] []
+no_cases names = record {
+  have = record { can_be_run = All-nil CanBeRun; named = refl };
+  some = All-nil (λ (w : List ℕ). ids_for names w ≢ []);
+}
+
+-- where no word is given a star is
+pub none_given : (words : List (Bor (List ℕ))) → length words ≡ 0 → codes "*" ∷ [] ≡ or_all (names_of words)
+none_given [] none = refl
+none_given (word ∷ words) none = absurd (omega (arith, none))
+
+pub some_given : (words : List (Bor (List ℕ))) → (length words ≡ 0 → ⊥) → names_of words ≡ or_all (names_of words)
+some_given [] some = absurd (some refl)
+some_given (word ∷ words) some = refl
+
+-- a word that is no glob stands for itself
+pub plain_ids : (names : List (List ℕ)) (word : List ℕ) → is_glob word ≡ false → ids_for names word ≡ word ∷ []
+plain_ids names word plain =
+    ap (λ (b : Bool). cond b (filter (is_meant (take (length word - 1) word)) names) (word ∷ [])) plain
+
+-- and so for one case
+pub one_case : (word : List ℕ) (cases : List Case) → AreCasesFor (word ∷ []) cases → is_glob word ≡ false → length cases ≡ 1
+one_case word cases (names, are) plain =
+    sym (length-map cases (λ (c : Case). string_bytes c.id)) ∙ ap (λ (l : List (List ℕ)). length l) are.have.named
+    ∙ ap (λ (l : List (List ℕ)). length (l ++ [])) (plain_ids names word plain)
+
+-- one case, where there is one
+pub only_one : (cases : List Case) (case : Case) → length cases ≡ 1 → case ≡ slice_index_or cases 0 case → cases ≡ case ∷ []
+only_one [] case one is = absurd (omega (arith, one))
+only_one (x ∷ []) case one is = ap (λ (c : Case). c ∷ []) (sym is)
+only_one (x ∷ y ∷ more) case one is = absurd (omega (arith, one))
+
+-- the word of a word that stands for none, and those before it
+pub lacking : (words : List (Bor (List ℕ))) (i : ℕ) (d : Bor (List ℕ)) → i < length words
+    → names_of words ≡ names_of (take i words) ++ (slice_index_or words i d).now ∷ names_of (drop (i + 1) words)
+lacking words i d within =
+    ap (λ (l : List (Bor (List ℕ))). names_of l) (sym (take-append-drop (i + 1) words))
+    ∙ map-append (λ (x : Bor (List ℕ)). x.now) (take (i + 1) words) (drop (i + 1) words)
+    ∙ ap (λ (l : List (List ℕ)). l ++ names_of (drop (i + 1) words)) (next_word words i d within)
+    ∙ append_assoc (names_of (take i words)) ((slice_index_or words i d).now ∷ []) (names_of (drop (i + 1) words))
+
+-- ---- what is written of cases
+
+-- where the word is a glob, a line of each
+pub lines_text : (word : List ℕ) (cases : List Case) → is_glob word ≡ true → flat_map case_line cases ≡ cases_text word cases
+lines_text word cases glob = sym (ap (λ (b : Bool). cond b (flat_map case_line cases) (flat_map written_script cases)) glob)
+
+-- else the one as text
+pub script_text : (word : List ℕ) (cases : List Case) (case : Case) → is_glob word ≡ false → cases ≡ case ∷ []
+    → written_script case ≡ cases_text word cases
+script_text word cases case plain one =
+    sym (ap (λ (b : Bool). cond b (flat_map case_line cases) (flat_map written_script cases)) plain
+    ∙ ap (λ (l : List Case). flat_map written_script l) one ∙ append-nil (written_script case))
+
+-- the line of the next case
+pub next_line : (cases : List Case) (i : ℕ) (d : Case) (lines more : List ℕ) → i < length cases → lines ≡ flat_map case_line (take i cases)
+    → more ≡ lines ++ case_line (slice_index_or cases i d) → more ≡ flat_map case_line (take (i + 1) cases)
+next_line cases i d lines more within before grown =
+    grown ∙ ap (λ (l : List ℕ). l ++ case_line (slice_index_or cases i d)) before
+    ∙ sym (ap (λ (l : List Case). flat_map case_line l) (take_more cases i d within)
+    ∙ flat_map-append case_line (take i cases) (slice_index_or cases i d ∷ [])
+    ∙ ap (λ (l : List ℕ). flat_map case_line (take i cases) ++ l) (append-nil (case_line (slice_index_or cases i d))))
 
 -- a case has as many turns as there are lists of pieces
 pub turns_counted : (case : Case) (key : List ℕ) (turns : List (List (List ℕ))) → AreTurns case key turns → length turns ≡ length (turns_of case.steps)
 turns_counted case key turns are = AllZip-long (ArePieces case.chop key) (turns_of case.steps) turns are
-
--- a line with the name of a case and the number of its turns is that of the case
-pub line_is : (case : Case) (name line : List ℕ) (n : ℕ) → string_bytes case.id ≡ name → n ≡ length (turns_of case.steps)
-    → line ≡ name ++ 32 ∷ (decimal n ++ 10 ∷ []) → line ≡ case_line case
-line_is case name line n named count is =
-    is ∙ ap₂ (λ (a : List ℕ) (m : ℕ). a ++ 32 ∷ (decimal m ++ 10 ∷ [])) (sym named) count

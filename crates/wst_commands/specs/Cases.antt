@@ -1,35 +1,46 @@
--- A run of `cases`: the names of the cases and their numbers of turns are written, a line each.
-use Rattle.std.specs.Prelude.{◌≡◌, ◌⊎◌, ℕ, List, [], ◌∷◌, Result, MatchResult}
-use Rattle.std.specs.Prelude.{codes, flat_map, length, map, string_bytes}
-use Rattle.std.specs.List.{AllByRecursion, concat}
+-- A run of `cases`: the names of cases and their numbers of turns are written, a line each; or a case as text.
+use Rattle.std.specs.Prelude.{◌≡◌, ℕ, List, [], ◌∷◌, Option, Some, None, Result, Ok, Err, MatchResult}
+use Rattle.std.specs.Prelude.{if◌then◌else◌, codes, flat_map, length, string_bytes}
+use Rattle.std.specs.Borrow.{Bor}
+use Rattle.std.specs.List.{concat}
 use Rattle.std.specs.Fmt.{decimal}
 use Rattle.ws_frame.specs.Devices.{Device, IsUntouched}
-use Rattle.ws_scripts.specs.Scripts.{CanBeRun, turns_of}
+use Rattle.ws_scripts.specs.Scripts.{turns_of}
+use Rattle.ws_scripts.specs.ScriptTexts.{written_script}
 use Rattle.ws_scripts.specs.declared.script.Case.{Case}
+use Rattle.wst_words.specs.declared.cases.CasesOptions.{CasesOptions}
 use Rattle.wst_commands.specs.Devices.{Delivers}
+use Rattle.wst_commands.specs.GivenCases.{AreCasesFor, LackCases, TellsNoCases, is_glob}
 use Rattle.wst_commands.specs.declared.exit.Exit.{Exit}
 use Rattle.wst_commands.specs.declared.exit.Exit.TheVariants.{Done}
-use Rattle.wst_commands.specs.declared.fault.Fault.{Fault}
-use Rattle.wst_commands.specs.declared.fault.Fault.TheVariants.{NoCase, NoMemory}
+use Rattle.wst_commands.specs.declared.given_cases.NoCases.{NoCases}
 
 -- the line of a case: its name, and how many turns it has
 abbrev pub case_line : Case → List ℕ
 case_line case =
     concat (string_bytes case.id ∷ codes " " ∷ decimal (length (turns_of case.steps)) ∷ codes "\n" ∷ [])
 
--- these are the lines of cases that can be run and have these names, in their order
-pub record AreCaseLines (names : List (List ℕ)) (lines : List ℕ) : Type 0 where
-  pub cases : List Case
-  pub can_be_run : AllByRecursion CanBeRun cases
-  pub named : map (λ case. string_bytes case.id) cases ≡ names
-  pub are_lines : lines ≡ flat_map case_line cases
+-- the word that `cases` is given, a star where it is given none
+abbrev pub asked_for : Option (Bor (List ℕ)) → List ℕ
+asked_for None = codes "*"
+asked_for (Some word) = word.now
 
--- why there are no lines: memory ran out, or a name has no case
-abbrev pub IsNoList : Fault → Type 0
-IsNoList fault = (fault ≡ NoMemory) ⊎ (fault ≡ NoCase)
+-- what is written of cases for a word: where it ends in a star, the line of each, else the one case as text
+abbrev pub cases_text : List ℕ → List Case → List ℕ
+cases_text word cases = if is_glob word then flat_map case_line cases else flat_map written_script cases
 
--- a run of `cases`: the lines of cases were written; or there are none, and nothing was written
-abbrev pub ListsCases : Result Exit Fault → Device → Type 0
-ListsCases ended output = MatchResult ended
-    (λ exit. (names : List (List ℕ)) × (lines : List ℕ) × AreCaseLines names lines × Delivers Done lines exit output)
-    (λ fault. IsNoList fault × IsUntouched output)
+-- what is asked for of the cases for which the word stands was written; or there are none, and nothing was
+abbrev pub WritesCases : List ℕ → Result Exit NoCases → Device → Type 0
+WritesCases word ended output = MatchResult ended
+    (λ exit. (cases : List Case) × AreCasesFor (word ∷ []) cases × Delivers Done (cases_text word cases) exit output)
+    (λ why. LackCases (word ∷ []) why × IsUntouched output)
+
+-- how that ended is told
+abbrev pub EndsCases : Result Exit NoCases → Exit → Device → Type 0
+EndsCases (Ok ended) exit faults = (exit ≡ ended) × IsUntouched faults
+EndsCases (Err why) exit faults = TellsNoCases why exit faults
+
+-- a run of `cases`
+abbrev pub ListsCases : CasesOptions → Exit → Device → Device → Type 0
+ListsCases options exit output faults = (ended : Result Exit NoCases) × WritesCases (asked_for options.id) ended output
+    × EndsCases ended exit faults

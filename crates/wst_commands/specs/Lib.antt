@@ -10,4 +10,5 @@ pub mod Pairs
 pub mod Session
 pub mod Judge
 pub mod Convert
+pub mod GivenCases
 pub mod Cases

@@ -1,59 +1,91 @@
-//! The command `cases`. Its lines are told in docs/FORMATS.md.
+//! The command `cases`. What it writes is told in docs/FORMATS.md.
 
-ghost use Rattle.std.specs.Prelude.{◌≡◌, ◌++◌, MatchResult, false, map, string_bytes};
+ghost use Rattle.std.specs.Prelude.{◌≡◌, ◌++◌, IfOk, false, flat_map, string_bytes};
+ghost use Rattle.std.specs.List.{All};
 ghost use Rattle.ws_frame.specs.Devices.{watched};
 ghost use Rattle.ws_frame.specs.Watching.{has_failed};
 ghost use Rattle.ws_scripts.specs.Scripts.{CanBeRun};
-ghost use Rattle.ws_scripts.specs.declared.script.Case.{Case};
-ghost use Rattle.wst_commands.specs.Cases.{AreCaseLines, IsNoList, ListsCases, case_line};
+ghost use Rattle.wst_commands.specs.Cases.{ListsCases, WritesCases, asked_for, case_line};
 
 use crate::exit::Exit;
-use crate::fault::Fault;
+use crate::given_cases::{NoCases, cases_of, is_glob, tell_no_cases};
 use crate::telling::deliver;
 use std::alloc::Global;
 use std::io::Write;
+use ws_base::NoMemory;
 use ws_frame::Watched;
-use ws_suite::{case, ids, turns};
+use ws_suite::{Case, turns, write_script};
+use wst_words::CasesOptions;
 
 /// The number of turns doesn't depend on the masking key.
 const ANY_KEY: [u8; 4] = [0; 4];
 
-/// Writes a line for each case: its name, and how many turns it has.
-pub fn run_cases<W: Write>(alloc: Global, writer: &mut Watched<W>) -> Result<Exit, Fault>
+/// Writes the case that the word names as text, or a line for each case that it stands for: its name, and how many
+/// turns it has.
+pub fn run_cases<W: Write, F: Write>(
+    alloc: Global,
+    options: CasesOptions<'_>,
+    writer: &mut Watched<W>,
+    faults: &mut Watched<F>,
+) -> Exit
     requires { has_failed writer.old ≡ false }
-    ensures { ListsCases result (watched W.contents writer.old writer.new) }
+    ensures { ListsCases options.entry result (watched W.contents writer.old writer.new)
+        (watched F.contents faults.old faults.new) }
 {
-    let Ok(names) = ids(alloc) else {
-        return Err(Fault::NoMemory);
-    };
-    match lines_of(alloc, names.as_slice()) {
-        Ok(lines) => Ok(deliver(Exit::Done, lines.as_bytes(), writer)),
-        Err(fault) => Err(fault),
+    match write_cases(alloc, asked_for(options.id), writer) {
+        Ok(exit) => exit,
+        Err(why) => tell_no_cases(alloc, why, faults),
     }
 }
 
-/// The lines of the cases with these names.
-fn lines_of(alloc: Global, names: &[String]) -> Result<String, Fault>
-    ensures { MatchResult result (λ lines. AreCaseLines (map string_bytes names.now) (string_bytes lines))
-        (λ fault. IsNoList fault) }
+/// The word that is given, a star where there is none.
+fn asked_for(word: Option<&str>) -> &str
+    ensures { result.now ≡ asked_for word.entry }
+{
+    match word {
+        Some(word) => word,
+        None => "*",
+    }
+}
+
+/// Writes what a word asks for.
+fn write_cases<'a, W: Write>(
+    alloc: Global,
+    word: &'a str,
+    writer: &mut Watched<W>,
+) -> Result<Exit, NoCases<'a>>
+    requires { has_failed writer.old ≡ false }
+    ensures { WritesCases word.now result (watched W.contents writer.old writer.new) }
+{
+    let cases = cases_of(alloc, &[word])?;
+    if is_glob(word) {
+        let lines = lines_of(alloc, cases.as_slice())?;
+        Ok(deliver(Exit::Done, lines.as_bytes(), writer))
+    } else {
+        let text = write_script(alloc, &cases[0])?;
+        Ok(deliver(Exit::Done, text.as_slice(), writer))
+    }
+}
+
+/// The lines of these cases.
+fn lines_of(alloc: Global, cases: &[Case]) -> Result<String, NoMemory>
+    requires { All CanBeRun cases.now }
+    ensures { IfOk result (λ lines. string_bytes lines ≡ flat_map case_line cases.now) }
 {
     let mut lines = String::new(alloc);
-    for name in names {
-        push_line(alloc, name.as_str(), &mut lines)?;
+    for case in cases {
+        push_line(alloc, case, &mut lines)?;
     }
     Ok(lines)
 }
 
-/// Puts the line of the case with this name at the end of the lines.
-fn push_line(alloc: Global, name: &str, lines: &mut String) -> Result<(), Fault>
-    ensures { MatchResult result (λ _. (case : Case) × CanBeRun case × (string_bytes case.id ≡ name.now)
-        × (string_bytes lines.new ≡ string_bytes lines.old ++ case_line case)) (λ fault. IsNoList fault) }
+/// Puts the line of a case at the end of the lines.
+fn push_line(alloc: Global, case: &Case, lines: &mut String) -> Result<(), NoMemory>
+    requires { CanBeRun case.now }
+    ensures { IfOk result (λ _. string_bytes lines.new ≡ string_bytes lines.old ++ case_line case.now) }
 {
-    let Some(case) = case(alloc, name)? else {
-        return Err(Fault::NoCase);
-    };
-    let turns = turns(alloc, &case, ANY_KEY)?;
-    let line = format!(in alloc; "{name} {}\n", turns.len())?;
+    let turns = turns(alloc, case, ANY_KEY)?;
+    let line = format!(in alloc; "{} {}\n", case.id, turns.len())?;
     lines.push_str(line.as_str())?;
     Ok(())
 }

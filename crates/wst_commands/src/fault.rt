@@ -43,9 +43,6 @@ pub enum Fault {
     NotACall(u64),
     /// The first line that is damaged in a capture, counted from 1.
     NotACapture(u64),
-    /// A name in the list of cases has no case. The two are read from the same rows, so this never comes; that is
-    /// tested, and not proved.
-    NoCase,
     /// The words of the command line are no text.
     NoText,
     /// The words of the command line ask for nothing.
@@ -109,10 +106,6 @@ pub fn tell_fault<F: Write>(alloc: Global, fault: Fault, faults: &mut Watched<F>
         Fault::NotAMove(line) => tell_line(alloc, line, "not a move", faults),
         Fault::NotACall(line) => tell_line(alloc, line, "not a call", faults),
         Fault::NotACapture(line) => tell_line(alloc, line, "not a capture", faults),
-        Fault::NoCase => {
-            tell(b"error: a case is missing\n", faults);
-            Exit::Failed
-        }
         Fault::NoText => {
             tell(b"error: the words are not UTF-8\n", faults);
             Exit::WrongWords

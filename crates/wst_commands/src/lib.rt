@@ -4,14 +4,16 @@
 //!
 //! The layer above uses a call for each command, each with one clause, what a run of that command is (`RunsShow` and
 //! its like): `run_show`, `run_moves` (of `pair`), `run_head`, `run_session`, `run_judge`, `run_convert`, `run_cases`;
-//! `end_run` and `tell_fault`, which tell a fault; `deliver` and `tell`, which write a text; `limits_given`,
-//! `timeout_given`, `exit_of` and `Exit::status`.
+//! `cases_of`, `ids_for` and `is_glob`, which say for which cases words stand; `end_run`, `tell_fault` and
+//! `tell_no_cases`, which tell a fault; `deliver` and `tell`, which write a text; `limits_given`, `timeout_given`,
+//! `exit_of` and `Exit::status`.
 #![tactic(auto)]
 
 mod cases;
 mod convert;
 mod exit;
 mod fault;
+mod given_cases;
 mod head;
 mod judge;
 mod limits;
@@ -26,6 +28,7 @@ pub use cases::run_cases;
 pub use convert::run_convert;
 pub use exit::Exit;
 pub use fault::{Fault, ListenFault, end_run, tell_fault};
+pub use given_cases::{NoCases, cases_of, ids_for, is_glob, tell_no_cases};
 pub use head::run_head;
 pub use judge::{exit_of, run_judge};
 pub use limits::limits_given;

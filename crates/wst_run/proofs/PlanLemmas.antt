@@ -1,16 +1,13 @@
 -- What the words of `test` ask for: the cases with the names that are given.
-use Rattle.std.proofs.Common.{◌≡◌, ◌∙◌, ◌+◌, ◌<◌, ℕ, Bool, Option, Result, inl, inr, true, List, [], ◌∷◌, ◌++◌, ap}
-use Rattle.std.proofs.Common.{ap₂, arith, sym, subst, length, map, slice_index_or, string_bytes, take}
-use Rattle.std.proofs.lemmas.List.{length-map, map-append, take_more}
-use Rattle.std.proofs.lemmas.List.Elements.{All-push}
+use Rattle.std.proofs.Common.{◌≡◌, ◌∙◌, ℕ, Bool, Option, Result, inl, inr, not, true, false, List, [], ◌∷◌, ap, arith}
+use Rattle.std.proofs.Common.{refl, sym, subst, length, slice_index_or}
 use Rattle.std.specs.Borrow.{Bor}
 use Rattle.std.specs.List.{All}
-use Rattle.std.specs.declared.alloc.Global.{Global}
-use Rattle.std.specs.declared.string.String.{String}
 use Rattle.ws_scripts.specs.Scripts.{CanBeRun}
 use Rattle.ws_scripts.specs.declared.script.Case.{Case}
 use Rattle.ws_upgrade.specs.Texts.{IsHost}
-use Rattle.wst_run.specs.Test.{AreCasesFor, AreCasesOf, GrowsByCase, HasHost, IsTargetOf, names_of}
+use Rattle.wst_commands.specs.GivenCases.{AreCasesFor, is_glob, names_of, or_all}
+use Rattle.wst_run.specs.Test.{HasHost, IsTargetOf, is_one_case}
 use Rattle.wst_run.specs.declared.test.Target.{Target}
 use Rattle.wst_run.specs.declared.test.Target.TheVariants.{Address, Memory}
 use Rattle.ws_frame.specs.Devices.{Device}
@@ -19,56 +16,37 @@ use Rattle.wst_commands.specs.declared.fault.Fault.{Fault}
 use Rattle.wst_run.specs.Test.{CarriesOut}
 use Rattle.wst_run.specs.declared.meeting.Meeting.{Meeting}
 use Rattle.wst_run.specs.declared.test.TestPlan.{TestPlan}
-use Rattle.wst_commands.proofs.CaseLemmas.{next_name}
+use Rattle.wst_commands.proofs.CaseLemmas.{one_case}
 use Rattle.wst_run.proofs.NoteLemmas.{each_on}
 
--- one more name, and its case
-pub one_more_case : (names : List (List ℕ)) (name : List ℕ) (old new : List Case) (case : Case) → AreCasesOf names old → CanBeRun case
-    → string_bytes case.id ≡ name → new ≡ old ++ case ∷ [] → AreCasesOf (names ++ name ∷ []) new
-one_more_case names name old new case before runs called is = record {
-  can_be_run = subst (λ (l : List Case). All CanBeRun l) (sym is) (All-push CanBeRun old case before.can_be_run runs);
-  named = ap (λ (l : List Case). map (λ c. string_bytes c.id) l) is ∙ map-append (λ (c : Case). string_bytes c.id) old (case ∷ [])
-      ∙ ap₂ (λ (a b : List (List ℕ)). a ++ b) before.named (ap (λ (n : List ℕ). n ∷ []) called);
-}
+-- the cases that are asked for can be run
+pub cases_run : (words : List (List ℕ)) (cases : List Case) → AreCasesFor words cases → All CanBeRun cases
+cases_run words cases (names, are) = are.have.can_be_run
 
--- cases with the names that are given are those that are asked for
-pub cases_for_names : (ids : List (Bor (List ℕ))) (cases : List Case) → 0 < length ids → AreCasesOf (names_of ids) cases → AreCasesFor ids cases
-cases_for_names [] cases some are = absurd (omega (arith, some))
-cases_for_names (id ∷ ids) cases some are = are
+-- twice not
+not_not : (b : Bool) → not (not b) ≡ b
+not_not true = refl
+not_not false = refl
 
--- those that are asked for can be run
-pub cases_run : (ids : List (Bor (List ℕ))) (cases : List Case) → AreCasesFor ids cases → All CanBeRun cases
-cases_run [] cases (names, are) = are.can_be_run
-cases_run (id ∷ ids) cases are = are.can_be_run
+-- where one is asked for there is one
+pub cases_counted : (ids : List (Bor (List ℕ))) (cases : List Case) → is_one_case (names_of ids) ≡ true
+    → AreCasesFor (or_all (names_of ids)) cases → length cases ≡ 1
+cases_counted [] cases one are = absurd (cc)
+cases_counted (id ∷ []) cases one are =
+    one_case id.now cases are (sym (not_not (is_glob id.now)) ∙ ap (λ (b : Bool). not b) one)
+cases_counted (id ∷ next ∷ ids) cases one are = absurd (cc)
 
--- where names are given there are as many cases
-pub cases_counted : (ids : List (Bor (List ℕ))) (cases : List Case) → 0 < length ids → AreCasesFor ids cases → length cases ≡ length ids
-cases_counted [] cases some are = absurd (omega (arith, some))
-cases_counted (id ∷ ids) cases some are =
-    sym (length-map cases (λ (c : Case). string_bytes c.id)) ∙ ap (λ (l : List (List ℕ)). length l) are.named
-    ∙ length-map (id ∷ ids) (λ (x : Bor (List ℕ)). x.now)
+-- whether one is asked for
+pub asks_for_one : (ids : List (Bor (List ℕ))) (id : Bor (List ℕ)) → length ids ≡ 1 → id ≡ slice_index_or ids 0 id
+    → not (is_glob id.now) ≡ is_one_case (names_of ids)
+asks_for_one [] id one is = absurd (omega (arith, one))
+asks_for_one (x ∷ []) id one is = ap (λ (y : Bor (List ℕ)). not (is_glob y.now)) is
+asks_for_one (x ∷ y ∷ more) id one is = absurd (omega (arith, one))
 
--- the case of the next name that is given
-pub next_case : (ids : List (Bor (List ℕ))) (i : ℕ) (d : Bor (List ℕ)) (old new : List Case) → i < length ids
-    → AreCasesOf (names_of (take i ids)) old → GrowsByCase (slice_index_or ids i d).now true old new → AreCasesOf (names_of (take (i + 1) ids)) new
-next_case ids i d old new within before (case, runs, called, grown) =
-    let names : names_of (take (i + 1) ids) ≡ names_of (take i ids) ++ (slice_index_or ids i d).now ∷ [] =
-    ap (λ (l : List (Bor (List ℕ))). names_of l) (take_more ids i d within)
-    ∙ map-append (λ (x : Bor (List ℕ)). x.now) (take i ids) (slice_index_or ids i d ∷ []) in
-    subst (λ (l : List (List ℕ)). AreCasesOf l new) (sym names) (one_more_case (names_of (take i ids)) (slice_index_or ids i d).now old new case before runs called grown)
-
--- one case, where there is one
-pub only_one : (cases : List Case) (case : Case) → length cases ≡ 1 → case ≡ slice_index_or cases 0 case → cases ≡ case ∷ []
-only_one [] case one is = absurd (omega (arith, one))
-only_one (x ∷ []) case one is = ap (λ (c : Case). c ∷ []) (sym is)
-only_one (x ∷ y ∷ more) case one is = absurd (omega (arith, one))
-
--- the case of the next name of the list
-pub next_listed : (names : List (String Global)) (i : ℕ) (name : String Global) (old new : List Case) → i < length names → name ≡ slice_index_or names i name
-    → AreCasesOf (map string_bytes (take i names)) old → GrowsByCase (string_bytes name) true old new → AreCasesOf (map string_bytes (take (i + 1) names)) new
-next_listed names i name old new within is before (case, runs, called, grown) =
-    subst (λ (l : List (List ℕ)). AreCasesOf l new) (sym (next_name names i name within is))
-    (one_more_case (map string_bytes (take i names)) (string_bytes name) old new case before runs called grown)
+pub asks_for_others : (ids : List (Bor (List ℕ))) → (length ids ≡ 1 → ⊥) → false ≡ is_one_case (names_of ids)
+asks_for_others [] other = refl
+asks_for_others (x ∷ []) other = absurd (other refl)
+asks_for_others (x ∷ y ∷ more) other = refl
 
 -- the target that a word names has a host
 pub target_has_host : (word : List ℕ) (target : Target) → IsTargetOf word target → HasHost target

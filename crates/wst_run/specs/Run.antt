@@ -41,7 +41,7 @@ RunsTask (Session options) exit input output faults =
     RunsCommand (λ ended. RunsSession options ended input output) exit faults
 RunsTask Judge exit input output faults = RunsCommand (λ ended. RunsJudge ended input output) exit faults
 RunsTask Convert exit input output faults = RunsCommand (λ ended. RunsConvert ended input output) exit faults
-RunsTask Cases exit input output faults = IsUntouched input × RunsCommand (λ ended. ListsCases ended output) exit faults
+RunsTask (Cases options) exit input output faults = IsUntouched input × ListsCases options exit output faults
 RunsTask (Test options) exit input output faults = IsUntouched input × RunsTest options exit output faults
 RunsTask (Serve options) exit input output faults = IsUntouched input × RunsServe options exit output faults
 

@@ -1,8 +1,8 @@
 -- A run of `test`: the cases that the words ask for are run over servers in memory, or over the one at an address; or
 -- it is told why nothing is run.
-use Rattle.std.specs.Prelude.{◌≡◌, ◌≢◌, ◌⊎◌, ℕ, ◌<◌, Bool, true, false, List, [], ◌∷◌, ◌++◌, Option, Result, codes}
-use Rattle.std.specs.Prelude.{length, map, slice_index_or, string_bytes, take}
-use Rattle.std.specs.List.{All, concat}
+use Rattle.std.specs.Prelude.{◌≡◌, ◌≢◌, ◌⊎◌, ⊤, ℕ, Bool, true, false, not, List, [], ◌∷◌, Option, Result, codes}
+use Rattle.std.specs.Prelude.{length}
+use Rattle.std.specs.List.{All}
 use Rattle.std.specs.Borrow.{Bor}
 use Rattle.ws_formats.specs.Words.{IsKeyWord}
 use Rattle.ws_frame.specs.Devices.{Device, IsUntouched}
@@ -12,7 +12,8 @@ use Rattle.ws_upgrade.specs.Protocols.{AreOffers}
 use Rattle.ws_upgrade.specs.Texts.{IsHost}
 use Rattle.wst_words.specs.declared.test.TestOptions.{TestOptions}
 use Rattle.wst_commands.specs.Devices.{Tells}
-use Rattle.wst_commands.specs.Faults.{Ends, LacksMemory, TellsFault}
+use Rattle.wst_commands.specs.Faults.{Ends}
+use Rattle.wst_commands.specs.GivenCases.{AreCasesFor, LackCases, TellsNoCases, is_glob, names_of, or_all}
 use Rattle.ws_connection.specs.Protocols.{protocols_given}
 use Rattle.wst_run.specs.Servers.{MeetsTarget}
 use Rattle.wst_run.specs.Testing.{RunsCapture, RunsCases}
@@ -23,7 +24,7 @@ use Rattle.wst_run.specs.declared.case_server.MemoryServer.TheVariants.{Own, Tun
 use Rattle.wst_commands.specs.declared.exit.Exit.{Exit}
 use Rattle.wst_commands.specs.declared.exit.Exit.TheVariants.{WrongWords}
 use Rattle.wst_commands.specs.declared.fault.Fault.{Fault}
-use Rattle.wst_commands.specs.declared.fault.Fault.TheVariants.{NoCase, NoMemory}
+use Rattle.wst_commands.specs.declared.given_cases.NoCases.TheVariants.{NoMemory, NoSuchCase}
 use Rattle.wst_run.specs.declared.test.Target.{Target}
 use Rattle.wst_run.specs.declared.test.Target.TheVariants.{Address, Memory}
 use Rattle.wst_run.specs.declared.test.TestPlan.{TestPlan}
@@ -52,22 +53,19 @@ HasKey options = (key : List ℕ) × IsKeyWord key options.key.now
 abbrev pub HasOffers : TestOptions → Type 0
 HasOffers options = AreOffers (protocols_given options.protocols)
 
--- a capture is of one case
+-- the words are one, which is no glob
+abbrev pub is_one_case : List (List ℕ) → Bool
+is_one_case [] = false
+is_one_case (word ∷ []) = not (is_glob word)
+is_one_case (word ∷ next ∷ words) = false
+
+-- a capture is of one case, by its whole name
 abbrev pub CanCapture : TestOptions → Type 0
-CanCapture options = options.capture ≡ true → length options.ids.items ≡ 1
+CanCapture options = options.capture ≡ true → is_one_case (names_of options.ids.items) ≡ true
 
--- these are cases with these names
-pub record AreCasesOf (names : List (List ℕ)) (cases : List Case) : Type 0 where
-  pub can_be_run : All CanBeRun cases
-  pub named : map (λ case. string_bytes case.id) cases ≡ names
-
-abbrev pub names_of : List (Bor (List ℕ)) → List (List ℕ)
-names_of ids = map (λ id. id.now) ids
-
--- the cases with the names that are given; where none is given, those of the list of cases
-abbrev pub AreCasesFor : List (Bor (List ℕ)) → List Case → Type 0
-AreCasesFor [] cases = (names : List (List ℕ)) × AreCasesOf names cases
-AreCasesFor (id ∷ ids) cases = AreCasesOf (names_of (id ∷ ids)) cases
+-- the words for cases that are given, a star where there are none
+abbrev pub words_given : TestOptions → List (List ℕ)
+words_given options = or_all (names_of options.ids.items)
 
 -- the words ask for this
 pub record IsPlan (options : TestOptions) (plan : TestPlan) : Type 0 where
@@ -80,7 +78,7 @@ pub record IsPlan (options : TestOptions) (plan : TestPlan) : Type 0 where
   pub timeout : GivesTimeout options.timeout plan.timeout
   pub budget : plan.budget ≡ options.budget
   pub can_capture : CanCapture options
-  pub cases : AreCasesFor options.ids.items plan.cases.items
+  pub cases : AreCasesFor (words_given options) plan.cases.items
 
 -- the cases can be run, and a capture is of one
 abbrev pub CanBeTested : TestPlan → Type 0
@@ -93,22 +91,14 @@ abbrev pub RefusesTarget : List ℕ → TestRefusal → Type 0
 RefusesTarget word refusal.BadAddress = IsNoMemoryServer word × ¬ (IsHost word)
 RefusesTarget word _ = ⊥
 
--- why there are no cases with these names: one has none, and those before it have; no name is given, and a case of the
--- list of cases is missing; or memory ran out
-abbrev pub RefusesNames : List (Bor (List ℕ)) → TestRefusal → Type 0
-RefusesNames ids (refusal.NoSuchCase id) = (n : ℕ) × (before : List Case) × (n < length ids)
-    × (id ≡ slice_index_or ids n id) × AreCasesOf (names_of (take n ids)) before
-RefusesNames ids (refusal.Fault fault) = (fault ≡ NoMemory) ⊎ ((fault ≡ NoCase) × (ids ≡ []))
-RefusesNames ids _ = ⊥
-
--- nothing is wrong with the words, but for the names of the cases
+-- nothing is wrong with the words, but for those of the cases
 abbrev pub HasAllButCases : TestOptions → Type 0
 HasAllButCases options = HasOffers options × HasTimeout options.timeout × HasKey options × HasTarget options
     × CanCapture options
 
 -- The first of these that applies: the names that are given can't be offered; the seconds are no limit of time; the key
--- is none; the target is none; a capture is not of one case; a name has no case, or a case of the list of cases is
--- missing. Memory may run out at any of them. Which names have a case is said by no definition.
+-- is none; the target is none; a capture is not of one case; a word stands for no case. Memory may run out at any of
+-- them.
 abbrev pub RefusesTest : TestOptions → TestRefusal → Type 0
 RefusesTest options refusal.BadProtocols = ¬ (HasOffers options)
 RefusesTest options refusal.BadTimeout = HasOffers options × ¬ (HasTimeout options.timeout)
@@ -119,16 +109,11 @@ RefusesTest options refusal.BadAddress =
     × RefusesTarget options.target.now refusal.BadAddress
 RefusesTest options refusal.NotOneCase =
     HasOffers options × HasTimeout options.timeout × HasKey options × HasTarget options × ¬ (CanCapture options)
-RefusesTest options (refusal.NoSuchCase id) =
-    HasAllButCases options × RefusesNames options.ids.items (refusal.NoSuchCase id)
-RefusesTest options (refusal.Fault fault) =
-    (fault ≡ NoMemory) ⊎ (HasAllButCases options × RefusesNames options.ids.items (refusal.Fault fault))
+RefusesTest options (refusal.NoCases (NoSuchCase id)) =
+    HasAllButCases options × LackCases (words_given options) (NoSuchCase id)
+RefusesTest options (refusal.NoCases NoMemory) = ⊤
 
 -- ---- what is told
-
--- the line that tells that there is no such case
-abbrev pub no_case_line : List ℕ → List ℕ
-no_case_line id = concat (codes "no such case: " ∷ id ∷ codes "\n" ∷ [])
 
 -- what is told of a refusal, and the exit
 abbrev pub TellsRefusal : TestRefusal → Exit → Device → Type 0
@@ -137,9 +122,7 @@ TellsRefusal refusal.BadTimeout exit faults = (exit ≡ WrongWords) × Tells (co
 TellsRefusal refusal.BadKey exit faults = (exit ≡ WrongWords) × Tells (codes "bad key\n") faults
 TellsRefusal refusal.BadAddress exit faults = (exit ≡ WrongWords) × Tells (codes "bad address\n") faults
 TellsRefusal refusal.NotOneCase exit faults = (exit ≡ WrongWords) × Tells (codes "--capture takes one case\n") faults
-TellsRefusal (refusal.NoSuchCase id) exit faults =
-    ((exit ≡ WrongWords) × Tells (no_case_line id.now) faults) ⊎ LacksMemory exit faults
-TellsRefusal (refusal.Fault fault) exit faults = TellsFault fault exit faults
+TellsRefusal (refusal.NoCases why) exit faults = TellsNoCases why exit faults
 
 -- ---- a run
 
@@ -172,8 +155,3 @@ RunsTest options exit output faults =
 -- an address can be the host of a request
 abbrev pub HasHost : Target → Type 0
 HasHost target = (host : Bor (List ℕ)) → target ≡ Address host → IsHost host.now
-
--- a case with this name was put at the end; or there is none
-abbrev pub GrowsByCase : List ℕ → Bool → List Case → List Case → Type 0
-GrowsByCase name true old new = (case : Case) × CanBeRun case × (string_bytes case.id ≡ name) × (new ≡ old ++ case ∷ [])
-GrowsByCase name false old new = new ≡ old

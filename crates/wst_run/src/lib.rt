@@ -9,7 +9,6 @@ mod address_server;
 mod case_server;
 mod clients;
 mod connecting;
-mod given_cases;
 mod lingering;
 mod listening;
 mod meeting;

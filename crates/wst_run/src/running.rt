@@ -77,7 +77,7 @@ fn run_task<N: Net, R: Read, W: Write, F: Write>(
         }
         Task::Judge => end_run(alloc, run_judge(alloc, reader, writer), faults),
         Task::Convert => end_run(alloc, run_convert(alloc, reader, writer), faults),
-        Task::Cases => end_run(alloc, run_cases(alloc, writer), faults),
+        Task::Cases(options) => run_cases(alloc, options, writer, faults),
         Task::Test(options) => run_test(alloc, &options, net, writer, faults),
         Task::Serve(options) => serve_as_asked(alloc, &options, net, writer, faults),
     }

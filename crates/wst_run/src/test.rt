@@ -1,18 +1,17 @@
 //! The command `test`: what is to be run, and its run over servers of any kind. Its lines are told in docs/FORMATS.md.
 
-ghost use Rattle.std.specs.Prelude.{◌≡◌, ◌≢◌, ◌⊎◌, IfOk, MatchResult, codes, false};
+ghost use Rattle.std.specs.Prelude.{◌≡◌, ◌≢◌, IfOk, MatchResult, codes, false};
 ghost use Rattle.ws_frame.specs.Devices.{watched};
 ghost use Rattle.ws_frame.specs.Watching.{has_failed};
 ghost use Rattle.wst_commands.specs.Devices.{StaysFailed, Tells};
-ghost use Rattle.wst_commands.specs.Faults.{LacksMemory};
+ghost use Rattle.wst_commands.specs.GivenCases.{names_of};
 ghost use Rattle.wst_run.specs.Servers.{MeetsTarget};
 ghost use Rattle.wst_run.specs.Test.{CanBeTested, CarriesOut, HasHost, IsPlan, IsTargetOf};
-ghost use Rattle.wst_run.specs.Test.{RefusesTarget, RefusesTest, RunsPlan, TellsRefusal, no_case_line, rules_of};
+ghost use Rattle.wst_run.specs.Test.{RefusesTarget, RefusesTest, RunsPlan, TellsRefusal, is_one_case, rules_of};
 ghost use Rattle.wst_commands.specs.declared.exit.Exit.TheVariants.{WrongWords};
 
 use crate::address_server::{AddressServer, Bounds};
 use crate::case_server::{CaseServer, MemoryServer};
-use crate::given_cases::cases_of;
 use crate::testing::{RunRules, capture_case, test_cases};
 use std::alloc::Global;
 use std::io::Write;
@@ -23,7 +22,9 @@ use ws_formats::read_key;
 use ws_frame::Watched;
 use ws_suite::Case;
 use ws_upgrade::is_host;
-use wst_commands::{Exit, Fault, TimeLimit, end_run, tell, tell_fault, timeout_given};
+use wst_commands::{
+    Exit, Fault, NoCases, TimeLimit, cases_of, end_run, is_glob, tell, tell_no_cases, timeout_given,
+};
 use wst_words::TestOptions;
 
 /// The server that cases are run over.
@@ -67,30 +68,28 @@ pub enum TestRefusal<'a> {
     BadAddress,
     /// A capture is asked for, and not exactly one case is given.
     NotOneCase,
-    /// There is no case of this name.
-    NoSuchCase(&'a str),
-    /// Memory ran out, or a case of the list is missing.
-    Fault(Fault),
+    /// A word stands for no case, or memory ran out.
+    NoCases(NoCases<'a>),
 }
 
-impl From<Fault> for TestRefusal<'_> {
+impl<'a> From<NoCases<'a>> for TestRefusal<'a> {
     ghost use Rattle.wst_run.specs.declared.test.TestRefusal.TheVariants as refusal;
 
-    ghost from_gives = { λ fault given. given ≡ refusal.Fault fault };
+    ghost from_gives = { λ why given. given ≡ refusal.NoCases why };
 
-    fn from(fault: Fault) -> Self {
-        TestRefusal::Fault(fault)
+    fn from(why: NoCases<'a>) -> Self {
+        TestRefusal::NoCases(why)
     }
 }
 
 impl From<NoMemory> for TestRefusal<'_> {
-    ghost use Rattle.wst_commands.specs.declared.fault.Fault.TheVariants as fault;
+    ghost use Rattle.wst_commands.specs.declared.given_cases.NoCases.TheVariants as why;
     ghost use Rattle.wst_run.specs.declared.test.TestRefusal.TheVariants as refusal;
 
-    ghost from_gives = { λ _ given. given ≡ refusal.Fault fault.NoMemory };
+    ghost from_gives = { λ _ given. given ≡ refusal.NoCases why.NoMemory };
 
     fn from(_refused: NoMemory) -> Self {
-        TestRefusal::Fault(Fault::NoMemory)
+        TestRefusal::NoCases(NoCases::NoMemory)
     }
 }
 
@@ -192,7 +191,7 @@ pub fn plan_test<'a>(
         return Err(TestRefusal::BadKey);
     };
     let target = target_of(options.target)?;
-    if options.capture && options.ids.len() != 1 {
+    if options.capture && !is_one_case(options.ids.as_slice()) {
         return Err(TestRefusal::NotOneCase);
     }
     let cases = cases_of(alloc, options.ids.as_slice())?;
@@ -206,6 +205,13 @@ pub fn plan_test<'a>(
         cases,
         protocols,
     })
+}
+
+/// Whether the words are the name of one case.
+fn is_one_case(ids: &[&str]) -> bool
+    ensures { result ≡ is_one_case (names_of ids.now) }
+{
+    ids.len() == 1 && !is_glob(ids[0])
 }
 
 /// The server that a word names.
@@ -246,8 +252,7 @@ pub fn tell_refusal<F: Write>(
         TestRefusal::BadKey => tell_wrong(b"bad key\n", faults),
         TestRefusal::BadAddress => tell_wrong(b"bad address\n", faults),
         TestRefusal::NotOneCase => tell_wrong(b"--capture takes one case\n", faults),
-        TestRefusal::NoSuchCase(id) => tell_no_case(alloc, id, faults),
-        TestRefusal::Fault(fault) => tell_fault(alloc, fault, faults),
+        TestRefusal::NoCases(why) => tell_no_cases(alloc, why, faults),
     }
 }
 
@@ -258,18 +263,4 @@ fn tell_wrong<F: Write>(text: &[u8], faults: &mut Watched<F>) -> Exit
 {
     tell(text, faults);
     Exit::WrongWords
-}
-
-/// Tells that there is no case of this name.
-fn tell_no_case<F: Write>(alloc: Global, id: &str, faults: &mut Watched<F>) -> Exit
-    ensures { ((result ≡ WrongWords) × Tells (no_case_line id.now) (watched F.contents faults.old faults.new))
-        ⊎ LacksMemory result (watched F.contents faults.old faults.new) }
-{
-    match format!(in alloc; "no such case: {id}\n") {
-        Ok(line) => {
-            tell(line.as_bytes(), faults);
-            Exit::WrongWords
-        }
-        Err(_) => tell_fault(alloc, Fault::NoMemory, faults),
-    }
 }

@@ -28,7 +28,7 @@ task_name (Head options) = codes "head"
 task_name (Session options) = codes "session"
 task_name Judge = codes "judge"
 task_name Convert = codes "convert"
-task_name Cases = codes "cases"
+task_name (Cases options) = codes "cases"
 task_name (Test options) = codes "test"
 task_name (Serve options) = codes "serve"
 
@@ -39,7 +39,7 @@ called name rows (Head options) asks = asks.0
 called name rows (Session options) asks = asks.0
 called name rows Judge asks = asks
 called name rows Convert asks = asks
-called name rows Cases asks = asks
+called name rows (Cases options) asks = asks.0
 called name rows (Test options) asks = asks.0
 called name rows (Serve options) asks = asks.0
 

@@ -180,9 +180,19 @@ plain_convert places = (refl, refl)
 abbrev cases_words : List Text
 cases_words = words (codes "cases" ∷ [])
 
-pub plain_cases : (places : Places) → AsksFor (wst_app places) cases_words Cases
+pub plain_cases : (places : Places) → AsksFor (wst_app places) cases_words (Cases (record { id = None }))
 unfolding on_words
-plain_cases places = (refl, refl)
+plain_cases places = (refl, (refl, refl))
+
+-- `wst cases 7.7.1*` asks for those whose names begin so
+abbrev some_cases_words : List Text
+some_cases_words = words (codes "cases" ∷ codes "7.7.1*" ∷ [])
+
+pub some_cases : (places : Places)
+    → option_map (λ met. first_of (codes "id") met.1) (subcommand_of (wst_app places) some_cases_words)
+    ≡ Some (Some (codes "7.7.1*"))
+unfolding on_words
+some_cases places = refl
 
 -- `wst test own 2.5 1.1.1 2.5` runs cases over our echo, in the order given and as often as given, with the usual key
 abbrev test_words : List Text
@@ -237,7 +247,7 @@ test_options places = refl
 -- such words can fail for want of memory alone
 pub asking_words_are_taken : (places : Places)
     → map (takes (wst_app places)) (plain_words ∷ client_words ∷ head_words ∷ protocol_words ∷ no_protocol_words
-    ∷ session_words ∷ echo_words ∷ judge_words ∷ convert_words ∷ cases_words ∷ test_words ∷ serve_words ∷ waiting_words
-    ∷ []) ≡ true ∷ true ∷ true ∷ true ∷ true ∷ true ∷ true ∷ true ∷ true ∷ true ∷ true ∷ true ∷ true ∷ []
+    ∷ session_words ∷ echo_words ∷ judge_words ∷ convert_words ∷ cases_words ∷ some_cases_words ∷ test_words ∷ serve_words ∷ waiting_words
+    ∷ []) ≡ true ∷ true ∷ true ∷ true ∷ true ∷ true ∷ true ∷ true ∷ true ∷ true ∷ true ∷ true ∷ true ∷ true ∷ []
 unfolding on_words
 asking_words_are_taken places = refl

@@ -45,6 +45,12 @@ pub judge_with_a_file : (places : Places)
 unfolding on_words
 judge_with_a_file places = refl
 
+-- `wst cases 1.1.1 1.1.2`: one word at most
+pub cases_of_two_words : (places : Places)
+    → fault_of (wst_app places) (words (codes "cases" ∷ codes "1.1.1" ∷ codes "1.1.2" ∷ [])) ≡ UnknownArgument ∷ []
+unfolding on_words
+cases_of_two_words places = refl
+
 -- `wst test`: no server
 pub test_alone : (places : Places)
     → fault_of (wst_app places) (words (codes "test" ∷ [])) ≡ MissingRequiredArgument ∷ []

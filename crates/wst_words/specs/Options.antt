@@ -9,8 +9,8 @@ use Rattle.ws_wire.specs.declared.role.Role.{Role}
 use Rattle.ws_wire.specs.declared.role.Role.TheVariants.{Client, Server}
 use Rattle.wst_words.specs.Arguments.{ArgumentRow}
 use Rattle.wst_words.specs.declared.arguments.ArgumentKind.{ArgumentKind}
-use Rattle.wst_words.specs.declared.arguments.ArgumentKind.TheVariants.{End, Flag, NeededCount, NeededWord, Number}
-use Rattle.wst_words.specs.declared.arguments.ArgumentKind.TheVariants.{Word, Words}
+use Rattle.wst_words.specs.declared.arguments.ArgumentKind.TheVariants.{End, Flag, FreeWord, NeededCount, NeededWord}
+use Rattle.wst_words.specs.declared.arguments.ArgumentKind.TheVariants.{Number, Word, Words}
 
 -- ---- an end of the connection
 
@@ -96,6 +96,7 @@ LacksValueOf rows name Word None = ⊥
 LacksValueOf rows name Word (Some word) = first_of name rows ≡ None
 LacksValueOf rows name Flag default = GivesNoFlag rows name
 LacksValueOf rows name NeededWord default = first_of name rows ≡ None
+LacksValueOf rows name FreeWord default = ⊥
 LacksValueOf rows name NeededCount default = GivesNoCount rows name
 LacksValueOf rows name Words default = ⊥
 

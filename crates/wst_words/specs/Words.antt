@@ -4,6 +4,7 @@ use Rattle.clap.specs.Words.{App, HasKind, Row, Text, fault_of, new_app, subcomm
 use Rattle.clap.specs.Simple.{on_top}
 use Rattle.clap.specs.declared.error.Error.{Error}
 use Rattle.wst_words.specs.Arguments.{Places, end_parser}
+use Rattle.wst_words.specs.Cases.{AsksForCases, cases_command}
 use Rattle.wst_words.specs.Commands.{CommandRow, with_commands}
 use Rattle.wst_words.specs.Head.{AsksForHead, head_command}
 use Rattle.wst_words.specs.Pair.{AsksToPair, pair_command}
@@ -33,7 +34,7 @@ row_of name.Pair = pair_command
 row_of name.Session = session_command
 row_of name.Judge = bare_command (codes "judge")
 row_of name.Convert = bare_command (codes "convert")
-row_of name.Cases = bare_command (codes "cases")
+row_of name.Cases = cases_command
 row_of name.Test = test_command
 row_of name.Serve = serve_command
 
@@ -61,7 +62,7 @@ CommandAsks (Some (name, rows)) (Head options) = (name ≡ codes "head") × Asks
 CommandAsks (Some (name, rows)) (Session options) = (name ≡ codes "session") × AsksForSession rows options
 CommandAsks (Some (name, rows)) Judge = name ≡ codes "judge"
 CommandAsks (Some (name, rows)) Convert = name ≡ codes "convert"
-CommandAsks (Some (name, rows)) Cases = name ≡ codes "cases"
+CommandAsks (Some (name, rows)) (Cases options) = (name ≡ codes "cases") × AsksForCases rows options
 CommandAsks (Some (name, rows)) (Test options) = (name ≡ codes "test") × AsksToTest rows options
 CommandAsks (Some (name, rows)) (Serve options) = (name ≡ codes "serve") × AsksToServe rows options
 

@@ -2,7 +2,8 @@
 
 ghost use Rattle.std.specs.Prelude.{◌≡◌, false};
 ghost use Rattle.clap.specs.Words.{rule_of};
-ghost use Rattle.wst_words.specs.Arguments.{argument_row, argument_rule, kind_rule, needed_rule, option_rule};
+ghost use Rattle.wst_words.specs.Arguments.{argument_row, argument_rule, free_rule, kind_rule, needed_rule};
+ghost use Rattle.wst_words.specs.Arguments.{option_rule};
 
 use clap::builder::ValueParser;
 use clap::{Arg, ArgAction};
@@ -21,6 +22,8 @@ pub(crate) enum ArgumentKind {
     Flag,
     /// Any word, which may not be left out.
     NeededWord,
+    /// Any word, which may be left out.
+    FreeWord,
     /// A number of 32 bits, which may not be left out.
     NeededCount,
     /// The words that are left, as many as there are.
@@ -66,6 +69,7 @@ fn arg_of_kind<'a>(alloc: Global, argument: &Argument, ends: ValueParser<'a>) ->
             .help(argument.help)
             .action(ArgAction::SetTrue),
         ArgumentKind::NeededWord => needed_arg(alloc, argument),
+        ArgumentKind::FreeWord => free_arg(alloc, argument),
         ArgumentKind::NeededCount => {
             needed_arg(alloc, argument).value_parser(clap::value_parser!(u32))
         }
@@ -93,9 +97,16 @@ fn needed_arg<'a>(alloc: Global, argument: &Argument) -> Arg<'a>
     ensures rule { rule_of result ≡ needed_rule argument.now.name.now }
     ensures local { result.global ≡ false }
 {
+    free_arg(alloc, argument).required(true)
+}
+
+/// A word.
+fn free_arg<'a>(alloc: Global, argument: &Argument) -> Arg<'a>
+    ensures rule { rule_of result ≡ free_rule argument.now.name.now }
+    ensures local { result.global ≡ false }
+{
     Arg::new(alloc, argument.name)
         .value_name(argument.value_name)
         .help(argument.help)
         .action(ArgAction::Set)
-        .required(true)
 }

@@ -77,7 +77,8 @@ fn arguments_of(command: CommandName) -> &'static [Argument]
         CommandName::Head => head::arguments(),
         CommandName::Pair => pair::arguments(),
         CommandName::Session => session::arguments(),
-        CommandName::Judge | CommandName::Convert | CommandName::Cases => &[],
+        CommandName::Judge | CommandName::Convert => &[],
+        CommandName::Cases => cases::arguments(),
         CommandName::Test => test::arguments(),
         CommandName::Serve => serve::arguments(),
     }

@@ -19,6 +19,7 @@ mod show;
 mod test;
 mod words;
 
+pub use cases::CasesOptions;
 pub use head::HeadOptions;
 pub use pair::PairOptions;
 pub use serve::ServeOptions;

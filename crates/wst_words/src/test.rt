@@ -90,7 +90,7 @@ static ARGUMENTS: [Argument; 8] = [
         kind: Words,
         default: None,
         value_name: "ID",
-        help: "Cases to run, in this order; all where none is given",
+        help: "Cases to run, in this order, as 2.5 or `7.*`; all where none is given",
     },
 ];
 
@@ -166,10 +166,11 @@ judged a line for it is written, and the total at last:
   P pass, L loose, F fail
 
 Cases run in the order in which their IDs are given, as often as they are given, and all of them
-where none is. `wst cases` lists the IDs, and `wst judge --help` says what each WHY means. NAME is
-Head, Version, Status, Upgrade, Connection, Accept, Extension, Protocol or TooLarge. With --capture,
-which takes one case, the capture of what went over the connection is written in place of the lines,
-and the status is that of its verdict. Nothing is read.
+where none is. An ID that ends in `*` stands for all cases whose IDs begin with what is before it,
+in the order of `wst cases`, which lists the IDs. `wst judge --help` says what each WHY means. NAME
+is Head, Version, Status, Upgrade, Connection, Accept, Extension, Protocol or TooLarge. With
+--capture, which takes one case by its whole ID, the capture of what went over the connection is
+written in place of the lines, and the status is that of its verdict. Nothing is read.
 
 With --protocols each request offers the subprotocols of LIST in its order, which `wst head --help`
 describes. An answer that names another one, or more than one, is to be refused as Protocol. A
@@ -181,11 +182,11 @@ is sent, and in the last one the case ends, so that what is missing is told; bef
 whole there is no connection. A run then goes on behind `ID no connection`, which counts as a FAIL
 in the total; the third in a row ends it as the first one does without --timeout. The budget used
 up, a case ends as broken off. A server in memory answers at once: there SECONDS and the budget are
-without effect. In parts: wst cases | cut -d' ' -f1 | xargs -n 30 wst test 127.0.0.1:9001
+without effect. In parts: wst test 127.0.0.1:9001 '1.*'
 
 Exit status: 0 no case is FAIL, 1 one is, 2 wrong words, also a word that is no LIST, no SECONDS, no
-key, no ID or no host of a request, and --capture with other than one ID, 3 there is no connection,
-the output failed or memory ran out.";
+key, no ID or no host of a request, and --capture with other than one case, 3 there is no
+connection, the output failed or memory ran out.";
 
 /// What stands at the end of the help of `test`.
 const AFTER_HELP: &str = "Example:

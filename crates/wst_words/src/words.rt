@@ -7,6 +7,7 @@ ghost use Rattle.wst_words.specs.declared.words.WordsFault.TheVariants.{Clap};
 ghost use Rattle.wst_words.specs.Arguments.{Places};
 ghost use Rattle.wst_words.specs.Words.{CommandAsks, CommandAsksNothing, IsOfClap, IsRead, wst_app};
 
+use crate::cases::{CasesOptions, cases_options};
 use crate::commands::wst_command;
 use crate::head::{HeadOptions, head_options};
 use crate::pair::{PairOptions, pair_options};
@@ -32,8 +33,8 @@ pub enum Task<'a> {
     Judge,
     /// The capture that comes in, in format 2.
     Convert,
-    /// The list of the cases.
-    Cases,
+    /// The list of cases, or the text of one.
+    Cases(CasesOptions<'a>),
     /// The verdicts on a server in cases.
     Test(TestOptions<'a>),
     /// Connections to serve.
@@ -124,7 +125,7 @@ fn plain_task<'a>(name: &str, options: &ArgMatches<'a>) -> Option<Task<'a>>
         "session" => Some(Task::Session(session_options(options)?)),
         "judge" => Some(Task::Judge),
         "convert" => Some(Task::Convert),
-        "cases" => Some(Task::Cases),
+        "cases" => Some(Task::Cases(cases_options(options))),
         "serve" => Some(Task::Serve(serve_options(options)?)),
         _ => None,
     }

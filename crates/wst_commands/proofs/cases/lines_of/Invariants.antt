@@ -1,7 +1,7 @@
-use Rattle.std.proofs.Common.{map, string_bytes, take}
-use Rattle.wst_commands.specs.Cases.{AreCaseLines}
+use Rattle.std.proofs.Common.{◌≡◌, flat_map, string_bytes, take}
+use Rattle.wst_commands.specs.Cases.{case_line}
 use Rattle.wst_commands.proofs.cases.lines_of.Given as goal
 
--- the lines of the names so far
-abbrev pub invariant-loop-name : goal.invariant-loop-name
-invariant-loop-name l = AreCaseLines (map string_bytes (take l.name-index l.names)) (string_bytes l.lines)
+-- the lines of the cases so far
+abbrev pub invariant-loop-case : goal.invariant-loop-case
+invariant-loop-case l = string_bytes l.lines ≡ flat_map case_line (take l.case-index l.cases)

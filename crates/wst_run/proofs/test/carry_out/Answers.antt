@@ -4,7 +4,7 @@ use Rattle.ws_frame.specs.Devices.{watched}
 use Rattle.ws_scripts.specs.declared.script.Case.{Case}
 use Rattle.wst_run.specs.Testing.{RunsCapture}
 use Rattle.wst_run.specs.declared.testing.RunRules.{RunRules}
-use Rattle.wst_run.proofs.PlanLemmas.{only_one}
+use Rattle.wst_commands.proofs.CaseLemmas.{only_one}
 use Rattle.wst_run.proofs.test.carry_out.Goals as goal
 
 pub returns-then-plan-clause-runs : goal.returns-then-plan-clause-runs

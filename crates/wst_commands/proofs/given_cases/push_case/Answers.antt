@@ -1,6 +1,6 @@
 use Rattle.std.proofs.Common.{rules, ◌≡◌, [], ◌∷◌, ◌++◌, string_bytes}
 use Rattle.ws_scripts.specs.Scripts.{CanBeRun}
-use Rattle.wst_run.proofs.given_cases.push_case.Goals as goal
+use Rattle.wst_commands.proofs.given_cases.push_case.Goals as goal
 
 pub returns-in_ok-push-in-Some : goal.returns-in_ok-push-in-Some
 returns-in_ok-push-in-Some c =

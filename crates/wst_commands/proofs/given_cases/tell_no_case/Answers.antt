@@ -1,11 +1,11 @@
 use Rattle.std.proofs.Common.{◌≡◌, ◌∙◌, inl, refl, subst, List, ℕ}
 use Rattle.ws_frame.specs.Devices.{watched}
 use Rattle.wst_commands.specs.Devices.{Tells}
-use Rattle.wst_run.specs.Test.{no_case_line}
-use Rattle.wst_run.proofs.test.tell_no_case.Goals as goal
+use Rattle.wst_commands.specs.GivenCases.{no_case_line}
+use Rattle.wst_commands.proofs.given_cases.tell_no_case.Goals as goal
 
-pub returns-in-Ok : goal.returns-in-Ok
-returns-in-Ok g c =
+pub returns-in-Ok-clause-told : goal.returns-in-Ok-clause-told
+returns-in-Ok-clause-told g c =
     let line : c.as_bytes.result.now ≡ no_case_line c.args.id.now = c.as_bytes.ensures.value ∙ c.in-Ok.ensures.ok in
     inl (
       refl,

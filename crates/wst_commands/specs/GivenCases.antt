@@ -1,0 +1,89 @@
+-- The cases that the words of a command line stand for: a word is the name of a case, or what such names begin with,
+-- and a star.
+use Rattle.std.specs.Prelude.{◌≡◌, ◌≢◌, ◌⊎◌, ⊤, ℕ, ◌-◌, ◌==◌, ◌&&◌, ◌||◌, nat_eq, not, Bool, true, false}
+use Rattle.std.specs.Prelude.{if◌then◌else◌, List, [], ◌∷◌, ◌++◌, codes, filter, flat_map, length, map}
+use Rattle.std.specs.Prelude.{slice_index, string_bytes, take}
+use Rattle.std.specs.Borrow.{Bor}
+use Rattle.std.specs.List.{All, concat, starts_with}
+use Rattle.ws_frame.specs.Devices.{Device}
+use Rattle.ws_scripts.specs.Scripts.{CanBeRun}
+use Rattle.ws_scripts.specs.declared.script.Case.{Case}
+use Rattle.wst_commands.specs.Devices.{Tells}
+use Rattle.wst_commands.specs.Faults.{LacksMemory}
+use Rattle.wst_commands.specs.declared.exit.Exit.{Exit}
+use Rattle.wst_commands.specs.declared.exit.Exit.TheVariants.{WrongWords}
+use Rattle.wst_commands.specs.declared.given_cases.NoCases.{NoCases}
+use Rattle.wst_commands.specs.declared.given_cases.NoCases.TheVariants.{NoMemory, NoSuchCase}
+
+-- ---- what a word stands for
+
+-- its last byte is a star
+abbrev pub is_glob : List ℕ → Bool
+is_glob word = slice_index word (length word - 1) == 42
+
+-- the name is meant by what stands before a star: it begins with that, and with `x` only where that does too
+abbrev pub is_meant : List ℕ → List ℕ → Bool
+is_meant front name = starts_with nat_eq name front
+    && (not (starts_with nat_eq name (codes "x")) || starts_with nat_eq front (codes "x"))
+
+-- These ids, in this order, stand for the word, where these are the names of all cases in their order: the word itself;
+-- where it ends in a star, the names that are meant by what stands before that.
+abbrev pub ids_for : List (List ℕ) → List ℕ → List (List ℕ)
+ids_for names word = if is_glob word then filter (is_meant (take (length word - 1) word)) names else word ∷ []
+
+-- ---- the cases of words
+
+-- these are cases with these names
+pub record AreCasesOf (names : List (List ℕ)) (cases : List Case) : Type 0 where
+  pub can_be_run : All CanBeRun cases
+  pub named : map (λ case. string_bytes case.id) cases ≡ names
+
+-- the cases for which the words stand, each word in its place and for one case at least, where these are the names of
+-- all cases in their order
+pub record AreCasesBy (names words : List (List ℕ)) (cases : List Case) : Type 0 where
+  pub have : AreCasesOf (flat_map (ids_for names) words) cases
+  pub some : All (λ word. ids_for names word ≢ []) words
+
+-- which names all cases have is said by no definition
+abbrev pub AreCasesFor : List (List ℕ) → List Case → Type 0
+AreCasesFor words cases = (names : List (List ℕ)) × AreCasesBy names words cases
+
+-- the words that are given; where there are none, a star: all cases but those whose names begin with `x`
+abbrev pub or_all : List (List ℕ) → List (List ℕ)
+or_all [] = codes "*" ∷ []
+or_all (word ∷ words) = word ∷ words
+
+-- why there are no cases for the words: one stands for none, and those before it stand for some; or memory ran out
+abbrev pub LackCases : List (List ℕ) → NoCases → Type 0
+LackCases words (NoSuchCase word) = (before after : List (List ℕ)) × (cases : List Case)
+    × (words ≡ before ++ word.now ∷ after) × AreCasesFor before cases
+LackCases words NoMemory = ⊤
+
+-- ---- what is told
+
+-- the line that tells that there is no such case
+abbrev pub no_case_line : List ℕ → List ℕ
+no_case_line id = concat (codes "no such case: " ∷ id ∷ codes "\n" ∷ [])
+
+-- what is told where there are no cases for the words, and the exit
+abbrev pub TellsNoCases : NoCases → Exit → Device → Type 0
+TellsNoCases (NoSuchCase id) exit faults =
+    ((exit ≡ WrongWords) × Tells (no_case_line id.now) faults) ⊎ LacksMemory exit faults
+TellsNoCases NoMemory exit faults = LacksMemory exit faults
+
+-- ---- inside the crate: a reader may skip what follows
+
+-- the bytes of borrowed words
+abbrev pub names_of : List (Bor (List ℕ)) → List (List ℕ)
+names_of words = map (λ word. word.now) words
+
+-- a case with this name was put at the end; or there is none
+abbrev pub GrowsByCase : List ℕ → Bool → List Case → List Case → Type 0
+GrowsByCase name true old new = (case : Case) × CanBeRun case × (string_bytes case.id ≡ name) × (new ≡ old ++ case ∷ [])
+GrowsByCase name false old new = new ≡ old
+
+-- the cases with these names, of which there is one, were put at the end; or there is none, or a name has no case
+abbrev pub GrowsByCases : List (List ℕ) → Bool → List Case → List Case → Type 0
+GrowsByCases names true old new =
+    (names ≢ []) × (more : List Case) × AreCasesOf names more × (new ≡ old ++ more)
+GrowsByCases names false old new = ⊤
