@@ -56,7 +56,7 @@ module _ (laws : EventLaws) where
 
   -- ---- one evidence
 
-  one_direction : (role : Role) (found : Event → List Reply) (turns : List (List ℕ)) (a b : Direction) → IsDirectionOf role found turns a → IsDirectionOf role found turns b → a ≡ b
+  pub one_direction : (role : Role) (found : Event → List Reply) (turns : List (List ℕ)) (a b : Direction) → IsDirectionOf role found turns a → IsDirectionOf role found turns b → a ≡ b
   one_direction role found turns a b p q =
       let same = one_by_turn role turns p.events q.events p.are_events q.are_events in
       let replies : a.replies ≡ b.replies = p.replies ∙ (ap (λ (l : List (List Event)). by_turn found 0 l) same ∙ sym q.replies) in

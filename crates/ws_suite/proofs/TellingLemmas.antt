@@ -1,5 +1,6 @@
 -- What is told of what came, and the evidence of it without the pings.
-use Rattle.std.proofs.Common.{◌≡◌, ◌∙◌, ℕ, ◌+◌, ◌<◌, Bool, true, false, if◌then◌else◌, List, [], ◌∷◌, ◌++◌, get_or, length, take, map, flat_map, ap, ap₂, sym, refl, subst, arith}
+use Rattle.std.proofs.Common.{◌≡◌, ◌∙◌, ℕ, zero, suc, ◌+◌, ◌<◌, ◌&&◌, Bool, true, false, if◌then◌else◌, List, [], ◌∷◌, ◌++◌, get_or, length, take, map, flat_map, Option, None, Some, inl, inr, ap, ap₂, sym, refl, subst, arith}
+use Rattle.std.proofs.lemmas.Bool.{cases_lt}
 use Rattle.std.proofs.lemmas.List.{map-append, take_more}
 use Rattle.std.proofs.lemmas.List.Elements.{filter-append}
 use Rattle.std.specs.List.{filter, last_or, take-map}
@@ -11,15 +12,18 @@ use Rattle.ws_scripts.specs.declared.transcript.Turn.{Turn}
 use Rattle.ws_suite.specs.declared.evidence.InTurn.{InTurn}
 use Rattle.ws_suite.specs.declared.evidence.Reply.{Reply}
 use Rattle.ws_suite.specs.declared.evidence.Reply.TheVariants as reply
+use Rattle.ws_suite.specs.declared.evidence.Ending.{Ending}
 use Rattle.ws_suite.specs.declared.evidence.Direction.{Direction}
 use Rattle.ws_suite.specs.declared.evidence.Evidence.{Evidence}
 use Rattle.ws_suite.specs.declared.evidence.collecting.Way.{Way}
-use Rattle.ws_suite.specs.Evidence.{IsDirectionOf, IsEvidenceOf, by_turn, got_in}
-use Rattle.ws_suite.specs.Explanation.{told_in}
+use Rattle.ws_suite.specs.Evidence.{IsDirectionOf, IsEvidenceOf, by_turn, ending_in, got_in}
+use Rattle.ws_suite.specs.Explanation.{IsBeyondBy, told_in}
 use Rattle.ws_suite.specs.Doom.{HasDoomCounted}
-use Rattle.ws_suite.specs.InnerCollecting.{IsToldEvidenceOf, at_turn, way_bytes}
+use Rattle.ws_suite.specs.InnerCollecting.{EventLaws, IsToldEvidenceOf, at_turn, first_beyond, way_bytes}
 use Rattle.ws_suite.specs.InnerJudging.{answers_among, is_answer, without_pings}
-use Rattle.ws_suite.specs.Matching.{is_message, is_pong}
+use Rattle.ws_suite.specs.Matching.{ends_with_close, is_message, is_pong}
+use Rattle.ws_suite.proofs.EvidenceLemmas.{no_items}
+use Rattle.ws_suite.proofs.OneVerdict.{one_direction}
 
 -- ---- the pings left out
 
@@ -126,3 +130,36 @@ way_more way turns i turn less is =
     take-map (way_bytes way) (i + 1) turns
     ∙ (ap (λ (l : List Turn). map (way_bytes way) l) (take_more turns i turn less ∙ ap (λ (t : Turn). take i turns ++ t ∷ []) (sym is))
     ∙ (map-append (way_bytes way) (take i turns) (turn ∷ []) ∙ ap (λ (l : List (List ℕ)). l ++ way_bytes way turn ∷ []) (sym (take-map (way_bytes way) i turns))))
+
+-- ---- bytes beyond a close
+
+no_ending : (role : Role) (found : Event → List Reply) (d : Direction) → IsDirectionOf role found [] d → ends_with_close d.ending ≡ true → ⊥
+no_ending role found d is close =
+    let none : d.ending ≡ None = is.ending ∙ ap (λ (l : List (List Event)). last_or None (by_turn ending_in 0 l)) (no_items is.events (omega (arith, is.are_events.each))) in
+    let wrong : false ≡ true = sym (ap (λ (o : Option (InTurn Ending)). ends_with_close o) none) ∙ close in
+    cc
+
+pub nothing_beyond : (role : Role) (found : Event → List Reply) (turns : List (List ℕ)) → IsBeyondBy role found turns 0 None
+nothing_beyond role found turns zero less (d, is, close, rest) = no_ending role found d is close
+nothing_beyond role found turns (suc n) less g = absurd (omega (arith, less))
+
+both_true : (a b : Bool) → true ≡ (a && b) → (a ≡ true) × (b ≡ true)
+both_true true b e = (refl, sym e)
+both_true false b e = absurd cc
+
+-- one turn more was taken
+pub beyond_step : EventLaws → (role : Role) (found : Event → List Reply) (turns : List (List ℕ)) (i : ℕ) (shown : Direction) → IsDirectionOf role found (take (i + 1) turns) shown → (old : Option ℕ) (goes_on : Bool)
+    → goes_on ≡ (ends_with_close shown.ending && shown.has_rest) → IsBeyondBy role found turns i old → IsBeyondBy role found turns (i + 1) (first_beyond old i goes_on)
+beyond_step laws role found turns i shown is (Some turn) goes_on tells h = h
+beyond_step laws role found turns i shown is None true tells h =
+    let both = both_true (ends_with_close shown.ending) shown.has_rest tells in
+    ((shown, is, both.0, both.1), h)
+beyond_step laws role found turns i shown is None false tells h = λ count less g. elim (cases_lt i count) [
+  | inl after ↦
+      let same : count ≡ i + 1 = omega (arith, after, less) in
+      let one = one_direction laws role found (take (i + 1) turns) g.0 shown (subst (λ (n : ℕ). IsDirectionOf role found (take n turns) g.0) same g.1) is in
+      let close : ends_with_close shown.ending ≡ true = ap (λ (d : Direction). ends_with_close d.ending) (sym one) ∙ g.2 in
+      let rest : shown.has_rest ≡ true = ap (λ (d : Direction). d.has_rest) (sym one) ∙ g.3 in
+      absurd (let wrong : false ≡ true = tells ∙ (ap (λ (b : Bool). b && shown.has_rest) close ∙ rest) in cc)
+  | inr before ↦ h count before g
+]

@@ -1,5 +1,5 @@
 -- Inside the crate: how the evidence of a direction is collected, piece by piece. A reader may skip this file.
-use Rattle.std.specs.Prelude.{◌≡◌, ℕ, ◌≤◌, max, false, List, [], ◌∷◌, ◌++◌, length, map, take, flat_map, None}
+use Rattle.std.specs.Prelude.{◌≡◌, ℕ, ◌≤◌, max, false, List, [], ◌∷◌, ◌++◌, length, map, take, flat_map, Bool, if◌then◌else◌, Option, None, Some}
 use Rattle.std.specs.List.{AllByRecursion, last_or}
 use Rattle.ws_wire.specs.declared.role.Role.{Role}
 use Rattle.ws_wire.specs.Frame.{KeyedFrame, FitsTheLayout, stream_bytes}
@@ -34,6 +34,11 @@ abbrev pub way_bytes : Way → Turn → List ℕ
 way_bytes Sent turn = turn.sent
 way_bytes Got turn = turn.got
 way_bytes Told turn = turn.got
+
+-- the turn of the first byte beyond a close, where this turn may be it
+abbrev pub first_beyond : Option ℕ → ℕ → Bool → Option ℕ
+first_beyond (Some turn) number goes_on = Some turn
+first_beyond None number goes_on = if goes_on then Some number else None
 
 -- the evidence of a transcript, but that the pings that were got stand among the replies
 pub record IsToldEvidenceOf (tested : Role) (transcript : Transcript) (evidence : Evidence) : Type 0 where

@@ -13,7 +13,7 @@ pub(crate) use doom::with_doom;
 pub(crate) use growing::evidence_of;
 pub use growing::{GrowingEvidence, RunEvidence};
 pub use keeping::{KeepsReplies, ReplyTally};
-pub(crate) use telling::told_evidence_of;
+pub(crate) use telling::{ToldEvidence, told_evidence_of};
 use ws_base::Sequence;
 use ws_scripts::Ended;
 use ws_session::{Message, Reason, Small};

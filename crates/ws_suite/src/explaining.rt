@@ -3,7 +3,7 @@
 ghost use Rattle.std.specs.Prelude.{IfOk};
 ghost use Rattle.ws_suite.specs.Explanation.{IsExplanationOf};
 
-use crate::evidence::{Direction, Evidence, told_evidence_of, with_doom};
+use crate::evidence::{Direction, Evidence, ToldEvidence, told_evidence_of, with_doom};
 use crate::judging::verdict_on;
 use crate::verdict::Verdict;
 use std::alloc::Global;
@@ -20,6 +20,8 @@ pub struct Explanation {
     pub due: Direction,
     /// What came: messages, pings and pongs, and the close or the fault.
     pub got: Direction,
+    /// The turn, from 0, of the first byte that follows the close that came.
+    pub beyond: Option<usize>,
     /// How many turns there were.
     pub turns: usize,
     /// How the connection ended.
@@ -36,7 +38,8 @@ pub fn explain(
     ensures { IfOk result (λ x. IsExplanationOf tested transcript.now x) }
 {
     let told = told_evidence_of(alloc, tested, transcript)?;
-    let counted = with_doom(alloc, tested, transcript, told)?;
+    let ToldEvidence { evidence, beyond } = told;
+    let counted = with_doom(alloc, tested, transcript, evidence)?;
     let verdict = verdict_on(alloc, tested, &counted)?;
     let Evidence {
         due,
@@ -49,6 +52,7 @@ pub fn explain(
         verdict,
         due,
         got,
+        beyond,
         turns,
         ended,
     })

@@ -13,13 +13,14 @@ returns c =
     let told = c.in_ok-told in
     let counted = c.in_ok-counted in
     record {
-      evidence = without_pings told.told;
-      is_evidence = told_is_evidence c.args.tested transcript told.told told.ensures;
+      evidence = without_pings told.told.evidence;
+      is_evidence = told_is_evidence c.args.tested transcript told.told.evidence told.ensures.evidence;
       counted = without_pings counted.counted;
-      is_counted = counted_without c.args.tested transcript told.told counted.counted counted.ensures;
+      is_counted = counted_without c.args.tested transcript told.told.evidence counted.counted counted.ensures;
       is_verdict = c.in_ok-verdict.ensures;
       due = refl;
-      got = subst (λ (d : Direction). IsDirectionOf (other_role c.args.tested) told_in (got_turns transcript.turns) d) (sym counted.ensures.got) told.ensures.got;
+      got = subst (λ (d : Direction). IsDirectionOf (other_role c.args.tested) told_in (got_turns transcript.turns) d) (sym counted.ensures.got) told.ensures.evidence.got;
+      beyond = told.ensures.beyond;
       turns = refl;
       ended = refl;
     }
