@@ -59,7 +59,7 @@ pub fn write_turns(alloc: Global, words: &[&str], out: &mut String) -> Result<()
 }
 
 /// An end, and turns of two words each.
-fn transcript_of(alloc: Global, words: &[&str]) -> Result<Transcript, RowFault> {
+pub fn transcript_of(alloc: Global, words: &[&str]) -> Result<Transcript, RowFault> {
     let [end, turns @ ..] = words else {
         return Err(RowFault::NotARow);
     };

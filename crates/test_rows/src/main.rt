@@ -7,6 +7,7 @@ mod captures;
 mod cases;
 mod dooms;
 mod echoes;
+mod explanations;
 mod frames;
 mod peers;
 mod printing;
@@ -105,6 +106,7 @@ fn answer_of_verdicts(
         "capture_fault" => captures::tell_no_memory(words, out),
         "judge" => captures::judge_turns(alloc, words, out),
         "judge_client" => captures::judge_client_turns(alloc, words, out),
+        "explain" => explanations::explain_turns(alloc, words, out),
         "written" => captures::write_turns(alloc, words, out),
         "verdict" => peers::tell_verdict(alloc, words, out),
         "verdicts" => peers::count_passes(alloc, words, out),

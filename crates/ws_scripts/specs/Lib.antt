@@ -8,3 +8,4 @@ pub mod InnerCapturing
 pub mod InnerScripting
 pub mod InnerCases
 pub mod Examples
+pub mod InnerComparing

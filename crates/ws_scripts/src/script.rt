@@ -3,7 +3,7 @@
 use ws_base::{Payload, Sequence};
 
 /// One thing that a tester does.
-#[derive(Drop)]
+#[derive(Debug, Drop)]
 pub enum Step {
     /// A frame is sent, masked with the tester's key, its length in the shortest form (RFC 6455 section 5.2). `rsv` is
     /// 4 * RSV1 + 2 * RSV2 + RSV3.
@@ -19,8 +19,45 @@ pub enum Step {
     Wait,
 }
 
+impl PartialEq for Step {
+    ghost use Rattle.std.proofs.Common.{rules};
+    ghost use Rattle.std.specs.Cmp.Rules.{comparing};
+    ghost use Rattle.ws_scripts.specs.InnerComparing.{step_eq};
+
+    ghost eq = { step_eq };
+
+    ghost laws = { Prim.search (comparing, rules) };
+
+    fn eq(&self, other: &Step) -> bool {
+        match (self, other) {
+            (
+                Step::Frame {
+                    fin,
+                    rsv,
+                    opcode,
+                    payload,
+                },
+                Step::Frame {
+                    fin: other_fin,
+                    rsv: other_rsv,
+                    opcode: other_opcode,
+                    payload: other_payload,
+                },
+            ) => {
+                *fin == *other_fin
+                    && *rsv == *other_rsv
+                    && *opcode == *other_opcode
+                    && payload.as_slice() == other_payload.as_slice()
+            }
+            (Step::Raw(bytes), Step::Raw(others)) => bytes.as_slice() == others.as_slice(),
+            (Step::Wait, Step::Wait) => true,
+            _ => false,
+        }
+    }
+}
+
 /// How the bytes of a turn are cut into pieces, each of them sent in one write.
-#[derive(Clone, Copy)]
+#[derive(Clone, Copy, Debug, PartialEq, Eq)]
 pub enum Chop {
     /// One piece a turn.
     Whole,
@@ -31,10 +68,24 @@ pub enum Chop {
 }
 
 /// A script with its name.
-#[derive(Drop)]
+#[derive(Debug, Drop)]
 pub struct Case {
     /// As `5.19`.
     pub id: String,
     pub steps: Sequence<Step>,
     pub chop: Chop,
+}
+
+impl PartialEq for Case {
+    ghost use Rattle.std.specs.Cmp.{partial_equiv_from_equiv};
+    ghost use Rattle.ws_scripts.specs.InnerComparing.{case_eq, case_eq_equiv};
+
+    ghost eq = { case_eq };
+
+    ghost laws = { partial_equiv_from_equiv case_eq_equiv };
+
+    fn eq(&self, other: &Case) -> bool {
+        self.id == other.id
+            && (self.steps.as_slice() == other.steps.as_slice() && self.chop == other.chop)
+    }
 }

@@ -25,9 +25,10 @@ use Rattle.ws_suite.proofs.TurnsCollected.{turn_begun}
 
 -- ---- what is kept
 
-no_message_is_pong : (r : Reply) → is_message r ≡ false → is_pong r ≡ true
-no_message_is_pong (reply.Message message) e = absurd cc
-no_message_is_pong (reply.Pong payload) e = refl
+pong_is_no_message : (r : Reply) → is_pong r ≡ true → is_message r ≡ false
+pong_is_no_message (reply.Message message) e = absurd cc
+pong_is_no_message (reply.Pong payload) e = refl
+pong_is_no_message (reply.Ping payload) e = refl
 
 one_left : (test : InTurn Reply → Bool) (r : InTurn Reply) → test r ≡ true → filter test (r ∷ []) ≡ r ∷ []
 one_left test r e = ap (λ (b : Bool). if b then r ∷ [] else []) e
@@ -36,15 +37,26 @@ none_left : (test : InTurn Reply → Bool) (r : InTurn Reply) → test r ≡ fal
 none_left test r e = ap (λ (b : Bool). if b then r ∷ [] else []) e
 
 -- one pong more
-pub pong_kept : (tally : ReplyTally) (replies : List (InTurn Reply)) (r : InTurn Reply) → is_message r.what ≡ false → IsTallyOf tally replies
+pub pong_kept : (tally : ReplyTally) (replies : List (InTurn Reply)) (r : InTurn Reply) → is_pong r.what ≡ true → IsTallyOf tally replies
     → IsTallyOf (record { messages = tally.messages; last_pong = Some r }) (replies ++ r ∷ [])
-pong_kept tally replies r not h = record {
+pong_kept tally replies r is h = record {
   messages =
       h.messages ∙ ap (λ (l : List (InTurn Reply)). length l)
-      (sym (append-nil (message_replies replies)) ∙ ap (λ (l : List (InTurn Reply)). message_replies replies ++ l) (sym (none_left (λ x. is_message x.what) r not)) ∙ sym (filter-append (λ x. is_message x.what) replies (r ∷ [])));
+      (sym (append-nil (message_replies replies)) ∙ ap (λ (l : List (InTurn Reply)). message_replies replies ++ l) (sym (none_left (λ x. is_message x.what) r (pong_is_no_message r.what is))) ∙ sym (filter-append (λ x. is_message x.what) replies (r ∷ [])));
   last_pong =
-      sym (ap (λ (l : List (InTurn Reply)). last_or None l) (filter-append (λ x. is_pong x.what) replies (r ∷ []) ∙ ap (λ (l : List (InTurn Reply)). pong_replies replies ++ l) (one_left (λ x. is_pong x.what) r (no_message_is_pong r.what not)))
+      sym (ap (λ (l : List (InTurn Reply)). last_or None l) (filter-append (λ x. is_pong x.what) replies (r ∷ []) ∙ ap (λ (l : List (InTurn Reply)). pong_replies replies ++ l) (one_left (λ x. is_pong x.what) r is))
       ∙ last_joined None (pong_replies replies) (r ∷ []));
+}
+
+-- one ping more, which counts for nothing
+pub ping_kept : (tally : ReplyTally) (replies : List (InTurn Reply)) (r : InTurn Reply) → is_message r.what ≡ false → is_pong r.what ≡ false → IsTallyOf tally replies → IsTallyOf tally (replies ++ r ∷ [])
+ping_kept tally replies r no_message no_pong h = record {
+  messages =
+      h.messages ∙ ap (λ (l : List (InTurn Reply)). length l)
+      (sym (append-nil (message_replies replies)) ∙ ap (λ (l : List (InTurn Reply)). message_replies replies ++ l) (sym (none_left (λ x. is_message x.what) r no_message)) ∙ sym (filter-append (λ x. is_message x.what) replies (r ∷ [])));
+  last_pong =
+      h.last_pong ∙ ap (λ (l : List (InTurn Reply)). last_or None l)
+      (sym (append-nil (pong_replies replies)) ∙ ap (λ (l : List (InTurn Reply)). pong_replies replies ++ l) (sym (none_left (λ x. is_pong x.what) r no_pong)) ∙ sym (filter-append (λ x. is_pong x.what) replies (r ∷ [])));
 }
 
 -- ---- what is kept tells whether what is due has come

@@ -2,6 +2,7 @@ mod EvidenceLemmas
 mod TurnsCollected
 mod JudgeLemmas
 mod PlaceLemmas
+mod TellingLemmas
 mod GrowingLemmas
 mod DoomLemmas
 mod LastBytes

@@ -56,7 +56,7 @@ module _ (laws : EventLaws) where
 
   -- ---- one evidence
 
-  one_direction : (role : Role) (found : Event → List Reply) (turns : List (List ℕ)) (a b : Direction) → IsDirectionOf role found turns a → IsDirectionOf role found turns b → a ≡ b
+  pub one_direction : (role : Role) (found : Event → List Reply) (turns : List (List ℕ)) (a b : Direction) → IsDirectionOf role found turns a → IsDirectionOf role found turns b → a ≡ b
   one_direction role found turns a b p q =
       let same = one_by_turn role turns p.events q.events p.are_events q.are_events in
       let replies : a.replies ≡ b.replies = p.replies ∙ (ap (λ (l : List (List Event)). by_turn found 0 l) same ∙ sym q.replies) in
@@ -98,7 +98,7 @@ one_count : (tested : Role) (transcript : Transcript) (got sent a b : Option (In
 one_count tested transcript got (Some sent) a b p q = p ∙ sym q
 one_count tested transcript got None a b p q = one_count_by (counts_doom tested transcript.ended got) tested (sent_turns transcript.turns) a b p q
 
-same_direction : (a b : Direction) → a.replies ≡ b.replies → a.ending ≡ b.ending → a.has_rest ≡ b.has_rest → a ≡ b
+pub same_direction : (a b : Direction) → a.replies ≡ b.replies → a.ending ≡ b.ending → a.has_rest ≡ b.has_rest → a ≡ b
 same_direction a b replies ending rest =
     ap₂ (λ (r : List (InTurn Reply)) (e : Option (InTurn Ending)). record { replies = r; ending = e; has_rest = a.has_rest }) replies ending
     ∙ ap (λ (f : Bool). record { replies = b.replies; ending = b.ending; has_rest = f }) rest

@@ -1,5 +1,5 @@
 -- Inside the crate: how the evidence of a direction is collected, piece by piece. A reader may skip this file.
-use Rattle.std.specs.Prelude.{◌≡◌, ℕ, ◌≤◌, max, List, [], ◌∷◌, ◌++◌, map, take, flat_map, None}
+use Rattle.std.specs.Prelude.{◌≡◌, ℕ, ◌≤◌, max, false, List, [], ◌∷◌, ◌++◌, length, map, take, flat_map, Bool, if◌then◌else◌, Option, None, Some}
 use Rattle.std.specs.List.{AllByRecursion, last_or}
 use Rattle.ws_wire.specs.declared.role.Role.{Role}
 use Rattle.ws_wire.specs.Frame.{KeyedFrame, FitsTheLayout, stream_bytes}
@@ -12,17 +12,41 @@ use Rattle.ws_session.specs.Faults.{KeysFit, frames_of}
 use Rattle.ws_session.specs.Reach.{events_within, first_passing, fitting}
 use Rattle.ws_session.specs.Validity.{AreValidFrames}
 use Rattle.ws_session.specs.Exchange.{SessionValue}
+use Rattle.ws_scripts.specs.declared.transcript.Transcript.{Transcript}
+use Rattle.ws_scripts.specs.declared.transcript.Turn.{Turn}
 use Rattle.ws_suite.specs.declared.evidence.InTurn.{InTurn}
 use Rattle.ws_suite.specs.declared.evidence.Reply.{Reply}
+use Rattle.ws_suite.specs.declared.evidence.Evidence.{Evidence}
 use Rattle.ws_suite.specs.declared.evidence.collecting.Way.{Way}
-use Rattle.ws_suite.specs.declared.evidence.collecting.Way.TheVariants.{Sent, Got}
+use Rattle.ws_suite.specs.declared.evidence.collecting.Way.TheVariants.{Sent, Got, Told}
 use Rattle.ws_suite.specs.declared.evidence.collecting.Collected.{Collected}
-use Rattle.ws_suite.specs.Evidence.{due_for, ending_in, got_in}
+use Rattle.ws_suite.specs.Evidence.{IsDirectionOf, due_for, ending_in, got_in, got_turns, other_role, sent_turns}
+use Rattle.ws_suite.specs.Explanation.{told_in}
 use Rattle.ws_suite.specs.Growing.{HasTakenTurns}
 
 abbrev pub found_by : Way → Event → List Reply
 found_by Sent e = due_for e
 found_by Got e = got_in e
+found_by Told e = told_in e
+
+-- the bytes of a turn that go this way
+abbrev pub way_bytes : Way → Turn → List ℕ
+way_bytes Sent turn = turn.sent
+way_bytes Got turn = turn.got
+way_bytes Told turn = turn.got
+
+-- the turn of the first byte beyond a close, where this turn may be it
+abbrev pub first_beyond : Option ℕ → ℕ → Bool → Option ℕ
+first_beyond (Some turn) number goes_on = Some turn
+first_beyond None number goes_on = if goes_on then Some number else None
+
+-- the evidence of a transcript, but that the pings that were got stand among the replies
+pub record IsToldEvidenceOf (tested : Role) (transcript : Transcript) (evidence : Evidence) : Type 0 where
+  pub due : IsDirectionOf tested due_for (sent_turns transcript.turns) evidence.due
+  pub got : IsDirectionOf (other_role tested) told_in (got_turns transcript.turns) evidence.got
+  pub turns : evidence.turns ≡ length transcript.turns
+  pub ended : evidence.ended ≡ transcript.ended
+  pub uncounted : evidence.answers_doom ≡ false
 
 -- these, each with the number of this turn
 abbrev pub at_turn : {X : Type 0} → ℕ → List X → List (InTurn X)

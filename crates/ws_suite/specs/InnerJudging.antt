@@ -1,5 +1,5 @@
 -- Inside the crate: lists of replies as the judge's functions see them. A reader may skip this file.
-use Rattle.std.specs.Prelude.{◌≡◌, ◌↔◌, ℕ, ◌<◌, ◌≤◌, Bool, true, List, [], ◌∷◌, length, map, Option, None, Some}
+use Rattle.std.specs.Prelude.{◌≡◌, ◌↔◌, ℕ, ◌<◌, ◌≤◌, Bool, true, false, List, [], ◌∷◌, filter, length, map, Option, None, Some}
 use Rattle.std.specs.Borrow.{Bor}
 use Rattle.std.specs.BTreeMap.{BTreeMap, get_by}
 use Rattle.std.specs.Cmp.Lexicographic.{slice_cmp}
@@ -10,6 +10,7 @@ use Rattle.ws_suite.specs.declared.verdict.FailWhy.{FailWhy}
 use Rattle.ws_suite.specs.declared.verdict.LooseWhy.{LooseWhy}
 use Rattle.ws_suite.specs.declared.evidence.InTurn.{InTurn}
 use Rattle.ws_suite.specs.declared.evidence.Reply.{Reply}
+use Rattle.ws_suite.specs.declared.evidence.Reply.TheVariants as reply
 use Rattle.ws_suite.specs.declared.evidence.Evidence.{Evidence}
 use Rattle.ws_suite.specs.declared.judging.findings.Findings.{Findings}
 use Rattle.ws_suite.specs.declared.judging.replies.Lists.{Lists}
@@ -22,12 +23,32 @@ use Rattle.ws_suite.specs.Verdicts.{is_before_match, is_unmatched}
 abbrev pub targets : List (Bor (InTurn Reply)) → List (InTurn Reply)
 targets replies = map (λ (r : Bor (InTurn Reply)). r.now) replies
 
+-- a message or a pong, and no ping
+abbrev pub is_answer : Reply → Bool
+is_answer (reply.Message message) = true
+is_answer (reply.Pong payload) = true
+is_answer (reply.Ping payload) = false
+
+abbrev pub answers_among : List (InTurn Reply) → List (InTurn Reply)
+answers_among replies = filter (λ x. is_answer x.what) replies
+
+-- the evidence that the verdict is told on: the pings that were got are no part of it
+abbrev pub without_pings : Evidence → Evidence
+without_pings x = record {
+  due = x.due;
+  got = record { replies = answers_among x.got.replies; ending = x.got.ending; has_rest = x.got.has_rest };
+  turns = x.turns;
+  ended = x.ended;
+  answers_doom = x.answers_doom;
+}
+
 -- the messages and the pongs of both directions
 pub record AreListsOf (x : Evidence) (lists : Lists) : Type 0 where
   pub due_messages : targets lists.due_messages.items ≡ due_messages x
   pub got_messages : targets lists.got_messages.items ≡ got_messages x
   pub due_pongs : targets lists.due_pongs.items ≡ due_pongs x
   pub got_pongs : targets lists.got_pongs.items ≡ got_pongs x
+  pub got : targets lists.got.items ≡ x.got.replies
 
 -- what was found by comparing what was got with what is due, with the words of the verdict's definition
 pub record AreFindingsOf (x : Evidence) (found : Findings) : Type 0 where

@@ -2,6 +2,7 @@ pub mod Evidence
 pub mod Matching
 pub mod Doom
 pub mod Verdicts
+pub mod Explanation
 pub mod Fairness
 pub mod Growing
 pub mod Words

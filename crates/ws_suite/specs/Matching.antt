@@ -16,14 +16,17 @@ use Rattle.ws_suite.specs.declared.evidence.Evidence.{Evidence}
 abbrev pub is_message : Reply → Bool
 is_message (reply.Message message) = true
 is_message (reply.Pong payload) = false
+is_message (reply.Ping payload) = false
 
 abbrev pub is_pong : Reply → Bool
 is_pong (reply.Message message) = false
 is_pong (reply.Pong payload) = true
+is_pong (reply.Ping payload) = false
 
 abbrev pub payload_of : Reply → List ℕ
 payload_of (reply.Message message) = message.payload
 payload_of (reply.Pong payload) = payload
+payload_of (reply.Ping payload) = payload
 
 -- the messages of replies, and the pongs
 abbrev pub message_replies : List (InTurn Reply) → List (InTurn Reply)

@@ -1,17 +1,19 @@
 //! What a transcript shows of the tested end: the events of both directions, each with its turn.
 
 ghost use Rattle.std.specs.Prelude.{◌≡◌, ◌≤◌, ◌↔◌, IsTrue};
-ghost use Rattle.ws_suite.specs.Matching.{ends_with_close, ends_with_fault, is_close_ending, is_message};
+ghost use Rattle.ws_suite.specs.Matching.{ends_with_close, ends_with_fault, is_close_ending, is_message, is_pong};
 
 mod collecting;
 mod doom;
 mod growing;
 mod keeping;
+mod telling;
 
 pub(crate) use doom::with_doom;
 pub(crate) use growing::evidence_of;
 pub use growing::{GrowingEvidence, RunEvidence};
 pub use keeping::{KeepsReplies, ReplyTally};
+pub(crate) use telling::{ToldEvidence, told_evidence_of};
 use ws_base::Sequence;
 use ws_scripts::Ended;
 use ws_session::{Message, Reason, Small};
@@ -23,13 +25,15 @@ pub struct InTurn<T> {
     pub what: T,
 }
 
-/// What an echo sends back for one event.
+/// What an echo sends back for one event, or what came from a tested end.
 #[derive(Drop)]
 pub enum Reply {
     /// The message itself.
     Message(Message),
     /// A pong with the payload of the ping.
     Pong(Small),
+    /// A ping, which only an explanation tells: it answers nothing.
+    Ping(Small),
 }
 
 /// What ends the events of a direction.
@@ -45,10 +49,10 @@ pub enum Ending {
 
 /// One direction of a connection.
 #[derive(Drop)]
-pub(crate) struct Direction {
-    /// The replies that are due for what was sent, or that were got.
+pub struct Direction {
+    /// The replies that are due for what was sent, or that were got, in their order.
     pub replies: Sequence<InTurn<Reply>>,
-    /// The close or the fault, if there is one.
+    /// The close or the fault, if there is one: nothing follows it.
     pub ending: Option<InTurn<Ending>>,
     /// Bytes stand after the last event.
     pub has_rest: bool,
@@ -101,11 +105,21 @@ pub(crate) fn is_message(reply: &Reply) -> bool
 {
     match reply {
         Reply::Message(_) => true,
-        Reply::Pong(_) => false,
+        Reply::Pong(_) | Reply::Ping(_) => false,
     }
 }
 
-/// Whether two replies are one: messages of one kind and payload, or pongs of one payload.
+/// Whether it is a pong.
+pub(crate) fn is_pong(reply: &Reply) -> bool
+    ensures { result ≡ is_pong reply.now }
+{
+    match reply {
+        Reply::Pong(_) => true,
+        Reply::Message(_) | Reply::Ping(_) => false,
+    }
+}
+
+/// Whether two replies are one: messages of one kind and payload, or pongs or pings of one payload.
 pub(crate) fn are_same(one: &Reply, other: &Reply) -> bool
     ensures { IsTrue result ↔ (one.now ≡ other.now) }
 {
@@ -114,6 +128,7 @@ pub(crate) fn are_same(one: &Reply, other: &Reply) -> bool
             one.kind == other.kind && one.payload.as_slice() == other.payload.as_slice()
         }
         (Reply::Pong(one), Reply::Pong(other)) => one.as_slice() == other.as_slice(),
+        (Reply::Ping(one), Reply::Ping(other)) => one.as_slice() == other.as_slice(),
         _ => false,
     }
 }

@@ -8,6 +8,7 @@ mod replies;
 
 ghost use Rattle.std.specs.Prelude.{IfOk};
 ghost use Rattle.ws_wire.specs.declared.role.Role.TheVariants.{Server};
+ghost use Rattle.ws_suite.specs.InnerJudging.{without_pings};
 ghost use Rattle.ws_suite.specs.Verdicts.{IsVerdictOf, IsVerdictOn};
 
 use crate::evidence::{Evidence, evidence_of, with_doom};
@@ -41,9 +42,13 @@ pub fn judge_end(alloc: Global, tested: Role, transcript: &Transcript) -> Result
     Ok(verdict)
 }
 
-/// The verdict on the evidence.
-fn verdict_on(alloc: Global, tested: Role, evidence: &Evidence) -> Result<Verdict, NoMemory>
-    ensures { IfOk result (λ verdict. IsVerdictOn tested evidence.now verdict) }
+/// The verdict on the evidence, in which pings that were got count for nothing.
+pub(crate) fn verdict_on(
+    alloc: Global,
+    tested: Role,
+    evidence: &Evidence,
+) -> Result<Verdict, NoMemory>
+    ensures { IfOk result (λ verdict. IsVerdictOn tested (without_pings evidence.now) verdict) }
 {
     let found = findings_of(alloc, evidence)?;
     if let Some(why) = first_fail(tested, evidence, found) {

@@ -7,13 +7,19 @@
 #![tactic(auto)]
 
 mod evidence;
+mod explaining;
 mod judging;
 pub mod laws;
 mod lemmas;
+mod rules;
 mod verdict;
 
-pub use evidence::{GrowingEvidence, KeepsReplies, ReplyTally, RunEvidence};
+pub use evidence::{
+    Direction, Ending, GrowingEvidence, InTurn, KeepsReplies, Reply, ReplyTally, RunEvidence,
+};
+pub use explaining::{Explanation, explain};
 pub use judging::{judge, judge_end};
+pub use rules::rule;
 pub use verdict::{FailWhy, LooseWhy, Verdict};
 pub use ws_scripts::{
     Capture, CaptureFault, Case, Chop, Ended, Step, Transcript, Turn, case, ids, read_capture,

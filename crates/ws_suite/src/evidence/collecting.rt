@@ -16,13 +16,15 @@ use ws_base::NoMemory;
 use ws_session::{Event, Limits, MAX_MESSAGE, PlacedEvent, Session};
 use ws_wire::{NO_KEY, Role};
 
-/// One of the two directions.
+/// One of the two directions, and what is collected of it.
 #[derive(Clone, Copy)]
 pub(super) enum Way {
     /// From the tester to the tested end.
     Sent,
     /// From the tested end to the tester.
     Got,
+    /// From the tested end to the tester, its pings with it.
+    Told,
 }
 
 /// What is collected of a direction so far.
@@ -152,7 +154,7 @@ fn ending_of(event: &Event) -> Option<Ending>
     }
 }
 
-/// The reply that is due for an event that was sent, or that an event that was got is.
+/// The reply that is due for an event that was sent, or that an event that was got is, or what is told of it.
 fn reply_of(way: Way, event: Event) -> Option<Reply>
     ensures { found_by way event ≡ option_to_list result }
 {
@@ -166,6 +168,12 @@ fn reply_of(way: Way, event: Event) -> Option<Reply>
             Event::Message(message) => Some(Reply::Message(message)),
             Event::Pong(payload) => Some(Reply::Pong(payload)),
             Event::Part | Event::Ping(_) | Event::Close(_) | Event::Failed(_) => None,
+        },
+        Way::Told => match event {
+            Event::Message(message) => Some(Reply::Message(message)),
+            Event::Ping(payload) => Some(Reply::Ping(payload)),
+            Event::Pong(payload) => Some(Reply::Pong(payload)),
+            Event::Part | Event::Close(_) | Event::Failed(_) => None,
         },
     }
 }

@@ -160,7 +160,7 @@ impl GrowingEvidence<AllReplies> {
 }
 
 /// A direction as it was collected.
-fn direction_of(collected: Collected<AllReplies>) -> Direction
+pub(super) fn direction_of(collected: Collected<AllReplies>) -> Direction
     ensures replies { AreAll collected.replies result.replies }
     ensures ending { result.ending ≡ collected.ending }
     ensures has_rest { result.has_rest ≡ collected.has_rest }
@@ -178,7 +178,7 @@ fn direction_of(collected: Collected<AllReplies>) -> Direction
 }
 
 /// The other end.
-fn other(role: Role) -> Role
+pub(super) fn other(role: Role) -> Role
     ensures { result ≡ other_role role }
 {
     match role {

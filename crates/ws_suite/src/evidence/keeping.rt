@@ -5,7 +5,7 @@ ghost use Rattle.ws_suite.specs.declared.evidence.InTurn.{InTurn};
 ghost use Rattle.ws_suite.specs.declared.evidence.Reply.{Reply};
 ghost use Rattle.ws_suite.specs.Growing.{AnswersTally, IsAnsweredPong};
 
-use crate::evidence::{InTurn, Reply, is_answer, is_message};
+use crate::evidence::{InTurn, Reply, is_answer, is_message, is_pong};
 use std::alloc::Global;
 use ws_base::NoMemory;
 
@@ -74,7 +74,7 @@ impl KeepsReplies for ReplyTally {
                 return Err(NoMemory);
             };
             self.messages = messages;
-        } else {
+        } else if is_pong(&reply.what) {
             self.last_pong = Some(reply);
         }
         Ok(())

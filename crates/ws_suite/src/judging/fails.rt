@@ -1,7 +1,7 @@
 //! The six Fails, in their order.
 
 ghost use Rattle.std.specs.Prelude.{◌≡◌, ◌↔◌, IsTrue};
-ghost use Rattle.ws_suite.specs.InnerJudging.{AreFindingsOf, IsFirstFail};
+ghost use Rattle.ws_suite.specs.InnerJudging.{AreFindingsOf, IsFirstFail, without_pings};
 ghost use Rattle.ws_suite.specs.Verdicts.{HasOtherClose, HasOtherEnd, HasOtherMessages, HasOtherPongs};
 ghost use Rattle.ws_suite.specs.Verdicts.{IsEarly, IsEarlyClose, IsNotFrames};
 
@@ -15,8 +15,8 @@ use ws_wire::Role;
 
 /// The lowest Fail that applies.
 pub(super) fn first_fail(tested: Role, x: &Evidence, found: Findings) -> Option<FailWhy>
-    requires { AreFindingsOf x.now found }
-    ensures { IsFirstFail tested x.now result }
+    requires { AreFindingsOf (without_pings x.now) found }
+    ensures { IsFirstFail tested (without_pings x.now) result }
 {
     if is_not_frames(x) {
         return Some(FailWhy::NotFrames);
@@ -41,7 +41,7 @@ pub(super) fn first_fail(tested: Role, x: &Evidence, found: Findings) -> Option<
 
 /// Whether what was got is not whole frames.
 fn is_not_frames(x: &Evidence) -> bool
-    ensures { IsTrue result ↔ IsNotFrames x.now }
+    ensures { IsTrue result ↔ IsNotFrames (without_pings x.now) }
 {
     ends_with_fault(&x.got.ending)
         || (x.got.has_rest && (ends_with_close(&x.got.ending) || x.ended != Ended::Broken))
@@ -50,8 +50,8 @@ fn is_not_frames(x: &Evidence) -> bool
 /// Whether a message, a pong or the close was got before what it answers was sent, and the close doesn't answer what
 /// was doomed by then.
 fn is_early(x: &Evidence, found: Findings) -> bool
-    requires { AreFindingsOf x.now found }
-    ensures { IsTrue result ↔ IsEarly x.now }
+    requires { AreFindingsOf (without_pings x.now) found }
+    ensures { IsTrue result ↔ IsEarly (without_pings x.now) }
 {
     found.has_early_message
         || found.has_early_pong
@@ -70,16 +70,16 @@ fn is_early_close(got: &Option<InTurn<Ending>>, due: &Option<InTurn<Ending>>) ->
 
 /// Whether the messages that were got aren't those that are due, or after a fault aren't a beginning of them.
 fn has_other_messages(x: &Evidence, found: Findings) -> bool
-    requires { AreFindingsOf x.now found }
-    ensures { IsTrue result ↔ HasOtherMessages x.now }
+    requires { AreFindingsOf (without_pings x.now) found }
+    ensures { IsTrue result ↔ HasOtherMessages (without_pings x.now) }
 {
     !found.begins || (!ends_with_fault(&x.due.ending) && found.is_short_of_messages)
 }
 
 /// Whether a pong that was got has no match, or the last pong that is due isn't there.
 fn has_other_pongs(x: &Evidence, found: Findings) -> bool
-    requires { AreFindingsOf x.now found }
-    ensures { IsTrue result ↔ HasOtherPongs x.now }
+    requires { AreFindingsOf (without_pings x.now) found }
+    ensures { IsTrue result ↔ HasOtherPongs (without_pings x.now) }
 {
     found.has_unmatched_pong
         || (!ends_with_fault(&x.due.ending) && found.owes_pongs && !found.has_last_pong)
@@ -87,7 +87,7 @@ fn has_other_pongs(x: &Evidence, found: Findings) -> bool
 
 /// Whether a close is due and none was got, or one was got without a cause.
 fn has_other_close(x: &Evidence) -> bool
-    ensures { IsTrue result ↔ HasOtherClose x.now }
+    ensures { IsTrue result ↔ HasOtherClose (without_pings x.now) }
 {
     if ends_with_close(&x.due.ending) {
         !ends_with_close(&x.got.ending)
@@ -99,7 +99,7 @@ fn has_other_close(x: &Evidence) -> bool
 /// Whether the connection ended otherwise than the close or the fault, or the want of both, asks. After a close or a
 /// fault a server ends it, and a client at least sends its close.
 fn has_other_end(tested: Role, x: &Evidence) -> bool
-    ensures { IsTrue result ↔ HasOtherEnd tested x.now }
+    ensures { IsTrue result ↔ HasOtherEnd tested (without_pings x.now) }
 {
     if x.due.ending.is_none() {
         x.ended != Ended::Tester

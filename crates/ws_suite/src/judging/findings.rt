@@ -2,7 +2,7 @@
 //! came of it.
 
 ghost use Rattle.std.specs.Prelude.{IfOk};
-ghost use Rattle.ws_suite.specs.InnerJudging.{AreFindingsOf};
+ghost use Rattle.ws_suite.specs.InnerJudging.{AreFindingsOf, without_pings};
 
 use crate::evidence::Evidence;
 use crate::judging::pongs::{has_last_pong, match_pongs};
@@ -35,7 +35,7 @@ pub(crate) struct Findings {
 
 /// What is found in the evidence.
 pub(super) fn findings_of(alloc: Global, x: &Evidence) -> Result<Findings, NoMemory>
-    ensures { IfOk result (λ found. AreFindingsOf x.now found) }
+    ensures { IfOk result (λ found. AreFindingsOf (without_pings x.now) found) }
 {
     let lists = lists_of(alloc, x)?;
     let matched = match_pongs(alloc, &lists.due_pongs, &lists.got_pongs)?;
@@ -48,6 +48,6 @@ pub(super) fn findings_of(alloc: Global, x: &Evidence) -> Result<Findings, NoMem
         is_short_of_pongs: lists.got_pongs.len() < lists.due_pongs.len(),
         owes_pongs: !lists.due_pongs.is_empty(),
         has_last_pong: has_last_pong(&lists.due_pongs, &lists.got_pongs),
-        keeps_order: are_left(x.got.replies.as_slice(), x.due.replies.as_slice()),
+        keeps_order: are_left(&lists.got, x.due.replies.as_slice()),
     })
 }

@@ -1,7 +1,7 @@
 //! The six Looses, in their order.
 
 ghost use Rattle.std.specs.Prelude.{◌≡◌, ◌↔◌, IsTrue};
-ghost use Rattle.ws_suite.specs.InnerJudging.{AreFindingsOf, IsFirstLoose};
+ghost use Rattle.ws_suite.specs.InnerJudging.{AreFindingsOf, IsFirstLoose, without_pings};
 ghost use Rattle.ws_suite.specs.Matching.{IsCodeFor};
 ghost use Rattle.ws_suite.specs.Verdicts.{EchoesShort, EndsLate, HasOtherCode, IsCloseInTurn, SkipsPongs};
 
@@ -13,8 +13,8 @@ use ws_wire::Role;
 
 /// The lowest Loose that applies.
 pub(super) fn first_loose(tested: Role, x: &Evidence, found: Findings) -> Option<LooseWhy>
-    requires { AreFindingsOf x.now found }
-    ensures { IsFirstLoose tested x.now result }
+    requires { AreFindingsOf (without_pings x.now) found }
+    ensures { IsFirstLoose tested (without_pings x.now) result }
 {
     if skips_pongs(x, found) {
         return Some(LooseWhy::PongsSkipped);
@@ -39,15 +39,15 @@ pub(super) fn first_loose(tested: Role, x: &Evidence, found: Findings) -> Option
 
 /// Whether there are fewer pongs than are due, and the last one is there.
 fn skips_pongs(x: &Evidence, found: Findings) -> bool
-    requires { AreFindingsOf x.now found }
-    ensures { IsTrue result ↔ SkipsPongs x.now }
+    requires { AreFindingsOf (without_pings x.now) found }
+    ensures { IsTrue result ↔ SkipsPongs (without_pings x.now) }
 {
     found.is_short_of_pongs && found.has_last_pong
 }
 
 /// Whether a close was got with another code than is due or right.
 fn has_other_code(x: &Evidence) -> bool
-    ensures { IsTrue result ↔ HasOtherCode x.now }
+    ensures { IsTrue result ↔ HasOtherCode (without_pings x.now) }
 {
     match (&x.got.ending, &x.due.ending) {
         (Some(got), Some(due)) => match got.what {
@@ -73,7 +73,7 @@ fn is_code_for(ending: &Ending, code: Option<u16>) -> bool
 /// Whether the close or the fault that was sent stands in a turn before the last. Of a client that answered it by a
 /// close in its turn no more is asked.
 fn ends_late(tested: Role, x: &Evidence) -> bool
-    ensures { IsTrue result ↔ EndsLate tested x.now }
+    ensures { IsTrue result ↔ EndsLate tested (without_pings x.now) }
 {
     match &x.due.ending {
         Some(due) => {
@@ -97,8 +97,8 @@ fn is_close_in_turn(got: &Option<InTurn<Ending>>, turn: usize) -> bool
 
 /// Whether after a fault there are fewer messages than are due, or fewer pongs and not the last.
 fn echoes_short(x: &Evidence, found: Findings) -> bool
-    requires { AreFindingsOf x.now found }
-    ensures { IsTrue result ↔ EchoesShort x.now }
+    requires { AreFindingsOf (without_pings x.now) found }
+    ensures { IsTrue result ↔ EchoesShort (without_pings x.now) }
 {
     if !ends_with_fault(&x.due.ending) {
         return false;

@@ -157,7 +157,7 @@ fn payload(reply: &Reply) -> &[u8]
 {
     match reply {
         Reply::Message(message) => message.payload.as_slice(),
-        Reply::Pong(payload) => payload.as_slice(),
+        Reply::Pong(payload) | Reply::Ping(payload) => payload.as_slice(),
     }
 }
 

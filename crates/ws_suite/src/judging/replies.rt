@@ -2,13 +2,13 @@
 
 ghost use Rattle.std.specs.Prelude.{◌≡◌, ◌↔◌, ◌∷◌, List, IfOk, IsTrue};
 ghost use Rattle.ws_suite.specs.declared.evidence.Reply.{Reply};
-ghost use Rattle.ws_suite.specs.InnerJudging.{AreListsOf, targets};
+ghost use Rattle.ws_suite.specs.InnerJudging.{AreListsOf, answers_among, targets, without_pings};
 ghost use Rattle.std.specs.List.{list_any, zip};
 ghost use Rattle.ws_suite.specs.Matching.{IsBeginningOf, IsWithSomeLeftOut, bare};
 ghost use Rattle.ws_suite.specs.Matching.{message_replies, pong_replies};
 ghost use Rattle.ws_suite.specs.Verdicts.{is_before};
 
-use crate::evidence::{Evidence, InTurn, Reply, are_same, is_message};
+use crate::evidence::{Evidence, InTurn, Reply, are_same, is_message, is_pong};
 use std::alloc::Global;
 use ws_base::NoMemory;
 
@@ -19,21 +19,25 @@ pub(crate) struct Lists<'a> {
     pub got_messages: Vec<&'a InTurn<Reply>>,
     pub due_pongs: Vec<&'a InTurn<Reply>>,
     pub got_pongs: Vec<&'a InTurn<Reply>>,
+    /// The messages and the pongs that were got, in their common order.
+    pub got: Vec<&'a InTurn<Reply>>,
 }
 
 /// The lists of both directions.
 pub(super) fn lists_of<'a>(alloc: Global, evidence: &'a Evidence) -> Result<Lists<'a>, NoMemory>
-    ensures { IfOk result (λ lists. AreListsOf evidence.entry.now lists) }
+    ensures { IfOk result (λ lists. AreListsOf (without_pings evidence.entry.now) lists) }
 {
     let due_messages = messages(alloc, evidence.due.replies.as_slice())?;
     let got_messages = messages(alloc, evidence.got.replies.as_slice())?;
     let due_pongs = pongs(alloc, evidence.due.replies.as_slice())?;
     let got_pongs = pongs(alloc, evidence.got.replies.as_slice())?;
+    let got = answers(alloc, evidence.got.replies.as_slice())?;
     Ok(Lists {
         due_messages,
         got_messages,
         due_pongs,
         got_pongs,
+        got,
     })
 }
 
@@ -62,7 +66,23 @@ fn pongs<'a>(
 {
     let mut found = Vec::new(alloc);
     for reply in replies {
-        if !is_message(&reply.what) {
+        if is_pong(&reply.what) {
+            found.push(reply)?;
+        }
+    }
+    Ok(found)
+}
+
+/// The messages and the pongs among replies, in order.
+fn answers<'a>(
+    alloc: Global,
+    replies: &'a [InTurn<Reply>],
+) -> Result<Vec<&'a InTurn<Reply>>, NoMemory>
+    ensures { IfOk result (λ found. targets found.items ≡ answers_among replies.entry.now) }
+{
+    let mut found = Vec::new(alloc);
+    for reply in replies {
+        if is_message(&reply.what) || is_pong(&reply.what) {
             found.push(reply)?;
         }
     }
@@ -87,8 +107,8 @@ pub(super) fn begins(front: &[&InTurn<Reply>], all: &[&InTurn<Reply>]) -> bool
 }
 
 /// Whether the first replies are the others with some left out, without their turns. Both lists are walked once.
-pub(super) fn are_left(some: &[InTurn<Reply>], all: &[InTurn<Reply>]) -> bool
-    ensures { IsTrue result ↔ IsWithSomeLeftOut (bare some.now) (bare all.now) }
+pub(super) fn are_left(some: &[&InTurn<Reply>], all: &[InTurn<Reply>]) -> bool
+    ensures { IsTrue result ↔ IsWithSomeLeftOut (bare (targets some.now)) (bare all.now) }
 {
     let mut left = some;
     for reply in all {
@@ -98,9 +118,9 @@ pub(super) fn are_left(some: &[InTurn<Reply>], all: &[InTurn<Reply>]) -> bool
 }
 
 /// The replies without the first, where that is this one.
-fn without<'a>(left: &'a [InTurn<Reply>], reply: &InTurn<Reply>) -> &'a [InTurn<Reply>]
-    ensures { (all : List Reply) →
-        IsWithSomeLeftOut (bare left.entry.now) (reply.now.what ∷ all) ↔ IsWithSomeLeftOut (bare result.now) all }
+fn without<'a, 'b>(left: &'a [&'b InTurn<Reply>], reply: &InTurn<Reply>) -> &'a [&'b InTurn<Reply>]
+    ensures { (all : List Reply) → IsWithSomeLeftOut (bare (targets left.entry.now)) (reply.now.what ∷ all)
+        ↔ IsWithSomeLeftOut (bare (targets result.now)) all }
 {
     if let [first, others @ ..] = left {
         if are_same(&first.what, &reply.what) {

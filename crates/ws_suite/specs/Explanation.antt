@@ -1,0 +1,50 @@
+-- Why a verdict is told: what was owed and what came, by the evidence that the verdict is made of.
+use Rattle.std.specs.Prelude.{◌≡◌, ℕ, ◌+◌, ◌≤◌, true, List, [], ◌∷◌, length, take, Option, Some, None}
+use Rattle.ws_wire.specs.declared.role.Role.{Role}
+use Rattle.ws_session.specs.declared.event.Event.{Event}
+use Rattle.ws_session.specs.declared.event.Event.TheVariants as event
+use Rattle.ws_scripts.specs.declared.transcript.Transcript.{Transcript}
+use Rattle.ws_suite.specs.declared.evidence.Reply.{Reply}
+use Rattle.ws_suite.specs.declared.evidence.Reply.TheVariants as reply
+use Rattle.ws_suite.specs.declared.evidence.Direction.{Direction}
+use Rattle.ws_suite.specs.declared.evidence.Evidence.{Evidence}
+use Rattle.ws_suite.specs.declared.explaining.Explanation.{Explanation}
+use Rattle.ws_suite.specs.Evidence.{IsDirectionOf, IsEvidenceOf, got_turns, other_role}
+use Rattle.ws_suite.specs.Doom.{HasDoomCounted}
+use Rattle.ws_suite.specs.Matching.{ends_with_close}
+use Rattle.ws_suite.specs.Verdicts.{IsVerdictOn}
+
+-- what came: messages, pings and pongs; a part of a message isn't told
+abbrev pub told_in : Event → List Reply
+told_in event.Part = []
+told_in (event.Message message) = reply.Message message ∷ []
+told_in (event.Ping payload) = reply.Ping payload ∷ []
+told_in (event.Pong payload) = reply.Pong payload ∷ []
+told_in (event.Close close) = []
+told_in (event.Failed reason) = []
+
+-- by the bytes of the first turns, so many, a close came, and bytes follow it
+abbrev pub GoesOnBy : Role → (Event → List Reply) → List (List ℕ) → ℕ → Type 0
+GoesOnBy role found turns count = (direction : Direction) × IsDirectionOf role found (take count turns) direction
+    × (ends_with_close direction.ending ≡ true) × (direction.has_rest ≡ true)
+
+-- where bytes follow the close that came, by the first turns, so many: in the turn of the first of them; or nowhere
+abbrev pub IsBeyondBy : Role → (Event → List Reply) → List (List ℕ) → ℕ → Option ℕ → Type 0
+IsBeyondBy role found turns most None = (count : ℕ) → count ≤ most → ¬ (GoesOnBy role found turns count)
+IsBeyondBy role found turns most (Some turn) =
+    GoesOnBy role found turns (turn + 1) × ((count : ℕ) → count ≤ turn → ¬ (GoesOnBy role found turns count))
+
+-- The verdict on a transcript, and why it is told. What was owed is what the verdict counts as due: the replies in the
+-- order of the events that were sent, each with the turn of its cause, and the close or the fault, as it counts. What
+-- came are the events that were got, in their order, and whether bytes follow the close among them.
+pub record IsExplanationOf (tested : Role) (transcript : Transcript) (x : Explanation) : Type 0 where
+  pub evidence : Evidence
+  pub is_evidence : IsEvidenceOf tested transcript evidence
+  pub counted : Evidence
+  pub is_counted : HasDoomCounted tested transcript evidence counted
+  pub is_verdict : IsVerdictOn tested counted x.verdict
+  pub due : x.due ≡ counted.due
+  pub got : IsDirectionOf (other_role tested) told_in (got_turns transcript.turns) x.got
+  pub beyond : IsBeyondBy (other_role tested) told_in (got_turns transcript.turns) (length transcript.turns) x.beyond
+  pub turns : x.turns ≡ counted.turns
+  pub ended : x.ended ≡ counted.ended
