@@ -1,0 +1,2 @@
+pub mod TurnLines
+pub mod Telling
