@@ -43,8 +43,8 @@ HasRoomForGot count told = (tested : Role) × (turns : List Turn) × (written : 
     × HasToldTurns tested told turns written × (length (bytes_in (got_by_tester tested) turns) + count < 2 ^ 64)
 
 -- some turns were told
-abbrev pub CanEnd : TranscriptLines → Type 0
-CanEnd told = (tested : Role) × (turns : List Turn) × (written : List ℕ) × HasToldTurns tested told turns written
+abbrev pub CanEndLines : TranscriptLines → Type 0
+CanEndLines told = (tested : Role) × (turns : List Turn) × (written : List ℕ) × HasToldTurns tested told turns written
 
 -- a beginning of the lines of these turns, which may go on
 pub record BeginsTurns (tested : Role) (turns : List Turn) (front : List ℕ) : Type 0 where

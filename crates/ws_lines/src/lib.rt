@@ -8,8 +8,10 @@
 
 pub mod laws;
 mod line_bytes;
+mod places;
 mod showing;
 mod transcript_lines;
 
+pub use places::fits_places;
 pub use showing::show_transcript;
 pub use transcript_lines::TranscriptLines;

@@ -5,7 +5,7 @@ ghost use Rattle.ws_frame.specs.Watching.{has_failed};
 ghost use Rattle.ws_frame.specs.Devices.{watched};
 ghost use Rattle.ws_wire.specs.declared.role.Role.{Role};
 ghost use Rattle.ws_lines.specs.TurnLines.{end_line, tester_of};
-ghost use Rattle.ws_lines.specs.Telling.{HasToldTurns, HasRoomForTurn, HasRoomForGot, CanEnd};
+ghost use Rattle.ws_lines.specs.Telling.{HasToldTurns, HasRoomForTurn, HasRoomForGot, CanEndLines};
 ghost use Rattle.ws_lines.specs.Telling.{TellsTurn, TellsGot, TellsEnd};
 
 use crate::line_bytes::LineBytes;
@@ -74,7 +74,7 @@ impl TranscriptLines {
     /// written.
     pub fn end<W: Write>(&mut self, writer: &mut Watched<W>, ended: Ended) -> Result<(), WriteFault>
         requires writer_works { has_failed writer.old ≡ false }
-        requires going { CanEnd self.old }
+        requires going { CanEndLines self.old }
         ensures told { TellsEnd self.old ended (watched W.contents writer.old writer.new) result }
     {
         self.sent.end(writer)?;
