@@ -1,0 +1,5 @@
+mod Directions
+mod Texts
+mod Tellings
+mod Wholes
+mod Alone

@@ -1,0 +1,3 @@
+pub mod TurnLines
+pub mod Telling
+pub mod Examples
