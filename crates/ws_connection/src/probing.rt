@@ -21,7 +21,7 @@ use std::alloc::Global;
 use std::io::Read;
 use ws_base::{NoMemory, Payload, Sequence};
 use ws_suite::{Case, turns};
-use ws_upgrade::{Host, Offers, Path, request_of};
+use ws_upgrade::{AddedHeaders, Host, Offers, Path, request_of};
 
 /// The nonce of each probe, 16 bytes: always the same, so that captures are repeatable.
 pub const NONCE: [u8; 16] = *b"the sample nonce";
@@ -79,7 +79,8 @@ fn request_text(alloc: Global, host: &[u8], offers: &[&[u8]]) -> Result<Vec<u8>,
     ensures { IfOk result (λ text. text.items ≡ request_to host.now (map (λ name. name.now) offers.now)) }
 {
     let (host, offers) = (Host::proved(host), Offers::proved(offers));
-    let text = request_of(alloc, &host, &Path::root(), NONCE, &offers)?;
+    let added = AddedHeaders::none();
+    let text = request_of(alloc, &host, &Path::root(), NONCE, &offers, &added)?;
     Ok(text)
 }
 
