@@ -71,7 +71,7 @@ begins with `x`: these are listed. What no case has is `no such case: ID`.
 The text of a script is lines, each ended by LF, their words parted by one space:
 
   # ANYTHING    a comment; an empty line is nothing too
-  chop CUT      `whole`, `frames` or `octets N`: the pieces of a turn; the first line, else whole
+  chop CUT      `whole`, `frames` or `octets N`: how turns are cut; before all but comments
   wait          the turn ends
   raw DATA      these bytes
   KIND [fin=0|1] [rsv=0..7] [key=KEY [form=FORM]] DATA       a frame; rsv is 4*RSV1 + 2*RSV2 + RSV3
