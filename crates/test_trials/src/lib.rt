@@ -47,6 +47,8 @@ mod sockets;
 #[cfg(test)]
 mod stopping;
 #[cfg(test)]
+mod turn_lines;
+#[cfg(test)]
 mod watches;
 #[cfg(test)]
 mod writes;

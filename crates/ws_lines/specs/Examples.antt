@@ -9,7 +9,7 @@ use Rattle.ws_wire.proofs.Headers.{too_short_for_header}
 use Rattle.ws_wire.proofs.Frames.{no_wire_without_header}
 use Rattle.ws_frame.specs.declared.source.Source.{Source}
 use Rattle.ws_frame.specs.declared.showing.StreamEnd.TheVariants.{Whole, CutAt}
-use Rattle.ws_frame.specs.Lines.{AreCertainLines, AreLinesOf}
+use Rattle.ws_frame.specs.Lines.{AreCertainLines}
 use Rattle.ws_frame.proofs.Fronts.{no_bad_without_header}
 use Rattle.ws_scripts.specs.declared.transcript.Turn.{Turn}
 use Rattle.ws_scripts.specs.declared.transcript.Ended.TheVariants.{Broken}

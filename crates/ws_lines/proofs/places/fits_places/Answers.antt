@@ -1,4 +1,4 @@
-use Rattle.std.proofs.Common.{arith, ◌∙◌, ◌≡◌, ◌<◌, ◌^◌, ◌+◌, List, ℕ, length, take, take_all, ap, sym, subst}
+use Rattle.std.proofs.Common.{arith, ◌∙◌, ◌<◌, ◌^◌, List, length, take_all, ap, sym, subst}
 use Rattle.std.specs.List.{flat_map}
 use Rattle.ws_scripts.specs.declared.transcript.Turn.{Turn}
 use Rattle.ws_lines.proofs.Wholes.{places_fit}
