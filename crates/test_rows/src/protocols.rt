@@ -36,11 +36,17 @@ pub fn make_request_for(alloc: Global, words: &[&str], out: &mut String) -> Resu
     let (host, path) = (bytes_of(alloc, host)?, bytes_of(alloc, path)?);
     let nonce = nonce_of(alloc, nonce)?;
     let offer = bytes_of(alloc, offer)?;
-    let offer = [offer.as_slice()];
-    let offers = if offer[0].is_empty() { &offer[..0] } else { &offer[..] };
+    let offers = offers_of(alloc, offer.as_slice())?;
     let parts = pieces_of(alloc, parts)?;
     let headers = headers_of(alloc, &parts)?;
-    match request_for(alloc, host.as_slice(), path.as_slice(), nonce, offers, &headers) {
+    match request_for(
+        alloc,
+        host.as_slice(),
+        path.as_slice(),
+        nonce,
+        &offers,
+        &headers,
+    ) {
         Ok(text) => write!(out, "{}", Hex(text.as_slice()))?,
         Err(fault) => write!(out, "refused {fault}")?,
     }
@@ -50,15 +56,25 @@ pub fn make_request_for(alloc: Global, words: &[&str], out: &mut String) -> Resu
 /// The headers whose names and values these are by turns.
 fn headers_of(alloc: Global, parts: &[Vec<u8>]) -> Result<Vec<AddedHeader<'_>>, RowFault> {
     let mut headers = Vec::new(alloc);
-    let mut rest = parts;
-    while let [name, value, others @ ..] = rest {
+    for pair in parts.chunks(2) {
+        let [name, value] = pair else {
+            return Err(RowFault::NotARow);
+        };
         headers.push(AddedHeader {
             name: name.as_slice(),
             value: value.as_slice(),
         })?;
-        rest = others;
     }
     Ok(headers)
+}
+
+/// The list of one offer, or of none where it has no byte.
+fn offers_of(alloc: Global, offer: &[u8]) -> Result<Vec<&[u8]>, RowFault> {
+    let mut offers = Vec::new(alloc);
+    if !offer.is_empty() {
+        offers.push(offer)?;
+    }
+    Ok(offers)
 }
 
 /// `response_with ACCEPT`, and `response_with ACCEPT NAME`: the text, or why there is none.
