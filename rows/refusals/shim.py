@@ -1,4 +1,4 @@
-"""The shim that refuses a request for memory of a program that is started with it."""
+"""The shims of programs that are started with them: one refuses a request for memory, one counts what is asked for."""
 
 import os
 import subprocess
@@ -7,7 +7,7 @@ from pathlib import Path
 
 from runner.results import shown
 
-SOURCE = Path("rows/refusals/refuse.c")
+SOURCES = Path("rows/refusals")
 
 
 @dataclass
@@ -21,12 +21,12 @@ class Ended:
         return f"status {self.status}, {shown(self.text)}"
 
 
-def build_shim(folder):
-    """Compiles the shim with the compiler of the kit, and gives its path."""
+def build_shim(folder, name):
+    """Compiles the shim of this name with the compiler of the kit, and gives its path."""
     page = subprocess.run(["rt", "doc"], capture_output=True, text=True, check=True).stdout.strip()
     clang = Path(page).parent / "toolchain/bin/clang"
-    shim = str(Path(folder) / "refuse.so")
-    subprocess.run([clang, "-shared", "-fPIC", "-O2", "-o", shim, SOURCE], check=True)
+    shim = str(Path(folder) / f"{name}.so")
+    subprocess.run([clang, "-shared", "-fPIC", "-O2", "-o", shim, SOURCES / f"{name}.c"], check=True)
     return shim
 
 

@@ -11,6 +11,7 @@ mod feeding;
 mod pairs;
 mod parts;
 mod peers;
+mod rooms;
 mod script_texts;
 mod scripts;
 mod sending;

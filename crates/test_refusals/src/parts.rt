@@ -4,7 +4,7 @@ use crate::captures::{self, Capture};
 use crate::pairs::{self, Script};
 use crate::streams::{self, Stream};
 use crate::tally::Tally;
-use crate::{feeding, peers, script_texts, scripts, sending, spent, taking};
+use crate::{feeding, peers, rooms, script_texts, scripts, sending, spent, taking};
 use std::alloc::Global;
 use ws_base::NoMemory;
 
@@ -35,9 +35,11 @@ pub enum Part {
     EchoFeed,
     /// `feed` and `finish` of `tungstenite`.
     TungFeed,
+    /// What a session asks for, which is counted from outside.
+    Rooms,
 }
 
-pub const PARTS: [Part; 29] = [
+pub const PARTS: [Part; 30] = [
     Part::Take(&streams::HELLO),
     Part::Take(&streams::CUT_TEXT),
     Part::Take(&streams::OVERSIZED),
@@ -67,6 +69,7 @@ pub const PARTS: [Part; 29] = [
     Part::TungRun,
     Part::EchoFeed,
     Part::TungFeed,
+    Part::Rooms,
 ];
 
 impl Part {
@@ -85,6 +88,7 @@ impl Part {
             Part::TungRun => "run_case over tungstenite",
             Part::EchoFeed => "feed and finish of an echo",
             Part::TungFeed => "feed and finish of tungstenite",
+            Part::Rooms => "what a session asks for",
         }
     }
 
@@ -117,6 +121,7 @@ impl Part {
             Part::TungRun => peers::run_over_tungstenite(alloc, tally),
             Part::EchoFeed => spent::feed_echo(alloc, tally),
             Part::TungFeed => spent::feed_tungstenite(alloc, tally),
+            Part::Rooms => rooms::play(alloc),
         }
     }
 }
