@@ -1,0 +1,4 @@
+pub mod Places
+pub mod Targets
+pub mod Reading
+pub mod Examples
