@@ -16,6 +16,20 @@ FIRST_OF_5_11 = b"\x80"
 # The length of the ping of the case 2.6, which is sent byte by byte: a header of six bytes, and 125.
 PING_OF_2_6 = 131
 
+# An empty binary message, where an empty text is due, and what is told of it.
+EMPTY_BINARY = b"\x82\x00"
+EXPLAINED = """1.1.1 PASS
+1.1.1 FAIL Messages
+  due 1 text -
+  due 2 close 1000
+  got 1 binary -
+  got 2 close 1000
+  end peer 2
+  rule Each message is sent back, of the same kind and payload (RFC 6455 sections 5.4 and 5.6), in order; up to a fault, \
+those of a beginning (ours)
+1 pass, 0 loose, 1 fail
+"""
+
 LARGE = b"HTTP/1.1 101 Switching Protocols\r\nX: " + b"a" * 9000
 
 
@@ -128,6 +142,21 @@ def garbage_for_a_head():
         client = server.next()
         client.send(answer)
         server.ends(f"1.1.1 FAIL Head {name}\n0 pass, 0 loose, 1 fail\n", status=1)
+
+
+def explained():
+    """Below the line of a server that sends a text back as binary stands why it fails, and nothing below a pass."""
+    server = Tested("--explain", "1.1.1", "1.1.1")
+    passes(server)
+    client = server.next()
+    client.send(RESPONSE)
+    sent = request_to(server.address) + EMPTY_TEXT
+    assert client.get(len(sent)) == sent
+    client.send(EMPTY_BINARY)
+    assert client.get(len(MASKED_CLOSE)) == MASKED_CLOSE
+    client.send(CLOSE_BACK)
+    client.close()
+    server.ends(EXPLAINED, status=1)
 
 
 def never_answers():
@@ -326,6 +355,7 @@ TESTS = [
     fails_at_the_first_byte,
     unlawful_and_waits,
     garbage_for_a_head,
+    explained,
     never_answers,
     silent_in_the_head,
     silent_behind_the_head,

@@ -1,2 +1,4 @@
 pub mod CaseLemmas
 pub mod Delivering
+pub mod LastGot
+pub mod Explained

@@ -1,5 +1,5 @@
 -- A run of `judge`: a capture is read whole and judged, and the verdict is written.
-use Rattle.std.specs.Prelude.{◌≡◌, ◌⊎◌, ℕ, List, ◌++◌, Result, Err, MatchResult, codes}
+use Rattle.std.specs.Prelude.{◌≡◌, ◌⊎◌, ℕ, Bool, List, ◌++◌, Result, Err, MatchResult, codes}
 use Rattle.ws_wire.specs.declared.role.Role.TheVariants.{Server}
 use Rattle.ws_frame.specs.Devices.{Device, IsUntouched}
 use Rattle.ws_scripts.specs.Captures.{DamagesCapture}
@@ -12,7 +12,9 @@ use Rattle.ws_scripts.specs.declared.capture.CaptureFault.TheVariants as capture
 use Rattle.ws_scripts.specs.declared.transcript.Transcript.{Transcript}
 use Rattle.ws_suite.specs.declared.verdict.Verdict.{Verdict}
 use Rattle.ws_suite.specs.declared.verdict.Verdict.TheVariants.{Fail, Loose, Pass}
+use Rattle.wst_words.specs.declared.judge.JudgeOptions.{JudgeOptions}
 use Rattle.wst_commands.specs.Devices.{Delivers}
+use Rattle.wst_commands.specs.Explaining.{StandsBelow}
 use Rattle.wst_commands.specs.ReadingWhole.{AnswersInput}
 use Rattle.wst_commands.specs.declared.exit.Exit.{Exit}
 use Rattle.wst_commands.specs.declared.exit.Exit.TheVariants.{Damaged, Done}
@@ -29,11 +31,13 @@ exit_of Pass = Done
 exit_of (Loose why) = Done
 exit_of (Fail why) = Damaged
 
--- the verdict on the transcript was written; or memory ran out, and nothing was written
-abbrev pub TellsVerdict : Transcript → Result Exit Fault → Device → Type 0
-TellsVerdict transcript ended output = MatchResult ended
-    (λ exit. (verdict : Verdict) × IsVerdictOf Server transcript verdict
-    × Delivers (exit_of verdict) (verdict_line verdict) exit output)
+-- the verdict on the transcript was written, and below it why it is told where that is asked for; or memory ran out, and
+-- nothing was written
+abbrev pub TellsVerdict : Bool → Transcript → Result Exit Fault → Device → Type 0
+TellsVerdict explains transcript ended output = MatchResult ended
+    (λ exit. (verdict : Verdict) × (below : List ℕ) × IsVerdictOf Server transcript verdict
+    × StandsBelow explains Server transcript verdict below
+    × Delivers (exit_of verdict) (verdict_line verdict ++ below) exit output)
     (λ fault. (fault ≡ NoMemory) × IsUntouched output)
 
 -- what is told of a text that is no capture
@@ -43,12 +47,12 @@ capture_fault capture.NoMemory = NoMemory
 
 -- what is done with a text: as a capture, in either format, it is judged; else nothing is written, and what is wrong is
 -- told
-abbrev pub AnswersCapture : List ℕ → Result Exit Fault → Device → Type 0
-AnswersCapture text ended output =
-    ((capture : Capture) × IsAnyCaptureOf capture text × TellsVerdict capture.transcript ended output)
+abbrev pub AnswersCapture : Bool → List ℕ → Result Exit Fault → Device → Type 0
+AnswersCapture explains text ended output =
+    ((capture : Capture) × IsAnyCaptureOf capture text × TellsVerdict explains capture.transcript ended output)
     ⊎ ((fault : CaptureFault) × DamagesCapture IsAnyCaptureOf fault text × (ended ≡ Err (capture_fault fault))
     × IsUntouched output)
 
 -- a run of `judge`
-abbrev pub RunsJudge : Result Exit Fault → Device → Device → Type 0
-RunsJudge ended input output = AnswersInput AnswersCapture ended input output
+abbrev pub RunsJudge : JudgeOptions → Result Exit Fault → Device → Device → Type 0
+RunsJudge options ended input output = AnswersInput (AnswersCapture options.explain) ended input output

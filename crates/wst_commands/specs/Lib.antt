@@ -4,6 +4,7 @@ pub mod Faults
 pub mod Limits
 pub mod TimeLimits
 pub mod ReadingWhole
+pub mod Explaining
 pub mod Show
 pub mod Head
 pub mod Pairs
@@ -12,3 +13,4 @@ pub mod Judge
 pub mod Convert
 pub mod GivenCases
 pub mod Cases
+pub mod InnerExplaining

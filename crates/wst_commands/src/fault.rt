@@ -35,6 +35,10 @@ pub enum Fault {
     BadProtocols,
     /// No number of seconds that can be waited for.
     BadTimeout,
+    /// An option of a stream is given with a capture.
+    StreamWithCapture,
+    /// The tested end is named without a capture.
+    RoleWithoutCapture,
     /// The input ends inside a head, or is empty.
     HeadIsCut,
     /// The first line that is damaged in a script of moves, counted from 1.
@@ -97,6 +101,14 @@ pub fn tell_fault<F: Write>(alloc: Global, fault: Fault, faults: &mut Watched<F>
         }
         Fault::BadTimeout => {
             tell(b"bad timeout\n", faults);
+            Exit::WrongWords
+        }
+        Fault::StreamWithCapture => {
+            tell(b"--capture takes no --from or --budget\n", faults);
+            Exit::WrongWords
+        }
+        Fault::RoleWithoutCapture => {
+            tell(b"--role takes --capture\n", faults);
             Exit::WrongWords
         }
         Fault::HeadIsCut => {

@@ -6,39 +6,49 @@ ghost use Rattle.ws_frame.specs.Watching.{has_failed};
 ghost use Rattle.wst_commands.specs.Judge.{AnswersCapture, RunsJudge, TellsVerdict, capture_fault, exit_of};
 
 use crate::exit::Exit;
+use crate::explaining::judgement_of;
 use crate::fault::Fault;
 use crate::reading_whole::{ReadStop, read_whole};
 use crate::telling::deliver;
 use std::alloc::Global;
 use std::io::{Read, Write};
 use ws_frame::Watched;
-use ws_suite::{CaptureFault, Transcript, Verdict, judge, read_capture2};
+use ws_suite::{CaptureFault, Transcript, Verdict, read_capture2};
+use ws_wire::Role;
+use wst_words::JudgeOptions;
 
-/// Judges the capture that the reader gives, in either format, and writes the verdict.
+/// Judges the capture that the reader gives, in either format, and writes the verdict, and below it why it is told where
+/// that is asked for.
 pub fn run_judge<R: Read, W: Write>(
     alloc: Global,
+    options: JudgeOptions,
     reader: &mut Watched<R>,
     writer: &mut Watched<W>,
 ) -> Result<Exit, Fault>
     requires reader_works { has_failed reader.old ≡ false }
     requires writer_works { has_failed writer.old ≡ false }
-    ensures { RunsJudge result (watched R.remaining reader.old reader.new)
+    ensures { RunsJudge options result (watched R.remaining reader.old reader.new)
         (watched W.contents writer.old writer.new) }
 {
     match read_whole(alloc, reader) {
-        Ok(text) => answer(alloc, text.as_slice(), writer),
+        Ok(text) => answer(alloc, options.explain, text.as_slice(), writer),
         Err(ReadStop::Fault) => Ok(Exit::Failed),
         Err(ReadStop::NoMemory) => Err(Fault::NoMemory),
     }
 }
 
 /// Judges a capture, and writes the verdict. A text that is no capture is damaged.
-fn answer<W: Write>(alloc: Global, text: &[u8], writer: &mut Watched<W>) -> Result<Exit, Fault>
+fn answer<W: Write>(
+    alloc: Global,
+    explains: bool,
+    text: &[u8],
+    writer: &mut Watched<W>,
+) -> Result<Exit, Fault>
     requires { has_failed writer.old ≡ false }
-    ensures { AnswersCapture text.now result (watched W.contents writer.old writer.new) }
+    ensures { AnswersCapture explains text.now result (watched W.contents writer.old writer.new) }
 {
     match read_capture2(alloc, text) {
-        Ok(capture) => tell_verdict(alloc, &capture.transcript, writer),
+        Ok(capture) => tell_verdict(alloc, explains, &capture.transcript, writer),
         Err(fault) => Err(fault_of(fault)),
     }
 }
@@ -53,20 +63,21 @@ pub fn fault_of(fault: CaptureFault) -> Fault
     }
 }
 
-/// Writes the verdict on a transcript in its line.
+/// Writes the verdict on a transcript in its line, and below it why it is told where that is asked for.
 fn tell_verdict<W: Write>(
     alloc: Global,
+    explains: bool,
     transcript: &Transcript,
     writer: &mut Watched<W>,
 ) -> Result<Exit, Fault>
     requires { has_failed writer.old ≡ false }
-    ensures { TellsVerdict transcript.now result (watched W.contents writer.old writer.new) }
+    ensures { TellsVerdict explains transcript.now result (watched W.contents writer.old writer.new) }
 {
-    let Ok(verdict) = judge(alloc, transcript) else {
+    let Ok(told) = judgement_of(alloc, explains, Role::Server, transcript) else {
         return Err(Fault::NoMemory);
     };
-    match format!(in alloc; "{verdict}\n") {
-        Ok(line) => Ok(deliver(exit_of(verdict), line.as_bytes(), writer)),
+    match format!(in alloc; "{}\n{}", told.verdict, told.below) {
+        Ok(lines) => Ok(deliver(exit_of(told.verdict), lines.as_bytes(), writer)),
         Err(_) => Err(Fault::NoMemory),
     }
 }

@@ -6,12 +6,14 @@
 //! its like): `run_show`, `run_moves` (of `pair`), `run_head`, `run_session`, `run_judge`, `run_convert`, `run_cases`;
 //! `cases_of`, `ids_for` and `is_glob`, which say for which cases words stand; `end_run`, `tell_fault` and
 //! `tell_no_cases`, which tell a fault; `deliver` and `tell`, which write a text; `limits_given`, `timeout_given`,
-//! `exit_of` and `Exit::status`.
+//! `judgement_of`, the verdict on a transcript and the lines below it; `exit_of` and `Exit::status`.
 #![tactic(auto)]
 
 mod cases;
 mod convert;
 mod exit;
+mod explaining;
+mod explanation_lines;
 mod fault;
 mod given_cases;
 mod head;
@@ -27,6 +29,7 @@ mod time_limit;
 pub use cases::run_cases;
 pub use convert::run_convert;
 pub use exit::Exit;
+pub use explaining::{Judgement, judgement_of};
 pub use fault::{Fault, ListenFault, end_run, tell_fault};
 pub use given_cases::{NoCases, cases_of, ids_for, is_glob, tell_no_cases};
 pub use head::run_head;

@@ -3,16 +3,36 @@
 ghost use Rattle.std.specs.Prelude.{◌≡◌, false};
 ghost use Rattle.ws_frame.specs.Devices.{watched};
 ghost use Rattle.ws_frame.specs.Watching.{has_failed};
-ghost use Rattle.wst_commands.specs.Show.{RunsShow, shown};
+ghost use Rattle.wst_commands.specs.Show.{AnswersShownCapture, RunsShow, ShowsCapture, ShowsStream, TellsLines};
+ghost use Rattle.wst_commands.specs.Show.{budget_of, show_plan, shown, shown_role};
 
 use crate::exit::Exit;
 use crate::fault::Fault;
+use crate::judge::fault_of;
+use crate::reading_whole::{ReadStop, read_whole};
+use std::alloc::Global;
 use std::io::{Read, Write};
 use ws_frame::{ShowEnd, Watched, show};
+use ws_lines::{fits_places, show_transcript};
+use ws_suite::{Transcript, read_capture2};
+use ws_wire::Role;
 use wst_words::ShowOptions;
 
-/// Shows the frames that the reader gives.
+/// At most so many bytes of a stream are read where it isn't told how many.
+const STREAM_BUDGET: u64 = 1_073_741_824;
+
+/// What is shown.
+#[derive(Clone, Copy)]
+pub(crate) enum ShowPlan {
+    /// A stream that this end sent, of which at most so many bytes are read.
+    Stream { from: Role, budget: u64 },
+    /// A capture whose tested end has this role.
+    Capture { tested: Role },
+}
+
+/// Shows the frames that the reader gives: those of a stream as they come, or those of a capture turn by turn.
 pub fn run_show<R: Read, W: Write>(
+    alloc: Global,
     options: ShowOptions,
     reader: &mut Watched<R>,
     writer: &mut Watched<W>,
@@ -22,11 +42,67 @@ pub fn run_show<R: Read, W: Write>(
     ensures { RunsShow options result (watched R.remaining reader.old reader.new)
         (watched W.contents writer.old writer.new) }
 {
-    let end = show(reader, writer, options.from, options.budget);
+    match plan_of(options) {
+        Err(fault) => Err(fault),
+        Ok(ShowPlan::Stream { from, budget }) => show_stream(from, budget, reader, writer),
+        Ok(ShowPlan::Capture { tested }) => show_capture(alloc, tested, reader, writer),
+    }
+}
+
+/// What the options ask for: an option of a stream doesn't go with a capture, nor one of a capture without it.
+fn plan_of(options: ShowOptions) -> Result<ShowPlan, Fault>
+    ensures { result ≡ show_plan options }
+{
+    match (options.capture, options.from, options.budget, options.role) {
+        (false, from, budget, None) => Ok(ShowPlan::Stream {
+            from: role_of(from),
+            budget: budget_of(budget),
+        }),
+        (false, _, _, Some(_)) => Err(Fault::RoleWithoutCapture),
+        (true, None, None, role) => Ok(ShowPlan::Capture {
+            tested: role_of(role),
+        }),
+        (true, Some(_), _, _) | (true, None, Some(_), _) => Err(Fault::StreamWithCapture),
+    }
+}
+
+/// The end that an option names, and the server where it is left out.
+fn role_of(role: Option<Role>) -> Role
+    ensures { result ≡ shown_role role }
+{
+    match role {
+        Some(role) => role,
+        None => Role::Server,
+    }
+}
+
+/// The budget that an option names, and ours where it is left out.
+fn budget_of(budget: Option<u64>) -> u64
+    ensures { result ≡ budget_of budget }
+{
+    match budget {
+        Some(budget) => budget,
+        None => STREAM_BUDGET,
+    }
+}
+
+/// Shows a stream that this end sent.
+fn show_stream<R: Read, W: Write>(
+    from: Role,
+    budget: u64,
+    reader: &mut Watched<R>,
+    writer: &mut Watched<W>,
+) -> Result<Exit, Fault>
+    requires reader_works { has_failed reader.old ≡ false }
+    requires writer_works { has_failed writer.old ≡ false }
+    ensures { ShowsStream from budget result (watched R.remaining reader.old reader.new)
+        (watched W.contents writer.old writer.new) }
+{
+    let end = show(reader, writer, from, budget);
     exit_of(end)
 }
 
-/// How a run of `show` ends.
+/// How a run over a stream ends.
 fn exit_of(end: ShowEnd) -> Result<Exit, Fault>
     ensures { result ≡ shown end }
 {
@@ -35,5 +111,59 @@ fn exit_of(end: ShowEnd) -> Result<Exit, Fault>
         ShowEnd::CutAt(_) | ShowEnd::BadLengthAt(_) => Ok(Exit::Damaged),
         ShowEnd::Budget | ShowEnd::ReadFault | ShowEnd::WriteFault => Ok(Exit::Failed),
         ShowEnd::NoMemory => Err(Fault::NoMemory),
+    }
+}
+
+/// Shows a capture whose tested end has this role.
+fn show_capture<R: Read, W: Write>(
+    alloc: Global,
+    tested: Role,
+    reader: &mut Watched<R>,
+    writer: &mut Watched<W>,
+) -> Result<Exit, Fault>
+    requires reader_works { has_failed reader.old ≡ false }
+    requires writer_works { has_failed writer.old ≡ false }
+    ensures { ShowsCapture tested result (watched R.remaining reader.old reader.new)
+        (watched W.contents writer.old writer.new) }
+{
+    match read_whole(alloc, reader) {
+        Ok(text) => answer(alloc, tested, text.as_slice(), writer),
+        Err(ReadStop::Fault) => Ok(Exit::Failed),
+        Err(ReadStop::NoMemory) => Err(Fault::NoMemory),
+    }
+}
+
+/// Shows a text as a capture. A text that is none is damaged.
+fn answer<W: Write>(
+    alloc: Global,
+    tested: Role,
+    text: &[u8],
+    writer: &mut Watched<W>,
+) -> Result<Exit, Fault>
+    requires { has_failed writer.old ≡ false }
+    ensures { AnswersShownCapture tested text.now result (watched W.contents writer.old writer.new) }
+{
+    match read_capture2(alloc, text) {
+        Ok(capture) => tell_lines(tested, &capture.transcript, writer),
+        Err(fault) => Err(fault_of(fault)),
+    }
+}
+
+/// Writes the lines of a transcript. One with a place that 64 bits can't tell, which no memory holds, is told as want of
+/// it.
+fn tell_lines<W: Write>(
+    tested: Role,
+    transcript: &Transcript,
+    writer: &mut Watched<W>,
+) -> Result<Exit, Fault>
+    requires { has_failed writer.old ≡ false }
+    ensures { TellsLines tested transcript.now result (watched W.contents writer.old writer.new) }
+{
+    if !fits_places(transcript) {
+        return Err(Fault::NoMemory);
+    }
+    match show_transcript(tested, transcript, writer) {
+        Ok(()) => Ok(Exit::Done),
+        Err(_) => Ok(Exit::Failed),
     }
 }

@@ -1,9 +1,10 @@
 -- What is told of a server in a case, and the total.
 use Rattle.std.specs.Prelude.{ℕ, ◌+◌, ◌<◌, nat_lt, take, Bool, true, false, if◌then◌else◌, List, [], ◌∷◌, ◌++◌, length}
-use Rattle.std.specs.Prelude.{filter, codes}
+use Rattle.std.specs.Prelude.{filter, codes, string_bytes}
 use Rattle.std.specs.List.{concat, suffix_len}
 use Rattle.std.specs.Fmt.{decimal}
 use Rattle.ws_suite.specs.Words.{verdict_words}
+use Rattle.ws_suite.specs.declared.verdict.Verdict.{Verdict}
 use Rattle.ws_suite.specs.declared.verdict.Verdict.TheVariants as verdict
 use Rattle.ws_upgrade.specs.Words.{head_fault_name}
 use Rattle.wst_commands.specs.declared.exit.Exit.{Exit}
@@ -13,34 +14,49 @@ use Rattle.wst_run.specs.declared.outcome.Outcome.TheVariants.{HeadRefused, Judg
 use Rattle.wst_run.specs.declared.outcome.Tally.{Tally}
 
 abbrev pub outcome_words : Outcome → List ℕ
-outcome_words (Judged verdict) = verdict_words verdict
+outcome_words (Judged told) = verdict_words told.verdict
 outcome_words (HeadRefused fault) = codes "FAIL Head " ++ head_fault_name fault
 outcome_words (NoConnection why) = codes "no connection"
 
+-- what stands below its line
+abbrev pub below_line : Outcome → List ℕ
+below_line (Judged told) = string_bytes told.below
+below_line (HeadRefused fault) = []
+below_line (NoConnection why) = []
+
+abbrev pub passes : Verdict → Bool
+passes verdict.Pass = true
+passes (verdict.Loose why) = false
+passes (verdict.Fail why) = false
+
 abbrev pub is_pass : Outcome → Bool
-is_pass (Judged verdict.Pass) = true
-is_pass (Judged (verdict.Loose why)) = false
-is_pass (Judged (verdict.Fail why)) = false
+is_pass (Judged told) = passes told.verdict
 is_pass (HeadRefused fault) = false
 is_pass (NoConnection why) = false
 
+abbrev pub loosens : Verdict → Bool
+loosens verdict.Pass = false
+loosens (verdict.Loose why) = true
+loosens (verdict.Fail why) = false
+
 abbrev pub is_loose : Outcome → Bool
-is_loose (Judged verdict.Pass) = false
-is_loose (Judged (verdict.Loose why)) = true
-is_loose (Judged (verdict.Fail why)) = false
+is_loose (Judged told) = loosens told.verdict
 is_loose (HeadRefused fault) = false
 is_loose (NoConnection why) = false
 
+abbrev pub fails : Verdict → Bool
+fails verdict.Pass = false
+fails (verdict.Loose why) = false
+fails (verdict.Fail why) = true
+
 -- a head that is to be refused counts as a Fail, and so does a server to which there is no connection
 abbrev pub is_fail : Outcome → Bool
-is_fail (Judged verdict.Pass) = false
-is_fail (Judged (verdict.Loose why)) = false
-is_fail (Judged (verdict.Fail why)) = true
+is_fail (Judged told) = fails told.verdict
 is_fail (HeadRefused fault) = true
 is_fail (NoConnection why) = true
 
 abbrev pub is_missed : Outcome → Bool
-is_missed (Judged verdict) = false
+is_missed (Judged told) = false
 is_missed (HeadRefused fault) = false
 is_missed (NoConnection why) = true
 
@@ -78,9 +94,12 @@ exit_of_tests tally = if nat_lt 0 tally.fail then Damaged else Done
 abbrev pub no_tally : Tally
 no_tally = record { pass = 0; loose = 0; fail = 0 }
 
+abbrev pub tally_with_verdict : Tally → Verdict → Tally
+tally_with_verdict tally verdict.Pass = record tally { pass = tally.pass + 1 }
+tally_with_verdict tally (verdict.Loose why) = record tally { loose = tally.loose + 1 }
+tally_with_verdict tally (verdict.Fail why) = record tally { fail = tally.fail + 1 }
+
 abbrev pub tally_with : Tally → Outcome → Tally
-tally_with tally (Judged verdict.Pass) = record tally { pass = tally.pass + 1 }
-tally_with tally (Judged (verdict.Loose why)) = record tally { loose = tally.loose + 1 }
-tally_with tally (Judged (verdict.Fail why)) = record tally { fail = tally.fail + 1 }
+tally_with tally (Judged told) = tally_with_verdict tally told.verdict
 tally_with tally (HeadRefused fault) = record tally { fail = tally.fail + 1 }
 tally_with tally (NoConnection why) = record tally { fail = tally.fail + 1 }

@@ -39,7 +39,8 @@ RunsTask (Head options) exit input output faults =
     RunsCommand (λ ended. RunsHead options ended input output) exit faults
 RunsTask (Session options) exit input output faults =
     RunsCommand (λ ended. RunsSession options ended input output) exit faults
-RunsTask Judge exit input output faults = RunsCommand (λ ended. RunsJudge ended input output) exit faults
+RunsTask (Judge options) exit input output faults =
+    RunsCommand (λ ended. RunsJudge options ended input output) exit faults
 RunsTask Convert exit input output faults = RunsCommand (λ ended. RunsConvert ended input output) exit faults
 RunsTask (Cases options) exit input output faults = IsUntouched input × ListsCases options exit output faults
 RunsTask (Test options) exit input output faults = IsUntouched input × RunsTest options exit output faults

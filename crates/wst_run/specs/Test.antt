@@ -74,6 +74,7 @@ pub record IsPlan (options : TestOptions) (plan : TestPlan) : Type 0 where
   pub key : IsKeyWord plan.key options.key.now
   pub target : IsTargetOf options.target.now plan.target
   pub capture : plan.capture ≡ options.capture
+  pub explain : plan.explain ≡ options.explain
   pub progress : plan.progress ≡ options.progress
   pub timeout : GivesTimeout options.timeout plan.timeout
   pub budget : plan.budget ≡ options.budget
@@ -128,7 +129,12 @@ TellsRefusal (refusal.NoCases why) exit faults = TellsNoCases why exit faults
 
 -- how its cases are run
 abbrev pub rules_of : TestPlan → RunRules
-rules_of plan = record { key = plan.key; progress = plan.progress; is_limited = is_limited plan.timeout }
+rules_of plan = record {
+  key = plan.key;
+  explains = plan.explain;
+  progress = plan.progress;
+  is_limited = is_limited plan.timeout;
+}
 
 -- the capture of the one case is written, or the outcomes of the cases, over servers that meet cases so
 abbrev pub CarriesOut : (Case → Meeting → Type 0) → TestPlan → Result Exit Fault → Device → Device → Type 0

@@ -1,6 +1,6 @@
 -- Cases run over new servers: what is written of them, a line for each as soon as it is judged, and the total; and what
 -- is told on the fault output.
-use Rattle.std.specs.Prelude.{◌≡◌, ◌⊎◌, ℕ, ◌+◌, ◌<◌, true, false, List, [], ◌∷◌, ◌++◌}
+use Rattle.std.specs.Prelude.{◌≡◌, ◌⊎◌, ℕ, ◌+◌, ◌<◌, Bool, true, false, List, [], ◌∷◌, ◌++◌}
 use Rattle.std.specs.Prelude.{map, flat_map, take, Result, MatchResult, Some, codes, string_bytes}
 use Rattle.std.specs.List.{AllByRecursion, concat}
 use Rattle.ws_wire.specs.declared.role.Role.TheVariants.{Server}
@@ -11,10 +11,11 @@ use Rattle.ws_suite.specs.Verdicts.{IsVerdictOf}
 use Rattle.ws_scripts.specs.declared.script.Case.{Case}
 use Rattle.ws_suite.specs.declared.verdict.Verdict.{Verdict}
 use Rattle.wst_commands.specs.Devices.{Delivers}
+use Rattle.wst_commands.specs.Explaining.{IsJudgementOf}
 use Rattle.wst_commands.specs.Judge.{exit_of}
 use Rattle.wst_run.specs.Notes.{TellsEach, miss_notes, notes_of, progress_notes}
-use Rattle.wst_run.specs.Outcomes.{MayRunEach, exit_of_tests, max_missed, missed_at_end, outcome_words, tally_of}
-use Rattle.wst_run.specs.Outcomes.{total_line}
+use Rattle.wst_run.specs.Outcomes.{MayRunEach, below_line, exit_of_tests, max_missed, missed_at_end}
+use Rattle.wst_run.specs.Outcomes.{outcome_words, tally_of, total_line}
 use Rattle.wst_commands.specs.declared.exit.Exit.{Exit}
 use Rattle.wst_commands.specs.declared.exit.Exit.TheVariants.{Damaged, Failed}
 use Rattle.wst_commands.specs.declared.fault.Fault.{Fault}
@@ -27,34 +28,36 @@ use Rattle.wst_run.specs.declared.testing.RunRules.{RunRules}
 
 -- ---- one case
 
--- what is told of such a meeting: the verdict on its transcript, that the head of the answer is to be refused, or that
+-- what is told of such a meeting: the verdict on its transcript, with why it is told where that is asked for; that the head of the answer is to be refused, or that
 -- there is no connection
-abbrev pub IsOutcomeOf : Meeting → Outcome → Type 0
-IsOutcomeOf (meeting.Ran transcript) (outcome.Judged verdict) = IsVerdictOf Server transcript verdict
-IsOutcomeOf (meeting.Refused fault) (outcome.HeadRefused told) = told ≡ fault
-IsOutcomeOf (meeting.NoConnection why) (outcome.NoConnection told) = told ≡ why
-IsOutcomeOf _ _ = ⊥
+abbrev pub IsOutcomeOf : Bool → Meeting → Outcome → Type 0
+IsOutcomeOf explains (meeting.Ran transcript) (outcome.Judged told) = IsJudgementOf explains Server transcript told
+IsOutcomeOf explains (meeting.Refused fault) (outcome.HeadRefused told) = told ≡ fault
+IsOutcomeOf explains (meeting.NoConnection why) (outcome.NoConnection told) = told ≡ why
+IsOutcomeOf explains _ _ = ⊥
 
 -- the outcome of a case over one of the servers that meet cases so
-pub record IsTested (Meets : Case → Meeting → Type 0) (case : Case) (outcome : Outcome) : Type 0 where
+pub record IsTested (Meets : Case → Meeting → Type 0) (explains : Bool) (case : Case) (outcome : Outcome)
+    : Type 0 where
   pub meeting : Meeting
   pub met : Meets case meeting
-  pub told : IsOutcomeOf meeting outcome
+  pub told : IsOutcomeOf explains meeting outcome
 
 -- ---- cases
 
 -- these are the cases in their order, each with what is told of a server of its own
-pub record AreTested (Meets : Case → Meeting → Type 0) (cases : List Case)
+pub record AreTested (Meets : Case → Meeting → Type 0) (explains : Bool) (cases : List Case)
     (tests : List (Case × Outcome)) : Type 0 where
   pub of_cases : map (λ test. test.0) tests ≡ cases
-  pub tested : AllByRecursion (λ test. IsTested Meets test.0 test.1) tests
+  pub tested : AllByRecursion (λ test. IsTested Meets explains test.0 test.1) tests
 
 abbrev pub outcomes_in : List (Case × Outcome) → List Outcome
 outcomes_in tests = map (λ test. test.1) tests
 
--- the line of a case: its name and its outcome
+-- the line of a case: its name and its outcome; and what stands below it
 abbrev pub test_line : Case × Outcome → List ℕ
-test_line test = concat (string_bytes test.0.id ∷ codes " " ∷ outcome_words test.1 ∷ codes "\n" ∷ [])
+test_line test =
+    concat (string_bytes test.0.id ∷ codes " " ∷ outcome_words test.1 ∷ codes "\n" ∷ below_line test.1 ∷ [])
 
 abbrev pub test_lines : List (Case × Outcome) → List ℕ
 test_lines tests = flat_map test_line tests
@@ -66,7 +69,7 @@ test_lines tests = flat_map test_line tests
 pub record TellsAll (Meets : Case → Meeting → Type 0) (rules : RunRules) (cases : List Case) (notes : List (List ℕ))
     (exit : Exit) (output : Device) : Type 0 where
   pub tests : List (Case × Outcome)
-  pub are_tested : AreTested Meets cases tests
+  pub are_tested : AreTested Meets rules.explains cases tests
   pub may_run : MayRunEach (max_missed rules.is_limited) (outcomes_in tests)
   pub few : missed_at_end (outcomes_in tests) < max_missed rules.is_limited
   pub noted : notes ≡ notes_of rules.progress tests
@@ -78,7 +81,7 @@ pub record StopsAtLine (Meets : Case → Meeting → Type 0) (rules : RunRules) 
     (exit : Exit) (output : Device) : Type 0 where
   pub n : ℕ
   pub tests : List (Case × Outcome)
-  pub are_tested : AreTested Meets (take n cases) tests
+  pub are_tested : AreTested Meets rules.explains (take n cases) tests
   pub may_run : MayRunEach (max_missed rules.is_limited) (outcomes_in tests)
   pub noted : notes ≡ notes_of rules.progress tests
   pub failed : (exit ≡ Failed) × (output.failed ≡ true)
@@ -90,7 +93,7 @@ pub record StopsAtConnection (Meets : Case → Meeting → Type 0) (rules : RunR
     (notes : List (List ℕ)) (exit : Exit) (output : Device) : Type 0 where
   pub n : ℕ
   pub tests : List (Case × Outcome)
-  pub are_tested : AreTested Meets (take n cases) tests
+  pub are_tested : AreTested Meets rules.explains (take n cases) tests
   pub may_run : MayRunEach (max_missed rules.is_limited) (outcomes_in tests)
   pub missed : missed_at_end (outcomes_in tests) ≡ max_missed rules.is_limited
   pub noted : notes ≡ notes_of rules.progress tests
@@ -107,7 +110,7 @@ pub record LacksMemoryAfter (Meets : Case → Meeting → Type 0) (rules : RunRu
     (notes : List (List ℕ)) (output : Device) : Type 0 where
   pub n : ℕ
   pub tests : List (Case × Outcome)
-  pub are_tested : AreTested Meets (take n cases) tests
+  pub are_tested : AreTested Meets rules.explains (take n cases) tests
   pub may_run : MayRunEach (max_missed rules.is_limited) (outcomes_in tests)
   pub few : missed_at_end (outcomes_in tests) < max_missed rules.is_limited
   pub next : List (List ℕ)

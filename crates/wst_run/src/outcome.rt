@@ -1,19 +1,19 @@
 //! What is told of a server in a case, and how often each was told.
 
 ghost use Rattle.std.specs.Prelude.{◌≡◌, ◌+◌, ◌<◌, ◌^◌};
-ghost use Rattle.wst_run.specs.Outcomes.{exit_of_tests, no_tally, outcome_words, tally_with};
+ghost use Rattle.wst_run.specs.Outcomes.{exit_of_tests, no_tally, outcome_words, tally_with, tally_with_verdict};
 
 use crate::meeting::ConnectFault;
 use std::fmt;
 use ws_suite::Verdict;
 use ws_upgrade::HeadFault;
-use wst_commands::Exit;
+use wst_commands::{Exit, Judgement};
 
 /// What is told of a server in a case.
-#[derive(Clone, Copy)]
+#[derive(Drop)]
 pub enum Outcome {
-    /// Whether it kept the rules.
-    Judged(Verdict),
+    /// Whether it kept the rules, and why that is told.
+    Judged(Judgement),
     /// Its answer to the request for an upgrade is to be refused, which counts as a Fail.
     HeadRefused(HeadFault),
     /// There is no connection to it, which counts as a Fail where a run goes on.
@@ -27,7 +27,7 @@ impl fmt::Display for Outcome {
 
     fn fmt<W: fmt::Write>(&self, f: &mut fmt::Formatter<W>) -> fmt::Result {
         match self {
-            Outcome::Judged(verdict) => write!(f, "{verdict}"),
+            Outcome::Judged(told) => write!(f, "{}", told.verdict),
             Outcome::HeadRefused(fault) => write!(f, "FAIL Head {fault}"),
             Outcome::NoConnection(_) => write!(f, "no connection"),
         }
@@ -55,24 +55,38 @@ impl Tally {
     }
 
     /// With one outcome more.
-    pub fn with(self, outcome: Outcome) -> Tally
+    pub fn with(self, outcome: &Outcome) -> Tally
         requires pass { self.pass + 1 < 2 ^ 64 }
         requires loose { self.loose + 1 < 2 ^ 64 }
         requires fail { self.fail + 1 < 2 ^ 64 }
-        ensures { result ≡ tally_with self outcome }
+        ensures { result ≡ tally_with self outcome.now }
     {
         match outcome {
-            Outcome::Judged(Verdict::Pass) => Tally {
+            Outcome::Judged(told) => self.with_verdict(told.verdict),
+            Outcome::HeadRefused(_) | Outcome::NoConnection(_) => Tally {
+                fail: self.fail + 1,
+                ..self
+            },
+        }
+    }
+
+    /// With one verdict more.
+    fn with_verdict(self, verdict: Verdict) -> Tally
+        requires pass { self.pass + 1 < 2 ^ 64 }
+        requires loose { self.loose + 1 < 2 ^ 64 }
+        requires fail { self.fail + 1 < 2 ^ 64 }
+        ensures { result ≡ tally_with_verdict self verdict }
+    {
+        match verdict {
+            Verdict::Pass => Tally {
                 pass: self.pass + 1,
                 ..self
             },
-            Outcome::Judged(Verdict::Loose(_)) => Tally {
+            Verdict::Loose(_) => Tally {
                 loose: self.loose + 1,
                 ..self
             },
-            Outcome::Judged(Verdict::Fail(_))
-            | Outcome::HeadRefused(_)
-            | Outcome::NoConnection(_) => Tally {
+            Verdict::Fail(_) => Tally {
                 fail: self.fail + 1,
                 ..self
             },

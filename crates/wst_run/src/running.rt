@@ -69,13 +69,13 @@ fn run_task<N: Net, R: Read, W: Write, F: Write>(
         (watched F.contents faults.old faults.new) }
 {
     match task {
-        Task::Show(options) => end_run(alloc, run_show(options, reader, writer), faults),
+        Task::Show(options) => end_run(alloc, run_show(alloc, options, reader, writer), faults),
         Task::Pair(options) => end_run(alloc, run_moves(alloc, options, reader, writer), faults),
         Task::Head(options) => end_run(alloc, run_head(alloc, options, reader, writer), faults),
         Task::Session(options) => {
             end_run(alloc, run_session(alloc, options, reader, writer), faults)
         }
-        Task::Judge => end_run(alloc, run_judge(alloc, reader, writer), faults),
+        Task::Judge(options) => end_run(alloc, run_judge(alloc, options, reader, writer), faults),
         Task::Convert => end_run(alloc, run_convert(alloc, reader, writer), faults),
         Task::Cases(options) => run_cases(alloc, options, writer, faults),
         Task::Test(options) => run_test(alloc, &options, net, writer, faults),

@@ -44,6 +44,8 @@ pub struct TestPlan<'a> {
     pub target: Target<'a>,
     /// The capture of the one case is written in place of the verdicts.
     pub capture: bool,
+    /// Below a verdict other than Pass it is told why.
+    pub explain: bool,
     /// The name of each case is told before it runs.
     pub progress: bool,
     /// How long a server at an address is waited for.
@@ -166,6 +168,7 @@ fn rules_of(plan: &TestPlan<'_>) -> RunRules
 {
     RunRules {
         key: plan.key,
+        explains: plan.explain,
         progress: plan.progress,
         is_limited: plan.timeout.is_limited(),
     }
@@ -199,6 +202,7 @@ pub fn plan_test<'a>(
         key,
         target,
         capture: options.capture,
+        explain: options.explain,
         progress: options.progress,
         timeout,
         budget: options.budget,

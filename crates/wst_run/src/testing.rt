@@ -7,7 +7,7 @@ ghost use Rattle.ws_frame.specs.Watching.{has_failed};
 ghost use Rattle.ws_scripts.specs.Scripts.{CanBeRun};
 ghost use Rattle.wst_commands.specs.Devices.{Delivers, StaysFailed};
 ghost use Rattle.wst_run.specs.Notes.{TellsEach, miss_notes, progress_notes};
-ghost use Rattle.wst_run.specs.Outcomes.{exit_of_tests, is_missed, max_missed, total_line};
+ghost use Rattle.wst_run.specs.Outcomes.{below_line, exit_of_tests, is_missed, max_missed, total_line};
 ghost use Rattle.wst_run.specs.Testing.{IsTested, RunsCapture, RunsCases, WritesCapture, test_line};
 ghost use Rattle.wst_commands.specs.declared.fault.Fault.TheVariants as variant;
 
@@ -19,13 +19,16 @@ use std::io::Write;
 use ws_base::NoMemory;
 use ws_frame::Watched;
 use ws_suite::{Capture, Case, judge, write_capture2};
-use wst_commands::{Exit, Fault, deliver, exit_of, tell};
+use ws_wire::Role;
+use wst_commands::{Exit, Fault, deliver, exit_of, judgement_of, tell};
 
 /// How cases are run.
 #[derive(Clone, Copy)]
 pub struct RunRules {
     /// The masking key of the frames.
     pub key: [u8; 4],
+    /// Below a verdict other than Pass it is told why.
+    pub explains: bool,
     /// The name of each case is told before it runs.
     pub progress: bool,
     /// Servers are waited for in time: a case without a connection doesn't end the run then, but the third in a row.
@@ -54,17 +57,17 @@ pub fn test_cases<S: CaseServer, W: Write, F: Write>(
     let mut missed = 0;
     for case in cases {
         tell_progress(alloc, rules.progress, case, faults)?;
-        let outcome = outcome_of(alloc, server, case, rules.key)?;
-        let told = tell_case(alloc, case, outcome, Exit::Done, writer)?;
-        tell_miss(outcome, faults);
+        let outcome = outcome_of(alloc, server, case, rules)?;
+        let told = tell_case(alloc, case, &outcome, Exit::Done, writer)?;
+        tell_miss(&outcome, faults);
         if writer.failed() {
             return Ok(told);
         }
-        missed = missed_after(missed, outcome);
+        missed = missed_after(missed, &outcome);
         if missed >= max_missed(rules.is_limited) {
             return Ok(Exit::Failed);
         }
-        tally = tally.with(outcome);
+        tally = tally.with(&outcome);
     }
     tell_total(alloc, tally, writer)
 }
@@ -77,9 +80,9 @@ fn max_missed(is_limited: bool) -> u32
 }
 
 /// How many cases in a row were without a connection, where there were so many before this outcome.
-fn missed_after(missed: u32, outcome: Outcome) -> u32
+fn missed_after(missed: u32, outcome: &Outcome) -> u32
     requires { missed + 1 < 2 ^ 32 }
-    ensures { result ≡ (if is_missed outcome then 1 + missed else 0) }
+    ensures { result ≡ (if is_missed outcome.now then 1 + missed else 0) }
 {
     match outcome {
         Outcome::NoConnection(_) => missed + 1,
@@ -108,8 +111,8 @@ fn tell_progress<F: Write>(
 }
 
 /// Tells why there is no connection to the server of a case, where there is none.
-fn tell_miss<F: Write>(outcome: Outcome, faults: &mut Watched<F>)
-    ensures told { TellsEach (miss_notes outcome) (watched F.contents faults.old faults.new) }
+fn tell_miss<F: Write>(outcome: &Outcome, faults: &mut Watched<F>)
+    ensures told { TellsEach (miss_notes outcome.now) (watched F.contents faults.old faults.new) }
     ensures still { StaysFailed faults.old faults.new }
 {
     match outcome {
@@ -123,36 +126,46 @@ fn outcome_of<S: CaseServer>(
     alloc: Global,
     server: &S,
     case: &Case,
-    key: [u8; 4],
+    rules: RunRules,
 ) -> Result<Outcome, NoMemory>
     requires { CanBeRun case.now }
-    ensures { IfOk result (λ outcome. IsTested (S.meets server.now key) case.now outcome) }
+    ensures { IfOk result (λ outcome. IsTested (S.meets server.now rules.key) rules.explains case.now outcome) }
 {
-    match server.run(alloc, case, key)? {
+    match server.run(alloc, case, rules.key)? {
         Meeting::Ran(transcript) => {
-            let verdict = judge(alloc, &transcript)?;
-            Ok(Outcome::Judged(verdict))
+            let told = judgement_of(alloc, rules.explains, Role::Server, &transcript)?;
+            Ok(Outcome::Judged(told))
         }
         Meeting::Refused(fault) => Ok(Outcome::HeadRefused(fault)),
         Meeting::NoConnection(why) => Ok(Outcome::NoConnection(why)),
     }
 }
 
-/// Writes the line of a case, and answers this exit, or that of a failure.
+/// Writes the line of a case, and what stands below it, and answers this exit, or that of a failure.
 fn tell_case<W: Write>(
     alloc: Global,
     case: &Case,
-    outcome: Outcome,
+    outcome: &Outcome,
     done: Exit,
     writer: &mut Watched<W>,
 ) -> Result<Exit, Fault>
     requires { has_failed writer.old ≡ false }
     ensures { MatchResult result
-        (λ exit. Delivers done (test_line (case.now, outcome)) exit (watched W.contents writer.old writer.new))
+        (λ exit. Delivers done (test_line (case.now, outcome.now)) exit (watched W.contents writer.old writer.new))
         (λ fault. (fault ≡ variant.NoMemory) × (writer.new ≡ writer.old)) }
 {
-    let line = format!(in alloc; "{} {outcome}\n", case.id)?;
-    Ok(deliver(done, line.as_bytes(), writer))
+    let lines = format!(in alloc; "{} {outcome}\n{}", case.id, below_line(outcome))?;
+    Ok(deliver(done, lines.as_bytes(), writer))
+}
+
+/// What stands below the line of a case.
+fn below_line(outcome: &Outcome) -> &str
+    ensures { result.now ≡ below_line outcome.now }
+{
+    match outcome {
+        Outcome::Judged(told) => told.below.as_str(),
+        Outcome::HeadRefused(_) | Outcome::NoConnection(_) => "",
+    }
 }
 
 /// Writes the total.
@@ -198,15 +211,15 @@ pub fn capture_case<S: CaseServer, W: Write, F: Write>(
             tell_case(
                 alloc,
                 case,
-                Outcome::HeadRefused(fault),
+                &Outcome::HeadRefused(fault),
                 Exit::Damaged,
                 writer,
             )
         }
         Meeting::NoConnection(why) => {
             let outcome = Outcome::NoConnection(why);
-            let told = tell_case(alloc, case, outcome, Exit::Failed, writer)?;
-            tell_miss(outcome, faults);
+            let told = tell_case(alloc, case, &outcome, Exit::Failed, writer)?;
+            tell_miss(&outcome, faults);
             Ok(told)
         }
     }

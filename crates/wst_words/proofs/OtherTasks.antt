@@ -1,15 +1,17 @@
 -- A command one of whose arguments lacks its value asks for nothing: not for a task of its own, and not for one of
 -- another command.
-use Rattle.std.proofs.Common.{◌≡◌, ◌∙◌, List, true, false, Some, ap, sym, refl, codes, inl, inr}
+use Rattle.std.proofs.Common.{◌≡◌, ◌∙◌, List, true, false, ℕ, Option, None, Some, ap, sym, refl, codes, inl, inr}
 use Rattle.std.specs.Str.{bytes_eq}
 use Rattle.clap.specs.Words.{Row, Text}
-use Rattle.wst_words.specs.Options.{LacksOneOf}
+use Rattle.wst_words.specs.Judge.{AsksToJudge, judge_command}
+use Rattle.wst_words.specs.Options.{GivesNoNumberOr, GivesNumberIfAny, LacksOneOf}
 use Rattle.wst_words.specs.Pair.{AsksToPair, pair_command}
 use Rattle.wst_words.specs.Serve.{AsksToServe, serve_command}
 use Rattle.wst_words.specs.Session.{AsksForSession, session_command}
 use Rattle.wst_words.specs.Show.{AsksToShow, show_command}
 use Rattle.wst_words.specs.Test.{AsksToTest, test_command}
 use Rattle.wst_words.specs.Words.{CommandAsks, CommandAsksNothing}
+use Rattle.wst_words.specs.declared.judge.JudgeOptions.{JudgeOptions}
 use Rattle.wst_words.specs.declared.pair.PairOptions.{PairOptions}
 use Rattle.wst_words.specs.declared.serve.ServeOptions.{ServeOptions}
 use Rattle.wst_words.specs.declared.session.SessionOptions.{SessionOptions}
@@ -26,7 +28,7 @@ task_name (Show options) = codes "show"
 task_name (Pair options) = codes "pair"
 task_name (Head options) = codes "head"
 task_name (Session options) = codes "session"
-task_name Judge = codes "judge"
+task_name (Judge options) = codes "judge"
 task_name Convert = codes "convert"
 task_name (Cases options) = codes "cases"
 task_name (Test options) = codes "test"
@@ -37,7 +39,7 @@ called name rows (Show options) asks = asks.0
 called name rows (Pair options) asks = asks.0
 called name rows (Head options) asks = asks.0
 called name rows (Session options) asks = asks.0
-called name rows Judge asks = asks
+called name rows (Judge options) asks = asks.0
 called name rows Convert asks = asks
 called name rows (Cases options) asks = asks.0
 called name rows (Test options) asks = asks.0
@@ -49,11 +51,19 @@ differs a b name same other is asks =
     let bad : true ≡ false = sym same ∙ ap (λ (t : Text). bytes_eq a t) (sym is ∙ asks) ∙ other in
     absurd (cc)
 
+-- where no number is given, and none left out
+no_number_if_any : (rows : List Row) (name : Text) (number : Option ℕ) → GivesNoNumberOr rows name
+    → GivesNumberIfAny rows name number → ⊥
+no_number_if_any rows name None none left_out = none 0 0 (inr (left_out, refl))
+no_number_if_any rows name (Some number) none given = none number number (inl given)
+
 show_lacks : (rows : List Row) (options : ShowOptions) → LacksOneOf rows show_command.arguments
     → AsksToShow rows options → ⊥
-show_lacks rows options (inl from) asks = from options.from asks.0
-show_lacks rows options (inr (inl budget)) asks = budget options.budget asks.1
-show_lacks rows options (inr (inr none)) asks = absurd none
+show_lacks rows options (inl from) asks = absurd from
+show_lacks rows options (inr (inl budget)) asks = no_number_if_any rows (codes "budget") options.budget budget asks.1
+show_lacks rows options (inr (inr (inl capture))) asks = capture options.capture asks.2
+show_lacks rows options (inr (inr (inr (inl role)))) asks = absurd role
+show_lacks rows options (inr (inr (inr (inr none)))) asks = absurd none
 
 pub no_show : (name : Text) (rows : List Row) → name ≡ codes "show" → LacksOneOf rows show_command.arguments
     → CommandAsksNothing (Some (name, rows))
@@ -62,6 +72,19 @@ no_show name rows is lacks = refuses
     refuses : (task : Task) → CommandAsks (Some (name, rows)) task → ⊥
     refuses (Show options) asks = show_lacks rows options lacks asks.1
     refuses task asks = differs (codes "show") (task_name task) name refl refl is (called name rows task asks)
+
+judge_lacks : (rows : List Row) (options : JudgeOptions) → LacksOneOf rows judge_command.arguments
+    → AsksToJudge rows options → ⊥
+judge_lacks rows options (inl explain) asks = explain options.explain asks
+judge_lacks rows options (inr none) asks = absurd none
+
+pub no_judge : (name : Text) (rows : List Row) → name ≡ codes "judge" → LacksOneOf rows judge_command.arguments
+    → CommandAsksNothing (Some (name, rows))
+no_judge name rows is lacks = refuses
+  where
+    refuses : (task : Task) → CommandAsks (Some (name, rows)) task → ⊥
+    refuses (Judge options) asks = judge_lacks rows options lacks asks.1
+    refuses task asks = differs (codes "judge") (task_name task) name refl refl is (called name rows task asks)
 
 pair_lacks : (rows : List Row) (options : PairOptions) → LacksOneOf rows pair_command.arguments
     → AsksToPair rows options → ⊥
@@ -99,14 +122,15 @@ test_lacks : (rows : List Row) (options : TestOptions) → LacksOneOf rows test_
     → AsksToTest rows options → ⊥
 test_lacks rows options (inl key) asks = no_word rows (codes "key") options.key.now key asks.0
 test_lacks rows options (inr (inl capture)) asks = capture options.capture asks.1
-test_lacks rows options (inr (inr (inl progress))) asks = progress options.progress asks.5
-test_lacks rows options (inr (inr (inr (inl timeout)))) asks = absurd timeout
-test_lacks rows options (inr (inr (inr (inr (inl budget))))) asks = budget options.budget asks.6
-test_lacks rows options (inr (inr (inr (inr (inr (inl protocols)))))) asks = absurd protocols
-test_lacks rows options (inr (inr (inr (inr (inr (inr (inl target))))))) asks =
+test_lacks rows options (inr (inr (inl explain))) asks = explain options.explain asks.8
+test_lacks rows options (inr (inr (inr (inl progress)))) asks = progress options.progress asks.5
+test_lacks rows options (inr (inr (inr (inr (inl timeout))))) asks = absurd timeout
+test_lacks rows options (inr (inr (inr (inr (inr (inl budget)))))) asks = budget options.budget asks.6
+test_lacks rows options (inr (inr (inr (inr (inr (inr (inl protocols))))))) asks = absurd protocols
+test_lacks rows options (inr (inr (inr (inr (inr (inr (inr (inl target)))))))) asks =
     no_word rows (codes "target") options.target.now target asks.2
-test_lacks rows options (inr (inr (inr (inr (inr (inr (inr (inl ids)))))))) asks = absurd ids
-test_lacks rows options (inr (inr (inr (inr (inr (inr (inr (inr none)))))))) asks = absurd none
+test_lacks rows options (inr (inr (inr (inr (inr (inr (inr (inr (inl ids))))))))) asks = absurd ids
+test_lacks rows options (inr (inr (inr (inr (inr (inr (inr (inr (inr none))))))))) asks = absurd none
 
 pub no_test : (name : Text) (rows : List Row) → name ≡ codes "test" → LacksOneOf rows test_command.arguments
     → CommandAsksNothing (Some (name, rows))

@@ -35,44 +35,44 @@ numbered rows name word there passes =
     let number = accepts-Accepts false (Unsigned 0 18446744073709551615) word passes in
     record { word = word; has_word = there; numeral = number.0; value = refl; fits = number.1 }
 
--- `wst show` reads what a server sent, up to 1 GiB
+-- `wst show` is told nothing more
 abbrev plain_words : List Text
 plain_words = words (codes "show" ∷ [])
 
 pub plain_show : (places : Places)
-    → AsksFor (wst_app places) plain_words (Show (record { from = Server; budget = 1073741824 }))
+    → AsksFor (wst_app places) plain_words
+    (Show (record { from = None; budget = None; capture = false; role = None }))
 unfolding on_words
-plain_show places = (
-  refl,
-  (
-    refl,
-    (record { word = codes "server"; has_word = refl; value = refl }, numbered _ _ (codes "1073741824") refl refl),
-  ),
-)
+plain_show places = (refl, (refl, (refl, refl, refl, refl)))
 
 -- `wst show --from client --budget 7` reads at most 7 bytes that a client sent
 abbrev client_words : List Text
 client_words = words (codes "show" ∷ codes "--from" ∷ codes "client" ∷ codes "--budget" ∷ codes "7" ∷ [])
 
 pub client_show : (places : Places)
-    → AsksFor (wst_app places) client_words (Show (record { from = Client; budget = 7 }))
+    → AsksFor (wst_app places) client_words
+    (Show (record { from = Some Client; budget = Some 7; capture = false; role = None }))
 unfolding on_words
-client_show places = (
-  refl,
-  (refl, (record { word = codes "client"; has_word = refl; value = refl }, numbered _ _ (codes "7") refl refl)),
-)
+client_show places = (refl, (refl, (refl, numbered _ _ (codes "7") refl refl, refl, refl)))
 
 -- the same with the options the other way round, each as one word
 abbrev joined_words : List Text
 joined_words = words (codes "show" ∷ codes "--budget=7" ∷ codes "--from=client" ∷ [])
 
 pub joined_show : (places : Places)
-    → AsksFor (wst_app places) joined_words (Show (record { from = Client; budget = 7 }))
+    → AsksFor (wst_app places) joined_words
+    (Show (record { from = Some Client; budget = Some 7; capture = false; role = None }))
 unfolding on_words
-joined_show places = (
-  refl,
-  (refl, (record { word = codes "client"; has_word = refl; value = refl }, numbered _ _ (codes "7") refl refl)),
-)
+joined_show places = (refl, (refl, (refl, numbered _ _ (codes "7") refl refl, refl, refl)))
+
+-- `wst show --capture --role client` reads a capture of a client under test
+abbrev capture_words : List Text
+capture_words = words (codes "show" ∷ codes "--capture" ∷ codes "--role" ∷ codes "client" ∷ [])
+
+pub capture_show : (places : Places) → AsksFor (wst_app places) capture_words
+    (Show (record { from = None; budget = None; capture = true; role = Some Client }))
+unfolding on_words
+capture_show places = (refl, (refl, (refl, refl, refl, refl)))
 
 -- `wst head` answers the head of a request
 abbrev head_words : List Text
@@ -164,9 +164,17 @@ plain_echo places = (
 abbrev judge_words : List Text
 judge_words = words (codes "judge" ∷ [])
 
-pub plain_judge : (places : Places) → AsksFor (wst_app places) judge_words Judge
+pub plain_judge : (places : Places) → AsksFor (wst_app places) judge_words (Judge (record { explain = false }))
 unfolding on_words
-plain_judge places = (refl, refl)
+plain_judge places = (refl, (refl, refl))
+
+-- and `wst judge --explain` tells why
+abbrev explain_words : List Text
+explain_words = words (codes "judge" ∷ codes "--explain" ∷ [])
+
+pub explained_judge : (places : Places) → AsksFor (wst_app places) explain_words (Judge (record { explain = true }))
+unfolding on_words
+explained_judge places = (refl, (refl, refl))
 
 -- `wst convert` writes a capture in format 2
 abbrev convert_words : List Text

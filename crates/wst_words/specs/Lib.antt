@@ -5,6 +5,7 @@ pub mod Show
 pub mod Head
 pub mod Pair
 pub mod Session
+pub mod Judge
 pub mod Cases
 pub mod Test
 pub mod Serve

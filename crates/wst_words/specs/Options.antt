@@ -24,6 +24,10 @@ pub record GivesEnd (rows : List Row) (name : Text) (role : Role) : Type 0 where
   pub has_word : first_of name rows ≡ Some word
   pub value : role ≡ role_named word
 
+-- the option of this name gives this end, or it is left out and there is none
+abbrev pub GivesEndIfAny : List Row → Text → Option Role → Type 0
+GivesEndIfAny rows name role = role ≡ option_map role_named (first_of name rows)
+
 -- and it gives none
 abbrev pub GivesNoEnd : List Row → Text → Type 0
 GivesNoEnd rows name = (role : Role) → GivesEnd rows name role → ⊥
@@ -60,6 +64,11 @@ abbrev pub GivesNumberOr : ℕ → List Row → Text → ℕ → Type 0
 GivesNumberOr other rows name number =
     GivesNumber rows name number ⊎ ((first_of name rows ≡ None) × (number ≡ other))
 
+-- the option of this name gives this number, or it is left out and there is none
+abbrev pub GivesNumberIfAny : List Row → Text → Option ℕ → Type 0
+GivesNumberIfAny rows name None = first_of name rows ≡ None
+GivesNumberIfAny rows name (Some number) = GivesNumber rows name number
+
 abbrev pub GivesCount : List Row → Text → ℕ → Type 0
 GivesCount rows name number = GivesNumberOf 32 rows name number
 
@@ -89,7 +98,8 @@ GivesNoFlag rows name = (set : Bool) → GivesFlag rows name set → ⊥
 
 -- the argument of this name, kind and default gives nothing that its kind asks for
 abbrev pub LacksValueOf : List Row → Text → ArgumentKind → Option Text → Type 0
-LacksValueOf rows name End default = GivesNoEnd rows name
+LacksValueOf rows name End None = ⊥
+LacksValueOf rows name End (Some end) = GivesNoEnd rows name
 LacksValueOf rows name Number None = GivesNoNumberOr rows name
 LacksValueOf rows name Number (Some number) = GivesNoNumber rows name
 LacksValueOf rows name Word None = ⊥

@@ -13,6 +13,7 @@ test_command = record {
   name = codes "test";
   arguments = argument_or (codes "key") Word (codes "37fa213d")
       ∷ argument (codes "capture") Flag
+      ∷ argument (codes "explain") Flag
       ∷ argument (codes "progress") Flag
       ∷ argument (codes "timeout") Word
       ∷ argument_or (codes "budget") Number (codes "67108864")
@@ -27,4 +28,4 @@ AsksToTest rows options = (first_of (codes "key") rows ≡ Some options.key.now)
     × GivesFlag rows (codes "capture") options.capture × (first_of (codes "target") rows ≡ Some options.target.now)
     × (map (λ id. id.now) options.ids.items ≡ given_words (codes "ids") rows) × GivesProtocols rows options.protocols
     × GivesFlag rows (codes "progress") options.progress × GivesNumber rows (codes "budget") options.budget
-    × GivesWord rows (codes "timeout") options.timeout
+    × GivesWord rows (codes "timeout") options.timeout × GivesFlag rows (codes "explain") options.explain

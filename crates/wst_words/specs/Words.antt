@@ -7,6 +7,7 @@ use Rattle.wst_words.specs.Arguments.{Places, end_parser}
 use Rattle.wst_words.specs.Cases.{AsksForCases, cases_command}
 use Rattle.wst_words.specs.Commands.{CommandRow, with_commands}
 use Rattle.wst_words.specs.Head.{AsksForHead, head_command}
+use Rattle.wst_words.specs.Judge.{AsksToJudge, judge_command}
 use Rattle.wst_words.specs.Pair.{AsksToPair, pair_command}
 use Rattle.wst_words.specs.Serve.{AsksToServe, serve_command}
 use Rattle.wst_words.specs.Session.{AsksForSession, session_command}
@@ -32,7 +33,7 @@ row_of name.Show = show_command
 row_of name.Head = head_command
 row_of name.Pair = pair_command
 row_of name.Session = session_command
-row_of name.Judge = bare_command (codes "judge")
+row_of name.Judge = judge_command
 row_of name.Convert = bare_command (codes "convert")
 row_of name.Cases = cases_command
 row_of name.Test = test_command
@@ -60,7 +61,7 @@ CommandAsks (Some (name, rows)) (Show options) = (name ≡ codes "show") × Asks
 CommandAsks (Some (name, rows)) (Pair options) = (name ≡ codes "pair") × AsksToPair rows options
 CommandAsks (Some (name, rows)) (Head options) = (name ≡ codes "head") × AsksForHead rows options
 CommandAsks (Some (name, rows)) (Session options) = (name ≡ codes "session") × AsksForSession rows options
-CommandAsks (Some (name, rows)) Judge = name ≡ codes "judge"
+CommandAsks (Some (name, rows)) (Judge options) = (name ≡ codes "judge") × AsksToJudge rows options
 CommandAsks (Some (name, rows)) Convert = name ≡ codes "convert"
 CommandAsks (Some (name, rows)) (Cases options) = (name ≡ codes "cases") × AsksForCases rows options
 CommandAsks (Some (name, rows)) (Test options) = (name ≡ codes "test") × AsksToTest rows options

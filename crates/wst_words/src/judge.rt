@@ -1,6 +1,48 @@
-//! The words of the command `judge`, which has no options.
+//! The words of the command `judge`.
 
+ghost use Rattle.std.specs.Prelude.{◌≡◌, MatchOption, map};
+ghost use Rattle.clap.specs.Words.{found_of, rows_of};
+ghost use Rattle.wst_words.specs.Options.{LacksOneOf};
+ghost use Rattle.wst_words.specs.Judge.{AsksToJudge, judge_command};
+ghost use Rattle.wst_words.specs.Arguments.{argument_row};
+
+use crate::arguments::Argument;
+use crate::arguments::ArgumentKind::Flag;
 use crate::commands::HelpText;
+use crate::options::flag_of;
+use clap::ArgMatches;
+
+/// The options of `judge`.
+#[derive(Clone, Copy)]
+pub struct JudgeOptions {
+    /// Below a verdict other than PASS it is told why.
+    pub explain: bool,
+}
+
+/// Its arguments.
+static ARGUMENTS: [Argument; 1] = [Argument {
+    name: "explain",
+    kind: Flag,
+    default: None,
+    value_name: "",
+    help: "Tell below LOOSE and FAIL what was owed and what came",
+}];
+
+/// The arguments of `judge`.
+pub(crate) fn arguments() -> &'static [Argument]
+    ensures { map argument_row result.now ≡ judge_command.arguments }
+{
+    &ARGUMENTS
+}
+
+/// The options that were met. `None` where one has no value.
+pub(crate) fn judge_options(options: &ArgMatches<'_>) -> Option<JudgeOptions>
+    ensures { MatchOption result (LacksOneOf (rows_of (found_of options.now)) judge_command.arguments)
+        (AsksToJudge (rows_of (found_of options.now))) }
+{
+    let explain = flag_of(options, "explain")?;
+    Some(JudgeOptions { explain })
+}
 
 /// What help says of `judge`.
 pub(crate) fn help<'a>() -> HelpText<'a> {
@@ -41,6 +83,12 @@ one line, the first of these that applies:
   PASS                 none of these
 
 A damaged capture is told as `line N: not a capture`, and nothing is written.
+
+With --explain lines follow LOOSE and FAIL, indented by two spaces: `due T ..` for what was owed, T
+the turn of its cause, counted from 1, and `got T ..` for what came, as `text`, `binary`, `pong`,
+`ping` or `close` with its DATA (as `wst show` writes it) or code, a fault as `due T end NAME` and
+`got T failed NAME`; `got T beyond` where bytes follow the close, `got T cut` where they end inside
+a frame; `end peer T`, `end tester T` or `end broken T`, T the number of turns; and `rule SENTENCE`.
 
 Exit status: 0 PASS or LOOSE, 1 FAIL or a damaged capture, 2 wrong words, 3 a device failed or
 memory ran out.";

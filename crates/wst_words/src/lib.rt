@@ -21,6 +21,7 @@ mod words;
 
 pub use cases::CasesOptions;
 pub use head::HeadOptions;
+pub use judge::JudgeOptions;
 pub use pair::PairOptions;
 pub use serve::ServeOptions;
 pub use session::SessionOptions;

@@ -4,7 +4,7 @@ ghost use Rattle.std.specs.Prelude.{◌≡◌, IfOk, MatchOption, map, option_ma
 ghost use Rattle.clap.specs.Words.{first_of, found_of, rows_of};
 ghost use Rattle.wst_words.specs.Options.{GivesCount, GivesEnd, GivesFlag, GivesNumber, GivesNumberOr};
 ghost use Rattle.wst_words.specs.Options.{GivesNoCount, GivesNoEnd, GivesNoFlag, GivesNoNumber, GivesNoNumberOr};
-ghost use Rattle.wst_words.specs.Options.{given_words, role_named};
+ghost use Rattle.wst_words.specs.Options.{GivesEndIfAny, GivesNumberIfAny, given_words, role_named};
 
 use clap::ArgMatches;
 use std::alloc::{AllocError, Global};
@@ -17,6 +17,16 @@ pub(crate) fn end_of(options: &ArgMatches<'_>, name: &str) -> Option<Role>
 {
     let word = word_of(options, name)?;
     Some(role_of(word))
+}
+
+/// The end that the option of this name gives, where it is given.
+pub(crate) fn end_if_any(options: &ArgMatches<'_>, name: &str) -> Option<Role>
+    ensures { GivesEndIfAny (rows_of (found_of options.now)) name.now result }
+{
+    match word_of(options, name) {
+        None => None,
+        Some(word) => Some(role_of(word)),
+    }
 }
 
 /// The number that the option of this name gives. `None` where it gives none.
@@ -35,6 +45,20 @@ pub(crate) fn number_or(options: &ArgMatches<'_>, name: &str, other: u64) -> Opt
     match word_of(options, name) {
         None => Some(other),
         Some(_) => number_of(options, name),
+    }
+}
+
+/// The number that the option of this name gives, where it is given. `None` where it gives none.
+pub(crate) fn number_if_any(options: &ArgMatches<'_>, name: &str) -> Option<Option<u64>>
+    ensures { MatchOption result (GivesNoNumberOr (rows_of (found_of options.now)) name.now)
+        (GivesNumberIfAny (rows_of (found_of options.now)) name.now) }
+{
+    match word_of(options, name) {
+        None => Some(None),
+        Some(_) => match number_of(options, name) {
+            None => None,
+            Some(number) => Some(Some(number)),
+        },
     }
 }
 

@@ -7,36 +7,54 @@ ghost use Rattle.wst_words.specs.Show.{AsksToShow, show_command};
 ghost use Rattle.wst_words.specs.Arguments.{argument_row};
 
 use crate::arguments::Argument;
-use crate::arguments::ArgumentKind::{End, Number};
+use crate::arguments::ArgumentKind::{End, Flag, Number};
 use crate::commands::HelpText;
-use crate::options::{end_of, number_of};
+use crate::options::{end_if_any, flag_of, number_if_any};
 use clap::ArgMatches;
 use ws_wire::Role;
 
 /// The options of `show`.
 #[derive(Clone, Copy)]
 pub struct ShowOptions {
-    /// The end that sent the frames.
-    pub from: Role,
-    /// At most so many bytes are read.
-    pub budget: u64,
+    /// The end that sent the frames of a stream, where it is told.
+    pub from: Option<Role>,
+    /// At most so many bytes of a stream are read, where that is told.
+    pub budget: Option<u64>,
+    /// The input is a capture.
+    pub capture: bool,
+    /// The tested end of the capture, where it is told.
+    pub role: Option<Role>,
 }
 
 /// Its arguments.
-static ARGUMENTS: [Argument; 2] = [
+static ARGUMENTS: [Argument; 4] = [
     Argument {
         name: "from",
         kind: End,
-        default: Some("server"),
+        default: None,
         value_name: "END",
-        help: "The end that sent the frames",
+        help: "The end that sent the frames [default: server]",
     },
     Argument {
         name: "budget",
         kind: Number,
-        default: Some("1073741824"),
+        default: None,
         value_name: "N",
-        help: "Read at most N bytes",
+        help: "Read at most N bytes [default: 1073741824]",
+    },
+    Argument {
+        name: "capture",
+        kind: Flag,
+        default: None,
+        value_name: "",
+        help: "Show the frames of a capture, both ways, turn by turn",
+    },
+    Argument {
+        name: "role",
+        kind: End,
+        default: None,
+        value_name: "END",
+        help: "The end that was tested [default: server]",
     },
 ];
 
@@ -52,15 +70,20 @@ pub(crate) fn show_options(options: &ArgMatches<'_>) -> Option<ShowOptions>
     ensures { MatchOption result (LacksOneOf (rows_of (found_of options.now)) show_command.arguments)
         (AsksToShow (rows_of (found_of options.now))) }
 {
-    let from = end_of(options, "from")?;
-    let budget = number_of(options, "budget")?;
-    Some(ShowOptions { from, budget })
+    let budget = number_if_any(options, "budget")?;
+    let capture = flag_of(options, "capture")?;
+    Some(ShowOptions {
+        from: end_if_any(options, "from"),
+        budget,
+        capture,
+        role: end_if_any(options, "role"),
+    })
 }
 
 /// What help says of `show`.
 pub(crate) fn help<'a>() -> HelpText<'a> {
     HelpText {
-        about: "Shows the frames of a captured stream, a line each",
+        about: "Shows the frames of a stream or a capture, a line each",
         long_about: LONG_ABOUT,
         after_help: AFTER_HELP,
     }
@@ -88,8 +111,15 @@ other way round (a client masks each frame, a server none), and in ` !form` wher
 written in more bytes than needed. Nothing else is judged. Where the input ends inside a frame the
 last line is `cut at OFFSET`, and at a length whose top bit is set it is `bad length at OFFSET`.
 
-Exit status: 0 all shown, 1 cut or a bad length, 2 wrong words, 3 the budget is used up, a device
-failed or memory ran out.";
+With --capture the input is a capture, in either format, and the frames of both directions are
+shown turn by turn: `turn N`, counted from 1, then the lines of what was sent in it, behind `> `,
+and of what was got, behind `< `; then `> cut at` and `< cut at`, and at last `end peer`, `end
+tester` or `end broken`. Each frame stands in the turn of its last byte, and each direction is
+counted from 0. --role is the tested end, which `<` comes from. --from and --budget don't go with
+--capture, nor --role without it. A damaged capture is `line N: not a capture`.
+
+Exit status: 0 all shown, also of a capture, 1 cut, a bad length or a damaged capture, 2 wrong
+words, 3 the budget is used up, a device failed or memory ran out.";
 
 /// What stands at the end of the help of `show`.
 const AFTER_HELP: &str = "Example:
@@ -97,4 +127,5 @@ const AFTER_HELP: &str = "Example:
 prints
   0 text fin=1 rsv=0 key=- len=5 short 48656c6c6f
 At byte 0 begins a text frame, the last of its message, with no reserved bit, not masked. Its
-payload has five bytes, whose number is written in the short form: `Hello`.";
+payload has five bytes, whose number is written in the short form: `Hello`. Of a case:
+  wst test --capture own 1.1.1 | wst show --capture";

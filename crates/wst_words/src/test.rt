@@ -20,6 +20,8 @@ pub struct TestOptions<'a> {
     pub key: &'a str,
     /// The capture is written in place of the verdict.
     pub capture: bool,
+    /// Below a verdict other than PASS it is told why.
+    pub explain: bool,
     /// The name of each case is told before it runs.
     pub progress: bool,
     /// For so many seconds, as a word, a byte is waited for, where that is given.
@@ -35,7 +37,7 @@ pub struct TestOptions<'a> {
 }
 
 /// Its arguments.
-static ARGUMENTS: [Argument; 8] = [
+static ARGUMENTS: [Argument; 9] = [
     Argument {
         name: "key",
         kind: Word,
@@ -49,6 +51,13 @@ static ARGUMENTS: [Argument; 8] = [
         default: None,
         value_name: "",
         help: "Write the capture of one case",
+    },
+    Argument {
+        name: "explain",
+        kind: Flag,
+        default: None,
+        value_name: "",
+        help: "Tell below LOOSE and FAIL what was owed and what came",
     },
     Argument {
         name: "progress",
@@ -123,12 +132,14 @@ fn options_with<'a>(options: &ArgMatches<'a>, ids: Vec<&'a str>) -> Option<TestO
 {
     let key = word_of(options, "key")?;
     let capture = flag_of(options, "capture")?;
+    let explain = flag_of(options, "explain")?;
     let progress = flag_of(options, "progress")?;
     let budget = number_of(options, "budget")?;
     let target = word_of(options, "target")?;
     Some(TestOptions {
         key,
         capture,
+        explain,
         progress,
         timeout: word_of(options, "timeout"),
         budget,
@@ -170,7 +181,8 @@ where none is. An ID that ends in `*` stands for all cases whose IDs begin with 
 in the order of `wst cases`, which lists the IDs. `wst judge --help` says what each WHY means. NAME
 is Head, Version, Status, Upgrade, Connection, Accept, Extension, Protocol or TooLarge. With
 --capture, which takes one case by its whole ID, the capture of what went over the connection is
-written in place of the lines, and the status is that of its verdict. Nothing is read.
+written in place of the lines, and the status is that of its verdict. Nothing is read. With
+--explain the lines that `wst judge --help` tells follow LOOSE and FAIL, but for FAIL Head.
 
 With --protocols each request offers the subprotocols of LIST in its order, which `wst head --help`
 describes. An answer that names another one, or more than one, is to be refused as Protocol. A

@@ -10,6 +10,7 @@ ghost use Rattle.wst_words.specs.Words.{CommandAsks, CommandAsksNothing, IsOfCla
 use crate::cases::{CasesOptions, cases_options};
 use crate::commands::wst_command;
 use crate::head::{HeadOptions, head_options};
+use crate::judge::{JudgeOptions, judge_options};
 use crate::pair::{PairOptions, pair_options};
 use crate::serve::{ServeOptions, serve_options};
 use crate::session::{SessionOptions, session_options};
@@ -30,7 +31,7 @@ pub enum Task<'a> {
     /// The answers of one endpoint to the calls that come in.
     Session(SessionOptions),
     /// The verdict on the capture that comes in.
-    Judge,
+    Judge(JudgeOptions),
     /// The capture that comes in, in format 2.
     Convert,
     /// The list of cases, or the text of one.
@@ -123,7 +124,7 @@ fn plain_task<'a>(name: &str, options: &ArgMatches<'a>) -> Option<Task<'a>>
         "pair" => Some(Task::Pair(pair_options(options)?)),
         "head" => Some(Task::Head(head_options(options))),
         "session" => Some(Task::Session(session_options(options)?)),
-        "judge" => Some(Task::Judge),
+        "judge" => Some(Task::Judge(judge_options(options)?)),
         "convert" => Some(Task::Convert),
         "cases" => Some(Task::Cases(cases_options(options))),
         "serve" => Some(Task::Serve(serve_options(options)?)),

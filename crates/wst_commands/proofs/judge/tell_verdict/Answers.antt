@@ -1,4 +1,4 @@
-use Rattle.std.proofs.Common.{rules, ◌≡◌}
+use Rattle.std.proofs.Common.{rules, ◌≡◌, ◌++◌, string_bytes}
 use Rattle.ws_frame.specs.Devices.{watched}
 use Rattle.wst_commands.specs.Judge.{exit_of, verdict_line}
 use Rattle.wst_commands.proofs.Delivering.{delivers_same}
@@ -6,9 +6,12 @@ use Rattle.wst_commands.proofs.judge.tell_verdict.Goals as goal
 
 pub returns-in-Ok-format : goal.returns-in-Ok-format
 returns-in-Ok-format g c =
-    let line : c.as_bytes.result.now ≡ verdict_line c.in-Ok.verdict = search rules in (
-      c.in-Ok.verdict,
-      c.in-Ok.ensures,
-      delivers_same c.exit_of.result (exit_of c.in-Ok.verdict) c.as_bytes.result.now (verdict_line c.in-Ok.verdict) c.deliver.result
-          (watched g.W.Write.contents c.args.writer.now c.deliver.new.writer) c.exit_of.ensures line c.deliver.ensures,
+    let told = c.in-Ok.told in
+    let lines : c.as_bytes.result.now ≡ verdict_line told.verdict ++ string_bytes told.below = search rules in (
+      told.verdict,
+      string_bytes told.below,
+      c.in-Ok.ensures.verdict,
+      c.in-Ok.ensures.below,
+      delivers_same c.exit_of.result (exit_of told.verdict) c.as_bytes.result.now (verdict_line told.verdict ++ string_bytes told.below) c.deliver.result
+          (watched g.W.Write.contents c.args.writer.now c.deliver.new.writer) c.exit_of.ensures lines c.deliver.ensures,
     )

@@ -6,6 +6,6 @@ use Rattle.wst_run.proofs.testing.tell_case.Goals as goal
 
 pub returns : goal.returns
 returns g c =
-    let line : c.as_bytes.result.now ≡ test_line (c.args.case.now, c.args.outcome) = search rules in
-    delivers_same c.args.done c.args.done c.as_bytes.result.now (test_line (c.args.case.now, c.args.outcome)) c.deliver.result
+    let line : c.as_bytes.result.now ≡ test_line (c.args.case.now, c.args.outcome.now) = search rules in
+    delivers_same c.args.done c.args.done c.as_bytes.result.now (test_line (c.args.case.now, c.args.outcome.now)) c.deliver.result
     (watched g.W.Write.contents c.args.writer.now c.deliver.new.writer) refl line c.deliver.ensures

@@ -1,0 +1,159 @@
+-- Why a verdict is told: the lines below it. Each is indented by two spaces and ends with LF, and turns are counted
+-- from 1.
+use Rattle.std.specs.Prelude.{◌≡◌, ◌≢◌, ℕ, ◌+◌, ◌&&◌, Bool, true, false, List, [], ◌∷◌, ◌++◌, length, take}
+use Rattle.std.specs.Prelude.{Option, Some, None, codes, is_none, string_bytes}
+use Rattle.std.specs.List.{All, concat, flat_map}
+use Rattle.std.specs.Fmt.{decimal}
+use Rattle.ws_wire.specs.declared.role.Role.{Role}
+use Rattle.ws_frame.specs.Lines.{data_word}
+use Rattle.ws_session.specs.Words.{kind_word, reason_name}
+use Rattle.ws_scripts.specs.declared.transcript.Turn.{Turn}
+use Rattle.ws_scripts.specs.declared.transcript.Ended.{Ended}
+use Rattle.ws_scripts.specs.declared.transcript.Ended.TheVariants.{Tester, Peer, Broken}
+use Rattle.ws_scripts.specs.declared.transcript.Transcript.{Transcript}
+use Rattle.ws_suite.specs.Explanation.{IsExplanationOf}
+use Rattle.ws_suite.specs.Verdicts.{IsVerdictOf}
+use Rattle.ws_suite.specs.Words.{rule_words}
+use Rattle.ws_suite.specs.declared.evidence.Direction.{Direction}
+use Rattle.ws_suite.specs.declared.evidence.Ending.{Ending}
+use Rattle.ws_suite.specs.declared.evidence.Ending.TheVariants.{Closed, Failed, Doomed}
+use Rattle.ws_suite.specs.declared.evidence.InTurn.{InTurn}
+use Rattle.ws_suite.specs.declared.evidence.Reply.{Reply}
+use Rattle.ws_suite.specs.declared.evidence.Reply.TheVariants as reply
+use Rattle.ws_suite.specs.declared.explaining.Explanation.{Explanation}
+use Rattle.ws_suite.specs.declared.verdict.Verdict.{Verdict}
+use Rattle.ws_suite.specs.declared.verdict.Verdict.TheVariants.{Pass, Loose, Fail}
+use Rattle.wst_commands.specs.declared.explaining.Judgement.{Judgement}
+use Rattle.wst_commands.specs.declared.explanation_lines.Side.{Side}
+use Rattle.wst_commands.specs.declared.explanation_lines.Side.TheVariants.{Due, Got}
+
+-- ---- words
+
+-- of what was owed, or of what came
+abbrev pub side_word : Side → List ℕ
+side_word Due = codes "due"
+side_word Got = codes "got"
+
+-- a fault that was sent ends what is owed
+abbrev pub fault_word : Side → List ℕ
+fault_word Due = codes "end"
+fault_word Got = codes "failed"
+
+-- a payload as `show` writes it: a dash, or its first bytes, at most sixteen, and two dots where there are more
+abbrev pub shown_data : List ℕ → List ℕ
+shown_data payload = data_word (length payload) (take 16 payload)
+
+abbrev pub reply_words : Reply → List ℕ
+reply_words (reply.Message message) = kind_word message.kind ++ (codes " " ++ shown_data message.payload)
+reply_words (reply.Pong payload) = codes "pong " ++ shown_data payload
+reply_words (reply.Ping payload) = codes "ping " ++ shown_data payload
+
+abbrev pub ending_words : Side → Ending → List ℕ
+ending_words side (Closed None) = codes "close none"
+ending_words side (Closed (Some code)) = codes "close " ++ decimal code
+ending_words side (Failed reason) = fault_word side ++ (codes " " ++ reason_name reason)
+ending_words side Doomed = fault_word side ++ codes " Doomed"
+
+-- ---- lines
+
+-- these words of something in its turn
+abbrev pub line_in : Side → ℕ → List ℕ → List ℕ
+line_in side turn words =
+    concat (codes "  " ∷ side_word side ∷ codes " " ∷ decimal (turn + 1) ∷ codes " " ∷ words ∷ codes "\n" ∷ [])
+
+abbrev pub reply_line : Side → InTurn Reply → List ℕ
+reply_line side reply = line_in side reply.turn (reply_words reply.what)
+
+abbrev pub ending_line : Side → Option (InTurn Ending) → List ℕ
+ending_line side None = []
+ending_line side (Some ending) = line_in side ending.turn (ending_words side ending.what)
+
+-- what was owed, or what came: a line each, in its order, and then one for the close or the fault
+abbrev pub direction_lines : Side → Direction → List ℕ
+direction_lines side direction =
+    flat_map (reply_line side) direction.replies ++ ending_line side direction.ending
+
+-- where something was got in a turn that has no words of its own
+abbrev pub note_line : List ℕ → Option ℕ → List ℕ
+note_line note None = []
+note_line note (Some turn) = line_in Got turn note
+
+abbrev pub ended_word : Ended → List ℕ
+ended_word Tester = codes "tester"
+ended_word Peer = codes "peer"
+ended_word Broken = codes "broken"
+
+-- who ended the connection, and after how many turns
+abbrev pub ended_line : Ended → ℕ → List ℕ
+ended_line ended turns = concat (codes "  end " ∷ ended_word ended ∷ codes " " ∷ decimal turns ∷ codes "\n" ∷ [])
+
+-- the rule behind the verdict; behind a Pass there is none
+abbrev pub rule_line : Option (List ℕ) → List ℕ
+rule_line None = []
+rule_line (Some sentence) = concat (codes "  rule " ∷ sentence ∷ codes "\n" ∷ [])
+
+-- The lines of an explanation: what was owed, what came, where bytes follow the close that came, where the bytes that
+-- came end inside a frame, who ended it, and the rule.
+abbrev pub explanation_lines : Role → Option ℕ → Explanation → List ℕ
+explanation_lines tested cut x = concat (
+    direction_lines Due x.due ∷ direction_lines Got x.got ∷ note_line (codes "beyond") x.beyond
+    ∷ note_line (codes "cut") cut ∷ ended_line x.ended x.turns ∷ rule_line (rule_words tested x.verdict) ∷ [])
+
+-- ---- where what came is cut
+
+-- the bytes that came end inside a frame, behind neither a close nor a fault
+abbrev pub is_cut : Direction → Bool
+is_cut direction = is_none direction.ending && direction.has_rest
+
+-- bytes were got in the turn of this number, from 0, and in no later one
+pub record GotLastIn (turns : List Turn) (number : ℕ) : Type 0 where
+  pub front : List Turn
+  pub turn : Turn
+  pub back : List Turn
+  pub all : turns ≡ front ++ turn ∷ back
+  pub place : length front ≡ number
+  pub got : turn.got ≢ []
+  pub no_more : All (λ (later : Turn). later.got ≡ []) back
+
+-- the last turn in which bytes were got, where there is one
+abbrev pub IsLastGot : List Turn → Option ℕ → Type 0
+IsLastGot turns None = All (λ (turn : Turn). turn.got ≡ []) turns
+IsLastGot turns (Some number) = GotLastIn turns number
+
+-- the last turn in which bytes were got, by that before this turn and what was got in it
+abbrev pub last_after : Option ℕ → ℕ → List ℕ → Option ℕ
+last_after last number [] = last
+last_after last number (byte ∷ bytes) = Some number
+
+-- the turn in which the bytes that came end inside a frame: the last one in which bytes were got
+abbrev pub IsCutIn : Bool → List Turn → Option ℕ → Type 0
+IsCutIn true turns cut = IsLastGot turns cut
+IsCutIn false turns cut = cut ≡ None
+
+-- the text is the lines of the explanation of a verdict on this transcript
+abbrev pub IsExplanationText : Role → Transcript → Explanation → List ℕ → Type 0
+IsExplanationText tested transcript x text =
+    (cut : Option ℕ) × IsCutIn (is_cut x.got) transcript.turns cut × (text ≡ explanation_lines tested cut x)
+
+-- ---- what stands below a verdict
+
+-- why it is told
+abbrev pub Explains : Role → Transcript → Verdict → List ℕ → Type 0
+Explains tested transcript verdict below = (x : Explanation) × IsExplanationOf tested transcript x
+    × (x.verdict ≡ verdict) × IsExplanationText tested transcript x below
+
+-- nothing below a Pass
+abbrev pub IsExplained : Role → Transcript → Verdict → List ℕ → Type 0
+IsExplained tested transcript Pass below = below ≡ []
+IsExplained tested transcript (Loose why) below = Explains tested transcript (Loose why) below
+IsExplained tested transcript (Fail why) below = Explains tested transcript (Fail why) below
+
+-- nor where that isn't asked for
+abbrev pub StandsBelow : Bool → Role → Transcript → Verdict → List ℕ → Type 0
+StandsBelow false tested transcript verdict below = below ≡ []
+StandsBelow true tested transcript verdict below = IsExplained tested transcript verdict below
+
+-- the verdict on the transcript, and what stands below it
+pub record IsJudgementOf (explains : Bool) (tested : Role) (transcript : Transcript) (told : Judgement) : Type 0 where
+  pub verdict : IsVerdictOf tested transcript told.verdict
+  pub below : StandsBelow explains tested transcript told.verdict (string_bytes told.below)

@@ -1,0 +1,119 @@
+//! A verdict, and why it is told. The lines stand in docs/FORMATS.md.
+
+ghost use Rattle.std.specs.Prelude.{◌≡◌, IfOk, string_bytes};
+ghost use Rattle.ws_suite.specs.Explanation.{IsExplanationOf};
+ghost use Rattle.wst_commands.specs.Explaining.{IsCutIn, IsExplained, IsExplanationText, IsJudgementOf, IsLastGot, is_cut};
+ghost use Rattle.wst_commands.specs.Explaining.{last_after};
+
+use crate::explanation_lines::ExplanationLines;
+use std::alloc::Global;
+use ws_base::NoMemory;
+use ws_suite::{Direction, Explanation, Transcript, Turn, Verdict, explain, judge_end};
+use ws_wire::Role;
+
+/// The verdict on a transcript, and the lines below its own.
+#[derive(Drop)]
+pub struct Judgement {
+    pub verdict: Verdict,
+    /// Why the verdict is told: no lines of a Pass, nor where they aren't asked for.
+    pub below: String,
+}
+
+/// The verdict on a tested end of this role by all that went over a connection; with `explains` set also why it is
+/// told, if it isn't Pass.
+pub fn judgement_of(
+    alloc: Global,
+    explains: bool,
+    tested: Role,
+    transcript: &Transcript,
+) -> Result<Judgement, NoMemory>
+    ensures { IfOk result (λ told. IsJudgementOf explains tested transcript.now told) }
+{
+    if !explains {
+        let verdict = judge_end(alloc, tested, transcript)?;
+        return Ok(Judgement {
+            verdict,
+            below: String::new(alloc),
+        });
+    }
+    let explanation = explain(alloc, tested, transcript)?;
+    let below = lines_below(alloc, tested, transcript, &explanation)?;
+    Ok(Judgement {
+        verdict: explanation.verdict,
+        below,
+    })
+}
+
+/// The lines below the verdict of an explanation.
+fn lines_below(
+    alloc: Global,
+    tested: Role,
+    transcript: &Transcript,
+    explanation: &Explanation,
+) -> Result<String, NoMemory>
+    requires { IsExplanationOf tested transcript.now explanation.now }
+    ensures { IfOk result (λ below.
+        IsExplained tested transcript.now explanation.now.verdict (string_bytes below)) }
+{
+    match explanation.verdict {
+        Verdict::Pass => Ok(String::new(alloc)),
+        Verdict::Loose(_) => {
+            let below = write_explanation(alloc, tested, transcript, explanation)?;
+            Ok(below)
+        }
+        Verdict::Fail(_) => {
+            let below = write_explanation(alloc, tested, transcript, explanation)?;
+            Ok(below)
+        }
+    }
+}
+
+/// The lines of an explanation of the verdict on this transcript, each indented by two spaces and ended by LF.
+pub fn write_explanation(
+    alloc: Global,
+    tested: Role,
+    transcript: &Transcript,
+    explanation: &Explanation,
+) -> Result<String, NoMemory>
+    ensures { IfOk result (λ text. IsExplanationText tested transcript.now explanation.now (string_bytes text)) }
+{
+    let lines = ExplanationLines {
+        tested,
+        explanation,
+        cut: cut_in(&explanation.got, transcript.turns.as_slice()),
+    };
+    let text = format!(in alloc; "{lines}")?;
+    Ok(text)
+}
+
+/// The turn in which what came ends inside a frame, if it does.
+fn cut_in(got: &Direction, turns: &[Turn]) -> Option<usize>
+    ensures { IsCutIn (is_cut got.now) turns.now result }
+{
+    if got.ending.is_none() && got.has_rest {
+        last_got(turns)
+    } else {
+        None
+    }
+}
+
+/// The last turn in which bytes were got.
+fn last_got(turns: &[Turn]) -> Option<usize>
+    ensures { IsLastGot turns.now result }
+{
+    let mut last = None;
+    for number in 0..turns.len() {
+        last = last_after(last, number, turns[number].got.as_slice());
+    }
+    last
+}
+
+/// The last turn in which bytes were got, by that before this turn and what was got in it.
+fn last_after(last: Option<usize>, number: usize, got: &[u8]) -> Option<usize>
+    ensures { result ≡ last_after last number got.now }
+{
+    match got {
+        [] => last,
+        [_, ..] => Some(number),
+    }
+}

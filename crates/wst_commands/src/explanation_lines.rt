@@ -1,0 +1,261 @@
+//! How the lines of an explanation are written.
+
+ghost use Rattle.std.specs.Prelude.{◌≡◌};
+ghost use Rattle.wst_commands.specs.Explaining.{ended_word, fault_word, side_word};
+ghost use Rattle.wst_commands.specs.InnerExplaining.{printed_data, printed_ending, printed_explanation, printed_line};
+ghost use Rattle.wst_commands.specs.InnerExplaining.{printed_note, printed_reply, printed_rule, printed_side};
+
+use std::fmt;
+use ws_formats::HexDigits;
+use ws_scripts::Ended;
+use ws_suite::{Direction, Ending, Explanation, InTurn, Reply, rule};
+use ws_wire::Role;
+
+/// A payload is shown up to so many bytes.
+const SHOWN: usize = 16;
+
+/// What was owed, or what came.
+#[derive(Clone, Copy)]
+pub(crate) enum Side {
+    Due,
+    Got,
+}
+
+impl Side {
+    /// Its word.
+    fn word(self) -> &'static str
+        ensures { result.now ≡ side_word self }
+    {
+        match self {
+            Side::Due => "due",
+            Side::Got => "got",
+        }
+    }
+
+    /// The word of a fault in it.
+    fn fault_word(self) -> &'static str
+        ensures { result.now ≡ fault_word self }
+    {
+        match self {
+            Side::Due => "end",
+            Side::Got => "failed",
+        }
+    }
+}
+
+/// The lines of an explanation.
+#[derive(Drop)]
+pub(crate) struct ExplanationLines<'a> {
+    pub(crate) tested: Role,
+    pub(crate) explanation: &'a Explanation,
+    /// The turn, from 0, in which what came ends inside a frame.
+    pub(crate) cut: Option<usize>,
+}
+
+impl fmt::Display for ExplanationLines<'_> {
+    ghost use Rattle.std.specs.Prelude.{Some};
+
+    ghost output = { λ lines. Some (printed_explanation lines) };
+
+    fn fmt<W: fmt::Write>(&self, f: &mut fmt::Formatter<W>) -> fmt::Result {
+        let due = SideLines {
+            side: Side::Due,
+            direction: &self.explanation.due,
+        };
+        let got = SideLines {
+            side: Side::Got,
+            direction: &self.explanation.got,
+        };
+        let beyond = NoteLine {
+            turn: self.explanation.beyond,
+            note: "beyond",
+        };
+        let cut = NoteLine {
+            turn: self.cut,
+            note: "cut",
+        };
+        let ended = ended_word(self.explanation.ended);
+        let rule = RuleLine(rule(self.tested, self.explanation.verdict));
+        write!(f, "{due}{got}{beyond}{cut}")?;
+        writeln!(f, "  end {ended} {}", self.explanation.turns)?;
+        write!(f, "{rule}")
+    }
+}
+
+/// The lines of what was owed, or of what came.
+#[derive(Drop)]
+struct SideLines<'a> {
+    side: Side,
+    direction: &'a Direction,
+}
+
+impl fmt::Display for SideLines<'_> {
+    ghost use Rattle.std.specs.Prelude.{Some};
+
+    ghost output = { λ lines. Some (printed_side lines) };
+
+    fn fmt<W: fmt::Write>(&self, f: &mut fmt::Formatter<W>) -> fmt::Result {
+        for reply in self.direction.replies.as_slice() {
+            let line = ReplyLine {
+                side: self.side,
+                reply,
+            };
+            write!(f, "{line}")?;
+        }
+        let last = EndingLine {
+            side: self.side,
+            ending: &self.direction.ending,
+        };
+        write!(f, "{last}")
+    }
+}
+
+/// The line of a message, a pong or a ping.
+#[derive(Drop)]
+struct ReplyLine<'a> {
+    side: Side,
+    reply: &'a InTurn<Reply>,
+}
+
+impl fmt::Display for ReplyLine<'_> {
+    ghost use Rattle.std.specs.Prelude.{Some};
+
+    ghost output = { λ line. Some (printed_reply line) };
+
+    fn fmt<W: fmt::Write>(&self, f: &mut fmt::Formatter<W>) -> fmt::Result {
+        let start = LineStart {
+            side: self.side,
+            turn: self.reply.turn,
+        };
+        match &self.reply.what {
+            Reply::Message(message) => {
+                let data = Shown(message.payload.as_slice());
+                writeln!(f, "{start}{} {data}", message.kind)
+            }
+            Reply::Pong(payload) => writeln!(f, "{start}pong {}", Shown(payload.as_slice())),
+            Reply::Ping(payload) => writeln!(f, "{start}ping {}", Shown(payload.as_slice())),
+        }
+    }
+}
+
+/// The line of a close or a fault, if there is one.
+#[derive(Drop)]
+struct EndingLine<'a> {
+    side: Side,
+    ending: &'a Option<InTurn<Ending>>,
+}
+
+impl fmt::Display for EndingLine<'_> {
+    ghost use Rattle.std.specs.Prelude.{Some};
+
+    ghost output = { λ line. Some (printed_ending line) };
+
+    fn fmt<W: fmt::Write>(&self, f: &mut fmt::Formatter<W>) -> fmt::Result {
+        let Some(ending) = self.ending else {
+            return Ok(());
+        };
+        let start = LineStart {
+            side: self.side,
+            turn: ending.turn,
+        };
+        let fault = self.side.fault_word();
+        match ending.what {
+            Ending::Closed(None) => writeln!(f, "{start}close none"),
+            Ending::Closed(Some(code)) => writeln!(f, "{start}close {code}"),
+            Ending::Failed(reason) => writeln!(f, "{start}{fault} {reason}"),
+            Ending::Doomed => writeln!(f, "{start}{fault} Doomed"),
+        }
+    }
+}
+
+/// The line of a note on what came in a turn, if there is one.
+#[derive(Drop)]
+struct NoteLine {
+    turn: Option<usize>,
+    note: &'static str,
+}
+
+impl fmt::Display for NoteLine {
+    ghost use Rattle.std.specs.Prelude.{Some};
+
+    ghost output = { λ line. Some (printed_note line) };
+
+    fn fmt<W: fmt::Write>(&self, f: &mut fmt::Formatter<W>) -> fmt::Result {
+        match self.turn {
+            None => Ok(()),
+            Some(turn) => {
+                let start = LineStart {
+                    side: Side::Got,
+                    turn,
+                };
+                writeln!(f, "{start}{}", self.note)
+            }
+        }
+    }
+}
+
+/// The line of a rule, if there is one.
+#[derive(Drop)]
+struct RuleLine(Option<&'static str>);
+
+impl fmt::Display for RuleLine {
+    ghost use Rattle.std.specs.Prelude.{Some};
+
+    ghost output = { λ line. Some (printed_rule line) };
+
+    fn fmt<W: fmt::Write>(&self, f: &mut fmt::Formatter<W>) -> fmt::Result {
+        match self.0 {
+            None => Ok(()),
+            Some(sentence) => writeln!(f, "  rule {sentence}"),
+        }
+    }
+}
+
+/// What a line begins with: its side, and its turn, from 0.
+#[derive(Drop)]
+struct LineStart {
+    side: Side,
+    turn: usize,
+}
+
+impl fmt::Display for LineStart {
+    ghost use Rattle.std.specs.Prelude.{Some};
+
+    ghost output = { λ start. Some (printed_line start) };
+
+    fn fmt<W: fmt::Write>(&self, f: &mut fmt::Formatter<W>) -> fmt::Result {
+        let number = self.turn as u128 + 1;
+        write!(f, "  {} {number} ", self.side.word())
+    }
+}
+
+/// A payload, of which the first bytes are shown.
+#[derive(Drop)]
+struct Shown<'a>(&'a [u8]);
+
+impl fmt::Display for Shown<'_> {
+    ghost use Rattle.std.specs.Prelude.{Some};
+
+    ghost output = { λ payload. Some (printed_data payload) };
+
+    fn fmt<W: fmt::Write>(&self, f: &mut fmt::Formatter<W>) -> fmt::Result {
+        if self.0.is_empty() {
+            write!(f, "-")
+        } else if self.0.len() > SHOWN {
+            write!(f, "{}..", HexDigits(&self.0[..SHOWN]))
+        } else {
+            write!(f, "{}", HexDigits(self.0))
+        }
+    }
+}
+
+/// The word for how a connection ended.
+fn ended_word(ended: Ended) -> &'static str
+    ensures { result.now ≡ ended_word ended }
+{
+    match ended {
+        Ended::Tester => "tester",
+        Ended::Peer => "peer",
+        Ended::Broken => "broken",
+    }
+}
