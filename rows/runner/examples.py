@@ -4,9 +4,9 @@ from runner.commands import Run
 
 BESIDE = (".out", ".args", ".faults", ".status")
 
-# Folders that no command is run on: the example of two commands, which `rows/loopback/run` runs, and the scripts, which
-# `rows/cases/scripts.rows` reads.
-OTHERS = ("loopback", "scripts")
+# Folders that no command is run on: the example of two commands, which `rows/loopback/run` runs, the scripts, which
+# `rows/cases/scripts.rows` reads, and the broken server, which README.md runs.
+OTHERS = ("broken", "loopback", "scripts")
 
 
 def examples_below(folder):
