@@ -4,3 +4,4 @@ pub mod TestLemmas
 pub mod PlanLemmas
 pub mod ServeLemmas
 pub mod TargetLemmas
+pub mod ObserverLemmas
