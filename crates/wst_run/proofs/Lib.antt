@@ -5,3 +5,4 @@ pub mod PlanLemmas
 pub mod ServeLemmas
 pub mod TargetLemmas
 pub mod ObserverLemmas
+pub mod LineLemmas

@@ -7,6 +7,7 @@ pub mod Pair
 pub mod Session
 pub mod Cases
 pub mod Test
+pub mod Send
 pub mod Serve
 pub mod Words
 pub mod Examples
