@@ -1,4 +1,4 @@
-"""What `wst serve` and `wst test` run, and the other ends of their connections. Nothing waits longer than SECONDS."""
+"""What `wst serve`, `wst test` and `wst send` run, and the other ends of their connections. Nothing waits longer than SECONDS."""
 
 import select
 import socket
@@ -6,6 +6,8 @@ import struct
 import subprocess
 import time
 from pathlib import Path
+
+from wire import request_to
 
 WST = Path(__file__).resolve().parents[2] / "crates/wst/out/wst"
 SECONDS = 10
@@ -105,6 +107,27 @@ class Tested(Running):
         assert told == faults, told
 
 
+class Sent(Tested):
+    """`wst send` with these options and this script against a socket of ours that listens."""
+
+    def __init__(self, script, *options, stdout=subprocess.PIPE):
+        self.listener = socket.create_server(("127.0.0.1", 0))
+        self.listener.settimeout(SECONDS)
+        self.address = f"127.0.0.1:{self.listener.getsockname()[1]}"
+        self.process = start("send", *options, self.address, stdin=subprocess.PIPE, stdout=stdout)
+        self.process.stdin.write(script)
+        self.process.stdin.close()
+        self.process.stdin = None
+
+    def accepted(self, response):
+        """The server's end of the connection, behind the head and this answer to it."""
+        client = self.next()
+        asked = request_to(self.address)
+        assert client.get(len(asked)) == asked
+        client.send(response)
+        return client
+
+
 class Client:
     """One end of a connection, of raw bytes."""
 
@@ -165,10 +188,8 @@ def connected(port):
             time.sleep(0.01)
 
 
-def start(*words, stdout=subprocess.PIPE):
-    process = subprocess.Popen(
-        [WST, *words], stdin=subprocess.DEVNULL, stdout=stdout, stderr=subprocess.PIPE
-    )
+def start(*words, stdin=subprocess.DEVNULL, stdout=subprocess.PIPE):
+    process = subprocess.Popen([WST, *words], stdin=stdin, stdout=stdout, stderr=subprocess.PIPE)
     running.append(process)
     return process
 

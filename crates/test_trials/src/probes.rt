@@ -11,7 +11,7 @@ use std::alloc::Global;
 use std::io::Read;
 use std::test::Fail;
 use ws_base::Sequence;
-use ws_connection::{Asked, Connection, EndsDirection, NONCE, Probe, probe};
+use ws_connection::{Asked, Connection, EndsDirection, NONCE, Probe, Silent, probe};
 use ws_frame::{ByteReader, Failing};
 use ws_suite::{Case, Chop, Ended, Verdict, case, judge};
 use ws_upgrade::{HeadFault, request_with};
@@ -60,7 +60,7 @@ pub fn run_case_with<R: Read, W: EndsDirection>(
         has_timeouts,
     };
     match case(alloc, id)? {
-        Some(case) => Ok(Some(probe(alloc, &case, &asked, connection)?)),
+        Some(case) => Ok(Some(probe(alloc, &case, &asked, connection, &mut Silent)?)),
         None => Ok(None),
     }
 }
@@ -236,7 +236,7 @@ fn a_script_without_turns(rt: HostRuntime) -> Result<(), Fail> {
     let case = no_steps(rt.alloc());
     let answer = answer(rt.alloc(), 8)?;
     let mut connection = Connection::new(answer.as_slice(), Vec::new(rt.alloc()), BUDGET);
-    let ran = probe(rt.alloc(), &case, &ASKED, &mut connection)?;
+    let ran = probe(rt.alloc(), &case, &ASKED, &mut connection, &mut Silent)?;
     let after = after_run(rt.alloc(), Some(ran))?;
     same_answer(&rt, 0, ended_so(&after, Some(Ended::Tester)), true);
     same_number(&rt, 1, after.turns, 1);
@@ -254,7 +254,7 @@ fn a_script_without_turns_reads_no_further(rt: HostRuntime) -> Result<(), Fail> 
     let answer = answer(rt.alloc(), 8)?;
     let reader = ByteReader::new(answer.as_slice(), Failing::Never);
     let mut connection = Connection::new(reader, Vec::new(rt.alloc()), BUDGET);
-    let ran = probe(rt.alloc(), &case, &ASKED, &mut connection)?;
+    let ran = probe(rt.alloc(), &case, &ASKED, &mut connection, &mut Silent)?;
     let after = after_run(rt.alloc(), Some(ran))?;
     same_answer(&rt, 0, ended_so(&after, Some(Ended::Tester)), true);
     same_number(&rt, 1, after.turns, 0);

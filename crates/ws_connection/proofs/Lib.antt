@@ -3,3 +3,4 @@ pub mod ServingLemmas
 pub mod ConnectionLemmas
 pub mod StandingLemmas
 pub mod ProbingLemmas
+pub mod ObservingLemmas

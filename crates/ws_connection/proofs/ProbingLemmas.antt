@@ -1,6 +1,6 @@
 -- What is recorded of a connection to a server, turn by turn.
 use Rattle.std.proofs.Common.{◌≡◌, ap₂, ℕ, ◌+◌, ◌-◌, ◌<◌, ◌≤◌, ◌⊎◌, ◌↔◌, inl, inr, List, [], ◌∷◌, ◌++◌, length, length-append, get_or, take, drop, Bool, true, false, ◌||◌, Option, refl, sym, ap, ◌∙◌, subst, arith, append_assoc, append-nil, take_all, take-append-drop}
-use Rattle.std.proofs.lemmas.List.{length-take-le, take-append-le, take_rest, take_more, length-drop, map-append}
+use Rattle.std.proofs.lemmas.List.{length-take-le, take-append-le, take_more, length-drop, map-append}
 use Rattle.std.proofs.lemmas.List.Folds.{concat-append}
 use Rattle.std.proofs.lemmas.Bool.{cases_lt, ltb-true, ltb-false}
 use Rattle.std.proofs.Math.Dec.{ltb}
@@ -769,10 +769,6 @@ pub may_after : (y z : ConnectionValue) → MayWrite y → z.input ≡ y.input �
 may_after y z may input works ended = (ap (λ (i : InputValue). takes_part i.state) input ∙ may.0, works, ended ∙ may.2)
 
 -- ---- the head of the answer
-
--- what was put behind nothing, from a place on
-pub behind_of : (items none room all : List ℕ) (used : ℕ) → items ≡ none ++ take (length room - used) (drop used room) → none ≡ [] → room ≡ all → items ≡ drop used all
-behind_of items none room all used is e same = is ∙ ap (λ (l : List ℕ). l ++ take (length room - used) (drop used room)) e ∙ take_rest room used ∙ ap (λ (l : List ℕ). drop used l) same
 
 -- what came of a connection once the request was written, where the answer accepts
 pub runs_after : {protocol : Option ℕ} (turns offers : List (List ℕ)) (transcript : Transcript) (head first : List ℕ) (used : ℕ) (x y z : ConnectionValue)

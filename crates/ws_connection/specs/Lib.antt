@@ -6,5 +6,6 @@ pub mod ConnectionValues
 pub mod Connections
 pub mod Standings
 pub mod Probing
+pub mod Observing
 pub mod Serving
 pub mod InnerProbeTurns

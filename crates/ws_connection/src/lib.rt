@@ -9,6 +9,7 @@
 
 mod connection;
 mod incoming;
+mod observer;
 mod probe_end;
 mod probing;
 mod protocols;
@@ -20,6 +21,7 @@ mod standing;
 
 pub use connection::{Connection, EndsDirection};
 pub use incoming::Incoming;
+pub use observer::{Observer, Silent};
 pub use probe_end::Probe;
 pub use probing::{Asked, NONCE, probe};
 pub use protocols::{Protocols, protocols_of};

@@ -3,16 +3,18 @@
 mod script;
 mod turn;
 
-ghost use Rattle.std.specs.Prelude.{◌≡◌, map, IfOk};
+ghost use Rattle.std.specs.Prelude.{◌≡◌, ◌≤◌, drop, length, map, IfOk};
 ghost use Rattle.std.specs.List.{concat};
 ghost use Rattle.ws_upgrade.specs.Protocols.{AreOffers};
 ghost use Rattle.ws_upgrade.specs.Texts.{IsHost};
 ghost use Rattle.ws_scripts.specs.Scripts.{CanBeRun};
 ghost use Rattle.ws_connection.specs.Connections.{IsNewConnection};
+ghost use Rattle.ws_connection.specs.Observing.{HearsProbe, IsHearing};
 ghost use Rattle.ws_connection.specs.Probing.{Probes, request_to};
 ghost use Rattle.ws_connection.specs.InnerProbeTurns.{AnswersBehind};
 
 use crate::connection::{Connection, EndsDirection};
+use crate::observer::Observer;
 use crate::probe_end::Probe;
 use crate::probing::script::run_turns;
 use crate::reading_head::{HeadEnd, HeadRoom};
@@ -47,19 +49,26 @@ pub struct Asked<'a> {
 /// Once what was got has a close nothing more is sent: its own direction is ended, and it is read on to the end. Once
 /// that has a fault the script ends. A turn's `sent` is what the writer took. After a failed write nothing more is
 /// sent, and what still comes is read. A stream that ends ends the script, and so does the budget of the connection.
-pub fn probe<R: Read, W: EndsDirection>(
+///
+/// The observer is told of the run as it goes on, and last of how it ended; of a connection over which no script was
+/// run, nothing. The run ends with an error of the observer's, as with want of memory.
+pub fn probe<R: Read, W: EndsDirection, O: Observer>(
     alloc: Global,
     case: &Case,
     asked: &Asked<'_>,
     connection: &mut Connection<R, W>,
-) -> Result<Probe, NoMemory>
+    observer: &mut O,
+) -> Result<Probe, O::Fault>
     requires new { IsNewConnection connection.old }
     requires runs { CanBeRun case.now }
     requires host { IsHost asked.now.host.now }
     requires offers { AreOffers (map (λ name. name.now) asked.now.protocols.now) }
-    ensures { IfOk result (λ probe. Probes case.now asked.now.key asked.now.host.now
+    requires hearing { IsHearing O.heard observer.old }
+    ensures probes { IfOk result (λ probe. Probes case.now asked.now.key asked.now.host.now
         (map (λ name. name.now) asked.now.protocols.now) probe
         (record { old = connection.old; new = connection.new })) }
+    ensures told { IfOk result (HearsProbe O.heard O.heard_all observer.old observer.new) }
+    ensures borrow { O.borrow observer.new ≡ O.borrow observer.old }
 {
     let script = turns(alloc, case, asked.key)?;
     let text = request_text(alloc, asked.host, asked.protocols)?;
@@ -68,7 +77,7 @@ pub fn probe<R: Read, W: EndsDirection>(
     if taken < bytes.len() {
         return Ok(Probe::NoConnection);
     }
-    let came = after_request(alloc, script.as_slice(), asked, connection)?;
+    let came = after_request(alloc, script.as_slice(), asked, connection, observer)?;
     Ok(came)
 }
 
@@ -85,16 +94,20 @@ fn request_text(alloc: Global, host: &[u8], offers: &[&[u8]]) -> Result<Vec<u8>,
 }
 
 /// Reads the head of the answer, and where it accepts runs the turns.
-fn after_request<R: Read, W: EndsDirection>(
+fn after_request<R: Read, W: EndsDirection, O: Observer>(
     alloc: Global,
     script: &[Sequence<Payload>],
     asked: &Asked<'_>,
     connection: &mut Connection<R, W>,
-) -> Result<Probe, NoMemory>
-    requires { IsNewConnection connection.old }
-    ensures { IfOk result (λ probe. AnswersBehind (map concat script.now)
+    observer: &mut O,
+) -> Result<Probe, O::Fault>
+    requires new { IsNewConnection connection.old }
+    requires hearing { IsHearing O.heard observer.old }
+    ensures answers { IfOk result (λ probe. AnswersBehind (map concat script.now)
         (map (λ name. name.now) asked.now.protocols.now) probe
         (record { old = connection.old; new = connection.new })) }
+    ensures told { IfOk result (HearsProbe O.heard O.heard_all observer.old observer.new) }
+    ensures borrow { O.borrow observer.new ≡ O.borrow observer.old }
 {
     let mut room = HeadRoom::new();
     let decider = ResponseHead {
@@ -103,12 +116,22 @@ fn after_request<R: Read, W: EndsDirection>(
     };
     match connection.read_head(&mut room, &decider) {
         HeadEnd::Decided(ResponseDecision::Accepted { used, .. }) => {
-            let mut first = Vec::new(alloc);
-            first.extend_from_slice(&room.as_slice()[used..])?;
-            let transcript = run_turns(alloc, script, first, asked.has_timeouts, connection)?;
+            let first = bytes_behind(alloc, room.as_slice(), used)?;
+            let waits = asked.has_timeouts;
+            let transcript = run_turns(alloc, script, first, waits, connection, observer)?;
+            observer.ended(transcript.ended)?;
             Ok(Probe::Ran(transcript))
         }
         HeadEnd::Decided(ResponseDecision::Refused(fault)) => Ok(Probe::Refused(fault)),
         HeadEnd::Cut | HeadEnd::ReadFault => Ok(Probe::NoConnection),
     }
+}
+
+/// The bytes that came behind a head of this length.
+fn bytes_behind(alloc: Global, bytes: &[u8], used: usize) -> Result<Vec<u8>, NoMemory>
+    requires { used ≤ length bytes.now }
+    ensures { IfOk result (λ behind. behind.items ≡ drop used bytes.now) }
+{
+    let behind = bytes[used..].to_vec(alloc)?;
+    Ok(behind)
 }

@@ -47,6 +47,8 @@ pub enum Fault {
     NotACall(u64),
     /// The first line that is damaged in a capture, counted from 1.
     NotACapture(u64),
+    /// The first line that is damaged in a script of steps, counted from 1.
+    NotAStep(u64),
     /// The words of the command line are no text.
     NoText,
     /// The words of the command line ask for nothing.
@@ -118,6 +120,7 @@ pub fn tell_fault<F: Write>(alloc: Global, fault: Fault, faults: &mut Watched<F>
         Fault::NotAMove(line) => tell_line(alloc, line, "not a move", faults),
         Fault::NotACall(line) => tell_line(alloc, line, "not a call", faults),
         Fault::NotACapture(line) => tell_line(alloc, line, "not a capture", faults),
+        Fault::NotAStep(line) => tell_line(alloc, line, "not a step", faults),
         Fault::NoText => {
             tell(b"error: the words are not UTF-8\n", faults);
             Exit::WrongWords

@@ -5,8 +5,9 @@
 //! The layer above uses a call for each command, each with one clause, what a run of that command is (`RunsShow` and
 //! its like): `run_show`, `run_moves` (of `pair`), `run_head`, `run_session`, `run_judge`, `run_convert`, `run_cases`;
 //! `cases_of`, `ids_for` and `is_glob`, which say for which cases words stand; `end_run`, `tell_fault` and
-//! `tell_no_cases`, which tell a fault; `deliver` and `tell`, which write a text; `limits_given`, `timeout_given`,
-//! `judgement_of`, the verdict on a transcript and the lines below it; `exit_of` and `Exit::status`.
+//! `tell_no_cases`, which tell a fault; `read_whole`, which reads an input to its end; `deliver` and `tell`, which write
+//! a text; `limits_given`, `timeout_given`, `judgement_of`, the verdict on a transcript and the lines below it; `exit_of`
+//! and `Exit::status`.
 #![tactic(auto)]
 
 mod cases;
@@ -36,6 +37,7 @@ pub use head::run_head;
 pub use judge::{exit_of, run_judge};
 pub use limits::limits_given;
 pub use pair::run_moves;
+pub use reading_whole::{ReadStop, read_whole};
 pub use session::run_session;
 pub use show::run_show;
 pub use telling::{deliver, tell};

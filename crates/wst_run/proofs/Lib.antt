@@ -4,3 +4,5 @@ pub mod TestLemmas
 pub mod PlanLemmas
 pub mod ServeLemmas
 pub mod TargetLemmas
+pub mod ObserverLemmas
+pub mod LineLemmas

@@ -1,6 +1,5 @@
 -- What may come of a case over a server at an address, by the connection that was tried.
 use Rattle.std.proofs.Common.{◌≡◌, ℕ, List, IfOk, Result, Ok, Err, inr, subst}
-use Rattle.ws_base.specs.declared.memory.NoMemory.{NoMemory}
 use Rattle.ws_connection.specs.ConnectionValues.{ConnectionRun}
 use Rattle.ws_connection.specs.Probing.{Probes}
 use Rattle.ws_connection.specs.declared.probe_end.Probe.{Probe}
@@ -17,7 +16,7 @@ probed_so host offers budget key case given told run probes same has =
     (run, has, subst (λ (p : Probe). Probes case key host offers p run) same probes)
 
 -- the handshake was tried with the server's host
-pub meets_probed : (server : AddressValue) (host key : List ℕ) (case : Case) (r : Result Meeting NoMemory)
+pub meets_probed : {E : Type 0} (server : AddressValue) (host key : List ℕ) (case : Case) (r : Result Meeting E)
     → host ≡ server.host
     → IfOk r (λ meeting. IsProbedSo host server.offers server.budget key case (probe_of meeting))
     → IfOk r (λ meeting. MeetsAtAddress server key case meeting)

@@ -5,6 +5,8 @@ pub mod Outcomes
 pub mod Notes
 pub mod Testing
 pub mod Test
+pub mod LineWriting
+pub mod Send
 pub mod Serve
 pub mod Listening
 pub mod Lingering

@@ -4,6 +4,7 @@ ghost use Rattle.std.specs.Prelude.{◌≡◌, IfOk, map};
 ghost use Rattle.ws_scripts.specs.Scripts.{CanBeRun};
 ghost use Rattle.ws_upgrade.specs.Protocols.{AreOffers};
 ghost use Rattle.ws_upgrade.specs.Texts.{IsHost};
+ghost use Rattle.ws_connection.specs.Observing.{HearsProbe, IsHearing};
 ghost use Rattle.wst_run.specs.Meetings.{probe_of};
 ghost use Rattle.wst_run.specs.Servers.{IsProbedSo, MeetsAtAddress};
 
@@ -17,7 +18,7 @@ use std::io::{ErrorKind, Read, Write};
 use std::marker::Model;
 use std::net::{Net, OpenStream};
 use ws_base::NoMemory;
-use ws_connection::{Asked, Connection, Probe, probe};
+use ws_connection::{Asked, Connection, Observer, Probe, Silent, probe};
 use ws_suite::Case;
 use wst_commands::TimeLimit;
 
@@ -85,6 +86,16 @@ impl<N: Net> CaseServer for AddressServer<'_, N> {
     ghost meets = { λ server key case meeting. MeetsAtAddress server key case meeting };
 
     fn run(&self, alloc: Global, case: &Case, key: [u8; 4]) -> Result<Meeting, NoMemory> {
+        self.run_told(alloc, case, key, &mut Silent)
+    }
+
+    fn run_told<O: Observer>(
+        &self,
+        alloc: Global,
+        case: &Case,
+        key: [u8; 4],
+        observer: &mut O,
+    ) -> Result<Meeting, O::Fault> {
         match connect(self.net, self.host, self.bounds.timeout) {
             Ok(stream) => {
                 let asked = Asked {
@@ -93,7 +104,7 @@ impl<N: Net> CaseServer for AddressServer<'_, N> {
                     key,
                     has_timeouts: self.bounds.timeout.is_limited(),
                 };
-                meet_over(alloc, case, &asked, stream, self.bounds)
+                meet_over(alloc, case, &asked, stream, self.bounds, observer)
             }
             Err(why) => Ok(Meeting::NoConnection(why)),
         }
@@ -101,18 +112,23 @@ impl<N: Net> CaseServer for AddressServer<'_, N> {
 }
 
 /// Runs a case over a connection, and tells why its answer was not whole, if so.
-fn meet_over<S: Read + Write + OpenStream + Drop>(
+fn meet_over<S: Read + Write + OpenStream + Drop, O: Observer>(
     alloc: Global,
     case: &Case,
     asked: &Asked<'_>,
     stream: S,
     bounds: Bounds,
-) -> Result<Meeting, NoMemory>
+    observer: &mut O,
+) -> Result<Meeting, O::Fault>
     requires runs { CanBeRun case.now }
     requires host { IsHost asked.now.host.now }
     requires offers { AreOffers (map (λ name. name.now) asked.now.protocols.now) }
-    ensures { IfOk result (λ meeting. IsProbedSo asked.now.host.now (map (λ name. name.now) asked.now.protocols.now)
-        bounds.budget asked.now.key case.now (probe_of meeting)) }
+    requires hearing { IsHearing O.heard observer.old }
+    ensures probed { IfOk result (λ meeting. IsProbedSo asked.now.host.now
+        (map (λ name. name.now) asked.now.protocols.now) bounds.budget asked.now.key case.now (probe_of meeting)) }
+    ensures told { IfOk result (λ meeting.
+        HearsProbe O.heard O.heard_all observer.old observer.new (probe_of meeting)) }
+    ensures borrow { O.borrow observer.new ≡ O.borrow observer.old }
 {
     let stream = shared(stream, bounds.timeout);
     let failure = Cell::new(None);
@@ -121,7 +137,7 @@ fn meet_over<S: Read + Write + OpenStream + Drop>(
         Noted::of(Side::of(&stream), &failure),
     );
     let mut connection = Connection::new(reader, writer, bounds.budget);
-    match probe(alloc, case, asked, &mut connection)? {
+    match probe(alloc, case, asked, &mut connection, observer)? {
         Probe::Ran(transcript) => Ok(Meeting::Ran(transcript)),
         Probe::Refused(fault) => Ok(Meeting::Refused(fault)),
         Probe::NoConnection => Ok(Meeting::NoConnection(fault_of(failure.get()))),

@@ -1,18 +1,22 @@
 //! Servers that cases are run over: what is known of a meeting with one, and those in memory.
 
-ghost use Rattle.std.specs.Prelude.{IfOk};
+ghost use Rattle.std.specs.Prelude.{◌≡◌, IfOk, OnOk};
+ghost use Rattle.ws_connection.specs.Observing.{HearsProbe, IsHearing};
+ghost use Rattle.ws_connection.specs.declared.probe_end.Probe.TheVariants.{Ran};
 ghost use Rattle.ws_scripts.specs.Scripts.{CanBeRun};
+ghost use Rattle.wst_run.specs.Meetings.{probe_of};
 ghost use Rattle.wst_run.specs.Servers.{IsMemoryRun, IsPeerRun, MeetsInMemory};
 
 use crate::meeting::Meeting;
 use std::alloc::Global;
 use ws_base::NoMemory;
+use ws_connection::Observer;
 use ws_peer::{TungPeer, run_case, run_over_echo};
 use ws_suite::{Case, Transcript};
 
 /// Servers of one kind. Each case is run over a new one.
 pub trait CaseServer {
-    ghost use Rattle.std.specs.Prelude.{List, ℕ};
+    ghost use Rattle.std.specs.Prelude.{◌≡◌, List, ℕ};
     ghost use Rattle.ws_scripts.specs.declared.script.Case.{Case};
     ghost use Rattle.wst_run.specs.declared.meeting.Meeting.{Meeting};
 
@@ -23,6 +27,21 @@ pub trait CaseServer {
     fn run(&self, alloc: Global, case: &Case, key: [u8; 4]) -> Result<Meeting, NoMemory>
         requires { CanBeRun case.now }
         ensures { IfOk result (λ meeting. meets self.now key case.now meeting) };
+
+    /// The same, and the observer is told of the run: over a network as it goes on, in memory once it has ended.
+    fn run_told<O: Observer>(
+        &self,
+        alloc: Global,
+        case: &Case,
+        key: [u8; 4],
+        observer: &mut O,
+    ) -> Result<Meeting, O::Fault>
+        requires runs { CanBeRun case.now }
+        requires hearing { IsHearing O.heard observer.old }
+        ensures meets { IfOk result (λ meeting. meets self.now key case.now meeting) }
+        ensures told { IfOk result (λ meeting.
+            HearsProbe O.heard O.heard_all observer.old observer.new (probe_of meeting)) }
+        ensures borrow { O.borrow observer.new ≡ O.borrow observer.old };
 }
 
 /// A server in memory.
@@ -41,6 +60,33 @@ impl CaseServer for MemoryServer {
         let transcript = transcript_of(alloc, *self, case, key)?;
         Ok(Meeting::Ran(transcript))
     }
+
+    fn run_told<O: Observer>(
+        &self,
+        alloc: Global,
+        case: &Case,
+        key: [u8; 4],
+        observer: &mut O,
+    ) -> Result<Meeting, O::Fault> {
+        let transcript = transcript_of(alloc, *self, case, key)?;
+        tell_transcript(&transcript, observer)?;
+        Ok(Meeting::Ran(transcript))
+    }
+}
+
+/// Tells an observer of a run that has ended.
+fn tell_transcript<O: Observer>(transcript: &Transcript, observer: &mut O) -> Result<(), O::Fault>
+    requires { IsHearing O.heard observer.old }
+    ensures told { OnOk result (HearsProbe O.heard O.heard_all observer.old observer.new (Ran transcript.now)) }
+    ensures borrow { O.borrow observer.new ≡ O.borrow observer.old }
+{
+    let turns = transcript.turns.as_slice();
+    for turn in turns {
+        observer.turn_sent(turn.sent.as_slice())?;
+        observer.got(turn.got.as_slice())?;
+    }
+    observer.ended(transcript.ended)?;
+    Ok(())
 }
 
 /// The transcript of a case over a new server in memory.

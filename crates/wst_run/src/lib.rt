@@ -1,4 +1,4 @@
-//! A run of `wst` over watched devices, by its words, and the commands that ask for connections: `test` and `serve`.
+//! A run of `wst` over watched devices, by its words, and the commands that ask for connections: `test`, `send` and `serve`.
 //! The others stand in `wst_commands`. No rule of the protocol stands here.
 //!
 //! The layer above uses `run`: what the words ask for is done, over the devices and the network that it is given, and
@@ -9,11 +9,13 @@ mod address_server;
 mod case_server;
 mod clients;
 mod connecting;
+mod line_writer;
 mod lingering;
 mod listening;
 mod meeting;
 mod outcome;
 mod running;
+mod send;
 mod serve;
 mod serving_clients;
 mod stream;
@@ -24,6 +26,7 @@ pub use case_server::{CaseServer, MemoryServer};
 pub use clients::Clients;
 pub use meeting::{ConnectFault, Meeting};
 pub use running::{run, words_are_no_text};
+pub use send::{SendPlan, SendStop, plan_send, send_to};
 pub use serve::{ServePlan, run_serve};
 pub use serving_clients::serve_clients;
 pub use test::{Target, TestPlan, TestRefusal, plan_test, run_plan, tell_refusal};

@@ -9,9 +9,11 @@ ghost use Rattle.wst_words.specs.Words.{wst_app};
 ghost use Rattle.wst_commands.specs.Devices.{Tells};
 ghost use Rattle.wst_commands.specs.Exits.{exit_status};
 ghost use Rattle.wst_run.specs.Run.{AnswersWords, Runs, RunsTask, TellsOf};
+ghost use Rattle.wst_run.specs.Send.{RunsSend};
 ghost use Rattle.wst_run.specs.Serve.{RunsServe};
 ghost use Rattle.wst_run.specs.Test.{RunsTest};
 
+use crate::send::{plan_send, send_to_target};
 use crate::serve::{plan_serve, run_serve};
 use crate::test::{plan_test, run_over_target, tell_refusal};
 use clap::Error;
@@ -24,7 +26,7 @@ use wst_commands::{
     Exit, Fault, end_run, run_cases, run_convert, run_head, run_judge, run_moves, run_session,
     run_show, tell_fault,
 };
-use wst_words::{ServeOptions, Task, TestOptions, WordsFault, read_words};
+use wst_words::{SendOptions, ServeOptions, Task, TestOptions, WordsFault, read_words};
 
 /// Runs what the words ask for, the program's name first, and answers how that ended: status 0 done, 1 a
 /// damaged or refused input or a rule that was broken, 2 wrong words, 3 where input, output, the network, the budget or
@@ -79,6 +81,7 @@ fn run_task<N: Net, R: Read, W: Write, F: Write>(
         Task::Convert => end_run(alloc, run_convert(alloc, reader, writer), faults),
         Task::Cases(options) => run_cases(alloc, options, writer, faults),
         Task::Test(options) => run_test(alloc, &options, net, writer, faults),
+        Task::Send(options) => run_send(alloc, &options, net, reader, writer, faults),
         Task::Serve(options) => serve_as_asked(alloc, &options, net, writer, faults),
     }
 }
@@ -116,6 +119,26 @@ fn run_test<N: Net, W: Write, F: Write>(
 {
     match plan_test(alloc, options) {
         Ok(plan) => run_over_target(alloc, &plan, net, writer, faults),
+        Err(refusal) => tell_refusal(alloc, refusal, faults),
+    }
+}
+
+/// Runs the script that comes in over the server that the words name, or tells on the fault output why it is not run.
+fn run_send<N: Net, R: Read, W: Write, F: Write>(
+    alloc: Global,
+    options: &SendOptions<'_>,
+    net: &N,
+    reader: &mut Watched<R>,
+    writer: &mut Watched<W>,
+    faults: &mut Watched<F>,
+) -> Exit
+    requires reader_works { has_failed reader.old ≡ false }
+    requires writer_works { has_failed writer.old ≡ false }
+    ensures { RunsSend options.now result (watched R.remaining reader.old reader.new)
+        (watched W.contents writer.old writer.new) (watched F.contents faults.old faults.new) }
+{
+    match plan_send(alloc, options) {
+        Ok(plan) => send_to_target(alloc, &plan, net, reader, writer, faults),
         Err(refusal) => tell_refusal(alloc, refusal, faults),
     }
 }

@@ -219,7 +219,7 @@ fn is_one_case(ids: &[&str]) -> bool
 }
 
 /// The server that a word names.
-fn target_of(word: &str) -> Result<Target<'_>, TestRefusal<'_>>
+pub(crate) fn target_of(word: &str) -> Result<Target<'_>, TestRefusal<'_>>
     ensures { MatchResult result (IsTargetOf word.now) (RefusesTarget word.now) }
 {
     match word {

@@ -6,6 +6,7 @@ use Rattle.clap.specs.Words.{Row, Text}
 use Rattle.wst_words.specs.Judge.{AsksToJudge, judge_command}
 use Rattle.wst_words.specs.Options.{GivesNoNumberOr, GivesNumberIfAny, LacksOneOf}
 use Rattle.wst_words.specs.Pair.{AsksToPair, pair_command}
+use Rattle.wst_words.specs.Send.{AsksToSend, send_command}
 use Rattle.wst_words.specs.Serve.{AsksToServe, serve_command}
 use Rattle.wst_words.specs.Session.{AsksForSession, session_command}
 use Rattle.wst_words.specs.Show.{AsksToShow, show_command}
@@ -13,13 +14,14 @@ use Rattle.wst_words.specs.Test.{AsksToTest, test_command}
 use Rattle.wst_words.specs.Words.{CommandAsks, CommandAsksNothing}
 use Rattle.wst_words.specs.declared.judge.JudgeOptions.{JudgeOptions}
 use Rattle.wst_words.specs.declared.pair.PairOptions.{PairOptions}
+use Rattle.wst_words.specs.declared.send.SendOptions.{SendOptions}
 use Rattle.wst_words.specs.declared.serve.ServeOptions.{ServeOptions}
 use Rattle.wst_words.specs.declared.session.SessionOptions.{SessionOptions}
 use Rattle.wst_words.specs.declared.show.ShowOptions.{ShowOptions}
 use Rattle.wst_words.specs.declared.test.TestOptions.{TestOptions}
 use Rattle.wst_words.specs.declared.words.Task.{Task}
 use Rattle.wst_words.specs.declared.words.Task.TheVariants.{Cases, Convert, Head, Judge, Pair, Serve, Session, Show}
-use Rattle.wst_words.specs.declared.words.Task.TheVariants.{Test}
+use Rattle.wst_words.specs.declared.words.Task.TheVariants.{Send, Test}
 use Rattle.wst_words.proofs.WordLemmas.{no_word}
 
 -- the command that a task is asked for by
@@ -32,6 +34,7 @@ task_name (Judge options) = codes "judge"
 task_name Convert = codes "convert"
 task_name (Cases options) = codes "cases"
 task_name (Test options) = codes "test"
+task_name (Send options) = codes "send"
 task_name (Serve options) = codes "serve"
 
 called : (name : Text) (rows : List Row) (task : Task) → CommandAsks (Some (name, rows)) task → name ≡ task_name task
@@ -43,6 +46,7 @@ called name rows (Judge options) asks = asks.0
 called name rows Convert asks = asks
 called name rows (Cases options) asks = asks.0
 called name rows (Test options) asks = asks.0
+called name rows (Send options) asks = asks.0
 called name rows (Serve options) asks = asks.0
 
 -- a word is no other
@@ -159,3 +163,23 @@ no_serve name rows is lacks = refuses
     refuses : (task : Task) → CommandAsks (Some (name, rows)) task → ⊥
     refuses (Serve options) asks = serve_lacks rows options lacks asks.1
     refuses task asks = differs (codes "serve") (task_name task) name refl refl is (called name rows task asks)
+
+send_lacks : (rows : List Row) (options : SendOptions) → LacksOneOf rows send_command.arguments
+    → AsksToSend rows options → ⊥
+send_lacks rows options (inl key) asks = no_word rows (codes "key") options.key.now key asks.0
+send_lacks rows options (inr (inl capture)) asks = capture options.capture asks.1
+send_lacks rows options (inr (inr (inl timeout))) asks =
+    no_word rows (codes "timeout") options.timeout.now timeout asks.2
+send_lacks rows options (inr (inr (inr (inl budget)))) asks = budget options.budget asks.3
+send_lacks rows options (inr (inr (inr (inr (inl protocols))))) asks = absurd protocols
+send_lacks rows options (inr (inr (inr (inr (inr (inl target)))))) asks =
+    no_word rows (codes "target") options.target.now target asks.4
+send_lacks rows options (inr (inr (inr (inr (inr (inr none)))))) asks = absurd none
+
+pub no_send : (name : Text) (rows : List Row) → name ≡ codes "send" → LacksOneOf rows send_command.arguments
+    → CommandAsksNothing (Some (name, rows))
+no_send name rows is lacks = refuses
+  where
+    refuses : (task : Task) → CommandAsks (Some (name, rows)) task → ⊥
+    refuses (Send options) asks = send_lacks rows options lacks asks.1
+    refuses task asks = differs (codes "send") (task_name task) name refl refl is (called name rows task asks)

@@ -8,6 +8,7 @@ pub mod Session
 pub mod Judge
 pub mod Cases
 pub mod Test
+pub mod Send
 pub mod Serve
 pub mod Words
 pub mod Examples

@@ -8,7 +8,7 @@ ghost use Rattle.wst_words.specs.Arguments.{Places, argument_row};
 ghost use Rattle.wst_words.specs.Words.{row_of, wst_app};
 
 use crate::arguments::{Argument, arg_of};
-use crate::{cases, convert, head, judge, pair, serve, session, show, test};
+use crate::{cases, convert, head, judge, pair, send, serve, session, show, test};
 use clap::Command;
 use clap::builder::ValueParser;
 use std::alloc::{AllocError, Global};
@@ -24,6 +24,7 @@ pub(crate) enum CommandName {
     Convert,
     Cases,
     Test,
+    Send,
     Serve,
 }
 
@@ -39,7 +40,7 @@ pub(crate) struct HelpText<'a> {
 }
 
 /// All commands, in the order in which help lists them.
-static COMMANDS: [CommandName; 9] = [
+static COMMANDS: [CommandName; 10] = [
     CommandName::Show,
     CommandName::Head,
     CommandName::Pair,
@@ -48,6 +49,7 @@ static COMMANDS: [CommandName; 9] = [
     CommandName::Convert,
     CommandName::Cases,
     CommandName::Test,
+    CommandName::Send,
     CommandName::Serve,
 ];
 
@@ -64,6 +66,7 @@ fn name_of<'a>(command: CommandName) -> &'a str
         CommandName::Convert => "convert",
         CommandName::Cases => "cases",
         CommandName::Test => "test",
+        CommandName::Send => "send",
         CommandName::Serve => "serve",
     }
 }
@@ -81,6 +84,7 @@ fn arguments_of(command: CommandName) -> &'static [Argument]
         CommandName::Convert => &[],
         CommandName::Cases => cases::arguments(),
         CommandName::Test => test::arguments(),
+        CommandName::Send => send::arguments(),
         CommandName::Serve => serve::arguments(),
     }
 }
@@ -96,6 +100,7 @@ fn help_of<'a>(command: CommandName) -> HelpText<'a> {
         CommandName::Convert => convert::help(),
         CommandName::Cases => cases::help(),
         CommandName::Test => test::help(),
+        CommandName::Send => send::help(),
         CommandName::Serve => serve::help(),
     }
 }

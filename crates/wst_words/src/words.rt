@@ -12,6 +12,7 @@ use crate::commands::wst_command;
 use crate::head::{HeadOptions, head_options};
 use crate::judge::{JudgeOptions, judge_options};
 use crate::pair::{PairOptions, pair_options};
+use crate::send::{SendOptions, send_options};
 use crate::serve::{ServeOptions, serve_options};
 use crate::session::{SessionOptions, session_options};
 use crate::show::{ShowOptions, show_options};
@@ -38,6 +39,8 @@ pub enum Task<'a> {
     Cases(CasesOptions<'a>),
     /// The verdicts on a server in cases.
     Test(TestOptions<'a>),
+    /// The frames that come back for those of the script that comes in.
+    Send(SendOptions<'a>),
     /// Connections to serve.
     Serve(ServeOptions<'a>),
 }
@@ -127,6 +130,7 @@ fn plain_task<'a>(name: &str, options: &ArgMatches<'a>) -> Option<Task<'a>>
         "judge" => Some(Task::Judge(judge_options(options)?)),
         "convert" => Some(Task::Convert),
         "cases" => Some(Task::Cases(cases_options(options))),
+        "send" => Some(Task::Send(send_options(options)?)),
         "serve" => Some(Task::Serve(serve_options(options)?)),
         _ => None,
     }

@@ -1,12 +1,14 @@
 //! The turns of a script that is run against a server, and the transcript of them.
 
-ghost use Rattle.std.specs.Prelude.{◌≡◌, [], map, IfOk};
+ghost use Rattle.std.specs.Prelude.{◌≡◌, [], ◌∷◌, ◌++◌, map, IfOk, OnOk};
 ghost use Rattle.std.specs.List.{concat};
 ghost use Rattle.ws_peer.specs.Runs.{with_finish};
 ghost use Rattle.ws_connection.specs.InnerProbeTurns.{IsReady, Records};
+ghost use Rattle.ws_connection.specs.Observing.{HearsTurns, IsHearing};
 
 use crate::connection::{Connection, EndsDirection};
-use crate::probing::turn::{TurnRules, run_turn};
+use crate::observer::Observer;
+use crate::probing::turn::{TurnPlan, run_turn};
 use std::alloc::Global;
 use std::io::Read;
 use ws_base::{NoMemory, Payload, Sequence};
@@ -14,37 +16,45 @@ use ws_suite::{Ended, RunEvidence, Transcript, Turn};
 use ws_wire::Role;
 
 /// Sends the turns and reads what comes for each. `first` came with the head: where it has a fault, nothing is sent.
-/// `waits_at_end` is that of each turn.
-pub fn run_turns<R: Read, W: EndsDirection>(
+/// `waits_at_end` is that of each turn. The observer is told of each turn.
+pub fn run_turns<R: Read, W: EndsDirection, O: Observer>(
     alloc: Global,
     script: &[Sequence<Payload>],
     first: Vec<u8>,
     waits_at_end: bool,
     connection: &mut Connection<R, W>,
-) -> Result<Transcript, NoMemory>
-    requires { IsReady connection.old }
-    ensures { IfOk result (λ transcript. Records (map concat script.now) first.items transcript
+    observer: &mut O,
+) -> Result<Transcript, O::Fault>
+    requires ready { IsReady connection.old }
+    requires hearing { IsHearing O.heard observer.old }
+    ensures runs { IfOk result (λ transcript. Records (map concat script.now) first.items transcript
         (record { old = connection.old; new = connection.new })) }
+    ensures told { IfOk result (λ transcript. HearsTurns O.heard observer.old observer.new transcript.turns) }
+    ensures borrow { O.borrow observer.new ≡ O.borrow observer.old }
 {
     let mut evidence = RunEvidence::new(alloc, Role::Server);
     evidence.begin_turn();
     evidence.on_got(first.as_slice())?;
     if script.is_empty() {
-        let turns = without_turns(alloc, first)?;
+        let turns = tell_without_turns(alloc, first, observer)?;
         return Ok(transcript_of(turns, Ended::Tester));
     }
     if evidence.has_got_fault() {
-        let turns = without_turns(alloc, first)?;
+        let turns = tell_without_turns(alloc, first, observer)?;
         return Ok(transcript_of(turns, Ended::Tester));
     }
     let mut got = first;
     let mut done = Vec::new(alloc);
     for pieces in script {
         let more = done.len() < script.len() - 1;
-        let rules = TurnRules { more, waits_at_end };
         let bytes = pieces.as_slice();
-        let (turn, end) = run_turn(alloc, bytes, got, rules, connection, &mut evidence)?;
-        done.push(turn)?;
+        let plan = TurnPlan {
+            pieces: bytes,
+            more,
+            waits_at_end,
+        };
+        let (turn, end) = run_turn(alloc, plan, got, connection, &mut evidence, observer)?;
+        push_turn(&mut done, turn)?;
         got = Vec::new(alloc);
         match end {
             Some(ended) => return Ok(transcript_of(done, ended)),
@@ -53,6 +63,25 @@ pub fn run_turns<R: Read, W: EndsDirection>(
     }
     // The last turn doesn't go on, so that the script ends there.
     unreachable!()
+}
+
+/// The turns of a script that has none, where this was got. The observer is told of them.
+fn tell_without_turns<O: Observer>(
+    alloc: Global,
+    got: Vec<u8>,
+    observer: &mut O,
+) -> Result<Vec<Turn>, O::Fault>
+    requires { IsHearing O.heard observer.old }
+    ensures turns { IfOk result (λ turns. turns.items ≡ with_finish [] got.items) }
+    ensures told { IfOk result (λ turns. HearsTurns O.heard observer.old observer.new turns.items) }
+    ensures borrow { O.borrow observer.new ≡ O.borrow observer.old }
+{
+    if !got.is_empty() {
+        observer.turn_sent(&[])?;
+        observer.got(got.as_slice())?;
+    }
+    let turns = without_turns(alloc, got)?;
+    Ok(turns)
 }
 
 /// The turns of a script that has none, where this was got.
@@ -68,6 +97,14 @@ fn without_turns(alloc: Global, got: Vec<u8>) -> Result<Vec<Turn>, NoMemory>
         got: Payload::from_vec(got),
     })?;
     Ok(turns)
+}
+
+/// Puts a turn behind those that were run.
+fn push_turn(done: &mut Vec<Turn>, turn: Turn) -> Result<(), NoMemory>
+    ensures { OnOk result (done.new.items ≡ done.old.items ++ turn ∷ []) }
+{
+    done.push(turn)?;
+    Ok(())
 }
 
 /// The transcript of these turns.

@@ -1,11 +1,12 @@
 //! One turn of a script that is run against a server: its pieces are sent, and what comes for them is read.
 
-ghost use Rattle.std.specs.Prelude.{◌≡◌, ◌++◌, ◌∷◌, [], ℕ, List, Some, true, false, IfOk};
+ghost use Rattle.std.specs.Prelude.{◌≡◌, ◌++◌, ◌∷◌, [], ℕ, List, Some, true, false, IfOk, OnOk};
 ghost use Rattle.std.specs.List.{concat};
 ghost use Rattle.ws_connection.specs.Connections.{MayRead, is_open};
 ghost use Rattle.ws_wire.specs.declared.role.Role.TheVariants.{Server};
 ghost use Rattle.ws_scripts.specs.declared.transcript.Turn.{Turn};
 ghost use Rattle.ws_suite.specs.Growing.{AreTurnsAnswered};
+ghost use Rattle.ws_connection.specs.Observing.{HasHeardGot, HearsTurns, IsHearing, KeepsUp};
 ghost use Rattle.ws_connection.specs.Probing.{all_got};
 ghost use Rattle.ws_connection.specs.Standings.{HasNoGotFault, standing_by};
 ghost use Rattle.ws_connection.specs.InnerProbeTurns.{HasSeen, IsReady, ReadsPiece, ReadsTurn, RunsTurn, SeesRun};
@@ -15,6 +16,7 @@ ghost use Rattle.ws_connection.specs.declared.probing.turn.TurnStop.TheVariants.
 
 use crate::connection::{Connection, EndsDirection};
 use crate::incoming::Incoming;
+use crate::observer::Observer;
 use crate::standing::{Standing, standing_of};
 use std::alloc::Global;
 use std::io::Read;
@@ -23,20 +25,22 @@ use ws_frame::READ_SIZE;
 use ws_session::laws::one_list_of_events;
 use ws_suite::{Ended, RunEvidence, Turn};
 
-/// How long is read in a turn.
+/// What is sent in a turn, and how long is read in it.
 #[derive(Clone, Copy)]
-pub struct TurnRules {
+pub struct TurnPlan<'a> {
+    /// What is sent, one after the other.
+    pub pieces: &'a [Payload],
     /// Whether there is a turn after it.
     pub more: bool,
     /// Whether a turn that holds the close or fault of what is sent is waited for as the last one is.
     pub waits_at_end: bool,
 }
 
-impl TurnRules {
+impl TurnPlan<'_> {
     /// Whether a turn is read to the end of the stream, though what is owed has come. `ends` is that it holds the close
     /// or fault of what is sent.
     fn wait(self, ends: bool) -> bool
-        ensures last { self.more ≡ false → result ≡ true }
+        ensures last { self.entry.more ≡ false → result ≡ true }
     {
         !self.more || self.waits_at_end && ends
     }
@@ -45,34 +49,40 @@ impl TurnRules {
 /// Sends the pieces of a turn and reads what comes for it: in the last one, as after a failed write, to the end of the
 /// stream, and in others until what is owed has come or a read has waited in vain. `before` came before it. Once what
 /// was got has a close, it ends its own direction and reads on to the end; once that has a fault, no more is read.
-/// Answers the turn, and how the script ended, if it did.
-pub fn run_turn<R: Read, W: EndsDirection>(
+/// Answers the turn, and how the script ended, if it did. The observer is told of the turn once it was sent, and of
+/// what it has got as it comes.
+pub fn run_turn<R: Read, W: EndsDirection, O: Observer>(
     alloc: Global,
-    pieces: &[Payload],
+    plan: TurnPlan<'_>,
     before: Vec<u8>,
-    rules: TurnRules,
     connection: &mut Connection<R, W>,
     evidence: &mut RunEvidence,
-) -> Result<(Turn, Option<Ended>), NoMemory>
-    requires { IsReady connection.old }
-    ensures { IfOk result (λ run. (past : List Turn) → HasSeen (then_turn past [] before.items) evidence.old
+    observer: &mut O,
+) -> Result<(Turn, Option<Ended>), O::Fault>
+    requires ready { IsReady connection.old }
+    requires hearing { IsHearing O.heard observer.old }
+    ensures runs { IfOk result (λ run. (past : List Turn) → HasSeen (then_turn past [] before.items) evidence.old
         → HasNoGotFault (all_got past ++ before.items)
-        → RunsTurn (concat pieces.now) (all_got past) before.items rules.more run.0 run.1 evidence.new.tester
+        → RunsTurn (concat plan.entry.pieces.now) (all_got past) before.items plan.entry.more run.0 run.1 evidence.new.tester
         (record { old = connection.old; new = connection.new })
         × SeesRun run.1 (past ++ run.0 ∷ []) evidence.new (record { old = connection.old; new = connection.new })) }
+    ensures told { IfOk result (λ run. HearsTurns O.heard observer.old observer.new (run.0 ∷ [])) }
+    ensures borrow { O.borrow observer.new ≡ O.borrow observer.old }
 {
     one_list_of_events();
-    let sent = send(alloc, pieces, connection)?;
+    let sent = send(alloc, plan.pieces, connection)?;
     let had_ended = evidence.has_sent_end();
     evidence.on_sent(sent.as_slice())?;
-    let waits = rules.wait(!had_ended && evidence.has_sent_end());
+    let waits = plan.wait(!had_ended && evidence.has_sent_end());
+    observer.turn_sent(sent.as_slice())?;
+    observer.got(before.as_slice())?;
     let mut got = before;
-    let stop = read_turn(connection, waits, evidence, &mut got)?;
+    let stop = read_turn(connection, waits, evidence, &mut got, observer)?;
     let turn = Turn {
         sent: Payload::from_vec(sent),
         got: Payload::from_vec(got),
     };
-    Ok((turn, end_of_turn(connection, rules.more, stop)))
+    Ok((turn, end_of_turn(connection, plan.more, stop)))
 }
 
 /// Sends the pieces of a turn, one after the other, until a write fails. Answers what the writer took.
@@ -137,20 +147,24 @@ fn end_of_turn<R: Read, W: EndsDirection>(
 
 /// Reads what comes in a turn, and puts it behind what was got: where it `waits`, as after a failed write or a close
 /// that was got, to the end of the stream, and else until what is owed has come.
-fn read_turn<R: Read, W: EndsDirection>(
+fn read_turn<R: Read, W: EndsDirection, O: Observer>(
     connection: &mut Connection<R, W>,
     waits: bool,
     evidence: &mut RunEvidence,
     got: &mut Vec<u8>,
-) -> Result<TurnStop, NoMemory>
+    observer: &mut O,
+) -> Result<TurnStop, O::Fault>
     requires open { is_open connection.old.input.state ≡ true }
     requires ended { connection.old.output.ended ≡ false }
-    ensures { IfOk result (λ stop. (past : List Turn) (sent : List ℕ)
+    requires hearing { HasHeardGot O.heard observer.old got.old.items }
+    ensures reads { IfOk result (λ stop. (past : List Turn) (sent : List ℕ)
         → HasSeen (then_turn past sent got.old.items) evidence.old → HasNoGotFault (all_got past ++ got.old.items)
         → ReadsTurn waits stop (all_got past) got.old.items got.new.items evidence.new.tester
         (record { old = connection.old; new = connection.new })
         × SeesTurn stop (then_turn past sent got.new.items) evidence.new
         (record { old = connection.old; new = connection.new })) }
+    ensures told { IfOk result (λ stop. KeepsUp O.heard observer.old observer.new got.old.items got.new.items) }
+    ensures borrow { O.borrow observer.new ≡ O.borrow observer.old }
 {
     one_list_of_events();
     let mut room = [0; READ_SIZE];
@@ -159,7 +173,7 @@ fn read_turn<R: Read, W: EndsDirection>(
             Some(stop) => return Ok(stop),
             None => {}
         }
-        match read_piece(connection, &mut room, evidence, got)? {
+        match read_piece(connection, &mut room, evidence, got, observer)? {
             Some(stop) => return Ok(stop),
             None => {}
         }
@@ -195,24 +209,37 @@ fn stop_before<R: Read, W: EndsDirection>(
     None
 }
 
-/// Reads once, and puts what came behind what was got. Answers why nothing came, if so.
-fn read_piece<R: Read, W: EndsDirection>(
+/// Reads once, puts what came behind what was got, and tells it. Answers why nothing came, if so.
+fn read_piece<R: Read, W: EndsDirection, O: Observer>(
     connection: &mut Connection<R, W>,
     room: &mut [u8; READ_SIZE],
     evidence: &mut RunEvidence,
     got: &mut Vec<u8>,
-) -> Result<Option<TurnStop>, NoMemory>
-    requires { MayRead connection.old }
-    ensures { IfOk result (λ stop. ReadsPiece stop got.old.items got.new.items evidence.old evidence.new
+    observer: &mut O,
+) -> Result<Option<TurnStop>, O::Fault>
+    requires may { MayRead connection.old }
+    requires hearing { HasHeardGot O.heard observer.old got.old.items }
+    ensures reads { IfOk result (λ stop. ReadsPiece stop got.old.items got.new.items evidence.old evidence.new
         (record { old = connection.old; new = connection.new })) }
+    ensures told { IfOk result (λ stop. KeepsUp O.heard observer.old observer.new got.old.items got.new.items) }
+    ensures borrow { O.borrow observer.new ≡ O.borrow observer.old }
 {
     let count = connection.read(room);
     if count == 0 {
         return Ok(stop_at(connection.incoming()));
     }
-    got.extend_from_slice(&room[..count])?;
+    append(got, &room[..count])?;
     evidence.on_got(&room[..count])?;
+    observer.got(&room[..count])?;
     Ok(None)
+}
+
+/// Puts bytes behind those that were got.
+fn append(got: &mut Vec<u8>, piece: &[u8]) -> Result<(), NoMemory>
+    ensures { OnOk result (got.new.items ≡ got.old.items ++ piece.now) }
+{
+    got.extend_from_slice(piece)?;
+    Ok(())
 }
 
 /// Why a read brought nothing.

@@ -10,8 +10,8 @@ use Rattle.ws_connection.specs.InnerProbeTurns.{AnswersBehind}
 use Rattle.ws_connection.proofs.ProbingLemmas.{answers, between, bytes_are, not_asked, put_whole}
 use Rattle.ws_connection.proofs.probing.probe.Goals as goal
 
-pub returns-then-taken-bytes : goal.returns-then-taken-bytes
-returns-then-taken-bytes g c =
+pub returns-then-taken-bytes-clause-probes : goal.returns-then-taken-bytes-clause-probes
+returns-then-taken-bytes-clause-probes g c =
     let host = c.args.asked.now.host.now in
     let offers = map (λ (name : Bor (List ℕ)). name.now) c.args.asked.now.protocols.now in
     let text : c.as_slice-bytes.result.now ≡ request_to host offers = c.as_slice-bytes.ensures.value ∙ c.in_ok-text.ensures in
@@ -19,8 +19,8 @@ returns-then-taken-bytes g c =
     not_asked (bytes_by_turn c.args.case.now c.args.asked.now.key) offers c.as_slice-bytes.result.now (request_to host offers) c.write-taken.result c.args.connection.now c.write-taken.new.self
     c.requires.new text c.write-taken.ensures.put fails c.write-taken.ensures.input
 
-pub returns : goal.returns
-returns g c =
+pub returns-clause-probes : goal.returns-clause-probes
+returns-clause-probes g c =
     let case = c.args.case.now in
     let key = c.args.asked.now.key in
     let host = c.args.asked.now.host.now in
@@ -33,4 +33,4 @@ returns g c =
     ap (λ (l : List (List (List ℕ))). map (λ (pieces : List (List ℕ)). concat pieces) l) same ∙ bytes_are case.chop key (turns_of case.steps) c.in_ok-script.script c.in_ok-script.ensures in
     answers (bytes_by_turn case key) offers c.as_slice-bytes.result.now (request_to host offers) c.in_ok-came.came c.args.connection.now c.write-taken.new.self c.after_request.new.connection
     text (put_whole c.as_slice-bytes.result.now c.write-taken.result c.args.connection.now c.write-taken.new.self all c.write-taken.ensures.put) c.write-taken.ensures.input
-    (subst (λ (l : List (List ℕ)). AnswersBehind l offers c.in_ok-came.came (between c.write-taken.new.self c.after_request.new.connection)) bytes c.in_ok-came.ensures)
+    (subst (λ (l : List (List ℕ)). AnswersBehind l offers c.in_ok-came.came (between c.write-taken.new.self c.after_request.new.connection)) bytes c.in_ok-came.ensures.answers)

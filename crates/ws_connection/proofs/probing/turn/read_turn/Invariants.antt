@@ -3,6 +3,7 @@ use Rattle.std.proofs.Common.{◌≡◌, ◌++◌, ◌-◌, ◌^◌, List, ℕ, 
 use Rattle.ws_connection.specs.Connections.{is_open}
 use Rattle.ws_scripts.specs.declared.transcript.Turn.{Turn}
 use Rattle.ws_connection.specs.InnerProbeTurns.{HasSeen, then_turn}
+use Rattle.ws_connection.specs.Observing.{KeepsUp}
 use Rattle.ws_connection.specs.Probing.{all_got}
 use Rattle.ws_connection.specs.Standings.{HasNoGotFault}
 use Rattle.ws_connection.proofs.ProbingLemmas.{ReadsSoFar, between}
@@ -13,6 +14,7 @@ invariant-reads g l = (is_open l.connection.input.state ≡ true)
     × ((past : List Turn) (sent : List ℕ) → HasSeen (then_turn past sent l.fn.got.items) l.fn.evidence → HasNoGotFault (all_got past ++ l.fn.got.items)
     → ReadsSoFar (all_got past) l.fn.got.items l.got.items l.evidence.tester (between l.fn.connection l.connection) × HasSeen (then_turn past sent l.got.items) l.evidence)
     × (l.fn.connection.input.waited ≡ true → l.connection.input.waited ≡ true)
+    × KeepsUp g.O.Observer.heard l.fn.observer l.observer l.fn.got.items l.got.items × (g.O.Observer.borrow l.observer ≡ g.O.Observer.borrow l.fn.observer)
 
 -- how many bytes a vector could still take
 abbrev pub decreases-reads : goal.decreases-reads

@@ -6,19 +6,26 @@ use Rattle.ws_wire.specs.declared.role.Role.TheVariants.{Server}
 use Rattle.ws_connection.specs.InnerProbeTurns.{HasSeen, then_turn}
 use Rattle.ws_connection.specs.Probing.{all_got}
 use Rattle.ws_connection.proofs.ProbingLemmas.{sees_run, turn_run}
+use Rattle.ws_connection.proofs.ObservingLemmas.{hears_turn}
 use Rattle.ws_connection.proofs.probing.turn.run_turn.Goals as goal
 
-pub returns : goal.returns
-returns g c = λ past seen none.
+pub returns-clause-runs : goal.returns-clause-runs
+returns-clause-runs g c = λ past seen none.
     let turn : Turn = record { sent = c.from_vec.result; got = c.from_vec-2.result } in
     let sent = c.in_ok-sent.sent.items in
     let before = c.args.before.items in
     let shown = c.in_ok-on_sent.ensures Server past (record { sent = []; got = before }) seen in
     let there = subst (λ (l : List ℕ). HasSeen (then_turn past l before) c.on_sent.new.self) c.as_slice.ensures.value shown in
-    let (reads, sees) = c.in_ok-stop.ensures past sent there none in (
-      turn_run c.one_list_of_events.ensures (concat c.args.pieces.now) (all_got past) before sent c.read_turn.new.got.items c.args.rules.more c.wait-waits.result c.in_ok-stop.stop
+    let (reads, sees) = c.in_ok-stop.ensures.reads past sent there none in (
+      turn_run c.one_list_of_events.ensures (concat c.args.plan.pieces.now) (all_got past) before sent c.read_turn.new.got.items c.args.plan.more c.wait-waits.result c.in_ok-stop.stop
           turn c.end_of_turn.result c.read_turn.new.evidence.tester c.args.connection.now c.send.new.connection c.read_turn.new.connection
           c.in_ok-sent.ensures reads c.wait-waits.ensures.last c.from_vec.ensures c.from_vec-2.ensures c.end_of_turn.ensures,
-      sees_run _ _ c.args.rules.more c.in_ok-stop.stop c.end_of_turn.result past sent c.read_turn.new.got.items turn c.read_turn.new.evidence c.args.connection.now c.send.new.connection c.read_turn.new.connection
+      sees_run _ _ c.args.plan.more c.in_ok-stop.stop c.end_of_turn.result past sent c.read_turn.new.got.items turn c.read_turn.new.evidence c.args.connection.now c.send.new.connection c.read_turn.new.connection
           c.end_of_turn.ensures c.from_vec.ensures c.from_vec-2.ensures c.in_ok-sent.ensures.input sees,
     )
+
+pub returns-clause-told : goal.returns-clause-told
+returns-clause-told g c =
+    hears_turn g.O.Observer.heard c.args.observer.now c.turn_sent.new.self c.got.new.self c.read_turn.new.observer c.in_ok-sent.sent.items c.as_slice-2.result.now c.args.before.items c.as_slice-3.result.now
+    c.read_turn.new.got.items (record { sent = c.from_vec.result; got = c.from_vec-2.result }) c.as_slice-2.ensures.value c.as_slice-3.ensures.value c.from_vec.ensures c.from_vec-2.ensures
+    c.in_ok-turn_sent.ensures.heard c.in_ok-got.ensures.heard c.in_ok-stop.ensures.told

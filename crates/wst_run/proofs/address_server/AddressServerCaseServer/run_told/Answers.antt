@@ -2,10 +2,10 @@
 use Rattle.std.proofs.Common.{IfOk, map, subst}
 use Rattle.wst_run.specs.Servers.{AddressValue, MeetsAtAddress}
 use Rattle.wst_run.proofs.TargetLemmas.{meets_probed}
-use Rattle.wst_run.proofs.address_server.AddressServerCaseServer.run.Goals as goal
+use Rattle.wst_run.proofs.address_server.AddressServerCaseServer.run_told.Goals as goal
 
-pub returns-in-Ok : goal.returns-in-Ok
-returns-in-Ok g c =
+pub returns-in-Ok-clause-meets : goal.returns-in-Ok-clause-meets
+returns-in-Ok-clause-meets g c =
     let inside = c.self.inside in
     let server : AddressValue = record {
       host = inside.host.now;
@@ -16,4 +16,4 @@ returns-in-Ok g c =
     meeting))
     c.self.view_is
     (meets_probed server c.as_bytes.result.now c.args.key c.args.case.now c.meet_over.result c.as_bytes.ensures.value
-    c.meet_over.ensures)
+    c.meet_over.ensures.probed)

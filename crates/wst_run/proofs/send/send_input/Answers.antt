@@ -1,0 +1,15 @@
+-- The input was read whole.
+use Rattle.std.proofs.Common.{ℕ, List, inl, subst}
+use Rattle.ws_frame.specs.Devices.{watched}
+use Rattle.wst_run.specs.Send.{SendsText}
+use Rattle.wst_run.proofs.send.send_input.Goals as goal
+
+pub returns-in-Ok : goal.returns-in-Ok
+returns-in-Ok g c =
+    let output = watched g.W.Write.contents c.args.writer.now c.send_text.new.writer in
+    inl (
+      c.in-Ok.text.items,
+      c.in-Ok.ensures,
+      subst (λ (l : List ℕ). SendsText (g.S.CaseServer.meets c.args.server.now c.args.plan.now.key) c.args.plan.now l c.send_text.result output)
+          c.as_slice.ensures.value c.send_text.ensures,
+    )

@@ -1,0 +1,280 @@
+//! The command `send`: what is to be run, and its run over a server. Its lines are told in docs/FORMATS.md.
+
+ghost use Rattle.std.specs.Prelude.{◌≡◌, IfOk, MatchResult, true, false};
+ghost use Rattle.ws_frame.specs.Devices.{watched};
+ghost use Rattle.ws_frame.specs.Watching.{has_failed};
+ghost use Rattle.ws_scripts.specs.Scripts.{CanBeRun};
+ghost use Rattle.wst_run.specs.Send.{IsSendPlan, RefusesSend, RunsSendPlan, SendsCase, SendsInput, SendsText};
+ghost use Rattle.wst_run.specs.Send.{TellsRefused, TellsSendEnd};
+ghost use Rattle.wst_run.specs.Servers.{MeetsTarget};
+ghost use Rattle.wst_run.specs.Test.{HasHost};
+
+use crate::address_server::{AddressServer, Bounds};
+use crate::case_server::CaseServer;
+use crate::line_writer::{LineStop, LineWriter};
+use crate::meeting::{ConnectFault, Meeting};
+use crate::outcome::Outcome;
+use crate::test::{Target, TestRefusal, target_of};
+use std::alloc::Global;
+use std::io::{Read, Write};
+use std::net::Net;
+use ws_base::{NoMemory, TextFault};
+use ws_connection::{Protocols, protocols_of};
+use ws_formats::read_key;
+use ws_frame::{Watched, WriteFault, write_whole};
+use ws_suite::{Capture, Case, read_script, write_capture2};
+use ws_upgrade::HeadFault;
+use wst_commands::{Exit, Fault, ReadStop, TimeLimit, read_whole, tell, tell_fault, timeout_given};
+use wst_words::SendOptions;
+
+/// How the script that comes in is run, and where.
+#[derive(Drop)]
+pub struct SendPlan<'a> {
+    /// The masking key of the frames that have none of their own.
+    pub key: [u8; 4],
+    pub target: Target<'a>,
+    /// The capture is written in place of the lines.
+    pub capture: bool,
+    /// How long a server at an address is waited for.
+    pub timeout: TimeLimit,
+    /// At most so many bytes are read of such a server behind the head of its answer.
+    pub budget: u64,
+    /// The subprotocols that are offered to such a server.
+    pub protocols: Protocols<'a>,
+}
+
+/// Why a script was not run, or not to its end.
+#[derive(Clone, Copy)]
+pub enum SendStop {
+    /// The input or the output failed.
+    Device,
+    /// The input is no script: the first line that is damaged, counted from 1.
+    NotAStep(u64),
+    /// The server's answer to the request is to be refused.
+    Refused(HeadFault),
+    /// There is no connection to the server, or no whole answer came.
+    NoConnection(ConnectFault),
+    /// Memory ran out.
+    NoMemory,
+}
+
+impl From<NoMemory> for SendStop {
+    ghost use Rattle.wst_run.specs.declared.send.SendStop.TheVariants as stop;
+
+    ghost from_gives = { λ _ given. given ≡ stop.NoMemory };
+
+    fn from(_refused: NoMemory) -> SendStop {
+        SendStop::NoMemory
+    }
+}
+
+impl From<WriteFault> for SendStop {
+    ghost use Rattle.wst_run.specs.declared.send.SendStop.TheVariants as stop;
+
+    ghost from_gives = { λ _ given. given ≡ stop.Device };
+
+    fn from(_failed: WriteFault) -> SendStop {
+        SendStop::Device
+    }
+}
+
+/// What is to be run, or the first reason against it.
+#[tactic(auto, using(crate::proofs::PlanLemmas::target_has_host))]
+pub fn plan_send<'a>(
+    alloc: Global,
+    options: &SendOptions<'a>,
+) -> Result<SendPlan<'a>, TestRefusal<'a>>
+    ensures plan { MatchResult result (IsSendPlan options.now) (RefusesSend options.now) }
+    ensures host { IfOk result (λ plan. HasHost plan.target) }
+{
+    let Some(protocols) = protocols_of(alloc, options.protocols)? else {
+        return Err(TestRefusal::BadProtocols);
+    };
+    let Some(timeout) = timeout_given(Some(options.timeout)) else {
+        return Err(TestRefusal::BadTimeout);
+    };
+    let Some(key) = read_key(options.key.as_bytes()) else {
+        return Err(TestRefusal::BadKey);
+    };
+    let target = target_of(options.target)?;
+    Ok(SendPlan {
+        key,
+        target,
+        capture: options.capture,
+        timeout,
+        budget: options.budget,
+        protocols,
+    })
+}
+
+/// Runs the script that comes in over the server that a plan names, and tells how that ended.
+pub fn send_to_target<N: Net, R: Read, W: Write, F: Write>(
+    alloc: Global,
+    plan: &SendPlan<'_>,
+    net: &N,
+    reader: &mut Watched<R>,
+    writer: &mut Watched<W>,
+    faults: &mut Watched<F>,
+) -> Exit
+    requires reader_works { has_failed reader.old ≡ false }
+    requires writer_works { has_failed writer.old ≡ false }
+    requires host { HasHost plan.now.target }
+    ensures { RunsSendPlan (MeetsTarget plan.now.target plan.now.protocols plan.now.budget plan.now.key) plan.now result
+        (watched R.remaining reader.old reader.new) (watched W.contents writer.old writer.new)
+        (watched F.contents faults.old faults.new) }
+{
+    match plan.target {
+        Target::Memory(server) => send_to(alloc, &server, plan, reader, writer, faults),
+        Target::Address(host) => {
+            let bounds = Bounds {
+                budget: plan.budget,
+                timeout: plan.timeout,
+            };
+            let server = AddressServer::new(net, host, plan.protocols.as_slice(), bounds);
+            send_to(alloc, &server, plan, reader, writer, faults)
+        }
+    }
+}
+
+/// Runs the script that comes in over a new server, and tells how that ended.
+pub fn send_to<S: CaseServer, R: Read, W: Write, F: Write>(
+    alloc: Global,
+    server: &S,
+    plan: &SendPlan<'_>,
+    reader: &mut Watched<R>,
+    writer: &mut Watched<W>,
+    faults: &mut Watched<F>,
+) -> Exit
+    requires reader_works { has_failed reader.old ≡ false }
+    requires writer_works { has_failed writer.old ≡ false }
+    ensures { RunsSendPlan (S.meets server.now plan.now.key) plan.now result
+        (watched R.remaining reader.old reader.new) (watched W.contents writer.old writer.new)
+        (watched F.contents faults.old faults.new) }
+{
+    let ended = send_input(alloc, server, plan, reader, writer);
+    tell_end(alloc, ended, faults)
+}
+
+/// Reads the input whole, and runs the script that it is.
+fn send_input<S: CaseServer, R: Read, W: Write>(
+    alloc: Global,
+    server: &S,
+    plan: &SendPlan<'_>,
+    reader: &mut Watched<R>,
+    writer: &mut Watched<W>,
+) -> Result<(), SendStop>
+    requires reader_works { has_failed reader.old ≡ false }
+    requires writer_works { has_failed writer.old ≡ false }
+    ensures { SendsInput (S.meets server.now plan.now.key) plan.now result
+        (watched R.remaining reader.old reader.new) (watched W.contents writer.old writer.new) }
+{
+    match read_whole(alloc, reader) {
+        Ok(text) => send_text(alloc, server, plan, text.as_slice(), writer),
+        Err(ReadStop::Fault) => Err(SendStop::Device),
+        Err(ReadStop::NoMemory) => Err(SendStop::NoMemory),
+    }
+}
+
+/// Runs the script that a text is.
+fn send_text<S: CaseServer, W: Write>(
+    alloc: Global,
+    server: &S,
+    plan: &SendPlan<'_>,
+    text: &[u8],
+    writer: &mut Watched<W>,
+) -> Result<(), SendStop>
+    requires { has_failed writer.old ≡ false }
+    ensures { SendsText (S.meets server.now plan.now.key) plan.now text.now result
+        (watched W.contents writer.old writer.new) }
+{
+    match read_script(alloc, text) {
+        Ok(case) if plan.capture => send_captured(alloc, server, plan, &case, writer),
+        Ok(case) => send_shown(alloc, server, plan, &case, writer),
+        Err(TextFault::Damaged(line)) => Err(SendStop::NotAStep(line)),
+        Err(TextFault::NoMemory) => Err(SendStop::NoMemory),
+    }
+}
+
+/// Runs a script, and writes the capture of the run.
+fn send_captured<S: CaseServer, W: Write>(
+    alloc: Global,
+    server: &S,
+    plan: &SendPlan<'_>,
+    case: &Case,
+    writer: &mut Watched<W>,
+) -> Result<(), SendStop>
+    requires works { has_failed writer.old ≡ false }
+    requires runs { CanBeRun case.now }
+    requires captures { plan.now.capture ≡ true }
+    ensures { SendsCase (S.meets server.now plan.now.key) plan.now case.now result
+        (watched W.contents writer.old writer.new) }
+{
+    match server.run(alloc, case, plan.key)? {
+        Meeting::Ran(transcript) => {
+            let capture = Capture {
+                key: Some(plan.key),
+                transcript,
+            };
+            let text = write_capture2(alloc, &capture)?;
+            write_whole(writer, text.as_slice())?;
+            Ok(())
+        }
+        Meeting::Refused(fault) => Err(SendStop::Refused(fault)),
+        Meeting::NoConnection(why) => Err(SendStop::NoConnection(why)),
+    }
+}
+
+/// Runs a script, and writes the lines of the run as it goes on.
+fn send_shown<S: CaseServer, W: Write>(
+    alloc: Global,
+    server: &S,
+    plan: &SendPlan<'_>,
+    case: &Case,
+    writer: &mut Watched<W>,
+) -> Result<(), SendStop>
+    requires works { has_failed writer.old ≡ false }
+    requires runs { CanBeRun case.now }
+    requires shows { plan.now.capture ≡ false }
+    ensures { SendsCase (S.meets server.now plan.now.key) plan.now case.now result
+        (watched W.contents writer.old writer.new) }
+{
+    let mut lines = LineWriter::new(writer);
+    match server.run_told(alloc, case, plan.key, &mut lines) {
+        Ok(Meeting::Ran(_)) => Ok(()),
+        Ok(Meeting::Refused(fault)) => Err(SendStop::Refused(fault)),
+        Ok(Meeting::NoConnection(why)) => Err(SendStop::NoConnection(why)),
+        Err(LineStop::Output) => Err(SendStop::Device),
+        Err(LineStop::NoMemory) => Err(SendStop::NoMemory),
+    }
+}
+
+/// Tells how a run ended, where there is something to tell, and answers the exit that it stands for.
+fn tell_end<F: Write>(alloc: Global, ended: Result<(), SendStop>, faults: &mut Watched<F>) -> Exit
+    ensures { TellsSendEnd ended result (watched F.contents faults.old faults.new) }
+{
+    match ended {
+        Ok(()) => Exit::Done,
+        Err(SendStop::Device) => Exit::Failed,
+        Err(SendStop::NotAStep(line)) => tell_fault(alloc, Fault::NotAStep(line), faults),
+        Err(SendStop::Refused(fault)) => tell_refused(alloc, fault, faults),
+        Err(SendStop::NoConnection(why)) => {
+            tell(why.line(), faults);
+            Exit::Failed
+        }
+        Err(SendStop::NoMemory) => tell_fault(alloc, Fault::NoMemory, faults),
+    }
+}
+
+/// Tells that the server's answer to the request is to be refused.
+fn tell_refused<F: Write>(alloc: Global, fault: HeadFault, faults: &mut Watched<F>) -> Exit
+    ensures { TellsRefused fault result (watched F.contents faults.old faults.new) }
+{
+    let outcome = Outcome::HeadRefused(fault);
+    match format!(in alloc; "{outcome}\n") {
+        Ok(line) => {
+            tell(line.as_bytes(), faults);
+            Exit::Damaged
+        }
+        Err(_) => tell_fault(alloc, Fault::NoMemory, faults),
+    }
+}

@@ -1,0 +1,160 @@
+//! The words of the command `send`.
+
+ghost use Rattle.std.specs.Prelude.{◌≡◌, MatchOption, map};
+ghost use Rattle.clap.specs.Words.{found_of, rows_of};
+ghost use Rattle.wst_words.specs.Arguments.{argument_row};
+ghost use Rattle.wst_words.specs.Options.{LacksOneOf};
+ghost use Rattle.wst_words.specs.Send.{AsksToSend, send_command};
+
+use crate::arguments::Argument;
+use crate::arguments::ArgumentKind::{Flag, NeededWord, Number, Word};
+use crate::commands::HelpText;
+use crate::options::{flag_of, number_of, word_of};
+use clap::ArgMatches;
+
+/// What `send` is asked to send its script to, and how.
+#[derive(Clone, Copy)]
+pub struct SendOptions<'a> {
+    /// The masking key of the frames that have none of their own, as a word.
+    pub key: &'a str,
+    /// The capture is written in place of the frames.
+    pub capture: bool,
+    /// For so many seconds, as a word, a byte is waited for.
+    pub timeout: &'a str,
+    /// At most so many bytes are read of a server behind the head of its answer.
+    pub budget: u64,
+    /// The subprotocols that are offered, joined by commas, where they are given.
+    pub protocols: Option<&'a str>,
+    /// The peer: `own`, `tung` or an address.
+    pub target: &'a str,
+}
+
+/// Its arguments.
+static ARGUMENTS: [Argument; 6] = [
+    Argument {
+        name: "key",
+        kind: Word,
+        default: Some("37fa213d"),
+        value_name: "HEX8",
+        help: "Masking key: eight lower-case hexadecimal digits",
+    },
+    Argument {
+        name: "capture",
+        kind: Flag,
+        default: None,
+        value_name: "",
+        help: "Write the capture in place of the frames",
+    },
+    Argument {
+        name: "timeout",
+        kind: Word,
+        default: Some("2"),
+        value_name: "SECONDS",
+        help: "Wait so long for each byte of a server, 1 to 3600",
+    },
+    Argument {
+        name: "budget",
+        kind: Number,
+        default: Some("67108864"),
+        value_name: "N",
+        help: "Most bytes to read of it behind its head",
+    },
+    Argument {
+        name: "protocols",
+        kind: Word,
+        default: None,
+        value_name: "LIST",
+        help: "Subprotocols to offer to a server at an address, joined by commas",
+    },
+    Argument {
+        name: "target",
+        kind: NeededWord,
+        default: None,
+        value_name: "TARGET",
+        help: "The address of a server, or one in memory: `own`, our echo, or `tung`, tungstenite's",
+    },
+];
+
+/// The arguments of `send`.
+pub(crate) fn arguments() -> &'static [Argument]
+    ensures { map argument_row result.now ≡ send_command.arguments }
+{
+    &ARGUMENTS
+}
+
+/// What the words give. `None` where a word has no value.
+pub(crate) fn send_options<'a>(options: &ArgMatches<'a>) -> Option<SendOptions<'a>>
+    ensures { MatchOption result (LacksOneOf (rows_of (found_of options.now)) send_command.arguments)
+        (AsksToSend (rows_of (found_of options.now))) }
+{
+    let key = word_of(options, "key")?;
+    let capture = flag_of(options, "capture")?;
+    let timeout = word_of(options, "timeout")?;
+    let budget = number_of(options, "budget")?;
+    let target = word_of(options, "target")?;
+    Some(SendOptions {
+        key,
+        capture,
+        timeout,
+        budget,
+        protocols: word_of(options, "protocols"),
+        target,
+    })
+}
+
+/// What help says of `send`.
+pub(crate) fn help<'a>() -> HelpText<'a> {
+    HelpText {
+        about: "Sends the frames of a script to a server, and shows every frame that comes back",
+        long_about: LONG_ABOUT,
+        after_help: AFTER_HELP,
+    }
+}
+
+/// What `send` is for.
+const LONG_ABOUT: &str =
+    "Reads a script, whose lines `wst cases --help` describes, and runs it at TARGET: the address of a
+server, as 127.0.0.1:9001, [::1]:9001 or localhost:9001, which is asked for an upgrade at `/`, or a
+new server in memory: `own`, our echo, or `tung`, one of the crate tungstenite. What it sends may
+break any rule. Each frame is shown as soon as it is certain:
+
+  turn N         a turn begins, counted from 1; `wait` in the script ends one
+  > FRAME        a frame that was sent, as `wst show` shows it, its place counted in what was sent
+  < FRAME        one that came back, its place counted in what came back
+  > bad length at N, > cut at N, the same with `<`    as `wst show` has them
+  end WHO        who ended the run: `peer`; `tester`, which had sent all and waited in vain, or got
+                 what no server may send; or `broken`, where the connection broke
+
+Lines of `>` stand as soon as their turn was sent, those of `<` as soon as their frame is whole. A
+turn ends once what is due for it has come, or once for so many SECONDS nothing has; once a close
+has come nothing more is sent. With --capture the capture is written in place of the lines, in
+format 2. The command gives no verdict: wst send --capture TARGET | wst judge
+
+A turn is sent before anything is read for it. One that is larger than what the sockets' buffers
+hold wants a peer that reads meanwhile; else it waits for SECONDS, and the run ends as `broken`.
+
+With --protocols the request offers the subprotocols of LIST, as for `wst test`. At a server in
+memory, LIST, SECONDS and the budget are checked and without effect. An answer to the request that
+is to be refused is `FAIL Head NAME` on the fault output, which `wst test --help` describes, and a
+server that is not there `no connection: WHY`: then nothing stands on the output.
+
+Exit status: 0 the script was run, whoever ended it, 1 the input is no script (`line N: not a step`)
+or the answer is to be refused, 2 wrong words, also a word that is no LIST, no SECONDS, no key or no
+host of a request, 3 there is no connection, the input or the output failed or memory ran out.";
+
+/// What stands at the end of the help of `send`.
+const AFTER_HELP: &str =
+    "Examples, each to paste: a ping; a ping between two fragments; a frame with a reserved bit; a frame
+without a mask; and the script of a case.
+  echo 'ping \"hi\"' | wst send own
+  printf '%s\\n' 'text fin=0 \"Hel\"' 'ping \"between\"' 'cont \"lo\"' | wst send own
+  echo 'text rsv=4 \"Hello\"' | wst send own
+  echo 'text key=- \"Hello\"' | wst send own
+  wst cases 7.7.1 | wst send own
+The fourth prints
+  turn 1
+  > 0 text fin=1 rsv=0 key=- len=5 short 48656c6c6f !mask
+  < 0 close fin=1 rsv=0 key=- len=2 short 03ea
+  end peer
+a frame that a client may not send, and the close 1002 that it gets. Over sockets:
+  wst serve 127.0.0.1:9001 1 & sleep 1; echo 'text key=- \"Hello\"' | wst send 127.0.0.1:9001";

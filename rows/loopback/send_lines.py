@@ -1,0 +1,219 @@
+"""What `wst send` writes of a run at servers of raw sockets, when it writes it, and how it ends."""
+
+import os
+import subprocess
+import time
+
+from server import SECONDS, Sent, Server, free_port, run, start
+from wire import CLOSE_BACK, FAILED_1002, HELLO, HELLO_BACK, MASKED_CLOSE, NOT_MASKED, RESPONSE, with_line
+
+SCRIPT = b'text "Hello"\n'
+WITH_CLOSE = b'text "Hello"\nwait\nclose=1000\n'
+TURN_1 = "turn 1"
+SENT_HELLO = "> 0 text fin=1 rsv=0 key=37fa213d len=5 short 48656c6c6f"
+GOT_HELLO = "< 0 text fin=1 rsv=0 key=- len=5 short 48656c6c6f"
+SENT_CLOSE = "> 11 close fin=1 rsv=0 key=37fa213d len=2 short 03e8"
+GOT_CLOSE = "< 7 close fin=1 rsv=0 key=- len=2 short 03e8"
+BY_TURNS = f"{TURN_1}\n{SENT_HELLO}\n{GOT_HELLO}\nturn 2\n{SENT_CLOSE}\n{GOT_CLOSE}\nend peer\n"
+BINARY_16_MIB = b"binary 00*16777216\n"
+
+
+def lines_as_they_come():
+    """Those of `>` before anything has come, and each of `<` as soon as its frame is whole."""
+    server = Sent(WITH_CLOSE)
+    client = server.accepted(RESPONSE)
+    assert client.get(len(HELLO)) == HELLO
+    assert (server.line(), server.line()) == (TURN_1, SENT_HELLO)
+    client.send(HELLO_BACK[:-1])
+    assert server.says_nothing_for(0.2)
+    client.send(HELLO_BACK[-1:])
+    assert server.line() == GOT_HELLO
+    assert client.get(len(MASKED_CLOSE)) == MASKED_CLOSE
+    assert (server.line(), server.line()) == ("turn 2", SENT_CLOSE)
+    client.send(CLOSE_BACK)
+    assert server.line() == GOT_CLOSE
+    client.close()
+    server.ends("end peer\n")
+
+
+def an_answer_that_comes_late():
+    server = Sent(SCRIPT)
+    client = server.accepted(RESPONSE)
+    time.sleep(0.7)
+    client.send(HELLO_BACK)
+    time.sleep(0.7)
+    client.send(CLOSE_BACK)
+    client.close()
+    server.ends(f"{TURN_1}\n{SENT_HELLO}\n{GOT_HELLO}\n{GOT_CLOSE}\nend peer\n")
+
+
+def single_bytes():
+    server = Sent(WITH_CLOSE)
+    client = server.accepted(RESPONSE)
+    for byte in HELLO_BACK:
+        client.send(bytes([byte]))
+    assert client.get(len(HELLO + MASKED_CLOSE)) == HELLO + MASKED_CLOSE
+    for byte in CLOSE_BACK:
+        client.send(bytes([byte]))
+    client.close()
+    server.ends(BY_TURNS)
+
+
+def two_frames_in_a_turn():
+    """The turn is told to its last frame, also where all that is due has come before it."""
+    server = Sent(SCRIPT)
+    client = server.accepted(RESPONSE)
+    client.send(HELLO_BACK)
+    time.sleep(0.3)
+    client.send(b"\x89\x00", CLOSE_BACK)
+    client.close()
+    server.ends(
+        f"{TURN_1}\n{SENT_HELLO}\n{GOT_HELLO}\n< 7 ping fin=1 rsv=0 key=- len=0 short -\n"
+        "< 9 close fin=1 rsv=0 key=- len=2 short 03e8\nend peer\n"
+    )
+
+
+def a_frame_before_anything_was_sent():
+    """It came with the head, and stands behind what its turn has sent."""
+    server = Sent(SCRIPT)
+    client = server.accepted(RESPONSE + HELLO_BACK)
+    assert client.get(len(HELLO)) == HELLO
+    client.close()
+    server.ends(f"{TURN_1}\n{SENT_HELLO}\n{GOT_HELLO}\nend peer\n")
+
+
+def an_end_inside_a_frame():
+    server = Sent(SCRIPT)
+    client = server.accepted(RESPONSE)
+    assert client.get(len(HELLO)) == HELLO
+    client.send(HELLO_BACK, b"\x81\x7e\x01")
+    client.close()
+    server.ends(f"{TURN_1}\n{SENT_HELLO}\n{GOT_HELLO}\n< cut at 7\nend peer\n")
+
+
+def a_server_that_never_answers():
+    server = Sent(SCRIPT)
+    client = server.accepted(RESPONSE)
+    begun = time.monotonic()
+    server.ends(f"{TURN_1}\n{SENT_HELLO}\nend tester\n")
+    assert 1.5 < time.monotonic() - begun < 5
+    client.close()
+
+
+def a_frame_that_no_client_may_send():
+    server = Sent(b'text key=- "Hello"\n')
+    client = server.accepted(RESPONSE)
+    assert client.get(len(NOT_MASKED)) == NOT_MASKED
+    client.send(FAILED_1002)
+    client.close()
+    server.ends(
+        f"{TURN_1}\n> 0 text fin=1 rsv=0 key=- len=5 short 48656c6c6f !mask\n"
+        "< 0 close fin=1 rsv=0 key=- len=2 short 03ea\nend peer\n"
+    )
+
+
+def a_capture():
+    server = Sent(SCRIPT, "--capture")
+    client = server.accepted(RESPONSE)
+    client.send(HELLO_BACK)
+    client.close()
+    server.ends(
+        "wst-capture 2\nkey 37fa213d\nturn\n> 818537fa213d7f9f4d5158\n< 810548656c6c6f\nend peer\n"
+    )
+
+
+def a_script_of_16_mib():
+    server = Sent(BINARY_16_MIB, "--key", "00000000")
+    client = server.accepted(RESPONSE)
+    frame = b"\x82\xff" + (16777216).to_bytes(8, "big") + bytes(4 + 16777216)
+    assert client.get(len(frame)) == frame
+    client.send(FAILED_1002)
+    client.close()
+    server.ends(
+        f"{TURN_1}\n> 0 binary fin=1 rsv=0 key=00000000 len=16777216 eight 00000000000000000000000000000000..\n"
+        "< 0 close fin=1 rsv=0 key=- len=2 short 03ea\nend peer\n"
+    )
+
+
+def a_server_that_takes_nothing():
+    """A turn that no buffer holds waits for the reader, and ends as broken."""
+    server = Sent(b"binary 00*8388608\n", "--timeout", "1")
+    client = server.accepted(RESPONSE)
+    assert server.line() == TURN_1
+    assert server.line().startswith("> cut at 0")
+    server.ends("end broken\n")
+    client.close()
+
+
+def a_refused_answer():
+    server = Sent(SCRIPT)
+    client = server.accepted(with_line(RESPONSE, b"Sec-WebSocket-Protocol: chat"))
+    client.close()
+    server.ends("", status=1, faults=b"FAIL Head Protocol\n")
+
+
+def no_connection():
+    address = f"127.0.0.1:{free_port()}"
+    assert run("send", address) == (3, b"", b"no connection: refused\n")
+
+
+def an_answer_that_is_cut():
+    server = Sent(SCRIPT)
+    client = server.next()
+    client.send(RESPONSE[:20])
+    client.half_close()
+    client.rest()
+    server.ends("", status=3, faults=b"no connection: closed before the answer\n")
+
+
+def no_script():
+    """It is read first, and nothing is asked for."""
+    server = Sent(b"text 6\n")
+    server.ends("", status=1, faults=b"line 1: not a step\n")
+    assert server.has_no_more_clients()
+
+
+def a_closed_output():
+    """It ends the run quietly."""
+    reading, writing = os.pipe()
+    os.close(reading)
+    server = Sent(WITH_CLOSE, stdout=writing)
+    os.close(writing)
+    client = server.accepted(RESPONSE)
+    assert client.get(len(HELLO)) == HELLO
+    assert client.get(1) == b""
+    assert server.process.wait(SECONDS) == 3
+    assert server.process.stderr.read() == b""
+
+
+def our_own_server():
+    server = Server(1)
+    process = start("send", server.address, stdin=subprocess.PIPE)
+    output, faults = process.communicate(b'text key=- "Hello"\n', timeout=SECONDS)
+    assert (process.returncode, faults) == (0, b"")
+    assert output == (
+        b"turn 1\n> 0 text fin=1 rsv=0 key=- len=5 short 48656c6c6f !mask\n"
+        b"< 0 close fin=1 rsv=0 key=- len=2 short 03ea\nend peer\n"
+    )
+    server.ends("1 failed MaskWrong")
+
+
+TESTS = [
+    lines_as_they_come,
+    an_answer_that_comes_late,
+    single_bytes,
+    two_frames_in_a_turn,
+    a_frame_before_anything_was_sent,
+    an_end_inside_a_frame,
+    a_server_that_never_answers,
+    a_frame_that_no_client_may_send,
+    a_capture,
+    a_script_of_16_mib,
+    a_server_that_takes_nothing,
+    a_refused_answer,
+    no_connection,
+    an_answer_that_is_cut,
+    no_script,
+    a_closed_output,
+    our_own_server,
+]
