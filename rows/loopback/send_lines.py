@@ -4,7 +4,7 @@ import os
 import subprocess
 import time
 
-from server import SECONDS, Sent, Server, free_port, run, start
+from server import SECONDS, WST, Sent, Server, free_port, run, start
 from wire import CLOSE_BACK, FAILED_1002, HELLO, HELLO_BACK, MASKED_CLOSE, NOT_MASKED, RESPONSE, with_line
 
 SCRIPT = b'text "Hello"\n'
@@ -39,6 +39,7 @@ def lines_as_they_come():
 def an_answer_that_comes_late():
     server = Sent(SCRIPT)
     client = server.accepted(RESPONSE)
+    assert client.get(len(HELLO)) == HELLO
     time.sleep(0.7)
     client.send(HELLO_BACK)
     time.sleep(0.7)
@@ -63,6 +64,7 @@ def two_frames_in_a_turn():
     """The turn is told to its last frame, also where all that is due has come before it."""
     server = Sent(SCRIPT)
     client = server.accepted(RESPONSE)
+    assert client.get(len(HELLO)) == HELLO
     client.send(HELLO_BACK)
     time.sleep(0.3)
     client.send(b"\x89\x00", CLOSE_BACK)
@@ -115,6 +117,7 @@ def a_frame_that_no_client_may_send():
 def a_capture():
     server = Sent(SCRIPT, "--capture")
     client = server.accepted(RESPONSE)
+    assert client.get(len(HELLO)) == HELLO
     client.send(HELLO_BACK)
     client.close()
     server.ends(
@@ -198,6 +201,29 @@ def our_own_server():
     server.ends("1 failed MaskWrong")
 
 
+def each_case_as_a_script():
+    """Over our echo the text of a case gives the capture of the case, byte for byte."""
+    status, listed, _ = run("cases")
+    names = [line.split()[0].decode() for line in listed.splitlines()]
+    assert (status, len(names)) == (0, 240)
+    for name in names:
+        script = run("cases", name)[1]
+        process = start("send", "--capture", "own", stdin=subprocess.PIPE)
+        sent = process.communicate(script, timeout=SECONDS)
+        assert (process.returncode, *sent) == run("test", "--capture", "own", name), name
+
+
+def more_than_memory():
+    """A megabyte of text that asks for 800 GB."""
+    script = b"binary 00*16777216\n" * 50000
+    command = f"ulimit -v 4000000; exec {WST} send own"
+    process = subprocess.Popen(
+        ["sh", "-c", command], stdin=subprocess.PIPE, stdout=subprocess.PIPE, stderr=subprocess.PIPE
+    )
+    output = process.communicate(script, timeout=6 * SECONDS)
+    assert (process.returncode, *output) == (3, b"", b"no memory\n")
+
+
 TESTS = [
     lines_as_they_come,
     an_answer_that_comes_late,
@@ -216,4 +242,6 @@ TESTS = [
     no_script,
     a_closed_output,
     our_own_server,
+    each_case_as_a_script,
+    more_than_memory,
 ]
