@@ -1,11 +1,12 @@
 """What `wst send` writes of a run at servers of raw sockets, when it writes it, and how it ends."""
 
 import os
+import socket
 import subprocess
 import time
 
-from server import SECONDS, WST, Sent, Server, free_port, run, start
-from wire import CLOSE_BACK, FAILED_1002, HELLO, HELLO_BACK, MASKED_CLOSE, NOT_MASKED, RESPONSE, with_line
+from server import SECONDS, WST, Server, Tested, free_port, run, start
+from wire import CLOSE_BACK, FAILED_1002, HELLO, HELLO_BACK, MASKED_CLOSE, NOT_MASKED, RESPONSE, request_to, with_line
 
 SCRIPT = b'text "Hello"\n'
 WITH_CLOSE = b'text "Hello"\nwait\nclose=1000\n'
@@ -16,6 +17,27 @@ SENT_CLOSE = "> 11 close fin=1 rsv=0 key=37fa213d len=2 short 03e8"
 GOT_CLOSE = "< 7 close fin=1 rsv=0 key=- len=2 short 03e8"
 BY_TURNS = f"{TURN_1}\n{SENT_HELLO}\n{GOT_HELLO}\nturn 2\n{SENT_CLOSE}\n{GOT_CLOSE}\nend peer\n"
 BINARY_16_MIB = b"binary 00*16777216\n"
+
+
+class Sent(Tested):
+    """`wst send` with these options and this script against a socket of ours that listens."""
+
+    def __init__(self, script, *options, stdout=subprocess.PIPE):
+        self.listener = socket.create_server(("127.0.0.1", 0))
+        self.listener.settimeout(SECONDS)
+        self.address = f"127.0.0.1:{self.listener.getsockname()[1]}"
+        self.process = start("send", *options, self.address, stdin=subprocess.PIPE, stdout=stdout)
+        self.process.stdin.write(script)
+        self.process.stdin.close()
+        self.process.stdin = None
+
+    def accepted(self, response):
+        """The server's end of the connection, behind the head and this answer to it."""
+        client = self.next()
+        asked = request_to(self.address)
+        assert client.get(len(asked)) == asked
+        client.send(response)
+        return client
 
 
 def lines_as_they_come():
@@ -202,15 +224,34 @@ def our_own_server():
 
 
 def each_case_as_a_script():
-    """Over our echo the text of a case gives the capture of the case, byte for byte."""
+    """Over our echo the text of a case gives the capture of the case, byte for byte, and as lines those of this capture."""
     status, listed, _ = run("cases")
     names = [line.split()[0].decode() for line in listed.splitlines()]
     assert (status, len(names)) == (0, 240)
-    for name in names:
+    for name in [*names, *(f"x.{number}" for number in range(1, 7))]:
         script = run("cases", name)[1]
-        process = start("send", "--capture", "own", stdin=subprocess.PIPE)
-        sent = process.communicate(script, timeout=SECONDS)
-        assert (process.returncode, *sent) == run("test", "--capture", "own", name), name
+        captured = run("test", "--capture", "own", name)
+        assert fed(script, "send", "--capture", "own") == captured, name
+        assert fed(script, "send", "own") == fed(captured[1], "show", "--capture"), name
+
+
+def fed(given, *words):
+    """What the command makes of an input: its status, its output and its fault output."""
+    process = start(*words, stdin=subprocess.PIPE)
+    told = process.communicate(given, timeout=SECONDS)
+    return process.returncode, *told
+
+
+def examples_of_the_help():
+    """Each example of the help, as it stands, but for the one that waits for a server of its own."""
+    lines = run("send", "--help")[1].decode().splitlines()
+    examples = [line.strip() for line in lines if line.endswith("| wst send own")]
+    assert len(examples) == 5, examples
+    for example in examples:
+        folder = {**os.environ, "PATH": f"{WST.parent}:{os.environ['PATH']}"}
+        ran = subprocess.run(["sh", "-c", example], capture_output=True, timeout=SECONDS, env=folder, check=False)
+        assert (ran.returncode, ran.stderr) == (0, b""), (example, ran)
+        assert ran.stdout.startswith(b"turn 1\n> 0 ") and b"\n< 0 " in ran.stdout, (example, ran)
 
 
 def more_than_memory():
@@ -243,5 +284,6 @@ TESTS = [
     a_closed_output,
     our_own_server,
     each_case_as_a_script,
+    examples_of_the_help,
     more_than_memory,
 ]

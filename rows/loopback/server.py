@@ -1,4 +1,5 @@
-"""What `wst serve`, `wst test` and `wst send` run, and the other ends of their connections. Nothing waits longer than SECONDS."""
+"""What `wst serve`, `wst test` and `wst send` run, and the other ends of their connections. Nothing waits longer than
+SECONDS."""
 
 import select
 import socket
@@ -6,8 +7,6 @@ import struct
 import subprocess
 import time
 from pathlib import Path
-
-from wire import request_to
 
 WST = Path(__file__).resolve().parents[2] / "crates/wst/out/wst"
 SECONDS = 10
@@ -105,27 +104,6 @@ class Tested(Running):
         assert self.process.wait(SECONDS) == status, self.process.returncode
         told = self.process.stderr.read()
         assert told == faults, told
-
-
-class Sent(Tested):
-    """`wst send` with these options and this script against a socket of ours that listens."""
-
-    def __init__(self, script, *options, stdout=subprocess.PIPE):
-        self.listener = socket.create_server(("127.0.0.1", 0))
-        self.listener.settimeout(SECONDS)
-        self.address = f"127.0.0.1:{self.listener.getsockname()[1]}"
-        self.process = start("send", *options, self.address, stdin=subprocess.PIPE, stdout=stdout)
-        self.process.stdin.write(script)
-        self.process.stdin.close()
-        self.process.stdin = None
-
-    def accepted(self, response):
-        """The server's end of the connection, behind the head and this answer to it."""
-        client = self.next()
-        asked = request_to(self.address)
-        assert client.get(len(asked)) == asked
-        client.send(response)
-        return client
 
 
 class Client:
