@@ -2,8 +2,10 @@
 
 ghost use Rattle.std.specs.Prelude.{◌≡◌, IfOk, MatchOption, MatchResult, drop, length, position, string_bytes, take};
 ghost use Rattle.std.specs.Str.{str_eq_ignore_ascii_case};
-ghost use Rattle.ws_targets.specs.Reading.{IsPlaceAsked, HasParts, IsUrlRead, LacksPlaceAsked, RefusesResource, RefusesUrl, address_at};
-ghost use Rattle.ws_targets.specs.Targets.{HasScheme, IsTargetText, NamesNoTarget, authority_of, begins_with_wss, connected_at, ends_authority, path_of, resource_of};
+ghost use Rattle.ws_targets.specs.Reading.{IsPlaceAsked, HasParts, IsUrlRead};
+ghost use Rattle.ws_targets.specs.Reading.{LacksPlaceAsked, RefusesResource, RefusesUrl, address_at};
+ghost use Rattle.ws_targets.specs.Targets.{HasScheme, IsTargetText, NamesNoTarget, authority_of};
+ghost use Rattle.ws_targets.specs.Targets.{begins_with_wss, connected_at, ends_authority, path_of, resource_of};
 ghost use Rattle.ws_upgrade.specs.Texts.{IsHost, IsPath};
 
 use crate::place::{Place, place_of};
