@@ -60,5 +60,6 @@ pub mod RightFronts
 pub mod DoomedNow
 pub mod DoomedStreams
 pub mod DataSends
+pub mod TextSends
 pub mod SendCalls
 pub mod WorkedExamples

@@ -72,25 +72,31 @@ impl fmt::Display for Reason {
     ghost output = { λ cause. Some (reason_name cause) };
 
     fn fmt<W: fmt::Write>(&self, f: &mut fmt::Formatter<W>) -> fmt::Result {
-        match *self {
-            Reason::ReservedBits => write!(f, "ReservedBits"),
-            Reason::Opcode => write!(f, "Opcode"),
-            Reason::MaskWrong => write!(f, "MaskWrong"),
-            Reason::NotShortest => write!(f, "NotShortest"),
-            Reason::BadLength => write!(f, "BadLength"),
-            Reason::ControlCut => write!(f, "ControlCut"),
-            Reason::ControlLong => write!(f, "ControlLong"),
-            Reason::NothingToContinue => write!(f, "NothingToContinue"),
-            Reason::MessageOpen => write!(f, "MessageOpen"),
-            Reason::TooBig => write!(f, "TooBig"),
-            Reason::NotText => write!(f, "NotText"),
-            Reason::TextCut => write!(f, "TextCut"),
-            Reason::CloseOneByte => write!(f, "CloseOneByte"),
-            Reason::CloseCode => write!(f, "CloseCode"),
-            Reason::CloseReason => write!(f, "CloseReason"),
-            Reason::FrameBig => write!(f, "FrameBig"),
-        }
+        write!(f, "{}", name_of(*self))
     }
 }
 
 impl Error for Reason {}
+
+fn name_of(cause: Reason) -> &'static str
+    ensures { result.now ≡ reason_name cause }
+{
+    match cause {
+        Reason::ReservedBits => "ReservedBits",
+        Reason::Opcode => "Opcode",
+        Reason::MaskWrong => "MaskWrong",
+        Reason::NotShortest => "NotShortest",
+        Reason::BadLength => "BadLength",
+        Reason::ControlCut => "ControlCut",
+        Reason::ControlLong => "ControlLong",
+        Reason::NothingToContinue => "NothingToContinue",
+        Reason::MessageOpen => "MessageOpen",
+        Reason::TooBig => "TooBig",
+        Reason::NotText => "NotText",
+        Reason::TextCut => "TextCut",
+        Reason::CloseOneByte => "CloseOneByte",
+        Reason::CloseCode => "CloseCode",
+        Reason::CloseReason => "CloseReason",
+        Reason::FrameBig => "FrameBig",
+    }
+}

@@ -1,6 +1,6 @@
 //! Why a frame was not sent.
 
-ghost use Rattle.std.specs.Prelude.{Some};
+ghost use Rattle.std.specs.Prelude.{◌≡◌, Some};
 ghost use Rattle.ws_session.specs.Words.{fault_name};
 
 use std::error::Error;
@@ -31,16 +31,22 @@ impl fmt::Display for SendFault {
     ghost output = { λ cause. Some (fault_name cause) };
 
     fn fmt<W: fmt::Write>(&self, f: &mut fmt::Formatter<W>) -> fmt::Result {
-        match *self {
-            SendFault::Over => write!(f, "Over"),
-            SendFault::Busy => write!(f, "Busy"),
-            SendFault::NothingOpen => write!(f, "NothingOpen"),
-            SendFault::NotText => write!(f, "NotText"),
-            SendFault::TooLong => write!(f, "TooLong"),
-            SendFault::BadCode => write!(f, "BadCode"),
-            SendFault::NoMemory => write!(f, "NoMemory"),
-        }
+        write!(f, "{}", name_of(*self))
     }
 }
 
 impl Error for SendFault {}
+
+fn name_of(cause: SendFault) -> &'static str
+    ensures { result.now ≡ fault_name cause }
+{
+    match cause {
+        SendFault::Over => "Over",
+        SendFault::Busy => "Busy",
+        SendFault::NothingOpen => "NothingOpen",
+        SendFault::NotText => "NotText",
+        SendFault::TooLong => "TooLong",
+        SendFault::BadCode => "BadCode",
+        SendFault::NoMemory => "NoMemory",
+    }
+}

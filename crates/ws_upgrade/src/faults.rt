@@ -1,6 +1,6 @@
 //! What is wrong with a head, and with what a request or a response is asked to be made of.
 
-ghost use Rattle.std.specs.Prelude.{Some};
+ghost use Rattle.std.specs.Prelude.{◌≡◌, Some};
 ghost use Rattle.ws_upgrade.specs.Words.{head_fault_name, request_fault_name, response_fault_name};
 
 use std::error::Error;
@@ -44,21 +44,7 @@ impl fmt::Display for HeadFault {
     ghost output = { λ cause. Some (head_fault_name cause) };
 
     fn fmt<W: fmt::Write>(&self, f: &mut fmt::Formatter<W>) -> fmt::Result {
-        match *self {
-            HeadFault::Head => write!(f, "Head"),
-            HeadFault::Method => write!(f, "Method"),
-            HeadFault::Version => write!(f, "Version"),
-            HeadFault::Host => write!(f, "Host"),
-            HeadFault::Upgrade => write!(f, "Upgrade"),
-            HeadFault::Connection => write!(f, "Connection"),
-            HeadFault::Key => write!(f, "Key"),
-            HeadFault::WsVersion => write!(f, "WsVersion"),
-            HeadFault::Status => write!(f, "Status"),
-            HeadFault::Accept => write!(f, "Accept"),
-            HeadFault::Extension => write!(f, "Extension"),
-            HeadFault::Protocol => write!(f, "Protocol"),
-            HeadFault::TooLarge => write!(f, "TooLarge"),
-        }
+        write!(f, "{}", head_fault_word(*self))
     }
 }
 
@@ -143,3 +129,24 @@ impl fmt::Display for ResponseFault {
 }
 
 impl Error for ResponseFault {}
+
+/// Its name.
+fn head_fault_word(cause: HeadFault) -> &'static str
+    ensures { result.now ≡ head_fault_name cause }
+{
+    match cause {
+        HeadFault::Head => "Head",
+        HeadFault::Method => "Method",
+        HeadFault::Version => "Version",
+        HeadFault::Host => "Host",
+        HeadFault::Upgrade => "Upgrade",
+        HeadFault::Connection => "Connection",
+        HeadFault::Key => "Key",
+        HeadFault::WsVersion => "WsVersion",
+        HeadFault::Status => "Status",
+        HeadFault::Accept => "Accept",
+        HeadFault::Extension => "Extension",
+        HeadFault::Protocol => "Protocol",
+        HeadFault::TooLarge => "TooLarge",
+    }
+}
