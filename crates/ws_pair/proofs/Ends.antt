@@ -200,18 +200,18 @@ unchanged role limits x ys v w is session put reached delivered cut = record {
 
 -- ---- nothing comes
 
-abbrev make : Bool → List KeyedFrame → ℕ → LinkEnd
+abbrev pub make : Bool → List KeyedFrame → ℕ → LinkEnd
 make cut sent reached = record { sent = sent; reached = reached; is_cut = cut }
 
-same_end : (cut : Bool) (a b : List KeyedFrame) (n m : ℕ) → a ≡ b → n ≡ m → make cut a n ≡ make cut b m
+pub same_end : (cut : Bool) (a b : List KeyedFrame) (n m : ℕ) → a ≡ b → n ≡ m → make cut a n ≡ make cut b m
 same_end cut a b n m e f = ap (λ (l : List KeyedFrame). make cut l n) e ∙ ap (λ k. make cut b k) f
 
 -- what follows in a longer list
-rest_of : (front later all : List Event) → all ≡ front ++ later → drop (length front) all ≡ later
+pub rest_of : (front later all : List Event) → all ≡ front ++ later → drop (length front) all ≡ later
 rest_of front later all e = ap (λ (l : List Event). drop (length front) l) e ∙ drop_at front later (length front) refl
 
 -- nothing comes
-grown_nothing : (role : Role) (limits : LimitsValue) (x : LinkEnd) (ys : List KeyedFrame) (key : List ℕ) → grown role limits x ys 0 key ≡ x
+pub grown_nothing : (role : Role) (limits : LimitsValue) (x : LinkEnd) (ys : List KeyedFrame) (key : List ℕ) → grown role limits x ys 0 key ≡ x
 grown_nothing role limits x ys key =
     let n = x.reached in
     let sent : List Frame = frames_of x.sent in

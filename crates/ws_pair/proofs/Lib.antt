@@ -7,3 +7,4 @@ mod Ends
 mod Acting
 mod Joined
 mod Headlines
+mod Parts

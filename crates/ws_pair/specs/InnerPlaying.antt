@@ -103,6 +103,9 @@ pub record AreJoined (limits : BothLimits) (link : Link) (client server : Endpoi
 pub record LawsOfEachSession : Type 0 where
   pub one_list : (role : Role) (limits : LimitsValue) (bytes : List ℕ) (events others : List Event)
       → HasEvents role limits bytes events → HasEvents role limits bytes others → events ≡ others
+  pub go_on : (role : Role) (limits : LimitsValue) (bytes more : List ℕ) (events all : List Event)
+      → HasEvents role limits bytes events → HasEvents role limits (bytes ++ more) all
+      → (later : List Event) × (all ≡ events ++ later)
   pub over_at_end : (session : SessionValue) (sent : List Frame) (bytes : List ℕ)
       → HasExchanged session sent bytes true → is_over session.status ≡ true
   pub replies : (sent : List Frame) (events later : List Event)

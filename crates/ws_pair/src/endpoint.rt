@@ -22,6 +22,9 @@ use ws_base::NoMemory;
 use ws_session::{Event, Limits, Message, Outgoing, PlacedEvent, SendFault, Session};
 use ws_wire::Role;
 
+/// How many bytes of a piece are taken at once: so few that the room for their events doesn't count.
+const AT_ONCE: usize = 4096;
+
 /// One end of two joined sessions.
 #[derive(Drop)]
 pub(crate) struct Endpoint {
@@ -169,10 +172,30 @@ impl Endpoint {
         }
     }
 
-    /// Takes a piece of what the other end has put, whole.
+    /// Takes a piece of what the other end has put, whole. The messages of some bytes are kept, and all else that they
+    /// tell is dropped, before more bytes are taken.
     fn deliver(&mut self, alloc: Global, piece: &[u8], key: [u8; 4]) -> Result<(), NoMemory>
         requires room { self.old.reached + length piece.now < 2 ^ 64 }
         ensures { (role : Role) (limits : LimitsValue) (x : LinkEnd) (xs : List KeyedFrame) →
+            IsEnd role limits x xs self.old → AreSentBy (peer role) xs →
+            IsNextIn (stream_bytes xs) x.reached piece.now → (0 < length piece.now → x.is_cut ≡ false) →
+            OnOk result (IsEnd role limits (grown role limits x xs (length piece.now) key) xs self.new) }
+    {
+        session_laws();
+        let mut rest = piece;
+        while !rest.is_empty() {
+            let (part, after) = rest.split_at(rest.len().min(AT_ONCE));
+            self.deliver_part(alloc, part, key)?;
+            rest = after;
+        }
+        Ok(())
+    }
+
+    /// Takes a part of a piece at once.
+    fn deliver_part(&mut self, alloc: Global, piece: &[u8], key: [u8; 4]) -> Result<(), NoMemory>
+        requires room { self.old.reached + length piece.now < 2 ^ 64 }
+        ensures reached { OnOk result (self.new.reached ≡ self.old.reached + length piece.now) }
+        ensures delivered { (role : Role) (limits : LimitsValue) (x : LinkEnd) (xs : List KeyedFrame) →
             IsEnd role limits x xs self.old → AreSentBy (peer role) xs →
             IsNextIn (stream_bytes xs) x.reached piece.now → (0 < length piece.now → x.is_cut ≡ false) →
             OnOk result (IsEnd role limits (grown role limits x xs (length piece.now) key) xs self.new) }

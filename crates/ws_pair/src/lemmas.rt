@@ -16,6 +16,7 @@ pub(crate) fn session_laws()
     ensures { LawsOfEachSession }
 {
     laws::one_list_of_events();
+    laws::events_go_on();
     laws::ended_streams_are_over();
     laws::replies_go_on();
     laws::appended_frames_are_not_within();

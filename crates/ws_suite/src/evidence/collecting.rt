@@ -1,6 +1,6 @@
 //! What one direction says, piece by piece: a session takes the bytes, and what it tells is collected.
 
-ghost use Rattle.std.specs.Prelude.{◌≡◌, ℕ, List, [], ◌∷◌, ◌++◌, length, true, OnOk, option_to_list};
+ghost use Rattle.std.specs.Prelude.{◌≡◌, ◌<◌, ℕ, List, [], ◌∷◌, ◌++◌, length, true, OnOk, option_to_list};
 ghost use Rattle.ws_wire.specs.declared.role.Role.{Role};
 ghost use Rattle.ws_session.specs.declared.event.Event.{Event};
 ghost use Rattle.ws_session.specs.Exchange.{is_over};
@@ -66,7 +66,11 @@ fn most() -> Limits
     }
 }
 
-/// Takes a piece of the turn with this number, which is the last, and collects what it says.
+/// How many bytes of a piece are taken at once: so few that the room for their events doesn't count.
+pub(super) const AT_ONCE: usize = 4096;
+
+/// Takes a piece of the turn with this number, which is the last, and collects what it says. The events of some bytes are
+/// collected before more bytes are taken.
 pub(super) fn take_piece<K: KeepsReplies>(
     alloc: Global,
     way: Way,
@@ -80,10 +84,31 @@ pub(super) fn take_piece<K: KeepsReplies>(
         taken.new.session taken.new.collected) }
     ensures over { is_over taken.old.session.status ≡ true → taken.new.session ≡ taken.old.session }
 {
-    session_laws();
-    if piece.is_empty() {
-        return Ok(());
+    let mut rest = piece;
+    while !rest.is_empty() {
+        let (part, after) = rest.split_at(rest.len().min(AT_ONCE));
+        take_part(alloc, way, number, part, taken)?;
+        rest = after;
     }
+    Ok(())
+}
+
+/// Takes a part of a piece at once.
+fn take_part<K: KeepsReplies>(
+    alloc: Global,
+    way: Way,
+    number: usize,
+    piece: &[u8],
+    taken: &mut Taken<K>,
+) -> Result<(), NoMemory>
+    requires { 0 < length piece.now }
+    ensures taken { (role : Role) (turns : List (List ℕ)) (last : List ℕ) → number ≡ length turns →
+        HasTakenWay K.keeps way role (turns ++ last ∷ []) taken.old.session taken.old.collected →
+        OnOk result (HasTakenWay K.keeps way role (turns ++ (last ++ piece.now) ∷ [])
+        taken.new.session taken.new.collected) }
+    ensures over { is_over taken.old.session.status ≡ true → taken.new.session ≡ taken.old.session }
+{
+    session_laws();
     let mut out = Vec::new(alloc);
     let mut events = Vec::new(alloc);
     taken

@@ -8,6 +8,7 @@ ghost use Rattle.ws_suite.specs.Doom.{AnswersDoom, CountsAs, HasDoomCounted, IsD
 ghost use Rattle.ws_suite.specs.Doom.{IsLastWithBytes, counts_doom};
 ghost use Rattle.ws_suite.specs.InnerDoom.{AreWithoutBytes, HasTakenBytes};
 
+use crate::evidence::collecting::AT_ONCE;
 use crate::evidence::{Direction, Ending, Evidence, InTurn, ends_with_close, is_close_ending};
 use std::alloc::Global;
 use ws_base::NoMemory;
@@ -163,8 +164,22 @@ fn is_doomed_after(
     Ok(session.is_doomed())
 }
 
-/// Takes bytes, and drops what they say.
+/// Takes bytes, and drops what they say, before more of them are taken.
 fn take_bytes(alloc: Global, bytes: &[u8], session: &mut Session) -> Result<(), NoMemory>
+    ensures { (role : Role) (before : List ℕ) → HasTakenBytes role before session.old
+        → OnOk result (HasTakenBytes role (before ++ bytes.now) session.new) }
+{
+    let mut rest = bytes;
+    while !rest.is_empty() {
+        let (part, after) = rest.split_at(rest.len().min(AT_ONCE));
+        take_part(alloc, part, session)?;
+        rest = after;
+    }
+    Ok(())
+}
+
+/// Takes bytes at once.
+fn take_part(alloc: Global, bytes: &[u8], session: &mut Session) -> Result<(), NoMemory>
     ensures { (role : Role) (before : List ℕ) → HasTakenBytes role before session.old
         → OnOk result (HasTakenBytes role (before ++ bytes.now) session.new) }
 {

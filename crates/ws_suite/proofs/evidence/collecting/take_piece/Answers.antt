@@ -1,27 +1,26 @@
--- What a session tells of a piece is collected as events of the last turn.
-use Rattle.std.proofs.Common.{◌≡◌, ◌∙◌, ◌<◌, ◌≤◌, List, ℕ, ap, subst, rules, length, nat_lt}
-use Rattle.ws_session.specs.declared.event.PlacedEvent.{PlacedEvent}
-use Rattle.ws_session.specs.Taking.{events_in}
-use Rattle.ws_suite.specs.InnerCollecting.{AreCollected, last_end}
-use Rattle.ws_suite.proofs.EvidenceLemmas.{no_items}
-use Rattle.ws_suite.proofs.TurnsCollected.{make_collected, nothing_taken, piece_taken}
+-- The parts are taken one after the other.
+use Rattle.std.proofs.Common.{◌≡◌, ◌∙◌, ◌++◌, ◌∷◌, [], ℕ, List, ap, sym, subst, refl, rules, append_assoc, append-nil}
+use Rattle.ws_suite.specs.InnerCollecting.{HasTakenWay}
 use Rattle.ws_suite.proofs.evidence.collecting.take_piece.Goals as goal
 
-pub returns-then-is_empty-clause-taken : goal.returns-then-is_empty-clause-taken
-returns-then-is_empty-clause-taken g c = λ role turns last number h.
-    let none : length c.args.piece.now ≤ 0 = search rules in
-    nothing_taken c.args.way role turns last c.args.piece.now _ _ (no_items c.args.piece.now none) h
+pub loop-rest-init : goal.loop-rest-init
+loop-rest-init g c = (
+  [],
+  refl,
+  λ role turns last number h. subst (λ (l : List ℕ). HasTakenWay g.K.KeepsReplies.keeps c.args.way role (turns ++ l ∷ []) c.args.taken.now.session c.args.taken.now.collected) (sym (append-nil last)) h,
+  λ over. refl,
+)
 
-pub returns-clause-taken : goal.returns-clause-taken
-returns-clause-taken g c = λ role turns last number h.
-    let placed = c.take_all.new.events.items in
-    let piece = c.args.piece.now in
-    let some : 0 < length piece = search rules in
-    let end : c.last_end.result ≡ last_end placed = c.last_end.ensures ∙ ap (λ (l : List PlacedEvent). last_end l) c.deref.ensures.value in
-    let old = c.args.taken.now.collected in
-    let new = c.collect_events.new.collected in
-    let are : AreCollected g.K.KeepsReplies.keeps c.args.way c.args.number (events_in placed) (make_collected old (nat_lt c.last_end.result (length piece))) new = c.in_ok-collect_events.ensures in
-    let there = subst (λ (n : ℕ). AreCollected g.K.KeepsReplies.keeps c.args.way n (events_in placed) (make_collected old (nat_lt c.last_end.result (length piece))) new) number are in
-    let moved = subst (λ (n : ℕ). AreCollected g.K.KeepsReplies.keeps c.args.way (length turns) (events_in placed) (make_collected old (nat_lt n (length piece))) new) end there in
-    piece_taken c.session_laws.ensures c.args.way role turns last piece _ _ _ c.new-events.result.items placed c.args.taken.now.session c.take_all.new.self old new
-    some c.new-events.ensures.items c.in_ok-take_all.ensures.taken h c.take_all.ensures.role c.take_all.ensures.limits moved
+pub loop-rest-preserved : goal.loop-rest-preserved
+loop-rest-preserved g c =
+    let rest = c.loop-rest.rest.now in
+    let part = c.split_at.result.0.now in
+    let after = c.split_at.result.1.now in
+    let split : rest ≡ part ++ after = search rules in
+    let i = c.loop-rest.invariant in (
+      i.0 ++ part,
+      i.1 ∙ (ap (λ (l : List ℕ). i.0 ++ l) split ∙ sym (append_assoc i.0 part after)),
+      λ role turns last number h. subst (λ (l : List ℕ). HasTakenWay g.K.KeepsReplies.keeps c.args.way role (turns ++ l ∷ []) c.take_part.new.taken.session c.take_part.new.taken.collected) (append_assoc last i.0 part)
+          (c.in_ok-take_part.ensures.taken role turns (last ++ i.0) number (i.2 role turns last number h)),
+      λ over. search rules,
+    )

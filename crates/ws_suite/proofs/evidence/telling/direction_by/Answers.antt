@@ -7,7 +7,7 @@ use Rattle.ws_suite.specs.declared.evidence.Direction.{Direction}
 use Rattle.ws_suite.specs.Evidence.{IsDirectionOf}
 use Rattle.ws_suite.specs.Explanation.{IsBeyondBy}
 use Rattle.ws_suite.specs.Growing.{AreAll}
-use Rattle.ws_suite.specs.InnerCollecting.{HasTakenWay, first_beyond, found_by, way_bytes}
+use Rattle.ws_suite.specs.InnerCollecting.{HasTakenWay, found_by, way_bytes}
 use Rattle.ws_suite.specs.Matching.{ends_with_close}
 use Rattle.ws_suite.proofs.OneVerdict.{same_direction}
 use Rattle.ws_suite.proofs.TellingLemmas.{beyond_step, nothing_beyond, way_more}
