@@ -32,7 +32,7 @@ fn fail_rule(tested: Role, why: FailWhy) -> &'static str
         FailWhy::Early =>
             "A pong, a close frame or an echo answers what was sent before it (RFC 6455 sections 5.5.1 and 5.5.3; of an echo ours)",
         FailWhy::Messages =>
-            "Each message is sent back, of the same kind and payload (RFC 6455 sections 5.4 and 5.6), in order; up to a fault, those of a beginning (ours)",
+            "Each message is sent back, in order, of the same kind and payload (RFC 6455 sections 5.4 and 5.6; ours); after a fault the last may be missing",
         FailWhy::Pongs =>
             "A pong has the payload of a ping (RFC 6455 section 5.5.3) that no other pong answers (ours), and the last ping is answered (section 5.5.2)",
         FailWhy::Close =>
