@@ -100,7 +100,7 @@ def a_build_that_fails_is_not_marked(clone):
 def all_parts_are_counted(clone):
     clone.add_check()
     status, out, faults = clone.run(how=CHECK)
-    assert (status, last_line(out)) == (0, "18 passed, 0 failed"), (status, out, faults)
+    assert (status, last_line(out)) == (0, "20 passed, 0 failed"), (status, out, faults)
     rows_pass(clone)
     assert clone.run("show") == (3, "first show\n", "")
 
@@ -109,7 +109,7 @@ def what_stood_before_is_removed(clone):
     clone.add_check()
     plant(clone)
     status, out, faults = clone.run(how=CHECK)
-    assert (status, last_line(out)) == (0, "18 passed, 0 failed"), (status, out, faults)
+    assert (status, last_line(out)) == (0, "20 passed, 0 failed"), (status, out, faults)
     assert "left" not in clone.builds.read_text(), clone.builds.read_text()
     assert all("planted" not in (clone.top / program).read_text() for _, program in PROGRAMS)
 

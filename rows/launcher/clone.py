@@ -88,9 +88,14 @@ cp "$made" "$program" && chmod +x "$program"
 """
 
 # The stand-in for the rows, for the refusals of memory, for the clients over loopback, for the documents and for the
-# tests of the launcher.
+# tests of what is installed and of the launcher.
 COUNTED = """#!/bin/sh
 echo "rows: 2 passed, 0 failed"
+"""
+
+# The stand-in for what writes the manual page and the completions.
+TEXTS = """#!/bin/sh
+for name in wst.1 wst _wst wst.fish; do echo "$1" >"$2/$name"; done
 """
 
 
@@ -121,9 +126,15 @@ class Clone:
         self.program("rows/refusals/run", COUNTED)
         self.program("rows/loopback/run", COUNTED)
         self.program("rows/documents/run", COUNTED)
+        self.program("rows/install/test", COUNTED)
         self.program("rows/launcher/test", COUNTED)
         self.write("examples/show/hello.frames", "frames\n")
         self.write("examples/show/hello.out", "first show\nframes\n")
+
+    def add_install(self):
+        """Adds the command that installs, with a stand-in for what it runs."""
+        shutil.copy(ROOT / "install", self.top)
+        self.program("tools/home/write", TEXTS)
 
     def write(self, path, text):
         (self.top / path).parent.mkdir(parents=True, exist_ok=True)
