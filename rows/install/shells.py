@@ -23,6 +23,7 @@ def lines():
         "wst show --from ": ["client", "server"],
         "wst test ": ["own", "tung"],
         "wst send --capture t": ["tung"],
+        "wst test --key 00000000 t": ["tung"],
         "wst test own 7.7.1": cases("7.7.1*"),
         "wst test own 1.1.1 --key 00000000 --explain 5.": cases("5.*"),
         "wst cases x.": cases("x.*"),
