@@ -28,7 +28,7 @@ build() {
     changing) echo "calm" >src/main.rt ;;
     esac
     mkdir -p out
-    printf '#!/bin/sh\n[ "$*" = --version ] && echo "wst 0.1.0 (stand-in)" && exit\n' >"out/$1.new"
+    printf '#!/bin/sh\n[ "$*" = --version ] && echo "wst 0.2.0 (stand-in)" && exit\n' >"out/$1.new"
     printf 'echo "%s $*"; cat; exit 3\n' "$word" >>"out/$1.new"
     chmod +x "out/$1.new"
     mv "out/$1.new" "out/$1"
@@ -70,7 +70,7 @@ changing) echo "calm" >"$source" ;;
 esac
 case $source in
 src/lib.rt) mkdir "$made" ;;
-*) printf '#!/bin/sh\n[ "$*" = --version ] && echo "wst 0.1.0 (stand-in)" && exit\necho "%s $*"; cat; exit 3\n' "$word" >"$made" ;;
+*) printf '#!/bin/sh\n[ "$*" = --version ] && echo "wst 0.2.0 (stand-in)" && exit\necho "%s $*"; cat; exit 3\n' "$word" >"$made" ;;
 esac
 echo "$name ends" >>"$BUILDS"
 """

@@ -107,7 +107,7 @@ fn help_of<'a>(command: CommandName) -> HelpText<'a> {
 
 /// What `wst --version` prints after the name: the version, and the line of the kit that proved the
 /// program, as `rt version` prints it.
-const VERSION: &str = "0.1.0 (rattle-kit-13b logic dac8208d650f15bf)";
+const VERSION: &str = "0.2.0 (rattle-kit-13f logic dac8208d650f15bf)";
 
 /// `wst` with its commands, as `clap` is told of them.
 pub(crate) fn wst_command<'a>(alloc: Global) -> Result<Command<'a>, AllocError>
