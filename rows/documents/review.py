@@ -5,7 +5,8 @@ from dataclasses import dataclass, field
 
 UNIT = re.compile(r"^## (\d+)\. (.*)$")
 LINK_ALONE = re.compile(r"^\[[^\]]*\]\(([^)]+)\):?$")
-EXAMPLES = re.compile(r"^Worked examples\b")
+EXAMPLES = re.compile(r"^Worked examples\b.*:$")
+EXAMPLE = re.compile(r"^- \[`(\w+)`\]\(([^)]+)\): \S.*\.$")
 NAME_LINK = re.compile(r"\[`(\w+)`\]\(([^)]+)\)")
 CODE = re.compile(r"`([^`]+)`")
 
@@ -21,7 +22,7 @@ class Block:
 
 @dataclass
 class Unit:
-    """A unit: its line, its heading, its blocks and the links of its worked examples."""
+    """A unit: its line, its heading, its blocks and the links of its worked examples, each told on a line of its own."""
 
     line: int
     heading: str
@@ -38,7 +39,7 @@ class Review:
 
 def read_review(text):
     """The units of the page, and what its text links and names outside of blocks."""
-    review, lines, above, at = Review(), text.splitlines(), "", 0
+    review, lines, above, at, listing = Review(), text.splitlines(), "", 0, False
     while at < len(lines):
         line = lines[at]
         if line.startswith("```"):
@@ -48,20 +49,22 @@ def read_review(text):
                 review.units[-1].blocks.append(Block(at + 1, link and link[1], lines[at + 1 : end]))
             at, above = end + 1, ""
             continue
-        read_line(review, at + 1, line)
+        listing = bool(EXAMPLES.match(line)) or listing and (not line or line.startswith("- "))
+        read_line(review, at + 1, line, listing)
         above = line or above
         at += 1
     return review
 
 
-def read_line(review, number, line):
-    """A line outside of blocks."""
+def read_line(review, number, line, listing):
+    """A line outside of blocks; one that lists a worked example tells what it gives."""
     heading = UNIT.match(line)
     if heading:
         review.units.append(Unit(number, f"{heading[1]}. {heading[2]}"))
     links = NAME_LINK.findall(line)
-    if EXAMPLES.match(line) and review.units:
-        review.units[-1].examples.extend(links)
+    example = EXAMPLE.match(line)
+    if listing and example and review.units:
+        review.units[-1].examples.append((example[1], example[2]))
     review.links.extend(links)
     for code in CODE.findall(line):
         review.named |= set(re.findall(r"\w+", code))
