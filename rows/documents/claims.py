@@ -1,4 +1,4 @@
-"""The rows of claims: which calls each names, which clauses of their contracts, and on which definitions these stand."""
+"""The rows of claims: which calls each names, which clauses of their contracts, and on which definitions they stand."""
 
 import re
 from dataclasses import dataclass

@@ -87,8 +87,8 @@ def line_of(unit, quoted, paths):
 
 
 def rows_of(quoted, paths):
-    """The last cells of the row of each path: how many units, definitions, definitions that no path above has, and lines
-    it has, and the minutes."""
+    """The last cells of the row of each path: how many units, definitions, definitions that no path above has, and
+    lines it has, and the minutes."""
     rows, above = {}, set()
     for path, names in paths.items():
         units = {quoted[name].unit for name in names}

@@ -22,7 +22,7 @@ class Block:
 
 @dataclass
 class Unit:
-    """A unit: its line, its heading, its blocks and the links of its worked examples, each told on a line of its own."""
+    """A unit: its line, its heading, its blocks, and the links of its worked examples, each of which has a line."""
 
     line: int
     heading: str
