@@ -11,7 +11,7 @@ use crate::lemmas::echo_laws;
 use std::alloc::Global;
 use std::io::{Read, Write};
 use ws_frame::{READ_SIZE, Watched, write_whole};
-use ws_session::{Echo, Status};
+use ws_session::{Echo, PlacedEvent, Status};
 
 /// How a run of `drive` ended.
 #[derive(Clone, Copy, PartialEq, Eq)]
@@ -27,6 +27,14 @@ pub enum DriveEnd {
     Budget,
     /// Memory ran out.
     NoMemory,
+}
+
+/// The room for the replies to a read and for what it tells. It is kept for the next read: given back, it would often be
+/// the top of the heap, which the system would take and have to bring again.
+#[derive(Drop)]
+struct Rooms {
+    replies: Vec<u8>,
+    events: Vec<PlacedEvent>,
 }
 
 /// Why nothing more is answered.
@@ -54,7 +62,7 @@ impl Stop {
 ///
 /// Once the session is over nothing more is read, and a budget that is used up then is not told. At `WriteFault` and at
 /// `NoMemory` a beginning of what was due is written: at least the replies to all but at most the last `READ_SIZE`
-/// bytes. Memory is taken for the replies to one read at a time.
+/// bytes. The room for the replies to a read is kept for the next one.
 pub fn drive<R: Read, W: Write>(
     alloc: Global,
     first: &[u8],
@@ -79,7 +87,11 @@ pub fn drive<R: Read, W: Write>(
         (watched R.remaining reader.old reader.new) (watched W.contents writer.old writer.new) }
 {
     echo_laws();
-    if let Err(stop) = answer(alloc, first, writer, echo, key) {
+    let mut rooms = Rooms {
+        replies: Vec::new(alloc),
+        events: Vec::new(alloc),
+    };
+    if let Err(stop) = answer(&mut rooms, first, writer, echo, key) {
         return stop.end();
     }
     let mut room = [0; READ_SIZE];
@@ -97,7 +109,7 @@ pub fn drive<R: Read, W: Write>(
                 return DriveEnd::Done(echo.status());
             }
             Ok(count) => {
-                if let Err(stop) = answer(alloc, &buf[..count], writer, echo, key) {
+                if let Err(stop) = answer(&mut rooms, &buf[..count], writer, echo, key) {
                     return stop.end();
                 }
                 left -= count as u64;
@@ -107,9 +119,10 @@ pub fn drive<R: Read, W: Write>(
     DriveEnd::Done(echo.status())
 }
 
-/// Feeds a piece to an echo, and writes what it replies. Nothing of it is written where memory ran out.
+/// Feeds a piece to an echo, and writes what it replies. Nothing of it is written where memory ran out. Its messages are
+/// dropped before it is written.
 fn answer<W: Write>(
-    alloc: Global,
+    rooms: &mut Rooms,
     piece: &[u8],
     writer: &mut Watched<W>,
     echo: &mut Echo,
@@ -120,11 +133,12 @@ fn answer<W: Write>(
         AnswersPiece call bytes put piece.now echo.new (watched W.contents writer.old writer.new) result }
 {
     echo_laws();
-    let mut replies = Vec::new(alloc);
-    let mut events = Vec::new(alloc);
-    match echo.take_all(piece, key, &mut replies, &mut events) {
+    rooms.replies.clear();
+    let taken = echo.take_all(piece, key, &mut rooms.replies, &mut rooms.events);
+    rooms.events.clear();
+    match taken {
         Err(_) => Err(Stop::NoMemory),
-        Ok(()) => match write_whole(writer, replies.as_slice()) {
+        Ok(()) => match write_whole(writer, rooms.replies.as_slice()) {
             Ok(()) => Ok(()),
             Err(_) => Err(Stop::WriteFault),
         },
