@@ -39,11 +39,18 @@ def rows_of(entry):
 
 
 def row_of_run(run):
-    """A run of `judge`: the status is 1 at a Fail and at what is no capture."""
-    wanted = (run.wanted["output"] + run.wanted["faults"]).decode().removesuffix("\n")
-    if run.words != [b"judge"] or run.wanted["status"] != (not wanted.startswith(("PASS", "LOOSE"))):
+    """A run of `judge`: the status is 1 at a Fail and at what is no capture. Why a verdict is told the twin doesn't say."""
+    wanted, *below = (run.wanted["output"] + run.wanted["faults"]).decode().removesuffix("\n").split("\n")
+    words = [word.decode() for word in run.words]
+    explains, tested = "--explain" in words, role_of(words)
+    if words[0] != "judge" or (below and not explains) or run.wanted["status"] != (not wanted.startswith(("PASS", "LOOSE"))):
         raise BadFile(f"{run.where}: no row of judge, or not the status of its verdict")
-    return Row(run.where, run.name, run.input, None, SERVER, False, wanted)
+    return Row(run.where, run.name, run.input, None, tested, False, wanted)
+
+
+def role_of(words):
+    """The tested end that the words of a run of `judge` name."""
+    return CLIENT if "--role" in words and words[words.index("--role") + 1] == "client" else SERVER
 
 
 def row_of_call(entry, number, call, wanted):

@@ -7,8 +7,9 @@ use crate::words::{bytes_of, mask_key_of};
 use std::alloc::Global;
 use std::fmt::Write;
 use ws_formats::{Hex, HexDigits};
+use ws_peer::tester_key;
 use ws_session::{Limits, MAX_MESSAGE, Status, feed_all};
-use ws_suite::{Case, Chop, Step, case, ids, turns};
+use ws_suite::{Case, Chop, Step, case, ids, turns_with};
 use ws_wire::Role;
 
 /// Equal bytes that are so many, one after the other, are told as their number and one of them.
@@ -48,6 +49,24 @@ pub fn tell_case(alloc: Global, words: &[&str], out: &mut String) -> Result<(), 
     }
 }
 
+/// `client_fault NAME`: the fault that a client finds in what is sent for a case, or `-`; `none` where no case has the
+/// name.
+pub fn tell_client_fault(alloc: Global, words: &[&str], out: &mut String) -> Result<(), RowFault> {
+    let [name] = words else {
+        return Err(RowFault::NotARow);
+    };
+    let Ok(name) = String::from_utf8(bytes_of(alloc, name)?.into_vec()) else {
+        return Err(RowFault::NotARow);
+    };
+    match case(alloc, name.as_str())? {
+        Some(case) => put_fault(alloc, Role::Client, &case, out),
+        None => {
+            out.push_str("none")?;
+            Ok(())
+        }
+    }
+}
+
 /// The name, the chop, the fault and the steps of a case.
 fn put_case(alloc: Global, case: &Case, out: &mut String) -> Result<(), RowFault>
     requires { CanBeRun case.now }
@@ -58,7 +77,7 @@ fn put_case(alloc: Global, case: &Case, out: &mut String) -> Result<(), RowFault
         Chop::PerFrame => out.push_str(" P ")?,
         Chop::Octets(n) => write!(out, " O{n} ")?,
     }
-    put_fault(alloc, case, out)?;
+    put_fault(alloc, Role::Server, case, out)?;
     let mut mark = " ";
     for step in case.steps.as_slice() {
         out.push_str(mark)?;
@@ -68,8 +87,8 @@ fn put_case(alloc: Global, case: &Case, out: &mut String) -> Result<(), RowFault
     Ok(())
 }
 
-/// The fault that a server finds in what is sent for a case, or `-`.
-fn put_fault(alloc: Global, case: &Case, out: &mut String) -> Result<(), RowFault>
+/// The fault that a tested end of this role finds in what is sent for a case, or `-`.
+fn put_fault(alloc: Global, tested: Role, case: &Case, out: &mut String) -> Result<(), RowFault>
     requires { CanBeRun case.now }
 {
     let key = mask_key_of("37fa213d")?;
@@ -77,12 +96,12 @@ fn put_fault(alloc: Global, case: &Case, out: &mut String) -> Result<(), RowFaul
         return Err(RowFault::NotARow);
     };
     let mut pieces = Vec::new(alloc);
-    for turn in turns(alloc, case, key)?.into_vec() {
+    for turn in turns_with(alloc, case, tester_key(tested, key))?.into_vec() {
         for piece in turn.into_vec() {
             pieces.push(piece.into_vec())?;
         }
     }
-    match feed_all(alloc, Role::Server, limits, &pieces, key)?.status {
+    match feed_all(alloc, tested, limits, &pieces, key)?.status {
         Status::Failed(reason) => write!(out, "{reason}")?,
         _ => out.push_str("-")?,
     }

@@ -86,6 +86,7 @@ fn answer_of_scripts(
     match call {
         "cases" => cases::count_group(alloc, words, out),
         "case" => cases::tell_case(alloc, words, out),
+        "client_fault" => cases::tell_client_fault(alloc, words, out),
         "script" => scripts::tell_script(alloc, words, out),
         "script_back" => scripts::write_again(alloc, words, out),
         "script_of" => scripts::write_case(alloc, words, out),
@@ -109,7 +110,9 @@ fn answer_of_verdicts(
         "explain" => explanations::explain_turns(alloc, words, out),
         "written" => captures::write_turns(alloc, words, out),
         "verdict" => peers::tell_verdict(alloc, words, out),
+        "verdict_client" => peers::tell_client_verdict(alloc, words, out),
         "verdicts" => peers::count_passes(alloc, words, out),
+        "verdicts_client" => peers::count_client_passes(alloc, words, out),
         _ => answer_below_sessions(alloc, call, words, out),
     }
 }

@@ -7,14 +7,35 @@ use crate::words::{bytes_of, mask_key_of};
 use std::alloc::Global;
 use std::fmt::Write;
 use ws_base::NoMemory;
-use ws_peer::{Peer, TungPeer, run_case, run_over_echo};
-use ws_suite::{Case, Chop, Step, Verdict, case, ids, judge};
+use ws_peer::{Peer, TungPeer, run_case_with, run_over_echo_as, tester_key};
+use ws_suite::{Case, Chop, Step, Verdict, case, ids, judge_end};
+use ws_wire::Role;
 
 /// The key of the cases where none is given.
 const KEY: [u8; 4] = [0x37, 0xfa, 0x21, 0x3d];
 
-/// `verdict own|tung NAME`: the verdict on our echo, or on `tungstenite`, in a case. `none` where no case has the name.
+/// `verdict own|tung NAME`: the verdict on our echo, or on `tungstenite`, as a server in a case. `none` where no case has
+/// the name.
 pub fn tell_verdict(alloc: Global, words: &[&str], out: &mut String) -> Result<(), RowFault> {
+    tell_verdict_on(alloc, Role::Server, words, out)
+}
+
+/// `verdict_client own|tung NAME`: the same as a client.
+pub fn tell_client_verdict(
+    alloc: Global,
+    words: &[&str],
+    out: &mut String,
+) -> Result<(), RowFault> {
+    tell_verdict_on(alloc, Role::Client, words, out)
+}
+
+/// The verdict on a peer of this role.
+fn tell_verdict_on(
+    alloc: Global,
+    tested: Role,
+    words: &[&str],
+    out: &mut String,
+) -> Result<(), RowFault> {
     let [peer, name] = words else {
         return Err(RowFault::NotARow);
     };
@@ -26,8 +47,13 @@ pub fn tell_verdict(alloc: Global, words: &[&str], out: &mut String) -> Result<(
         return Ok(());
     };
     let verdict = match *peer {
-        "own" => own_verdict(alloc, &case, KEY)?,
-        "tung" => verdict_on(alloc, &case, &mut TungPeer::new(alloc)?)?,
+        "own" => own_verdict(alloc, tested, &case, KEY)?,
+        "tung" => verdict_on(
+            alloc,
+            tested,
+            &case,
+            &mut TungPeer::with_role(alloc, tested, KEY)?,
+        )?,
         _ => return Err(RowFault::NotARow),
     };
     write!(out, "{verdict}")?;
@@ -35,17 +61,36 @@ pub fn tell_verdict(alloc: Global, words: &[&str], out: &mut String) -> Result<(
 }
 
 /// The verdict on a new echo.
-fn own_verdict(alloc: Global, case: &Case, key: [u8; 4]) -> Result<Verdict, NoMemory>
+fn own_verdict(alloc: Global, tested: Role, case: &Case, key: [u8; 4]) -> Result<Verdict, NoMemory>
     requires { CanBeRun case.now }
 {
-    let transcript = run_over_echo(alloc, case, key)?;
-    judge(alloc, &transcript)
+    let transcript = run_over_echo_as(alloc, tested, case, key)?;
+    judge_end(alloc, tested, &transcript)
 }
 
-/// `verdicts CHOP KEY`: how many of the listed cases our echo passes where each is cut so and masked with this key, or
+/// `verdicts CHOP KEY`: how many of the listed cases our echo passes as a server where each is cut so and masked with this key, or
 /// the first that it doesn't, and the verdict. `CHOP` is as in the table of cases. In single bytes, `O1`, the cases are
 /// run alone whose payloads have at most 1000 bytes.
 pub fn count_passes(alloc: Global, words: &[&str], out: &mut String) -> Result<(), RowFault> {
+    count_passes_of(alloc, Role::Server, words, out)
+}
+
+/// `verdicts_client CHOP KEY`: the same as a client, which masks with the key.
+pub fn count_client_passes(
+    alloc: Global,
+    words: &[&str],
+    out: &mut String,
+) -> Result<(), RowFault> {
+    count_passes_of(alloc, Role::Client, words, out)
+}
+
+/// How many of the listed cases our echo passes in this role.
+fn count_passes_of(
+    alloc: Global,
+    tested: Role,
+    words: &[&str],
+    out: &mut String,
+) -> Result<(), RowFault> {
     let [chop, key] = words else {
         return Err(RowFault::NotARow);
     };
@@ -70,7 +115,7 @@ pub fn count_passes(alloc: Global, words: &[&str], out: &mut String) -> Result<(
             steps: case.steps,
             chop,
         };
-        match own_verdict(alloc, &cut, key)? {
+        match own_verdict(alloc, tested, &cut, key)? {
             Verdict::Pass => passed = passed.saturating_add(1),
             verdict => {
                 write!(out, "{} {verdict}", cut.id)?;
@@ -95,9 +140,14 @@ fn has_payloads_of(case: &Case, most: u32) -> bool {
 }
 
 /// The verdict on a peer.
-fn verdict_on<P: Peer>(alloc: Global, case: &Case, peer: &mut P) -> Result<Verdict, NoMemory>
+fn verdict_on<P: Peer>(
+    alloc: Global,
+    tested: Role,
+    case: &Case,
+    peer: &mut P,
+) -> Result<Verdict, NoMemory>
     requires { CanBeRun case.now }
 {
-    let transcript = run_case(alloc, case, peer, KEY)?;
-    judge(alloc, &transcript)
+    let transcript = run_case_with(alloc, case, peer, tester_key(tested, KEY))?;
+    judge_end(alloc, tested, &transcript)
 }

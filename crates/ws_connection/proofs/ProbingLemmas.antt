@@ -792,7 +792,7 @@ runs_after {protocol} turns offers transcript head first used x y z h behind r =
 -- ---- the request
 
 -- the pieces of each turn are its bytes
-pub bytes_are : (chop : Chop) (key : List ℕ) (turns : List (List Step)) (script : List (List (List ℕ))) → AllZip (ArePieces chop key) turns script → bytes_of script ≡ map (turn_bytes key) turns
+pub bytes_are : (chop : Chop) (key : Option (List ℕ)) (turns : List (List Step)) (script : List (List (List ℕ))) → AllZip (ArePieces chop key) turns script → bytes_of script ≡ map (turn_bytes key) turns
 bytes_are chop key [] [] h = refl
 bytes_are chop key [] (pieces ∷ script) h = absurd h
 bytes_are chop key (steps ∷ turns) [] h = absurd h

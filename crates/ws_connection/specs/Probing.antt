@@ -1,7 +1,7 @@
 -- A script that is run against a server (RFC 6455 sections 4.1 and 5 to 7): what is recorded is what went over the
 -- connection, how long was waited for what is due, and how it ended.
 use Rattle.std.specs.Prelude.{◌≡◌, ℕ, ◌+◌, ◌<◌, ◌≤◌, ◌⊎◌, ◌↔◌, Bool, true, false, List, [], ◌∷◌, ◌++◌, length}
-use Rattle.std.specs.Prelude.{drop, map, take, codes, Option}
+use Rattle.std.specs.Prelude.{drop, map, take, codes, Option, Some}
 use Rattle.std.specs.List.{concat}
 use Rattle.std.specs.Io.KnownBytes.{IsAtEnd}
 use Rattle.ws_frame.specs.Devices.{HasBegun, IsUntouched}
@@ -39,8 +39,8 @@ all_sent turns = concat (sent_turns turns)
 abbrev pub all_got : List Turn → List ℕ
 all_got turns = concat (got_turns turns)
 
--- the bytes of each turn of a script, its frames masked with this key
-abbrev pub bytes_by_turn : Case → List ℕ → List (List ℕ)
+-- the bytes of each turn of a script, its frames masked with this key if there is one
+abbrev pub bytes_by_turn : Case → Option (List ℕ) → List (List ℕ)
 bytes_by_turn case key = map (turn_bytes key) (turns_of case.steps)
 
 -- ---- how a script ends
@@ -208,4 +208,4 @@ AnswersProbe turns offers request NoConnection run = HasNoAnswer offers request 
 -- run
 abbrev pub Probes : Case → List ℕ → List ℕ → List (List ℕ) → Probe → ConnectionRun → Type 0
 Probes case key host offers probe run =
-    AnswersProbe (bytes_by_turn case key) offers (request_to host offers) probe run
+    AnswersProbe (bytes_by_turn case (Some key)) offers (request_to host offers) probe run

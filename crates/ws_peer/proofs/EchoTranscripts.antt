@@ -4,12 +4,11 @@ use Rattle.std.specs.List.{AllByRecursion, concat, last_or}
 use Rattle.std.proofs.lemmas.Grind.{flat_map-append}
 use Rattle.std.proofs.lemmas.List.{length-append, length-map, take_all, take-append-le}
 use Rattle.std.proofs.Math.Seq.{take-append_seam}
-use Rattle.ws_wire.specs.declared.role.Role.TheVariants.{Server}
-use Rattle.ws_wire.specs.Header.{AreBytes}
+use Rattle.ws_wire.specs.Header.{AreBytes, IsMaskingKey}
 use Rattle.ws_session.specs.declared.event.Event.{Event}
 use Rattle.ws_session.specs.declared.status.Status.{Status}
 use Rattle.ws_session.specs.Events.{HasEvents}
-use Rattle.ws_session.specs.Replies.{echo_replies_of}
+use Rattle.ws_session.specs.Replies.{echo_replies_of, key_for}
 use Rattle.ws_session.specs.Exchange.{is_over, status_of}
 use Rattle.ws_session.specs.Sends.{most_limits}
 use Rattle.ws_scripts.specs.declared.transcript.Turn.{Turn}
@@ -20,7 +19,7 @@ use Rattle.ws_suite.specs.Evidence.{got_turns, sent_turns}
 use Rattle.ws_suite.specs.Fairness.{IsEchoTranscript, ends_echo}
 use Rattle.ws_peer.specs.declared.peer.Going.{Going}
 use Rattle.ws_peer.specs.declared.peer.Going.TheVariants.{More, Ended}
-use Rattle.ws_peer.specs.Talks.{Entry, Fed, Finished, appended_by, appended_in, fed_by, fed_in}
+use Rattle.ws_peer.specs.Talks.{Entry, Fed, Finished, PeerEnd, appended_by, appended_in, fed_by, fed_in}
 use Rattle.ws_peer.specs.InnerEchoLaws.{EchoLaws}
 use Rattle.ws_peer.specs.EchoTalks.{HasEchoedTalk, IsAnsweredBy, IsEchoTalk, last_call}
 use Rattle.ws_peer.specs.Runs.{EndsByPeer, EndsByTester, PeerGoesOn, IsRunOf, joined_talk, pieces_by_turn, pieces_in, turn_of, with_finish}
@@ -51,12 +50,12 @@ talk_parts (suc n) (part ∷ parts) =
     ap (λ (l : List Entry). part ++ l) (talk_parts n parts) ∙ sym (append_assoc part (joined_talk (take n parts)) (joined_talk (drop n parts)))
 
 -- an echo's talk after its first turns
-after_turns : (talk rest : List Entry) (parts : List (List Entry)) → talk ≡ joined_talk parts ++ rest → IsEchoTalk talk → (n : ℕ) → HasEchoedTalk (joined_talk (take n parts))
-after_turns talk rest parts is echo n =
+after_turns : (end : PeerEnd) (talk rest : List Entry) (parts : List (List Entry)) → talk ≡ joined_talk parts ++ rest → IsEchoTalk end talk → (n : ℕ) → HasEchoedTalk end (joined_talk (take n parts))
+after_turns end talk rest parts is echo n =
     let front = joined_talk (take n parts) in
     let later = joined_talk (drop n parts) ++ rest in
     let whole : talk ≡ front ++ later = is ∙ (ap (λ (l : List Entry). l ++ rest) (talk_parts n parts) ∙ append_assoc front (joined_talk (drop n parts)) rest) in
-    subst (λ (l : List Entry). HasEchoedTalk l) (ap (λ (l : List Entry). take (length front) l) whole ∙ take-append_seam front later)
+    subst (λ (l : List Entry). HasEchoedTalk end l) (ap (λ (l : List Entry). take (length front) l) whole ∙ take-append_seam front later)
     (echo (length front) (omega (arith, ap (λ (l : List Entry). length l) whole, length-append front later)))
 
 -- ---- an echo that goes on
@@ -71,11 +70,11 @@ not_over status true e answered = absurd (let wrong : More ≡ Ended = answered.
 not_over status false e answered = refl
 
 -- after calls after each of which it went on, its session isn't over
-still_goes : EchoLaws → (talk : List Entry) (h : HasEchoedTalk talk) → AllByRecursion PeerGoesOn talk → is_over h.status ≡ false
-still_goes laws [] h goes =
-    let none : h.echoed.events ≡ [] = laws.one_list Server most_limits [] h.echoed.events [] h.echoed.has_events (laws.nothing Server most_limits) in
+still_goes : EchoLaws → (end : PeerEnd) (talk : List Entry) (h : HasEchoedTalk end talk) → AllByRecursion PeerGoesOn talk → is_over h.status ≡ false
+still_goes laws end [] h goes =
+    let none : h.echoed.events ≡ [] = laws.one_list end.role most_limits [] h.echoed.events [] h.echoed.has_events (laws.nothing end.role most_limits) in
     ap (λ (s : Status). is_over s) h.echoed.is_status ∙ ap (λ (l : List Event). is_over (status_of (echo_replies_of [] l) false l)) none
-still_goes laws (first ∷ talk) h goes =
+still_goes laws end (first ∷ talk) h goes =
     let last = last_goes first talk goes.0 goes.1 in
     not_over h.status (is_over h.status) refl (subst (λ (o : Option Entry). IfSome o (IsAnsweredBy h.status)) last.2 h.answered)
 
@@ -84,25 +83,25 @@ still_goes laws (first ∷ talk) h goes =
 abbrev recorded : List (List Entry) → HowEnded → Transcript
 recorded parts ended = record { turns = map turn_of parts; ended = ended }
 
-of_parts : EchoLaws → (parts : List (List Entry)) (ended : HowEnded) → AreBytes (fed_in (joined_talk parts)) → (echoed : (n : ℕ) → HasEchoedTalk (joined_talk (take n parts)))
-    → ((n : ℕ) → n < length parts → AllByRecursion PeerGoesOn (joined_talk (take n parts))) → ended ≡ cond (is_over (echoed (length parts)).status) Peer Tester → IsEchoTranscript Server (recorded parts ended)
-of_parts laws parts ended bytes echoed goes last =
+of_parts : EchoLaws → (end : PeerEnd) → IsMaskingKey (key_for end.role end.key) → (parts : List (List Entry)) (ended : HowEnded) → AreBytes (fed_in (joined_talk parts)) → (echoed : (n : ℕ) → HasEchoedTalk end (joined_talk (take n parts)))
+    → ((n : ℕ) → n < length parts → AllByRecursion PeerGoesOn (joined_talk (take n parts))) → ended ≡ cond (is_over (echoed (length parts)).status) Peer Tester → IsEchoTranscript end.role (recorded parts ended)
+of_parts laws end is_key parts ended bytes echoed goes last =
     let count : length (map turn_of parts) ≡ length parts = length-map parts turn_of in
     let over : (n : ℕ) → ends_echo (echoed n).echoed.events ≡ is_over (echoed n).status = λ n. ap (λ (s : Status). is_over s) (sym (echoed n).echoed.is_status) in
     record {
       bytes = subst (λ (l : List ℕ). AreBytes l) (sym (all_sent parts)) bytes;
-      key = [];
-      is_key = tt;
+      key = end.key;
+      is_key = is_key;
       events = λ n. (echoed n).echoed.events;
-      has_events = λ n less. subst (λ (l : List ℕ). HasEvents Server most_limits l (echoed n).echoed.events) (sym (sent_so_far n parts)) (echoed n).echoed.has_events;
+      has_events = λ n less. subst (λ (l : List ℕ). HasEvents end.role most_limits l (echoed n).echoed.events) (sym (sent_so_far n parts)) (echoed n).echoed.has_events;
       got = λ n less. got_so_far n parts ∙ (echoed n).echoed.is_put;
-      goes_on = λ n less. over n ∙ still_goes laws (joined_talk (take n parts)) (echoed n) (goes n (omega (arith, less, count)));
+      goes_on = λ n less. over n ∙ still_goes laws end (joined_talk (take n parts)) (echoed n) (goes n (omega (arith, less, count)));
       ended = last ∙ (ap (λ b. cond b Peer Tester) (sym (over (length parts))) ∙ ap (λ n. cond (ends_echo (echoed n).echoed.events) Peer Tester) (sym count));
     }
 
-same_transcript : (transcript : Transcript) (parts : List (List Entry)) (ended : HowEnded) → transcript.turns ≡ map turn_of parts → transcript.ended ≡ ended → IsEchoTranscript Server (recorded parts ended) → IsEchoTranscript Server transcript
-same_transcript transcript parts ended turns end is =
-    subst (λ (t : Transcript). IsEchoTranscript Server t) (sym (ap₂ (λ (l : List Turn) (e : HowEnded). record { turns = l; ended = e }) turns end)) is
+same_transcript : (end : PeerEnd) (transcript : Transcript) (parts : List (List Entry)) (ended : HowEnded) → transcript.turns ≡ map turn_of parts → transcript.ended ≡ ended → IsEchoTranscript end.role (recorded parts ended) → IsEchoTranscript end.role transcript
+same_transcript end transcript parts ended turns how is =
+    subst (λ (t : Transcript). IsEchoTranscript end.role t) (sym (ap₂ (λ (l : List Turn) (e : HowEnded). record { turns = l; ended = e }) turns how)) is
 
 -- ---- the tester ends it
 
@@ -122,17 +121,17 @@ front_goes n parts h =
     let later = joined_talk (drop n parts) in
     subst (λ (l : List Entry). AllByRecursion PeerGoesOn l) (ap (λ (l : List Entry). take (length front) l) (talk_parts n parts) ∙ take-append_seam front later) (all_taken (length front) (joined_talk parts) h)
 
-by_tester : EchoLaws → (turns : List (List (List ℕ))) (talk : List Entry) (transcript : Transcript) → EndsByTester turns talk transcript → IsEchoTalk talk → AreBytes (fed_in talk) → IsEchoTranscript Server transcript
-by_tester laws turns talk transcript r echo bytes =
+by_tester : EchoLaws → (end : PeerEnd) → IsMaskingKey (key_for end.role end.key) → (turns : List (List (List ℕ))) (talk : List Entry) (transcript : Transcript) → EndsByTester turns talk transcript → IsEchoTalk end talk → AreBytes (fed_in talk) → IsEchoTranscript end.role transcript
+by_tester laws end is_key turns talk transcript r echo bytes =
     let finish = Finished r.left ∷ [] in
-    let whole : HasEchoedTalk (joined_talk r.parts ++ finish) = subst (λ (l : List Entry). HasEchoedTalk l) (take_all (length talk) talk (omega arith) ∙ r.talk_is) (echo (length talk) (omega arith)) in
+    let whole : HasEchoedTalk end (joined_talk r.parts ++ finish) = subst (λ (l : List Entry). HasEchoedTalk end l) (take_all (length talk) talk (omega arith) ∙ r.talk_is) (echo (length talk) (omega arith)) in
     let none : r.left ≡ [] = subst (λ (o : Option Entry). IfSome o (IsAnsweredBy whole.status)) (last_more None (joined_talk r.parts) (Finished r.left)) whole.answered in
     let fed : fed_in talk ≡ fed_in (joined_talk r.parts) = ap (λ (l : List Entry). fed_in l) r.talk_is ∙ (fed_in-more (joined_talk r.parts) (Finished r.left) ∙ append-nil (fed_in (joined_talk r.parts))) in
-    let echoed : (n : ℕ) → HasEchoedTalk (joined_talk (take n r.parts)) = after_turns talk finish r.parts r.talk_is echo in
+    let echoed : (n : ℕ) → HasEchoedTalk end (joined_talk (take n r.parts)) = after_turns end talk finish r.parts r.talk_is echo in
     let count = length r.parts in
-    let going = still_goes laws (joined_talk (take count r.parts)) (echoed count) (front_goes count r.parts r.goes_on) in
-    same_transcript transcript r.parts Tester (r.recorded ∙ (ap (λ (l : List ℕ). with_finish (map turn_of r.parts) l) none ∙ finish_nothing (map turn_of r.parts))) r.ended
-    (of_parts laws r.parts Tester (subst (λ (l : List ℕ). AreBytes l) fed bytes) echoed (λ n less. front_goes n r.parts r.goes_on) (ap (λ b. cond b Peer Tester) (sym going)))
+    let going = still_goes laws end (joined_talk (take count r.parts)) (echoed count) (front_goes count r.parts r.goes_on) in
+    same_transcript end transcript r.parts Tester (r.recorded ∙ (ap (λ (l : List ℕ). with_finish (map turn_of r.parts) l) none ∙ finish_nothing (map turn_of r.parts))) r.ended
+    (of_parts laws end is_key r.parts Tester (subst (λ (l : List ℕ). AreBytes l) fed bytes) echoed (λ n less. front_goes n r.parts r.goes_on) (ap (λ b. cond b Peer Tester) (sym going)))
 
 -- ---- the peer ends it
 
@@ -173,21 +172,21 @@ goes_before n parts before last is less goes =
     sym (take-append-le size before (last ∷ []) short) ∙ (ap (λ (l : List Entry). take size l) (sym is ∙ talk_parts n parts) ∙ take-append_seam front (joined_talk (drop n parts))) in
     subst (λ (l : List Entry). AllByRecursion PeerGoesOn l) same (all_taken size before goes)
 
-by_peer : EchoLaws → (turns : List (List (List ℕ))) (talk : List Entry) (transcript : Transcript) → EndsByPeer turns talk transcript → IsEchoTalk talk → AreBytes (fed_in talk) → IsEchoTranscript Server transcript
-by_peer laws turns talk transcript r echo bytes =
-    let echoed : (n : ℕ) → HasEchoedTalk (joined_talk (take n r.parts)) = after_turns talk [] r.parts (r.talk_is ∙ sym (append-nil (joined_talk r.parts))) echo in
+by_peer : EchoLaws → (end : PeerEnd) → IsMaskingKey (key_for end.role end.key) → (turns : List (List (List ℕ))) (talk : List Entry) (transcript : Transcript) → EndsByPeer turns talk transcript → IsEchoTalk end talk → AreBytes (fed_in talk) → IsEchoTranscript end.role transcript
+by_peer laws end is_key turns talk transcript r echo bytes =
+    let echoed : (n : ℕ) → HasEchoedTalk end (joined_talk (take n r.parts)) = after_turns end talk [] r.parts (r.talk_is ∙ sym (append-nil (joined_talk r.parts))) echo in
     let count = length r.parts in
     let whole : joined_talk (take count r.parts) ≡ r.before ++ Fed r.piece r.appended Ended ∷ [] = ap (λ (l : List (List Entry)). joined_talk l) (take_all count r.parts (omega arith)) ∙ (sym r.talk_is ∙ r.last) in
     let last : last_call (joined_talk (take count r.parts)) ≡ Some (Fed r.piece r.appended Ended) = ap (λ (l : List Entry). last_call l) whole ∙ last_more None r.before (Fed r.piece r.appended Ended) in
     let answered : IsAnsweredBy (echoed count).status (Fed r.piece r.appended Ended) = subst (λ (o : Option Entry). IfSome o (IsAnsweredBy (echoed count).status)) last (echoed count).answered in
     let over : is_over (echoed count).status ≡ true = answered.0 refl in
     let all : joined_talk r.parts ≡ r.before ++ Fed r.piece r.appended Ended ∷ [] = sym r.talk_is ∙ r.last in
-    same_transcript transcript r.parts Peer r.recorded r.ended
-    (of_parts laws r.parts Peer (subst (λ (l : List Entry). AreBytes (fed_in l)) r.talk_is bytes) echoed
+    same_transcript end transcript r.parts Peer r.recorded r.ended
+    (of_parts laws end is_key r.parts Peer (subst (λ (l : List Entry). AreBytes (fed_in l)) r.talk_is bytes) echoed
     (λ n less. goes_before n r.parts r.before (Fed r.piece r.appended Ended) all (fewer_calls n r.parts r.pieces.before r.pieces.first r.pieces.are_fed r.pieces.some less) r.goes_on)
     (ap (λ b. cond b Peer Tester) (sym over)))
 
 -- the transcript of a run in an echo's talk
-pub echo_transcript : EchoLaws → (turns : List (List (List ℕ))) (talk : List Entry) (transcript : Transcript) → IsRunOf turns talk transcript → IsEchoTalk talk → AreBytes (fed_in talk) → IsEchoTranscript Server transcript
-echo_transcript laws turns talk transcript (inl r) echo bytes = by_tester laws turns talk transcript r echo bytes
-echo_transcript laws turns talk transcript (inr r) echo bytes = by_peer laws turns talk transcript r echo bytes
+pub echo_transcript : EchoLaws → (end : PeerEnd) → IsMaskingKey (key_for end.role end.key) → (turns : List (List (List ℕ))) (talk : List Entry) (transcript : Transcript) → IsRunOf turns talk transcript → IsEchoTalk end talk → AreBytes (fed_in talk) → IsEchoTranscript end.role transcript
+echo_transcript laws end is_key turns talk transcript (inl r) echo bytes = by_tester laws end is_key turns talk transcript r echo bytes
+echo_transcript laws end is_key turns talk transcript (inr r) echo bytes = by_peer laws end is_key turns talk transcript r echo bytes

@@ -9,7 +9,7 @@ use Rattle.ws_scripts.specs.declared.transcript.Transcript.{Transcript}
 use Rattle.ws_scripts.specs.declared.transcript.Ended.TheVariants.{Tester, Peer}
 use Rattle.ws_peer.specs.declared.peer.Going.{Going}
 use Rattle.ws_peer.specs.declared.peer.Going.TheVariants.{More, Ended}
-use Rattle.ws_peer.specs.Talks.{Entry, Fed, Finished, Says, fed_in, appended_in}
+use Rattle.ws_peer.specs.Talks.{Entry, Fed, Finished, PeerEnd, Says, fed_in, appended_in}
 use Rattle.ws_peer.specs.Runs.{PeerGoesOn, Talked, IsRunOf, joined_talk, pieces_in, pieces_by_turn, turn_of, with_finish}
 use Rattle.ws_peer.specs.InnerTurnRuns.{IsTurnRun}
 use Rattle.ws_peer.proofs.Talking.{fed_in-more, appended_in-more, pieces_in-more, talked_nothing, talked_more, said, goes_on_more, goes_on_both}
@@ -17,7 +17,7 @@ use Rattle.ws_peer.proofs.Talking.{fed_in-more, appended_in-more, pieces_in-more
 -- ---- a turn
 
 -- these pieces of a turn were fed, and the peer goes on
-pub record HasFedPieces {P : Type 0} (agrees : P → List Entry → Type 0) (old new : P) (pieces : List (List ℕ)) (sent got : List ℕ) : Type 0 where
+pub record HasFedPieces {P : Type 0} (agrees : P → PeerEnd → List Entry → Type 0) (old new : P) (pieces : List (List ℕ)) (sent got : List ℕ) : Type 0 where
   pub part : List Entry
   pub sent_is : sent ≡ fed_in part
   pub got_is : got ≡ appended_in part
@@ -25,17 +25,17 @@ pub record HasFedPieces {P : Type 0} (agrees : P → List Entry → Type 0) (old
   pub goes_on : AllByRecursion PeerGoesOn part
   pub talked : Talked agrees old new part
 
-pub fed_none : {P : Type 0} (agrees : P → List Entry → Type 0) (p : P) (sent got : List ℕ) → sent ≡ [] → got ≡ [] → HasFedPieces agrees p p [] sent got
+pub fed_none : {P : Type 0} (agrees : P → PeerEnd → List Entry → Type 0) (p : P) (sent got : List ℕ) → sent ≡ [] → got ≡ [] → HasFedPieces agrees p p [] sent got
 fed_none agrees p sent got s g = record { part = []; sent_is = s; got_is = g; fed = refl; goes_on = tt; talked = talked_nothing agrees p }
 
 -- what one more call leaves, whatever its answer
-pub record HasFedLast {P : Type 0} (agrees : P → List Entry → Type 0) (old new : P) (before : List Entry) (piece : List ℕ) (going : Going) (sent got : List ℕ) : Type 0 where
+pub record HasFedLast {P : Type 0} (agrees : P → PeerEnd → List Entry → Type 0) (old new : P) (before : List Entry) (piece : List ℕ) (going : Going) (sent got : List ℕ) : Type 0 where
   pub appended : List ℕ
   pub sent_is : sent ≡ fed_in (before ++ Fed piece appended going ∷ [])
   pub got_is : got ≡ appended_in (before ++ Fed piece appended going ∷ [])
   pub talked : Talked agrees old new (before ++ Fed piece appended going ∷ [])
 
-pub fed_last : {P : Type 0} (agrees : P → List Entry → Type 0) (old mid new : P) (pieces : List (List ℕ)) (piece sent sent_after got got_after : List ℕ) (going : Going)
+pub fed_last : {P : Type 0} (agrees : P → PeerEnd → List Entry → Type 0) (old mid new : P) (pieces : List (List ℕ)) (piece sent sent_after got got_after : List ℕ) (going : Going)
     → (h : HasFedPieces agrees old mid pieces sent got) → Says agrees mid new (λ appended. Fed piece appended going) got got_after → sent_after ≡ sent ++ piece
     → HasFedLast agrees old new h.part piece going sent_after got_after
 fed_last agrees old mid new pieces piece sent sent_after got got_after going h says s =
@@ -47,7 +47,7 @@ fed_last agrees old mid new pieces piece sent sent_after got got_after going h s
       talked = talked_more agrees old mid new h.part (entry ∷ []) h.talked (said agrees mid new (λ appended. Fed piece appended going) got got_after says);
     }
 
-pub fed_more : {P : Type 0} (agrees : P → List Entry → Type 0) (old mid new : P) (pieces : List (List ℕ)) (piece sent sent_after got got_after : List ℕ) (going : Going)
+pub fed_more : {P : Type 0} (agrees : P → PeerEnd → List Entry → Type 0) (old mid new : P) (pieces : List (List ℕ)) (piece sent sent_after got got_after : List ℕ) (going : Going)
     → HasFedPieces agrees old mid pieces sent got → Says agrees mid new (λ appended. Fed piece appended going) got got_after → sent_after ≡ sent ++ piece → going ≡ More
     → HasFedPieces agrees old new (pieces ++ piece ∷ []) sent_after got_after
 fed_more agrees old mid new pieces piece sent sent_after got got_after going h says s more =
@@ -62,7 +62,7 @@ fed_more agrees old mid new pieces piece sent sent_after got got_after going h s
     }
 
 -- a turn, and that each talk leads on
-pub record HasRunTurn {P : Type 0} (agrees : P → List Entry → Type 0) (old new : P) (pieces : List (List ℕ)) (turn : Turn) (going : Going) : Type 0 where
+pub record HasRunTurn {P : Type 0} (agrees : P → PeerEnd → List Entry → Type 0) (old new : P) (pieces : List (List ℕ)) (turn : Turn) (going : Going) : Type 0 where
   pub part : List Entry
   pub run : IsTurnRun pieces part turn going
   pub talked : Talked agrees old new part
@@ -70,7 +70,7 @@ pub record HasRunTurn {P : Type 0} (agrees : P → List Entry → Type 0) (old n
 turn_is : (turn : Turn) (part : List Entry) → turn.sent ≡ fed_in part → turn.got ≡ appended_in part → turn ≡ turn_of part
 turn_is turn part s g = ap (λ (l : List ℕ). record { sent = l; got = turn.got }) s ∙ ap (λ (l : List ℕ). record { sent = fed_in part; got = l }) g
 
-pub turn_run : {P : Type 0} (agrees : P → List Entry → Type 0) (old new : P) (pieces : List (List ℕ)) (sent got : List ℕ) (turn : Turn)
+pub turn_run : {P : Type 0} (agrees : P → PeerEnd → List Entry → Type 0) (old new : P) (pieces : List (List ℕ)) (sent got : List ℕ) (turn : Turn)
     → (h : HasFedPieces agrees old new pieces sent got) → turn.sent ≡ sent → turn.got ≡ got → HasRunTurn agrees old new pieces turn More
 turn_run agrees old new pieces sent got turn h s g = record {
   part = h.part;
@@ -78,7 +78,7 @@ turn_run agrees old new pieces sent got turn h s g = record {
   talked = h.talked;
 }
 
-pub turn_ended : {P : Type 0} (agrees : P → List Entry → Type 0) (old mid new : P) (all fed others : List (List ℕ)) (piece sent sent_after got got_after : List ℕ) (going : Going) (turn : Turn)
+pub turn_ended : {P : Type 0} (agrees : P → PeerEnd → List Entry → Type 0) (old mid new : P) (all fed others : List (List ℕ)) (piece sent sent_after got got_after : List ℕ) (going : Going) (turn : Turn)
     → HasFedPieces agrees old mid fed sent got → Says agrees mid new (λ appended. Fed piece appended going) got got_after → sent_after ≡ sent ++ piece → going ≡ Ended
     → all ≡ (fed ++ piece ∷ []) ++ others → turn.sent ≡ sent_after → turn.got ≡ got_after → HasRunTurn agrees old new all turn Ended
 turn_ended agrees old mid new all fed others piece sent sent_after got got_after going turn h says s is e ts tg =
@@ -109,14 +109,14 @@ some_last part before piece appended last =
 -- ---- a script
 
 -- these turns were run, and the peer goes on
-pub record HasRunTurns {P : Type 0} (agrees : P → List Entry → Type 0) (old new : P) (turns : List (List (List ℕ))) (recorded : List Turn) : Type 0 where
+pub record HasRunTurns {P : Type 0} (agrees : P → PeerEnd → List Entry → Type 0) (old new : P) (turns : List (List (List ℕ))) (recorded : List Turn) : Type 0 where
   pub parts : List (List Entry)
   pub recorded_is : recorded ≡ map turn_of parts
   pub pieces : pieces_by_turn parts ≡ turns
   pub goes_on : AllByRecursion PeerGoesOn (joined_talk parts)
   pub talked : Talked agrees old new (joined_talk parts)
 
-pub run_none : {P : Type 0} (agrees : P → List Entry → Type 0) (p : P) (recorded : List Turn) → recorded ≡ [] → HasRunTurns agrees p p [] recorded
+pub run_none : {P : Type 0} (agrees : P → PeerEnd → List Entry → Type 0) (p : P) (recorded : List Turn) → recorded ≡ [] → HasRunTurns agrees p p [] recorded
 run_none agrees p recorded r = record { parts = []; recorded_is = r; pieces = refl; goes_on = tt; talked = talked_nothing agrees p }
 
 joined-more : (parts : List (List Entry)) (part : List Entry) → joined_talk (parts ++ part ∷ []) ≡ joined_talk parts ++ part
@@ -126,10 +126,10 @@ recorded-more : (parts : List (List Entry)) (part : List Entry) (recorded after 
 recorded-more parts part recorded after turn r t a =
     a ∙ ap (λ (l : List Turn). l ++ turn ∷ []) r ∙ ap (λ (x : Turn). map turn_of parts ++ x ∷ []) t ∙ sym (map-append turn_of parts (part ∷ []))
 
-talked-more : {P : Type 0} (agrees : P → List Entry → Type 0) (old mid new : P) (parts : List (List Entry)) (part : List Entry) → Talked agrees old mid (joined_talk parts) → Talked agrees mid new part → Talked agrees old new (joined_talk (parts ++ part ∷ []))
+talked-more : {P : Type 0} (agrees : P → PeerEnd → List Entry → Type 0) (old mid new : P) (parts : List (List Entry)) (part : List Entry) → Talked agrees old mid (joined_talk parts) → Talked agrees mid new part → Talked agrees old new (joined_talk (parts ++ part ∷ []))
 talked-more agrees old mid new parts part a b = subst (λ (l : List Entry). Talked agrees old new l) (sym (joined-more parts part)) (talked_more agrees old mid new (joined_talk parts) part a b)
 
-pub run_more : {P : Type 0} (agrees : P → List Entry → Type 0) (old mid new : P) (turns : List (List (List ℕ))) (pieces : List (List ℕ)) (recorded after : List Turn) (turn : Turn) (going : Going)
+pub run_more : {P : Type 0} (agrees : P → PeerEnd → List Entry → Type 0) (old mid new : P) (turns : List (List (List ℕ))) (pieces : List (List ℕ)) (recorded after : List Turn) (turn : Turn) (going : Going)
     → HasRunTurns agrees old mid turns recorded → HasRunTurn agrees mid new pieces turn going → going ≡ More → after ≡ recorded ++ turn ∷ [] → HasRunTurns agrees old new (turns ++ pieces ∷ []) after
 run_more agrees old mid new turns pieces recorded after turn going h t more a =
     let r : IsTurnRun pieces t.part turn More = subst (λ (x : Going). IsTurnRun pieces t.part turn x) more t.run in
@@ -142,12 +142,12 @@ run_more agrees old mid new turns pieces recorded after turn going h t more a =
     }
 
 -- a run, and that each talk leads on
-pub record HasRun {P : Type 0} (agrees : P → List Entry → Type 0) (old new : P) (turns : List (List (List ℕ))) (transcript : Transcript) : Type 0 where
+pub record HasRun {P : Type 0} (agrees : P → PeerEnd → List Entry → Type 0) (old new : P) (turns : List (List (List ℕ))) (transcript : Transcript) : Type 0 where
   pub talk : List Entry
   pub run : IsRunOf turns talk transcript
   pub talked : Talked agrees old new talk
 
-pub run_ended : {P : Type 0} (agrees : P → List Entry → Type 0) (old mid new : P) (all before after : List (List (List ℕ))) (pieces : List (List ℕ)) (recorded written : List Turn) (turn : Turn) (going : Going) (transcript : Transcript)
+pub run_ended : {P : Type 0} (agrees : P → PeerEnd → List Entry → Type 0) (old mid new : P) (all before after : List (List (List ℕ))) (pieces : List (List ℕ)) (recorded written : List Turn) (turn : Turn) (going : Going) (transcript : Transcript)
     → HasRunTurns agrees old mid before recorded → HasRunTurn agrees mid new pieces turn going → going ≡ Ended → written ≡ recorded ++ turn ∷ []
     → all ≡ before ++ pieces ∷ after → transcript.turns ≡ written → transcript.ended ≡ Peer → HasRun agrees old new all transcript
 run_ended agrees old mid new all before after pieces recorded written turn going transcript h t is w e tw te =
@@ -178,7 +178,7 @@ run_ended agrees old mid new all before after pieces recorded written turn going
       talked = talked-more agrees old mid new h.parts t.part h.talked t.talked;
     }
 
-pub run_finished : {P : Type 0} (agrees : P → List Entry → Type 0) (old mid new : P) (turns all : List (List (List ℕ))) (left : List ℕ) (recorded written : List Turn) (transcript : Transcript)
+pub run_finished : {P : Type 0} (agrees : P → PeerEnd → List Entry → Type 0) (old mid new : P) (turns all : List (List (List ℕ))) (left : List ℕ) (recorded written : List Turn) (transcript : Transcript)
     → HasRunTurns agrees old mid turns recorded → Talked agrees mid new (Finished left ∷ []) → turns ≡ all → written ≡ with_finish recorded left
     → transcript.turns ≡ written → transcript.ended ≡ Tester → HasRun agrees old new all transcript
 run_finished agrees old mid new turns all left recorded written transcript h f e w tw te = record {

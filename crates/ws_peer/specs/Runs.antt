@@ -5,7 +5,7 @@ use Rattle.ws_scripts.specs.declared.transcript.Turn.{Turn}
 use Rattle.ws_scripts.specs.declared.transcript.Transcript.{Transcript}
 use Rattle.ws_scripts.specs.declared.transcript.Ended.TheVariants.{Tester, Peer}
 use Rattle.ws_peer.specs.declared.peer.Going.TheVariants.{More, Ended}
-use Rattle.ws_peer.specs.Talks.{Entry, Fed, Finished, fed_in, appended_in}
+use Rattle.ws_peer.specs.Talks.{Entry, Fed, Finished, PeerEnd, fed_in, appended_in}
 
 -- ---- a talk, cut by turns
 
@@ -84,6 +84,8 @@ pub record EndsByPeer (turns : List (List (List ℕ))) (talk : List Entry) (tran
 abbrev pub IsRunOf : List (List (List ℕ)) → List Entry → Transcript → Type 0
 IsRunOf turns talk transcript = EndsByTester turns talk transcript ⊎ EndsByPeer turns talk transcript
 
--- each talk that the peer may have had, followed by this one, is one that it may have had afterwards
-abbrev pub Talked : {P : Type 0} → (P → List Entry → Type 0) → P → P → List Entry → Type 0
-Talked agrees old new talk = (before : List Entry) → agrees old before → agrees new (before ++ talk)
+-- each talk that the peer may have had as some end, followed by this one, is one that it may have had afterwards as the
+-- same end
+abbrev pub Talked : {P : Type 0} → (P → PeerEnd → List Entry → Type 0) → P → P → List Entry → Type 0
+Talked agrees old new talk =
+    (end : PeerEnd) (before : List Entry) → agrees old end before → agrees new end (before ++ talk)

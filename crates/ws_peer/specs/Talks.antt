@@ -1,6 +1,7 @@
 -- Talks of a tester with a peer: what the peer was fed, what it sent for that, and whether it went on.
 use Rattle.std.specs.Prelude.{◌≡◌, ℕ, List, [], ◌∷◌, ◌++◌}
 use Rattle.std.specs.List.{flat_map}
+use Rattle.ws_wire.specs.declared.role.Role.{Role}
 use Rattle.ws_peer.specs.declared.peer.Going.{Going}
 
 -- One call: a piece was fed, the peer appended these bytes and went on or ended; or it was told that no more comes, and
@@ -28,10 +29,15 @@ appended_in talk = flat_map appended_by talk
 
 -- ---- calls
 
--- one call of a peer: it appends some bytes, and each talk that the peer may have had, followed by the entry of the
--- call, is one that it may have had afterwards
-pub record Says {P : Type 0} (agrees : P → List Entry → Type 0) (old new : P) (entry : List ℕ → Entry)
+-- which end of the connection a peer is, and the key with which it masks what it sends where it is the client
+pub record PeerEnd : Type 0 where
+  pub role : Role
+  pub key : List ℕ
+
+-- one call of a peer: it appends some bytes, and each talk that the peer may have had as some end, followed by the entry
+-- of the call, is one that it may have had afterwards as the same end
+pub record Says {P : Type 0} (agrees : P → PeerEnd → List Entry → Type 0) (old new : P) (entry : List ℕ → Entry)
     (before after : List ℕ) : Type 0 where
   pub appended : List ℕ
   pub grown : after ≡ before ++ appended
-  pub leads : (talk : List Entry) → agrees old talk → agrees new (talk ++ entry appended ∷ [])
+  pub leads : (end : PeerEnd) (talk : List Entry) → agrees old end talk → agrees new end (talk ++ entry appended ∷ [])

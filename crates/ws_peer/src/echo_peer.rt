@@ -1,9 +1,12 @@
-//! An echo as a peer: a right server, by which a script and the judge can be tried (RFC 6455 sections 5.4 to 5.6).
+//! An echo as a peer: a right server or client, by which a script and the judge can be tried (RFC 6455 sections 5.4 to
+//! 5.6).
 
 ghost use Rattle.std.specs.Prelude.{◌≡◌, ◌↔◌, [], true, false};
+ghost use Rattle.ws_wire.specs.declared.role.Role.TheVariants.{Server};
 ghost use Rattle.ws_session.specs.Exchange.{is_over};
 ghost use Rattle.ws_peer.specs.declared.peer.Going.TheVariants.{Ended};
 ghost use Rattle.ws_peer.specs.EchoTalks.{MayHaveHad};
+ghost use Rattle.ws_peer.specs.EchoRuns.{echo_end};
 
 use crate::lemmas::echo_laws;
 use crate::peer::{Going, Peer};
@@ -13,11 +16,12 @@ use ws_base::NoMemory;
 use ws_session::{Echo, Limits, MAX_MESSAGE};
 use ws_wire::{NO_KEY, Role};
 
-/// A server that sends each message back, answers what is owed, and ends the connection once its session is over.
+/// An endpoint that sends each message back, answers what is owed, and ends the connection once its session is over.
 #[derive(Drop)]
 pub struct EchoPeer {
     alloc: Global,
     echo: Echo,
+    key: [u8; 4],
     is_spent: bool,
 }
 
@@ -26,15 +30,24 @@ impl Model for EchoPeer {
 
     ghost Value = { EchoPeerValue };
 
-    ghost view = { λ p. record { session = p.echo; is_spent = p.is_spent } };
+    ghost view = { λ p. record { session = p.echo; key = p.key; is_spent = p.is_spent } };
 
     ghost invariant = { λ p. HasTakenSomething p.echo };
 }
 
 impl EchoPeer {
-    /// A peer with which nothing was said yet.
+    /// A server with which nothing was said yet.
     pub fn new(alloc: Global) -> EchoPeer
-        ensures new { MayHaveHad result.session [] }
+        ensures new { MayHaveHad result (echo_end Server result.key) [] }
+        ensures spent { result.is_spent ≡ false }
+    {
+        EchoPeer::with_role(alloc, Role::Server, NO_KEY)
+    }
+
+    /// A peer of this role with which nothing was said yet. A client masks each frame that it sends with the key; to a
+    /// server the key is nothing (RFC 6455 section 5.1).
+    pub fn with_role(alloc: Global, role: Role, key: [u8; 4]) -> EchoPeer
+        ensures new { MayHaveHad result (echo_end role key) [] }
         ensures spent { result.is_spent ≡ false }
     {
         let Some(limits) = Limits::new(MAX_MESSAGE) else {
@@ -43,7 +56,8 @@ impl EchoPeer {
         echo_laws();
         EchoPeer {
             alloc,
-            echo: Echo::new(alloc, limits, Role::Server),
+            echo: Echo::new(alloc, limits, role),
+            key,
             is_spent: false,
         }
     }
@@ -52,7 +66,7 @@ impl EchoPeer {
 impl Peer for EchoPeer {
     ghost use Rattle.ws_peer.specs.EchoTalks.{MayHaveHad};
 
-    ghost agrees = { λ peer talk. MayHaveHad peer.session talk };
+    ghost agrees = { MayHaveHad };
 
     ghost is_spent = { λ peer. peer.is_spent };
 
@@ -62,7 +76,7 @@ impl Peer for EchoPeer {
         }
         echo_laws();
         let mut events = Vec::new(self.alloc);
-        match self.echo.take_all(piece, NO_KEY, out, &mut events) {
+        match self.echo.take_all(piece, self.key, out, &mut events) {
             Ok(()) => {
                 let going = going_after(&self.echo);
                 Ok(going)

@@ -1,23 +1,25 @@
 //! Laws over the definitions, each the contract of a function that does nothing.
 
 ghost use Rattle.std.specs.Prelude.{ℕ, List};
-ghost use Rattle.ws_wire.specs.declared.role.Role.TheVariants.{Server};
-ghost use Rattle.ws_wire.specs.Header.{AreBytes};
+ghost use Rattle.ws_wire.specs.Header.{AreBytes, IsMaskingKey};
+ghost use Rattle.ws_session.specs.Replies.{key_for};
 ghost use Rattle.ws_scripts.specs.declared.transcript.Transcript.{Transcript};
 ghost use Rattle.ws_suite.specs.declared.verdict.Verdict.TheVariants.{Pass};
 ghost use Rattle.ws_suite.specs.Verdicts.{IsVerdictOf};
-ghost use Rattle.ws_peer.specs.Talks.{Entry, fed_in};
+ghost use Rattle.ws_peer.specs.Talks.{Entry, PeerEnd, fed_in};
 ghost use Rattle.ws_peer.specs.EchoTalks.{IsEchoTalk};
 ghost use Rattle.ws_peer.specs.Runs.{IsRunOf};
 
 use crate::lemmas::echo_laws;
 use ws_suite::laws::an_echos_transcript_passes;
 
-/// Whatever was fed, lawful or not, in whatever pieces and turns: the transcript of a run whose talk is an echo's has
-/// the verdict Pass. `run_case` says of each peer which talk it had.
+/// Whatever was fed, lawful or not, in whatever pieces and turns: the transcript of a run whose talk is an echo's, be it
+/// a server or a client that masks with some key, has the verdict Pass. `run_case_with` says of each peer which talk it
+/// had.
 pub fn an_echos_run_passes()
-    ensures { (turns : List (List (List ℕ))) (talk : List Entry) (transcript : Transcript) →
-        IsRunOf turns talk transcript → IsEchoTalk talk → AreBytes (fed_in talk) → IsVerdictOf Server transcript Pass }
+    ensures { (tested : PeerEnd) (turns : List (List (List ℕ))) (talk : List Entry) (transcript : Transcript) →
+        IsRunOf turns talk transcript → IsEchoTalk tested talk → IsMaskingKey (key_for tested.role tested.key) →
+        AreBytes (fed_in talk) → IsVerdictOf tested.role transcript Pass }
 {
     echo_laws();
     an_echos_transcript_passes();

@@ -1,5 +1,7 @@
-//! What the layer below says, called where a proof stands on it. Nothing runs here.
+//! What the layer below and the types say, called where a proof stands on it. Nothing runs here.
 
+ghost use Rattle.std.specs.Prelude.{Some};
+ghost use Rattle.ws_wire.specs.Header.{IsMaskingKey};
 ghost use Rattle.ws_peer.specs.InnerEchoLaws.{EchoLaws};
 
 use ws_session::laws;
@@ -13,3 +15,8 @@ pub(crate) fn echo_laws()
     laws::replies_go_on();
     laws::valid_frames_are_told();
 }
+
+/// A key is four bytes, as its type says.
+pub(crate) fn has_key_bytes(key: [u8; 4])
+    ensures { IsMaskingKey (Some key) }
+{}

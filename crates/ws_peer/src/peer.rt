@@ -1,8 +1,8 @@
-//! What a tester may say to a server: pieces of a stream, and that there are no more.
+//! What a tester may say to the end that it tests: pieces of a stream, and that there are no more.
 
 ghost use Rattle.std.specs.Prelude.{◌≡◌, List, Bool, true, IfOk, OnOk, OnErr, IsErr};
 ghost use Rattle.std.specs.Io.{StartsWith};
-ghost use Rattle.ws_peer.specs.Talks.{Entry, Fed, Finished, Says};
+ghost use Rattle.ws_peer.specs.Talks.{Entry, Fed, Finished, PeerEnd, Says};
 
 use ws_base::NoMemory;
 
@@ -15,10 +15,10 @@ pub enum Going {
     Ended,
 }
 
-/// A server, as a tester meets it.
+/// The tested end of a connection, a server or a client, as a tester meets it.
 pub trait Peer {
-    /// The peer may have had this talk.
-    ghost agrees: { Self → List Entry → Type 0 };
+    /// As this end of the connection the peer may have had this talk.
+    ghost agrees: { Self → PeerEnd → List Entry → Type 0 };
 
     /// A growth was refused, and the peer says nothing more.
     ghost is_spent: { Self → Bool };

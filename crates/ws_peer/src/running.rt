@@ -10,10 +10,9 @@ ghost use Rattle.ws_peer.specs.InnerTurnRuns.{IsTurnRun};
 use crate::peer::{Going, Peer};
 use std::alloc::Global;
 use ws_base::{NoMemory, Payload, Sequence};
-use ws_suite::{Case, Ended, Transcript, Turn, turns};
+use ws_suite::{Case, Ended, Transcript, Turn, turns_with};
 
-/// Runs a script over a peer, its frames masked with `key`: feeds the pieces of each turn in their order until the peer
-/// ends, and finishes it where it doesn't.
+/// Runs a script over a peer that is a server, its frames masked with `key`: `run_case_with` with this key.
 pub fn run_case<P: Peer>(
     alloc: Global,
     case: &Case,
@@ -21,10 +20,27 @@ pub fn run_case<P: Peer>(
     key: [u8; 4],
 ) -> Result<Transcript, NoMemory>
     requires { CanBeRun case.now }
+    ensures { IfOk result (λ transcript. (turns : List (List (List ℕ))) × AreTurns case.now (Some key) turns
+        × (talk : List Entry) × IsRunOf turns talk transcript × Talked P.agrees peer.old peer.new talk) }
+{
+    let transcript = run_case_with(alloc, case, peer, Some(key))?;
+    Ok(transcript)
+}
+
+/// Runs a script over a peer, its frames masked with `key`, or plain where there is none, since the peer is a client
+/// (RFC 6455 section 5.1): feeds the pieces of each turn in their order until the peer ends, and finishes it where it
+/// doesn't.
+pub fn run_case_with<P: Peer>(
+    alloc: Global,
+    case: &Case,
+    peer: &mut P,
+    key: Option<[u8; 4]>,
+) -> Result<Transcript, NoMemory>
+    requires { CanBeRun case.now }
     ensures { IfOk result (λ transcript. (turns : List (List (List ℕ))) × AreTurns case.now key turns
         × (talk : List Entry) × IsRunOf turns talk transcript × Talked P.agrees peer.old peer.new talk) }
 {
-    let script = turns(alloc, case, key)?;
+    let script = turns_with(alloc, case, key)?;
     let pieces_by_turn = script.as_slice();
     let mut recorded = Vec::new(alloc);
     for pieces in pieces_by_turn {

@@ -1,4 +1,4 @@
-//! The ported `tungstenite` as a peer: a server socket of that crate, which reads and writes two buffers in memory.
+//! The ported `tungstenite` as a peer: a socket of that crate, which reads and writes two buffers in memory.
 //! What it says is the crate's own affair: nothing is claimed of it here.
 
 ghost use Rattle.std.specs.Prelude.{◌≡◌, ◌++◌, IfOk, OnOk, false};
@@ -12,8 +12,9 @@ use std::io;
 use std::io::{ErrorKind, Read, Write};
 use std::marker::Model;
 use std::rc::Rc;
-use tungstenite::{Error, NoMask, Role, WebSocket};
+use tungstenite::{Error, MaskKeys, WebSocket};
 use ws_base::NoMemory;
+use ws_wire::{NO_KEY, Role};
 
 /// Bytes that the peer and its socket share.
 type Shared = Rc<RefCell<VecDeque<u8>>>;
@@ -58,10 +59,20 @@ fn in_use() -> io::Error {
     io::Error::from(ErrorKind::Other)
 }
 
-/// A server socket of `tungstenite` that sends each text and each binary message back, over a stream in memory.
+/// The masking key of each frame that a client sends.
+#[derive(Drop)]
+struct OneKey([u8; 4]);
+
+impl MaskKeys for OneKey {
+    fn next_key(&mut self) -> [u8; 4] {
+        self.0
+    }
+}
+
+/// A socket of `tungstenite` that sends each text and each binary message back, over a stream in memory.
 #[derive(Drop)]
 pub struct TungPeer {
-    socket: WebSocket<Pipe, NoMask>,
+    socket: WebSocket<Pipe, OneKey>,
     input: Shared,
     output: Shared,
     is_spent: bool,
@@ -76,10 +87,23 @@ impl Model for TungPeer {
 }
 
 impl TungPeer {
-    /// A peer with which nothing was said yet. Contracts see whether it is spent.
+    /// A server with which nothing was said yet. Contracts see whether it is spent.
     pub fn new(alloc: Global) -> Result<TungPeer, NoMemory>
         ensures { IfOk result (λ peer. peer ≡ false) }
     {
+        let peer = TungPeer::with_role(alloc, Role::Server, NO_KEY)?;
+        Ok(peer)
+    }
+
+    /// A peer of this role with which nothing was said yet. A client masks each frame that it sends with the key; to a
+    /// server the key is nothing (RFC 6455 section 5.1).
+    pub fn with_role(alloc: Global, role: Role, key: [u8; 4]) -> Result<TungPeer, NoMemory>
+        ensures { IfOk result (λ peer. peer ≡ false) }
+    {
+        let role = match role {
+            Role::Client => tungstenite::Role::Client,
+            Role::Server => tungstenite::Role::Server,
+        };
         let input = shared(alloc)?;
         let output = shared(alloc)?;
         let pipe = Pipe {
@@ -87,7 +111,7 @@ impl TungPeer {
             output: output.clone()?,
         };
         Ok(TungPeer {
-            socket: WebSocket::from_raw_socket(alloc, pipe, NoMask, Role::Server, None),
+            socket: WebSocket::from_raw_socket(alloc, pipe, OneKey(key), role, None),
             input,
             output,
             is_spent: false,
@@ -114,7 +138,7 @@ impl TungPeer {
 impl Peer for TungPeer {
     ghost use Rattle.std.specs.Prelude.{⊤};
 
-    ghost agrees = { λ _ _. ⊤ };
+    ghost agrees = { λ _ _ _. ⊤ };
 
     ghost is_spent = { λ peer. peer };
 
@@ -156,7 +180,7 @@ fn push(to: &Shared, piece: &[u8]) -> Result<bool, NoMemory> {
 }
 
 /// Reads and echoes until the stream has nothing more, or the socket fails.
-fn echo_all<S: Read + Write + Drop>(socket: &mut WebSocket<S, NoMask>) -> Result<Going, NoMemory> {
+fn echo_all<S: Read + Write + Drop>(socket: &mut WebSocket<S, OneKey>) -> Result<Going, NoMemory> {
     for _ in 0..u64::MAX {
         match echo_once(socket) {
             Ok(()) => {}
@@ -175,7 +199,7 @@ fn echo_all<S: Read + Write + Drop>(socket: &mut WebSocket<S, NoMask>) -> Result
 }
 
 /// Reads a message, and sends it back where it is a text or a binary one.
-fn echo_once<S: Read + Write + Drop>(socket: &mut WebSocket<S, NoMask>) -> Result<(), Error> {
+fn echo_once<S: Read + Write + Drop>(socket: &mut WebSocket<S, OneKey>) -> Result<(), Error> {
     let message = socket.read()?;
     if message.is_text() || message.is_binary() {
         socket.send(message)

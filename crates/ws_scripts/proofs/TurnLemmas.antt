@@ -1,5 +1,5 @@
 -- Steps cut into turns, and bytes into pieces.
-use Rattle.std.proofs.Common.{◌≡◌, ◌∙◌, ℕ, zero, suc, ◌<◌, ◌≤◌, true, false, List, [], ◌∷◌, ◌++◌, length, take, drop, map, ap, sym, refl, subst, arith, append_assoc, append-nil}
+use Rattle.std.proofs.Common.{◌≡◌, ◌∙◌, ℕ, zero, suc, ◌<◌, ◌≤◌, true, false, List, [], ◌∷◌, ◌++◌, length, take, drop, map, ap, sym, refl, subst, arith, append_assoc, append-nil, Option}
 use Rattle.std.proofs.lemmas.List.{take-append-drop}
 use Rattle.std.specs.List.{AllByRecursion, AllZip, concat, onto_first}
 use Rattle.ws_scripts.specs.declared.script.Step.{Step}
@@ -72,7 +72,7 @@ all_added P (y ∷ xs) x h is = (h.0, all_added P xs x h.1 is)
 
 -- ---- pieces
 
-pub bytes_of_map : (key : List ℕ) (steps : List Step) → concat (map (step_bytes key) steps) ≡ turn_bytes key steps
+pub bytes_of_map : (key : Option (List ℕ)) (steps : List Step) → concat (map (step_bytes key) steps) ≡ turn_bytes key steps
 bytes_of_map key [] = refl
 bytes_of_map key (step ∷ steps) = ap (λ (l : List ℕ). step_bytes key step ++ l) (bytes_of_map key steps)
 
@@ -102,7 +102,7 @@ octets_more n (x ∷ []) piece h less = (h.0, less)
 octets_more n (x ∷ y ∷ pieces) piece h less = (h.0, octets_more n (y ∷ pieces) piece h.1 less)
 
 -- the bytes of each step, where there are any, are the pieces of a turn
-pub step_pieces : (key : List ℕ) (steps : List Step) (pieces : List (List ℕ)) → pieces ≡ without_empty (map (step_bytes key) steps) → ArePieces PerFrame key steps pieces
+pub step_pieces : (key : Option (List ℕ)) (steps : List Step) (pieces : List (List ℕ)) → pieces ≡ without_empty (map (step_bytes key) steps) → ArePieces PerFrame key steps pieces
 step_pieces key steps pieces e =
     let lists = map (step_bytes key) steps in
     record {
@@ -112,7 +112,7 @@ step_pieces key steps pieces e =
     }
 
 -- the bytes of a turn, where there are any, are its one piece
-pub whole_piece : (key : List ℕ) (steps : List Step) (bytes : List ℕ) (pieces : List (List ℕ)) → bytes ≡ turn_bytes key steps → pieces ≡ without_empty (bytes ∷ []) → ArePieces Whole key steps pieces
+pub whole_piece : (key : Option (List ℕ)) (steps : List Step) (bytes : List ℕ) (pieces : List (List ℕ)) → bytes ≡ turn_bytes key steps → pieces ≡ without_empty (bytes ∷ []) → ArePieces Whole key steps pieces
 whole_piece key steps bytes pieces is e = record {
   joined = ap (λ (l : List (List ℕ)). concat l) e ∙ (joined_without_empty (bytes ∷ []) ∙ (append-nil bytes ∙ is));
   none_empty = subst (λ (l : List (List ℕ)). AllByRecursion has_bytes l) (sym e) (none_empty_without (bytes ∷ []));

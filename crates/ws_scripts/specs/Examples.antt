@@ -1,5 +1,6 @@
 -- Worked examples of scripts and captures, each a theorem.
-use Rattle.std.specs.Prelude.{◌≡◌, ⊤, ℕ, true, false, List, [], ◌∷◌, Some, None, codes, refl, replicate}
+use Rattle.std.specs.Prelude.{◌≡◌, ⊤, ℕ, true, false, List, [], ◌∷◌, Option, Some, None, codes}
+use Rattle.std.specs.Prelude.{refl, replicate}
 use Rattle.std.proofs.Common.{inl, inr, lit≤}
 use Rattle.std.specs.Fmt.{digits}
 use Rattle.ws_scripts.specs.declared.script.Step.{Step}
@@ -28,8 +29,8 @@ on_numbers = tt
 abbrev ping : Step
 ping = Frame true 0 9 []
 
-abbrev key : List ℕ
-key = 0x37 ∷ 0xfa ∷ 0x21 ∷ 0x3d ∷ []
+abbrev key : Option (List ℕ)
+key = Some (0x37 ∷ 0xfa ∷ 0x21 ∷ 0x3d ∷ [])
 
 -- a Wait ends a turn, and a last part without steps is no turn
 pub two_turns : turns_of (ping ∷ Wait ∷ ping ∷ ping ∷ []) ≡ (ping ∷ []) ∷ (ping ∷ ping ∷ []) ∷ []
@@ -46,6 +47,11 @@ turn_without_bytes = refl
 pub bytes_of_a_turn : turn_bytes key (Frame true 0 2 (1 ∷ []) ∷ Raw (1 ∷ []) ∷ [])
     ≡ 0x82 ∷ 0x81 ∷ 0x37 ∷ 0xfa ∷ 0x21 ∷ 0x3d ∷ 0x36 ∷ 0x01 ∷ []
 bytes_of_a_turn = refl
+
+-- without a key it isn't
+pub bytes_of_a_servers_turn : turn_bytes None (Frame true 0 2 (1 ∷ []) ∷ Raw (1 ∷ []) ∷ [])
+    ≡ 0x82 ∷ 0x01 ∷ 0x01 ∷ 0x01 ∷ []
+bytes_of_a_servers_turn = refl
 
 -- pieces of two bytes, the last one shorter
 pub by_two : ArePieces (Octets 2) key (Raw (1 ∷ 2 ∷ 3 ∷ []) ∷ []) ((1 ∷ 2 ∷ []) ∷ (3 ∷ []) ∷ [])
@@ -94,7 +100,7 @@ pub unmasked_in_two : frame_step (record { fin = true; rsv = 0; layout = Own Non
 unmasked_in_two = refl
 
 -- one under a key of its own, in the shortest form
-pub masked_by_its_key : frame_step (record { fin = true; rsv = 0; layout = Own (Some key) None }) 1 (97 ∷ [])
+pub masked_by_its_key : frame_step (record { fin = true; rsv = 0; layout = Own key None }) 1 (97 ∷ [])
     ≡ Raw (0x81 ∷ 0x81 ∷ 0x37 ∷ 0xfa ∷ 0x21 ∷ 0x3d ∷ 0x56 ∷ [])
 masked_by_its_key = refl
 

@@ -1,6 +1,6 @@
 -- Scripts: their steps, cut into turns, and the bytes of a turn, cut into pieces.
 use Rattle.std.specs.Prelude.{◌≡◌, ℕ, ◌<◌, ◌≤◌, ⊤, Bool, true, false, List, [], ◌∷◌, length, map, filter, flat_map}
-use Rattle.std.specs.Prelude.{Some}
+use Rattle.std.specs.Prelude.{Option}
 use Rattle.std.specs.List.{concat, onto_first, AllZip, AllByRecursion}
 use Rattle.ws_wire.specs.Frame.{frame_bytes}
 use Rattle.ws_scripts.specs.declared.script.Step.{Step}
@@ -48,17 +48,17 @@ turns_of (Wait ∷ steps) = [] ∷ turns_of steps
 
 -- ---- bytes
 
--- a frame as it is sent, masked with the key, and other bytes as they are
-abbrev pub step_bytes : List ℕ → Step → List ℕ
+-- a frame as it is sent, masked with the key if there is one, and other bytes as they are
+abbrev pub step_bytes : Option (List ℕ) → Step → List ℕ
 step_bytes key (Frame fin rsv opcode payload) = frame_bytes (record {
   frame = record { fin = fin; rsv = rsv; opcode = opcode; payload = payload };
-  key = Some key;
+  key = key;
 })
 step_bytes key (Raw bytes) = bytes
 step_bytes key Wait = []
 
 -- the bytes of a turn: those of its steps, in order
-abbrev pub turn_bytes : List ℕ → List Step → List ℕ
+abbrev pub turn_bytes : Option (List ℕ) → List Step → List ℕ
 turn_bytes key steps = flat_map (step_bytes key) steps
 
 -- ---- pieces
@@ -80,17 +80,18 @@ AreOctets n (piece ∷ []) = length piece ≤ n
 AreOctets n (piece ∷ next ∷ pieces) = (length piece ≡ n) × AreOctets n (next ∷ pieces)
 
 -- where the pieces are cut: nowhere; after each step; after each n bytes
-abbrev pub AreCutBy : Chop → List ℕ → List Step → List (List ℕ) → Type 0
+abbrev pub AreCutBy : Chop → Option (List ℕ) → List Step → List (List ℕ) → Type 0
 AreCutBy Whole key steps pieces = length pieces ≤ 1
 AreCutBy PerFrame key steps pieces = pieces ≡ without_empty (map (step_bytes key) steps)
 AreCutBy (Octets n) key steps pieces = AreOctets n pieces
 
 -- the pieces of a turn: joined they are its bytes, none is empty, and they are cut as the chop says
-pub record ArePieces (chop : Chop) (key : List ℕ) (steps : List Step) (pieces : List (List ℕ)) : Type 0 where
+pub record ArePieces (chop : Chop) (key : Option (List ℕ)) (steps : List Step) (pieces : List (List ℕ)) : Type 0 where
   pub joined : concat pieces ≡ turn_bytes key steps
   pub none_empty : AllByRecursion has_bytes pieces
   pub cut : AreCutBy chop key steps pieces
 
--- the pieces of each turn of a script, in order
-abbrev pub AreTurns : Case → List ℕ → List (List (List ℕ)) → Type 0
+-- The pieces of each turn of a script, in order, its frames masked with the key if there is one: a client masks each
+-- frame that it sends, a server none (RFC 6455 section 5.1).
+abbrev pub AreTurns : Case → Option (List ℕ) → List (List (List ℕ)) → Type 0
 AreTurns case key turns = AllZip (ArePieces case.chop key) (turns_of case.steps) turns

@@ -13,12 +13,25 @@ use std::alloc::Global;
 use ws_base::{NoMemory, Payload, Sequence};
 use ws_wire::{Header, append_frame};
 
-/// What is sent for a script whose frames are masked with `key`: the pieces of each turn, in order. A turn without
-/// bytes has no pieces.
+/// What a client sends for a script, its frames masked with `key`: that of `turns_with` with this key.
 pub fn turns(
     alloc: Global,
     case: &Case,
     key: [u8; 4],
+) -> Result<Sequence<Sequence<Payload>>, NoMemory>
+    requires { CanBeRun case.now }
+    ensures { IfOk result (λ turns. AreTurns case.now (Some key) turns) }
+{
+    let turns = turns_with(alloc, case, Some(key))?;
+    Ok(turns)
+}
+
+/// What is sent for a script, its frames masked with `key`, or plain where there is none, as those of a tester that is
+/// the server: the pieces of each turn, in order. A turn without bytes has no pieces.
+pub fn turns_with(
+    alloc: Global,
+    case: &Case,
+    key: Option<[u8; 4]>,
 ) -> Result<Sequence<Sequence<Payload>>, NoMemory>
     requires { CanBeRun case.now }
     ensures { IfOk result (λ turns. AreTurns case.now key turns) }
@@ -76,7 +89,7 @@ fn is_wait(step: &Step) -> bool
 fn pieces_of(
     alloc: Global,
     chop: Chop,
-    key: [u8; 4],
+    key: Option<[u8; 4]>,
     steps: &[Step],
 ) -> Result<Sequence<Payload>, NoMemory>
     requires fit { FitHeaders steps.now }
@@ -91,7 +104,11 @@ fn pieces_of(
 }
 
 /// The bytes of a turn as one piece, or none where there are no bytes.
-fn one_piece(alloc: Global, key: [u8; 4], steps: &[Step]) -> Result<Sequence<Payload>, NoMemory>
+fn one_piece(
+    alloc: Global,
+    key: Option<[u8; 4]>,
+    steps: &[Step],
+) -> Result<Sequence<Payload>, NoMemory>
     requires { FitHeaders steps.now }
     ensures { IfOk result (λ pieces. ArePieces Whole key steps.now pieces) }
 {
@@ -114,7 +131,7 @@ fn push_if_any(bytes: Vec<u8>, pieces: &mut Vec<Payload>) -> Result<(), NoMemory
 /// The bytes of each step as a piece, where there are any.
 fn one_piece_a_step(
     alloc: Global,
-    key: [u8; 4],
+    key: Option<[u8; 4]>,
     steps: &[Step],
 ) -> Result<Sequence<Payload>, NoMemory>
     requires { FitHeaders steps.now }
@@ -133,7 +150,7 @@ fn one_piece_a_step(
 fn octets(
     alloc: Global,
     n: u32,
-    key: [u8; 4],
+    key: Option<[u8; 4]>,
     steps: &[Step],
 ) -> Result<Sequence<Payload>, NoMemory>
     requires fit { FitHeaders steps.now }
@@ -152,7 +169,7 @@ fn octets(
 }
 
 /// The bytes of a turn.
-fn bytes_of(alloc: Global, key: [u8; 4], steps: &[Step]) -> Result<Vec<u8>, NoMemory>
+fn bytes_of(alloc: Global, key: Option<[u8; 4]>, steps: &[Step]) -> Result<Vec<u8>, NoMemory>
     requires { FitHeaders steps.now }
     ensures { IfOk result (λ bytes. bytes.items ≡ turn_bytes key steps.now) }
 {
@@ -164,7 +181,7 @@ fn bytes_of(alloc: Global, key: [u8; 4], steps: &[Step]) -> Result<Vec<u8>, NoMe
 }
 
 /// Puts the bytes of a step at the end of `out`.
-fn append_step(step: &Step, key: [u8; 4], out: &mut Vec<u8>) -> Result<(), NoMemory>
+fn append_step(step: &Step, key: Option<[u8; 4]>, out: &mut Vec<u8>) -> Result<(), NoMemory>
     requires { FitsAHeader step.now }
     ensures { OnOk result (out.new.items ≡ out.old.items ++ step_bytes key step.now) }
 {
@@ -174,28 +191,28 @@ fn append_step(step: &Step, key: [u8; 4], out: &mut Vec<u8>) -> Result<(), NoMem
             rsv,
             opcode,
             payload,
-        } => append_masked(*fin, *rsv, *opcode, payload.as_slice(), key, out)?,
+        } => append_frame_of(*fin, *rsv, *opcode, payload.as_slice(), key, out)?,
         Step::Raw(bytes) => out.extend_from_slice(bytes.as_slice())?,
         Step::Wait => {}
     }
     Ok(())
 }
 
-/// Puts a frame at the end of `out`, masked with the key, its length in the shortest form.
-fn append_masked(
+/// Puts a frame at the end of `out`, masked with the key if there is one, its length in the shortest form.
+fn append_frame_of(
     fin: bool,
     rsv: u8,
     opcode: u8,
     payload: &[u8],
-    key: [u8; 4],
+    key: Option<[u8; 4]>,
     out: &mut Vec<u8>,
 ) -> Result<(), NoMemory>
     requires rsv { rsv < 8 }
     requires opcode { opcode < 16 }
     ensures { let frame : Frame = record { fin = fin; rsv = rsv; opcode = opcode; payload = payload.now }
-        in OnOk result (out.new.items ≡ out.old.items ++ frame_bytes (record { frame = frame; key = Some key })) }
+        in OnOk result (out.new.items ≡ out.old.items ++ frame_bytes (record { frame = frame; key = key })) }
 {
-    let Some(header) = Header::shortest(fin, rsv, opcode, Some(key), payload.len() as u64) else {
+    let Some(header) = Header::shortest(fin, rsv, opcode, key, payload.len() as u64) else {
         unreachable!()
     };
     append_frame(&header, payload, out)?;

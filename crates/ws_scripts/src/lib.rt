@@ -1,7 +1,7 @@
 //! Scripts that test a peer (RFC 6455 sections 5 to 8): what to send, in which turns and pieces; the transcript of what
 //! was sent and got; and scripts, and captures of transcripts, as text.
 //!
-//! The layers above use six contracts: a script of `case` can be run, `turns` cuts it as its definition says,
+//! The layers above use six contracts: a script of `case` can be run, `turns_with` cuts it as its definition says,
 //! `read_script` gives the script that a text is, `write_script` a text of it, `read_capture2` the one capture that a
 //! text is, and `write_capture2` its lines.
 #![tactic(auto)]
@@ -18,7 +18,7 @@ pub use capture::{
     Capture, CaptureFault, read_capture, read_capture2, write_capture, write_capture2,
 };
 pub use cases::{case, ids};
-pub use cutting::turns;
+pub use cutting::{turns, turns_with};
 pub use script::{Case, Chop, Step};
 pub use script_text::{read_script, write_script};
 pub use transcript::{Ended, Transcript, Turn};

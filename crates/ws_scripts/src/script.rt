@@ -1,12 +1,12 @@
-//! Scripts: what a tester sends to a server, in turns.
+//! Scripts: what a tester sends to the end that it tests, in turns.
 
 use ws_base::{Payload, Sequence};
 
 /// One thing that a tester does.
 #[derive(Debug, Drop)]
 pub enum Step {
-    /// A frame is sent, masked with the tester's key, its length in the shortest form (RFC 6455 section 5.2). `rsv` is
-    /// 4 * RSV1 + 2 * RSV2 + RSV3.
+    /// A frame is sent, masked with the tester's key where the tester is the client, its length in the shortest form
+    /// (RFC 6455 sections 5.1 and 5.2). `rsv` is 4 * RSV1 + 2 * RSV2 + RSV3.
     Frame {
         fin: bool,
         rsv: u8,

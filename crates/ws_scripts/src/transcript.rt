@@ -1,4 +1,4 @@
-//! What went over a connection between a tester, the client, and a server.
+//! What went over a connection between a tester and the end that it tests, a server or a client.
 
 use ws_base::{Payload, Sequence};
 
@@ -7,7 +7,7 @@ use ws_base::{Payload, Sequence};
 pub struct Turn {
     /// The bytes that the tester sent.
     pub sent: Payload,
-    /// The bytes that the server sent.
+    /// The bytes that the tested end sent.
     pub got: Payload,
 }
 
@@ -30,7 +30,7 @@ impl PartialEq for Turn {
 pub enum Ended {
     /// The tester ended it, after the last turn.
     Tester,
-    /// The server ended it, in the last turn.
+    /// The tested end ended it, in the last turn.
     Peer,
     /// A read or a write failed, in the last turn.
     Broken,

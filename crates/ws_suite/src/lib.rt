@@ -24,5 +24,5 @@ pub use rules::rule;
 pub use verdict::{FailWhy, LooseWhy, Verdict};
 pub use ws_scripts::{
     Capture, CaptureFault, Case, Chop, Ended, Step, Transcript, Turn, case, ids, read_capture,
-    read_capture2, read_script, turns, write_capture, write_capture2, write_script,
+    read_capture2, read_script, turns, turns_with, write_capture, write_capture2, write_script,
 };

@@ -1,7 +1,7 @@
 -- Cases one after the other: their names, their lines, and those for which words stand.
 use Rattle.std.proofs.Common.{◌≡◌, ◌≢◌, ◌∙◌, ◌+◌, ◌-◌, ◌<◌, ap, ap₂, arith, cond, refl, subst, sym, ℕ, Bool, true, false}
 use Rattle.std.proofs.Common.{List, [], ◌∷◌, ◌++◌, append-nil, append_assoc, codes, filter, flat_map, length, map}
-use Rattle.std.proofs.Common.{slice_index_or, string_bytes, take, drop}
+use Rattle.std.proofs.Common.{Option, slice_index_or, string_bytes, take, drop}
 use Rattle.std.proofs.lemmas.Grind.{flat_map-append}
 use Rattle.std.proofs.lemmas.List.{length-map, map-append, take-append-drop, take_more}
 use Rattle.std.proofs.lemmas.List.Elements.{All-append, All-nil, All-push, filter-append}
@@ -168,5 +168,5 @@ next_line cases i d lines more within before grown =
     ∙ ap (λ (l : List ℕ). flat_map case_line (take i cases) ++ l) (append-nil (case_line (slice_index_or cases i d))))
 
 -- a case has as many turns as there are lists of pieces
-pub turns_counted : (case : Case) (key : List ℕ) (turns : List (List (List ℕ))) → AreTurns case key turns → length turns ≡ length (turns_of case.steps)
+pub turns_counted : (case : Case) (key : Option (List ℕ)) (turns : List (List (List ℕ))) → AreTurns case key turns → length turns ≡ length (turns_of case.steps)
 turns_counted case key turns are = AllZip-long (ArePieces case.chop key) (turns_of case.steps) turns are

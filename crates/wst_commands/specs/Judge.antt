@@ -1,6 +1,5 @@
 -- A run of `judge`: a capture is read whole and judged, and the verdict is written.
-use Rattle.std.specs.Prelude.{◌≡◌, ◌⊎◌, ℕ, Bool, List, ◌++◌, Result, Err, MatchResult, codes}
-use Rattle.ws_wire.specs.declared.role.Role.TheVariants.{Server}
+use Rattle.std.specs.Prelude.{◌≡◌, ◌⊎◌, ℕ, List, ◌++◌, Result, Err, MatchResult, codes}
 use Rattle.ws_frame.specs.Devices.{Device, IsUntouched}
 use Rattle.ws_scripts.specs.Captures.{DamagesCapture}
 use Rattle.ws_scripts.specs.Captures2.{IsAnyCaptureOf}
@@ -31,12 +30,12 @@ exit_of Pass = Done
 exit_of (Loose why) = Done
 exit_of (Fail why) = Damaged
 
--- the verdict on the transcript was written, and below it why it is told where that is asked for; or memory ran out, and
--- nothing was written
-abbrev pub TellsVerdict : Bool → Transcript → Result Exit Fault → Device → Type 0
-TellsVerdict explains transcript ended output = MatchResult ended
-    (λ exit. (verdict : Verdict) × (below : List ℕ) × IsVerdictOf Server transcript verdict
-    × StandsBelow explains Server transcript verdict below
+-- the verdict on the tested end by the transcript was written, and below it why it is told where that is asked for; or
+-- memory ran out, and nothing was written
+abbrev pub TellsVerdict : JudgeOptions → Transcript → Result Exit Fault → Device → Type 0
+TellsVerdict options transcript ended output = MatchResult ended
+    (λ exit. (verdict : Verdict) × (below : List ℕ) × IsVerdictOf options.role transcript verdict
+    × StandsBelow options.explain options.role transcript verdict below
     × Delivers (exit_of verdict) (verdict_line verdict ++ below) exit output)
     (λ fault. (fault ≡ NoMemory) × IsUntouched output)
 
@@ -47,12 +46,12 @@ capture_fault capture.NoMemory = NoMemory
 
 -- what is done with a text: as a capture, in either format, it is judged; else nothing is written, and what is wrong is
 -- told
-abbrev pub AnswersCapture : Bool → List ℕ → Result Exit Fault → Device → Type 0
-AnswersCapture explains text ended output =
-    ((capture : Capture) × IsAnyCaptureOf capture text × TellsVerdict explains capture.transcript ended output)
+abbrev pub AnswersCapture : JudgeOptions → List ℕ → Result Exit Fault → Device → Type 0
+AnswersCapture options text ended output =
+    ((capture : Capture) × IsAnyCaptureOf capture text × TellsVerdict options capture.transcript ended output)
     ⊎ ((fault : CaptureFault) × DamagesCapture IsAnyCaptureOf fault text × (ended ≡ Err (capture_fault fault))
     × IsUntouched output)
 
 -- a run of `judge`
 abbrev pub RunsJudge : JudgeOptions → Result Exit Fault → Device → Device → Type 0
-RunsJudge options ended input output = AnswersInput (AnswersCapture options.explain) ended input output
+RunsJudge options ended input output = AnswersInput (AnswersCapture options) ended input output

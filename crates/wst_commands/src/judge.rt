@@ -14,7 +14,6 @@ use std::alloc::Global;
 use std::io::{Read, Write};
 use ws_frame::Watched;
 use ws_suite::{CaptureFault, Transcript, Verdict, read_capture2};
-use ws_wire::Role;
 use wst_words::JudgeOptions;
 
 /// Judges the capture that the reader gives, in either format, and writes the verdict, and below it why it is told where
@@ -31,7 +30,7 @@ pub fn run_judge<R: Read, W: Write>(
         (watched W.contents writer.old writer.new) }
 {
     match read_whole(alloc, reader) {
-        Ok(text) => answer(alloc, options.explain, text.as_slice(), writer),
+        Ok(text) => answer(alloc, options, text.as_slice(), writer),
         Err(ReadStop::Fault) => Ok(Exit::Failed),
         Err(ReadStop::NoMemory) => Err(Fault::NoMemory),
     }
@@ -40,15 +39,15 @@ pub fn run_judge<R: Read, W: Write>(
 /// Judges a capture, and writes the verdict. A text that is no capture is damaged.
 fn answer<W: Write>(
     alloc: Global,
-    explains: bool,
+    options: JudgeOptions,
     text: &[u8],
     writer: &mut Watched<W>,
 ) -> Result<Exit, Fault>
     requires { has_failed writer.old ≡ false }
-    ensures { AnswersCapture explains text.now result (watched W.contents writer.old writer.new) }
+    ensures { AnswersCapture options text.now result (watched W.contents writer.old writer.new) }
 {
     match read_capture2(alloc, text) {
-        Ok(capture) => tell_verdict(alloc, explains, &capture.transcript, writer),
+        Ok(capture) => tell_verdict(alloc, options, &capture.transcript, writer),
         Err(fault) => Err(fault_of(fault)),
     }
 }
@@ -66,14 +65,14 @@ pub fn fault_of(fault: CaptureFault) -> Fault
 /// Writes the verdict on a transcript in its line, and below it why it is told where that is asked for.
 fn tell_verdict<W: Write>(
     alloc: Global,
-    explains: bool,
+    options: JudgeOptions,
     transcript: &Transcript,
     writer: &mut Watched<W>,
 ) -> Result<Exit, Fault>
     requires { has_failed writer.old ≡ false }
-    ensures { TellsVerdict explains transcript.now result (watched W.contents writer.old writer.new) }
+    ensures { TellsVerdict options transcript.now result (watched W.contents writer.old writer.new) }
 {
-    let Ok(told) = judgement_of(alloc, explains, Role::Server, transcript) else {
+    let Ok(told) = judgement_of(alloc, options.explain, options.role, transcript) else {
         return Err(Fault::NoMemory);
     };
     match format!(in alloc; "{}\n{}", told.verdict, told.below) {

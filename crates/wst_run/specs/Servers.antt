@@ -1,5 +1,6 @@
 -- Servers that cases are run over: what is known of a meeting with one in memory, and with one at an address.
-use Rattle.std.specs.Prelude.{◌≡◌, ◌⊎◌, ℕ, List}
+use Rattle.std.specs.Prelude.{◌≡◌, ◌⊎◌, ℕ, List, Some}
+use Rattle.ws_wire.specs.declared.role.Role.TheVariants.{Server}
 use Rattle.ws_connection.specs.ConnectionValues.{ConnectionRun}
 use Rattle.ws_connection.specs.Probing.{Probes}
 use Rattle.ws_peer.specs.EchoRuns.{IsEchoRun}
@@ -21,13 +22,13 @@ use Rattle.wst_run.specs.declared.test.Target.TheVariants.{Address, Memory}
 -- The transcript is that of a run of the script's pieces in some talk with a peer, of which nothing else is known.
 pub record IsPeerRun (key : List ℕ) (case : Case) (transcript : Transcript) : Type 0 where
   pub turns : List (List (List ℕ))
-  pub are_turns : AreTurns case key turns
+  pub are_turns : AreTurns case (Some key) turns
   pub talk : List Entry
   pub is_run : IsRunOf turns talk transcript
 
 -- over our echo the talk is an echo's; a server of `tungstenite` may answer anything
 abbrev pub IsMemoryRun : MemoryServer → List ℕ → Case → Transcript → Type 0
-IsMemoryRun Own key case transcript = IsEchoRun case key transcript
+IsMemoryRun Own key case transcript = IsEchoRun Server case key transcript
 IsMemoryRun Tung key case transcript = IsPeerRun key case transcript
 
 -- a server in memory is always there, and asks for no handshake

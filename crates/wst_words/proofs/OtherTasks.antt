@@ -79,8 +79,9 @@ no_show name rows is lacks = refuses
 
 judge_lacks : (rows : List Row) (options : JudgeOptions) → LacksOneOf rows judge_command.arguments
     → AsksToJudge rows options → ⊥
-judge_lacks rows options (inl explain) asks = explain options.explain asks
-judge_lacks rows options (inr none) asks = absurd none
+judge_lacks rows options (inl role) asks = role options.role asks.0
+judge_lacks rows options (inr (inl explain)) asks = explain options.explain asks.1
+judge_lacks rows options (inr (inr none)) asks = absurd none
 
 pub no_judge : (name : Text) (rows : List Row) → name ≡ codes "judge" → LacksOneOf rows judge_command.arguments
     → CommandAsksNothing (Some (name, rows))

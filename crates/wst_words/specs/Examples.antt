@@ -164,17 +164,19 @@ plain_echo places = (
 abbrev judge_words : List Text
 judge_words = words (codes "judge" ∷ [])
 
-pub plain_judge : (places : Places) → AsksFor (wst_app places) judge_words (Judge (record { explain = false }))
+pub plain_judge : (places : Places)
+    → AsksFor (wst_app places) judge_words (Judge (record { role = Server; explain = false }))
 unfolding on_words
-plain_judge places = (refl, (refl, refl))
+plain_judge places = (refl, (refl, (record { word = codes "server"; has_word = refl; value = refl }, refl)))
 
--- and `wst judge --explain` tells why
+-- and `wst judge --role client --explain` one of a client, and tells why
 abbrev explain_words : List Text
-explain_words = words (codes "judge" ∷ codes "--explain" ∷ [])
+explain_words = words (codes "judge" ∷ codes "--role" ∷ codes "client" ∷ codes "--explain" ∷ [])
 
-pub explained_judge : (places : Places) → AsksFor (wst_app places) explain_words (Judge (record { explain = true }))
+pub explained_judge : (places : Places)
+    → AsksFor (wst_app places) explain_words (Judge (record { role = Client; explain = true }))
 unfolding on_words
-explained_judge places = (refl, (refl, refl))
+explained_judge places = (refl, (refl, (record { word = codes "client"; has_word = refl; value = refl }, refl)))
 
 -- `wst convert` writes a capture in format 2
 abbrev convert_words : List Text

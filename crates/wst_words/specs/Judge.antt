@@ -1,16 +1,19 @@
--- The command `judge`: its argument, and what it gives.
+-- The command `judge`: its arguments, and what they give.
 use Rattle.std.specs.Prelude.{List, [], ◌∷◌, codes}
 use Rattle.clap.specs.Words.{Row}
-use Rattle.wst_words.specs.Arguments.{argument}
+use Rattle.wst_words.specs.Arguments.{argument, argument_or}
 use Rattle.wst_words.specs.Commands.{CommandRow}
-use Rattle.wst_words.specs.declared.arguments.ArgumentKind.TheVariants.{Flag}
-use Rattle.wst_words.specs.Options.{GivesFlag}
+use Rattle.wst_words.specs.declared.arguments.ArgumentKind.TheVariants.{End, Flag}
+use Rattle.wst_words.specs.Options.{GivesEnd, GivesFlag}
 use Rattle.wst_words.specs.declared.judge.JudgeOptions.{JudgeOptions}
 
--- its argument
+-- its arguments
 abbrev pub judge_command : CommandRow
-judge_command = record { name = codes "judge"; arguments = argument (codes "explain") Flag ∷ [] }
+judge_command = record {
+  name = codes "judge";
+  arguments = argument_or (codes "role") End (codes "server") ∷ argument (codes "explain") Flag ∷ [];
+}
 
 -- the options give these
 abbrev pub AsksToJudge : List Row → JudgeOptions → Type 0
-AsksToJudge rows options = GivesFlag rows (codes "explain") options.explain
+AsksToJudge rows options = GivesEnd rows (codes "role") options.role × GivesFlag rows (codes "explain") options.explain

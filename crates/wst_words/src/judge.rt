@@ -7,26 +7,38 @@ ghost use Rattle.wst_words.specs.Judge.{AsksToJudge, judge_command};
 ghost use Rattle.wst_words.specs.Arguments.{argument_row};
 
 use crate::arguments::Argument;
-use crate::arguments::ArgumentKind::Flag;
+use crate::arguments::ArgumentKind::{End, Flag};
 use crate::commands::HelpText;
-use crate::options::flag_of;
+use crate::options::{end_of, flag_of};
 use clap::ArgMatches;
+use ws_wire::Role;
 
 /// The options of `judge`.
 #[derive(Clone, Copy)]
 pub struct JudgeOptions {
+    /// The tested end.
+    pub role: Role,
     /// Below a verdict other than PASS it is told why.
     pub explain: bool,
 }
 
 /// Its arguments.
-static ARGUMENTS: [Argument; 1] = [Argument {
-    name: "explain",
-    kind: Flag,
-    default: None,
-    value_name: "",
-    help: "Tell below LOOSE and FAIL what was owed and what came",
-}];
+static ARGUMENTS: [Argument; 2] = [
+    Argument {
+        name: "role",
+        kind: End,
+        default: Some("server"),
+        value_name: "END",
+        help: "The end that was tested",
+    },
+    Argument {
+        name: "explain",
+        kind: Flag,
+        default: None,
+        value_name: "",
+        help: "Tell below LOOSE and FAIL what was owed and what came",
+    },
+];
 
 /// The arguments of `judge`.
 pub(crate) fn arguments() -> &'static [Argument]
@@ -40,14 +52,15 @@ pub(crate) fn judge_options(options: &ArgMatches<'_>) -> Option<JudgeOptions>
     ensures { MatchOption result (LacksOneOf (rows_of (found_of options.now)) judge_command.arguments)
         (AsksToJudge (rows_of (found_of options.now))) }
 {
+    let role = end_of(options, "role")?;
     let explain = flag_of(options, "explain")?;
-    Some(JudgeOptions { explain })
+    Some(JudgeOptions { role, explain })
 }
 
 /// What help says of `judge`.
 pub(crate) fn help<'a>() -> HelpText<'a> {
     HelpText {
-        about: "Judges a captured connection, and tells which rule the server broke",
+        about: "Judges a captured connection, and tells which rule the tested end broke",
         long_about: LONG_ABOUT,
         after_help: AFTER_HELP,
     }
@@ -55,14 +68,15 @@ pub(crate) fn help<'a>() -> HelpText<'a> {
 
 /// What `judge` is for.
 const LONG_ABOUT: &str =
-    "Reads a capture of what a client sent to a server and got from it behind the opening handshake, and
-tells whether the server kept the rules, as an echo does that takes messages of up to 16777216
-bytes: it sends each message back, answers each ping and a close, and fails at a fault. The lines:
+    "Reads a capture of what a tester sent to the tested end and got from it behind the opening
+handshake, and tells whether that end, a server or with `--role client` a client, kept the rules, as
+an echo does that takes messages of up to 16777216 bytes: it sends each message back, answers each
+ping and a close, and fails at a fault. The lines:
 
   wst-capture 1   the first line
-  > HEX           the client sent these bytes, at least one
+  > HEX           the tester sent these bytes, at least one
   < HEX           it got these bytes, at least one
-  end peer        the last line: the server ended the connection; `end tester`: the client did
+  end peer        the last line: the tested end ended the connection; `end tester`: the tester did
 
 Each line ends in LF. A turn begins with the first of the lines with bytes, and with each `>` line
 behind a `<` line. Captures in format 2, which `convert --help` tells, are judged too. The output is
@@ -73,11 +87,12 @@ one line, the first of these that applies:
   FAIL Messages        the messages that were got are not those that were sent
   FAIL Pongs           a pong answers no ping, or the last ping was not answered
   FAIL Close           a close was not answered, or one came without a close or a fault before it
-  FAIL End             the client ended it after a close or a fault, or it ended without one
+  FAIL End             the tester ended it after a close or a fault, or it ended without one; a
+                       client, which waits for the server's end, sent no close before that
   LOOSE PongsSkipped   not every ping was answered, but the last one was
   LOOSE PongElsewhere  messages and pongs came in another order than what they answer
   LOOSE OtherCode      the close that was got has another code than the one that is due
-  LOOSE LateEnd        a turn follows that of the close or the fault
+  LOOSE LateEnd        a turn follows that of the close or the fault; of a client, its close does
   LOOSE EchoShort      messages or pongs that are due before a fault did not come
   LOOSE BrokenEnd      the connection broke, which only format 2 tells
   PASS                 none of these

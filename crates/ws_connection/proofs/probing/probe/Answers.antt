@@ -1,7 +1,7 @@
 -- The request was written, and then what came of it; or it was not.
 use Rattle.std.proofs.Common.{◌≡◌, ◌∙◌, ◌≤◌, List, ℕ, ap, arith, length, rules, subst, true}
 use Rattle.std.proofs.lemmas.Bool.Decides.{nat_tests}
-use Rattle.std.specs.Prelude.{map}
+use Rattle.std.specs.Prelude.{Some, map}
 use Rattle.std.specs.List.{concat}
 use Rattle.std.specs.Borrow.{Bor}
 use Rattle.ws_scripts.specs.Scripts.{turns_of}
@@ -16,13 +16,13 @@ returns-then-taken-bytes-clause-probes g c =
     let offers = map (λ (name : Bor (List ℕ)). name.now) c.args.asked.now.protocols.now in
     let text : c.as_slice-bytes.result.now ≡ request_to host offers = c.as_slice-bytes.ensures.value ∙ c.in_ok-text.ensures in
     let fails : c.write-taken.new.self.output.failed ≡ true = grind (c.write-taken.ensures.failed, arith, nat_tests) in
-    not_asked (bytes_by_turn c.args.case.now c.args.asked.now.key) offers c.as_slice-bytes.result.now (request_to host offers) c.write-taken.result c.args.connection.now c.write-taken.new.self
+    not_asked (bytes_by_turn c.args.case.now (Some c.args.asked.now.key)) offers c.as_slice-bytes.result.now (request_to host offers) c.write-taken.result c.args.connection.now c.write-taken.new.self
     c.requires.new text c.write-taken.ensures.put fails c.write-taken.ensures.input
 
 pub returns-clause-probes : goal.returns-clause-probes
 returns-clause-probes g c =
     let case = c.args.case.now in
-    let key = c.args.asked.now.key in
+    let key = Some c.args.asked.now.key in
     let host = c.args.asked.now.host.now in
     let offers = map (λ (name : Bor (List ℕ)). name.now) c.args.asked.now.protocols.now in
     let script = c.as_slice.result.now in

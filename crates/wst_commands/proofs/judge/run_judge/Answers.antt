@@ -6,4 +6,4 @@ use Rattle.wst_commands.proofs.judge.run_judge.Goals as goal
 pub returns-in-Ok : goal.returns-in-Ok
 returns-in-Ok g c =
     let output = watched g.W.Write.contents c.args.writer.now c.answer.new.writer in
-    inl (c.in-Ok.text.items, c.in-Ok.ensures, subst (λ (t : List ℕ). AnswersCapture c.args.options.explain t c.answer.result output) c.as_slice.ensures.value c.answer.ensures)
+    inl (c.in-Ok.text.items, c.in-Ok.ensures, subst (λ (t : List ℕ). AnswersCapture c.args.options t c.answer.result output) c.as_slice.ensures.value c.answer.ensures)

@@ -1,5 +1,4 @@
-use Rattle.std.proofs.Common.{ap, subst, sym}
-use Rattle.ws_session.specs.Exchange.{SessionValue}
+use Rattle.std.proofs.Common.{refl, subst, sym}
 use Rattle.ws_peer.specs.EchoTalks.{EchoPeerValue, MayHaveHad}
 use Rattle.ws_peer.proofs.EchoTalkLemmas.{says_fed, taken_more}
 use Rattle.ws_peer.proofs.echo_peer.EchoPeerPeer.feed.Goals as goal
@@ -12,5 +11,8 @@ invariant_of-self-in-Err c = taken_more c.self.inside.echo c.take_all.new.self _
 
 pub returns-in-Ok-clause-said : goal.returns-in-Ok-clause-said
 returns-in-Ok-clause-said c =
-    let says = says_fed c.echo_laws.ensures c.self.inside.echo c.take_all.new.self c.args.piece.now _ c.args.out.now.items c.take_all.new.out.items _ _ _ c.self.invariant c.in-Ok.ensures.taken c.going_after-going.ensures in
-    record { appended = says.appended; grown = says.grown; leads = λ talk had. says.leads talk (subst (λ (s : SessionValue). MayHaveHad s talk) (sym (ap (λ (v : EchoPeerValue). v.session) c.self.view_is)) had) }
+    let inside = c.self.inside in
+    let old : EchoPeerValue = record { session = inside.echo; key = inside.key; is_spent = inside.is_spent } in
+    let new : EchoPeerValue = record { session = c.take_all.new.self; key = inside.key; is_spent = inside.is_spent } in
+    let says = says_fed c.echo_laws.ensures old new c.args.piece.now c.args.out.now.items c.take_all.new.out.items _ _ _ c.self.invariant refl c.in-Ok.ensures.taken c.going_after-going.ensures in
+    record { appended = says.appended; grown = says.grown; leads = λ end talk had. says.leads end talk (subst (λ (v : EchoPeerValue). MayHaveHad v end talk) (sym c.self.view_is) had) }

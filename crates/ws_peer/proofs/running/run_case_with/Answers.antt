@@ -2,7 +2,7 @@ use Rattle.std.proofs.Common.{◌≡◌, ℕ, ◌+◌, List, ◌∷◌, [], ◌+
 use Rattle.std.proofs.lemmas.List.{take_more}
 use Rattle.ws_peer.specs.declared.peer.Going.TheVariants.{More, Ended}
 use Rattle.ws_peer.proofs.RunLemmas.{HasRunTurn, HasRunTurns, run_ended, run_finished, run_more}
-use Rattle.ws_peer.proofs.running.run_case.Goals as goal
+use Rattle.ws_peer.proofs.running.run_case_with.Goals as goal
 
 pub returns-then-eq : goal.returns-then-eq
 returns-then-eq g c =

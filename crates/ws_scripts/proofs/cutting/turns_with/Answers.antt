@@ -2,7 +2,7 @@ use Rattle.std.proofs.Common.{◌≡◌, ◌≤◌, ◌++◌, ◌∷◌, [], Lis
 use Rattle.ws_scripts.specs.declared.script.Step.{Step}
 use Rattle.ws_scripts.specs.Scripts.{ArePieces, turns_of}
 use Rattle.ws_scripts.proofs.TurnLemmas.{no_items, zip_done, zip_more}
-use Rattle.ws_scripts.proofs.cutting.turns.Goals as goal
+use Rattle.ws_scripts.proofs.cutting.turns_with.Goals as goal
 
 pub returns : goal.returns
 returns c =

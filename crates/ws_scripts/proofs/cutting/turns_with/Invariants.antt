@@ -1,7 +1,7 @@
 use Rattle.std.proofs.Common.{◌++◌, List, ℕ, length}
 use Rattle.std.specs.List.{AllZip}
 use Rattle.ws_scripts.specs.Scripts.{ArePieces, FitHeaders, turns_of}
-use Rattle.ws_scripts.proofs.cutting.turns.Given as goal
+use Rattle.ws_scripts.proofs.cutting.turns_with.Given as goal
 
 -- whatever pieces come for the rest, after the pieces so far they are those of the whole script
 abbrev pub invariant-loop-rest : goal.invariant-loop-rest

@@ -1,6 +1,6 @@
 use Rattle.std.proofs.Common.{take}
 use Rattle.ws_peer.proofs.RunLemmas.{HasRunTurns}
-use Rattle.ws_peer.proofs.running.run_case.Given as goal
+use Rattle.ws_peer.proofs.running.run_case_with.Given as goal
 
 -- the turns so far were run, and the peer goes on
 abbrev pub invariant-loop-pieces : goal.invariant-loop-pieces
