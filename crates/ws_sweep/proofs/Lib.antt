@@ -1,0 +1,4 @@
+pub mod Numbers
+pub mod OrderLaws
+pub mod Sending
+pub mod Running
