@@ -3,6 +3,7 @@
 import os
 import shutil
 import subprocess
+from functools import cache
 from pathlib import Path
 
 ROOT = Path(__file__).resolve().parent.parent.parent
@@ -29,6 +30,7 @@ def run(*words, folder=None, **variables):
     return ran.returncode, ran.stdout, ran.stderr
 
 
+@cache
 def wst(*words):
     """What the program writes."""
     return subprocess.run([PROGRAM, *words], **QUIET).stdout
