@@ -35,7 +35,7 @@ pub with_both : (turn : Turn) (a b all : List ℕ) → all ≡ a ++ b
 with_both turn a b all is = ap (λ (l : List ℕ). record { sent = l; got = turn.got })
     (append_assoc turn.sent a b ∙ ap (λ (l : List ℕ). turn.sent ++ l) (sym is))
 
-pub joined : (chop : Chop) (key : List ℕ) (parts : List (List Step)) (turns : List (List (List ℕ)))
+pub joined : (chop : Chop) (key : Option (List ℕ)) (parts : List (List Step)) (turns : List (List (List ℕ)))
     → AllZip (ArePieces chop key) parts turns
     → flat_map (λ (pieces : List (List ℕ)). concat pieces) turns ≡ flat_map (turn_bytes key) parts
 joined chop key [] [] are = refl

@@ -14,8 +14,8 @@ use Rattle.ws_sweep.specs.Alphabet.{step_at, whole}
 
 -- ---- what steps send
 
--- all that they send, their frames masked with this key
-abbrev pub bytes_sent : List Step → List ℕ → List ℕ
+-- all that they send, their frames masked with the key if there is one
+abbrev pub bytes_sent : List Step → Option (List ℕ) → List ℕ
 bytes_sent steps key = flat_map (turn_bytes key) (turns_of steps)
 
 -- a close or a fault
@@ -46,13 +46,13 @@ abbrev pub close_step : Step
 close_step = whole 8 (0x03 ∷ 0xe8 ∷ [])
 
 -- the steps alone, where what they send holds a close or a fault; else with a close behind them
-abbrev pub AreCaseSteps : Role → List ℕ → List ℕ → List Step → Type 0
+abbrev pub AreCaseSteps : Role → Option (List ℕ) → List ℕ → List Step → Type 0
 AreCaseSteps tested key places steps =
     (HasEnd tested (bytes_sent (short_steps tested places) key) × (steps ≡ short_steps tested places))
     ⊎ ((¬ (HasEnd tested (bytes_sent (short_steps tested places) key)))
     × (steps ≡ short_steps tested places ++ close_step ∷ []))
 
--- the case of the script for a tested end of this role, under this key: its turns are sent whole
-pub record IsShortCase (tested : Role) (key places : List ℕ) (case : Case) : Type 0 where
+-- the case of the script for a tested end of this role, under this key or none: its turns are sent whole
+pub record IsShortCase (tested : Role) (key : Option (List ℕ)) (places : List ℕ) (case : Case) : Type 0 where
   pub steps : AreCaseSteps tested key places case.steps
   pub whole : case.chop ≡ Whole

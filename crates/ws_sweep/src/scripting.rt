@@ -3,7 +3,6 @@
 ghost use Rattle.std.specs.Prelude.{◌≡◌, ◌↔◌, ◌++◌, ◌∷◌, [], IfOk, IsTrue, List, OnOk};
 ghost use Rattle.std.specs.List.{concat};
 ghost use Rattle.ws_wire.specs.declared.role.Role.{Role};
-ghost use Rattle.ws_wire.specs.declared.role.Role.TheVariants.{Server};
 ghost use Rattle.ws_scripts.specs.declared.script.Chop.TheVariants.{Whole};
 ghost use Rattle.ws_scripts.specs.declared.transcript.Turn.{Turn};
 ghost use Rattle.ws_scripts.specs.Scripts.{CanBeRun, FitHeaders};
@@ -16,7 +15,7 @@ use crate::lemmas::event_laws;
 use crate::short_script::ShortScript;
 use std::alloc::Global;
 use ws_base::{NoMemory, Payload, Sequence};
-use ws_suite::{Case, Chop, RunEvidence, Step, turns};
+use ws_suite::{Case, Chop, RunEvidence, Step, turns_with};
 use ws_wire::Role;
 
 /// The name of a case that has none.
@@ -25,16 +24,22 @@ const NO_NAME: &str = "-";
 /// What stands behind a script that asks for it: a close frame with code 1000.
 const CLOSE: Sends = Sends::Frame(true, 0, 8, b"\x03\xe8");
 
-/// The case of a script that tests a server, its frames masked with `key`: its steps, and behind them, where what they
-/// send has neither a close nor a fault, a close with code 1000. `turns` takes it.
-pub fn short_case(alloc: Global, key: [u8; 4], script: &ShortScript) -> Result<Case, NoMemory>
+/// The case of a script that tests an end of this role, its frames masked with `key`, or plain where there is none: its
+/// steps, and behind them, where what they send has neither a close nor a fault, a close with code 1000. `turns_with`
+/// takes it.
+pub fn short_case(
+    alloc: Global,
+    tested: Role,
+    key: Option<[u8; 4]>,
+    script: &ShortScript,
+) -> Result<Case, NoMemory>
     requires { ArePlaces script.now }
-    ensures is { IfOk result (λ case. IsShortCase Server key script.now case) }
+    ensures is { IfOk result (λ case. IsShortCase tested key script.now case) }
     ensures runs { IfOk result (λ case. CanBeRun case) }
 {
-    let steps = steps_of(alloc, Role::Server, script)?;
+    let steps = steps_of(alloc, tested, script)?;
     let case = whole_case(alloc, steps)?;
-    if has_end(alloc, &case, key)? {
+    if has_end(alloc, tested, key, &case)? {
         return Ok(case);
     }
     let closed = with_close(alloc, case)?;
@@ -82,14 +87,14 @@ fn with_close(alloc: Global, case: Case) -> Result<Case, NoMemory>
     })
 }
 
-/// Whether what a case sends to a server holds a close or a fault, as a run over a connection asks it.
-fn has_end(alloc: Global, case: &Case, key: [u8; 4]) -> Result<bool, NoMemory>
+/// Whether what a case sends to an end of this role holds a close or a fault, as a run over a connection asks it.
+fn has_end(alloc: Global, tested: Role, key: Option<[u8; 4]>, case: &Case) -> Result<bool, NoMemory>
     requires { CanBeRun case.now }
-    ensures { IfOk result (λ ends. IsTrue ends ↔ HasEnd Server (bytes_sent case.now.steps key)) }
+    ensures { IfOk result (λ ends. IsTrue ends ↔ HasEnd tested (bytes_sent case.now.steps key)) }
 {
     event_laws();
-    let turns = turns(alloc, case, key)?;
-    let mut evidence: RunEvidence = RunEvidence::new(alloc, Role::Server);
+    let turns = turns_with(alloc, case, key)?;
+    let mut evidence: RunEvidence = RunEvidence::new(alloc, tested);
     evidence.begin_turn();
     for pieces in turns.as_slice() {
         send(pieces.as_slice(), &mut evidence)?;

@@ -1,6 +1,5 @@
 -- The case can be run, with a close behind its steps or not.
 use Rattle.std.proofs.Common.{◌∙◌, ◌++◌, List, [], ◌∷◌, ap}
-use Rattle.ws_wire.specs.declared.role.Role.TheVariants.{Server}
 use Rattle.ws_scripts.specs.declared.script.Step.{Step}
 use Rattle.ws_sweep.specs.ShortCases.{close_step, short_steps}
 use Rattle.ws_sweep.proofs.Running.{can_be_run, closed_steps_fit, steps_fit}
@@ -8,19 +7,19 @@ use Rattle.ws_sweep.proofs.scripting.short_case.Goals as goal
 
 pub has_end-requires : goal.has_end-requires
 has_end-requires c =
-    can_be_run c.in_ok-case.case (short_steps Server c.args.script.now)
+    can_be_run c.in_ok-case.case (short_steps c.args.tested c.args.script.now)
     (c.in_ok-case.ensures.steps ∙ c.in_ok-steps.ensures) c.in_ok-case.ensures.whole
-    (steps_fit Server c.args.script.now c.requires)
+    (steps_fit c.args.tested c.args.script.now c.requires)
 
 pub returns-then-branch-clause-runs : goal.returns-then-branch-clause-runs
 returns-then-branch-clause-runs c =
-    can_be_run c.in_ok-case.case (short_steps Server c.args.script.now)
+    can_be_run c.in_ok-case.case (short_steps c.args.tested c.args.script.now)
     (c.in_ok-case.ensures.steps ∙ c.in_ok-steps.ensures) c.in_ok-case.ensures.whole
-    (steps_fit Server c.args.script.now c.requires)
+    (steps_fit c.args.tested c.args.script.now c.requires)
 
 pub returns-clause-runs : goal.returns-clause-runs
 returns-clause-runs c =
-    can_be_run c.in_ok-closed.closed (short_steps Server c.args.script.now ++ close_step ∷ [])
+    can_be_run c.in_ok-closed.closed (short_steps c.args.tested c.args.script.now ++ close_step ∷ [])
     (c.in_ok-closed.ensures.steps ∙ ap (λ (l : List Step). l ++ close_step ∷ [])
     (c.in_ok-case.ensures.steps ∙ c.in_ok-steps.ensures))
-    (c.in_ok-closed.ensures.chop ∙ c.in_ok-case.ensures.whole) (closed_steps_fit Server c.args.script.now c.requires)
+    (c.in_ok-closed.ensures.chop ∙ c.in_ok-case.ensures.whole) (closed_steps_fit c.args.tested c.args.script.now c.requires)
