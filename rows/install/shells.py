@@ -102,7 +102,10 @@ def zsh_offers(prefix):
 
 def at_terminal(words, typed, notes, ends, **variables):
     """Runs a shell at a terminal of its own, types once it is ready, and gives its notes with so many ends."""
-    ours, its = pty.openpty()
+    try:
+        ours, its = pty.openpty()
+    except OSError:
+        raise Lacking("terminal") from None
     env = {**os.environ, "TERM": "dumb", "LC_ALL": "C.UTF-8", **variables}
     shell = subprocess.Popen(words, stdin=its, stdout=its, stderr=its, env=env, start_new_session=True)
     os.close(its)
