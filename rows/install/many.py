@@ -1,0 +1,105 @@
+"""Tests of the commands of `docs/MANY.md`, by the program as it was installed, against echoes of its own."""
+
+import os
+import re
+import socket
+import subprocess
+import tempfile
+from contextlib import contextmanager
+from pathlib import Path
+
+from place import ROOT, Lacking, cases, run
+
+PAGE = ROOT / "docs/MANY.md"
+
+
+def blocks():
+    """The commands of the page: of parts, of their totals, of servers, of machines and of a matrix."""
+    return re.findall(r"(?ms)^```sh\n(.*?)^```$", PAGE.read_text())
+
+
+def passed():
+    """The total where the cases of group 2 pass."""
+    return f"{len(cases('2.*'))} pass, 0 loose, 0 fail\n"
+
+
+def free_port():
+    with socket.socket() as listener:
+        listener.bind(("127.0.0.1", 0))
+        return listener.getsockname()[1]
+
+
+@contextmanager
+def echo(prefix):
+    """An echo at a free port, for the cases of group 2 once."""
+    port = free_port()
+    words = [prefix / "bin/wst", "serve", "--timeout", "20", f"127.0.0.1:{port}", str(len(cases("2.*")))]
+    server = subprocess.Popen(words, stdin=subprocess.DEVNULL, stdout=subprocess.PIPE, text=True)
+    try:
+        assert server.stdout.readline() == f"listening on 127.0.0.1:{port}\n"
+        yield port
+    finally:
+        server.kill()
+        server.communicate()
+
+
+def run_block(prefix, folder, text, **variables):
+    """Runs commands with the installed program on the path, for the cases of group 2 in place of all."""
+    text = text.replace("wst cases |", "wst cases '2.*' |").replace("-n30", "-n4").replace("-N30", "-N4")
+    path = f"{prefix}/bin:{os.environ['PATH']}"
+    return run("sh", "-c", text, folder=folder, PATH=path, HOME=folder, **variables)
+
+
+def parts_and_their_totals(prefix):
+    parts, totals, *_ = blocks()
+    with tempfile.TemporaryDirectory() as folder, echo(prefix) as port:
+        ran = run_block(prefix, folder, parts.replace(":9001", f":{port}"))
+        assert ran == (0, "", ""), ran
+        ran = run_block(prefix, folder, totals)
+        assert ran == (0, passed(), ""), ran
+        ran = run_block(prefix, folder, f"{in_order()} | sed 's/ .*//'")
+        assert ran == (0, "".join(f"{case}\n" for case in cases("2.*")), ""), ran
+
+
+def in_order():
+    """The command between the others that brings cases into their order."""
+    return re.search(r"by `(grep -v [^`]*)`", PAGE.read_text())[1]
+
+
+def a_fail_in_the_totals(prefix):
+    with tempfile.TemporaryDirectory() as folder:
+        lines = "2.5 PASS\n1 pass, 0 loose, 0 fail\n6.4.1 LOOSE LateEnd\n7.1.1 FAIL Close\n0 pass, 1 loose, 1 fail\n"
+        (Path(folder) / "lines").write_text(lines)
+        ran = run_block(prefix, folder, blocks()[1])
+        assert ran == (1, "1 pass, 1 loose, 1 fail\n", ""), ran
+
+
+def servers(prefix):
+    text = blocks()[2]
+    with tempfile.TemporaryDirectory() as folder, echo(prefix) as one, echo(prefix) as other:
+        text = text.replace(":9001", f":{one}").replace(":9002", f":{other}").replace('"$1" >', '"$1" "2.*" >')
+        status, out, faults = run_block(prefix, folder, text)
+        wanted = sorted(f"127.0.0.1:{port} {passed()}" for port in (one, other))
+        assert (status, sorted(out.splitlines(True)), faults) == (0, wanted, ""), (status, out, faults)
+
+
+def machines(prefix):
+    if run("sh", "-c", "command -v parallel")[0] != 0:
+        raise Lacking("parallel")
+    _, totals, _, machines, _ = blocks()
+    with tempfile.TemporaryDirectory() as folder, echo(prefix) as port:
+        status, out, _ = run_block(prefix, folder, machines.replace(":9001", f":{port}"))
+        assert (status, out) == (0, ""), (status, out)
+        ran = run_block(prefix, folder, totals)
+        assert ran == (0, passed(), ""), ran
+
+
+def a_matrix(prefix):
+    text = blocks()[4]
+    with tempfile.TemporaryDirectory() as folder, echo(prefix) as port:
+        text = text.replace("./server 9001 & sleep 1; ", "").replace(":9001", f":{port}")
+        status, out, faults = run_block(prefix, folder, text, GROUP="2")
+        assert (status, out.splitlines(True)[-1], faults) == (0, passed(), ""), (status, out, faults)
+
+
+TESTS = [parts_and_their_totals, a_fail_in_the_totals, servers, machines, a_matrix]
