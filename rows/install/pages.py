@@ -37,7 +37,7 @@ def parts_of(text):
     """The paragraphs of a help, and its arguments, written as a manual has them."""
     text = re.sub(r"(?m)^  -h, --help\n.*\n\n?", "", text)
     text = re.sub(r"(?m)^(Usage: |Arguments:|Options:\n)", "", text)
-    text = re.sub(r"(?m)^( {2,6}[-\[<][^ \n]*(?: <\w+>)?(?:\.\.\.)?)$", named, text)
+    text = re.sub(r"(?m)^( {2,6}[-\[<][^ \n]*(?: <[^>]+>)?(?:\.\.\.)?)$", named, text)
     return [part for part in re.split(r"\n\n", text.replace("<", " ").replace(">", " ")) if part.strip()]
 
 

@@ -54,7 +54,7 @@ def option_spec(option):
     """An option. One that ends a run stands alone; one with a value may be given again, as some may be."""
     help = plainly(option.help)
     if option.value:
-        return quoted(f"*{option.name}=[{help}]:{option.value}:{action(option)}")
+        return quoted(f"*{option.name}=[{help}]:{plainly(option.value)}:{action(option)}")
     if option.short:
         return f"'(- *)'{{{option.short},{option.name}}}{quoted(f'[{help}]')}"
     return quoted(f"{option.name}[{help}]")
@@ -62,7 +62,7 @@ def option_spec(option):
 
 def argument_spec(argument):
     front = "*" if argument.is_many else ""
-    return quoted(f"{front}:{argument.value}:{action(argument)}")
+    return quoted(f"{front}:{plainly(argument.value)}:{action(argument)}")
 
 
 def action(argument):
