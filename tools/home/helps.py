@@ -5,7 +5,7 @@ import subprocess
 from dataclasses import dataclass
 
 ENTRY = re.compile(r"^ {2,6}(?:(-\w), )?(--[\w-]+)(?: <([^>]+)>)?(?:  +(.*))?$")
-WORD = re.compile(r"^ {2}[<\[](\w+)[>\]](\.\.\.)?(?:  +(.*))?$")
+WORD = re.compile(r"^ {2}[<\[]([^>\]]+)[>\]](\.\.\.)?(?:  +(.*))?$")
 LISTED = re.compile(r"^  (\S+)  +(.*)$")
 VALUES = re.compile(r"\s*\[possible values: ([^\]]*)\]")
 NAMED = re.compile(r"`([a-z]{2,})`")
@@ -17,7 +17,8 @@ class Failure(Exception):
 
 @dataclass(frozen=True)
 class Argument:
-    """A word of a command, or an option. `words` are what it may be, where these are few."""
+    """A word of a command, or an option. `words` are what it may be, as far as help names that: of an option as possible
+    values, of a word of the command in marks of code."""
 
     name: str
     short: str
@@ -118,20 +119,14 @@ def arguments_in(lines, form):
 
 
 def argument_of(match, text):
+    if match.re is WORD:
+        return Argument(match[1], "", match[1], bool(match[2]), text, tuple(NAMED.findall(text)))
     values = VALUES.search(text)
-    words = values[1].split(", ") if values else NAMED.findall(text)
-    if match.re is ENTRY:
-        value = match[3] or ""
-        return Argument(match[2], match[1] or "", value, False, text, tuple(words if value else ()))
-    return Argument(match[1], "", match[1], bool(match[2]), text, tuple(words))
+    words = values[1].split(", ") if values else ()
+    return Argument(match[2], match[1] or "", match[3] or "", False, text, tuple(words))
 
 
 def without_edges(lines):
     """The lines without empty ones at either end."""
     full = [n for n, line in enumerate(lines) if line.strip()]
     return lines[full[0] : full[-1] + 1] if full else []
-
-
-def plain(text):
-    """A line of help without the marks of words that are to be written as they stand, and without its values."""
-    return VALUES.sub("", text).replace("`", "")

@@ -1,5 +1,7 @@
 """The completion for zsh."""
 
+import re
+
 HEAD = """#compdef wst
 # Completion of wst {version} for zsh: commands, options, words of TARGET and IDs of cases.
 
@@ -73,7 +75,8 @@ def action(argument):
 
 
 def plainly(text):
-    return text.replace("\\", "\\\\").replace("[", "\\[").replace("]", "\\]").replace(":", "\\:")
+    """Text as it stands in the parts of a specification, without marks of code."""
+    return re.sub(r"[\\\[\]:]", r"\\\g<0>", text.replace("`", ""))
 
 
 def quoted(text):
