@@ -84,8 +84,8 @@ def servers(prefix):
 
 
 def machines(prefix):
-    if run("sh", "-c", "command -v parallel")[0] != 0:
-        raise Lacking("parallel")
+    if "GNU parallel" not in run("parallel", "--version")[1]:
+        raise Lacking("GNU parallel")
     _, totals, _, machines, _ = blocks()
     with tempfile.TemporaryDirectory() as folder, echo(prefix) as port:
         status, out, _ = run_block(prefix, folder, machines.replace(":9001", f":{port}"))

@@ -17,8 +17,8 @@ class Failure(Exception):
 
 @dataclass(frozen=True)
 class Argument:
-    """A word of a command, or an option. `words` are what it may be, as far as help names that: of an option its possible
-    values, of a word of the command what stands in marks of code."""
+    """A word of a command, or an option. `words` are what it may be, as far as help names that: of an option its
+    possible values, of a word of the command what stands in marks of code."""
 
     name: str
     short: str
