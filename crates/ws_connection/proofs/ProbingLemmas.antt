@@ -1,4 +1,4 @@
--- What is recorded of a connection to a server, turn by turn.
+-- What is recorded of a connection to a tested end, turn by turn.
 use Rattle.std.proofs.Common.{◌≡◌, ap₂, ℕ, ◌+◌, ◌-◌, ◌<◌, ◌≤◌, ◌⊎◌, ◌↔◌, inl, inr, List, [], ◌∷◌, ◌++◌, length, length-append, get_or, take, drop, Bool, true, false, ◌||◌, Option, refl, sym, ap, ◌∙◌, subst, arith, append_assoc, append-nil, take_all, take-append-drop}
 use Rattle.std.proofs.lemmas.List.{length-take-le, take-append-le, take_more, length-drop, map-append}
 use Rattle.std.proofs.lemmas.List.Folds.{concat-append}
@@ -8,29 +8,30 @@ use Rattle.std.proofs.KnownBytes.{Appends-nil, Appends-trans, Appends-kept, Cons
 use Rattle.std.specs.Prelude.{None, Some, map}
 use Rattle.std.specs.List.{AllZip, concat}
 use Rattle.std.specs.Io.KnownBytes.{Appends, Consumes, IsAtEnd, Keeps}
-use Rattle.ws_session.specs.Exchange.{SessionValue}
+use Rattle.ws_session.specs.Exchange.{SessionValue, is_over}
 use Rattle.ws_scripts.specs.declared.script.Chop.{Chop}
 use Rattle.ws_scripts.specs.declared.script.Step.{Step}
 use Rattle.ws_scripts.specs.declared.transcript.Ended.{Ended}
 use Rattle.ws_scripts.specs.declared.transcript.Ended.TheVariants.{Tester, Peer, Broken}
 use Rattle.ws_scripts.specs.declared.transcript.Turn.{Turn}
 use Rattle.ws_scripts.specs.declared.transcript.Transcript.{Transcript}
-use Rattle.ws_wire.specs.declared.role.Role.TheVariants.{Server}
-use Rattle.ws_suite.specs.Evidence.{sent_turns}
+use Rattle.ws_wire.specs.declared.role.Role.{Role}
+use Rattle.ws_wire.specs.declared.role.Role.TheVariants.{Client, Server}
+use Rattle.ws_suite.specs.Evidence.{other_role, sent_turns}
 use Rattle.ws_suite.specs.Growing.{AreTurnsAnswered, new_turn, turn_with_got}
 use Rattle.ws_scripts.specs.Scripts.{ArePieces, turn_bytes}
 use Rattle.ws_peer.specs.Runs.{with_finish}
 use Rattle.ws_connection.specs.ConnectionValues.{InputValue, ConnectionRun, ConnectionValue, OutputValue}
-use Rattle.ws_connection.specs.Connections.{ReadsBytes, WritesBytes, HasWorked, is_open, waited_in_vain, read_failed}
-use Rattle.ws_connection.specs.Standings.{HasHeard, HasNoGotFault, Stands, standing_by}
+use Rattle.ws_connection.specs.Connections.{IsReady, ReadsBytes, WritesBytes, HasWorked, is_open, waited_in_vain, read_failed}
+use Rattle.ws_connection.specs.Standings.{EndsRun, HalfCloses, HasHeard, MayGoOn, Stands, half_closes, is_final, standing_by}
 use Rattle.ws_connection.specs.declared.incoming.Incoming.{Incoming}
 use Rattle.ws_connection.specs.declared.incoming.Incoming.TheVariants.{Unread, Open, AtEnd, Waited as WaitedState, Failed as FailedState}
 use Rattle.ws_connection.specs.declared.standing.Standing.{Standing}
-use Rattle.ws_connection.specs.declared.standing.Standing.TheVariants.{Going, Closed, Faulty}
+use Rattle.ws_connection.specs.declared.standing.Standing.TheVariants.{Going}
 use Rattle.ws_connection.specs.declared.probing.turn.TurnStop.{TurnStop}
-use Rattle.ws_connection.specs.declared.probing.turn.TurnStop.TheVariants.{IsThere, Fault, Waited, End, Failed, Budget}
-use Rattle.ws_connection.specs.Probing.{AreWaitedFor, EndsScript, EndsTurn, HasGotFirst, HasSentOf, MayFollow, all_got, all_sent, max_piece}
-use Rattle.ws_connection.specs.InnerProbeTurns.{GoesOnOrEnds, IsGotAtStop, IsReadStop, IsReady, IsStopBefore, IsTurnStop, ReadsPiece, ReadsTurn, Records, RunsTurn, SendsTurn, StopsBefore, end_of_turn, is_closed}
+use Rattle.ws_connection.specs.declared.probing.turn.TurnStop.TheVariants.{IsThere, Final, Waited, End, Failed, Budget}
+use Rattle.ws_connection.specs.Probing.{AreWaitedFor, EndsScript, EndsTurn, HasAllCome, HasGotFirst, HasSentOf, MayFollow, Records, all_got, all_sent, max_piece}
+use Rattle.ws_connection.specs.InnerProbeTurns.{GoesOnOrEnds, IsGotAtStop, IsReadStop, IsStopBefore, IsTurnStop, ReadsPiece, ReadsTurn, RunsTurn, SendsTurn, StopsBefore, end_of_turn}
 use Rattle.ws_connection.specs.InnerProbeTurns.{AnswersBehind, HasSeen, RunValue, SeesRun, SeesTurn, stop_at, then_turn}
 use Rattle.ws_connection.specs.Connections.{IsNewConnection, MayWrite, ReadsHeadOver, brings, takes_part}
 use Rattle.ws_connection.specs.Probing.{AnswersProbe, probe_nonce}
@@ -41,7 +42,7 @@ use Rattle.ws_connection.specs.declared.response_head.ResponseDecision.TheVarian
 use Rattle.ws_connection.specs.declared.probe_end.Probe.{Probe}
 use Rattle.ws_connection.specs.declared.probe_end.Probe.TheVariants.{Ran, Refused, NoConnection}
 use Rattle.ws_frame.specs.Watching.{AppendsFront}
-use Rattle.ws_connection.proofs.StandingLemmas.{OneList, closed_is, closed_is_over, going_not_closed, heard_stands, no_fault, one_standing}
+use Rattle.ws_connection.proofs.StandingLemmas.{OneList, closes_is_over, going_not_closed, going_of, heard_stands, not_over_goes, so_stands, stands_so}
 
 -- a run between two links
 abbrev pub between : ConnectionValue → ConnectionValue → ConnectionRun
@@ -137,23 +138,23 @@ piece_broken pieces bytes i taken sent after x y z h w e fails input ended all =
 -- ---- what is read in a turn
 
 -- what was read so far in a turn; a fault came with the last piece, if there is one
-pub record ReadsSoFar (past old_got new_got : List ℕ) (client : SessionValue) (run : ConnectionRun) : Type 0 where
+pub record ReadsSoFar (tested : Role) (past old_got new_got : List ℕ) (client : SessionValue) (run : ConnectionRun) : Type 0 where
   pub read : List ℕ
   pub grown : new_got ≡ old_got ++ read
   pub has_got : ReadsBytes read run
   pub spent : run.old.input.allowance ≡ length read + run.new.input.allowance
   pub held : Keeps run.old.output.held run.new.output.held
   pub failed : run.new.output.failed ≡ run.old.output.failed
-  pub closes : run.new.output.ended ≡ true → standing_by client.status ≡ Closed
-  pub heard : HasHeard client (past ++ new_got)
+  pub closes : run.new.output.ended ≡ true → half_closes tested (standing_by client.status) ≡ true
+  pub heard : HasHeard (other_role tested) client (past ++ new_got)
   pub before : List ℕ
   pub last : List ℕ
   pub parts : past ++ new_got ≡ before ++ last
   pub bound : length last ≤ max_piece
-  pub none_before : HasNoGotFault before
+  pub none_before : MayGoOn tested before
 
-pub nothing_read : (past got : List ℕ) (client : SessionValue) (x : ConnectionValue) → x.output.ended ≡ false → HasHeard client (past ++ got) → HasNoGotFault (past ++ got) → ReadsSoFar past got got client (between x x)
-nothing_read past got client x both heard none = record {
+pub nothing_read : (tested : Role) (past got : List ℕ) (client : SessionValue) (x : ConnectionValue) → x.output.ended ≡ false → HasHeard (other_role tested) client (past ++ got) → MayGoOn tested (past ++ got) → ReadsSoFar tested past got got client (between x x)
+nothing_read tested past got client x both heard none = record {
   read = [];
   grown = sym (append-nil got);
   has_got = Consumes-nil x.input.left;
@@ -175,25 +176,25 @@ kept_after (Some xs) None c h k = absurd h
 kept_after (Some xs) (Some ys) None h k = absurd k
 kept_after (Some xs) (Some ys) (Some zs) h k = k ∙ h
 
-ended_then : (b e : Bool) (s : Standing) → (b ≡ true → s ≡ Closed) → e ≡ (b || is_closed s) → e ≡ true → s ≡ Closed
-ended_then true e s h is now = h refl
-ended_then false e s h is now = closed_is s (sym is ∙ now)
+ended_then : (tested : Role) (b e : Bool) (s : Standing) → (b ≡ true → half_closes tested s ≡ true) → e ≡ (b || half_closes tested s) → e ≡ true → half_closes tested s ≡ true
+ended_then tested true e s h is now = h refl
+ended_then tested false e s h is now = sym is ∙ now
 
-ended_where : (b e : Bool) (s : Standing) → e ≡ (b || is_closed s) → s ≡ Closed → e ≡ true
-ended_where true e s is closed = is
-ended_where false e s is closed = is ∙ ap (λ (t : Standing). is_closed t) closed
+ended_where : (tested : Role) (b e : Bool) (s : Standing) → e ≡ (b || half_closes tested s) → half_closes tested s ≡ true → e ≡ true
+ended_where tested true e s is closed = is
+ended_where tested false e s is closed = is ∙ closed
 
--- the own direction is ended just where what was got has a close
-half_closed : OneList → (b e : Bool) (client : SessionValue) (got : List ℕ) → (b ≡ true → standing_by client.status ≡ Closed) → e ≡ (b || is_closed (standing_by client.status)) → HasHeard client got → ((e ≡ true) ↔ Stands Closed got)
-half_closed one b e client got h is heard = (
-  λ now. subst (λ (s : Standing). Stands s got) (ended_then b e (standing_by client.status) h is now) (heard_stands client got heard),
-  λ closed. ended_where b e (standing_by client.status) is (one_standing one (standing_by client.status) Closed got (heard_stands client got heard) closed),
+-- the own direction is ended just where what was got asks for that
+half_closed : OneList → (tested : Role) (b e : Bool) (client : SessionValue) (got : List ℕ) → (b ≡ true → half_closes tested (standing_by client.status) ≡ true) → e ≡ (b || half_closes tested (standing_by client.status)) → HasHeard (other_role tested) client got → ((e ≡ true) ↔ HalfCloses tested got)
+half_closed one tested b e client got h is heard = (
+  λ now. so_stands half_closes true tested (standing_by client.status) got (ended_then tested b e (standing_by client.status) h is now) (heard_stands (other_role tested) client got heard),
+  λ closed. ended_where tested b e (standing_by client.status) is (stands_so one half_closes true tested (standing_by client.status) got (heard_stands (other_role tested) client got heard) closed),
 )
 
 -- no more is read
-pub stopped_before : OneList → (waits : Bool) (stop : TurnStop) (past old_got got : List ℕ) (client : SessionValue) (x y z : ConnectionValue) → is_open y.input.state ≡ true → ReadsSoFar past old_got got client (between x y)
-    → StopsBefore (Some stop) waits (standing_by client.status) (between y z) → ReadsTurn waits stop past old_got got client (between x z)
-stopped_before one waits stop past old_got got client x y z going h s = record {
+pub stopped_before : OneList → (tested : Role) (waits : Bool) (stop : TurnStop) (past old_got got : List ℕ) (client : SessionValue) (x y z : ConnectionValue) → is_open y.input.state ≡ true → ReadsSoFar tested past old_got got client (between x y)
+    → StopsBefore tested (Some stop) waits (standing_by client.status) (between y z) → ReadsTurn tested waits stop past old_got got client (between x z)
+stopped_before one tested waits stop past old_got got client x y z going h s = record {
   read = h.read;
   grown = h.grown;
   has_got = subst (λ (i : InputValue). Consumes x.input.left i.left h.read) (sym s.input) h.has_got;
@@ -203,30 +204,30 @@ stopped_before one waits stop past old_got got client x y z going h s = record {
   heard = h.heard;
   stops = stops stop s.stops;
   got = got_at stop s.stops;
-  half_closed = half_closed one y.output.ended z.output.ended client (past ++ got) h.closes s.ended h.heard;
+  half_closed = half_closed one tested y.output.ended z.output.ended client (past ++ got) h.closes s.ended h.heard;
 }
   where
     going_there : is_open z.input.state ≡ true
     going_there = ap (λ (i : InputValue). is_open i.state) s.input ∙ going
 
-    stands : Stands (standing_by client.status) (past ++ got)
-    stands = heard_stands client (past ++ got) h.heard
+    stands : Stands (other_role tested) (standing_by client.status) (past ++ got)
+    stands = heard_stands (other_role tested) client (past ++ got) h.heard
 
-    stops : (stop : TurnStop) → IsStopBefore (Some stop) waits (standing_by client.status) z → IsTurnStop waits stop z
+    stops : (stop : TurnStop) → IsStopBefore tested (Some stop) waits (standing_by client.status) z → IsTurnStop waits stop z
     stops IsThere (w, is, works) = (w, works, going_there)
-    stops Fault e = tt
+    stops Final e = tt
     stops Waited e = absurd e
     stops End e = absurd e
     stops Failed e = absurd e
     stops Budget (none, used) = used
 
-    got_at : (stop : TurnStop) → IsStopBefore (Some stop) waits (standing_by client.status) z → IsGotAtStop stop (past ++ got)
-    got_at IsThere (w, is, works) = subst (λ (s : Standing). Stands s (past ++ got)) is stands
-    got_at Fault e = record { faulty = subst (λ (s : Standing). Stands s (past ++ got)) e stands; before = h.before; last = h.last; parts = h.parts; bound = h.bound; none_before = h.none_before }
+    got_at : (stop : TurnStop) → IsStopBefore tested (Some stop) waits (standing_by client.status) z → IsGotAtStop tested stop (past ++ got)
+    got_at IsThere (w, is, works) = subst (λ (s : Standing). Stands (other_role tested) s (past ++ got)) is stands
+    got_at Final e = record { final = so_stands is_final true tested (standing_by client.status) (past ++ got) e stands; before = h.before; last = h.last; parts = h.parts; bound = h.bound; none_before = h.none_before }
     got_at Waited e = absurd e
     got_at End e = absurd e
     got_at Failed e = absurd e
-    got_at Budget (none, used) = no_fault (standing_by client.status) (past ++ got) none stands
+    got_at Budget (none, used) = so_stands is_final false tested (standing_by client.status) (past ++ got) none stands
 
 -- a read that brought nothing
 pub no_piece : (got room : List ℕ) (seen : RunValue) (stop : Option TurnStop) (count : ℕ) (x y : ConnectionValue) → count ≡ 0 → stop ≡ stop_at y.input.state → ReadsBytes (take count room) (between x y)
@@ -239,7 +240,7 @@ no_piece got room seen stop count x y none is has spends brought output at_end w
   has_got = subst (λ (n : ℕ). ReadsBytes (take n room) (between x y)) none has;
   spent = subst (λ (n : ℕ). x.input.allowance ≡ n + y.input.allowance) none spends;
   output = output;
-  seen = λ past turn h. subst (λ (l : List ℕ). HasSeen (past ++ record { sent = turn.sent; got = l } ∷ []) seen) (sym (append-nil turn.got)) h;
+  seen = λ tested past turn h. subst (λ (l : List ℕ). HasSeen tested (past ++ record { sent = turn.sent; got = l } ∷ []) seen) (sym (append-nil turn.got)) h;
   over = λ e. refl;
   waited = waited;
   stops = subst (λ (o : Option TurnStop). IsReadStop o [] y) (sym is) (pick y.input.state refl (subst (λ (n : ℕ). brings n y.input.state) none brought));
@@ -269,11 +270,11 @@ still_open got next seen after z w read_stop e r =
     stops.0
 
 -- a read, where what was got so far has no fault
-module _ (one : OneList) (past old_got got next : List ℕ) (seen after : RunValue) (x y z w : ConnectionValue) (waits : Bool) (read_stop : Option TurnStop)
-    (h : ReadsSoFar past old_got got seen.tester (between x y)) (s : StopsBefore None waits (standing_by seen.tester.status) (between y z)) (r : ReadsPiece read_stop got next seen after (between z w))
-    (heard_after : HasHeard after.tester (past ++ next)) where
-  none_now : HasNoGotFault (past ++ got)
-  none_now = no_fault (standing_by seen.tester.status) (past ++ got) s.stops.0 (heard_stands seen.tester (past ++ got) h.heard)
+module _ (one : OneList) (tested : Role) (past old_got got next : List ℕ) (seen after : RunValue) (x y z w : ConnectionValue) (waits : Bool) (read_stop : Option TurnStop)
+    (h : ReadsSoFar tested past old_got got seen.tester (between x y)) (s : StopsBefore tested None waits (standing_by seen.tester.status) (between y z)) (r : ReadsPiece read_stop got next seen after (between z w))
+    (heard_after : HasHeard (other_role tested) after.tester (past ++ next)) where
+  none_now : MayGoOn tested (past ++ got)
+  none_now = so_stands is_final false tested (standing_by seen.tester.status) (past ++ got) s.stops.0 (heard_stands (other_role tested) seen.tester (past ++ got) h.heard)
 
   all_got_now : past ++ next ≡ (past ++ got) ++ r.piece
   all_got_now = ap (λ (l : List ℕ). past ++ l) r.grown ∙ sym (append_assoc past got r.piece)
@@ -293,15 +294,15 @@ module _ (one : OneList) (past old_got got next : List ℕ) (seen after : RunVal
   grown_after : next ≡ old_got ++ (h.read ++ r.piece)
   grown_after = r.grown ∙ ap (λ (l : List ℕ). l ++ r.piece) h.grown ∙ append_assoc old_got h.read r.piece
 
-  closed_to_w : w.output.ended ≡ true → standing_by seen.tester.status ≡ Closed
-  closed_to_w e = ended_then y.output.ended z.output.ended (standing_by seen.tester.status) h.closes s.ended (sym (ap (λ (o : OutputValue). o.ended) r.output) ∙ e)
+  closed_to_w : w.output.ended ≡ true → half_closes tested (standing_by seen.tester.status) ≡ true
+  closed_to_w e = ended_then tested y.output.ended z.output.ended (standing_by seen.tester.status) h.closes s.ended (sym (ap (λ (o : OutputValue). o.ended) r.output) ∙ e)
 
-  closes_after : w.output.ended ≡ true → standing_by after.tester.status ≡ Closed
+  closes_after : w.output.ended ≡ true → half_closes tested (standing_by after.tester.status) ≡ true
   closes_after e =
       let closed = closed_to_w e in
-      ap (λ (v : SessionValue). standing_by v.status) (r.over (closed_is_over seen.tester.status closed)) ∙ closed
+      ap (λ (v : SessionValue). half_closes tested (standing_by v.status)) (r.over (closes_is_over tested seen.tester.status closed)) ∙ closed
 
-  pub more_read : ReadsSoFar past old_got next after.tester (between x w)
+  pub more_read : ReadsSoFar tested past old_got next after.tester (between x w)
   more_read = record {
     read = h.read ++ r.piece;
     grown = grown_after;
@@ -318,7 +319,7 @@ module _ (one : OneList) (past old_got got next : List ℕ) (seen after : RunVal
     none_before = none_now;
   }
 
-  pub stopped_at_read : (stop : TurnStop) → read_stop ≡ Some stop → ReadsTurn waits stop past old_got next after.tester (between x w)
+  pub stopped_at_read : (stop : TurnStop) → read_stop ≡ Some stop → ReadsTurn tested waits stop past old_got next after.tester (between x w)
   stopped_at_read stop e = record {
     read = h.read ++ r.piece;
     grown = grown_after;
@@ -330,10 +331,10 @@ module _ (one : OneList) (past old_got got next : List ℕ) (seen after : RunVal
     stops = stops stop stopped;
     got = got_at stop stopped;
     half_closed = (
-      λ now. subst (λ (t : Standing). Stands t (past ++ next)) (closes_after now) (heard_stands after.tester (past ++ next) heard_after),
+      λ now. so_stands half_closes true tested (standing_by after.tester.status) (past ++ next) (closes_after now) (heard_stands (other_role tested) after.tester (past ++ next) heard_after),
       λ closed. ap (λ (o : OutputValue). o.ended) r.output
-          ∙ ended_where y.output.ended z.output.ended (standing_by seen.tester.status) s.ended
-          (one_standing one (standing_by seen.tester.status) Closed (past ++ got) (heard_stands seen.tester (past ++ got) h.heard) (subst (λ (l : List ℕ). Stands Closed l) (same_got stop stopped) closed)),
+          ∙ ended_where tested y.output.ended z.output.ended (standing_by seen.tester.status) s.ended
+          (stands_so one half_closes true tested (standing_by seen.tester.status) (past ++ got) (heard_stands (other_role tested) seen.tester (past ++ got) h.heard) (subst (λ (l : List ℕ). HalfCloses tested l) (same_got stop stopped) closed)),
     );
   }
     where
@@ -342,7 +343,7 @@ module _ (one : OneList) (past old_got got next : List ℕ) (seen after : RunVal
 
       nothing : (stop : TurnStop) → IsReadStop (Some stop) r.piece w → r.piece ≡ []
       nothing IsThere k = absurd k
-      nothing Fault k = absurd k
+      nothing Final k = absurd k
       nothing Waited k = k.1
       nothing End k = k.1
       nothing Failed k = k.1
@@ -351,20 +352,20 @@ module _ (one : OneList) (past old_got got next : List ℕ) (seen after : RunVal
       same_got : (stop : TurnStop) → IsReadStop (Some stop) r.piece w → past ++ next ≡ past ++ got
       same_got stop k = all_got_now ∙ ap (λ (l : List ℕ). (past ++ got) ++ l) (nothing stop k) ∙ append-nil (past ++ got)
 
-      none_after : (stop : TurnStop) → IsReadStop (Some stop) r.piece w → HasNoGotFault (past ++ next)
-      none_after stop k = subst (λ (l : List ℕ). HasNoGotFault l) (sym (same_got stop k)) none_now
+      none_after : (stop : TurnStop) → IsReadStop (Some stop) r.piece w → MayGoOn tested (past ++ next)
+      none_after stop k = subst (λ (l : List ℕ). MayGoOn tested l) (sym (same_got stop k)) none_now
 
       stops : (stop : TurnStop) → IsReadStop (Some stop) r.piece w → IsTurnStop waits stop w
       stops IsThere k = absurd k
-      stops Fault k = absurd k
+      stops Final k = absurd k
       stops Waited k = k.0
       stops End k = k.0
       stops Failed k = k.0
       stops Budget k = absurd k
 
-      got_at : (stop : TurnStop) → IsReadStop (Some stop) r.piece w → IsGotAtStop stop (past ++ next)
+      got_at : (stop : TurnStop) → IsReadStop (Some stop) r.piece w → IsGotAtStop tested stop (past ++ next)
       got_at IsThere k = absurd k
-      got_at Fault k = absurd k
+      got_at Final k = absurd k
       got_at Waited k = none_after Waited k
       got_at End k = none_after End k
       got_at Failed k = none_after Failed k
@@ -372,13 +373,15 @@ module _ (one : OneList) (past old_got got next : List ℕ) (seen after : RunVal
 
 -- ---- how a turn ends
 
-going_is_open : OneList → (got : List ℕ) (ended : Bool) → ((ended ≡ true) ↔ Stands Closed got) → Stands Going got → ended ≡ false
-going_is_open one got false h stands = refl
-going_is_open one got true h stands = absurd (going_not_closed one got stands (h.0 refl))
+going_is_open : OneList → (tested : Role) (got : List ℕ) (ended : Bool) → ((ended ≡ true) ↔ HalfCloses tested got) → Stands (other_role tested) Going got → ended ≡ false
+going_is_open one tested got false h stands = refl
+going_is_open one tested got true h stands = absurd (going_not_closed one tested got stands (h.0 refl))
 
-going_of : (got : List ℕ) → ((false ≡ true) ↔ Stands Closed got) → HasNoGotFault got → Stands Going got
-going_of got h (inl going) = going
-going_of got h (inr closed) = absurd (let wrong : false ≡ true = h.1 closed in cc)
+open_works : (state : Incoming) → is_open state ≡ true → read_failed state ≡ false
+open_works FailedState e = absurd cc
+open_works WaitedState e = refl
+open_works AtEnd e = refl
+open_works _ e = refl
 
 waited_is_open : (state : Incoming) → state ≡ WaitedState → is_open state ≡ true
 waited_is_open state e = ap (λ (s : Incoming). is_open s) e
@@ -386,12 +389,13 @@ waited_is_open state e = ap (λ (s : Incoming). is_open s) e
 not_failed : (state at : Incoming) → read_failed at ≡ false → state ≡ at → read_failed state ≡ false
 not_failed state at fine e = ap (λ (s : Incoming). read_failed s) e ∙ fine
 
-pub ends_turn : OneList → (bytes sent got : List ℕ) (failed ended more waits : Bool) (stop : TurnStop) (connection : ConnectionValue) → HasSentOf bytes failed sent → connection.output.failed ≡ failed → connection.output.ended ≡ ended
-    → (more ≡ false → waits ≡ true) → IsTurnStop waits stop connection → IsGotAtStop stop got → ((ended ≡ true) ↔ Stands Closed got) → GoesOnOrEnds (end_of_turn failed ended more stop) bytes more sent got connection
-ends_turn one bytes sent got failed ended more waits stop connection sends is_failed is_ended last stops at closed = pick failed ended more stop sends is_failed is_ended last stops at closed
+pub ends_turn : OneList → (tested : Role) (has_come : Type 0) (bytes sent got : List ℕ) (failed ended more waits : Bool) (stop : TurnStop) (connection : ConnectionValue) → HasSentOf bytes failed sent → connection.output.failed ≡ failed
+    → connection.output.ended ≡ ended → (more ≡ false → waits ≡ false → stop ≡ IsThere → (tested ≡ Client) × has_come) → IsTurnStop waits stop connection → IsGotAtStop tested stop got → ((ended ≡ true) ↔ HalfCloses tested got)
+    → GoesOnOrEnds tested (end_of_turn failed ended more stop) bytes more has_come sent got connection
+ends_turn one tested has_come bytes sent got failed ended more waits stop connection sends is_failed is_ended last stops at closed = pick failed ended more stop sends is_failed is_ended last stops at closed
   where
-    both : (ended : Bool) → connection.output.ended ≡ ended → ((ended ≡ true) ↔ Stands Closed got) → ((connection.output.ended ≡ true) ↔ Stands Closed got)
-    both ended e h = subst (λ (b : Bool). (b ≡ true) ↔ Stands Closed got) (sym e) h
+    both : (ended : Bool) → connection.output.ended ≡ ended → ((ended ≡ true) ↔ HalfCloses tested got) → ((connection.output.ended ≡ true) ↔ HalfCloses tested got)
+    both ended e h = subst (λ (b : Bool). (b ≡ true) ↔ HalfCloses tested got) (sym e) h
 
     begun : (failed : Bool) → HasSentOf bytes failed sent → connection.output.failed ≡ failed → HasSentOf bytes connection.output.failed sent
     begun failed s e = subst (λ (b : Bool). HasSentOf bytes b sent) (sym e) s
@@ -399,19 +403,18 @@ ends_turn one bytes sent got failed ended more waits stop connection sends is_fa
     worked : (at : Incoming) → read_failed at ≡ false → connection.input.state ≡ at → connection.output.failed ≡ false → HasWorked connection
     worked at fine e works = (not_failed connection.input.state at fine e, works)
 
-    some_more : (more : Bool) → (more ≡ false → waits ≡ true) → waits ≡ false → more ≡ true
-    some_more true h e = refl
-    some_more false h e = absurd (let wrong : true ≡ false = sym (h refl) ∙ e in cc)
-
-    pick : (failed ended more : Bool) (stop : TurnStop) → HasSentOf bytes failed sent → connection.output.failed ≡ failed → connection.output.ended ≡ ended → (more ≡ false → waits ≡ true)
-        → IsTurnStop waits stop connection → IsGotAtStop stop got → ((ended ≡ true) ↔ Stands Closed got) → GoesOnOrEnds (end_of_turn failed ended more stop) bytes more sent got connection
-    pick false ended more IsThere s f e l (w, works, flows) at c = (some_more more l w, s, (flows, works, e ∙ going_is_open one got ended c at), at)
+    pick : (failed ended more : Bool) (stop : TurnStop) → HasSentOf bytes failed sent → connection.output.failed ≡ failed → connection.output.ended ≡ ended → (more ≡ false → waits ≡ false → stop ≡ IsThere → (tested ≡ Client) × has_come)
+        → IsTurnStop waits stop connection → IsGotAtStop tested stop got → ((ended ≡ true) ↔ HalfCloses tested got) → GoesOnOrEnds tested (end_of_turn failed ended more stop) bytes more has_come sent got connection
+    pick false ended true IsThere s f e l (w, works, flows) at c = (refl, s, (flows, works, e ∙ going_is_open one tested got ended c at), at)
+    pick false ended false IsThere s f e l (w, works, flows) at c =
+        let (client, come) = l refl w refl in
+        (inr (inr (client, refl, come, s, (open_works connection.input.state flows, works), at)), both ended e c, begun false s f)
     pick true ended more IsThere s f e l (w, works, flows) at c = absurd (let wrong : true ≡ false = sym f ∙ works in cc)
-    pick failed ended more Fault s f e l st at c = (inl at, both ended e c, begun failed s f)
-    pick false false true Waited s f e l st at c = (refl, s, (waited_is_open connection.input.state st, f, e), going_of got c at)
-    pick false false false Waited s f e l st at c = (inr (s, worked WaitedState refl st f, st, at, inl refl), both false e c, begun false s f)
-    pick false true true Waited s f e l st at c = (inr (s, worked WaitedState refl st f, st, at, inr (c.0 refl)), both true e c, begun false s f)
-    pick false true false Waited s f e l st at c = (inr (s, worked WaitedState refl st f, st, at, inr (c.0 refl)), both true e c, begun false s f)
+    pick failed ended more Final s f e l st at c = (inl at, both ended e c, begun failed s f)
+    pick false false true Waited s f e l st at c = (refl, s, (waited_is_open connection.input.state st, f, e), going_of tested got c.1 at)
+    pick false false false Waited s f e l st at c = (inr (inl (s, worked WaitedState refl st f, st, at, inl refl)), both false e c, begun false s f)
+    pick false true true Waited s f e l st at c = (inr (inl (s, worked WaitedState refl st f, st, at, inr (c.0 refl))), both true e c, begun false s f)
+    pick false true false Waited s f e l st at c = (inr (inl (s, worked WaitedState refl st f, st, at, inr (c.0 refl))), both true e c, begun false s f)
     pick true ended more Waited s f e l st at c = ((inr (s, f, inr (inr (inl st))), at), both ended e c, begun true s f)
     pick false ended more End s f e l st at c = ((s, worked AtEnd refl st.0 f, st, at), both ended e c, begun false s f)
     pick true ended more End s f e l st at c = ((inr (s, f, inl st), at), both ended e c, begun true s f)
@@ -420,21 +423,21 @@ ends_turn one bytes sent got failed ended more waits stop connection sends is_fa
     pick false ended more Budget s f e l st at c = ((inl (s, f, inr st), at), both ended e c, begun false s f)
     pick true ended more Budget s f e l st at c = ((inr (s, f, inr (inr (inr st))), at), both ended e c, begun true s f)
 
-pub turn_run : OneList → (bytes past before sent got : List ℕ) (more waits : Bool) (stop : TurnStop) (turn : Turn) (end : Option Ended) (client : SessionValue) (x y z : ConnectionValue) → SendsTurn bytes sent (between x y)
-    → ReadsTurn waits stop past before got client (between y z) → (more ≡ false → waits ≡ true) → turn.sent ≡ sent → turn.got ≡ got → end ≡ end_of_turn z.output.failed z.output.ended more stop
-    → RunsTurn bytes past before more turn end client (between x z)
-turn_run one bytes past before sent got more waits stop turn end client x y z sends reads last s g e = record {
+pub turn_run : OneList → (tested : Role) (has_come : Type 0) (bytes past before sent got : List ℕ) (more waits : Bool) (stop : TurnStop) (turn : Turn) (end : Option Ended) (client : SessionValue) (x y z : ConnectionValue) → SendsTurn bytes sent (between x y)
+    → ReadsTurn tested waits stop past before got client (between y z) → (more ≡ false → waits ≡ false → stop ≡ IsThere → (tested ≡ Client) × has_come) → turn.sent ≡ sent → turn.got ≡ got → end ≡ end_of_turn z.output.failed z.output.ended more stop
+    → RunsTurn tested bytes past before more has_come turn end client (between x z)
+turn_run one tested has_come bytes past before sent got more waits stop turn end client x y z sends reads last s g e = record {
   read = reads.read;
   has_got = subst (λ (i : InputValue). Consumes i.left z.input.left reads.read) sends.input reads.has_got;
   spent = sym (ap (λ (i : InputValue). i.allowance) sends.input) ∙ reads.spent;
   got = g ∙ reads.grown;
   has_put = subst (λ (l : List ℕ). Appends x.output.held z.output.held l) (sym s) (Appends-kept x.output.held y.output.held z.output.held sent sends.has_put reads.held);
-  heard = subst (λ (l : List ℕ). HasHeard client (past ++ l)) (sym g) reads.heard;
+  heard = subst (λ (l : List ℕ). HasHeard (other_role tested) client (past ++ l)) (sym g) reads.heard;
   ends =
-      subst (λ (o : Option Ended). GoesOnOrEnds o bytes more turn.sent (past ++ turn.got) z) (sym e)
-      (subst (λ (l : List ℕ). GoesOnOrEnds (end_of_turn z.output.failed z.output.ended more stop) bytes more l (past ++ turn.got) z) (sym s)
-      (subst (λ (l : List ℕ). GoesOnOrEnds (end_of_turn z.output.failed z.output.ended more stop) bytes more sent (past ++ l) z) (sym g)
-      (ends_turn one bytes sent (past ++ got) z.output.failed z.output.ended more waits stop z
+      subst (λ (o : Option Ended). GoesOnOrEnds tested o bytes more has_come turn.sent (past ++ turn.got) z) (sym e)
+      (subst (λ (l : List ℕ). GoesOnOrEnds tested (end_of_turn z.output.failed z.output.ended more stop) bytes more has_come l (past ++ turn.got) z) (sym s)
+      (subst (λ (l : List ℕ). GoesOnOrEnds tested (end_of_turn z.output.failed z.output.ended more stop) bytes more has_come sent (past ++ l) z) (sym g)
+      (ends_turn one tested has_come bytes sent (past ++ got) z.output.failed z.output.ended more waits stop z
       (subst (λ (b : Bool). HasSentOf bytes b sent) (sym reads.failed) sends.sends) refl refl last reads.stops reads.got reads.half_closed)));
 }
 
@@ -458,16 +461,26 @@ got_first_more first (t ∷ turns) turn h = h
 
 -- ---- what is shown
 
-pub heard_by : (turns : List Turn) (seen : RunValue) → HasSeen turns seen → HasHeard seen.tester (all_got turns)
-heard_by turns seen h = record { role = h.got.same_role; limits = h.got.limits; sent = h.got.sent; exchanged = h.got.exchanged }
+pub heard_by : (tested : Role) (turns : List Turn) (seen : RunValue) → HasSeen tested turns seen → HasHeard (other_role tested) seen.tester (all_got turns)
+heard_by tested turns seen h = record { role = h.got.same_role; limits = h.got.limits; sent = h.got.sent; exchanged = h.got.exchanged }
 
-pub heard_in_turn : (past : List Turn) (sent got : List ℕ) (seen : RunValue) → HasSeen (then_turn past sent got) seen → HasHeard seen.tester (all_got past ++ got)
-heard_in_turn past sent got seen h = subst (λ (l : List ℕ). HasHeard seen.tester l) (got_more past (record { sent = sent; got = got })) (heard_by (then_turn past sent got) seen h)
+pub heard_in_turn : (tested : Role) (past : List Turn) (sent got : List ℕ) (seen : RunValue) → HasSeen tested (then_turn past sent got) seen → HasHeard (other_role tested) seen.tester (all_got past ++ got)
+heard_in_turn tested past sent got seen h = subst (λ (l : List ℕ). HasHeard (other_role tested) seen.tester l) (got_more past (record { sent = sent; got = got })) (heard_by tested (then_turn past sent got) seen h)
+
+-- what was sent has neither a close nor a fault where the tested end isn't over by it
+pub sends_on : (tested : Role) (turns : List Turn) (seen : RunValue) → HasSeen tested turns seen → is_over seen.tested.status ≡ false → Stands tested Going (all_sent turns)
+sends_on tested turns seen h goes =
+    let heard : HasHeard tested seen.tested (all_sent turns) = record { role = h.due.same_role; limits = h.due.limits; sent = h.due.sent; exchanged = h.due.exchanged } in
+    subst (λ (s : Standing). Stands tested s (all_sent turns)) (not_over_goes seen.tested.status goes) (heard_stands tested seen.tested (all_sent turns) heard)
+
+-- which is so whatever was got
+pub same_sent : (past : List Turn) (sent got other : List ℕ) → all_sent (then_turn past sent got) ≡ all_sent (then_turn past sent other)
+same_sent past sent got other = sent_more past (record { sent = sent; got = got }) ∙ sym (sent_more past (record { sent = sent; got = other }))
 
 -- a piece more
-pub seen_more : (past : List Turn) (sent got next piece : List ℕ) (seen after : RunValue) → next ≡ got ++ piece
-    → ((before : List Turn) (turn : Turn) → HasSeen (before ++ turn ∷ []) seen → HasSeen (before ++ turn_with_got turn piece ∷ []) after) → HasSeen (then_turn past sent got) seen → HasSeen (then_turn past sent next) after
-seen_more past sent got next piece seen after e more h = subst (λ (l : List ℕ). HasSeen (then_turn past sent l) after) (sym e) (more past (record { sent = sent; got = got }) h)
+pub seen_more : (tested : Role) (past : List Turn) (sent got next piece : List ℕ) (seen after : RunValue) → next ≡ got ++ piece
+    → ((role : Role) (before : List Turn) (turn : Turn) → HasSeen role (before ++ turn ∷ []) seen → HasSeen role (before ++ turn_with_got turn piece ∷ []) after) → HasSeen tested (then_turn past sent got) seen → HasSeen tested (then_turn past sent next) after
+seen_more tested past sent got next piece seen after e more h = subst (λ (l : List ℕ). HasSeen tested (then_turn past sent l) after) (sym e) (more tested past (record { sent = sent; got = got }) h)
 
 waited_either : (a b c : Bool) → c ≡ (a || b) → a ≡ true → c ≡ true
 waited_either true b c is e = is
@@ -484,19 +497,19 @@ pub waited_on : (x y z w : ConnectionValue) → (x.input.waited ≡ true → y.i
 waited_on x y z w before same is e = waited_either z.input.waited (waited_in_vain w.input.state) w.input.waited is (waited_through x y z before same e)
 
 -- no more is read before a read
-pub sees_before : (waits : Bool) (stop : TurnStop) (standing : Standing) (turns : List Turn) (seen : RunValue) (x y z : ConnectionValue) → HasSeen turns seen → (x.input.waited ≡ true → y.input.waited ≡ true)
-    → StopsBefore (Some stop) waits standing (between y z) → (Some stop ≡ Some IsThere → (turns : List Turn) → HasSeen turns seen → AreTurnsAnswered Server turns) → SeesTurn stop turns seen (between x z)
-sees_before waits stop standing turns seen x y z h before s due = record {
+pub sees_before : (tested : Role) (waits : Bool) (stop : TurnStop) (standing : Standing) (turns : List Turn) (seen : RunValue) (x y z : ConnectionValue) → HasSeen tested turns seen → (x.input.waited ≡ true → y.input.waited ≡ true)
+    → StopsBefore tested (Some stop) waits standing (between y z) → (Some stop ≡ Some IsThere → (turns : List Turn) → HasSeen tested turns seen → AreTurnsAnswered tested turns) → SeesTurn tested stop turns seen (between x z)
+sees_before tested waits stop standing turns seen x y z h before s due = record {
   shown = h;
   due = λ e. due (ap (λ (t : TurnStop). Some t) e) turns h;
   waited_before = waited_through x y z before s.input;
-  waited = λ e. absurd (subst (λ (t : TurnStop). IsStopBefore (Some t) waits standing z) e s.stops);
+  waited = λ e. absurd (subst (λ (t : TurnStop). IsStopBefore tested (Some t) waits standing z) e s.stops);
 }
 
 -- no more is read after a read that brought nothing
-pub sees_after : (stop : TurnStop) (read_stop : Option TurnStop) (got next : List ℕ) (turns : List Turn) (seen after : RunValue) (x y z w : ConnectionValue) → read_stop ≡ Some stop → HasSeen turns after
-    → (x.input.waited ≡ true → y.input.waited ≡ true) → z.input ≡ y.input → ReadsPiece read_stop got next seen after (between z w) → SeesTurn stop turns after (between x w)
-sees_after stop read_stop got next turns seen after x y z w e h before same r = record {
+pub sees_after : (tested : Role) (stop : TurnStop) (read_stop : Option TurnStop) (got next : List ℕ) (turns : List Turn) (seen after : RunValue) (x y z w : ConnectionValue) → read_stop ≡ Some stop → HasSeen tested turns after
+    → (x.input.waited ≡ true → y.input.waited ≡ true) → z.input ≡ y.input → ReadsPiece read_stop got next seen after (between z w) → SeesTurn tested stop turns after (between x w)
+sees_after tested stop read_stop got next turns seen after x y z w e h before same r = record {
   shown = h;
   due = λ there. absurd (subst (λ (t : TurnStop). IsReadStop (Some t) r.piece w) there stopped);
   waited_before = waited_on x y z w before same r.waited;
@@ -510,18 +523,19 @@ sees_after stop read_stop got next turns seen after x y z w e h before same r = 
 
 -- the script goes on where what is due has come, or a read has waited in vain
 goes_on_by : (failed ended more : Bool) (stop : TurnStop) → end_of_turn failed ended more stop ≡ None → (stop ≡ IsThere) ⊎ (stop ≡ Waited)
-goes_on_by failed ended more IsThere e = inl refl
-goes_on_by failed ended more Fault e = absurd cc
+goes_on_by failed ended true IsThere e = inl refl
+goes_on_by failed ended false IsThere e = absurd cc
+goes_on_by failed ended more Final e = absurd cc
 goes_on_by failed ended more Waited e = inr refl
 goes_on_by false ended more End e = absurd cc
 goes_on_by true ended more End e = absurd cc
 goes_on_by failed ended more Failed e = absurd cc
 goes_on_by failed ended more Budget e = absurd cc
 
-pub sees_run : (failed ended more : Bool) (stop : TurnStop) (end : Option Ended) (past : List Turn) (sent got : List ℕ) (turn : Turn) (seen : RunValue) (x y z : ConnectionValue) → end ≡ end_of_turn failed ended more stop → turn.sent ≡ sent
-    → turn.got ≡ got → y.input ≡ x.input → SeesTurn stop (then_turn past sent got) seen (between y z) → SeesRun end (past ++ turn ∷ []) seen (between x z)
-sees_run failed ended more stop end past sent got turn seen x y z is s g same t = record {
-  shown = subst (λ (l : List Turn). HasSeen l seen) turns t.shown;
+pub sees_run : (tested : Role) (failed ended more : Bool) (stop : TurnStop) (end : Option Ended) (past : List Turn) (sent got : List ℕ) (turn : Turn) (seen : RunValue) (x y z : ConnectionValue) → end ≡ end_of_turn failed ended more stop → turn.sent ≡ sent
+    → turn.got ≡ got → y.input ≡ x.input → SeesTurn tested stop (then_turn past sent got) seen (between y z) → SeesRun tested end (past ++ turn ∷ []) seen (between x z)
+sees_run tested failed ended more stop end past sent got turn seen x y z is s g same t = record {
+  shown = subst (λ (l : List Turn). HasSeen tested l seen) turns t.shown;
   follows = λ none. pick (goes_on_by failed ended more stop (sym is ∙ none));
   waited_before = λ e. t.waited_before (ap (λ (i : InputValue). i.waited) same ∙ e);
 }
@@ -529,45 +543,53 @@ sees_run failed ended more stop end past sent got turn seen x y z is s g same t 
     turns : then_turn past sent got ≡ past ++ turn ∷ []
     turns = ap₂ (λ (a b : List ℕ). then_turn past a b) (sym s) (sym g)
 
-    pick : (stop ≡ IsThere) ⊎ (stop ≡ Waited) → AreTurnsAnswered Server (past ++ turn ∷ []) ⊎ (z.input.waited ≡ true)
-    pick (inl there) = inl (subst (λ (l : List Turn). AreTurnsAnswered Server l) turns (t.due there))
+    pick : (stop ≡ IsThere) ⊎ (stop ≡ Waited) → AreTurnsAnswered tested (past ++ turn ∷ []) ⊎ (z.input.waited ≡ true)
+    pick (inl there) = inl (subst (λ (l : List Turn). AreTurnsAnswered tested l) turns (t.due there))
     pick (inr waited) = inr (t.waited waited)
 
+-- in the last turn to a client that has nothing to end for all has come
+pub all_come : (tested : Role) (past : List Turn) (sent before got : List ℕ) (turn : Turn) (after_sent seen : RunValue) (stop : TurnStop) (y z : ConnectionValue) (over : Bool) → (tested ≡ Client) × (over ≡ false) → over ≡ is_over after_sent.tested.status
+    → HasSeen tested (then_turn past sent before) after_sent → SeesTurn tested stop (then_turn past sent got) seen (between y z) → stop ≡ IsThere → turn.sent ≡ sent → turn.got ≡ got → (tested ≡ Client) × HasAllCome tested (past ++ turn ∷ [])
+all_come tested past sent before got turn after_sent seen stop y z over (client, on) is shown sees there s g =
+    let turns : then_turn past sent got ≡ past ++ turn ∷ [] = ap₂ (λ (a b : List ℕ). then_turn past a b) (sym s) (sym g) in
+    let goes = subst (λ (l : List ℕ). Stands tested Going l) (same_sent past sent before got) (sends_on tested (then_turn past sent before) after_sent shown (sym is ∙ on)) in
+    (client, subst (λ (l : List Turn). HasAllCome tested l) turns (sees.due there, goes))
+
 -- the first turn has begun, and has got what came with the head
-pub first_seen : (done : List Turn) (bytes first : List ℕ) (seen : RunValue) → done ≡ [] → bytes ≡ first → HasSeen (turn_with_got new_turn bytes ∷ []) seen → HasSeen (then_turn done [] first) seen
-first_seen done bytes first seen none is h =
-    subst (λ (l : List Turn). HasSeen (then_turn l [] first) seen) (sym none) (subst (λ (l : List ℕ). HasSeen (then_turn [] [] l) seen) is h)
+pub first_seen : (tested : Role) (done : List Turn) (bytes first : List ℕ) (seen : RunValue) → done ≡ [] → bytes ≡ first → HasSeen tested (turn_with_got new_turn bytes ∷ []) seen → HasSeen tested (then_turn done [] first) seen
+first_seen tested done bytes first seen none is h =
+    subst (λ (l : List Turn). HasSeen tested (then_turn l [] first) seen) (sym none) (subst (λ (l : List ℕ). HasSeen tested (then_turn [] [] l) seen) is h)
 
 -- the next turn has begun
-pub next_seen : (done : List Turn) (turn : Turn) (all : List Turn) (got : List ℕ) (seen : RunValue) → all ≡ done ++ turn ∷ [] → got ≡ [] → HasSeen ((done ++ turn ∷ []) ++ new_turn ∷ []) seen → HasSeen (then_turn all [] got) seen
-next_seen done turn all got seen is none h =
-    subst (λ (l : List Turn). HasSeen (then_turn l [] got) seen) (sym is) (subst (λ (l : List ℕ). HasSeen (then_turn (done ++ turn ∷ []) [] l) seen) (sym none) h)
+pub next_seen : (tested : Role) (done : List Turn) (turn : Turn) (all : List Turn) (got : List ℕ) (seen : RunValue) → all ≡ done ++ turn ∷ [] → got ≡ [] → HasSeen tested ((done ++ turn ∷ []) ++ new_turn ∷ []) seen → HasSeen tested (then_turn all [] got) seen
+next_seen tested done turn all got seen is none h =
+    subst (λ (l : List Turn). HasSeen tested (then_turn l [] got) seen) (sym is) (subst (λ (l : List ℕ). HasSeen tested (then_turn (done ++ turn ∷ []) [] l) seen) (sym none) h)
 
 -- one turn more was waited for
-pub waited_for_more : (done all : List Turn) (turn : Turn) (y z : ConnectionValue) → AreWaitedFor done y → (y.input.waited ≡ true → z.input.waited ≡ true) → AreTurnsAnswered Server (done ++ turn ∷ []) ⊎ (z.input.waited ≡ true)
-    → all ≡ done ++ turn ∷ [] → AreWaitedFor all z
-waited_for_more done all turn y z h before last is = subst (λ (l : List Turn). AreWaitedFor l z) (sym is) (λ n some less. pick n some less)
+pub waited_for_more : (tested : Role) (done all : List Turn) (turn : Turn) (y z : ConnectionValue) → AreWaitedFor tested done y → (y.input.waited ≡ true → z.input.waited ≡ true) → AreTurnsAnswered tested (done ++ turn ∷ []) ⊎ (z.input.waited ≡ true)
+    → all ≡ done ++ turn ∷ [] → AreWaitedFor tested all z
+waited_for_more tested done all turn y z h before last is = subst (λ (l : List Turn). AreWaitedFor tested l z) (sym is) (λ n some less. pick n some less)
   where
-    kept : (l : List Turn) → AreTurnsAnswered Server l ⊎ (y.input.waited ≡ true) → AreTurnsAnswered Server l ⊎ (z.input.waited ≡ true)
+    kept : (l : List Turn) → AreTurnsAnswered tested l ⊎ (y.input.waited ≡ true) → AreTurnsAnswered tested l ⊎ (z.input.waited ≡ true)
     kept l (inl a) = inl a
     kept l (inr w) = inr (before w)
 
-    pick : (n : ℕ) → 0 < n → n ≤ length (done ++ turn ∷ []) → AreTurnsAnswered Server (take n (done ++ turn ∷ [])) ⊎ (z.input.waited ≡ true)
+    pick : (n : ℕ) → 0 < n → n ≤ length (done ++ turn ∷ []) → AreTurnsAnswered tested (take n (done ++ turn ∷ [])) ⊎ (z.input.waited ≡ true)
     pick n some less = elim (cases_lt (length done) n) [
-      | inl more ↦ subst (λ (l : List Turn). AreTurnsAnswered Server l ⊎ (z.input.waited ≡ true)) (sym (take_all n (done ++ turn ∷ []) (omega (arith, more, length-append done (turn ∷ []))))) last
+      | inl more ↦ subst (λ (l : List Turn). AreTurnsAnswered tested l ⊎ (z.input.waited ≡ true)) (sym (take_all n (done ++ turn ∷ []) (omega (arith, more, length-append done (turn ∷ []))))) last
       | inr fewer ↦
-          subst (λ (l : List Turn). AreTurnsAnswered Server l ⊎ (z.input.waited ≡ true)) (sym (take-append-le n done (turn ∷ []) fewer)) (kept (take n done) (h n some fewer))
+          subst (λ (l : List Turn). AreTurnsAnswered tested l ⊎ (z.input.waited ≡ true)) (sym (take-append-le n done (turn ∷ []) fewer)) (kept (take n done) (h n some fewer))
     ]
 
-pub waited_for_still : (done : List Turn) (y z : ConnectionValue) → AreWaitedFor done y → (y.input.waited ≡ true → z.input.waited ≡ true) → AreWaitedFor done z
-waited_for_still done y z h before = λ n some less. kept (h n some less)
+pub waited_for_still : (tested : Role) (done : List Turn) (y z : ConnectionValue) → AreWaitedFor tested done y → (y.input.waited ≡ true → z.input.waited ≡ true) → AreWaitedFor tested done z
+waited_for_still tested done y z h before = λ n some less. kept (h n some less)
   where
     kept : {X : Type 0} → X ⊎ (y.input.waited ≡ true) → X ⊎ (z.input.waited ≡ true)
     kept (inl a) = inl a
     kept (inr w) = inr (before w)
 
-pub none_waited_for : (done : List Turn) (x : ConnectionValue) → done ≡ [] → AreWaitedFor done x
-none_waited_for done x none = λ n some less. absurd (omega (arith, some, less, ap (λ (l : List Turn). length l) none))
+pub none_waited_for : (tested : Role) (done : List Turn) (x : ConnectionValue) → done ≡ [] → AreWaitedFor tested done x
+none_waited_for tested done x none = λ n some less. absurd (omega (arith, some, less, ap (λ (l : List Turn). length l) none))
 
 -- ---- all turns
 
@@ -579,12 +601,12 @@ got_first_after : (first got read : List ℕ) (done : List Turn) (turn : Turn) �
 got_first_after first got read done turn (inl (none, same)) e = subst (λ (l : List Turn). HasGotFirst first (l ++ turn ∷ [])) (sym none) (read, e ∙ ap (λ (l : List ℕ). l ++ read) same)
 got_first_after first got read done turn (inr h) e = got_first_more first done turn h
 
-may_follow : (first : List ℕ) (done : List Turn) (turn : Turn) → Stands Going (all_got (done ++ turn ∷ [])) → MayFollow first (done ++ turn ∷ [])
-may_follow first [] turn h = h
-may_follow first (t ∷ turns) turn h = h
+may_follow : (tested : Role) (first : List ℕ) (done : List Turn) (turn : Turn) → Stands (other_role tested) Going (all_got (done ++ turn ∷ [])) → MayFollow tested first (done ++ turn ∷ [])
+may_follow tested first [] turn h = h
+may_follow tested first (t ∷ turns) turn h = h
 
 -- these turns were run, all bytes of them were sent, and there is one more
-pub record HasRunTurns (script : List (List (List ℕ))) (first got : List ℕ) (done : List Turn) (i : ℕ) (run : ConnectionRun) : Type 0 where
+pub record HasRunTurns (tested : Role) (script : List (List (List ℕ))) (first got : List ℕ) (done : List Turn) (i : ℕ) (run : ConnectionRun) : Type 0 where
   pub read : List ℕ
   pub has_got : ReadsBytes read run
   pub spent : run.old.input.allowance ≡ length read + run.new.input.allowance
@@ -595,13 +617,13 @@ pub record HasRunTurns (script : List (List (List ℕ))) (first got : List ℕ) 
   pub count : length done ≡ i
   pub more : i < length script
   pub ready : IsReady run.new
-  pub waited_for : AreWaitedFor done run.new
-  pub none_faulty : HasNoGotFault (all_got done ++ got)
-  pub behind : MayFollow first done
+  pub waited_for : AreWaitedFor tested done run.new
+  pub none_faulty : MayGoOn tested (all_got done ++ got)
+  pub behind : MayFollow tested first done
 
-pub runs_none : (script : List (List (List ℕ))) (first got : List ℕ) (done : List Turn) (x : ConnectionValue) → got ≡ first → done ≡ [] → 0 < length script → IsReady x
-    → HasNoGotFault first → HasRunTurns script first got done 0 (between x x)
-runs_none script first got done x e none some ready none_faulty = record {
+pub runs_none : (tested : Role) (script : List (List (List ℕ))) (first got : List ℕ) (done : List Turn) (x : ConnectionValue) → got ≡ first → done ≡ [] → 0 < length script → IsReady x
+    → MayGoOn tested first → HasRunTurns tested script first got done 0 (between x x)
+runs_none tested script first got done x e none some ready none_faulty = record {
   read = [];
   has_got = Consumes-nil x.input.left;
   spent = none_spent x.input.allowance;
@@ -612,9 +634,9 @@ runs_none script first got done x e none some ready none_faulty = record {
   count = ap (λ (l : List Turn). length l) none;
   more = some;
   ready = ready;
-  waited_for = none_waited_for done x none;
-  none_faulty = subst (λ (l : List ℕ). HasNoGotFault l) (sym same) none_faulty;
-  behind = subst (λ (l : List Turn). MayFollow first l) (sym none) none_faulty;
+  waited_for = none_waited_for tested done x none;
+  none_faulty = subst (λ (l : List ℕ). MayGoOn tested l) (sym same) none_faulty;
+  behind = subst (λ (l : List Turn). MayFollow tested first l) (sym none) none_faulty;
 }
   where
     same : all_got done ++ got ≡ first
@@ -642,8 +664,8 @@ none_left script n h = nothing (drop n script) (omega (arith, length-drop n scri
     nothing (x ∷ xs) h = absurd (omega arith)
 
 -- one turn more, and what is known of it
-module _ (script : List (List (List ℕ))) (pieces : List (List ℕ)) (first got : List ℕ) (done all : List Turn) (turn : Turn) (i : ℕ) (more : Bool) (after : RunValue) (x y z : ConnectionValue) (end : Option Ended)
-    (h : HasRunTurns script first got done i (between x y)) (t : RunsTurn (concat pieces) (all_got done) got more turn end after.tester (between y z)) (shown : SeesRun end (done ++ turn ∷ []) after (between y z))
+module _ (tested : Role) (script : List (List (List ℕ))) (pieces : List (List ℕ)) (first got : List ℕ) (done all : List Turn) (turn : Turn) (i : ℕ) (more : Bool) (after : RunValue) (x y z : ConnectionValue) (end : Option Ended)
+    (h : HasRunTurns tested script first got done i (between x y)) (t : RunsTurn tested (concat pieces) (all_got done) got more (HasAllCome tested (done ++ turn ∷ [])) turn end after.tester (between y z)) (shown : SeesRun tested end (done ++ turn ∷ []) after (between y z))
     (pushed : all ≡ done ++ turn ∷ []) where
   all_now : all_got all ≡ all_got done ++ turn.got
   all_now = ap (λ (l : List Turn). all_got l) pushed ∙ got_more done turn
@@ -659,9 +681,9 @@ module _ (script : List (List (List ℕ))) (pieces : List (List ℕ)) (first got
   all_first : HasGotFirst first all
   all_first = subst (λ (l : List Turn). HasGotFirst first l) (sym pushed) (got_first_after first got t.read done turn h.first_got t.got)
 
-  pub goes_on : (next : List ℕ) → end ≡ None → next ≡ [] → take (i + 1) script ≡ take i script ++ pieces ∷ [] → (more ≡ true → i + 1 < length script) → HasRunTurns script first next all (i + 1) (between x z)
+  pub goes_on : (next : List ℕ) → end ≡ None → next ≡ [] → take (i + 1) script ≡ take i script ++ pieces ∷ [] → (more ≡ true → i + 1 < length script) → HasRunTurns tested script first next all (i + 1) (between x z)
   goes_on next e none taken left =
-      let (goes, whole, ready, stands) = subst (λ (o : Option Ended). GoesOnOrEnds o (concat pieces) more turn.sent (all_got done ++ turn.got) z) e t.ends in
+      let (goes, whole, ready, stands) = subst (λ (o : Option Ended). GoesOnOrEnds tested o (concat pieces) more (HasAllCome tested (done ++ turn ∷ [])) turn.sent (all_got done ++ turn.got) z) e t.ends in
       let same : all_got all ++ next ≡ all_got done ++ turn.got = ap (λ (l : List ℕ). all_got all ++ l) none ∙ append-nil (all_got all) ∙ all_now in
       record {
         read = h.read ++ t.read;
@@ -676,15 +698,15 @@ module _ (script : List (List (List ℕ))) (pieces : List (List ℕ)) (first got
         count = ap (λ (l : List Turn). length l) pushed ∙ length-append done (turn ∷ []) ∙ ap (λ (n : ℕ). n + 1) h.count;
         more = left goes;
         ready = ready;
-        waited_for = waited_for_more done all turn y z h.waited_for shown.waited_before (shown.follows e) pushed;
-        none_faulty = subst (λ (l : List ℕ). HasNoGotFault l) (sym same) (inl stands);
-        behind = subst (λ (l : List Turn). MayFollow first l) (sym pushed) (may_follow first done turn (subst (λ (l : List ℕ). Stands Going l) (sym (got_more done turn)) stands));
+        waited_for = waited_for_more tested done all turn y z h.waited_for shown.waited_before (shown.follows e) pushed;
+        none_faulty = subst (λ (l : List ℕ). MayGoOn tested l) (sym same) (so_stands is_final false tested Going (all_got done ++ turn.got) refl stands);
+        behind = subst (λ (l : List Turn). MayFollow tested first l) (sym pushed) (may_follow tested first done turn (subst (λ (l : List ℕ). Stands (other_role tested) Going l) (sym (got_more done turn)) stands));
       }
 
   pub ended_in : (ended : Ended) (transcript : Transcript) → end ≡ Some ended → script ≡ take i script ++ pieces ∷ drop (i + 1) script → transcript.turns ≡ all → transcript.ended ≡ ended
-      → (more ≡ false → length script ≤ i + 1) → Records (bytes_of script) first transcript (between x z)
+      → (more ≡ false → length script ≤ i + 1) → Records tested (bytes_of script) first transcript (between x z)
   ended_in ended transcript e cut turns is last =
-      let (ends, closed, sends) = subst (λ (o : Option Ended). GoesOnOrEnds o (concat pieces) more turn.sent (all_got done ++ turn.got) z) e t.ends in
+      let (ends, closed, sends) = subst (λ (o : Option Ended). GoesOnOrEnds tested o (concat pieces) more (HasAllCome tested (done ++ turn ∷ [])) turn.sent (all_got done ++ turn.got) z) e t.ends in
       let same : all_got transcript.turns ≡ all_got done ++ turn.got = ap (λ (l : List Turn). all_got l) turns ∙ all_now in
       record {
         read = h.read ++ t.read;
@@ -698,7 +720,7 @@ module _ (script : List (List (List ℕ))) (pieces : List (List ℕ)) (first got
           last = turn;
           recorded = turns ∙ pushed;
           behind = h.behind;
-          waited_for = waited_for_still done y z h.waited_for shown.waited_before;
+          waited_for = waited_for_still tested done y z h.waited_for shown.waited_before;
           bytes = concat pieces;
           others = bytes_of (drop (i + 1) script);
           sent =
@@ -706,29 +728,31 @@ module _ (script : List (List (List ℕ))) (pieces : List (List ℕ)) (first got
               ∙ ap (λ (l : List (List ℕ)). l ++ concat pieces ∷ bytes_of (drop (i + 1) script)) (sym h.sent);
           sent_last = sends;
           ends =
-              subst (λ (o : Ended). EndsTurn o (bytes_of (drop (i + 1) script) ≡ []) (concat pieces) turn.sent (all_got transcript.turns) z) (sym is)
-              (subst (λ (l : List ℕ). EndsTurn ended (bytes_of (drop (i + 1) script) ≡ []) (concat pieces) turn.sent l z) (sym same)
-              (as_last ended (λ m. none_left script (i + 1) (last m)) (all_got done ++ turn.got) ends));
-          half_closed = subst (λ (l : List ℕ). (z.output.ended ≡ true) ↔ Stands Closed l) (sym same) closed;
+              subst (λ (o : Ended). EndsTurn tested o (bytes_of (drop (i + 1) script) ≡ []) (HasAllCome tested transcript.turns) (concat pieces) turn.sent (all_got transcript.turns) z) (sym is)
+              (subst (λ (l : List ℕ). EndsTurn tested ended (bytes_of (drop (i + 1) script) ≡ []) (HasAllCome tested transcript.turns) (concat pieces) turn.sent l z) (sym same)
+              (as_last ended (λ m. none_left script (i + 1) (last m)) (λ come. subst (λ (l : List Turn). HasAllCome tested l) (sym (turns ∙ pushed)) come) (all_got done ++ turn.got) ends));
+          half_closed = subst (λ (l : List ℕ). (z.output.ended ≡ true) ↔ HalfCloses tested l) (sym same) closed;
         });
       }
     where
-      as_last : (ended : Ended) → (more ≡ false → bytes_of (drop (i + 1) script) ≡ []) → (got : List ℕ) → EndsTurn ended (more ≡ false) (concat pieces) turn.sent got z
-          → EndsTurn ended (bytes_of (drop (i + 1) script) ≡ []) (concat pieces) turn.sent got z
-      as_last Tester f got (inl fault) = inl fault
-      as_last Tester f got (inr (all, works, waited, none, inl m)) = inr (all, works, waited, none, inl (f m))
-      as_last Tester f got (inr (all, works, waited, none, inr c)) = inr (all, works, waited, none, inr c)
-      as_last Peer f got k = k
-      as_last Broken f got k = k
+      as_last : (ended : Ended) → (more ≡ false → bytes_of (drop (i + 1) script) ≡ []) → (HasAllCome tested (done ++ turn ∷ []) → HasAllCome tested transcript.turns) → (got : List ℕ)
+          → EndsTurn tested ended (more ≡ false) (HasAllCome tested (done ++ turn ∷ [])) (concat pieces) turn.sent got z
+          → EndsTurn tested ended (bytes_of (drop (i + 1) script) ≡ []) (HasAllCome tested transcript.turns) (concat pieces) turn.sent got z
+      as_last Tester f come got (inl final) = inl final
+      as_last Tester f come got (inr (inl (all, works, waited, none, inl m))) = inr (inl (all, works, waited, none, inl (f m)))
+      as_last Tester f come got (inr (inl (all, works, waited, none, inr c))) = inr (inl (all, works, waited, none, inr c))
+      as_last Tester f come got (inr (inr (client, m, k, all, works, stands))) = inr (inr (client, f m, come k, all, works, stands))
+      as_last Peer f come got k = k
+      as_last Broken f come got k = k
 
 pub no_pieces : (script : List (List (List ℕ))) → length script ≤ 0 → script ≡ []
 no_pieces [] h = refl
 no_pieces (x ∷ xs) h = absurd (omega (arith, h))
 
 -- a script without turns, or a fault that came with the head
-pub without_turns : (script : List (List (List ℕ))) (first : List ℕ) (transcript : Transcript) (turns : List Turn) (x : ConnectionValue) → (script ≡ []) ⊎ Stands Faulty first → transcript.turns ≡ turns → turns ≡ with_finish [] first
-    → transcript.ended ≡ Tester → IsReady x → Records (bytes_of script) first transcript (between x x)
-without_turns script first transcript turns x none is e ended ready = record {
+pub without_turns : (tested : Role) (script : List (List (List ℕ))) (first : List ℕ) (transcript : Transcript) (turns : List Turn) (x : ConnectionValue) → (script ≡ []) ⊎ EndsRun tested first → transcript.turns ≡ turns → turns ≡ with_finish [] first
+    → transcript.ended ≡ Tester → IsReady x → Records tested (bytes_of script) first transcript (between x x)
+without_turns tested script first transcript turns x none is e ended ready = record {
   read = [];
   has_got = Consumes-nil x.input.left;
   spent = none_spent x.input.allowance;
@@ -737,15 +761,9 @@ without_turns script first transcript turns x none is e ended ready = record {
   ends = inl (record { none = why none; ended = ended; recorded = is ∙ e; works = (open_works x.input.state ready.0, ready.1); both_open = ready.2 });
 }
   where
-    why : (script ≡ []) ⊎ Stands Faulty first → (bytes_of script ≡ []) ⊎ Stands Faulty first
+    why : (script ≡ []) ⊎ EndsRun tested first → (bytes_of script ≡ []) ⊎ EndsRun tested first
     why (inl e) = inl (ap (λ (l : List (List (List ℕ))). bytes_of l) e)
     why (inr f) = inr f
-
-    open_works : (state : Incoming) → is_open state ≡ true → read_failed state ≡ false
-    open_works FailedState e = absurd cc
-    open_works WaitedState e = refl
-    open_works AtEnd e = refl
-    open_works _ e = refl
 
     got_alone : (first : List ℕ) → all_got (with_finish [] first) ≡ first
     got_alone [] = refl
@@ -773,7 +791,7 @@ may_after y z may input works ended = (ap (λ (i : InputValue). takes_part i.sta
 -- what came of a connection once the request was written, where the answer accepts
 pub runs_after : {protocol : Option ℕ} (turns offers : List (List ℕ)) (transcript : Transcript) (head first : List ℕ) (used : ℕ) (x y z : ConnectionValue)
     → ReadsHeadOver (NeedsResponse probe_nonce offers) (DecidesResponse probe_nonce offers) (Decided (Accepted used protocol)) head (between x y)
-    → first ≡ drop used head → Records turns first transcript (between y z) → AnswersBehind turns offers (Ran transcript) (between x z)
+    → first ≡ drop used head → Records Server turns first transcript (between y z) → AnswersBehind turns offers (Ran transcript) (between x z)
 runs_after {protocol} turns offers transcript head first used x y z h behind r =
     let (read, bound, no_further, (decides, works)) = h.reads in
     record {
@@ -786,7 +804,7 @@ runs_after {protocol} turns offers transcript head first used x y z h behind r =
       budget = sym h.allowance ∙ r.spent;
       got = r.got ∙ ap (λ (l : List ℕ). l ++ r.read) behind;
       has_put = subst (λ (o : OutputValue). Appends o.held z.output.held (all_sent transcript.turns)) h.output r.has_put;
-      ends = subst (λ (l : List ℕ). EndsScript turns l transcript z) behind r.ends;
+      ends = subst (λ (l : List ℕ). EndsScript Server turns l transcript z) behind r.ends;
     }
 
 -- ---- the request

@@ -1,8 +1,8 @@
--- How what was got stands, by the status of the client that has taken it.
+-- How bytes stand, by the status of the session that has taken them, and what a run makes of it.
 use Rattle.std.proofs.Common.{◌≡◌, ◌∙◌, ℕ, inl, inr, List, Bool, true, false, if◌then◌else◌, Option, refl, sym, ap, subst}
 use Rattle.std.specs.Prelude.{None, Some}
 use Rattle.ws_wire.specs.declared.role.Role.{Role}
-use Rattle.ws_wire.specs.declared.role.Role.TheVariants.{Client}
+use Rattle.ws_wire.specs.declared.role.Role.TheVariants.{Client, Server}
 use Rattle.ws_wire.specs.Frame.{Frame}
 use Rattle.ws_session.specs.declared.event.Event.{Event}
 use Rattle.ws_session.specs.declared.event.Event.TheVariants as event
@@ -13,9 +13,8 @@ use Rattle.ws_session.specs.Events.{HasEvents}
 use Rattle.ws_session.specs.Exchange.{SessionValue, is_over, last_event, status_after}
 use Rattle.ws_session.specs.Replies.{has_close}
 use Rattle.ws_session.specs.Sends.{most_limits}
-use Rattle.ws_suite.specs.Growing.{is_failed}
-use Rattle.ws_connection.specs.Standings.{HasHeard, HasNoGotFault, Stands, standing_at, standing_by}
-use Rattle.ws_connection.specs.InnerProbeTurns.{is_closed, is_faulty}
+use Rattle.ws_suite.specs.Evidence.{other_role}
+use Rattle.ws_connection.specs.Standings.{HalfCloses, HasHeard, MayGoOn, Stands, StandsSo, awaits_end, ends_at_close, half_closes, is_final, standing_at, standing_by}
 use Rattle.ws_connection.specs.declared.standing.Standing.{Standing}
 use Rattle.ws_connection.specs.declared.standing.Standing.TheVariants.{Going, Closed, Faulty}
 
@@ -37,10 +36,10 @@ same_standing sent (Some (event.Failed reason)) = refl
 under : (r s : Role) (l m : LimitsValue) (bytes : List ℕ) (events : List Event) → r ≡ s → l ≡ m → HasEvents r l bytes events → HasEvents s m bytes events
 under r s l m bytes events e f h = subst (λ (x : Role). HasEvents x m bytes events) e (subst (λ (x : LimitsValue). HasEvents r x bytes events) f h)
 
-pub heard_stands : (client : SessionValue) (got : List ℕ) → HasHeard client got → Stands (standing_by client.status) got
-heard_stands client got h = record {
+pub heard_stands : (reader : Role) (session : SessionValue) (bytes : List ℕ) → HasHeard reader session bytes → Stands reader (standing_by session.status) bytes
+heard_stands reader session bytes h = record {
   events = h.exchanged.events;
-  are_events = under client.role Client client.limits most_limits got h.exchanged.events h.role h.limits h.exchanged.has_events;
+  are_events = under session.role reader session.limits most_limits bytes h.exchanged.events h.role h.limits h.exchanged.has_events;
   last = same_standing h.sent (last_event h.exchanged.events) ∙ sym (ap (λ (s : Status). standing_by s) h.exchanged.status);
 }
 
@@ -49,39 +48,38 @@ heard_stands client got h = record {
 abbrev pub OneList : Type 0
 OneList = (role : Role) (limits : LimitsValue) (bytes : List ℕ) (events others : List Event) → HasEvents role limits bytes events → HasEvents role limits bytes others → events ≡ others
 
-pub one_standing : OneList → (s t : Standing) (got : List ℕ) → Stands s got → Stands t got → s ≡ t
-one_standing one s t got a b = sym a.last ∙ ap (λ (l : List Event). standing_at (last_event l)) (one Client most_limits got a.events b.events a.are_events b.are_events) ∙ b.last
+pub one_standing : OneList → (reader : Role) (s t : Standing) (got : List ℕ) → Stands reader s got → Stands reader t got → s ≡ t
+one_standing one reader s t got a b = sym a.last ∙ ap (λ (l : List Event). standing_at (last_event l)) (one reader most_limits got a.events b.events a.are_events b.are_events) ∙ b.last
 
-pub going_not_closed : OneList → (got : List ℕ) → Stands Going got → Stands Closed got → ⊥
-going_not_closed one got a b = let wrong : Going ≡ Closed = one_standing one Going Closed got a b in absurd cc
+-- a standing by which a test answers so is the only one
+pub stands_so : OneList → (test : Role → Standing → Bool) (answer : Bool) (tested : Role) (s : Standing) (got : List ℕ) → Stands (other_role tested) s got → StandsSo test answer tested got → test tested s ≡ answer
+stands_so one test answer tested s got at (t, is, stands) = ap (λ (x : Standing). test tested x) (one_standing one (other_role tested) s t got at stands) ∙ is
 
-pub no_fault : (s : Standing) (got : List ℕ) → is_faulty s ≡ false → Stands s got → HasNoGotFault got
-no_fault Going got e h = inl h
-no_fault Closed got e h = inr h
-no_fault Faulty got e h = absurd cc
+pub so_stands : (test : Role → Standing → Bool) (answer : Bool) (tested : Role) (s : Standing) (got : List ℕ) → test tested s ≡ answer → Stands (other_role tested) s got → StandsSo test answer tested got
+so_stands test answer tested s got e h = (s, e, h)
 
-pub closed_is_over : (s : Status) → standing_by s ≡ Closed → is_over s ≡ true
-closed_is_over status.Open e = absurd cc
-closed_is_over status.Closing e = absurd cc
-closed_is_over (status.Clean code) e = refl
-closed_is_over (status.Failed reason) e = absurd cc
-closed_is_over status.Lost e = absurd cc
+pub going_not_closed : OneList → (tested : Role) (got : List ℕ) → Stands (other_role tested) Going got → HalfCloses tested got → ⊥
+going_not_closed one tested got a b = let wrong : false ≡ true = stands_so one half_closes true tested Going got a b in absurd cc
 
-pub closed_is : (s : Standing) → is_closed s ≡ true → s ≡ Closed
-closed_is Going e = absurd cc
-closed_is Closed e = refl
-closed_is Faulty e = absurd cc
+-- where the run goes on and the own direction isn't ended, nothing has ended what was got
+pub going_of : (tested : Role) (got : List ℕ) → (HalfCloses tested got → false ≡ true) → MayGoOn tested got → Stands (other_role tested) Going got
+going_of tested got none (Going, e, h) = h
+going_of tested got none (Faulty, e, h) = absurd cc
+going_of Server got none (Closed, e, h) = absurd (let wrong : false ≡ true = none (Closed, refl, h) in cc)
+going_of Client got none (Closed, e, h) = absurd cc
 
-pub failed_is : (s : Status) → is_failed s ≡ true → standing_by s ≡ Faulty
-failed_is status.Open e = absurd cc
-failed_is status.Closing e = absurd cc
-failed_is (status.Clean code) e = absurd cc
-failed_is (status.Failed reason) e = refl
-failed_is status.Lost e = absurd cc
+-- a session that has heard an end is over
+pub closes_is_over : (tested : Role) (s : Status) → half_closes tested (standing_by s) ≡ true → is_over s ≡ true
+closes_is_over tested status.Open e = absurd cc
+closes_is_over tested status.Closing e = absurd cc
+closes_is_over tested (status.Clean code) e = refl
+closes_is_over tested (status.Failed reason) e = absurd cc
+closes_is_over tested status.Lost e = absurd cc
 
-pub not_failed : (s : Status) → is_failed s ≡ false → is_faulty (standing_by s) ≡ false
-not_failed status.Open e = refl
-not_failed status.Closing e = refl
-not_failed (status.Clean code) e = refl
-not_failed (status.Failed reason) e = absurd cc
-not_failed status.Lost e = refl
+-- and one that isn't has heard none
+pub not_over_goes : (s : Status) → is_over s ≡ false → standing_by s ≡ Going
+not_over_goes status.Open e = refl
+not_over_goes status.Closing e = refl
+not_over_goes (status.Clean code) e = absurd cc
+not_over_goes (status.Failed reason) e = absurd cc
+not_over_goes status.Lost e = absurd cc

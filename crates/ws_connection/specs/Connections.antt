@@ -40,6 +40,11 @@ abbrev pub MayWrite : ConnectionValue → Type 0
 MayWrite connection = (takes_part connection.input.state ≡ true) × (connection.output.failed ≡ false)
     × (connection.output.ended ≡ false)
 
+-- a turn can be sent, and more can be read: the handshake is done
+abbrev pub IsReady : ConnectionValue → Type 0
+IsReady connection = (is_open connection.input.state ≡ true) × (connection.output.failed ≡ false)
+    × (connection.output.ended ≡ false)
+
 -- nothing has gone over the connection
 abbrev pub IsNewConnection : ConnectionValue → Type 0
 IsNewConnection connection = (connection.input.state ≡ Unread) × (connection.output.failed ≡ false)

@@ -1,8 +1,10 @@
--- Inside the crate: one turn of a script that is run against a server, and all of them. A reader may skip this file.
-use Rattle.std.specs.Prelude.{◌≡◌, ℕ, ◌+◌, ◌<◌, ◌≤◌, ◌↔◌, ◌⊎◌, ◌||◌, Bool, true, false, ⊤, List, [], ◌∷◌, ◌++◌, length}
+-- Inside the crate: one turn of a script that is run against a tested end. A reader may skip this file.
+use Rattle.std.specs.Prelude.{◌≡◌, ℕ, ◌+◌, ◌<◌, ◌≤◌, ◌↔◌, ◌⊎◌, ◌||◌, ◌&&◌, not, Bool, true, false, ⊤, List, [], ◌∷◌, ◌++◌, length}
 use Rattle.std.specs.Prelude.{Option, None, Some}
 use Rattle.std.specs.Io.KnownBytes.{Keeps}
-use Rattle.ws_wire.specs.declared.role.Role.TheVariants.{Server}
+use Rattle.ws_wire.specs.declared.role.Role.{Role}
+use Rattle.ws_wire.specs.declared.role.Role.TheVariants.{Client, Server}
+use Rattle.ws_suite.specs.Evidence.{other_role}
 use Rattle.ws_session.specs.Exchange.{SessionValue, is_over}
 use Rattle.ws_scripts.specs.declared.transcript.Ended.{Ended}
 use Rattle.ws_scripts.specs.declared.transcript.Ended.TheVariants.{Tester, Peer, Broken}
@@ -11,9 +13,9 @@ use Rattle.ws_scripts.specs.declared.transcript.Transcript.{Transcript}
 use Rattle.ws_connection.specs.ConnectionValues.{ConnectionRun, ConnectionValue}
 use Rattle.ws_suite.specs.declared.evidence.keeping.ReplyTally.{ReplyTally}
 use Rattle.ws_suite.specs.Growing.{AreTurnsAnswered, GrowingValue, HasGrown, IsTallyOf, turn_with_got}
-use Rattle.ws_connection.specs.Connections.{ReadsBytes, WritesBytes, is_open, waited_in_vain}
-use Rattle.ws_connection.specs.Standings.{HasHeard, HasNoGotFault, Stands}
-use Rattle.ws_connection.specs.Probing.{all_got, all_sent, max_piece, EndsByFault, EndsScript, EndsTurn, HasEnded}
+use Rattle.ws_connection.specs.Connections.{IsReady, ReadsBytes, WritesBytes, is_open, waited_in_vain}
+use Rattle.ws_connection.specs.Standings.{HalfCloses, HasHeard, MayGoOn, Stands, half_closes, is_final}
+use Rattle.ws_connection.specs.Probing.{max_piece, EndsAtOnce, EndsTurn, HasEnded}
 use Rattle.ws_connection.specs.Probing.{HasSentOf}
 use Rattle.ws_connection.specs.Probing.{RefusesResponse, RunsScript, StopsInResponse}
 use Rattle.ws_connection.specs.declared.probe_end.Probe.{Probe}
@@ -22,9 +24,9 @@ use Rattle.ws_connection.specs.declared.incoming.Incoming.{Incoming}
 use Rattle.ws_connection.specs.declared.incoming.Incoming.TheVariants.{AtEnd, Waited as WaitedState}
 use Rattle.ws_connection.specs.declared.incoming.Incoming.TheVariants.{Failed as FailedState}
 use Rattle.ws_connection.specs.declared.standing.Standing.{Standing}
-use Rattle.ws_connection.specs.declared.standing.Standing.TheVariants.{Going, Closed, Faulty}
+use Rattle.ws_connection.specs.declared.standing.Standing.TheVariants.{Going}
 use Rattle.ws_connection.specs.declared.probing.turn.TurnStop.{TurnStop}
-use Rattle.ws_connection.specs.declared.probing.turn.TurnStop.TheVariants.{IsThere, Fault, Waited, End, Failed, Budget}
+use Rattle.ws_connection.specs.declared.probing.turn.TurnStop.TheVariants.{IsThere, Final, Waited, End, Failed, Budget}
 
 -- ---- what is shown
 
@@ -32,20 +34,15 @@ use Rattle.ws_connection.specs.declared.probing.turn.TurnStop.TheVariants.{IsThe
 abbrev pub RunValue : Type 0
 RunValue = GrowingValue ReplyTally
 
--- it has grown with just these turns of a connection to a server
-abbrev pub HasSeen : List Turn → RunValue → Type 0
-HasSeen turns seen = HasGrown IsTallyOf Server turns seen
+-- it has grown with just these turns of a connection to an end of this role
+abbrev pub HasSeen : Role → List Turn → RunValue → Type 0
+HasSeen tested turns seen = HasGrown IsTallyOf tested turns seen
 
 -- these turns, and then one that has sent and got these bytes
 abbrev pub then_turn : List Turn → List ℕ → List ℕ → List Turn
 then_turn past sent got = past ++ record { sent = sent; got = got } ∷ []
 
 -- ---- what is sent
-
--- a turn can be sent, and more can be read
-abbrev pub IsReady : ConnectionValue → Type 0
-IsReady connection = (is_open connection.input.state ≡ true) × (connection.output.failed ≡ false)
-    × (connection.output.ended ≡ false)
 
 -- these bytes of a turn were sent, and nothing was read
 pub record SendsTurn (bytes sent : List ℕ) (run : ConnectionRun) : Type 0 where
@@ -56,32 +53,25 @@ pub record SendsTurn (bytes sent : List ℕ) (run : ConnectionRun) : Type 0 wher
 
 -- ---- what is read
 
-abbrev pub is_faulty : Standing → Bool
-is_faulty Faulty = true
-is_faulty _ = false
-
-abbrev pub is_closed : Standing → Bool
-is_closed Closed = true
-is_closed _ = false
-
 -- why nothing is read before a turn goes on or ends, or that a read may follow
-abbrev pub IsStopBefore : Option TurnStop → Bool → Standing → ConnectionValue → Type 0
-IsStopBefore None waits standing connection = (is_faulty standing ≡ false) × (0 < connection.input.allowance)
-IsStopBefore (Some IsThere) waits standing connection =
+abbrev pub IsStopBefore : Role → Option TurnStop → Bool → Standing → ConnectionValue → Type 0
+IsStopBefore tested None waits standing connection =
+    (is_final tested standing ≡ false) × (0 < connection.input.allowance)
+IsStopBefore tested (Some IsThere) waits standing connection =
     (waits ≡ false) × (standing ≡ Going) × (connection.output.failed ≡ false)
-IsStopBefore (Some Fault) waits standing connection = standing ≡ Faulty
-IsStopBefore (Some Budget) waits standing connection =
-    (is_faulty standing ≡ false) × (connection.input.allowance ≡ 0)
-IsStopBefore (Some _) waits standing connection = ⊥
+IsStopBefore tested (Some Final) waits standing connection = is_final tested standing ≡ true
+IsStopBefore tested (Some Budget) waits standing connection =
+    (is_final tested standing ≡ false) × (connection.input.allowance ≡ 0)
+IsStopBefore tested (Some _) waits standing connection = ⊥
 
--- the own direction is ended once what was got has a close
-pub record StopsBefore (stop : Option TurnStop) (waits : Bool) (standing : Standing)
+-- the own direction is ended once what was got from a server has a close
+pub record StopsBefore (tested : Role) (stop : Option TurnStop) (waits : Bool) (standing : Standing)
     (run : ConnectionRun) : Type 0 where
-  pub stops : IsStopBefore stop waits standing run.new
+  pub stops : IsStopBefore tested stop waits standing run.new
   pub input : run.new.input ≡ run.old.input
   pub held : Keeps run.old.output.held run.new.output.held
   pub failed : run.new.output.failed ≡ run.old.output.failed
-  pub ended : run.new.output.ended ≡ (run.old.output.ended || is_closed standing)
+  pub ended : run.new.output.ended ≡ (run.old.output.ended || half_closes tested standing)
 
 -- why a read brought nothing, or that it brought something
 abbrev pub IsReadStop : Option TurnStop → List ℕ → ConnectionValue → Type 0
@@ -107,8 +97,8 @@ pub record ReadsPiece (stop : Option TurnStop) (old_got new_got : List ℕ) (old
   pub has_got : ReadsBytes piece run
   pub spent : run.old.input.allowance ≡ length piece + run.new.input.allowance
   pub output : run.new.output ≡ run.old.output
-  pub seen : (past : List Turn) (turn : Turn) → HasSeen (past ++ turn ∷ []) old_seen
-      → HasSeen (past ++ turn_with_got turn piece ∷ []) new_seen
+  pub seen : (tested : Role) (past : List Turn) (turn : Turn) → HasSeen tested (past ++ turn ∷ []) old_seen
+      → HasSeen tested (past ++ turn_with_got turn piece ∷ []) new_seen
   pub over : is_over old_seen.tester.status ≡ true → new_seen.tester ≡ old_seen.tester
   pub waited : run.new.input.waited ≡ (run.old.input.waited || waited_in_vain run.new.input.state)
   pub stops : IsReadStop stop piece run.new
@@ -117,50 +107,63 @@ pub record ReadsPiece (stop : Option TurnStop) (old_got new_got : List ℕ) (old
 abbrev pub IsTurnStop : Bool → TurnStop → ConnectionValue → Type 0
 IsTurnStop waits IsThere connection =
     (waits ≡ false) × (connection.output.failed ≡ false) × (is_open connection.input.state ≡ true)
-IsTurnStop waits Fault connection = ⊤
+IsTurnStop waits Final connection = ⊤
 IsTurnStop waits Budget connection = connection.input.allowance ≡ 0
 IsTurnStop waits Waited connection = connection.input.state ≡ WaitedState
 IsTurnStop waits End connection = HasEnded connection
 IsTurnStop waits Failed connection = connection.input.state ≡ FailedState
 
 -- how what was got stands where no more is read
-abbrev pub IsGotAtStop : TurnStop → List ℕ → Type 0
-IsGotAtStop IsThere got = Stands Going got
-IsGotAtStop Fault got = EndsByFault got
-IsGotAtStop Budget got = HasNoGotFault got
-IsGotAtStop Waited got = HasNoGotFault got
-IsGotAtStop End got = HasNoGotFault got
-IsGotAtStop Failed got = HasNoGotFault got
+abbrev pub IsGotAtStop : Role → TurnStop → List ℕ → Type 0
+IsGotAtStop tested IsThere got = Stands (other_role tested) Going got
+IsGotAtStop tested Final got = EndsAtOnce tested got
+IsGotAtStop tested Budget got = MayGoOn tested got
+IsGotAtStop tested Waited got = MayGoOn tested got
+IsGotAtStop tested End got = MayGoOn tested got
+IsGotAtStop tested Failed got = MayGoOn tested got
 
 -- What was read in a turn was put behind what was got before, in it and in the turns before it.
-pub record ReadsTurn (waits : Bool) (stop : TurnStop) (past old_got new_got : List ℕ) (client : SessionValue)
-    (run : ConnectionRun) : Type 0 where
+pub record ReadsTurn (tested : Role) (waits : Bool) (stop : TurnStop) (past old_got new_got : List ℕ)
+    (tester : SessionValue) (run : ConnectionRun) : Type 0 where
   pub read : List ℕ
   pub grown : new_got ≡ old_got ++ read
   pub has_got : ReadsBytes read run
   pub spent : run.old.input.allowance ≡ length read + run.new.input.allowance
   pub held : Keeps run.old.output.held run.new.output.held
   pub failed : run.new.output.failed ≡ run.old.output.failed
-  pub heard : HasHeard client (past ++ new_got)
+  pub heard : HasHeard (other_role tested) tester (past ++ new_got)
   pub stops : IsTurnStop waits stop run.new
-  pub got : IsGotAtStop stop (past ++ new_got)
-  pub half_closed : (run.new.output.ended ≡ true) ↔ Stands Closed (past ++ new_got)
+  pub got : IsGotAtStop tested stop (past ++ new_got)
+  pub half_closed : (run.new.output.ended ≡ true) ↔ HalfCloses tested (past ++ new_got)
 
 -- What is shown where no more is read: where that is because what is due has come, it has; and whether some read has
 -- waited in vain is known.
-pub record SeesTurn (stop : TurnStop) (turns : List Turn) (seen : RunValue) (run : ConnectionRun) : Type 0 where
-  pub shown : HasSeen turns seen
-  pub due : stop ≡ IsThere → AreTurnsAnswered Server turns
+pub record SeesTurn (tested : Role) (stop : TurnStop) (turns : List Turn) (seen : RunValue) (run : ConnectionRun) : Type 0 where
+  pub shown : HasSeen tested turns seen
+  pub due : stop ≡ IsThere → AreTurnsAnswered tested turns
   pub waited_before : run.old.input.waited ≡ true → run.new.input.waited ≡ true
   pub waited : stop ≡ Waited → run.new.input.waited ≡ true
 
 -- ---- how a turn ends
 
+-- Whether a turn is read on though what is owed has come, by the tested end, whether there is a turn after it, whether
+-- the turn that sends the close or fault is waited for as the last one is, and whether that was sent before it, and by
+-- now. The last turn to a server is read on, and that to a client where it was sent something that it has to end for.
+abbrev pub reads_on : Role → Bool → Bool → Bool → Bool → Bool
+reads_on tested true at_end before ended = at_end && (ended && not before)
+reads_on Server false at_end before ended = true
+reads_on Client false at_end before ended = ended
+
+-- where what is due has come the script goes on, if there is another turn
+abbrev pub answered_end : Bool → Option Ended
+answered_end true = None
+answered_end false = Some Tester
+
 -- how the script ends after a turn, if it does: whether a write has failed, whether the own direction was ended,
 -- whether there is another turn, and why no more was read
 abbrev pub end_of_turn : Bool → Bool → Bool → TurnStop → Option Ended
-end_of_turn failed ended more IsThere = None
-end_of_turn failed ended more Fault = Some Tester
+end_of_turn failed ended more IsThere = answered_end more
+end_of_turn failed ended more Final = Some Tester
 end_of_turn false false true Waited = None
 end_of_turn false false false Waited = Some Tester
 end_of_turn false true more Waited = Some Tester
@@ -171,40 +174,31 @@ end_of_turn failed ended more Failed = Some Broken
 end_of_turn failed ended more Budget = Some Broken
 
 -- a turn with these bytes that sent those: the script goes on after it, where there is one more, or ends in it
-abbrev pub GoesOnOrEnds : Option Ended → List ℕ → Bool → List ℕ → List ℕ → ConnectionValue → Type 0
-GoesOnOrEnds None bytes more sent got connection =
-    (more ≡ true) × (sent ≡ bytes) × IsReady connection × Stands Going got
-GoesOnOrEnds (Some ended) bytes more sent got connection = EndsTurn ended (more ≡ false) bytes sent got connection
-    × ((connection.output.ended ≡ true) ↔ Stands Closed got) × HasSentOf bytes connection.output.failed sent
+abbrev pub GoesOnOrEnds : Role → Option Ended → List ℕ → Bool → Type 0 → List ℕ → List ℕ → ConnectionValue → Type 0
+GoesOnOrEnds tested None bytes more has_come sent got connection =
+    (more ≡ true) × (sent ≡ bytes) × IsReady connection × Stands (other_role tested) Going got
+GoesOnOrEnds tested (Some ended) bytes more has_come sent got connection =
+    EndsTurn tested ended (more ≡ false) has_come bytes sent got connection
+    × ((connection.output.ended ≡ true) ↔ HalfCloses tested got) × HasSentOf bytes connection.output.failed sent
 
 -- a turn with these bytes was run, which has got `before`, as the turns before it have got `past`
-pub record RunsTurn (bytes past before : List ℕ) (more : Bool) (turn : Turn) (end : Option Ended)
-    (client : SessionValue) (run : ConnectionRun) : Type 0 where
+pub record RunsTurn (tested : Role) (bytes past before : List ℕ) (more : Bool) (has_come : Type 0) (turn : Turn)
+    (end : Option Ended) (tester : SessionValue) (run : ConnectionRun) : Type 0 where
   pub read : List ℕ
   pub has_got : ReadsBytes read run
   pub spent : run.old.input.allowance ≡ length read + run.new.input.allowance
   pub got : turn.got ≡ before ++ read
   pub has_put : WritesBytes turn.sent run
-  pub heard : HasHeard client (past ++ turn.got)
-  pub ends : GoesOnOrEnds end bytes more turn.sent (past ++ turn.got) run.new
+  pub heard : HasHeard (other_role tested) tester (past ++ turn.got)
+  pub ends : GoesOnOrEnds tested end bytes more has_come turn.sent (past ++ turn.got) run.new
 
 -- What is shown after a turn: where the script goes on, what is due has come, or some read has waited in vain.
-pub record SeesRun (end : Option Ended) (turns : List Turn) (seen : RunValue) (run : ConnectionRun) : Type 0 where
-  pub shown : HasSeen turns seen
-  pub follows : end ≡ None → AreTurnsAnswered Server turns ⊎ (run.new.input.waited ≡ true)
+pub record SeesRun (tested : Role) (end : Option Ended) (turns : List Turn) (seen : RunValue) (run : ConnectionRun) : Type 0 where
+  pub shown : HasSeen tested turns seen
+  pub follows : end ≡ None → AreTurnsAnswered tested turns ⊎ (run.new.input.waited ≡ true)
   pub waited_before : run.old.input.waited ≡ true → run.new.input.waited ≡ true
 
 -- ---- all turns
-
--- a script was run whose turns have these bytes, and of which the first has got `first`
-pub record Records (turns : List (List ℕ)) (first : List ℕ) (transcript : Transcript)
-    (run : ConnectionRun) : Type 0 where
-  pub read : List ℕ
-  pub has_got : ReadsBytes read run
-  pub spent : run.old.input.allowance ≡ length read + run.new.input.allowance
-  pub got : all_got transcript.turns ≡ first ++ read
-  pub has_put : WritesBytes (all_sent transcript.turns) run
-  pub ends : EndsScript turns first transcript run.new
 
 -- what came of a connection, once the request with these offers was written
 abbrev pub AnswersBehind : List (List ℕ) → List (List ℕ) → Probe → ConnectionRun → Type 0

@@ -1,11 +1,12 @@
--- A script that is run against a server (RFC 6455 sections 4.1 and 5 to 7): what is recorded is what went over the
+-- A script that is run against a tested end (RFC 6455 sections 4.1 and 5 to 7): what is recorded is what went over the
 -- connection, how long was waited for what is due, and how it ended.
 use Rattle.std.specs.Prelude.{◌≡◌, ℕ, ◌+◌, ◌<◌, ◌≤◌, ◌⊎◌, ◌↔◌, Bool, true, false, List, [], ◌∷◌, ◌++◌, length}
 use Rattle.std.specs.Prelude.{drop, map, take, codes, Option, Some}
 use Rattle.std.specs.List.{concat}
 use Rattle.std.specs.Io.KnownBytes.{IsAtEnd}
 use Rattle.ws_frame.specs.Devices.{HasBegun, IsUntouched}
-use Rattle.ws_wire.specs.declared.role.Role.TheVariants.{Server}
+use Rattle.ws_wire.specs.declared.role.Role.{Role}
+use Rattle.ws_wire.specs.declared.role.Role.TheVariants.{Client, Server}
 use Rattle.ws_upgrade.specs.Accept.{key_of}
 use Rattle.ws_upgrade.specs.declared.faults.HeadFault.{HeadFault}
 use Rattle.ws_upgrade.specs.Reading.{max_head}
@@ -16,16 +17,16 @@ use Rattle.ws_scripts.specs.declared.transcript.Ended.TheVariants.{Tester, Peer,
 use Rattle.ws_scripts.specs.declared.transcript.Turn.{Turn}
 use Rattle.ws_scripts.specs.declared.transcript.Transcript.{Transcript}
 use Rattle.ws_scripts.specs.Scripts.{turns_of, turn_bytes}
-use Rattle.ws_suite.specs.Evidence.{sent_turns, got_turns}
+use Rattle.ws_suite.specs.Evidence.{other_role, sent_turns, got_turns}
 use Rattle.ws_suite.specs.Growing.{AreTurnsAnswered}
 use Rattle.ws_peer.specs.Runs.{with_finish}
 use Rattle.ws_connection.specs.ConnectionValues.{ConnectionRun, ConnectionValue}
 use Rattle.ws_connection.specs.Connections.{ReadsBytes, WritesBytes, HasWorked, input_of, output_of}
-use Rattle.ws_connection.specs.Standings.{HasNoGotFault, Stands}
+use Rattle.ws_connection.specs.Standings.{EndsRun, HalfCloses, MayGoOn, Stands}
 use Rattle.ws_connection.specs.ReadingHeads.{ReadsHead, ReadsNoFurther}
 use Rattle.ws_connection.specs.Responses.{DecidesResponse, NeedsResponse}
 use Rattle.ws_connection.specs.declared.incoming.Incoming.TheVariants.{Unread, Waited, AtEnd, Failed}
-use Rattle.ws_connection.specs.declared.standing.Standing.TheVariants.{Going, Closed, Faulty}
+use Rattle.ws_connection.specs.declared.standing.Standing.TheVariants.{Going}
 use Rattle.ws_connection.specs.declared.reading_head.HeadEnd.TheVariants.{Cut, ReadFault}
 use Rattle.ws_connection.specs.declared.response_head.ResponseDecision.{ResponseDecision}
 use Rattle.ws_connection.specs.declared.response_head.ResponseDecision.TheVariants.{Accepted, Refused as RefusedHead}
@@ -49,14 +50,15 @@ bytes_by_turn case key = map (turn_bytes key) (turns_of case.steps)
 abbrev pub max_piece : ℕ
 max_piece = 4096
 
--- what was got has a fault, and nothing was read behind it but what came in one piece with it
-pub record EndsByFault (got : List ℕ) : Type 0 where
-  pub faulty : Stands Faulty got
+-- what was got ends the run, by a fault or, from a client, by a close, and nothing was read behind that but what came in
+-- one piece with it
+pub record EndsAtOnce (tested : Role) (got : List ℕ) : Type 0 where
+  pub final : EndsRun tested got
   pub before : List ℕ
   pub last : List ℕ
   pub parts : got ≡ before ++ last
   pub bound : length last ≤ max_piece
-  pub none_before : HasNoGotFault before
+  pub none_before : MayGoOn tested before
 
 -- the stream has ended
 abbrev pub HasEnded : ConnectionValue → Type 0
@@ -82,17 +84,31 @@ BreaksOff bytes sent connection =
     × ReadsNoMore connection)
 
 -- The last turn was waited out in vain: all of its bytes were sent, and nothing came in time. It is the last of the
--- script, or what was got has a close.
-abbrev pub WaitsInVain : Type 0 → List ℕ → List ℕ → List ℕ → ConnectionValue → Type 0
-WaitsInVain is_last bytes sent got connection = (sent ≡ bytes) × HasWorked connection
-    × (connection.input.state ≡ Waited) × HasNoGotFault got × (is_last ⊎ Stands Closed got)
+-- script, or the own direction was ended behind a close that was got.
+abbrev pub WaitsInVain : Role → Type 0 → List ℕ → List ℕ → List ℕ → ConnectionValue → Type 0
+WaitsInVain tested is_last bytes sent got connection = (sent ≡ bytes) × HasWorked connection
+    × (connection.input.state ≡ Waited) × MayGoOn tested got × (is_last ⊎ HalfCloses tested got)
 
--- how a script ended in a turn with these bytes, of which these were sent, where all this was got
-abbrev pub EndsTurn : Ended → Type 0 → List ℕ → List ℕ → List ℕ → ConnectionValue → Type 0
-EndsTurn Tester is_last bytes sent got connection = EndsByFault got ⊎ WaitsInVain is_last bytes sent got connection
-EndsTurn Peer is_last bytes sent got connection =
-    (sent ≡ bytes) × HasWorked connection × HasEnded connection × HasNoGotFault got
-EndsTurn Broken is_last bytes sent got connection = BreaksOff bytes sent connection × HasNoGotFault got
+-- Of these turns what is due has come, and what they sent has neither a close nor a fault, so that nothing else is waited
+-- for.
+abbrev pub HasAllCome : Role → List Turn → Type 0
+HasAllCome tested turns = AreTurnsAnswered tested turns × Stands tested Going (all_sent turns)
+
+-- the last turn to a client, which has nothing to end for: all of its bytes were sent, and all has come
+abbrev pub EndsAnswered : Role → Type 0 → Type 0 → List ℕ → List ℕ → List ℕ → ConnectionValue → Type 0
+EndsAnswered tested is_last has_come bytes sent got connection = (tested ≡ Client) × is_last × has_come
+    × (sent ≡ bytes) × HasWorked connection × Stands (other_role tested) Going got
+
+-- How a script ended in a turn with these bytes, of which these were sent, where all this was got. Whether it is the
+-- last of the script, and whether all has come, are statements that it takes.
+abbrev pub EndsTurn : Role → Ended → Type 0 → Type 0 → List ℕ → List ℕ → List ℕ → ConnectionValue → Type 0
+EndsTurn tested Tester is_last has_come bytes sent got connection = EndsAtOnce tested got
+    ⊎ (WaitsInVain tested is_last bytes sent got connection
+    ⊎ EndsAnswered tested is_last has_come bytes sent got connection)
+EndsTurn tested Peer is_last has_come bytes sent got connection =
+    (sent ≡ bytes) × HasWorked connection × HasEnded connection × MayGoOn tested got
+EndsTurn tested Broken is_last has_come bytes sent got connection =
+    BreaksOff bytes sent connection × MayGoOn tested got
 
 -- the first turn has got these bytes, and then others
 abbrev pub HasGotFirst : List ℕ → List Turn → Type 0
@@ -100,47 +116,59 @@ HasGotFirst first [] = ⊥
 HasGotFirst first (turn ∷ turns) = (rest : List ℕ) × (turn.got ≡ first ++ rest)
 
 -- A turn is sent behind these: what they got has neither a close nor a fault. The first one is sent where what came
--- with the head has no fault.
-abbrev pub MayFollow : List ℕ → List Turn → Type 0
-MayFollow first [] = HasNoGotFault first
-MayFollow first (turn ∷ turns) = Stands Going (all_got (turn ∷ turns))
+-- with the head does not end the run.
+abbrev pub MayFollow : Role → List ℕ → List Turn → Type 0
+MayFollow tested first [] = MayGoOn tested first
+MayFollow tested first (turn ∷ turns) = Stands (other_role tested) Going (all_got (turn ∷ turns))
 
 -- Behind each of these turns another one was sent: what was due by then had come, or some read has waited in vain.
-abbrev pub AreWaitedFor : List Turn → ConnectionValue → Type 0
-AreWaitedFor turns connection = (n : ℕ) → 0 < n → n ≤ length turns
-    → AreTurnsAnswered Server (take n turns) ⊎ (connection.input.waited ≡ true)
+abbrev pub AreWaitedFor : Role → List Turn → ConnectionValue → Type 0
+AreWaitedFor tested turns connection = (n : ℕ) → 0 < n → n ≤ length turns
+    → AreTurnsAnswered tested (take n turns) ⊎ (connection.input.waited ≡ true)
 
 -- The script ended in the turn that is recorded last: those before it sent all of their bytes and were waited for, that
 -- one sent all of its bytes too or a write failed, none was sent after it, and what came with the head was got in the
--- first. Its own direction was ended just where what was got has a close.
-pub record EndsInTurn (turns : List (List ℕ)) (first : List ℕ) (transcript : Transcript)
+-- first. The tester's own direction was ended just where what was got from a server has a close.
+pub record EndsInTurn (tested : Role) (turns : List (List ℕ)) (first : List ℕ) (transcript : Transcript)
     (connection : ConnectionValue) : Type 0 where
   pub with_head : HasGotFirst first transcript.turns
   pub before : List Turn
   pub last : Turn
   pub recorded : transcript.turns ≡ before ++ last ∷ []
-  pub behind : MayFollow first before
-  pub waited_for : AreWaitedFor before connection
+  pub behind : MayFollow tested first before
+  pub waited_for : AreWaitedFor tested before connection
   pub bytes : List ℕ
   pub others : List (List ℕ)
   pub sent : turns ≡ sent_turns before ++ bytes ∷ others
   pub sent_last : HasSentOf bytes connection.output.failed last.sent
-  pub ends : EndsTurn transcript.ended (others ≡ []) bytes last.sent (all_got transcript.turns) connection
-  pub half_closed : (connection.output.ended ≡ true) ↔ Stands Closed (all_got transcript.turns)
+  pub ends : EndsTurn tested transcript.ended (others ≡ []) (HasAllCome tested transcript.turns) bytes last.sent
+      (all_got transcript.turns) connection
+  pub half_closed : (connection.output.ended ≡ true) ↔ HalfCloses tested (all_got transcript.turns)
 
--- The script has no turns, or what came with the head has a fault: the tester ended it, nothing was sent, and what came
+-- The script has no turns, or what came with the head ends the run: the tester ended it, nothing was sent, and what came
 -- with the head is a turn, if it is anything.
-pub record EndsWithoutTurns (turns : List (List ℕ)) (first : List ℕ) (transcript : Transcript)
+pub record EndsWithoutTurns (tested : Role) (turns : List (List ℕ)) (first : List ℕ) (transcript : Transcript)
     (connection : ConnectionValue) : Type 0 where
-  pub none : (turns ≡ []) ⊎ Stands Faulty first
+  pub none : (turns ≡ []) ⊎ EndsRun tested first
   pub ended : transcript.ended ≡ Tester
   pub recorded : transcript.turns ≡ with_finish [] first
   pub works : HasWorked connection
   pub both_open : connection.output.ended ≡ false
 
-abbrev pub EndsScript : List (List ℕ) → List ℕ → Transcript → ConnectionValue → Type 0
-EndsScript turns first transcript connection =
-    EndsWithoutTurns turns first transcript connection ⊎ EndsInTurn turns first transcript connection
+abbrev pub EndsScript : Role → List (List ℕ) → List ℕ → Transcript → ConnectionValue → Type 0
+EndsScript tested turns first transcript connection =
+    EndsWithoutTurns tested turns first transcript connection ⊎ EndsInTurn tested turns first transcript connection
+
+-- A script was run over a connection to an end of this role, whose turns have these bytes, and of which the first has got
+-- `first`: just what the turns sent was written, and just what they got besides was read, no more than the budget.
+pub record Records (tested : Role) (turns : List (List ℕ)) (first : List ℕ) (transcript : Transcript)
+    (run : ConnectionRun) : Type 0 where
+  pub read : List ℕ
+  pub has_got : ReadsBytes read run
+  pub spent : run.old.input.allowance ≡ length read + run.new.input.allowance
+  pub got : all_got transcript.turns ≡ first ++ read
+  pub has_put : WritesBytes (all_sent transcript.turns) run
+  pub ends : EndsScript tested turns first transcript run.new
 
 -- ---- a connection to a server
 
@@ -179,7 +207,7 @@ pub record RunsScript (turns offers : List (List ℕ)) (request : List ℕ) (tra
   pub budget : run.old.input.allowance ≡ length read + run.new.input.allowance
   pub got : all_got transcript.turns ≡ drop used head ++ read
   pub has_put : WritesBytes (request ++ all_sent transcript.turns) run
-  pub ends : EndsScript turns (drop used head) transcript run.new
+  pub ends : EndsScript Server turns (drop used head) transcript run.new
 
 -- The answer was read to where it is to be refused, and nothing else.
 pub record RefusesResponse (offers : List (List ℕ)) (request : List ℕ) (fault : HeadFault)

@@ -2,9 +2,9 @@
 //! comes behind it, on either side (RFC 6455 sections 4.1, 4.2 and 5 to 7). The device is any: a socket, or bytes in
 //! memory.
 //!
-//! The layer above uses: `serve_one` (the clauses with `Serves`), `probe` (`Probes`) over a `Connection`, `read_head`
-//! (the clauses with `ReadsHead`) with `RequestHead` and `ResponseHead`, and `protocols_of`, whose `Protocols` both
-//! take.
+//! The layer above uses: `serve_one` (the clauses with `Serves`), `probe` (`Probes`) over a `Connection` and `run_script`
+//! (`Records`) over one whose handshake is done, `read_head` (the clauses with `ReadsHead`) with `RequestHead` and
+//! `ResponseHead`, and `protocols_of`, whose `Protocols` both take.
 #![tactic(auto)]
 
 mod connection;
@@ -23,7 +23,7 @@ pub use connection::{Connection, EndsDirection};
 pub use incoming::Incoming;
 pub use observer::{Observer, Silent};
 pub use probe_end::Probe;
-pub use probing::{Asked, NONCE, probe};
+pub use probing::{Asked, NONCE, ScriptRun, probe, run_script};
 pub use protocols::{Protocols, protocols_of};
 pub use reading_head::{HeadDecider, HeadEnd, HeadRoom, read_head};
 pub use request_head::{RequestDecision, RequestHead};

@@ -1,5 +1,6 @@
 //! A script that is run against a server: the opening handshake, and then its turns (RFC 6455 sections 4.1 and 5 to 7).
 
+mod run;
 mod script;
 mod turn;
 
@@ -19,11 +20,13 @@ use crate::probe_end::Probe;
 use crate::probing::script::run_turns;
 use crate::reading_head::{HeadEnd, HeadRoom};
 use crate::response_head::{ResponseDecision, ResponseHead};
+pub use run::{ScriptRun, run_script};
 use std::alloc::Global;
 use std::io::Read;
 use ws_base::{NoMemory, Payload, Sequence};
 use ws_suite::{Case, turns};
 use ws_upgrade::{AddedHeaders, Host, Offers, Path, request_of};
+use ws_wire::Role;
 
 /// The nonce of each probe, 16 bytes: always the same, so that captures are repeatable.
 pub const NONCE: [u8; 16] = *b"the sample nonce";
@@ -118,7 +121,8 @@ fn after_request<R: Read, W: EndsDirection, O: Observer>(
         HeadEnd::Decided(ResponseDecision::Accepted { used, .. }) => {
             let first = bytes_behind(alloc, room.as_slice(), used)?;
             let waits = asked.has_timeouts;
-            let transcript = run_turns(alloc, script, first, waits, connection, observer)?;
+            let tested = Role::Server;
+            let transcript = run_turns(alloc, tested, script, first, waits, connection, observer)?;
             observer.ended(transcript.ended)?;
             Ok(Probe::Ran(transcript))
         }

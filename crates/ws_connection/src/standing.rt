@@ -1,11 +1,12 @@
-//! How what was got from a server stands.
+//! How what was got from a tested end stands.
 
 ghost use Rattle.std.specs.Prelude.{◌≡◌};
-ghost use Rattle.ws_connection.specs.Standings.{standing_by};
+ghost use Rattle.ws_connection.specs.Standings.{is_final, standing_by};
 
 use ws_suite::RunEvidence;
+use ws_wire::Role;
 
-/// What the bytes that were got end with, as a client reads them.
+/// What the bytes that were got end with, as the tester reads them.
 #[derive(Clone, Copy, PartialEq, Eq)]
 pub enum Standing {
     /// They hold neither a close nor a fault.
@@ -27,4 +28,19 @@ pub(crate) fn standing_of(evidence: &RunEvidence) -> Standing
         return Standing::Closed;
     }
     Standing::Going
+}
+
+/// Whether a run ends where what was got from the tested end stands so: by a fault; and by a close of a client, since the
+/// server ends the connection (RFC 6455 section 7.1.1).
+pub(crate) fn is_final(tested: Role, standing: Standing) -> bool
+    ensures { result ≡ is_final tested standing }
+{
+    match standing {
+        Standing::Going => false,
+        Standing::Closed => match tested {
+            Role::Server => false,
+            Role::Client => true,
+        },
+        Standing::Faulty => true,
+    }
 }

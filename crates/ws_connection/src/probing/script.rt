@@ -1,24 +1,27 @@
-//! The turns of a script that is run against a server, and the transcript of them.
+//! The turns of a script that is run against a tested end, and the transcript of them.
 
 ghost use Rattle.std.specs.Prelude.{◌≡◌, [], ◌∷◌, ◌++◌, map, IfOk, OnOk};
 ghost use Rattle.std.specs.List.{concat};
 ghost use Rattle.ws_peer.specs.Runs.{with_finish};
-ghost use Rattle.ws_connection.specs.InnerProbeTurns.{IsReady, Records};
+ghost use Rattle.ws_connection.specs.Probing.{Records};
+ghost use Rattle.ws_connection.specs.Connections.{IsReady};
 ghost use Rattle.ws_connection.specs.Observing.{HearsTurns, IsHearing};
 
 use crate::connection::{Connection, EndsDirection};
 use crate::observer::Observer;
 use crate::probing::turn::{TurnPlan, run_turn};
+use crate::standing::{is_final, standing_of};
 use std::alloc::Global;
 use std::io::Read;
 use ws_base::{NoMemory, Payload, Sequence};
 use ws_suite::{Ended, RunEvidence, Transcript, Turn};
 use ws_wire::Role;
 
-/// Sends the turns and reads what comes for each. `first` came with the head: where it has a fault, nothing is sent.
-/// `waits_at_end` is that of each turn. The observer is told of each turn.
+/// Sends the turns to a tested end and reads what comes for each. `first` came with the head: where it ends the run,
+/// nothing is sent. `waits_at_end` is that of each turn. The observer is told of each turn.
 pub fn run_turns<R: Read, W: EndsDirection, O: Observer>(
     alloc: Global,
+    tested: Role,
     script: &[Sequence<Payload>],
     first: Vec<u8>,
     waits_at_end: bool,
@@ -27,19 +30,19 @@ pub fn run_turns<R: Read, W: EndsDirection, O: Observer>(
 ) -> Result<Transcript, O::Fault>
     requires ready { IsReady connection.old }
     requires hearing { IsHearing O.heard observer.old }
-    ensures runs { IfOk result (λ transcript. Records (map concat script.now) first.items transcript
+    ensures runs { IfOk result (λ transcript. Records tested (map concat script.now) first.items transcript
         (record { old = connection.old; new = connection.new })) }
     ensures told { IfOk result (λ transcript. HearsTurns O.heard observer.old observer.new transcript.turns) }
     ensures borrow { O.borrow observer.new ≡ O.borrow observer.old }
 {
-    let mut evidence = RunEvidence::new(alloc, Role::Server);
+    let mut evidence = RunEvidence::new(alloc, tested);
     evidence.begin_turn();
     evidence.on_got(first.as_slice())?;
     if script.is_empty() {
         let turns = tell_without_turns(alloc, first, observer)?;
         return Ok(transcript_of(turns, Ended::Tester));
     }
-    if evidence.has_got_fault() {
+    if is_final(tested, standing_of(&evidence)) {
         let turns = tell_without_turns(alloc, first, observer)?;
         return Ok(transcript_of(turns, Ended::Tester));
     }
@@ -49,6 +52,7 @@ pub fn run_turns<R: Read, W: EndsDirection, O: Observer>(
         let more = done.len() < script.len() - 1;
         let bytes = pieces.as_slice();
         let plan = TurnPlan {
+            tested,
             pieces: bytes,
             more,
             waits_at_end,

@@ -1,33 +1,36 @@
-//! One turn of a script that is run against a server: its pieces are sent, and what comes for them is read.
+//! One turn of a script that is run against a tested end: its pieces are sent, and what comes for them is read.
 
 ghost use Rattle.std.specs.Prelude.{◌≡◌, ◌++◌, ◌∷◌, [], ℕ, List, Some, true, false, IfOk, OnOk};
 ghost use Rattle.std.specs.List.{concat};
-ghost use Rattle.ws_connection.specs.Connections.{MayRead, is_open};
-ghost use Rattle.ws_wire.specs.declared.role.Role.TheVariants.{Server};
+ghost use Rattle.ws_connection.specs.Connections.{IsReady, MayRead, is_open};
+ghost use Rattle.ws_wire.specs.declared.role.Role.TheVariants.{Client};
 ghost use Rattle.ws_scripts.specs.declared.transcript.Turn.{Turn};
 ghost use Rattle.ws_suite.specs.Growing.{AreTurnsAnswered};
 ghost use Rattle.ws_connection.specs.Observing.{HasHeardGot, HearsTurns, IsHearing, KeepsUp};
-ghost use Rattle.ws_connection.specs.Probing.{all_got};
-ghost use Rattle.ws_connection.specs.Standings.{HasNoGotFault, standing_by};
-ghost use Rattle.ws_connection.specs.InnerProbeTurns.{HasSeen, IsReady, ReadsPiece, ReadsTurn, RunsTurn, SeesRun};
+ghost use Rattle.ws_connection.specs.Probing.{HasAllCome, all_got};
+ghost use Rattle.ws_connection.specs.Standings.{MayGoOn, standing_by};
+ghost use Rattle.ws_connection.specs.InnerProbeTurns.{HasSeen, ReadsPiece, ReadsTurn, RunsTurn, SeesRun};
 ghost use Rattle.ws_connection.specs.InnerProbeTurns.{SeesTurn, SendsTurn, StopsBefore, end_of_turn, stop_at};
-ghost use Rattle.ws_connection.specs.InnerProbeTurns.{then_turn};
+ghost use Rattle.ws_connection.specs.InnerProbeTurns.{reads_on, then_turn};
 ghost use Rattle.ws_connection.specs.declared.probing.turn.TurnStop.TheVariants.{IsThere};
 
 use crate::connection::{Connection, EndsDirection};
 use crate::incoming::Incoming;
 use crate::observer::Observer;
-use crate::standing::{Standing, standing_of};
+use crate::standing::{Standing, is_final, standing_of};
 use std::alloc::Global;
 use std::io::Read;
 use ws_base::{NoMemory, Payload};
 use ws_frame::READ_SIZE;
 use ws_session::laws::one_list_of_events;
 use ws_suite::{Ended, RunEvidence, Turn};
+use ws_wire::Role;
 
 /// What is sent in a turn, and how long is read in it.
 #[derive(Clone, Copy)]
 pub struct TurnPlan<'a> {
+    /// The tested end.
+    pub tested: Role,
     /// What is sent, one after the other.
     pub pieces: &'a [Payload],
     /// Whether there is a turn after it.
@@ -37,19 +40,28 @@ pub struct TurnPlan<'a> {
 }
 
 impl TurnPlan<'_> {
-    /// Whether a turn is read to the end of the stream, though what is owed has come. `ends` is that it holds the close
-    /// or fault of what is sent.
-    fn wait(self, ends: bool) -> bool
-        ensures last { self.entry.more ≡ false → result ≡ true }
+    /// Whether a turn is read to the end of the stream, though what is owed has come. `ended_before` is that the turns
+    /// before it have sent a close or a fault, `ended` that it is sent by now. In the last turn a client that was sent
+    /// neither has nothing to end the connection for.
+    fn wait(self, ended_before: bool, ended: bool) -> bool
+        ensures value { result
+            ≡ reads_on self.entry.tested self.entry.more self.entry.waits_at_end ended_before ended }
+        ensures last { self.entry.more ≡ false → result ≡ false → (self.entry.tested ≡ Client) × (ended ≡ false) }
     {
-        !self.more || self.waits_at_end && ends
+        if self.more {
+            return self.waits_at_end && (ended && !ended_before);
+        }
+        match self.tested {
+            Role::Server => true,
+            Role::Client => ended,
+        }
     }
 }
 
 /// Sends the pieces of a turn and reads what comes for it: in the last one, as after a failed write, to the end of the
-/// stream, and in others until what is owed has come or a read has waited in vain. `before` came before it. Once what
-/// was got has a close, it ends its own direction and reads on to the end; once that has a fault, no more is read.
-/// Answers the turn, and how the script ended, if it did. The observer is told of the turn once it was sent, and of
+/// stream, and in others, as in the last one to a client that has nothing to end for, until what is owed has come or a
+/// read has waited in vain. `before` came before it. Once what was got from a server has a close, it ends its own
+/// direction and reads on to the end; once it has a close from a client, or a fault, no more is read. Answers the turn, and how the script ended, if it did. The observer is told of the turn once it was sent, and of
 /// what it has got as it comes.
 pub fn run_turn<R: Read, W: EndsDirection, O: Observer>(
     alloc: Global,
@@ -61,11 +73,14 @@ pub fn run_turn<R: Read, W: EndsDirection, O: Observer>(
 ) -> Result<(Turn, Option<Ended>), O::Fault>
     requires ready { IsReady connection.old }
     requires hearing { IsHearing O.heard observer.old }
-    ensures runs { IfOk result (λ run. (past : List Turn) → HasSeen (then_turn past [] before.items) evidence.old
-        → HasNoGotFault (all_got past ++ before.items)
-        → RunsTurn (concat plan.entry.pieces.now) (all_got past) before.items plan.entry.more run.0 run.1 evidence.new.tester
+    ensures runs { IfOk result (λ run. (past : List Turn) →
+        HasSeen plan.entry.tested (then_turn past [] before.items) evidence.old
+        → MayGoOn plan.entry.tested (all_got past ++ before.items)
+        → RunsTurn plan.entry.tested (concat plan.entry.pieces.now) (all_got past) before.items plan.entry.more
+        (HasAllCome plan.entry.tested (past ++ run.0 ∷ [])) run.0 run.1 evidence.new.tester
         (record { old = connection.old; new = connection.new })
-        × SeesRun run.1 (past ++ run.0 ∷ []) evidence.new (record { old = connection.old; new = connection.new })) }
+        × SeesRun plan.entry.tested run.1 (past ++ run.0 ∷ []) evidence.new
+        (record { old = connection.old; new = connection.new })) }
     ensures told { IfOk result (λ run. HearsTurns O.heard observer.old observer.new (run.0 ∷ [])) }
     ensures borrow { O.borrow observer.new ≡ O.borrow observer.old }
 {
@@ -73,11 +88,11 @@ pub fn run_turn<R: Read, W: EndsDirection, O: Observer>(
     let sent = send(alloc, plan.pieces, connection)?;
     let had_ended = evidence.has_sent_end();
     evidence.on_sent(sent.as_slice())?;
-    let waits = plan.wait(!had_ended && evidence.has_sent_end());
+    let waits = plan.wait(had_ended, evidence.has_sent_end());
     observer.turn_sent(sent.as_slice())?;
     observer.got(before.as_slice())?;
     let mut got = before;
-    let stop = read_turn(connection, waits, evidence, &mut got, observer)?;
+    let stop = read_turn(plan.tested, connection, waits, evidence, &mut got, observer)?;
     let turn = Turn {
         sent: Payload::from_vec(sent),
         got: Payload::from_vec(got),
@@ -113,8 +128,8 @@ fn send<R: Read, W: EndsDirection>(
 enum TurnStop {
     /// What is owed has come.
     IsThere,
-    /// What was got has a fault.
-    Fault,
+    /// What was got has a fault, or from a client a close.
+    Final,
     /// A read has waited in vain.
     Waited,
     /// The stream has ended.
@@ -135,8 +150,8 @@ fn end_of_turn<R: Read, W: EndsDirection>(
 {
     let goes = more && !connection.is_half_closed();
     match (stop, connection.has_write_failed()) {
-        (TurnStop::IsThere, _) => None,
-        (TurnStop::Fault, _) => Some(Ended::Tester),
+        (TurnStop::IsThere, _) if more => None,
+        (TurnStop::IsThere | TurnStop::Final, _) => Some(Ended::Tester),
         (TurnStop::Waited, false) if goes => None,
         (TurnStop::Waited, false) => Some(Ended::Tester),
         (TurnStop::End, false) => Some(Ended::Peer),
@@ -146,8 +161,9 @@ fn end_of_turn<R: Read, W: EndsDirection>(
 }
 
 /// Reads what comes in a turn, and puts it behind what was got: where it `waits`, as after a failed write or a close
-/// that was got, to the end of the stream, and else until what is owed has come.
+/// that was got from a server, to the end of the stream, and else until what is owed has come.
 fn read_turn<R: Read, W: EndsDirection, O: Observer>(
+    tested: Role,
     connection: &mut Connection<R, W>,
     waits: bool,
     evidence: &mut RunEvidence,
@@ -158,10 +174,11 @@ fn read_turn<R: Read, W: EndsDirection, O: Observer>(
     requires ended { connection.old.output.ended ≡ false }
     requires hearing { HasHeardGot O.heard observer.old got.old.items }
     ensures reads { IfOk result (λ stop. (past : List Turn) (sent : List ℕ)
-        → HasSeen (then_turn past sent got.old.items) evidence.old → HasNoGotFault (all_got past ++ got.old.items)
-        → ReadsTurn waits stop (all_got past) got.old.items got.new.items evidence.new.tester
+        → HasSeen tested (then_turn past sent got.old.items) evidence.old
+        → MayGoOn tested (all_got past ++ got.old.items)
+        → ReadsTurn tested waits stop (all_got past) got.old.items got.new.items evidence.new.tester
         (record { old = connection.old; new = connection.new })
-        × SeesTurn stop (then_turn past sent got.new.items) evidence.new
+        × SeesTurn tested stop (then_turn past sent got.new.items) evidence.new
         (record { old = connection.old; new = connection.new })) }
     ensures told { IfOk result (λ stop. KeepsUp O.heard observer.old observer.new got.old.items got.new.items) }
     ensures borrow { O.borrow observer.new ≡ O.borrow observer.old }
@@ -169,7 +186,7 @@ fn read_turn<R: Read, W: EndsDirection, O: Observer>(
     one_list_of_events();
     let mut room = [0; READ_SIZE];
     'reads: loop {
-        match stop_before(connection, waits, evidence) {
+        match stop_before(tested, connection, waits, evidence) {
             Some(stop) => return Ok(stop),
             None => {}
         }
@@ -180,21 +197,22 @@ fn read_turn<R: Read, W: EndsDirection, O: Observer>(
     }
 }
 
-/// Why nothing is read here, or `None` where a read is to follow. Where what was got has a close, its own direction is
-/// ended.
+/// Why nothing is read here, or `None` where a read is to follow. Where what was got from a server has a close, its own
+/// direction is ended.
 fn stop_before<R: Read, W: EndsDirection>(
+    tested: Role,
     connection: &mut Connection<R, W>,
     waits: bool,
     evidence: &RunEvidence,
 ) -> Option<TurnStop>
-    ensures stops { StopsBefore result waits (standing_by evidence.now.tester.status)
+    ensures stops { StopsBefore tested result waits (standing_by evidence.now.tester.status)
         (record { old = connection.old; new = connection.new }) }
-    ensures due { result ≡ Some IsThere → (turns : List Turn) → HasSeen turns evidence.now →
-        AreTurnsAnswered Server turns }
+    ensures due { result ≡ Some IsThere → (turns : List Turn) → HasSeen tested turns evidence.now →
+        AreTurnsAnswered tested turns }
 {
     let standing = standing_of(evidence);
-    if standing == Standing::Faulty {
-        return Some(TurnStop::Fault);
+    if is_final(tested, standing) {
+        return Some(TurnStop::Final);
     }
     if standing == Standing::Closed && !connection.is_half_closed() {
         connection.end_direction();

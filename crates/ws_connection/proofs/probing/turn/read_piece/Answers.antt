@@ -1,6 +1,5 @@
 -- A read that brought nothing leaves what was got; what one has brought is put behind it.
 use Rattle.std.proofs.Common.{◌≡◌, ◌∙◌, ◌<◌, ap, rules, take}
-use Rattle.ws_wire.specs.declared.role.Role.TheVariants.{Server}
 use Rattle.ws_connection.specs.InnerProbeTurns.{stop_at}
 use Rattle.ws_connection.specs.declared.incoming.Incoming.{Incoming}
 use Rattle.ws_connection.proofs.ProbingLemmas.{no_piece, some_piece}
@@ -23,7 +22,7 @@ returns-clause-reads g c =
       has_got = c.read-count.ensures.got;
       spent = search rules;
       output = c.read-count.ensures.output;
-      seen = λ past turn h. c.in_ok-on_got.ensures.grown Server past turn h;
+      seen = λ tested past turn h. c.in_ok-on_got.ensures.grown tested past turn h;
       over = c.in_ok-on_got.ensures.over;
       waited = c.read-count.ensures.waited;
       stops = some_piece c.read-count.new.room c.read-count.result c.read-count.new.self.input.state some c.read-count.ensures.bound c.read-count.ensures.brings;

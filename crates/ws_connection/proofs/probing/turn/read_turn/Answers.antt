@@ -3,7 +3,6 @@ use Rattle.std.proofs.Common.{◌≡◌, ◌∙◌, List, Option, refl, rules, s
 use Rattle.std.specs.Prelude.{None, Some}
 use Rattle.ws_scripts.specs.declared.transcript.Turn.{Turn}
 use Rattle.ws_suite.specs.Growing.{AreTurnsAnswered}
-use Rattle.ws_wire.specs.declared.role.Role.TheVariants.{Server}
 use Rattle.ws_connection.specs.Probing.{all_got}
 use Rattle.ws_connection.specs.Standings.{standing_by}
 use Rattle.ws_connection.specs.InnerProbeTurns.{HasSeen, StopsBefore}
@@ -17,7 +16,7 @@ pub reads-init : goal.reads-init
 reads-init g c = (
   c.requires.open,
   λ past sent seen none. (
-    nothing_read (all_got past) c.args.got.now.items c.args.evidence.now.tester c.args.connection.now c.requires.ended (heard_in_turn past sent c.args.got.now.items c.args.evidence.now seen) none,
+    nothing_read c.args.tested (all_got past) c.args.got.now.items c.args.evidence.now.tester c.args.connection.now c.requires.ended (heard_in_turn c.args.tested past sent c.args.got.now.items c.args.evidence.now seen) none,
     seen,
   ),
   λ e. e,
@@ -28,25 +27,25 @@ reads-init g c = (
 pub returns-in-Some-clause-reads : goal.returns-in-Some-clause-reads
 returns-in-Some-clause-reads g c = λ past sent seen none.
     let is : c.stop_before.result ≡ Some c.in-Some.stop = search rules in
-    let stops = subst (λ (o : Option TurnStop). StopsBefore o c.args.waits (standing_by c.reads.evidence.tester.status) (between c.reads.connection c.stop_before.new.connection)) is c.stop_before.ensures.stops in
-    let due = subst (λ (o : Option TurnStop). o ≡ Some IsThere → (turns : List Turn) → HasSeen turns c.reads.evidence → AreTurnsAnswered Server turns) is c.stop_before.ensures.due in
+    let stops = subst (λ (o : Option TurnStop). StopsBefore c.args.tested o c.args.waits (standing_by c.reads.evidence.tester.status) (between c.reads.connection c.stop_before.new.connection)) is c.stop_before.ensures.stops in
+    let due = subst (λ (o : Option TurnStop). o ≡ Some IsThere → (turns : List Turn) → HasSeen c.args.tested turns c.reads.evidence → AreTurnsAnswered c.args.tested turns) is c.stop_before.ensures.due in
     let (so_far, shown) = c.reads.invariant.1 past sent seen none in (
-      stopped_before c.one_list_of_events.ensures c.args.waits c.in-Some.stop (all_got past) c.args.got.now.items c.reads.got.items c.reads.evidence.tester c.args.connection.now c.reads.connection
+      stopped_before c.one_list_of_events.ensures c.args.tested c.args.waits c.in-Some.stop (all_got past) c.args.got.now.items c.reads.got.items c.reads.evidence.tester c.args.connection.now c.reads.connection
           c.stop_before.new.connection c.reads.invariant.0 so_far stops,
-      sees_before c.args.waits c.in-Some.stop (standing_by c.reads.evidence.tester.status) _ c.reads.evidence c.args.connection.now c.reads.connection c.stop_before.new.connection shown c.reads.invariant.2 stops due,
+      sees_before c.args.tested c.args.waits c.in-Some.stop (standing_by c.reads.evidence.tester.status) _ c.reads.evidence c.args.connection.now c.reads.connection c.stop_before.new.connection shown c.reads.invariant.2 stops due,
     )
 
 pub returns-in-Some-2-clause-reads : goal.returns-in-Some-2-clause-reads
 returns-in-Some-2-clause-reads g c = λ past sent seen none.
     let goes : c.stop_before.result ≡ None = search rules in
-    let stops = subst (λ (o : Option TurnStop). StopsBefore o c.args.waits (standing_by c.reads.evidence.tester.status) (between c.reads.connection c.stop_before.new.connection)) goes c.stop_before.ensures.stops in
+    let stops = subst (λ (o : Option TurnStop). StopsBefore c.args.tested o c.args.waits (standing_by c.reads.evidence.tester.status) (between c.reads.connection c.stop_before.new.connection)) goes c.stop_before.ensures.stops in
     let is : c.in_ok-stop.field-0 ≡ Some c.in-Some-2.stop = search rules in
     let (so_far, shown) = c.reads.invariant.1 past sent seen none in
     let piece = c.in_ok-stop.ensures.reads in
-    let after = seen_more past sent c.reads.got.items c.read_piece.new.got.items piece.piece c.reads.evidence c.read_piece.new.evidence piece.grown piece.seen shown in (
-      stopped_at_read c.one_list_of_events.ensures (all_got past) c.args.got.now.items c.reads.got.items c.read_piece.new.got.items c.reads.evidence c.read_piece.new.evidence c.args.connection.now c.reads.connection
-          c.stop_before.new.connection c.read_piece.new.connection c.args.waits c.in_ok-stop.field-0 so_far stops piece (heard_in_turn past sent c.read_piece.new.got.items c.read_piece.new.evidence after) c.in-Some-2.stop is,
-      sees_after c.in-Some-2.stop c.in_ok-stop.field-0 c.reads.got.items c.read_piece.new.got.items _ c.reads.evidence c.read_piece.new.evidence c.args.connection.now c.reads.connection c.stop_before.new.connection
+    let after = seen_more c.args.tested past sent c.reads.got.items c.read_piece.new.got.items piece.piece c.reads.evidence c.read_piece.new.evidence piece.grown piece.seen shown in (
+      stopped_at_read c.one_list_of_events.ensures c.args.tested (all_got past) c.args.got.now.items c.reads.got.items c.read_piece.new.got.items c.reads.evidence c.read_piece.new.evidence c.args.connection.now c.reads.connection
+          c.stop_before.new.connection c.read_piece.new.connection c.args.waits c.in_ok-stop.field-0 so_far stops piece (heard_in_turn c.args.tested past sent c.read_piece.new.got.items c.read_piece.new.evidence after) c.in-Some-2.stop is,
+      sees_after c.args.tested c.in-Some-2.stop c.in_ok-stop.field-0 c.reads.got.items c.read_piece.new.got.items _ c.reads.evidence c.read_piece.new.evidence c.args.connection.now c.reads.connection c.stop_before.new.connection
           c.read_piece.new.connection is after c.reads.invariant.2 stops.input piece,
     )
 
@@ -54,14 +53,14 @@ pub reads-preserved : goal.reads-preserved
 reads-preserved g c =
     let goes : c.stop_before.result ≡ None = search rules in
     let more : c.in_ok-stop.field-0 ≡ None = search rules in
-    let stops = subst (λ (o : Option TurnStop). StopsBefore o c.args.waits (standing_by c.reads.evidence.tester.status) (between c.reads.connection c.stop_before.new.connection)) goes c.stop_before.ensures.stops in
+    let stops = subst (λ (o : Option TurnStop). StopsBefore c.args.tested o c.args.waits (standing_by c.reads.evidence.tester.status) (between c.reads.connection c.stop_before.new.connection)) goes c.stop_before.ensures.stops in
     let piece = c.in_ok-stop.ensures.reads in (
       still_open c.reads.got.items c.read_piece.new.got.items c.reads.evidence c.read_piece.new.evidence c.stop_before.new.connection c.read_piece.new.connection c.in_ok-stop.field-0 more piece,
       λ past sent seen none.
           let (so_far, shown) = c.reads.invariant.1 past sent seen none in
-          let after = seen_more past sent c.reads.got.items c.read_piece.new.got.items piece.piece c.reads.evidence c.read_piece.new.evidence piece.grown piece.seen shown in (
-            more_read c.one_list_of_events.ensures (all_got past) c.args.got.now.items c.reads.got.items c.read_piece.new.got.items c.reads.evidence c.read_piece.new.evidence c.args.connection.now c.reads.connection
-                c.stop_before.new.connection c.read_piece.new.connection c.args.waits c.in_ok-stop.field-0 so_far stops piece (heard_in_turn past sent c.read_piece.new.got.items c.read_piece.new.evidence after),
+          let after = seen_more c.args.tested past sent c.reads.got.items c.read_piece.new.got.items piece.piece c.reads.evidence c.read_piece.new.evidence piece.grown piece.seen shown in (
+            more_read c.one_list_of_events.ensures c.args.tested (all_got past) c.args.got.now.items c.reads.got.items c.read_piece.new.got.items c.reads.evidence c.read_piece.new.evidence c.args.connection.now c.reads.connection
+                c.stop_before.new.connection c.read_piece.new.connection c.args.waits c.in_ok-stop.field-0 so_far stops piece (heard_in_turn c.args.tested past sent c.read_piece.new.got.items c.read_piece.new.evidence after),
             after,
           ),
       waited_on c.args.connection.now c.reads.connection c.stop_before.new.connection c.read_piece.new.connection c.reads.invariant.2 stops.input piece.waited,
