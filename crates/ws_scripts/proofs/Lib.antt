@@ -1,4 +1,5 @@
 mod TurnLemmas
+mod CaseNaming
 mod CaptureWords
 pub mod CaptureParts
 mod CaptureTurns

@@ -4,6 +4,7 @@ pub mod Captures
 pub mod Captures2
 pub mod ScriptLines
 pub mod ScriptTexts
+pub mod CaseNames
 pub mod InnerCapturing
 pub mod InnerScripting
 pub mod InnerCases

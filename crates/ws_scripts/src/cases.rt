@@ -15,9 +15,10 @@ mod scripting;
 mod sequences;
 mod utf8;
 
-ghost use Rattle.std.specs.Prelude.{◌≡◌, IfOk, IfSome, string_bytes, true};
-ghost use Rattle.std.specs.List.{list_all};
-ghost use Rattle.ws_scripts.specs.InnerCases.{section_fits};
+ghost use Rattle.std.specs.Prelude.{◌≡◌, ◌<◌, ◌++◌, [], get_or, map, IfOk, IfSome, MatchOption, string_bytes, true};
+ghost use Rattle.std.specs.List.{list_all, Contains};
+ghost use Rattle.ws_scripts.specs.CaseNames.{case_names, listed_names};
+ghost use Rattle.ws_scripts.specs.InnerCases.{names_by_part, section_names_of, section_fits, section_names};
 ghost use Rattle.ws_scripts.specs.Scripts.{CanBeRun};
 
 use crate::cases::row::Section;
@@ -28,7 +29,9 @@ use ws_base::{NoMemory, Sequence};
 
 /// The case with this name, as `5.19`. `None` where there is none.
 pub fn case(alloc: Global, id: &str) -> Result<Option<Case>, NoMemory>
-    ensures { IfOk result (λ found. IfSome found (λ case. CanBeRun case × (string_bytes case.id ≡ id.now))) }
+    ensures found { IfOk result (λ found. MatchOption found (¬ (Contains case_names id.now))
+        (λ case. Contains case_names id.now × (string_bytes case.id ≡ id.now))) }
+    ensures run { IfOk result (λ found. IfSome found CanBeRun) }
 {
     for part in 0..ALL_PARTS {
         let found = case_in(alloc, sections(part), id)?;
@@ -42,7 +45,9 @@ pub fn case(alloc: Global, id: &str) -> Result<Option<Case>, NoMemory>
 /// The case with this name among these.
 fn case_in(alloc: Global, sections: &[Section], id: &str) -> Result<Option<Case>, NoMemory>
     requires { list_all section_fits sections.now ≡ true }
-    ensures { IfOk result (λ found. IfSome found (λ case. CanBeRun case × (string_bytes case.id ≡ id.now))) }
+    ensures found { IfOk result (λ found. MatchOption found (¬ (Contains (section_names_of sections.now) id.now))
+        (λ case. Contains (section_names_of sections.now) id.now × (string_bytes case.id ≡ id.now))) }
+    ensures run { IfOk result (λ found. IfSome found CanBeRun) }
 {
     for section in sections {
         if let Some(place) = place_of(*section, id) {
@@ -54,20 +59,34 @@ fn case_in(alloc: Global, sections: &[Section], id: &str) -> Result<Option<Case>
 }
 
 /// The names of the 240 cases, in the order of the table. The six whose names begin with `x` are not among them.
-pub fn ids(alloc: Global) -> Result<Sequence<String>, NoMemory> {
-    let mut ids = Vec::new(alloc);
+pub fn ids(alloc: Global) -> Result<Sequence<String>, NoMemory>
+    ensures { IfOk result (λ names. map string_bytes names ≡ listed_names) }
+{
+    let mut names = Vec::new(alloc);
     for part in 0..LISTED_PARTS {
-        for section in sections(part) {
-            push_names(alloc, *section, &mut ids)?;
-        }
+        push_all(alloc, sections(part), &mut names)?;
     }
-    Ok(Sequence::from_vec(ids))
+    Ok(Sequence::from_vec(names))
+}
+
+/// Puts the names of the cases of some sections at the end of the names.
+fn push_all(alloc: Global, sections: &[Section], names: &mut Vec<String>) -> Result<(), NoMemory>
+    ensures { IfOk result (λ _. map string_bytes names.new.items ≡
+        map string_bytes names.old.items ++ section_names_of sections.now) }
+{
+    for section in sections {
+        push_names(alloc, *section, names)?;
+    }
+    Ok(())
 }
 
 /// Puts the names of a section's cases at the end of the names.
-fn push_names(alloc: Global, section: Section, ids: &mut Vec<String>) -> Result<(), NoMemory> {
+fn push_names(alloc: Global, section: Section, names: &mut Vec<String>) -> Result<(), NoMemory>
+    ensures { IfOk result (λ _. map string_bytes names.new.items ≡
+        map string_bytes names.old.items ++ section_names section) }
+{
     for place in 0..count_of(section) {
-        ids.push(name_of(alloc, section, place)?)?;
+        names.push(name_of(alloc, section, place)?)?;
     }
     Ok(())
 }
@@ -81,7 +100,9 @@ const ALL_PARTS: usize = 9;
 /// A part of the table of cases. The groups stand in their order, the sixth in two parts, and then the cases that are
 /// not listed.
 fn sections(part: usize) -> &'static [Section]
-    ensures { list_all section_fits result.now ≡ true }
+    requires { part < 9 }
+    ensures fits { list_all section_fits result.now ≡ true }
+    ensures names { section_names_of result.now ≡ get_or names_by_part part [] }
 {
     match part {
         0 => framing::sections(),
@@ -92,7 +113,6 @@ fn sections(part: usize) -> &'static [Section]
         5 => utf8::sections(),
         6 => sequences::sections(),
         7 => closes::sections(),
-        8 => hostile::sections(),
-        _ => &[],
+        _ => hostile::sections(),
     }
 }

@@ -2,7 +2,8 @@
 
 ghost use Rattle.std.specs.Prelude.{◌≡◌, true};
 ghost use Rattle.std.specs.List.{list_all};
-ghost use Rattle.ws_scripts.specs.InnerCases.{section_fits};
+ghost use Rattle.ws_scripts.specs.CaseNames.{opcode_names};
+ghost use Rattle.ws_scripts.specs.InnerCases.{section_names_of, section_fits};
 
 use crate::cases::payloads::HELLO;
 use crate::cases::row::Act::Fin;
@@ -14,7 +15,8 @@ use crate::script::Chop::{Octets, PerFrame, Whole};
 
 /// The sections of group 4.
 pub(crate) fn sections() -> &'static [Section]
-    ensures { list_all section_fits result.now ≡ true }
+    ensures fits { list_all section_fits result.now ≡ true }
+    ensures names { section_names_of result.now ≡ opcode_names }
 {
     &SECTIONS
 }

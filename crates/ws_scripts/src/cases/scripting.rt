@@ -1,7 +1,12 @@
 //! From a row of the table to a script.
 
-ghost use Rattle.std.specs.Prelude.{◌≡◌, ◌<◌, length, IfOk, IfSome, string_bytes, true};
-ghost use Rattle.ws_scripts.specs.InnerCases.{row_fits, section_count, section_fits};
+ghost use Rattle.std.specs.Prelude.{◌≡◌, ◌<◌, ◌≤◌, [], length, map, get_or, string_bytes, true};
+ghost use Rattle.std.specs.Prelude.{IfOk, MatchOption};
+ghost use Rattle.ws_base.specs.Finding.{Finds};
+ghost use Rattle.std.specs.List.{Contains};
+ghost use Rattle.ws_scripts.specs.CaseNames.{numbered, numbered_name};
+ghost use Rattle.ws_scripts.specs.InnerCases.{IsNamedAt, row_fits, row_name, section_count, section_fits};
+ghost use Rattle.ws_scripts.specs.InnerCases.{section_names};
 ghost use Rattle.ws_scripts.specs.Scripts.{CanBeRun, CutsOff, FitHeaders};
 
 use crate::cases::pushing::{push_act, push_close, push_frame};
@@ -31,21 +36,39 @@ pub(crate) fn count_of(section: Section) -> usize
 /// The name of the case at this place of a section.
 pub(crate) fn name_of(alloc: Global, section: Section, place: usize) -> Result<String, NoMemory>
     requires { place < section_count section }
+    ensures { IfOk result (λ name. IsNamedAt section place (string_bytes name)) }
 {
-    let name = match section {
-        Section::Rows(rows) => String::from_str(alloc, rows[place].0)?,
+    match section {
+        Section::Rows(rows) => row_name(alloc, &rows[place]),
         Section::Texts(front, _)
         | Section::Joined(front, _)
         | Section::Fronts(front, _)
         | Section::NonCharacters(front)
-        | Section::Codes(front, _) => format!(in alloc; "{front}.{}", place + 1)?,
-    };
+        | Section::Codes(front, _) => numbered_name(alloc, front, place + 1),
+    }
+}
+
+/// The name of a row.
+fn row_name(alloc: Global, row: &Row) -> Result<String, NoMemory>
+    ensures { IfOk result (λ name. string_bytes name ≡ row_name row.now) }
+{
+    let name = String::from_str(alloc, row.0)?;
+    Ok(name)
+}
+
+/// This front, a dot and this number.
+fn numbered_name(alloc: Global, front: &str, number: usize) -> Result<String, NoMemory>
+    ensures { IfOk result (λ name. string_bytes name ≡ numbered_name front.now number) }
+{
+    let name = format!(in alloc; "{front}.{number}")?;
     Ok(name)
 }
 
 /// At which place of a section the case with this name stands.
 pub(crate) fn place_of(section: Section, id: &str) -> Option<usize>
-    ensures { IfSome result (λ place. place < section_count section) }
+    requires { section_fits section ≡ true }
+    ensures { MatchOption result (¬ (Contains (section_names section) id.now))
+        (λ place. IsNamedAt section place id.now) }
 {
     match section {
         Section::Rows(rows) => row_of(rows, id),
@@ -59,7 +82,8 @@ pub(crate) fn place_of(section: Section, id: &str) -> Option<usize>
 
 /// At which place the row with this name stands.
 fn row_of(rows: &[Row], id: &str) -> Option<usize>
-    ensures { IfSome result (λ place. place < length rows.now) }
+    ensures { MatchOption result (¬ (Contains (map row_name rows.now) id.now))
+        (λ place. (place < length rows.now) × (get_or (map row_name rows.now) place [] ≡ id.now)) }
 {
     for (place, row) in rows.iter().enumerate() {
         if row.0 == id {
@@ -71,14 +95,24 @@ fn row_of(rows: &[Row], id: &str) -> Option<usize>
 
 /// The place of a name that is this front, a dot and a number from 1 to `count`.
 fn place_by_number(front: &str, count: usize, id: &str) -> Option<usize>
-    ensures { IfSome result (λ place. place < count) }
+    requires { count ≤ 65535 }
+    ensures { MatchOption result (¬ (Contains (numbered front.now count) id.now))
+        (λ place. (place < count) × (get_or (numbered front.now count) place [] ≡ id.now)) }
 {
-    let number = id.strip_prefix(front)?.strip_prefix('.')?;
-    let number = read_u32(number.as_bytes())? as usize;
-    if number == 0 || number > count {
-        return None;
+    match number_behind(front.as_bytes(), id.as_bytes()) {
+        Some(number) if 0 < number && number as usize <= count => Some(number as usize - 1),
+        _ => None,
     }
-    Some(number - 1)
+}
+
+/// The number behind this front and a dot.
+fn number_behind(front: &[u8], name: &[u8]) -> Option<u32>
+    ensures { Finds result (λ number. (number ≤ 4294967295) × (name.now ≡ numbered_name front.now number)) }
+{
+    match name.strip_prefix(front) {
+        Some([b'.', number @ ..]) => read_u32(number),
+        _ => None,
+    }
 }
 
 /// The script of the case at this place of a section.

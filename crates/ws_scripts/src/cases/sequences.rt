@@ -2,13 +2,15 @@
 
 ghost use Rattle.std.specs.Prelude.{◌≡◌, true};
 ghost use Rattle.std.specs.List.{list_all};
-ghost use Rattle.ws_scripts.specs.InnerCases.{section_fits};
+ghost use Rattle.ws_scripts.specs.CaseNames.{sequence_names};
+ghost use Rattle.ws_scripts.specs.InnerCases.{section_names_of, section_fits};
 
 use crate::cases::row::Section::{self, Joined, NonCharacters, Texts};
 
 /// The sections of group 6 from 6.12 on.
 pub(crate) fn sections() -> &'static [Section]
-    ensures { list_all section_fits result.now ≡ true }
+    ensures fits { list_all section_fits result.now ≡ true }
+    ensures names { section_names_of result.now ≡ sequence_names }
 {
     &SECTIONS
 }
