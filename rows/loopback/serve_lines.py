@@ -4,7 +4,7 @@ import fcntl
 import os
 import socket
 
-from server import SECONDS, Client, Server, connected, free_port, run, start
+from server import SECONDS, Client, Running, Server, connected, free_port, run, start
 from wire import BAD_REQUEST, CLOSE, CLOSE_BACK, HELLO, HELLO_BACK, NAMES_CHAT, NAMES_SUPERCHAT, OFFERING, REQUEST, RESPONSE
 
 NO_ADDRESSES = ("127.0.0.1", "127.0.0.1:", "127.0.0.1:65536", "127.0.0.1:x", ":", "", "[::1]", "no.such.host.invalid:9")
@@ -41,6 +41,19 @@ def each_address():
         client.send(REQUEST, HELLO, CLOSE)
         assert client.rest() == RESPONSE + HELLO_BACK + CLOSE_BACK, host
         server.ends("1 clean 1000")
+
+
+def a_port_that_the_system_chooses():
+    for host in ("127.0.0.1", "localhost"):
+        server = Running()
+        server.process = start("serve", f"{host}:0", "1")
+        told, _, port = server.line().rpartition(":")
+        assert told == f"listening on {host}" and 0 < int(port) < 65536, (told, port)
+        client = Client(connected(int(port)))
+        client.send(REQUEST, CLOSE)
+        assert client.rest() == RESPONSE + CLOSE_BACK
+        assert (server.line(), server.line()) == ("1 clean 1000", "")
+        assert server.process.wait(SECONDS) == 0
 
 
 def has_version_6():
@@ -145,6 +158,7 @@ TESTS = [
     no_connections,
     a_line_a_connection,
     each_address,
+    a_port_that_the_system_chooses,
     a_port_in_use,
     an_address_that_is_none,
     an_address_of_another_machine,

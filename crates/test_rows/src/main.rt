@@ -9,6 +9,7 @@ mod dooms;
 mod echoes;
 mod explanations;
 mod frames;
+mod paths;
 mod peers;
 mod printing;
 mod protocols;
@@ -91,6 +92,10 @@ fn answer_of_scripts(
         "script_back" => scripts::write_again(alloc, words, out),
         "script_of" => scripts::write_case(alloc, words, out),
         "scripts_kept" => scripts::count_kept(alloc, words, out),
+        "paths" => paths::tell_purposes(alloc, words, out),
+        "case_count" => paths::tell_count(alloc, words, out),
+        "case_info" => paths::tell_info(alloc, words, out),
+        "told" => paths::tell_script(alloc, words, out),
         _ => answer_of_verdicts(alloc, call, words, out),
     }
 }

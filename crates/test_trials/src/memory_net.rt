@@ -14,7 +14,7 @@ use ws_frame::{ByteReader, Failing};
 /// The one host that has an address.
 const HOST: &str = "localhost";
 
-/// The one port at which something listens, and from which each connection comes.
+/// The one port at which something listens, also where port 0 is asked for, and from which each connection comes.
 const PORT: u16 = 9001;
 
 /// What a network does, and what came of it.
@@ -32,6 +32,8 @@ pub struct Book<'a> {
     pub refused: (Failing, io::Error),
     /// Why no address can be listened at, if none can.
     pub deaf: Option<ErrorKind>,
+    /// A listener doesn't know its address.
+    pub nameless: bool,
     /// The most seconds that a read was to wait.
     pub read_seconds: Cell<u64>,
     /// The most seconds that a write was to wait.
@@ -61,6 +63,7 @@ impl<'a> Book<'a> {
                 io::Error::from(ErrorKind::ConnectionRefused),
             ),
             deaf: None,
+            nameless: false,
             read_seconds: Cell::new(0),
             write_seconds: Cell::new(0),
             connect_seconds: Cell::new(0),
@@ -118,7 +121,7 @@ impl<'a> Net for MemoryNet<'a> {
     type Listener = MemoryListener<'a>;
 
     fn bind(&self, addr: SocketAddr) -> io::Result<MemoryListener<'a>> {
-        if addr.port() != PORT {
+        if addr.port() != PORT && addr.port() != 0 {
             return Err(io::Error::from(ErrorKind::AddrNotAvailable));
         }
         match self.book.deaf {
@@ -168,6 +171,14 @@ impl<'a> OpenListener for MemoryListener<'a> {
     fn accept(&self) -> io::Result<(MemoryStream<'a>, SocketAddr)> {
         let stream = self.book.next()?;
         Ok((stream, local(PORT)))
+    }
+
+    fn local_addr(&self) -> io::Result<SocketAddr> {
+        if self.book.nameless {
+            Err(io::Error::from(ErrorKind::Other))
+        } else {
+            Ok(local(PORT))
+        }
     }
 }
 

@@ -104,6 +104,18 @@ fn no_such_host(rt: HostRuntime) -> Result<(), Fail> {
     Ok(())
 }
 
+/// Where port 0 is asked for, the port of the listener is told; and where that is not known, nothing is listened at.
+#[test]
+fn port_of_the_listener(rt: HostRuntime) -> Result<(), Fail> {
+    let words = "serve localhost:0 2";
+    let mut book = Book::new(rt.alloc(), REQUEST);
+    check_words(&rt, rt.alloc(), 0, (words, &book), 0, (LINES, b""))?;
+    book.nameless = true;
+    let told = (b"".as_slice(), b"not listening: failed\n".as_slice());
+    check_words(&rt, rt.alloc(), 1, (words, &book), 3, told)?;
+    check_words(&rt, rt.alloc(), 2, (TWO, &book), 0, (LINES, b""))
+}
+
 /// Reads and writes wait for as long as the words say, and where they say nothing for as long as it takes.
 #[test]
 fn limits_of_time(rt: HostRuntime) -> Result<(), Fail> {

@@ -7,7 +7,7 @@ pub mod Testing
 pub mod Test
 pub mod LineWriting
 pub mod Send
-pub mod Serve
 pub mod Listening
+pub mod Serve
 pub mod Lingering
 pub mod Run

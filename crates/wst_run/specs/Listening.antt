@@ -1,5 +1,8 @@
--- Why an address can't be listened at, and which failures of an accept are passed over.
-use Rattle.std.specs.Prelude.{◌≡◌, ◌⊎◌, ℤ, pos, Bool, true, false, Option, Some, None}
+-- Why an address can't be listened at, what is told of one that is, and which failures of an accept are passed over.
+use Rattle.std.specs.Prelude.{◌≡◌, ◌⊎◌, ℕ, ◌-◌, ℤ, pos, nat_eq, Bool, true, false, Option, Some, None}
+use Rattle.std.specs.Prelude.{List, ◌++◌, codes, length, take}
+use Rattle.std.specs.Fmt.{decimal}
+use Rattle.std.specs.List.{ends_with}
 use Rattle.std.specs.IoError.{error_kind, raw_os_error}
 use Rattle.std.specs.declared.io.Error.{Error}
 use Rattle.std.specs.declared.io.ErrorKind.{ErrorKind}
@@ -7,6 +10,8 @@ use Rattle.std.specs.declared.io.ErrorKind.TheVariants.{AddrInUse, OutOfMemory, 
 use Rattle.std.specs.declared.io.ErrorKind.TheVariants.{ConnectionAborted, ConnectionReset, HostUnreachable}
 use Rattle.std.specs.declared.io.ErrorKind.TheVariants.{Interrupted}
 use Rattle.std.specs.declared.io.ErrorKind.TheVariants.{NetworkDown, NetworkUnreachable}
+use Rattle.wst_commands.specs.declared.fault.Fault.{Fault}
+use Rattle.wst_commands.specs.declared.fault.Fault.TheVariants as fault
 use Rattle.wst_commands.specs.declared.fault.ListenFault.{ListenFault}
 use Rattle.wst_commands.specs.declared.fault.ListenFault.TheVariants as why
 
@@ -20,6 +25,21 @@ abbrev pub listen_fault_at : ErrorKind → ListenFault
 listen_fault_at AddrInUse = why.AddressInUse
 listen_fault_at PermissionDenied = why.NotPermitted
 listen_fault_at _ = why.Failed
+
+-- an address whose port is 0, for which the system chooses another
+abbrev pub has_port_0 : List ℕ → Bool
+has_port_0 address = ends_with nat_eq address (codes ":0")
+
+-- what is told of an address that is listened at: the word as it was given, or with a port in the place of its port 0;
+-- that it is the listener's own is not said
+abbrev pub IsToldFor : List ℕ → List ℕ → Type 0
+IsToldFor address told = ((has_port_0 address ≡ false) × (told ≡ address))
+    ⊎ ((has_port_0 address ≡ true)
+    × ((port : ℕ) × (told ≡ take (length address - 1) address ++ decimal port)))
+
+-- memory ran out, or the listener's port is not known
+abbrev pub CanNotTell : Fault → Type 0
+CanNotTell given = (given ≡ fault.NoMemory) ⊎ (given ≡ fault.NotListening why.Failed)
 
 -- The failures of an accept that are of the one client that waited. Linux hands on what its network says of a
 -- connection that waits, and asks for another accept then.

@@ -18,6 +18,7 @@ use Rattle.wst_commands.specs.declared.fault.Fault.{Fault}
 use Rattle.wst_commands.specs.declared.fault.Fault.TheVariants.{BadLimits, BadProtocols, BadTimeout}
 use Rattle.wst_commands.specs.declared.fault.Fault.TheVariants.{NoMemory, NotListening}
 use Rattle.wst_commands.specs.declared.fault.ListenFault.{ListenFault}
+use Rattle.wst_run.specs.Listening.{IsToldFor}
 use Rattle.wst_run.specs.declared.serve.ServePlan.{ServePlan}
 
 -- ---- what is asked for
@@ -113,15 +114,21 @@ ServesNone ended output = (((why : ListenFault) × (ended ≡ Err (NotListening 
     × (output.failed ≡ false) × IsUntouched output
 
 -- the first line could not be written, or not flushed, and nothing was written after it
-abbrev pub StopsAtListening : ServePlan → Result Exit Fault → Device → Type 0
-StopsAtListening plan ended output =
-    (ended ≡ Ok Failed) × (output.failed ≡ true) × HasBegun (listening_line plan.address.now) output
+abbrev pub StopsAtListening : List ℕ → Result Exit Fault → Device → Type 0
+StopsAtListening address ended output =
+    (ended ≡ Ok Failed) × (output.failed ≡ true) × HasBegun (listening_line address) output
 
--- it is told that connections are taken, and then they are served; or that comes to nothing
+-- it is told that connections to this address are taken, and then they are served; or the line came to nothing
+abbrev pub ServesToldAt : ServePlan → List ℕ → Result Exit Fault → Device → Type 0
+ServesToldAt plan address ended output =
+    ServesClients (IsServedBy plan) plan.count (listening_line address) ended output
+    ⊎ StopsAtListening address ended output
+
+-- what is told of the address is told, and then connections are served; or nothing can be listened at
 abbrev pub ServesAt : ServePlan → Result Exit Fault → Device → Type 0
 ServesAt plan ended output =
-    ServesClients (IsServedBy plan) plan.count (listening_line plan.address.now) ended output
-    ⊎ (StopsAtListening plan ended output ⊎ ServesNone ended output)
+    ((address : List ℕ) × IsToldFor plan.address.now address × ServesToldAt plan address ended output)
+    ⊎ ServesNone ended output
 
 -- connections are served as is asked for, and how that ended is told
 abbrev pub RunsServer : ServePlan → Exit → Device → Device → Type 0

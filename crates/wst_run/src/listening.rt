@@ -1,13 +1,14 @@
 //! An address of a network that is listened at, and the clients that come to it.
 
-ghost use Rattle.std.specs.Prelude.{◌≡◌, ◌↔◌, true};
-ghost use Rattle.wst_run.specs.Listening.{IsClientNumber, IsOfOneClient, is_client_kind};
+ghost use Rattle.std.specs.Prelude.{◌≡◌, ◌↔◌, MatchResult, true};
+ghost use Rattle.wst_run.specs.Listening.{CanNotTell, IsClientNumber, IsOfOneClient, IsToldFor, is_client_kind};
 ghost use Rattle.wst_run.specs.Listening.{listen_fault_at, lookup_fault_at};
 
+use std::alloc::Global;
 use std::io;
 use std::io::ErrorKind;
 use std::net::{Net, OpenListener, ToSocketAddrs};
-use wst_commands::ListenFault;
+use wst_commands::{Fault, ListenFault};
 
 /// Listens at the first of an address's own addresses that can be bound. Where none can, the reason is that of the
 /// last.
@@ -24,6 +25,30 @@ pub fn listen<N: Net>(net: &N, address: &str) -> Result<N::Listener, ListenFault
         }
     }
     Err(why)
+}
+
+/// What is told of an address at which a listener takes connections: the word as it was given, but that the port which
+/// the system chose stands in the place of a port 0. A listener whose port is not known can't be told of.
+pub fn told_address<L: OpenListener>(
+    alloc: Global,
+    listener: &L,
+    address: &str,
+) -> Result<Vec<u8>, Fault>
+    ensures { MatchResult result (λ told. IsToldFor address.now told.items) CanNotTell }
+{
+    let bytes = address.as_bytes();
+    let mut told = Vec::new(alloc);
+    if !bytes.ends_with(b":0") {
+        told.extend_from_slice(bytes)?;
+        return Ok(told);
+    }
+    let Ok(local) = listener.local_addr() else {
+        return Err(Fault::NotListening(ListenFault::Failed));
+    };
+    let port = format!(in alloc; "{}", local.port())?;
+    told.extend_from_slice(&bytes[..bytes.len() - 1])?;
+    told.extend_from_slice(port.as_bytes())?;
+    Ok(told)
 }
 
 /// Why nothing can be listened at, where the look-up of the address fails so.

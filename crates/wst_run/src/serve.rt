@@ -6,7 +6,7 @@ ghost use Rattle.ws_frame.specs.Watching.{has_failed};
 ghost use Rattle.wst_run.specs.Serve.{CanNotServe, IsServePlan, RunsServer, ServesAt};
 
 use crate::clients::ListenerClients;
-use crate::listening::listen;
+use crate::listening::{listen, told_address};
 use crate::serving_clients::{serve_clients, tell_listening};
 use std::alloc::Global;
 use std::io::Write;
@@ -58,7 +58,8 @@ pub fn plan_serve<'a>(alloc: Global, options: &ServeOptions<'a>) -> Result<Serve
     })
 }
 
-/// Listens at the address, which is told in a line, and serves so many connections, one after the other, each of which
+/// Listens at the address, which is told in a line, with the port that the system chose in the place of a port 0, and
+/// serves so many connections, one after the other, each of which
 /// is told in a line. The exit is that of a failure where the address can't be listened at, no connection can be taken
 /// any more, or a line could not be written or flushed. Why nothing can be listened at is told to `faults`, and so is
 /// want of memory for a line.
@@ -91,7 +92,8 @@ fn serve_at<N: Net, W: Write>(
         Ok(listener) => listener,
         Err(why) => return Err(Fault::NotListening(why)),
     };
-    let told = tell_listening(alloc, plan.address, writer)?;
+    let address = told_address(alloc, &listener, plan.address)?;
+    let told = tell_listening(alloc, address.as_slice(), writer)?;
     if writer.failed() {
         return Ok(told);
     }

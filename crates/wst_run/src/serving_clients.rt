@@ -1,6 +1,6 @@
 //! Connections that are served one after the other, and the lines that are told of them (docs/FORMATS.md).
 
-ghost use Rattle.std.specs.Prelude.{◌≡◌, MatchResult, [], false};
+ghost use Rattle.std.specs.Prelude.{◌≡◌, IfOk, MatchResult, [], false};
 ghost use Rattle.ws_frame.specs.Devices.{watched};
 ghost use Rattle.ws_frame.specs.Watching.{has_failed};
 ghost use Rattle.wst_commands.specs.Devices.{Delivers};
@@ -12,6 +12,7 @@ use crate::clients::Clients;
 use crate::serve::ServePlan;
 use std::alloc::Global;
 use std::io::Write;
+use ws_base::NoMemory;
 use ws_connection::Served;
 use ws_frame::{Watched, WriteFault, write_whole};
 use wst_commands::{Exit, Fault};
@@ -47,7 +48,7 @@ pub fn serve_clients<C: Clients, W: Write>(
 /// Tells in a line, which is flushed, that connections to this address are taken.
 pub fn tell_listening<W: Write>(
     alloc: Global,
-    address: &str,
+    address: &[u8],
     writer: &mut Watched<W>,
 ) -> Result<Exit, Fault>
     requires { has_failed writer.old ≡ false }
@@ -55,8 +56,19 @@ pub fn tell_listening<W: Write>(
         (λ exit. Delivers Done (listening_line address.now) exit (watched W.contents writer.old writer.new))
         (λ fault. (fault ≡ variant.NoMemory) × (writer.new ≡ writer.old)) }
 {
-    let line = format!(in alloc; "listening on {address}\n")?;
-    Ok(deliver_line(line.as_bytes(), writer))
+    let line = listening_line(alloc, address)?;
+    Ok(deliver_line(line.as_slice(), writer))
+}
+
+/// The line that tells it.
+fn listening_line(alloc: Global, address: &[u8]) -> Result<Vec<u8>, NoMemory>
+    ensures { IfOk result (λ line. line.items ≡ listening_line address.now) }
+{
+    let mut line = Vec::new(alloc);
+    line.extend_from_slice(b"listening on ")?;
+    line.extend_from_slice(address)?;
+    line.push(b'\n')?;
+    Ok(line)
 }
 
 /// Tells in a line, which is flushed, how the connection of this number ended.
