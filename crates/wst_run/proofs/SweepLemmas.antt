@@ -1,6 +1,8 @@
 -- Scripts that were run one after the other, and their lines.
-use Rattle.std.proofs.Common.{◌≡◌, ◌∙◌, ℕ, ◌+◌, ◌<◌, ◌^◌, ◌≤◌, inl, inr, Bool, true, false, List, [], ◌∷◌, ◌++◌, length, filter}
-use Rattle.std.proofs.Common.{Option, Some, None, Result, Ok, Err, IsErrAnd, ap, refl, sym, subst, arith, append-nil, not}
+use Rattle.std.proofs.Common.{◌≡◌, ◌∙◌, ℕ, ◌+◌, ◌<◌, ◌^◌, ◌≤◌, inl, inr, Bool, true, false, List, [], ◌∷◌, ◌++◌}
+use Rattle.std.proofs.Common.{length, filter}
+use Rattle.std.proofs.Common.{Option, Some, None, Result, Ok, Err, IsErrAnd, ap, refl, sym, subst, arith}
+use Rattle.std.proofs.Common.{append-nil, not}
 use Rattle.std.proofs.KnownBytes.{Appends-nil, Appends-trans, Keeps-refl}
 use Rattle.std.proofs.lemmas.Grind.{flat_map-append}
 use Rattle.std.proofs.lemmas.List.{length-append, length-map, map-append}
@@ -17,7 +19,8 @@ use Rattle.wst_run.specs.Outcomes.{exit_of_tests, is_fail, is_loose, is_pass, no
 use Rattle.wst_run.specs.Testing.{IsTested}
 use Rattle.wst_run.specs.Sweeps.{IsConnected}
 use Rattle.wst_run.specs.Sweeps.{AreSwept, CountsScripts, HasSwept, IsSwept, StopsAtScript, StopsSweep, SweepsAll}
-use Rattle.wst_run.specs.Sweeps.{SweepsScript, SweepsScripts, SweptScript, WritesText, missed_by, outcomes_of, script_line}
+use Rattle.wst_run.specs.Sweeps.{SweepsScript, SweepsScripts, SweptScript, WritesText, missed_by, outcomes_of}
+use Rattle.wst_run.specs.Sweeps.{script_line}
 use Rattle.wst_run.specs.Sweeps.{sweep_lines, sweep_total, total_of_scripts}
 use Rattle.wst_run.specs.declared.meeting.Meeting.{Meeting}
 use Rattle.wst_run.specs.declared.outcome.Outcome.{Outcome}
@@ -74,8 +77,8 @@ swept_nothing Meets rules count tally held failed none empty = record {
   written = Appends-nil held;
 }
 
-pub swept_more : (Meets : Case → Meeting → Type 0) (rules : SweepRules) (count next_count : ℕ) (tally next_tally : Tally)
-    (places : List ℕ) (outcome : Outcome) (old mid new : Option (List ℕ)) (f g : Bool)
+pub swept_more : (Meets : Case → Meeting → Type 0) (rules : SweepRules) (count next_count : ℕ)
+    (tally next_tally : Tally) (places : List ℕ) (outcome : Outcome) (old mid new : Option (List ℕ)) (f g : Bool)
     → HasSwept Meets rules count tally (record { failed = f; old = old; new = mid }) → ArePlaces places
     → script_number places ≡ count → next_count ≡ count + 1 → next_tally ≡ tally_with tally outcome
     → missed_by outcome ≡ None → IsSwept Meets rules.key (places, outcome)
@@ -101,7 +104,8 @@ pub stops_behind : (Meets : Case → Meeting → Type 0) (rules : SweepRules) (c
     → HasSwept Meets rules count tally (record { failed = f; old = old; new = mid }) → ArePlaces places
     → script_number places ≡ count → StopsAtScript Meets rules places why (record { failed = g; old = mid; new = new })
     → StopsSweep Meets rules why (record { failed = g; old = old; new = new })
-stops_behind Meets rules count tally places stop.Device old mid new f g before are number (outcome, swept, begun, fails) =
+stops_behind Meets rules count tally places stop.Device old mid new f g before are number
+    (outcome, swept, begun, fails) =
     record {
       scripts = before.scripts;
       in_order = before.in_order;
@@ -161,7 +165,8 @@ tested_so Meets key asked explains case outcome same none tested =
 -- there is no connection to it
 pub script_misses : (Meets : Case → Meeting → Type 0) (rules : SweepRules) (places : List ℕ) (case : Case)
     (outcome : Outcome) (why : SweepStop) (ended : Result Outcome SweepStop) (held : Option (List ℕ)) (f : Bool)
-    → IsShortCase Server (Some rules.key) places case → IsTested Meets false case outcome → IsConnected outcome (Err why)
+    → IsShortCase Server (Some rules.key) places case → IsTested Meets false case outcome
+    → IsConnected outcome (Err why)
     → IsErrAnd ended (λ stopped. stopped ≡ why)
     → SweepsScript Meets rules places ended (record { failed = f; old = held; new = held })
 script_misses Meets rules places case outcome why (Ok told) held f short tested misses is = absurd is

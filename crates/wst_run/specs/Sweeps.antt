@@ -123,8 +123,8 @@ StopsBehind Meets rules scripts (stop.NoConnection why) output =
     × HasWritten (sweep_lines rules.all scripts) output
 StopsBehind Meets rules scripts stop.NoMemory output = HasWritten (sweep_lines rules.all scripts) output
 
--- The first scripts were run, and their lines were written; the next line, or the total, could not be written, or to the
--- next server there is no connection, or memory ran out.
+-- The first scripts were run, and their lines were written; the next line, or the total, could not be written, or to
+-- the next server there is no connection, or memory ran out.
 pub record StopsSweep (Meets : Case → Meeting → Type 0) (rules : SweepRules) (why : SweepStop) (output : Device)
     : Type 0 where
   pub scripts : List SweptScript

@@ -8,7 +8,7 @@ ghost use Rattle.wst_run.specs.declared.case_server.MemoryServer.TheVariants.{Ow
 
 use ws_suite::laws::one_verdict;
 
-/// Whatever a short script sends: what is told of our echo in it is Pass, since the judge is fair and gives one verdict.
+/// Whatever a short script sends, what is told of our echo in it is Pass: the judge is fair, and gives one verdict.
 pub fn our_echo_passes_every_script()
     ensures { (key : List ℕ) (script : SweptScript) → IsSwept (MeetsInMemory Own key) key script →
         is_pass script.1 ≡ true }

@@ -1,5 +1,5 @@
-//! A run of `wst` over watched devices, by its words, and the commands that ask for connections: `test`, `send`, `sweep` and `serve`.
-//! The others stand in `wst_commands`. No rule of the protocol stands here.
+//! A run of `wst` over watched devices, by its words, and the commands that ask for connections: `test`, `send`,
+//! `sweep` and `serve`. The others stand in `wst_commands`. No rule of the protocol stands here.
 //!
 //! The layer above uses `run`: what the words ask for is done, over the devices and the network that it is given, and
 //! what came of it is one of four exits; and `words_are_no_text` where there are no words.

@@ -148,8 +148,8 @@ fn run_send<N: Net, R: Read, W: Write, F: Write>(
     }
 }
 
-/// Runs the short scripts that the words ask for over the server that they name, or tells on the fault output why none is
-/// run.
+/// Runs the short scripts that the words ask for over the server that they name, or tells on the fault output why none
+/// is run.
 fn run_sweep<N: Net, W: Write, F: Write>(
     alloc: Global,
     options: &SweepOptions<'_>,

@@ -133,8 +133,8 @@ pub fn sweep_target<N: Net, W: Write, F: Write>(
     requires works { has_failed writer.old ≡ false }
     requires host { HasHost plan.now.target }
     requires steps { plan.now.steps ≤ max_steps }
-    ensures { RunsSweepPlan (MeetsTarget plan.now.target plan.now.protocols plan.now.budget plan.now.key) plan.now result
-        (watched W.contents writer.old writer.new) (watched F.contents faults.old faults.new) }
+    ensures { RunsSweepPlan (MeetsTarget plan.now.target plan.now.protocols plan.now.budget plan.now.key) plan.now
+        result (watched W.contents writer.old writer.new) (watched F.contents faults.old faults.new) }
 {
     match plan.target {
         Target::Memory(server) => sweep_over(alloc, &server, plan, writer, faults),

@@ -6,8 +6,8 @@ ghost use Rattle.ws_frame.specs.Devices.{watched};
 ghost use Rattle.ws_frame.specs.Watching.{has_failed};
 ghost use Rattle.ws_sweep.specs.Order.{ArePlaces, max_steps};
 ghost use Rattle.wst_run.specs.Notes.{TellsEach};
-ghost use Rattle.wst_run.specs.Sweeps.{CountsScripts, IsConnected, SweepsScript, SweepsScripts, TellsSweepEnd, WritesText};
-ghost use Rattle.wst_run.specs.Sweeps.{is_told, script_line, script_notes, sweep_total, told_line};
+ghost use Rattle.wst_run.specs.Sweeps.{CountsScripts, IsConnected, SweepsScript, SweepsScripts, TellsSweepEnd};
+ghost use Rattle.wst_run.specs.Sweeps.{WritesText, is_told, script_line, script_notes, sweep_total, told_line};
 
 use crate::case_server::CaseServer;
 use crate::meeting::ConnectFault;
@@ -106,7 +106,8 @@ fn run_scripts<S: CaseServer, W: Write, F: Write>(
     Ok(tally)
 }
 
-/// Runs a script over a new server, and writes its line, where there is one to tell. Answers what is told of the server.
+/// Runs a script over a new server, and writes its line, where there is one to tell. Answers what is told of the
+/// server.
 fn run_script<S: CaseServer, W: Write, F: Write>(
     alloc: Global,
     server: &S,
