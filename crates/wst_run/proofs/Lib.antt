@@ -6,3 +6,4 @@ pub mod ServeLemmas
 pub mod TargetLemmas
 pub mod ObserverLemmas
 pub mod LineLemmas
+pub mod SweepLemmas

@@ -7,6 +7,8 @@ pub mod Testing
 pub mod Test
 pub mod LineWriting
 pub mod Send
+pub mod Sweeps
+pub mod Sweep
 pub mod Listening
 pub mod Serve
 pub mod Lingering

@@ -7,6 +7,8 @@ use Rattle.ws_peer.specs.EchoRuns.{IsEchoRun}
 use Rattle.ws_peer.specs.Runs.{IsRunOf}
 use Rattle.ws_peer.specs.Talks.{Entry}
 use Rattle.ws_scripts.specs.Scripts.{AreTurns}
+use Rattle.ws_suite.specs.Verdicts.{IsVerdictOf}
+use Rattle.ws_suite.specs.declared.verdict.Verdict.TheVariants.{Pass}
 use Rattle.ws_scripts.specs.declared.script.Case.{Case}
 use Rattle.ws_scripts.specs.declared.transcript.Transcript.{Transcript}
 use Rattle.wst_run.specs.declared.case_server.MemoryServer.{MemoryServer}
@@ -26,9 +28,9 @@ pub record IsPeerRun (key : List ℕ) (case : Case) (transcript : Transcript) : 
   pub talk : List Entry
   pub is_run : IsRunOf turns talk transcript
 
--- over our echo the talk is an echo's; a server of `tungstenite` may answer anything
+-- over our echo the talk is an echo's, and the verdict is Pass; a server of `tungstenite` may answer anything
 abbrev pub IsMemoryRun : MemoryServer → List ℕ → Case → Transcript → Type 0
-IsMemoryRun Own key case transcript = IsEchoRun Server case key transcript
+IsMemoryRun Own key case transcript = IsEchoRun Server case key transcript × IsVerdictOf Server transcript Pass
 IsMemoryRun Tung key case transcript = IsPeerRun key case transcript
 
 -- a server in memory is always there, and asks for no handshake

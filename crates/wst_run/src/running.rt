@@ -11,10 +11,12 @@ ghost use Rattle.wst_commands.specs.Exits.{exit_status};
 ghost use Rattle.wst_run.specs.Run.{AnswersWords, Runs, RunsTask, TellsOf};
 ghost use Rattle.wst_run.specs.Send.{RunsSend};
 ghost use Rattle.wst_run.specs.Serve.{RunsServe};
+ghost use Rattle.wst_run.specs.Sweep.{RunsSweep};
 ghost use Rattle.wst_run.specs.Test.{RunsTest};
 
 use crate::send::{plan_send, send_to_target};
 use crate::serve::{plan_serve, run_serve};
+use crate::sweep::{plan_sweep, sweep_target, tell_sweep_refusal};
 use crate::test::{plan_test, run_over_target, tell_refusal};
 use clap::Error;
 use clap::error::ErrorKind;
@@ -26,7 +28,9 @@ use wst_commands::{
     Exit, Fault, end_run, run_cases, run_convert, run_head, run_judge, run_moves, run_session,
     run_show, tell_fault,
 };
-use wst_words::{SendOptions, ServeOptions, Task, TestOptions, WordsFault, read_words};
+use wst_words::{
+    SendOptions, ServeOptions, SweepOptions, Task, TestOptions, WordsFault, read_words,
+};
 
 /// Runs what the words ask for, the program's name first, and answers how that ended: status 0 done, 1 a
 /// damaged or refused input or a rule that was broken, 2 wrong words, 3 where input, output, the network, the budget or
@@ -82,6 +86,7 @@ fn run_task<N: Net, R: Read, W: Write, F: Write>(
         Task::Cases(options) => run_cases(alloc, options, writer, faults),
         Task::Test(options) => run_test(alloc, &options, net, writer, faults),
         Task::Send(options) => run_send(alloc, &options, net, reader, writer, faults),
+        Task::Sweep(options) => run_sweep(alloc, &options, net, writer, faults),
         Task::Serve(options) => serve_as_asked(alloc, &options, net, writer, faults),
     }
 }
@@ -140,6 +145,25 @@ fn run_send<N: Net, R: Read, W: Write, F: Write>(
     match plan_send(alloc, options) {
         Ok(plan) => send_to_target(alloc, &plan, net, reader, writer, faults),
         Err(refusal) => tell_refusal(alloc, refusal, faults),
+    }
+}
+
+/// Runs the short scripts that the words ask for over the server that they name, or tells on the fault output why none
+/// is run.
+fn run_sweep<N: Net, W: Write, F: Write>(
+    alloc: Global,
+    options: &SweepOptions<'_>,
+    net: &N,
+    writer: &mut Watched<W>,
+    faults: &mut Watched<F>,
+) -> Exit
+    requires { has_failed writer.old ≡ false }
+    ensures { RunsSweep options.now result (watched W.contents writer.old writer.new)
+        (watched F.contents faults.old faults.new) }
+{
+    match plan_sweep(alloc, options) {
+        Ok(plan) => sweep_target(alloc, &plan, net, writer, faults),
+        Err(refusal) => tell_sweep_refusal(alloc, refusal, faults),
     }
 }
 

@@ -122,7 +122,7 @@ fn tell_miss<F: Write>(outcome: &Outcome, faults: &mut Watched<F>)
 }
 
 /// What is told of a new server in a case.
-fn outcome_of<S: CaseServer>(
+pub(crate) fn outcome_of<S: CaseServer>(
     alloc: Global,
     server: &S,
     case: &Case,

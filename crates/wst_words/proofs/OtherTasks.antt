@@ -10,6 +10,7 @@ use Rattle.wst_words.specs.Send.{AsksToSend, send_command}
 use Rattle.wst_words.specs.Serve.{AsksToServe, serve_command}
 use Rattle.wst_words.specs.Session.{AsksForSession, session_command}
 use Rattle.wst_words.specs.Show.{AsksToShow, show_command}
+use Rattle.wst_words.specs.Sweep.{AsksToSweep, sweep_command}
 use Rattle.wst_words.specs.Test.{AsksToTest, test_command}
 use Rattle.wst_words.specs.Words.{CommandAsks, CommandAsksNothing}
 use Rattle.wst_words.specs.declared.judge.JudgeOptions.{JudgeOptions}
@@ -18,10 +19,11 @@ use Rattle.wst_words.specs.declared.send.SendOptions.{SendOptions}
 use Rattle.wst_words.specs.declared.serve.ServeOptions.{ServeOptions}
 use Rattle.wst_words.specs.declared.session.SessionOptions.{SessionOptions}
 use Rattle.wst_words.specs.declared.show.ShowOptions.{ShowOptions}
+use Rattle.wst_words.specs.declared.sweep.SweepOptions.{SweepOptions}
 use Rattle.wst_words.specs.declared.test.TestOptions.{TestOptions}
 use Rattle.wst_words.specs.declared.words.Task.{Task}
 use Rattle.wst_words.specs.declared.words.Task.TheVariants.{Cases, Convert, Head, Judge, Pair, Serve, Session, Show}
-use Rattle.wst_words.specs.declared.words.Task.TheVariants.{Send, Test}
+use Rattle.wst_words.specs.declared.words.Task.TheVariants.{Send, Sweep, Test}
 use Rattle.wst_words.proofs.WordLemmas.{no_word}
 
 -- the command that a task is asked for by
@@ -35,6 +37,7 @@ task_name Convert = codes "convert"
 task_name (Cases options) = codes "cases"
 task_name (Test options) = codes "test"
 task_name (Send options) = codes "send"
+task_name (Sweep options) = codes "sweep"
 task_name (Serve options) = codes "serve"
 
 called : (name : Text) (rows : List Row) (task : Task) → CommandAsks (Some (name, rows)) task → name ≡ task_name task
@@ -47,6 +50,7 @@ called name rows Convert asks = asks
 called name rows (Cases options) asks = asks.0
 called name rows (Test options) asks = asks.0
 called name rows (Send options) asks = asks.0
+called name rows (Sweep options) asks = asks.0
 called name rows (Serve options) asks = asks.0
 
 -- a word is no other
@@ -184,3 +188,24 @@ no_send name rows is lacks = refuses
     refuses : (task : Task) → CommandAsks (Some (name, rows)) task → ⊥
     refuses (Send options) asks = send_lacks rows options lacks asks.1
     refuses task asks = differs (codes "send") (task_name task) name refl refl is (called name rows task asks)
+
+sweep_lacks : (rows : List Row) (options : SweepOptions) → LacksOneOf rows sweep_command.arguments
+    → AsksToSweep rows options → ⊥
+sweep_lacks rows options (inl steps) asks = steps options.steps asks.0
+sweep_lacks rows options (inr (inl all)) asks = all options.all asks.1
+sweep_lacks rows options (inr (inr (inl progress))) asks = progress options.progress asks.2
+sweep_lacks rows options (inr (inr (inr (inl key)))) asks = no_word rows (codes "key") options.key.now key asks.3
+sweep_lacks rows options (inr (inr (inr (inr (inl timeout))))) asks = absurd timeout
+sweep_lacks rows options (inr (inr (inr (inr (inr (inl budget)))))) asks = budget options.budget asks.5
+sweep_lacks rows options (inr (inr (inr (inr (inr (inr (inl protocols))))))) asks = absurd protocols
+sweep_lacks rows options (inr (inr (inr (inr (inr (inr (inr (inl target)))))))) asks =
+    no_word rows (codes "target") options.target.now target asks.6
+sweep_lacks rows options (inr (inr (inr (inr (inr (inr (inr (inr none)))))))) asks = absurd none
+
+pub no_sweep : (name : Text) (rows : List Row) → name ≡ codes "sweep" → LacksOneOf rows sweep_command.arguments
+    → CommandAsksNothing (Some (name, rows))
+no_sweep name rows is lacks = refuses
+  where
+    refuses : (task : Task) → CommandAsks (Some (name, rows)) task → ⊥
+    refuses (Sweep options) asks = sweep_lacks rows options lacks asks.1
+    refuses task asks = differs (codes "sweep") (task_name task) name refl refl is (called name rows task asks)

@@ -9,6 +9,7 @@ pub mod Judge
 pub mod Cases
 pub mod Test
 pub mod Send
+pub mod Sweep
 pub mod Serve
 pub mod Words
 pub mod Examples

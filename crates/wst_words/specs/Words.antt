@@ -13,12 +13,13 @@ use Rattle.wst_words.specs.Send.{AsksToSend, send_command}
 use Rattle.wst_words.specs.Serve.{AsksToServe, serve_command}
 use Rattle.wst_words.specs.Session.{AsksForSession, session_command}
 use Rattle.wst_words.specs.Show.{AsksToShow, show_command}
+use Rattle.wst_words.specs.Sweep.{AsksToSweep, sweep_command}
 use Rattle.wst_words.specs.Test.{AsksToTest, test_command}
 use Rattle.wst_words.specs.declared.commands.CommandName.{CommandName}
 use Rattle.wst_words.specs.declared.commands.CommandName.TheVariants as name
 use Rattle.wst_words.specs.declared.words.Task.{Task}
 use Rattle.wst_words.specs.declared.words.Task.TheVariants.{Cases, Convert, Head, Judge, Pair, Serve}
-use Rattle.wst_words.specs.declared.words.Task.TheVariants.{Send, Session, Show, Test}
+use Rattle.wst_words.specs.declared.words.Task.TheVariants.{Send, Session, Show, Sweep, Test}
 use Rattle.wst_words.specs.declared.words.WordsFault.{WordsFault}
 use Rattle.wst_words.specs.declared.words.WordsFault.TheVariants.{Clap, NoTask}
 
@@ -39,12 +40,13 @@ row_of name.Convert = bare_command (codes "convert")
 row_of name.Cases = cases_command
 row_of name.Test = test_command
 row_of name.Send = send_command
+row_of name.Sweep = sweep_command
 row_of name.Serve = serve_command
 
 -- the commands, in the order in which help lists them
 abbrev pub all_commands : List CommandRow
 all_commands = map row_of (name.Show ∷ name.Head ∷ name.Pair ∷ name.Session ∷ name.Judge ∷ name.Convert ∷ name.Cases
-    ∷ name.Test ∷ name.Send ∷ name.Serve ∷ [])
+    ∷ name.Test ∷ name.Send ∷ name.Sweep ∷ name.Serve ∷ [])
 
 -- `wst` itself: a command may not be left out, and there is a version
 abbrev pub bare_app : App
@@ -68,6 +70,7 @@ CommandAsks (Some (name, rows)) Convert = name ≡ codes "convert"
 CommandAsks (Some (name, rows)) (Cases options) = (name ≡ codes "cases") × AsksForCases rows options
 CommandAsks (Some (name, rows)) (Test options) = (name ≡ codes "test") × AsksToTest rows options
 CommandAsks (Some (name, rows)) (Send options) = (name ≡ codes "send") × AsksToSend rows options
+CommandAsks (Some (name, rows)) (Sweep options) = (name ≡ codes "sweep") × AsksToSweep rows options
 CommandAsks (Some (name, rows)) (Serve options) = (name ≡ codes "serve") × AsksToServe rows options
 
 -- and they ask for none

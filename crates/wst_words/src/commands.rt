@@ -8,7 +8,7 @@ ghost use Rattle.wst_words.specs.Arguments.{Places, argument_row};
 ghost use Rattle.wst_words.specs.Words.{row_of, wst_app};
 
 use crate::arguments::{Argument, arg_of};
-use crate::{cases, convert, head, judge, pair, send, serve, session, show, test};
+use crate::{cases, convert, head, judge, pair, send, serve, session, show, sweep, test};
 use clap::Command;
 use clap::builder::ValueParser;
 use std::alloc::{AllocError, Global};
@@ -25,6 +25,7 @@ pub(crate) enum CommandName {
     Cases,
     Test,
     Send,
+    Sweep,
     Serve,
 }
 
@@ -40,7 +41,7 @@ pub(crate) struct HelpText<'a> {
 }
 
 /// All commands, in the order in which help lists them.
-static COMMANDS: [CommandName; 10] = [
+static COMMANDS: [CommandName; 11] = [
     CommandName::Show,
     CommandName::Head,
     CommandName::Pair,
@@ -50,6 +51,7 @@ static COMMANDS: [CommandName; 10] = [
     CommandName::Cases,
     CommandName::Test,
     CommandName::Send,
+    CommandName::Sweep,
     CommandName::Serve,
 ];
 
@@ -67,6 +69,7 @@ fn name_of<'a>(command: CommandName) -> &'a str
         CommandName::Cases => "cases",
         CommandName::Test => "test",
         CommandName::Send => "send",
+        CommandName::Sweep => "sweep",
         CommandName::Serve => "serve",
     }
 }
@@ -85,6 +88,7 @@ fn arguments_of(command: CommandName) -> &'static [Argument]
         CommandName::Cases => cases::arguments(),
         CommandName::Test => test::arguments(),
         CommandName::Send => send::arguments(),
+        CommandName::Sweep => sweep::arguments(),
         CommandName::Serve => serve::arguments(),
     }
 }
@@ -101,6 +105,7 @@ fn help_of<'a>(command: CommandName) -> HelpText<'a> {
         CommandName::Cases => cases::help(),
         CommandName::Test => test::help(),
         CommandName::Send => send::help(),
+        CommandName::Sweep => sweep::help(),
         CommandName::Serve => serve::help(),
     }
 }
@@ -180,9 +185,9 @@ fn with_arguments<'a>(
 
 /// What stands at the end of the help.
 const AFTER_HELP: &str =
-    "Each command but `cases`, `test` and `serve` reads its standard input. `wst COMMAND --help` says
-what it reads and writes, with an example. In scripts HEX is bytes as lower-case pairs of
-hexadecimal digits, or `-` for none.
+    "Each command but `cases`, `test`, `sweep` and `serve` reads its standard input. What it reads and
+writes is told by `wst COMMAND --help`, with an example. In scripts HEX is bytes as lower-case pairs
+of hexadecimal digits, or `-` for none.
 
 Exit status: 0 done, 1 the input is damaged or refused or a verdict is FAIL, 2 wrong words, limits
 or lists, 3 the input, the output, the network, the budget or memory failed.

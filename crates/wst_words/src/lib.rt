@@ -17,6 +17,7 @@ mod send;
 mod serve;
 mod session;
 mod show;
+mod sweep;
 mod test;
 mod words;
 
@@ -28,5 +29,6 @@ pub use send::SendOptions;
 pub use serve::ServeOptions;
 pub use session::SessionOptions;
 pub use show::ShowOptions;
+pub use sweep::SweepOptions;
 pub use test::TestOptions;
 pub use words::{Task, WordsFault, read_words};

@@ -16,6 +16,7 @@ use crate::send::{SendOptions, send_options};
 use crate::serve::{ServeOptions, serve_options};
 use crate::session::{SessionOptions, session_options};
 use crate::show::{ShowOptions, show_options};
+use crate::sweep::{SweepOptions, sweep_options};
 use crate::test::{TestOptions, test_options};
 use clap::{ArgMatches, Command, Error};
 use std::alloc::{AllocError, Global};
@@ -41,6 +42,8 @@ pub enum Task<'a> {
     Test(TestOptions<'a>),
     /// The frames that come back for those of the script that comes in.
     Send(SendOptions<'a>),
+    /// The verdicts on a server in every short script.
+    Sweep(SweepOptions<'a>),
     /// Connections to serve.
     Serve(ServeOptions<'a>),
 }
@@ -131,6 +134,7 @@ fn plain_task<'a>(name: &str, options: &ArgMatches<'a>) -> Option<Task<'a>>
         "convert" => Some(Task::Convert),
         "cases" => Some(Task::Cases(cases_options(options))),
         "send" => Some(Task::Send(send_options(options)?)),
+        "sweep" => Some(Task::Sweep(sweep_options(options)?)),
         "serve" => Some(Task::Serve(serve_options(options)?)),
         _ => None,
     }
