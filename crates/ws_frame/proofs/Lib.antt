@@ -6,3 +6,4 @@ pub mod Partials
 pub mod Runs
 pub mod RunEnds
 pub mod Streams
+pub mod OneByte

@@ -1,7 +1,7 @@
 -- The steps of `show`, for the contracts of its private functions. A reader may skip this file: no public contract
 -- speaks of it.
 use Rattle.std.specs.Prelude.{◌⊎◌, ◌≡◌, ℕ, ◌+◌, ◌^◌, ◌≤◌, ◌<◌, Bool, true, false, ⊤}
-use Rattle.std.specs.Prelude.{List, [], ◌++◌, length, take, Option, Some, None, Result, Ok, Err}
+use Rattle.std.specs.Prelude.{List, [], ◌∷◌, ◌++◌, length, take, Option, Some, None, Result, Ok, Err}
 use Rattle.std.specs.List.{flat_map, AllByRecursion}
 use Rattle.ws_frame.specs.declared.source.Source.{Source}
 use Rattle.ws_frame.specs.declared.showing.StreamEnd.{StreamEnd}
@@ -145,6 +145,16 @@ IsShown new taken written failed (Err _) = (failed ≡ true) × BeginsLines new.
 abbrev pub ShowsPiece : Run → Run → List ℕ → Device → Result PieceEnd WriteFault → Type 0
 ShowsPiece old new piece output result = (taken : List ℕ) (written : List ℕ) → HasTold old taken written
     → (more : List ℕ) × HasWritten more output × IsShown new (taken ++ piece) (written ++ more) output.failed result
+
+-- what came of one more byte: the line of the frame that it completes waits, or a bad length stands there and none does
+abbrev pub IsByteTaken : Run → List ℕ → List ℕ → PieceEnd → Type 0
+IsByteTaken new taken written piece_end.Inside = HasTold new taken written
+IsByteTaken new taken written piece_end.BadLength =
+    (new.lines ≡ []) × IsLeft new.source taken (end.BadLengthAt new.offset) written
+
+abbrev pub TakesByte : Run → Run → ℕ → PieceEnd → Type 0
+TakesByte old new byte result = (taken : List ℕ) (written : List ℕ) → HasTold old taken written
+    → IsByteTaken new (taken ++ byte ∷ []) written result
 
 -- ---- writing
 

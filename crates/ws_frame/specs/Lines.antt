@@ -10,7 +10,7 @@ use Rattle.ws_wire.specs.declared.role.Role.{Role}
 use Rattle.ws_wire.specs.declared.role.Role.TheVariants.{Client, Server}
 use Rattle.ws_frame.specs.declared.source.Source.{Source}
 use Rattle.ws_frame.specs.declared.source.Mark.{Mark}
-use Rattle.ws_frame.specs.declared.source.Mark.TheVariants.{Plain, Sent, Got}
+use Rattle.ws_frame.specs.declared.source.Mark.TheVariants.{Plain, Sent, Got, ClientOf, ServerOf}
 use Rattle.ws_wire.specs.declared.header.Form.{Form}
 use Rattle.ws_frame.specs.declared.showing.StreamEnd.{StreamEnd}
 use Rattle.ws_frame.specs.declared.showing.StreamEnd.TheVariants.{Whole, CutAt, BadLengthAt}
@@ -52,6 +52,8 @@ abbrev pub mark_word : Mark → List ℕ
 mark_word Plain = []
 mark_word Sent = codes "> "
 mark_word Got = codes "< "
+mark_word (ClientOf number) = decimal number ++ codes " > "
+mark_word (ServerOf number) = decimal number ++ codes " < "
 
 -- the stream of this end, shown alone
 abbrev pub plain : Role → Source

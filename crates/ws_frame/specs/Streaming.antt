@@ -1,5 +1,5 @@
 -- The lines of a stream that comes piece by piece (RFC 6455 section 5.2), and what each call writes of them.
-use Rattle.std.specs.Prelude.{◌≡◌, ◌<◌, ◌+◌, ◌^◌, ℕ, Bool, true, false, List, [], ◌++◌, length, Result, Ok, Err}
+use Rattle.std.specs.Prelude.{◌≡◌, ◌<◌, ◌+◌, ◌^◌, ℕ, Bool, true, false, List, [], ◌∷◌, ◌++◌, length, Result, Ok, Err}
 use Rattle.ws_wire.specs.Header.{AreBytes}
 use Rattle.ws_frame.specs.declared.source.Source.{Source}
 use Rattle.ws_frame.specs.declared.showing.StreamEnd.{StreamEnd}
@@ -60,3 +60,13 @@ pub record ShowsLast (source : Source) (taken written : List ℕ) (output : Devi
 abbrev pub ShowsEnd : StreamLines → Device → Result (Unit {0}) WriteFault → Type 0
 ShowsEnd stream output result = (taken : List ℕ) (written : List ℕ) → HasShown stream taken written
     → ShowsLast (source_of stream) taken written output result
+
+-- what one more byte makes certain: with this line all lines are told that are certain then
+abbrev pub ShowsByte : StreamLines → StreamLines → ℕ → List ℕ → Type 0
+ShowsByte old new byte line = (taken : List ℕ) (written : List ℕ) → HasShown old taken written
+    → HasShown new (taken ++ byte ∷ []) (written ++ line)
+
+-- with this line all lines of the stream are told, if it ends here
+abbrev pub EndsWithLine : StreamLines → List ℕ → Type 0
+EndsWithLine stream line = (taken : List ℕ) (written : List ℕ) → HasShown stream taken written
+    → (end : StreamEnd) × AreLinesOf (source_of stream) taken end (written ++ line)

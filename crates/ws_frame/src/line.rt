@@ -19,9 +19,10 @@ pub(crate) const MAX_LINE: usize = 200;
 pub(crate) fn push_line(room: &mut Room, source: Source, offset: u64, header: &Header, first: &[u8])
     requires room { length room.old + 200 ≤ 65536 }
     requires few { length first.now ≤ 16 }
-    ensures { room.new ≡ room.old ++ line_with source offset header.now first.now }
+    ensures pushed { room.new ≡ room.old ++ line_with source offset header.now first.now }
+    ensures len { length room.new ≤ length room.old + 200 }
 {
-    room.push(source.mark.word().as_bytes());
+    source.mark.push_to(room);
     push_bits(room, offset, header);
     push_layout(room, header);
     push_data(room, header.payload_len(), first);

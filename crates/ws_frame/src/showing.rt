@@ -5,11 +5,14 @@ ghost use Rattle.ws_frame.specs.Watching.{has_failed};
 ghost use Rattle.ws_frame.specs.Devices.{watched};
 ghost use Rattle.ws_frame.specs.Lines.{Leaves, Shows, IsFairEnd};
 ghost use Rattle.ws_frame.specs.InnerShowing.{CanShowMore, HasTold, ShowsPiece, ShowsNext, IsPartialFrame, run_end};
+ghost use Rattle.ws_frame.specs.InnerShowing.{TakesByte};
 ghost use Rattle.ws_frame.specs.declared.showing.ShowEnd.TheVariants.{NoMemory};
 
+use crate::line::push_line;
+use crate::one_line::OneLine;
 use crate::partial::{Partial, Taken};
 use crate::room::Room;
-use crate::writing_lines::{end_with, flush, put_line};
+use crate::writing_lines::{end_with, flush, put_line, unmasked};
 use crate::{Source, Watched, WriteFault};
 use std::io::{Read, Write};
 use ws_wire::Role;
@@ -213,6 +216,53 @@ impl Run {
             }
             Taken::BadLength => Ok(None),
         }
+    }
+
+    /// Takes one byte, where no line waits: that of the frame which it completes waits then.
+    pub(crate) fn take_byte(&mut self, byte: u8) -> PieceEnd
+        requires going { CanShowMore self.old }
+        requires empty { self.old.lines ≡ [] }
+        requires count { self.old.taken + 1 < 2 ^ 64 }
+        ensures source { self.new.source ≡ self.old.source }
+        ensures short { length self.new.lines ≤ 200 }
+        ensures shown { TakesByte self.old self.new byte result }
+    {
+        match self.partial.take(&[byte]) {
+            Taken::Part(used) => {
+                self.taken += used as u64;
+                PieceEnd::Inside
+            }
+            Taken::Whole {
+                header,
+                first,
+                used,
+            } => {
+                let shown = unmasked(header.key(), first);
+                push_line(
+                    &mut self.lines,
+                    self.source,
+                    self.offset,
+                    &header,
+                    shown.as_slice(),
+                );
+                let place = self.taken + used as u64;
+                self.taken = place;
+                self.offset = place;
+                PieceEnd::Inside
+            }
+            Taken::BadLength => PieceEnd::BadLength,
+        }
+    }
+
+    /// Takes the line that waits out of the room.
+    pub(crate) fn take_line(&mut self) -> OneLine
+        requires { length self.old.lines ≤ 200 }
+        ensures line { result ≡ self.old.lines }
+        ensures rest { self.new ≡ record self.old { lines = [] } }
+    {
+        let line = OneLine::of(self.lines.as_slice());
+        self.lines.clear();
+        line
     }
 
     /// How the stream ends where the reader is at its end.

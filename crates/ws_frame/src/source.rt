@@ -1,8 +1,9 @@
 //! Whose stream is shown, and how its lines begin.
 
-ghost use Rattle.std.specs.Prelude.{◌≡◌, ◌≤◌, length};
+ghost use Rattle.std.specs.Prelude.{◌≡◌, ◌≤◌, ◌+◌, ◌++◌, length};
 ghost use Rattle.ws_frame.specs.Lines.{mark_word, plain};
 
+use crate::room::Room;
 use ws_wire::Role;
 
 /// What stands before each line of a stream: nothing where one stream is shown alone.
@@ -14,18 +15,31 @@ pub enum Mark {
     Sent,
     /// `< `: the bytes that a tester got.
     Got,
+    /// `N > `: the bytes that the client of the connection of this number sent.
+    ClientOf(u32),
+    /// `N < `: the bytes that its server sent.
+    ServerOf(u32),
 }
 
 impl Mark {
-    /// The mark as it is written.
-    pub(crate) fn word(self) -> &'static str
-        ensures word { result.now ≡ mark_word self }
-        ensures short { length result.now ≤ 2 }
+    /// Puts the mark behind what stands in the room.
+    pub(crate) fn push_to(self, room: &mut Room)
+        requires { length room.old + 23 ≤ 65536 }
+        ensures pushed { room.new ≡ room.old ++ mark_word self }
+        ensures len { length room.new ≤ length room.old + 23 }
     {
         match self {
-            Mark::Plain => "",
-            Mark::Sent => "> ",
-            Mark::Got => "< ",
+            Mark::Plain => {}
+            Mark::Sent => room.push(b"> "),
+            Mark::Got => room.push(b"< "),
+            Mark::ClientOf(number) => {
+                room.push_decimal(u64::from(number));
+                room.push(b" > ");
+            }
+            Mark::ServerOf(number) => {
+                room.push_decimal(u64::from(number));
+                room.push(b" < ");
+            }
         }
     }
 }

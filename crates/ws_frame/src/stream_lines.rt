@@ -5,9 +5,11 @@ ghost use Rattle.ws_frame.specs.Watching.{has_failed};
 ghost use Rattle.ws_frame.specs.Devices.{watched};
 ghost use Rattle.ws_frame.specs.Lines.{last_line};
 ghost use Rattle.ws_frame.specs.Streaming.{HasShown, HasRoomFor, CanEnd, ShowsMore, ShowsEnd, WritesAll, source_of};
+ghost use Rattle.ws_frame.specs.Streaming.{ShowsByte, EndsWithLine};
 
+use crate::one_line::OneLine;
 use crate::showing::{PieceEnd, Run, StreamEnd};
-use crate::writing_lines::write_last_line;
+use crate::writing_lines::{push_last_line, write_last_line};
 use crate::{Source, Watched, WriteFault};
 use std::io::Write;
 
@@ -72,5 +74,40 @@ impl StreamLines {
         let end = self.run.end_of_input();
         write_last_line(&mut self.run.lines, writer, self.run.source, end)?;
         Ok(())
+    }
+
+    /// One more byte comes: the line that it makes certain, and no bytes where it makes none. So a caller can keep lines
+    /// back that `take` would write.
+    pub fn take_byte(&mut self, byte: u8) -> OneLine
+        requires room { HasRoomFor 1 self.old }
+        ensures source { source_of self.new ≡ source_of self.old }
+        ensures shown { ShowsByte self.old self.new byte result }
+    {
+        if self.stopped {
+            return OneLine::none();
+        }
+        self.stopped = match self.run.take_byte(byte) {
+            PieceEnd::Inside => false,
+            PieceEnd::BadLength => {
+                let end = StreamEnd::BadLengthAt(self.run.offset);
+                push_last_line(&mut self.run.lines, self.run.source, end);
+                true
+            }
+        };
+        self.run.take_line()
+    }
+
+    /// The stream is at its end: the line of a cut, and no bytes where it ends with a whole frame.
+    pub fn end_line(&mut self) -> OneLine
+        requires going { CanEnd self.old }
+        ensures source { source_of self.new ≡ source_of self.old }
+        ensures ended { EndsWithLine self.old result }
+    {
+        if self.stopped {
+            return OneLine::none();
+        }
+        let end = self.run.end_of_input();
+        push_last_line(&mut self.run.lines, self.run.source, end);
+        self.run.take_line()
     }
 }

@@ -49,7 +49,7 @@ fn make_room<W: Write>(lines: &mut Room, writer: &mut Watched<W>) -> Result<(), 
 }
 
 /// The first bytes of a payload, unmasked.
-fn unmasked(key: Option<[u8; 4]>, first: FirstBytes) -> FirstBytes
+pub(crate) fn unmasked(key: Option<[u8; 4]>, first: FirstBytes) -> FirstBytes
     ensures { result ≡ masked_payload key first }
 {
     let mut shown = first;
@@ -106,16 +106,17 @@ pub(crate) fn write_last_line<W: Write>(
 }
 
 /// Puts the line for this end of the stream, if it has one.
-fn push_last_line(lines: &mut Room, source: Source, end: StreamEnd)
+pub(crate) fn push_last_line(lines: &mut Room, source: Source, end: StreamEnd)
     requires { lines.old ≡ [] }
-    ensures { lines.new ≡ last_line source end }
+    ensures pushed { lines.new ≡ last_line source end }
+    ensures len { length lines.new ≤ 200 }
 {
     let (words, place) = match end {
         StreamEnd::Whole => return,
         StreamEnd::CutAt(place) => (b"cut at ".as_slice(), place),
         StreamEnd::BadLengthAt(place) => (b"bad length at ".as_slice(), place),
     };
-    lines.push(source.mark.word().as_bytes());
+    source.mark.push_to(lines);
     lines.push(words);
     lines.push_decimal(place);
     lines.push(b"\n");
