@@ -2,7 +2,7 @@
 //! has a close, reads nothing behind a fault, the end or the budget, and takes a wait in vain for an answer.
 
 use crate::comparing::{same_answer, same_bytes, same_number};
-use crate::probes::{BUDGET, RESPONSE, after_run, ended_so, run_case_with};
+use crate::probes::{BUDGET, PLAIN, RESPONSE, after_run, ended_so, run_case_with};
 use std::alloc::Global;
 use std::cell::RefCell;
 use std::io;
@@ -161,7 +161,7 @@ fn check(
         notes: &notes,
     };
     let mut connection = Connection::new(reader, Taker { notes: &notes }, run.budget);
-    let ran = run_case_with(alloc, run.id, &[], run.has_timeouts, &mut connection)?;
+    let ran = run_case_with(alloc, run.id, PLAIN, run.has_timeouts, &mut connection)?;
     let after = after_run(alloc, ran)?;
     same_answer(rt, number, ended_so(&after, Some(left.ended)), true);
     same_number(rt, number, after.turns, left.turns);

@@ -11,8 +11,11 @@ use std::os::fd::{AsRawFd, RawFd};
 use std::time::Duration;
 use ws_frame::{ByteReader, Failing};
 
-/// The one host that has an address.
+/// The host that has an address.
 const HOST: &str = "localhost";
+
+/// The host that has two.
+const DOUBLE_HOST: &str = "double";
 
 /// The one port at which something listens, also where port 0 is asked for, and from which each connection comes.
 const PORT: u16 = 9001;
@@ -146,6 +149,11 @@ impl<'a> Net for MemoryNet<'a> {
     fn lookup_host(&self, host: &str, port: u16, found: &mut [SocketAddr]) -> io::Result<usize>
         ensures in_bounds { IfOk result (λ n. n ≤ length found.new) }
     {
+        if host == DOUBLE_HOST && found.len() >= 2 {
+            found[0] = local(port);
+            found[1] = local(port);
+            return Ok(2);
+        }
         if found.is_empty() || host != HOST {
             return Ok(0);
         }

@@ -279,7 +279,9 @@ fn line_of(alloc: Global, answer: &[u8], reads: Failing, writes: Failing) -> Res
             let verdict = judge(alloc, &transcript)?;
             format!(in alloc; "5.19 {verdict}\n")?
         }
-        Some(Probe::Refused(fault)) => format!(in alloc; "5.19 FAIL Head {fault}\n")?,
+        Some(Probe::Refused(refusal)) => {
+            format!(in alloc; "5.19 FAIL Head {}\n", refusal.fault)?
+        }
         Some(Probe::NoConnection) | None => format!(in alloc; "5.19 no connection\n")?,
     };
     Ok(Vec::from_slice(alloc, line.as_bytes())?)

@@ -11,10 +11,12 @@ use std::alloc::Global;
 use std::io::Read;
 use std::test::Fail;
 use ws_base::Sequence;
-use ws_connection::{Asked, Connection, EndsDirection, NONCE, Probe, Silent, probe};
+use ws_connection::{
+    Asked, Connection, EndsDirection, NONCE, Probe, Silent, UpgradeRequest, probe,
+};
 use ws_frame::{ByteReader, Failing};
 use ws_suite::{Case, Chop, Ended, Verdict, case, judge};
-use ws_upgrade::{HeadFault, request_with};
+use ws_upgrade::{HeadFault, request_for};
 
 /// The host that is asked.
 pub const HOST: &[u8] = b"localhost:9001";
@@ -38,24 +40,38 @@ pub fn run_case<R: Read, W: EndsDirection>(
 ) -> Result<Option<Probe>, Fail>
     requires { IsNewConnection connection.old }
 {
-    run_case_with(alloc, id, &[], false, connection)
+    run_case_with(alloc, id, PLAIN, false, connection)
 }
 
-/// Runs a case of the tables, and offers these subprotocols. Reads can wait in vain, or they can't.
+/// A request that has nothing of its own.
+pub const PLAIN: UpgradeRequest<'static> = UpgradeRequest {
+    host: HOST,
+    path: b"/",
+    protocols: &[],
+    headers: &[],
+};
+
+/// Runs a case of the tables behind this request. Reads can wait in vain, or they can't.
 pub fn run_case_with<R: Read, W: EndsDirection>(
     alloc: Global,
     id: &str,
-    offers: &[&[u8]],
+    request: UpgradeRequest<'_>,
     has_timeouts: bool,
     connection: &mut Connection<R, W>,
 ) -> Result<Option<Probe>, Fail>
     requires { IsNewConnection connection.old }
 {
-    // What is asked of this host can be asked.
-    let _text = request_with(alloc, HOST, b"/", NONCE, offers)?;
+    // What is asked for can be asked for.
+    let _text = request_for(
+        alloc,
+        request.host,
+        request.path,
+        NONCE,
+        request.protocols,
+        request.headers,
+    )?;
     let asked = Asked {
-        host: HOST,
-        protocols: offers,
+        request,
         key: KEY,
         has_timeouts,
     };
@@ -134,7 +150,7 @@ fn after_answer(alloc: Global, answer: &[u8]) -> Result<Option<Probe>, Fail> {
 /// Whether an answer is refused for this.
 fn is_refused(alloc: Global, answer: &[u8], wanted: HeadFault) -> Result<bool, Fail> {
     match after_answer(alloc, answer)? {
-        Some(Probe::Refused(fault)) => Ok(fault == wanted),
+        Some(Probe::Refused(refusal)) => Ok(refusal.fault == wanted),
         _ => Ok(false),
     }
 }
@@ -212,8 +228,7 @@ fn frames_with_the_head(rt: HostRuntime) -> Result<(), Fail> {
 
 /// What a script without steps asks for.
 const ASKED: Asked<'static> = Asked {
-    host: HOST,
-    protocols: &[],
+    request: PLAIN,
     key: KEY,
     has_timeouts: false,
 };
@@ -232,7 +247,7 @@ fn no_steps(alloc: Global) -> Case
 /// A script without turns sends nothing behind the request; what came with the head is a turn, if it is anything.
 #[test]
 fn a_script_without_turns(rt: HostRuntime) -> Result<(), Fail> {
-    let _text = request_with(rt.alloc(), HOST, b"/", NONCE, &[])?;
+    let _text = request_for(rt.alloc(), HOST, b"/", NONCE, &[], &[])?;
     let case = no_steps(rt.alloc());
     let answer = answer(rt.alloc(), 8)?;
     let mut connection = Connection::new(answer.as_slice(), Vec::new(rt.alloc()), BUDGET);
@@ -249,7 +264,7 @@ fn a_script_without_turns(rt: HostRuntime) -> Result<(), Fail> {
 /// Where the bytes behind the head come later, they are not read.
 #[test]
 fn a_script_without_turns_reads_no_further(rt: HostRuntime) -> Result<(), Fail> {
-    let _text = request_with(rt.alloc(), HOST, b"/", NONCE, &[])?;
+    let _text = request_for(rt.alloc(), HOST, b"/", NONCE, &[], &[])?;
     let case = no_steps(rt.alloc());
     let answer = answer(rt.alloc(), 8)?;
     let reader = ByteReader::new(answer.as_slice(), Failing::Never);

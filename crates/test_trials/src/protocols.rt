@@ -3,12 +3,12 @@
 use crate::comparing::{same_answer, same_bytes};
 use crate::drives::limits;
 use crate::probe_faults::REQUEST;
-use crate::probes::{HOST, RESPONSE, run_case_with};
+use crate::probes::{HOST, PLAIN, RESPONSE, run_case_with};
 use crate::serves::{BUDGET, CLOSED};
 use std::alloc::Global;
 use std::process::Abort;
 use std::test::Fail;
-use ws_connection::{Connection, NONCE, Probe, Served, serve_one};
+use ws_connection::{Connection, NONCE, Probe, Served, UpgradeRequest, serve_one};
 use ws_frame::Watched;
 use ws_upgrade::{HeadFault, request_with};
 
@@ -75,10 +75,19 @@ fn check_offers(
     let alloc = rt.alloc();
     let answer = with_line(alloc, RESPONSE, line)?;
     let mut connection = Connection::new(answer.as_slice(), Vec::new(alloc), BUDGET);
-    let came = run_case_with(alloc, "1.1.1", offers, false, &mut connection)?;
+    let came = run_case_with(
+        alloc,
+        "1.1.1",
+        UpgradeRequest {
+            protocols: offers,
+            ..PLAIN
+        },
+        false,
+        &mut connection,
+    )?;
     let as_due = match came {
         Some(Probe::Ran(_)) => runs,
-        Some(Probe::Refused(fault)) => !runs && fault == HeadFault::Protocol,
+        Some(Probe::Refused(refusal)) => !runs && refusal.fault == HeadFault::Protocol,
         _ => false,
     };
     same_answer(rt, case, as_due, true);

@@ -66,8 +66,20 @@ pub fn run_over<N: Net>(
     writes: Failing,
     flushes: Failing,
 ) -> Result<After, Fail> {
+    run_over_with(alloc, words, b"", net, writes, flushes)
+}
+
+/// The same with this input.
+pub fn run_over_with<N: Net>(
+    alloc: Global,
+    words: &str,
+    input: &[u8],
+    net: &N,
+    writes: Failing,
+    flushes: Failing,
+) -> Result<After, Fail> {
     let words = command_line(alloc, words)?;
-    let mut reader = Watched::new(b"".as_slice());
+    let mut reader = Watched::new(input);
     let mut writer = Watched::new(FlushedWriter {
         inner: ByteWriter::new(alloc, writes),
         failing: flushes,

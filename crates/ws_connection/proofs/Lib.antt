@@ -4,3 +4,4 @@ pub mod ConnectionLemmas
 pub mod StandingLemmas
 pub mod ProbingLemmas
 pub mod ObservingLemmas
+pub mod HeaderLemmas

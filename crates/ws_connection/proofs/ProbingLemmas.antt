@@ -843,9 +843,10 @@ answers turns offers text request (Ran transcript) x y z is wrote same run = rec
       (Appends-trans x.output.held y.output.held z.output.held text (all_sent transcript.turns) wrote run.has_put);
   ends = run.ends;
 }
-answers turns offers text request (Refused fault) x y z is wrote same run = record {
+answers turns offers text request (Refused refusal) x y z is wrote same run = record {
   head = run.head;
   is_head = run.is_head;
+  status = run.status;
   has_got = subst (λ (i : InputValue). Consumes i.left z.input.left run.head) same run.has_got;
   has_put = put_then text request x y z is wrote run.has_put;
   works = run.works;

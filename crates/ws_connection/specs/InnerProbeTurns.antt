@@ -203,6 +203,6 @@ pub record SeesRun (tested : Role) (end : Option Ended) (turns : List Turn) (see
 -- what came of a connection, once the request with these offers was written
 abbrev pub AnswersBehind : List (List ℕ) → List (List ℕ) → Probe → ConnectionRun → Type 0
 AnswersBehind turns offers (Ran transcript) run = RunsScript turns offers [] transcript run
-AnswersBehind turns offers (Refused fault) run = RefusesResponse offers [] fault run
+AnswersBehind turns offers (Refused refusal) run = RefusesResponse offers [] refusal run
 AnswersBehind turns offers NoConnection run =
     WritesBytes [] run × (run.new.output.failed ≡ false) × StopsInResponse offers run

@@ -1,5 +1,7 @@
 pub mod ReadingHeads
 pub mod Protocols
+pub mod RequestHeaders
+pub mod UpgradeRequests
 pub mod Requests
 pub mod Responses
 pub mod ConnectionValues

@@ -1,16 +1,14 @@
 -- A script that is run against a tested end (RFC 6455 sections 4.1 and 5 to 7): what is recorded is what went over the
 -- connection, how long was waited for what is due, and how it ended.
 use Rattle.std.specs.Prelude.{◌≡◌, ℕ, ◌+◌, ◌<◌, ◌≤◌, ◌⊎◌, ◌↔◌, Bool, true, false, List, [], ◌∷◌, ◌++◌, length}
-use Rattle.std.specs.Prelude.{drop, map, take, codes, Option, Some}
+use Rattle.std.specs.Prelude.{drop, map, take, codes, MatchOption, Option, Some}
 use Rattle.std.specs.List.{concat}
 use Rattle.std.specs.Io.KnownBytes.{IsAtEnd}
 use Rattle.ws_frame.specs.Devices.{HasBegun, IsUntouched}
 use Rattle.ws_wire.specs.declared.role.Role.{Role}
 use Rattle.ws_wire.specs.declared.role.Role.TheVariants.{Client, Server}
 use Rattle.ws_upgrade.specs.Accept.{key_of}
-use Rattle.ws_upgrade.specs.declared.faults.HeadFault.{HeadFault}
-use Rattle.ws_upgrade.specs.Reading.{max_head}
-use Rattle.ws_upgrade.specs.Texts.{request_text}
+use Rattle.ws_upgrade.specs.Reading.{HasStatusCode, LacksStatusCode, max_head}
 use Rattle.ws_scripts.specs.declared.script.Case.{Case}
 use Rattle.ws_scripts.specs.declared.transcript.Ended.{Ended}
 use Rattle.ws_scripts.specs.declared.transcript.Ended.TheVariants.{Tester, Peer, Broken}
@@ -30,6 +28,8 @@ use Rattle.ws_connection.specs.declared.standing.Standing.TheVariants.{Going}
 use Rattle.ws_connection.specs.declared.reading_head.HeadEnd.TheVariants.{Cut, ReadFault}
 use Rattle.ws_connection.specs.declared.response_head.ResponseDecision.{ResponseDecision}
 use Rattle.ws_connection.specs.declared.response_head.ResponseDecision.TheVariants.{Accepted, Refused as RefusedHead}
+use Rattle.ws_connection.specs.UpgradeRequests.{RequestValue, text_of_request}
+use Rattle.ws_connection.specs.declared.probe_end.HeadRefusal.{HeadRefusal}
 use Rattle.ws_connection.specs.declared.probe_end.Probe.{Probe}
 use Rattle.ws_connection.specs.declared.probe_end.Probe.TheVariants.{Ran, Refused, NoConnection}
 
@@ -176,10 +176,6 @@ pub record Records (tested : Role) (turns : List (List ℕ)) (first : List ℕ) 
 abbrev pub probe_nonce : List ℕ
 probe_nonce = codes "the sample nonce"
 
--- the request that is sent to a host: it asks for an upgrade at `/`, and offers these subprotocols
-abbrev pub request_to : List ℕ → List (List ℕ) → List ℕ
-request_to host offers = request_text host (codes "/") (key_of probe_nonce) offers
-
 -- these bytes were read for the head of the answer to such offers, and decide so: at most 8192, and at most 1024 behind
 -- bytes that need more
 pub record ReadsResponse (offers : List (List ℕ)) (head : List ℕ) (decision : ResponseDecision) : Type 0 where
@@ -209,11 +205,12 @@ pub record RunsScript (turns offers : List (List ℕ)) (request : List ℕ) (tra
   pub has_put : WritesBytes (request ++ all_sent transcript.turns) run
   pub ends : EndsScript Server turns (drop used head) transcript run.new
 
--- The answer was read to where it is to be refused, and nothing else.
-pub record RefusesResponse (offers : List (List ℕ)) (request : List ℕ) (fault : HeadFault)
+-- The answer was read to where it is to be refused, and nothing else; and it is told which status it has.
+pub record RefusesResponse (offers : List (List ℕ)) (request : List ℕ) (refusal : HeadRefusal)
     (run : ConnectionRun) : Type 0 where
   pub head : List ℕ
-  pub is_head : ReadsResponse offers head (RefusedHead fault)
+  pub is_head : ReadsResponse offers head (RefusedHead refusal.fault)
+  pub status : MatchOption refusal.status (LacksStatusCode head) (HasStatusCode head)
   pub has_got : ReadsBytes head run
   pub has_put : WritesBytes request run
   pub works : HasWorked run.new
@@ -229,11 +226,10 @@ HasNoAnswer offers request run =
 -- what came of a connection, over which this request with these offers was put before what the turns sent
 abbrev pub AnswersProbe : List (List ℕ) → List (List ℕ) → List ℕ → Probe → ConnectionRun → Type 0
 AnswersProbe turns offers request (Ran transcript) run = RunsScript turns offers request transcript run
-AnswersProbe turns offers request (Refused fault) run = RefusesResponse offers request fault run
+AnswersProbe turns offers request (Refused refusal) run = RefusesResponse offers request refusal run
 AnswersProbe turns offers request NoConnection run = HasNoAnswer offers request run
 
--- what came of a connection to this host, to which these subprotocols were offered and over which this script was to be
--- run
-abbrev pub Probes : Case → List ℕ → List ℕ → List (List ℕ) → Probe → ConnectionRun → Type 0
-Probes case key host offers probe run =
-    AnswersProbe (bytes_by_turn case (Some key)) offers (request_to host offers) probe run
+-- what came of a connection over which a server was asked for an upgrade by this request, and this script was to be run
+abbrev pub Probes : Case → List ℕ → RequestValue → Probe → ConnectionRun → Type 0
+Probes case key request probe run =
+    AnswersProbe (bytes_by_turn case (Some key)) request.offers (text_of_request request (key_of probe_nonce)) probe run

@@ -4,7 +4,7 @@
 //!
 //! The layer above uses: `serve_one` (the clauses with `Serves`), `probe` (`Probes`) over a `Connection` and `run_script`
 //! (`Records`) over one whose handshake is done, `read_head` (the clauses with `ReadsHead`) with `RequestHead` and
-//! `ResponseHead`, and `protocols_of`, whose `Protocols` both take.
+//! `ResponseHead`, `protocols_of`, whose `Protocols` both take, and `headers_of`, whose `RequestHeaders` a request has.
 #![tactic(auto)]
 
 mod connection;
@@ -15,17 +15,21 @@ mod probing;
 mod protocols;
 mod reading_head;
 mod request_head;
+mod request_headers;
 mod response_head;
 mod serving;
 mod standing;
+mod upgrade_request;
 
 pub use connection::{Connection, EndsDirection};
 pub use incoming::Incoming;
 pub use observer::{Observer, Silent};
-pub use probe_end::Probe;
+pub use probe_end::{HeadRefusal, Probe};
 pub use probing::{Asked, NONCE, ScriptRun, probe, run_script};
 pub use protocols::{Protocols, protocols_of};
 pub use reading_head::{HeadDecider, HeadEnd, HeadRoom, read_head};
 pub use request_head::{RequestDecision, RequestHead};
+pub use request_headers::{RequestHeaders, headers_of};
 pub use response_head::{ResponseDecision, ResponseHead};
 pub use serving::{Served, serve_one};
+pub use upgrade_request::UpgradeRequest;

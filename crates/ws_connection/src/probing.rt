@@ -4,28 +4,30 @@ mod run;
 mod script;
 mod turn;
 
-ghost use Rattle.std.specs.Prelude.{◌≡◌, ◌≤◌, drop, length, map, IfOk};
+ghost use Rattle.std.specs.Prelude.{◌≡◌, ◌≤◌, drop, length, map, IfOk, MatchOption};
 ghost use Rattle.std.specs.List.{concat};
-ghost use Rattle.ws_upgrade.specs.Protocols.{AreOffers};
-ghost use Rattle.ws_upgrade.specs.Texts.{IsHost};
+ghost use Rattle.ws_upgrade.specs.Accept.{key_of};
+ghost use Rattle.ws_upgrade.specs.Reading.{HasStatusCode, LacksStatusCode};
 ghost use Rattle.ws_scripts.specs.Scripts.{CanBeRun};
 ghost use Rattle.ws_connection.specs.Connections.{IsNewConnection};
 ghost use Rattle.ws_connection.specs.Observing.{HearsProbe, IsHearing};
-ghost use Rattle.ws_connection.specs.Probing.{Probes, request_to};
+ghost use Rattle.ws_connection.specs.Probing.{Probes, probe_nonce};
 ghost use Rattle.ws_connection.specs.InnerProbeTurns.{AnswersBehind};
+ghost use Rattle.ws_connection.specs.UpgradeRequests.{CanBeAsked, request_value, text_of_request};
 
 use crate::connection::{Connection, EndsDirection};
 use crate::observer::Observer;
-use crate::probe_end::Probe;
+use crate::probe_end::{HeadRefusal, Probe};
 use crate::probing::script::run_turns;
 use crate::reading_head::{HeadEnd, HeadRoom};
 use crate::response_head::{ResponseDecision, ResponseHead};
+use crate::upgrade_request::UpgradeRequest;
 pub use run::{ScriptRun, run_script};
 use std::alloc::Global;
 use std::io::Read;
 use ws_base::{NoMemory, Payload, Sequence};
 use ws_suite::{Case, turns};
-use ws_upgrade::{AddedHeaders, Host, Offers, Path, request_of};
+use ws_upgrade::{AddedHeaders, HeadFault, Host, Offers, Path, request_of, status_of};
 use ws_wire::Role;
 
 /// The nonce of each probe, 16 bytes: always the same, so that captures are repeatable.
@@ -34,10 +36,8 @@ pub const NONCE: [u8; 16] = *b"the sample nonce";
 /// What is asked of a server before a script is run, and how the script is run.
 #[derive(Clone, Copy)]
 pub struct Asked<'a> {
-    /// The host of the request.
-    pub host: &'a [u8],
-    /// The subprotocols that are offered.
-    pub protocols: &'a [&'a [u8]],
+    /// What the server is asked for.
+    pub request: UpgradeRequest<'a>,
     /// The key of each frame.
     pub key: [u8; 4],
     /// Whether reads can wait in vain: then a turn that holds the close or fault of what is sent is waited for as the
@@ -64,17 +64,15 @@ pub fn probe<R: Read, W: EndsDirection, O: Observer>(
 ) -> Result<Probe, O::Fault>
     requires new { IsNewConnection connection.old }
     requires runs { CanBeRun case.now }
-    requires host { IsHost asked.now.host.now }
-    requires offers { AreOffers (map (λ name. name.now) asked.now.protocols.now) }
+    requires request { CanBeAsked (request_value asked.now.request) }
     requires hearing { IsHearing O.heard observer.old }
-    ensures probes { IfOk result (λ probe. Probes case.now asked.now.key asked.now.host.now
-        (map (λ name. name.now) asked.now.protocols.now) probe
+    ensures probes { IfOk result (λ probe. Probes case.now asked.now.key (request_value asked.now.request) probe
         (record { old = connection.old; new = connection.new })) }
     ensures told { IfOk result (HearsProbe O.heard O.heard_all observer.old observer.new) }
     ensures borrow { O.borrow observer.new ≡ O.borrow observer.old }
 {
     let script = turns(alloc, case, asked.key)?;
-    let text = request_text(alloc, asked.host, asked.protocols)?;
+    let text = request_text(alloc, &asked.request)?;
     let bytes = text.as_slice();
     let taken = connection.write(bytes);
     if taken < bytes.len() {
@@ -84,15 +82,16 @@ pub fn probe<R: Read, W: EndsDirection, O: Observer>(
     Ok(came)
 }
 
-/// The request that is sent to a host.
-fn request_text(alloc: Global, host: &[u8], offers: &[&[u8]]) -> Result<Vec<u8>, NoMemory>
-    requires host { IsHost host.now }
-    requires offers { AreOffers (map (λ name. name.now) offers.now) }
-    ensures { IfOk result (λ text. text.items ≡ request_to host.now (map (λ name. name.now) offers.now)) }
+/// The request that is sent.
+fn request_text(alloc: Global, request: &UpgradeRequest<'_>) -> Result<Vec<u8>, NoMemory>
+    requires { CanBeAsked (request_value request.now) }
+    ensures { IfOk result (λ text. text.items ≡ text_of_request (request_value request.now) (key_of probe_nonce)) }
 {
-    let (host, offers) = (Host::proved(host), Offers::proved(offers));
-    let added = AddedHeaders::none();
-    let text = request_of(alloc, &host, &Path::root(), NONCE, &offers, &added)?;
+    let host = Host::proved(request.host);
+    let path = Path::proved(request.path);
+    let offers = Offers::proved(request.protocols);
+    let added = AddedHeaders::proved(request.headers);
+    let text = request_of(alloc, &host, &path, NONCE, &offers, &added)?;
     Ok(text)
 }
 
@@ -107,7 +106,7 @@ fn after_request<R: Read, W: EndsDirection, O: Observer>(
     requires new { IsNewConnection connection.old }
     requires hearing { IsHearing O.heard observer.old }
     ensures answers { IfOk result (λ probe. AnswersBehind (map concat script.now)
-        (map (λ name. name.now) asked.now.protocols.now) probe
+        (map (λ name. name.now) asked.now.request.protocols.now) probe
         (record { old = connection.old; new = connection.new })) }
     ensures told { IfOk result (HearsProbe O.heard O.heard_all observer.old observer.new) }
     ensures borrow { O.borrow observer.new ≡ O.borrow observer.old }
@@ -115,7 +114,7 @@ fn after_request<R: Read, W: EndsDirection, O: Observer>(
     let mut room = HeadRoom::new();
     let decider = ResponseHead {
         nonce: NONCE,
-        offers: asked.protocols,
+        offers: asked.request.protocols,
     };
     match connection.read_head(&mut room, &decider) {
         HeadEnd::Decided(ResponseDecision::Accepted { used, .. }) => {
@@ -126,8 +125,21 @@ fn after_request<R: Read, W: EndsDirection, O: Observer>(
             observer.ended(transcript.ended)?;
             Ok(Probe::Ran(transcript))
         }
-        HeadEnd::Decided(ResponseDecision::Refused(fault)) => Ok(Probe::Refused(fault)),
+        HeadEnd::Decided(ResponseDecision::Refused(fault)) => {
+            Ok(Probe::Refused(refusal_of(room.as_slice(), fault)))
+        }
         HeadEnd::Cut | HeadEnd::ReadFault => Ok(Probe::NoConnection),
+    }
+}
+
+/// Why an answer is to be refused that began with these bytes.
+fn refusal_of(bytes: &[u8], fault: HeadFault) -> HeadRefusal
+    ensures fault { result.fault ≡ fault }
+    ensures status { MatchOption result.status (LacksStatusCode bytes.now) (HasStatusCode bytes.now) }
+{
+    HeadRefusal {
+        fault,
+        status: status_of(bytes),
     }
 }
 

@@ -2,6 +2,7 @@
 -- of `httparse` alone: the one of RFC 9112 sections 2 to 5.
 use Rattle.std.specs.Prelude.{◌≡◌, ℕ, ◌<◌, ◌≤◌, List, length, take, drop, codes, ◌⊎◌, Option, Some, None, IfSome}
 use Rattle.httparse.specs.Grammar.{RequestHead, ResponseHead, print_request, print_response, ReadsRequest}
+use Rattle.httparse.specs.Grammar.{status_code}
 use Rattle.httparse.specs.Grammar.{ReadsResponse, HasNoRequest, HasNoResponse, NeverHasRequest, NeverHasResponse}
 use Rattle.httparse.specs.Grammar.{MayBecomeRequest, MayBecomeResponse}
 use Rattle.httparse.specs.Spans.{RequestExceeds, ResponseExceeds}
@@ -175,3 +176,12 @@ ChecksEachResponse nonce offers bytes read = ChecksEachHead (response_heads nonc
 -- a response that is accepted is among the bytes
 abbrev pub HoldsResponse : List ℕ → ResponseRead → Type 0
 HoldsResponse bytes read = HoldsHead bytes (response_read read)
+
+-- a response stands at the front, and has this status
+abbrev pub HasStatusCode : List ℕ → ℕ → Type 0
+HasStatusCode bytes status = (head : ResponseHead) × (len : ℕ) × BeginsWithResponse (head_part bytes) head len
+    × (status ≡ status_code head)
+
+-- none stands there
+abbrev pub LacksStatusCode : List ℕ → Type 0
+LacksStatusCode bytes = (head : ResponseHead) (len : ℕ) → BeginsWithResponse (head_part bytes) head len → ⊥

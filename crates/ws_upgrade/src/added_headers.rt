@@ -53,10 +53,18 @@ impl<'h, 'b> AddedHeaders<'h, 'b> {
             in MatchOption result (¬ (AreAddedHeaders given)) (λ added. (added ≡ given) × AreAddedHeaders given) }
     {
         if are_added_headers(headers) {
-            Some(AddedHeaders { headers })
+            Some(AddedHeaders::proved(headers))
         } else {
             None
         }
+    }
+
+    /// Headers that were proved fit.
+    pub fn proved(headers: &'h [AddedHeader<'b>]) -> AddedHeaders<'h, 'b>
+        requires { AreAddedHeaders (map header_pair headers.now) }
+        ensures { result ≡ map header_pair headers.now }
+    {
+        AddedHeaders { headers }
     }
 
     /// No header.

@@ -24,7 +24,7 @@ pub use parts::{Host, Path, is_host, is_path};
 pub use protocols::{Offers, ProtocolName, are_offers, is_protocol_name};
 pub use reading::MAX_HEAD;
 pub use requests::{RequestRead, Upgrade, read_request, read_request_with};
-pub use responses::{ResponseRead, read_response, read_response_with};
+pub use responses::{ResponseRead, read_response, read_response_with, status_of};
 pub use writing::{
     refusal, request, request_for, request_of, request_with, response, response_of, response_with,
 };

@@ -1,11 +1,11 @@
 //! Reading the head of a response (RFC 6455 section 4.1).
 
-ghost use Rattle.std.specs.Prelude.{[], MatchResult, map};
+ghost use Rattle.std.specs.Prelude.{◌<◌, [], IfSome, MatchOption, MatchResult, map};
 ghost use Rattle.httparse.specs.Grammar.{ResponseHead};
 ghost use Rattle.httparse.specs.Spans.{IsResponseAt, IsResponseWithin};
 ghost use Rattle.ws_upgrade.specs.Heads.{ResponseParts, IsResponseRefusal};
 ghost use Rattle.ws_upgrade.specs.Reading.{ChecksHead, OpensResponse, response_heads, response_read};
-ghost use Rattle.ws_upgrade.specs.Reading.{IsResponseRead, ChecksEachResponse, HoldsResponse};
+ghost use Rattle.ws_upgrade.specs.Reading.{HasStatusCode, IsResponseRead, ChecksEachResponse, HoldsResponse, LacksStatusCode};
 
 use crate::accepting::{accept_of, key_text};
 use crate::faults::HeadFault;
@@ -80,6 +80,19 @@ pub fn read_response_with(bytes: &[u8], nonce: [u8; 16], offers: &[&[u8]]) -> Re
             Error::TooManyHeaders => ResponseRead::Refused(HeadFault::TooLarge),
             _ => ResponseRead::Refused(HeadFault::Head),
         },
+    }
+}
+
+/// The status of a response, below 1000, whose head stands at the front of some bytes as `read_response` looks for it.
+/// `None` where none does. It takes no memory.
+pub fn status_of(bytes: &[u8]) -> Option<u16>
+    ensures status { MatchOption result (LacksStatusCode bytes.now) (HasStatusCode bytes.now) }
+    ensures bound { IfSome result (λ status. status < 1000) }
+{
+    let mut spans = [EMPTY_HEADER_SPAN; MAX_HEADERS];
+    match parse_response(head_part(bytes), &mut spans) {
+        Ok(Status::Complete(head)) => Some(head.code),
+        Ok(Status::Partial) | Err(_) => None,
     }
 }
 

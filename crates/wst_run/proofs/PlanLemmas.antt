@@ -5,11 +5,8 @@ use Rattle.std.specs.Borrow.{Bor}
 use Rattle.std.specs.List.{All}
 use Rattle.ws_scripts.specs.Scripts.{CanBeRun}
 use Rattle.ws_scripts.specs.declared.script.Case.{Case}
-use Rattle.ws_upgrade.specs.Texts.{IsHost}
 use Rattle.wst_commands.specs.GivenCases.{AreCasesFor, is_glob, names_of, or_all}
-use Rattle.wst_run.specs.Test.{HasHost, IsTargetOf, is_one_case}
-use Rattle.wst_run.specs.declared.test.Target.{Target}
-use Rattle.wst_run.specs.declared.test.Target.TheVariants.{Address, Memory}
+use Rattle.wst_run.specs.Test.{is_one_case}
 use Rattle.ws_frame.specs.Devices.{Device}
 use Rattle.wst_commands.specs.declared.exit.Exit.{Exit}
 use Rattle.wst_commands.specs.declared.fault.Fault.{Fault}
@@ -47,13 +44,6 @@ pub asks_for_others : (ids : List (Bor (List ℕ))) → (length ids ≡ 1 → �
 asks_for_others [] other = refl
 asks_for_others (x ∷ []) other = absurd (other refl)
 asks_for_others (x ∷ y ∷ more) other = refl
-
--- the target that a word names has a host
-pub target_has_host : (word : List ℕ) (target : Target) → IsTargetOf word target → HasHost target
-target_has_host word (Memory server) is host same = absurd (cc)
-target_has_host word (Address at) (is, no_server, is_host) host same =
-    let e : at ≡ host = cc in
-    subst (λ (w : List ℕ). IsHost w) (sym is ∙ ap (λ (h : Bor (List ℕ)). h.now) e) is_host
 
 -- what was told while a plan was carried out, where the fault output may have failed since
 pub carries_on : (Meets : Case → Meeting → Type 0) (plan : TestPlan) (ended : Result Exit Fault) (output : Device)

@@ -9,17 +9,15 @@ use Rattle.wst_run.specs.Servers.{AddressValue, IsProbedSo, MeetsAtAddress}
 use Rattle.wst_run.specs.declared.meeting.Meeting.{Meeting}
 
 -- the connection has this budget, and the probe is this one
-pub probed_so : (host : List ℕ) (offers : List (List ℕ)) (budget : ℕ) (key : List ℕ) (case : Case) (given told : Probe)
-    (run : ConnectionRun) → Probes case key host offers given run → given ≡ told → run.old.input.allowance ≡ budget
-    → IsProbedSo host offers budget key case told
-probed_so host offers budget key case given told run probes same has =
-    (run, has, subst (λ (p : Probe). Probes case key host offers p run) same probes)
+pub probed_so : (server : AddressValue) (key : List ℕ) (case : Case) (given told : Probe) (run : ConnectionRun)
+    → Probes case key server.request given run → given ≡ told → run.old.input.allowance ≡ server.budget
+    → IsProbedSo server key case told
+probed_so server key case given told run probes same has =
+    (run, has, subst (λ (p : Probe). Probes case key server.request p run) same probes)
 
--- the handshake was tried with the server's host
-pub meets_probed : {E : Type 0} (server : AddressValue) (host key : List ℕ) (case : Case) (r : Result Meeting E)
-    → host ≡ server.host
-    → IfOk r (λ meeting. IsProbedSo host server.offers server.budget key case (probe_of meeting))
+-- the server was probed
+pub meets_probed : {E : Type 0} (server : AddressValue) (key : List ℕ) (case : Case) (r : Result Meeting E)
+    → IfOk r (λ meeting. IsProbedSo server key case (probe_of meeting))
     → IfOk r (λ meeting. MeetsAtAddress server key case meeting)
-meets_probed server host key case (Ok meeting) same probed =
-    inr (subst (λ (h : List ℕ). IsProbedSo h server.offers server.budget key case (probe_of meeting)) same probed)
-meets_probed server host key case (Err refused) same probed = probed
+meets_probed server key case (Ok meeting) probed = inr probed
+meets_probed server key case (Err refused) probed = probed

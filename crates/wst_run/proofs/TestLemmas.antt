@@ -76,10 +76,10 @@ more_judged outcomes (verdict.Fail why) below =
 
 pub tally_more : (outcomes : List Outcome) (outcome : Outcome) → tally_with (tally_of outcomes) outcome ≡ tally_of (outcomes ++ outcome ∷ [])
 tally_more outcomes (Judged told) = more_judged outcomes told.verdict told.below
-tally_more outcomes (HeadRefused fault) =
-    let pass = sym (count_more is_pass outcomes (HeadRefused fault) ∙ no_more _) in
-    let loose = sym (count_more is_loose outcomes (HeadRefused fault) ∙ no_more _) in
-    let fail = sym (count_more is_fail outcomes (HeadRefused fault)) in
+tally_more outcomes (HeadRefused refusal) =
+    let pass = sym (count_more is_pass outcomes (HeadRefused refusal) ∙ no_more _) in
+    let loose = sym (count_more is_loose outcomes (HeadRefused refusal) ∙ no_more _) in
+    let fail = sym (count_more is_fail outcomes (HeadRefused refusal)) in
     λ i. record { pass = pass i; loose = loose i; fail = fail i }
 tally_more outcomes (NoConnection why) =
     let pass = sym (count_more is_pass outcomes (NoConnection why) ∙ no_more _) in

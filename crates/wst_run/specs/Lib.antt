@@ -1,5 +1,6 @@
 pub mod Meetings
 pub mod Connecting
+pub mod RunPlans
 pub mod Servers
 pub mod Outcomes
 pub mod Notes

@@ -10,7 +10,7 @@ use Rattle.wst_run.specs.declared.meeting.Meeting.TheVariants.{NoConnection, Ran
 -- what a probe tells of it
 abbrev pub probe_of : Meeting → Probe
 probe_of (Ran transcript) = probe.Ran transcript
-probe_of (Refused fault) = probe.Refused fault
+probe_of (Refused refusal) = probe.Refused refusal
 probe_of (NoConnection why) = probe.NoConnection
 
 -- the line that tells why there is no connection

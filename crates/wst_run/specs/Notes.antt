@@ -22,7 +22,7 @@ progress_notes true case = (string_bytes case.id ++ codes "\n") ∷ []
 -- after its line
 abbrev pub miss_notes : Outcome → List (List ℕ)
 miss_notes (Judged told) = []
-miss_notes (HeadRefused fault) = []
+miss_notes (HeadRefused refusal) = []
 miss_notes (NoConnection why) = miss_line why ∷ []
 
 -- of cases with these outcomes

@@ -1,12 +1,15 @@
 -- What is told of a server in a case, and the total.
 use Rattle.std.specs.Prelude.{ℕ, ◌+◌, ◌<◌, nat_lt, take, Bool, true, false, if◌then◌else◌, List, [], ◌∷◌, ◌++◌, length}
-use Rattle.std.specs.Prelude.{filter, codes, string_bytes}
+use Rattle.std.specs.Prelude.{filter, codes, string_bytes, ◌/◌, ◌%◌, ◌&&◌, Option, None, Some}
 use Rattle.std.specs.List.{concat, suffix_len}
 use Rattle.std.specs.Fmt.{decimal}
 use Rattle.ws_suite.specs.Words.{verdict_words}
 use Rattle.ws_suite.specs.declared.verdict.Verdict.{Verdict}
 use Rattle.ws_suite.specs.declared.verdict.Verdict.TheVariants as verdict
 use Rattle.ws_upgrade.specs.Words.{head_fault_name}
+use Rattle.ws_upgrade.specs.declared.faults.HeadFault.{HeadFault}
+use Rattle.ws_upgrade.specs.declared.faults.HeadFault.TheVariants.{Status}
+use Rattle.ws_connection.specs.declared.probe_end.HeadRefusal.{HeadRefusal}
 use Rattle.wst_commands.specs.declared.exit.Exit.{Exit}
 use Rattle.wst_commands.specs.declared.exit.Exit.TheVariants.{Damaged, Done}
 use Rattle.wst_run.specs.declared.outcome.Outcome.{Outcome}
@@ -15,13 +18,31 @@ use Rattle.wst_run.specs.declared.outcome.Tally.{Tally}
 
 abbrev pub outcome_words : Outcome → List ℕ
 outcome_words (Judged told) = verdict_words told.verdict
-outcome_words (HeadRefused fault) = codes "FAIL Head " ++ head_fault_name fault
+outcome_words (HeadRefused refusal) = codes "FAIL Head " ++ head_fault_name refusal.fault
 outcome_words (NoConnection why) = codes "no connection"
+
+abbrev pub is_status : HeadFault → Bool
+is_status Status = true
+is_status _ = false
+
+-- what is told of a refusal: its status where that is why, and where it is asked why
+abbrev pub told_refusal : Bool → HeadRefusal → HeadRefusal
+told_refusal explains refusal =
+    record { fault = refusal.fault; status = if explains && is_status refusal.fault then refusal.status else None }
+
+-- the three digits of a status
+abbrev pub status_digits : ℕ → List ℕ
+status_digits status = decimal (status / 100) ++ decimal (status / 10 % 10) ++ decimal (status % 10)
+
+-- the line that tells a status, where one is to be told
+abbrev pub status_line : Option ℕ → List ℕ
+status_line None = []
+status_line (Some status) = codes "  status " ++ status_digits status ++ codes "\n"
 
 -- what stands below its line
 abbrev pub below_line : Outcome → List ℕ
 below_line (Judged told) = string_bytes told.below
-below_line (HeadRefused fault) = []
+below_line (HeadRefused refusal) = status_line refusal.status
 below_line (NoConnection why) = []
 
 abbrev pub passes : Verdict → Bool
@@ -31,7 +52,7 @@ passes (verdict.Fail why) = false
 
 abbrev pub is_pass : Outcome → Bool
 is_pass (Judged told) = passes told.verdict
-is_pass (HeadRefused fault) = false
+is_pass (HeadRefused refusal) = false
 is_pass (NoConnection why) = false
 
 abbrev pub loosens : Verdict → Bool
@@ -41,7 +62,7 @@ loosens (verdict.Fail why) = false
 
 abbrev pub is_loose : Outcome → Bool
 is_loose (Judged told) = loosens told.verdict
-is_loose (HeadRefused fault) = false
+is_loose (HeadRefused refusal) = false
 is_loose (NoConnection why) = false
 
 abbrev pub fails : Verdict → Bool
@@ -52,12 +73,12 @@ fails (verdict.Fail why) = true
 -- a head that is to be refused counts as a Fail, and so does a server to which there is no connection
 abbrev pub is_fail : Outcome → Bool
 is_fail (Judged told) = fails told.verdict
-is_fail (HeadRefused fault) = true
+is_fail (HeadRefused refusal) = true
 is_fail (NoConnection why) = true
 
 abbrev pub is_missed : Outcome → Bool
 is_missed (Judged told) = false
-is_missed (HeadRefused fault) = false
+is_missed (HeadRefused refusal) = false
 is_missed (NoConnection why) = true
 
 -- how many of the last ones, in a row, are without a connection
@@ -101,5 +122,5 @@ tally_with_verdict tally (verdict.Fail why) = record tally { fail = tally.fail +
 
 abbrev pub tally_with : Tally → Outcome → Tally
 tally_with tally (Judged told) = tally_with_verdict tally told.verdict
-tally_with tally (HeadRefused fault) = record tally { fail = tally.fail + 1 }
+tally_with tally (HeadRefused refusal) = record tally { fail = tally.fail + 1 }
 tally_with tally (NoConnection why) = record tally { fail = tally.fail + 1 }

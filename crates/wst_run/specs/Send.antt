@@ -3,75 +3,41 @@
 use Rattle.std.specs.Prelude.{◌≡◌, ◌⊎◌, ⊤, ℕ, true, false, List, ◌++◌, Some, Result, Ok, Err, MatchResult, codes}
 use Rattle.ws_base.specs.declared.text_fault.TextFault.{TextFault}
 use Rattle.ws_base.specs.declared.text_fault.TextFault.TheVariants as text_fault
-use Rattle.ws_connection.specs.Protocols.{protocols_given}
 use Rattle.ws_formats.specs.Lines.{Damages}
-use Rattle.ws_formats.specs.Words.{IsKeyWord}
 use Rattle.ws_frame.specs.Devices.{Device, HasWritten, IsUntouched}
 use Rattle.ws_scripts.specs.Captures2.{written_capture2}
 use Rattle.ws_scripts.specs.ScriptTexts.{IsScriptText, IsTextOfScript}
 use Rattle.ws_scripts.specs.declared.script.Case.{Case}
 use Rattle.ws_scripts.specs.declared.transcript.Transcript.{Transcript}
-use Rattle.ws_upgrade.specs.Protocols.{AreOffers}
-use Rattle.ws_upgrade.specs.declared.faults.HeadFault.{HeadFault}
 use Rattle.wst_words.specs.declared.send.SendOptions.{SendOptions}
 use Rattle.wst_commands.specs.Devices.{Tells}
 use Rattle.wst_commands.specs.Faults.{LacksMemory, TellsFault}
 use Rattle.wst_commands.specs.ReadingWhole.{ReadsAll, StopsReading}
-use Rattle.wst_commands.specs.TimeLimits.{GivesTimeout, HasTimeout}
 use Rattle.wst_commands.specs.declared.exit.Exit.{Exit}
 use Rattle.wst_commands.specs.declared.exit.Exit.TheVariants.{Damaged, Done, Failed}
 use Rattle.wst_commands.specs.declared.fault.Fault.TheVariants as fault
-use Rattle.wst_commands.specs.declared.given_cases.NoCases.TheVariants as none
 use Rattle.wst_commands.specs.declared.reading_whole.ReadStop.{ReadStop}
 use Rattle.wst_commands.specs.declared.reading_whole.ReadStop.TheVariants as read
 use Rattle.wst_run.specs.LineWriting.{HasWrittenRun}
 use Rattle.wst_run.specs.Meetings.{miss_line}
 use Rattle.wst_run.specs.Outcomes.{outcome_words}
-use Rattle.wst_run.specs.Servers.{MeetsTarget}
-use Rattle.wst_run.specs.Test.{IsTargetOf, RefusesTarget, TellsRefusal}
+use Rattle.ws_connection.specs.declared.probe_end.HeadRefusal.{HeadRefusal}
+use Rattle.wst_run.specs.RunPlans.{IsRunPlan, CanNotRun, TellsRefusal}
+use Rattle.wst_run.specs.Servers.{MeetsBy}
+use Rattle.wst_run.specs.declared.run_plans.Refusal.{Refusal}
 use Rattle.wst_run.specs.declared.meeting.Meeting.{Meeting}
 use Rattle.wst_run.specs.declared.meeting.Meeting.TheVariants.{NoConnection, Ran, Refused}
 use Rattle.wst_run.specs.declared.outcome.Outcome.TheVariants.{HeadRefused}
 use Rattle.wst_run.specs.declared.send.SendPlan.{SendPlan}
 use Rattle.wst_run.specs.declared.send.SendStop.{SendStop}
 use Rattle.wst_run.specs.declared.send.SendStop.TheVariants as stop
-use Rattle.wst_run.specs.declared.test.TestRefusal.{TestRefusal}
-use Rattle.wst_run.specs.declared.test.TestRefusal.TheVariants as refusal
 
 -- ---- what the words ask for
 
--- the names that are given can be offered
-abbrev pub CanOffer : SendOptions → Type 0
-CanOffer options = AreOffers (protocols_given options.protocols)
-
-abbrev pub HasSeconds : SendOptions → Type 0
-HasSeconds options = HasTimeout (Some options.timeout)
-
-abbrev pub HasSendKey : SendOptions → Type 0
-HasSendKey options = (key : List ℕ) × IsKeyWord key options.key.now
-
 -- the words ask for this
 pub record IsSendPlan (options : SendOptions) (plan : SendPlan) : Type 0 where
-  pub has_offers : CanOffer options
-  pub protocols : plan.protocols ≡ protocols_given options.protocols
-  pub timeout : GivesTimeout (Some options.timeout) plan.timeout
-  pub key : IsKeyWord plan.key options.key.now
-  pub target : IsTargetOf options.target.now plan.target
+  pub run : IsRunPlan options.run plan.run
   pub capture : plan.capture ≡ options.capture
-  pub budget : plan.budget ≡ options.budget
-
--- The first of these that applies: the names that are given can't be offered; the seconds are no limit of time; the key
--- is none; the target is none. Memory may run out at any of them.
-abbrev pub RefusesSend : SendOptions → TestRefusal → Type 0
-RefusesSend options refusal.BadProtocols = ¬ (CanOffer options)
-RefusesSend options refusal.BadTimeout = CanOffer options × ¬ (HasSeconds options)
-RefusesSend options refusal.BadKey =
-    CanOffer options × HasSeconds options × ((key : List ℕ) → ¬ (IsKeyWord key options.key.now))
-RefusesSend options refusal.BadAddress =
-    CanOffer options × HasSeconds options × HasSendKey options × RefusesTarget options.target.now refusal.BadAddress
-RefusesSend options refusal.NotOneCase = ⊥
-RefusesSend options (refusal.NoCases (none.NoSuchCase id)) = ⊥
-RefusesSend options (refusal.NoCases none.NoMemory) = ⊤
 
 -- ---- what is written
 
@@ -79,7 +45,7 @@ RefusesSend options (refusal.NoCases none.NoMemory) = ⊤
 abbrev pub WritesRun : SendPlan → Transcript → Device → Type 0
 WritesRun plan transcript output =
     ((plan.capture ≡ false) × HasWrittenRun transcript output)
-    ⊎ ((plan.capture ≡ true) × HasWritten (written_capture2 (record { key = Some plan.key; transcript = transcript })) output
+    ⊎ ((plan.capture ≡ true) × HasWritten (written_capture2 (record { key = Some plan.run.key; transcript = transcript })) output
     × (output.failed ≡ false))
 
 -- why a script was not run to its end, over one of the servers that meet cases so: where there is no connection, or its
@@ -87,7 +53,7 @@ WritesRun plan transcript output =
 abbrev pub StopsSending : (Case → Meeting → Type 0) → Case → SendStop → Device → Type 0
 StopsSending Meets case stop.Device output = ⊤
 StopsSending Meets case (stop.NotAStep line) output = ⊥
-StopsSending Meets case (stop.Refused fault) output = Meets case (Refused fault) × IsUntouched output
+StopsSending Meets case (stop.Refused refusal) output = Meets case (Refused refusal) × IsUntouched output
 StopsSending Meets case (stop.NoConnection why) output = Meets case (NoConnection why) × IsUntouched output
 StopsSending Meets case stop.NoMemory output = ⊤
 
@@ -120,15 +86,15 @@ SendsInput Meets plan ended input output =
 
 -- ---- what is told on the fault output, and the exit
 
-abbrev pub TellsRefused : HeadFault → Exit → Device → Type 0
-TellsRefused fault exit faults =
-    ((exit ≡ Damaged) × Tells (outcome_words (HeadRefused fault) ++ codes "\n") faults) ⊎ LacksMemory exit faults
+abbrev pub TellsRefused : HeadRefusal → Exit → Device → Type 0
+TellsRefused refusal exit faults =
+    ((exit ≡ Damaged) × Tells (outcome_words (HeadRefused refusal) ++ codes "\n") faults) ⊎ LacksMemory exit faults
 
 abbrev pub TellsSendEnd : Result (Unit {0}) SendStop → Exit → Device → Type 0
 TellsSendEnd (Ok _) exit faults = (exit ≡ Done) × IsUntouched faults
 TellsSendEnd (Err stop.Device) exit faults = (exit ≡ Failed) × IsUntouched faults
 TellsSendEnd (Err (stop.NotAStep line)) exit faults = TellsFault (fault.NotAStep line) exit faults
-TellsSendEnd (Err (stop.Refused fault)) exit faults = TellsRefused fault exit faults
+TellsSendEnd (Err (stop.Refused refusal)) exit faults = TellsRefused refusal exit faults
 TellsSendEnd (Err (stop.NoConnection why)) exit faults = (exit ≡ Failed) × Tells (miss_line why) faults
 TellsSendEnd (Err stop.NoMemory) exit faults = LacksMemory exit faults
 
@@ -143,6 +109,6 @@ RunsSendPlan Meets plan exit input output faults = (ended : Result (Unit {0}) Se
 abbrev pub RunsSend : SendOptions → Exit → Device → Device → Device → Type 0
 RunsSend options exit input output faults =
     ((plan : SendPlan) × IsSendPlan options plan
-    × RunsSendPlan (MeetsTarget plan.target plan.protocols plan.budget plan.key) plan exit input output faults)
-    ⊎ ((reason : TestRefusal) × RefusesSend options reason × IsUntouched input × IsUntouched output
+    × RunsSendPlan (MeetsBy plan.run) plan exit input output faults)
+    ⊎ ((reason : Refusal) × CanNotRun options.run reason × IsUntouched input × IsUntouched output
     × TellsRefusal reason exit faults)

@@ -1,6 +1,6 @@
 -- Servers that cases are run over: what is known of a meeting with one in memory, and with one at an address.
 use Rattle.std.specs.Prelude.{◌≡◌, ◌⊎◌, ℕ, List, Some}
-use Rattle.ws_wire.specs.declared.role.Role.TheVariants.{Server}
+use Rattle.ws_wire.specs.declared.role.Role.TheVariants as role
 use Rattle.ws_connection.specs.ConnectionValues.{ConnectionRun}
 use Rattle.ws_connection.specs.Probing.{Probes}
 use Rattle.ws_peer.specs.EchoRuns.{IsEchoRun}
@@ -18,8 +18,11 @@ use Rattle.ws_connection.specs.declared.probe_end.Probe.TheVariants as probe
 use Rattle.wst_run.specs.Meetings.{probe_of}
 use Rattle.wst_run.specs.declared.meeting.Meeting.{Meeting}
 use Rattle.wst_run.specs.declared.meeting.Meeting.TheVariants.{NoConnection, Ran, Refused}
-use Rattle.wst_run.specs.declared.test.Target.{Target}
-use Rattle.wst_run.specs.declared.test.Target.TheVariants.{Address, Memory}
+use Rattle.ws_connection.specs.UpgradeRequests.{RequestValue}
+use Rattle.ws_targets.specs.Targets.{TargetValue}
+use Rattle.wst_run.specs.declared.run_plans.RunPlan.{RunPlan}
+use Rattle.wst_run.specs.declared.run_plans.Server.{Server}
+use Rattle.wst_run.specs.declared.run_plans.Server.TheVariants.{At, Memory}
 
 -- The transcript is that of a run of the script's pieces in some talk with a peer, of which nothing else is known.
 pub record IsPeerRun (key : List ℕ) (case : Case) (transcript : Transcript) : Type 0 where
@@ -30,7 +33,7 @@ pub record IsPeerRun (key : List ℕ) (case : Case) (transcript : Transcript) : 
 
 -- over our echo the talk is an echo's, and the verdict is Pass; a server of `tungstenite` may answer anything
 abbrev pub IsMemoryRun : MemoryServer → List ℕ → Case → Transcript → Type 0
-IsMemoryRun Own key case transcript = IsEchoRun Server case key transcript × IsVerdictOf Server transcript Pass
+IsMemoryRun Own key case transcript = IsEchoRun role.Server case key transcript × IsVerdictOf role.Server transcript Pass
 IsMemoryRun Tung key case transcript = IsPeerRun key case transcript
 
 -- a server in memory is always there, and asks for no handshake
@@ -39,28 +42,35 @@ MeetsInMemory server key case (Ran transcript) = IsMemoryRun server key case tra
 MeetsInMemory server key case (Refused fault) = ⊥
 MeetsInMemory server key case (NoConnection why) = ⊥
 
--- a server at an address: the address, which is the host of the request; the subprotocols that are offered to it; and
--- how many bytes are read of it at most in one case behind the head
+-- a server that is met over a network: what it is asked for, and how many bytes are read of it at most in one case
+-- behind the head of its answer
 pub record AddressValue : Type 0 where
-  pub host : List ℕ
-  pub offers : List (List ℕ)
+  pub request : RequestValue
   pub budget : ℕ
 
--- There is a connection with this budget over which the handshake was tried, with this host and these offers, and the
--- case run. Where its bytes are not known, this binds the turns of the transcript and its end alone, and neither the
--- host nor the offers.
-abbrev pub IsProbedSo : List ℕ → List (List ℕ) → ℕ → List ℕ → Case → Probe → Type 0
-IsProbedSo host offers budget key case probe = (run : ConnectionRun) × (run.old.input.allowance ≡ budget)
-    × Probes case key host offers probe run
+-- There is a connection with this budget over which the server was asked for an upgrade so, and the case run. Where its
+-- bytes are not known, this binds the turns of the transcript and its end alone, and not the request.
+abbrev pub IsProbedSo : AddressValue → List ℕ → Case → Probe → Type 0
+IsProbedSo server key case probe = (run : ConnectionRun) × (run.old.input.allowance ≡ server.budget)
+    × Probes case key server.request probe run
 
 -- there is no connection to the server, or one that was probed so; why there is none is not said
 abbrev pub MeetsAtAddress : AddressValue → List ℕ → Case → Meeting → Type 0
-MeetsAtAddress server key case meeting = (probe_of meeting ≡ probe.NoConnection)
-    ⊎ IsProbedSo server.host server.offers server.budget key case (probe_of meeting)
+MeetsAtAddress server key case meeting =
+    (probe_of meeting ≡ probe.NoConnection) ⊎ IsProbedSo server key case (probe_of meeting)
 
--- what may come of a case over this target, to which these subprotocols are offered, and of which no more than the
--- budget is read, if it is at an address
-abbrev pub MeetsTarget : Target → List (List ℕ) → ℕ → List ℕ → Case → Meeting → Type 0
-MeetsTarget (Memory server) offers budget key case meeting = MeetsInMemory server key case meeting
-MeetsTarget (Address host) offers budget key case meeting =
-    MeetsAtAddress (record { host = host.now; offers = offers; budget = budget }) key case meeting
+-- what a plan asks of the server at a target
+abbrev pub asked_by : RunPlan → TargetValue → AddressValue
+asked_by plan target = record {
+  request = record { host = target.host; path = target.path; offers = plan.protocols; headers = plan.headers };
+  budget = plan.budget;
+}
+
+-- what may come of a case over this server, where it is run by this plan
+abbrev pub MeetsServer : Server → RunPlan → Case → Meeting → Type 0
+MeetsServer (Memory server) plan case meeting = MeetsInMemory server plan.key case meeting
+MeetsServer (At target) plan case meeting = MeetsAtAddress (asked_by plan target) plan.key case meeting
+
+-- what may come of a case that is run by this plan
+abbrev pub MeetsBy : RunPlan → Case → Meeting → Type 0
+MeetsBy plan = MeetsServer plan.server plan

@@ -1,27 +1,21 @@
 -- A run of `sweep`: every short script is run over the server that the words name; or it is told why none is.
-use Rattle.std.specs.Prelude.{◌≡◌, ◌⊎◌, ⊤, ℕ, ◌<◌, ◌≤◌, List, Option, Result, codes}
-use Rattle.ws_connection.specs.Protocols.{protocols_given}
-use Rattle.ws_formats.specs.Words.{IsKeyWord}
+use Rattle.std.specs.Prelude.{◌≡◌, ◌⊎◌, ℕ, ◌<◌, ◌≤◌, List, Option, Result, codes}
 use Rattle.ws_frame.specs.Devices.{Device, IsUntouched}
 use Rattle.ws_scripts.specs.declared.script.Case.{Case}
 use Rattle.ws_sweep.specs.Order.{max_steps}
-use Rattle.ws_upgrade.specs.Protocols.{AreOffers}
 use Rattle.wst_words.specs.declared.sweep.SweepOptions.{SweepOptions}
 use Rattle.wst_commands.specs.Devices.{Tells}
-use Rattle.wst_commands.specs.TimeLimits.{GivesTimeout, HasTimeout}
 use Rattle.wst_commands.specs.declared.exit.Exit.{Exit}
 use Rattle.wst_commands.specs.declared.exit.Exit.TheVariants.{WrongWords}
-use Rattle.wst_commands.specs.declared.given_cases.NoCases.TheVariants as none
-use Rattle.wst_run.specs.Servers.{MeetsTarget}
+use Rattle.wst_run.specs.RunPlans.{CanNotRun, IsRunPlan, TellsRefusal}
+use Rattle.wst_run.specs.Servers.{MeetsBy}
 use Rattle.wst_run.specs.Sweeps.{SweepsScripts, TellsSweepEnd}
-use Rattle.wst_run.specs.Test.{IsTargetOf, RefusesTarget, TellsRefusal}
 use Rattle.wst_run.specs.declared.meeting.Meeting.{Meeting}
 use Rattle.wst_run.specs.declared.sweep.SweepPlan.{SweepPlan}
 use Rattle.wst_run.specs.declared.sweep.SweepRefusal.{SweepRefusal}
 use Rattle.wst_run.specs.declared.sweep.SweepRefusal.TheVariants.{Other, TooManySteps}
 use Rattle.wst_run.specs.declared.sweeping.SweepRules.{SweepRules}
 use Rattle.wst_run.specs.declared.sweeping.SweepStop.{SweepStop}
-use Rattle.wst_run.specs.declared.test.TestRefusal.TheVariants as refusal
 
 -- ---- what the words ask for
 
@@ -32,39 +26,18 @@ HasTooManySteps steps = max_steps < steps
 abbrev pub GivesSteps : ℕ → ℕ → Type 0
 GivesSteps steps given = (given ≡ steps) × (steps ≤ max_steps)
 
--- the names that are given can be offered
-abbrev pub CanOfferAll : SweepOptions → Type 0
-CanOfferAll options = (options.steps ≤ max_steps) × AreOffers (protocols_given options.protocols)
-
-abbrev pub HasSweepKey : SweepOptions → Type 0
-HasSweepKey options = (key : List ℕ) × IsKeyWord key options.key.now
-
 -- the words ask for this
 pub record IsSweepPlan (options : SweepOptions) (plan : SweepPlan) : Type 0 where
   pub steps : GivesSteps options.steps plan.steps
-  pub has_offers : AreOffers (protocols_given options.protocols)
-  pub protocols : plan.protocols ≡ protocols_given options.protocols
-  pub timeout : GivesTimeout options.timeout plan.timeout
-  pub key : IsKeyWord plan.key options.key.now
-  pub target : IsTargetOf options.target.now plan.target
+  pub run : IsRunPlan options.run plan.run
   pub all : plan.all ≡ options.all
   pub progress : plan.progress ≡ options.progress
-  pub budget : plan.budget ≡ options.budget
 
--- The first of these that applies: no script has so many steps; the names that are given can't be offered; the seconds
--- are no limit of time; the key is none; the target is none. Memory may run out at any of them.
+-- The first of these that applies: no script has so many steps; the shared words can't be run. Memory may run out at any
+-- of the latter.
 abbrev pub RefusesSweep : SweepOptions → SweepRefusal → Type 0
 RefusesSweep options TooManySteps = HasTooManySteps options.steps
-RefusesSweep options (Other refusal.BadProtocols) =
-    (options.steps ≤ max_steps) × ¬ (AreOffers (protocols_given options.protocols))
-RefusesSweep options (Other refusal.BadTimeout) = CanOfferAll options × ¬ (HasTimeout options.timeout)
-RefusesSweep options (Other refusal.BadKey) =
-    CanOfferAll options × HasTimeout options.timeout × ((key : List ℕ) → ¬ (IsKeyWord key options.key.now))
-RefusesSweep options (Other refusal.BadAddress) = CanOfferAll options × HasTimeout options.timeout
-    × HasSweepKey options × RefusesTarget options.target.now refusal.BadAddress
-RefusesSweep options (Other refusal.NotOneCase) = ⊥
-RefusesSweep options (Other (refusal.NoCases (none.NoSuchCase id))) = ⊥
-RefusesSweep options (Other (refusal.NoCases none.NoMemory)) = ⊤
+RefusesSweep options (Other why) = (options.steps ≤ max_steps) × CanNotRun options.run why
 
 -- what is told of a refusal, and the exit
 abbrev pub TellsSweepRefusal : SweepRefusal → Exit → Device → Type 0
@@ -75,7 +48,7 @@ TellsSweepRefusal (Other why) exit faults = TellsRefusal why exit faults
 
 -- how its scripts are run
 abbrev pub sweep_rules_of : SweepPlan → SweepRules
-sweep_rules_of plan = record { steps = plan.steps; all = plan.all; progress = plan.progress; key = plan.key }
+sweep_rules_of plan = record { steps = plan.steps; all = plan.all; progress = plan.progress; key = plan.run.key }
 
 -- the plan is carried out over servers that meet cases so, and how that ended is told behind what was told before
 abbrev pub RunsSweepPlan : (Case → Meeting → Type 0) → SweepPlan → Exit → Device → Device → Type 0
@@ -86,6 +59,6 @@ RunsSweepPlan Meets plan exit output faults = (ended : Result Exit SweepStop) ×
 abbrev pub RunsSweep : SweepOptions → Exit → Device → Device → Type 0
 RunsSweep options exit output faults =
     ((plan : SweepPlan) × IsSweepPlan options plan
-    × RunsSweepPlan (MeetsTarget plan.target plan.protocols plan.budget plan.key) plan exit output faults)
+    × RunsSweepPlan (MeetsBy plan.run) plan exit output faults)
     ⊎ ((reason : SweepRefusal) × RefusesSweep options reason × IsUntouched output
     × TellsSweepRefusal reason exit faults)

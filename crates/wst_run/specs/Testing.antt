@@ -15,7 +15,7 @@ use Rattle.wst_commands.specs.Explaining.{IsJudgementOf}
 use Rattle.wst_commands.specs.Judge.{exit_of}
 use Rattle.wst_run.specs.Notes.{TellsEach, miss_notes, notes_of, progress_notes}
 use Rattle.wst_run.specs.Outcomes.{MayRunEach, below_line, exit_of_tests, max_missed, missed_at_end}
-use Rattle.wst_run.specs.Outcomes.{outcome_words, tally_of, total_line}
+use Rattle.wst_run.specs.Outcomes.{outcome_words, tally_of, told_refusal, total_line}
 use Rattle.wst_commands.specs.declared.exit.Exit.{Exit}
 use Rattle.wst_commands.specs.declared.exit.Exit.TheVariants.{Damaged, Failed}
 use Rattle.wst_commands.specs.declared.fault.Fault.{Fault}
@@ -28,11 +28,11 @@ use Rattle.wst_run.specs.declared.testing.RunRules.{RunRules}
 
 -- ---- one case
 
--- what is told of such a meeting: the verdict on its transcript, with why it is told where that is asked for; that the head of the answer is to be refused, or that
--- there is no connection
+-- what is told of such a meeting: the verdict on its transcript, with why it is told where that is asked for; that the
+-- head of the answer is to be refused, or that there is no connection
 abbrev pub IsOutcomeOf : Bool → Meeting → Outcome → Type 0
 IsOutcomeOf explains (meeting.Ran transcript) (outcome.Judged told) = IsJudgementOf explains Server transcript told
-IsOutcomeOf explains (meeting.Refused fault) (outcome.HeadRefused told) = told ≡ fault
+IsOutcomeOf explains (meeting.Refused refusal) (outcome.HeadRefused told) = told ≡ told_refusal explains refusal
 IsOutcomeOf explains (meeting.NoConnection why) (outcome.NoConnection told) = told ≡ why
 IsOutcomeOf explains _ _ = ⊥
 
@@ -144,15 +144,15 @@ WritesCapture capture exit output = (verdict : Verdict) × IsVerdictOf Server ca
 abbrev pub TellsMeeting : List ℕ → Case → Meeting → Exit → Device → Type 0
 TellsMeeting key case (meeting.Ran transcript) exit output =
     WritesCapture (record { key = Some key; transcript = transcript }) exit output
-TellsMeeting key case (meeting.Refused fault) exit output =
-    Delivers Damaged (test_line (case, outcome.HeadRefused fault)) exit output
+TellsMeeting key case (meeting.Refused refusal) exit output =
+    Delivers Damaged (test_line (case, outcome.HeadRefused (told_refusal false refusal))) exit output
 TellsMeeting key case (meeting.NoConnection why) exit output =
     Delivers Failed (test_line (case, outcome.NoConnection why)) exit output
 
 -- what is to be told beside it
 abbrev pub meeting_notes : Meeting → List (List ℕ)
 meeting_notes (meeting.Ran transcript) = []
-meeting_notes (meeting.Refused fault) = []
+meeting_notes (meeting.Refused refusal) = []
 meeting_notes (meeting.NoConnection why) = miss_notes (outcome.NoConnection why)
 
 -- what came of the case over one of these servers was written; or memory ran out, and nothing was written

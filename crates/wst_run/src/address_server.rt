@@ -1,16 +1,16 @@
 //! A server at an address of a network: each case is run over a connection of its own.
 
-ghost use Rattle.std.specs.Prelude.{◌≡◌, IfOk, map};
+ghost use Rattle.std.specs.Prelude.{◌≡◌, IfOk};
 ghost use Rattle.ws_scripts.specs.Scripts.{CanBeRun};
-ghost use Rattle.ws_upgrade.specs.Protocols.{AreOffers};
-ghost use Rattle.ws_upgrade.specs.Texts.{IsHost};
 ghost use Rattle.ws_connection.specs.Observing.{HearsProbe, IsHearing};
 ghost use Rattle.wst_run.specs.Meetings.{probe_of};
-ghost use Rattle.wst_run.specs.Servers.{IsProbedSo, MeetsAtAddress};
+ghost use Rattle.ws_connection.specs.UpgradeRequests.{CanBeAsked, request_value};
+ghost use Rattle.wst_run.specs.Servers.{IsProbedSo, MeetsAtAddress, asked_by};
 
 use crate::case_server::CaseServer;
 use crate::connecting::{connect, connect_fault};
 use crate::meeting::{ConnectFault, Meeting};
+use crate::run_plans::RunPlan;
 use crate::stream::{Noted, Side, shared};
 use std::alloc::Global;
 use std::cell::Cell;
@@ -18,8 +18,9 @@ use std::io::{ErrorKind, Read, Write};
 use std::marker::Model;
 use std::net::{Net, OpenStream};
 use ws_base::NoMemory;
-use ws_connection::{Asked, Connection, Observer, Probe, Silent, probe};
+use ws_connection::{Asked, Connection, Observer, Probe, Silent, UpgradeRequest, probe};
 use ws_suite::Case;
+use ws_targets::Target;
 use wst_commands::TimeLimit;
 
 /// How much is read of a server at an address in one case, and how long it is waited for.
@@ -31,53 +32,44 @@ pub struct Bounds {
     pub timeout: TimeLimit,
 }
 
-/// A server at an address, which can be the host of a request. These subprotocols are offered to it. Contracts see the
-/// host, the offers and the budget.
+/// A server that is met over a network, at an address. Contracts see what it is asked for, and the budget.
 #[derive(Drop)]
 pub struct AddressServer<'a, N> {
     net: &'a N,
-    host: &'a str,
-    offers: &'a [&'a [u8]],
+    address: &'a str,
+    request: UpgradeRequest<'a>,
     bounds: Bounds,
 }
 
 impl<'a, N> Model for AddressServer<'a, N> {
-    ghost use Rattle.std.specs.Prelude.{List, ℕ, map};
-    ghost use Rattle.ws_upgrade.specs.Protocols.{AreOffers};
-    ghost use Rattle.ws_upgrade.specs.Texts.{IsHost};
+    ghost use Rattle.ws_connection.specs.UpgradeRequests.{CanBeAsked, request_value};
     ghost use Rattle.wst_run.specs.Servers.{AddressValue};
 
     ghost Value = { AddressValue };
 
-    ghost view = { λ server. record {
-      host = server.host.now;
-      offers = map (λ name. name.now) server.offers.now;
-      budget = server.bounds.budget;
-    } };
+    ghost view = { λ server. record { request = request_value server.request; budget = server.bounds.budget } };
 
-    ghost invariant = { λ server.
-        IsHost server.host.now × AreOffers (map (λ name. name.now) server.offers.now) };
+    ghost invariant = { λ server. CanBeAsked (request_value server.request) };
 }
 
 impl<'a, N> AddressServer<'a, N> {
-    /// The server at this host.
-    pub fn new(
-        net: &'a N,
-        host: &'a str,
-        offers: &'a [&'a [u8]],
-        bounds: Bounds,
-    ) -> AddressServer<'a, N>
-        requires host { IsHost host.now }
-        requires offers { AreOffers (map (λ name. name.now) offers.now) }
-        ensures host { result.host ≡ host.now }
-        ensures offers { result.offers ≡ map (λ name. name.now) offers.now }
-        ensures budget { result.budget ≡ bounds.budget }
+    /// The server at a target, as a plan asks for it.
+    pub fn new(net: &'a N, target: &'a Target, plan: &'a RunPlan<'_>) -> AddressServer<'a, N>
+        ensures { result ≡ asked_by plan.now target.now }
     {
         AddressServer {
             net,
-            host,
-            offers,
-            bounds,
+            address: target.address(),
+            request: UpgradeRequest {
+                host: target.host().as_bytes(),
+                path: target.path(),
+                protocols: plan.protocols.as_slice(),
+                headers: plan.headers.as_slice(),
+            },
+            bounds: Bounds {
+                budget: plan.budget,
+                timeout: plan.timeout,
+            },
         }
     }
 }
@@ -96,11 +88,10 @@ impl<N: Net> CaseServer for AddressServer<'_, N> {
         key: [u8; 4],
         observer: &mut O,
     ) -> Result<Meeting, O::Fault> {
-        match connect(self.net, self.host, self.bounds.timeout) {
+        match connect(self.net, self.address, self.bounds.timeout) {
             Ok(stream) => {
                 let asked = Asked {
-                    host: self.host.as_bytes(),
-                    protocols: self.offers,
+                    request: self.request,
                     key,
                     has_timeouts: self.bounds.timeout.is_limited(),
                 };
@@ -121,11 +112,11 @@ fn meet_over<S: Read + Write + OpenStream + Drop, O: Observer>(
     observer: &mut O,
 ) -> Result<Meeting, O::Fault>
     requires runs { CanBeRun case.now }
-    requires host { IsHost asked.now.host.now }
-    requires offers { AreOffers (map (λ name. name.now) asked.now.protocols.now) }
+    requires request { CanBeAsked (request_value asked.now.request) }
     requires hearing { IsHearing O.heard observer.old }
-    ensures probed { IfOk result (λ meeting. IsProbedSo asked.now.host.now
-        (map (λ name. name.now) asked.now.protocols.now) bounds.budget asked.now.key case.now (probe_of meeting)) }
+    ensures probed { IfOk result (λ meeting. IsProbedSo
+        (record { request = request_value asked.now.request; budget = bounds.budget }) asked.now.key case.now
+        (probe_of meeting)) }
     ensures told { IfOk result (λ meeting.
         HearsProbe O.heard O.heard_all observer.old observer.new (probe_of meeting)) }
     ensures borrow { O.borrow observer.new ≡ O.borrow observer.old }
@@ -139,7 +130,7 @@ fn meet_over<S: Read + Write + OpenStream + Drop, O: Observer>(
     let mut connection = Connection::new(reader, writer, bounds.budget);
     match probe(alloc, case, asked, &mut connection, observer)? {
         Probe::Ran(transcript) => Ok(Meeting::Ran(transcript)),
-        Probe::Refused(fault) => Ok(Meeting::Refused(fault)),
+        Probe::Refused(refusal) => Ok(Meeting::Refused(refusal)),
         Probe::NoConnection => Ok(Meeting::NoConnection(fault_of(failure.get()))),
     }
 }

@@ -3,8 +3,8 @@
 ghost use Rattle.std.specs.Prelude.{◌≡◌};
 ghost use Rattle.wst_run.specs.Meetings.{miss_line};
 
+use ws_connection::HeadRefusal;
 use ws_suite::Transcript;
-use ws_upgrade::HeadFault;
 
 /// Why there is no connection to a server, or no whole answer came.
 #[derive(Clone, Copy, PartialEq, Eq)]
@@ -45,7 +45,7 @@ pub enum Meeting {
     /// The server accepted the request, if it asks for one, and the script was run.
     Ran(Transcript),
     /// The server's answer to the request is to be refused.
-    Refused(HeadFault),
+    Refused(HeadRefusal),
     /// There is no connection to the server, or no whole answer came.
     NoConnection(ConnectFault),
 }

@@ -1,12 +1,12 @@
 //! What is told of a server in a case, and how often each was told.
 
 ghost use Rattle.std.specs.Prelude.{◌≡◌, ◌+◌, ◌<◌, ◌^◌};
-ghost use Rattle.wst_run.specs.Outcomes.{exit_of_tests, no_tally, outcome_words, tally_with, tally_with_verdict};
+ghost use Rattle.wst_run.specs.Outcomes.{below_line, exit_of_tests, no_tally, outcome_words, tally_with, tally_with_verdict};
 
 use crate::meeting::ConnectFault;
 use std::fmt;
+use ws_connection::HeadRefusal;
 use ws_suite::Verdict;
-use ws_upgrade::HeadFault;
 use wst_commands::{Exit, Judgement};
 
 /// What is told of a server in a case.
@@ -14,8 +14,9 @@ use wst_commands::{Exit, Judgement};
 pub enum Outcome {
     /// Whether it kept the rules, and why that is told.
     Judged(Judgement),
-    /// Its answer to the request for an upgrade is to be refused, which counts as a Fail.
-    HeadRefused(HeadFault),
+    /// Its answer to the request for an upgrade is to be refused, which counts as a Fail. Its status is there where that
+    /// is to be told.
+    HeadRefused(HeadRefusal),
     /// There is no connection to it, which counts as a Fail where a run goes on.
     NoConnection(ConnectFault),
 }
@@ -28,8 +29,36 @@ impl fmt::Display for Outcome {
     fn fmt<W: fmt::Write>(&self, f: &mut fmt::Formatter<W>) -> fmt::Result {
         match self {
             Outcome::Judged(told) => write!(f, "{}", told.verdict),
-            Outcome::HeadRefused(fault) => write!(f, "FAIL Head {fault}"),
+            Outcome::HeadRefused(refusal) => write!(f, "FAIL Head {}", refusal.fault),
             Outcome::NoConnection(_) => write!(f, "no connection"),
+        }
+    }
+}
+
+/// What stands below the line of a case that had an outcome.
+#[derive(Clone, Copy)]
+pub struct Below<'a>(pub &'a Outcome);
+
+impl fmt::Display for Below<'_> {
+    ghost use Rattle.std.specs.Prelude.{Some};
+
+    ghost output = { λ below. Some (below_line below.0.now) };
+
+    fn fmt<W: fmt::Write>(&self, f: &mut fmt::Formatter<W>) -> fmt::Result {
+        match self.0 {
+            Outcome::Judged(told) => write!(f, "{}", told.below),
+            Outcome::HeadRefused(
+                HeadRefusal {
+                    status: Some(status),
+                    ..
+                },
+            ) => {
+                let (hundreds, tens, ones) = (status / 100, status / 10 % 10, status % 10);
+                write!(f, "  status {hundreds}{tens}{ones}\n")
+            }
+            Outcome::HeadRefused(HeadRefusal { status: None, .. }) | Outcome::NoConnection(_) => {
+                Ok(())
+            }
         }
     }
 }

@@ -14,10 +14,11 @@ ghost use Rattle.wst_run.specs.Serve.{RunsServe};
 ghost use Rattle.wst_run.specs.Sweep.{RunsSweep};
 ghost use Rattle.wst_run.specs.Test.{RunsTest};
 
+use crate::run_plans::tell_refusal;
 use crate::send::{plan_send, send_to_target};
 use crate::serve::{plan_serve, run_serve};
 use crate::sweep::{plan_sweep, sweep_target, tell_sweep_refusal};
-use crate::test::{plan_test, run_over_target, tell_refusal};
+use crate::test::{plan_test, run_over_target};
 use clap::Error;
 use clap::error::ErrorKind;
 use std::alloc::Global;

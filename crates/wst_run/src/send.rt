@@ -1,46 +1,37 @@
 //! The command `send`: what is to be run, and its run over a server. Its lines are told in docs/FORMATS.md.
 
-ghost use Rattle.std.specs.Prelude.{◌≡◌, IfOk, MatchResult, true, false};
+ghost use Rattle.std.specs.Prelude.{◌≡◌, MatchResult, true, false};
 ghost use Rattle.ws_frame.specs.Devices.{watched};
 ghost use Rattle.ws_frame.specs.Watching.{has_failed};
 ghost use Rattle.ws_scripts.specs.Scripts.{CanBeRun};
-ghost use Rattle.wst_run.specs.Send.{IsSendPlan, RefusesSend, RunsSendPlan, SendsCase, SendsInput, SendsText};
+ghost use Rattle.wst_run.specs.RunPlans.{CanNotRun};
+ghost use Rattle.wst_run.specs.Send.{IsSendPlan, RunsSendPlan, SendsCase, SendsInput, SendsText};
 ghost use Rattle.wst_run.specs.Send.{TellsRefused, TellsSendEnd};
-ghost use Rattle.wst_run.specs.Servers.{MeetsTarget};
-ghost use Rattle.wst_run.specs.Test.{HasHost};
+ghost use Rattle.wst_run.specs.Servers.{MeetsBy};
 
-use crate::address_server::{AddressServer, Bounds};
+use crate::address_server::AddressServer;
 use crate::case_server::CaseServer;
 use crate::line_writer::{LineStop, LineWriter};
 use crate::meeting::{ConnectFault, Meeting};
 use crate::outcome::Outcome;
-use crate::test::{Target, TestRefusal, target_of};
+use crate::run_plans::{Refusal, RunPlan, Server, plan_run};
 use std::alloc::Global;
 use std::io::{Read, Write};
 use std::net::Net;
 use ws_base::{NoMemory, TextFault};
-use ws_connection::{Protocols, protocols_of};
-use ws_formats::read_key;
+use ws_connection::HeadRefusal;
 use ws_frame::{Watched, WriteFault, write_whole};
 use ws_suite::{Capture, Case, read_script, write_capture2};
-use ws_upgrade::HeadFault;
-use wst_commands::{Exit, Fault, ReadStop, TimeLimit, read_whole, tell, tell_fault, timeout_given};
+use wst_commands::{Exit, Fault, ReadStop, read_whole, tell, tell_fault};
 use wst_words::SendOptions;
 
 /// How the script that comes in is run, and where.
 #[derive(Drop)]
 pub struct SendPlan<'a> {
-    /// The masking key of the frames that have none of their own.
-    pub key: [u8; 4],
-    pub target: Target<'a>,
+    /// Over which server, and how.
+    pub run: RunPlan<'a>,
     /// The capture is written in place of the lines.
     pub capture: bool,
-    /// How long a server at an address is waited for.
-    pub timeout: TimeLimit,
-    /// At most so many bytes are read of such a server behind the head of its answer.
-    pub budget: u64,
-    /// The subprotocols that are offered to such a server.
-    pub protocols: Protocols<'a>,
 }
 
 /// Why a script was not run, or not to its end.
@@ -51,7 +42,7 @@ pub enum SendStop {
     /// The input is no script: the first line that is damaged, counted from 1.
     NotAStep(u64),
     /// The server's answer to the request is to be refused.
-    Refused(HeadFault),
+    Refused(HeadRefusal),
     /// There is no connection to the server, or no whole answer came.
     NoConnection(ConnectFault),
     /// Memory ran out.
@@ -79,31 +70,13 @@ impl From<WriteFault> for SendStop {
 }
 
 /// What is to be run, or the first reason against it.
-#[tactic(auto, using(crate::proofs::PlanLemmas::target_has_host))]
-pub fn plan_send<'a>(
-    alloc: Global,
-    options: &SendOptions<'a>,
-) -> Result<SendPlan<'a>, TestRefusal<'a>>
-    ensures plan { MatchResult result (IsSendPlan options.now) (RefusesSend options.now) }
-    ensures host { IfOk result (λ plan. HasHost plan.target) }
+pub fn plan_send<'a>(alloc: Global, options: &SendOptions<'a>) -> Result<SendPlan<'a>, Refusal<'a>>
+    ensures { MatchResult result (IsSendPlan options.now) (CanNotRun options.now.run) }
 {
-    let Some(protocols) = protocols_of(alloc, options.protocols)? else {
-        return Err(TestRefusal::BadProtocols);
-    };
-    let Some(timeout) = timeout_given(Some(options.timeout)) else {
-        return Err(TestRefusal::BadTimeout);
-    };
-    let Some(key) = read_key(options.key.as_bytes()) else {
-        return Err(TestRefusal::BadKey);
-    };
-    let target = target_of(options.target)?;
+    let run = plan_run(alloc, &options.run)?;
     Ok(SendPlan {
-        key,
-        target,
+        run,
         capture: options.capture,
-        timeout,
-        budget: options.budget,
-        protocols,
     })
 }
 
@@ -118,19 +91,13 @@ pub fn send_to_target<N: Net, R: Read, W: Write, F: Write>(
 ) -> Exit
     requires reader_works { has_failed reader.old ≡ false }
     requires writer_works { has_failed writer.old ≡ false }
-    requires host { HasHost plan.now.target }
-    ensures { RunsSendPlan (MeetsTarget plan.now.target plan.now.protocols plan.now.budget plan.now.key) plan.now result
-        (watched R.remaining reader.old reader.new) (watched W.contents writer.old writer.new)
-        (watched F.contents faults.old faults.new) }
+    ensures { RunsSendPlan (MeetsBy plan.now.run) plan.now result (watched R.remaining reader.old reader.new)
+        (watched W.contents writer.old writer.new) (watched F.contents faults.old faults.new) }
 {
-    match plan.target {
-        Target::Memory(server) => send_to(alloc, &server, plan, reader, writer, faults),
-        Target::Address(host) => {
-            let bounds = Bounds {
-                budget: plan.budget,
-                timeout: plan.timeout,
-            };
-            let server = AddressServer::new(net, host, plan.protocols.as_slice(), bounds);
+    match &plan.run.server {
+        Server::Memory(server) => send_to(alloc, server, plan, reader, writer, faults),
+        Server::At(target) => {
+            let server = AddressServer::new(net, target, &plan.run);
             send_to(alloc, &server, plan, reader, writer, faults)
         }
     }
@@ -147,7 +114,7 @@ pub fn send_to<S: CaseServer, R: Read, W: Write, F: Write>(
 ) -> Exit
     requires reader_works { has_failed reader.old ≡ false }
     requires writer_works { has_failed writer.old ≡ false }
-    ensures { RunsSendPlan (S.meets server.now plan.now.key) plan.now result
+    ensures { RunsSendPlan (S.meets server.now plan.now.run.key) plan.now result
         (watched R.remaining reader.old reader.new) (watched W.contents writer.old writer.new)
         (watched F.contents faults.old faults.new) }
 {
@@ -165,7 +132,7 @@ fn send_input<S: CaseServer, R: Read, W: Write>(
 ) -> Result<(), SendStop>
     requires reader_works { has_failed reader.old ≡ false }
     requires writer_works { has_failed writer.old ≡ false }
-    ensures { SendsInput (S.meets server.now plan.now.key) plan.now result
+    ensures { SendsInput (S.meets server.now plan.now.run.key) plan.now result
         (watched R.remaining reader.old reader.new) (watched W.contents writer.old writer.new) }
 {
     match read_whole(alloc, reader) {
@@ -184,7 +151,7 @@ fn send_text<S: CaseServer, W: Write>(
     writer: &mut Watched<W>,
 ) -> Result<(), SendStop>
     requires { has_failed writer.old ≡ false }
-    ensures { SendsText (S.meets server.now plan.now.key) plan.now text.now result
+    ensures { SendsText (S.meets server.now plan.now.run.key) plan.now text.now result
         (watched W.contents writer.old writer.new) }
 {
     match read_script(alloc, text) {
@@ -206,20 +173,20 @@ fn send_captured<S: CaseServer, W: Write>(
     requires works { has_failed writer.old ≡ false }
     requires runs { CanBeRun case.now }
     requires captures { plan.now.capture ≡ true }
-    ensures { SendsCase (S.meets server.now plan.now.key) plan.now case.now result
+    ensures { SendsCase (S.meets server.now plan.now.run.key) plan.now case.now result
         (watched W.contents writer.old writer.new) }
 {
-    match server.run(alloc, case, plan.key)? {
+    match server.run(alloc, case, plan.run.key)? {
         Meeting::Ran(transcript) => {
             let capture = Capture {
-                key: Some(plan.key),
+                key: Some(plan.run.key),
                 transcript,
             };
             let text = write_capture2(alloc, &capture)?;
             write_whole(writer, text.as_slice())?;
             Ok(())
         }
-        Meeting::Refused(fault) => Err(SendStop::Refused(fault)),
+        Meeting::Refused(refusal) => Err(SendStop::Refused(refusal)),
         Meeting::NoConnection(why) => Err(SendStop::NoConnection(why)),
     }
 }
@@ -235,13 +202,13 @@ fn send_shown<S: CaseServer, W: Write>(
     requires works { has_failed writer.old ≡ false }
     requires runs { CanBeRun case.now }
     requires shows { plan.now.capture ≡ false }
-    ensures { SendsCase (S.meets server.now plan.now.key) plan.now case.now result
+    ensures { SendsCase (S.meets server.now plan.now.run.key) plan.now case.now result
         (watched W.contents writer.old writer.new) }
 {
     let mut lines = LineWriter::new(writer);
-    match server.run_told(alloc, case, plan.key, &mut lines) {
+    match server.run_told(alloc, case, plan.run.key, &mut lines) {
         Ok(Meeting::Ran(_)) => Ok(()),
-        Ok(Meeting::Refused(fault)) => Err(SendStop::Refused(fault)),
+        Ok(Meeting::Refused(refusal)) => Err(SendStop::Refused(refusal)),
         Ok(Meeting::NoConnection(why)) => Err(SendStop::NoConnection(why)),
         Err(LineStop::Output) => Err(SendStop::Device),
         Err(LineStop::NoMemory) => Err(SendStop::NoMemory),
@@ -256,7 +223,7 @@ fn tell_end<F: Write>(alloc: Global, ended: Result<(), SendStop>, faults: &mut W
         Ok(()) => Exit::Done,
         Err(SendStop::Device) => Exit::Failed,
         Err(SendStop::NotAStep(line)) => tell_fault(alloc, Fault::NotAStep(line), faults),
-        Err(SendStop::Refused(fault)) => tell_refused(alloc, fault, faults),
+        Err(SendStop::Refused(refusal)) => tell_refused(alloc, refusal, faults),
         Err(SendStop::NoConnection(why)) => {
             tell(why.line(), faults);
             Exit::Failed
@@ -266,10 +233,10 @@ fn tell_end<F: Write>(alloc: Global, ended: Result<(), SendStop>, faults: &mut W
 }
 
 /// Tells that the server's answer to the request is to be refused.
-fn tell_refused<F: Write>(alloc: Global, fault: HeadFault, faults: &mut Watched<F>) -> Exit
-    ensures { TellsRefused fault result (watched F.contents faults.old faults.new) }
+fn tell_refused<F: Write>(alloc: Global, refusal: HeadRefusal, faults: &mut Watched<F>) -> Exit
+    ensures { TellsRefused refusal result (watched F.contents faults.old faults.new) }
 {
-    let outcome = Outcome::HeadRefused(fault);
+    let outcome = Outcome::HeadRefused(refusal);
     match format!(in alloc; "{outcome}\n") {
         Ok(line) => {
             tell(line.as_bytes(), faults);

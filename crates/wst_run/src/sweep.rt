@@ -4,45 +4,33 @@ ghost use Rattle.std.specs.Prelude.{◌≡◌, ◌≤◌, IfOk, MatchOption, Mat
 ghost use Rattle.ws_frame.specs.Devices.{watched};
 ghost use Rattle.ws_frame.specs.Watching.{has_failed};
 ghost use Rattle.ws_sweep.specs.Order.{max_steps};
-ghost use Rattle.wst_commands.specs.declared.exit.Exit.TheVariants.{WrongWords};
-ghost use Rattle.wst_run.specs.Servers.{MeetsTarget};
+ghost use Rattle.wst_run.specs.Servers.{MeetsBy};
 ghost use Rattle.wst_run.specs.Sweep.{GivesSteps, IsSweepPlan, RefusesSweep, RunsSweepPlan, TellsSweepRefusal};
 ghost use Rattle.wst_run.specs.Sweep.{HasTooManySteps, sweep_rules_of};
-ghost use Rattle.wst_run.specs.Test.{HasHost};
 
-use crate::address_server::{AddressServer, Bounds};
+use crate::address_server::AddressServer;
 use crate::case_server::CaseServer;
+use crate::run_plans::{Refusal, RunPlan, Server, plan_run, tell_refusal};
 use crate::sweeping::{SweepRules, sweep_scripts, tell_sweep_end};
-use crate::test::{Target, TestRefusal, target_of, tell_refusal};
 use std::alloc::Global;
 use std::io::Write;
 use std::net::Net;
-use ws_base::NoMemory;
-use ws_connection::{Protocols, protocols_of};
-use ws_formats::read_key;
 use ws_frame::Watched;
 use ws_sweep::MAX_STEPS;
-use wst_commands::{Exit, NoCases, TimeLimit, tell, timeout_given};
+use wst_commands::{Exit, tell};
 use wst_words::SweepOptions;
 
 /// Which scripts are run, and over which server.
 #[derive(Drop)]
 pub struct SweepPlan<'a> {
+    /// Over which server, and how.
+    pub run: RunPlan<'a>,
     /// Scripts of at most so many steps.
     pub steps: usize,
     /// What is Loose is told too.
     pub all: bool,
     /// The steps of each script are told before it runs.
     pub progress: bool,
-    /// The masking key of the frames.
-    pub key: [u8; 4],
-    pub target: Target<'a>,
-    /// How long a server at an address is waited for.
-    pub timeout: TimeLimit,
-    /// At most so many bytes are read of such a server for one script behind the head of its answer.
-    pub budget: u64,
-    /// The subprotocols that are offered to such a server.
-    pub protocols: Protocols<'a>,
 }
 
 /// Why no script is run: the first of these that applies.
@@ -51,63 +39,36 @@ pub enum SweepRefusal<'a> {
     /// No script has so many steps.
     TooManySteps,
     /// What is wrong with the words that `test` has too, or memory ran out.
-    Other(TestRefusal<'a>),
+    Other(Refusal<'a>),
 }
 
-impl<'a> From<TestRefusal<'a>> for SweepRefusal<'a> {
+impl<'a> From<Refusal<'a>> for SweepRefusal<'a> {
     ghost use Rattle.wst_run.specs.declared.sweep.SweepRefusal.TheVariants as refusal;
 
     ghost from_gives = { λ why given. given ≡ refusal.Other why };
 
-    fn from(why: TestRefusal<'a>) -> Self {
+    fn from(why: Refusal<'a>) -> Self {
         SweepRefusal::Other(why)
     }
 }
 
-impl From<NoMemory> for SweepRefusal<'_> {
-    ghost use Rattle.wst_commands.specs.declared.given_cases.NoCases.TheVariants as why;
-    ghost use Rattle.wst_run.specs.declared.sweep.SweepRefusal.TheVariants as refusal;
-    ghost use Rattle.wst_run.specs.declared.test.TestRefusal.TheVariants as test_refusal;
-
-    ghost from_gives = { λ _ given. given ≡ refusal.Other (test_refusal.NoCases why.NoMemory) };
-
-    fn from(_refused: NoMemory) -> Self {
-        SweepRefusal::Other(TestRefusal::NoCases(NoCases::NoMemory))
-    }
-}
-
 /// What is to be run, or the first reason against it.
-#[tactic(auto, using(crate::proofs::PlanLemmas::target_has_host))]
 pub fn plan_sweep<'a>(
     alloc: Global,
     options: &SweepOptions<'a>,
 ) -> Result<SweepPlan<'a>, SweepRefusal<'a>>
     ensures plan { MatchResult result (IsSweepPlan options.now) (RefusesSweep options.now) }
-    ensures host { IfOk result (λ plan. HasHost plan.target) }
     ensures steps { IfOk result (λ plan. plan.steps ≤ max_steps) }
 {
     let Some(steps) = steps_given(options.steps) else {
         return Err(SweepRefusal::TooManySteps);
     };
-    let Some(protocols) = protocols_of(alloc, options.protocols)? else {
-        return Err(SweepRefusal::Other(TestRefusal::BadProtocols));
-    };
-    let Some(timeout) = timeout_given(options.timeout) else {
-        return Err(SweepRefusal::Other(TestRefusal::BadTimeout));
-    };
-    let Some(key) = read_key(options.key.as_bytes()) else {
-        return Err(SweepRefusal::Other(TestRefusal::BadKey));
-    };
-    let target = target_of(options.target)?;
+    let run = plan_run(alloc, &options.run)?;
     Ok(SweepPlan {
+        run,
         steps,
         all: options.all,
         progress: options.progress,
-        key,
-        target,
-        timeout,
-        budget: options.budget,
-        protocols,
     })
 }
 
@@ -131,19 +92,14 @@ pub fn sweep_target<N: Net, W: Write, F: Write>(
     faults: &mut Watched<F>,
 ) -> Exit
     requires works { has_failed writer.old ≡ false }
-    requires host { HasHost plan.now.target }
     requires steps { plan.now.steps ≤ max_steps }
-    ensures { RunsSweepPlan (MeetsTarget plan.now.target plan.now.protocols plan.now.budget plan.now.key) plan.now
-        result (watched W.contents writer.old writer.new) (watched F.contents faults.old faults.new) }
+    ensures { RunsSweepPlan (MeetsBy plan.now.run) plan.now result (watched W.contents writer.old writer.new)
+        (watched F.contents faults.old faults.new) }
 {
-    match plan.target {
-        Target::Memory(server) => sweep_over(alloc, &server, plan, writer, faults),
-        Target::Address(host) => {
-            let bounds = Bounds {
-                budget: plan.budget,
-                timeout: plan.timeout,
-            };
-            let server = AddressServer::new(net, host, plan.protocols.as_slice(), bounds);
+    match &plan.run.server {
+        Server::Memory(server) => sweep_over(alloc, server, plan, writer, faults),
+        Server::At(target) => {
+            let server = AddressServer::new(net, target, &plan.run);
             sweep_over(alloc, &server, plan, writer, faults)
         }
     }
@@ -159,7 +115,7 @@ pub fn sweep_over<S: CaseServer, W: Write, F: Write>(
 ) -> Exit
     requires works { has_failed writer.old ≡ false }
     requires steps { plan.now.steps ≤ max_steps }
-    ensures { RunsSweepPlan (S.meets server.now plan.now.key) plan.now result
+    ensures { RunsSweepPlan (S.meets server.now plan.now.run.key) plan.now result
         (watched W.contents writer.old writer.new) (watched F.contents faults.old faults.new) }
 {
     let ended = sweep_scripts(alloc, server, rules_of(plan), writer, faults);
@@ -174,7 +130,7 @@ fn rules_of(plan: &SweepPlan<'_>) -> SweepRules
         steps: plan.steps,
         all: plan.all,
         progress: plan.progress,
-        key: plan.key,
+        key: plan.run.key,
     }
 }
 

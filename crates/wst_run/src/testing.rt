@@ -7,18 +7,20 @@ ghost use Rattle.ws_frame.specs.Watching.{has_failed};
 ghost use Rattle.ws_scripts.specs.Scripts.{CanBeRun};
 ghost use Rattle.wst_commands.specs.Devices.{Delivers, StaysFailed};
 ghost use Rattle.wst_run.specs.Notes.{TellsEach, miss_notes, progress_notes};
-ghost use Rattle.wst_run.specs.Outcomes.{below_line, exit_of_tests, is_missed, max_missed, total_line};
+ghost use Rattle.wst_run.specs.Outcomes.{exit_of_tests, is_missed, max_missed, told_refusal, total_line};
 ghost use Rattle.wst_run.specs.Testing.{IsTested, RunsCapture, RunsCases, WritesCapture, test_line};
 ghost use Rattle.wst_commands.specs.declared.fault.Fault.TheVariants as variant;
 
 use crate::case_server::CaseServer;
 use crate::meeting::Meeting;
-use crate::outcome::{Outcome, Tally};
+use crate::outcome::{Below, Outcome, Tally};
 use std::alloc::Global;
 use std::io::Write;
 use ws_base::NoMemory;
+use ws_connection::HeadRefusal;
 use ws_frame::Watched;
 use ws_suite::{Capture, Case, judge, write_capture2};
+use ws_upgrade::HeadFault;
 use ws_wire::Role;
 use wst_commands::{Exit, Fault, deliver, exit_of, judgement_of, tell};
 
@@ -136,8 +138,22 @@ pub(crate) fn outcome_of<S: CaseServer>(
             let told = judgement_of(alloc, rules.explains, Role::Server, &transcript)?;
             Ok(Outcome::Judged(told))
         }
-        Meeting::Refused(fault) => Ok(Outcome::HeadRefused(fault)),
+        Meeting::Refused(refusal) => {
+            let told = told_refusal(rules.explains, refusal);
+            Ok(Outcome::HeadRefused(told))
+        }
         Meeting::NoConnection(why) => Ok(Outcome::NoConnection(why)),
+    }
+}
+
+/// What is told of a refusal: its status where that is why, and where it is told why.
+fn told_refusal(explains: bool, refusal: HeadRefusal) -> HeadRefusal
+    ensures { result ≡ told_refusal explains refusal }
+{
+    let is_told = explains && matches!(refusal.fault, HeadFault::Status);
+    HeadRefusal {
+        fault: refusal.fault,
+        status: if is_told { refusal.status } else { None },
     }
 }
 
@@ -154,18 +170,9 @@ fn tell_case<W: Write>(
         (λ exit. Delivers done (test_line (case.now, outcome.now)) exit (watched W.contents writer.old writer.new))
         (λ fault. (fault ≡ variant.NoMemory) × (writer.new ≡ writer.old)) }
 {
-    let lines = format!(in alloc; "{} {outcome}\n{}", case.id, below_line(outcome))?;
+    let below = Below(outcome);
+    let lines = format!(in alloc; "{} {outcome}\n{below}", case.id)?;
     Ok(deliver(done, lines.as_bytes(), writer))
-}
-
-/// What stands below the line of a case.
-fn below_line(outcome: &Outcome) -> &str
-    ensures { result.now ≡ below_line outcome.now }
-{
-    match outcome {
-        Outcome::Judged(told) => told.below.as_str(),
-        Outcome::HeadRefused(_) | Outcome::NoConnection(_) => "",
-    }
 }
 
 /// Writes the total.
@@ -207,14 +214,12 @@ pub fn capture_case<S: CaseServer, W: Write, F: Write>(
             };
             tell_capture(alloc, &capture, writer)
         }
-        Meeting::Refused(fault) => {
-            tell_case(
-                alloc,
-                case,
-                &Outcome::HeadRefused(fault),
-                Exit::Damaged,
-                writer,
-            )
+        Meeting::Refused(refusal) => {
+            let outcome = Outcome::HeadRefused(HeadRefusal {
+                fault: refusal.fault,
+                status: None,
+            });
+            tell_case(alloc, case, &outcome, Exit::Damaged, writer)
         }
         Meeting::NoConnection(why) => {
             let outcome = Outcome::NoConnection(why);

@@ -1,12 +1,15 @@
 -- A command one of whose arguments lacks its value asks for nothing: not for a task of its own, and not for one of
 -- another command.
-use Rattle.std.proofs.Common.{◌≡◌, ◌∙◌, List, true, false, ℕ, Option, None, Some, ap, sym, refl, codes, inl, inr}
+use Rattle.std.proofs.Common.{◌≡◌, ◌∙◌, ◌++◌, ◌∷◌, [], List, true, false, ℕ, Option, None, Some, ap, sym, refl, codes, inl, inr}
 use Rattle.std.specs.Str.{bytes_eq}
 use Rattle.clap.specs.Words.{Row, Text}
 use Rattle.wst_words.specs.Judge.{AsksToJudge, judge_command}
 use Rattle.wst_words.specs.Options.{GivesNoNumberOr, GivesNumberIfAny, LacksOneOf}
 use Rattle.wst_words.specs.Pair.{AsksToPair, pair_command}
+use Rattle.wst_words.specs.Arguments.{ArgumentRow, argument, argument_or}
+use Rattle.wst_words.specs.RunOptions.{AsksForRun, run_arguments_without_timeout}
 use Rattle.wst_words.specs.Send.{AsksToSend, send_command}
+use Rattle.wst_words.specs.declared.arguments.ArgumentKind.TheVariants.{Flag, Number, Words}
 use Rattle.wst_words.specs.Serve.{AsksToServe, serve_command}
 use Rattle.wst_words.specs.Session.{AsksForSession, session_command}
 use Rattle.wst_words.specs.Show.{AsksToShow, show_command}
@@ -15,6 +18,7 @@ use Rattle.wst_words.specs.Test.{AsksToTest, test_command}
 use Rattle.wst_words.specs.Words.{CommandAsks, CommandAsksNothing}
 use Rattle.wst_words.specs.declared.judge.JudgeOptions.{JudgeOptions}
 use Rattle.wst_words.specs.declared.pair.PairOptions.{PairOptions}
+use Rattle.wst_words.specs.declared.run_options.RunOptions.{RunOptions}
 use Rattle.wst_words.specs.declared.send.SendOptions.{SendOptions}
 use Rattle.wst_words.specs.declared.serve.ServeOptions.{ServeOptions}
 use Rattle.wst_words.specs.declared.session.SessionOptions.{SessionOptions}
@@ -127,19 +131,40 @@ no_session name rows is lacks = refuses
     refuses (Session options) asks = session_lacks rows options lacks asks.1
     refuses task asks = differs (codes "session") (task_name task) name refl refl is (called name rows task asks)
 
+run_lacks : (rows : List Row) (options : RunOptions) (more : List ArgumentRow)
+    → (LacksOneOf rows more → ⊥) → LacksOneOf rows (run_arguments_without_timeout ++ more) → AsksForRun rows options → ⊥
+run_lacks rows options more none (inl key) asks = no_word rows (codes "key") options.key.now key asks.key
+run_lacks rows options more none (inr (inl timeout)) asks = absurd timeout
+run_lacks rows options more none (inr (inr (inl budget))) asks = budget options.budget asks.budget
+run_lacks rows options more none (inr (inr (inr (inl protocols)))) asks = absurd protocols
+run_lacks rows options more none (inr (inr (inr (inr (inl header))))) asks = absurd header
+run_lacks rows options more none (inr (inr (inr (inr (inr (inl connect)))))) asks = absurd connect
+run_lacks rows options more none (inr (inr (inr (inr (inr (inr (inl target))))))) asks =
+    no_word rows (codes "target") options.target.now target asks.target
+run_lacks rows options more none (inr (inr (inr (inr (inr (inr (inr rest))))))) asks = none rest
+
+-- what `test`, `send` and `sweep` have beside them
+abbrev sweep_own : List ArgumentRow
+sweep_own = argument_or (codes "steps") Number (codes "2") ∷ argument (codes "all") Flag
+    ∷ argument (codes "progress") Flag ∷ []
+
+abbrev test_own : List ArgumentRow
+test_own = argument (codes "capture") Flag ∷ argument (codes "explain") Flag ∷ argument (codes "progress") Flag
+    ∷ argument (codes "ids") Words ∷ []
+
+abbrev send_own : List ArgumentRow
+send_own = argument (codes "capture") Flag ∷ []
+
 test_lacks : (rows : List Row) (options : TestOptions) → LacksOneOf rows test_command.arguments
     → AsksToTest rows options → ⊥
-test_lacks rows options (inl key) asks = no_word rows (codes "key") options.key.now key asks.0
-test_lacks rows options (inr (inl capture)) asks = capture options.capture asks.1
-test_lacks rows options (inr (inr (inl explain))) asks = explain options.explain asks.8
-test_lacks rows options (inr (inr (inr (inl progress)))) asks = progress options.progress asks.5
-test_lacks rows options (inr (inr (inr (inr (inl timeout))))) asks = absurd timeout
-test_lacks rows options (inr (inr (inr (inr (inr (inl budget)))))) asks = budget options.budget asks.6
-test_lacks rows options (inr (inr (inr (inr (inr (inr (inl protocols))))))) asks = absurd protocols
-test_lacks rows options (inr (inr (inr (inr (inr (inr (inr (inl target)))))))) asks =
-    no_word rows (codes "target") options.target.now target asks.2
-test_lacks rows options (inr (inr (inr (inr (inr (inr (inr (inr (inl ids))))))))) asks = absurd ids
-test_lacks rows options (inr (inr (inr (inr (inr (inr (inr (inr (inr none))))))))) asks = absurd none
+test_lacks rows options lacks asks = run_lacks rows options.run test_own none lacks asks.run
+  where
+    none : LacksOneOf rows test_own → ⊥
+    none (inl capture) = capture options.capture asks.capture
+    none (inr (inl explain)) = explain options.explain asks.explain
+    none (inr (inr (inl progress))) = progress options.progress asks.progress
+    none (inr (inr (inr (inl ids)))) = absurd ids
+    none (inr (inr (inr (inr other)))) = absurd other
 
 pub no_test : (name : Text) (rows : List Row) → name ≡ codes "test" → LacksOneOf rows test_command.arguments
     → CommandAsksNothing (Some (name, rows))
@@ -171,15 +196,13 @@ no_serve name rows is lacks = refuses
 
 send_lacks : (rows : List Row) (options : SendOptions) → LacksOneOf rows send_command.arguments
     → AsksToSend rows options → ⊥
-send_lacks rows options (inl key) asks = no_word rows (codes "key") options.key.now key asks.0
-send_lacks rows options (inr (inl capture)) asks = capture options.capture asks.1
-send_lacks rows options (inr (inr (inl timeout))) asks =
-    no_word rows (codes "timeout") options.timeout.now timeout asks.2
-send_lacks rows options (inr (inr (inr (inl budget)))) asks = budget options.budget asks.3
-send_lacks rows options (inr (inr (inr (inr (inl protocols))))) asks = absurd protocols
-send_lacks rows options (inr (inr (inr (inr (inr (inl target)))))) asks =
-    no_word rows (codes "target") options.target.now target asks.4
-send_lacks rows options (inr (inr (inr (inr (inr (inr none)))))) asks = absurd none
+send_lacks rows options (inr (inl timeout)) asks = no_word rows (codes "timeout") asks.2.0 timeout asks.2.1
+send_lacks rows options (inl key) asks = no_word rows (codes "key") options.run.key.now key asks.0.key
+send_lacks rows options (inr (inr more)) asks = run_lacks rows options.run send_own none (inr (inr more)) asks.0
+  where
+    none : LacksOneOf rows send_own → ⊥
+    none (inl capture) = capture options.capture asks.1
+    none (inr other) = absurd other
 
 pub no_send : (name : Text) (rows : List Row) → name ≡ codes "send" → LacksOneOf rows send_command.arguments
     → CommandAsksNothing (Some (name, rows))
@@ -191,16 +214,13 @@ no_send name rows is lacks = refuses
 
 sweep_lacks : (rows : List Row) (options : SweepOptions) → LacksOneOf rows sweep_command.arguments
     → AsksToSweep rows options → ⊥
-sweep_lacks rows options (inl steps) asks = steps options.steps asks.0
-sweep_lacks rows options (inr (inl all)) asks = all options.all asks.1
-sweep_lacks rows options (inr (inr (inl progress))) asks = progress options.progress asks.2
-sweep_lacks rows options (inr (inr (inr (inl key)))) asks = no_word rows (codes "key") options.key.now key asks.3
-sweep_lacks rows options (inr (inr (inr (inr (inl timeout))))) asks = absurd timeout
-sweep_lacks rows options (inr (inr (inr (inr (inr (inl budget)))))) asks = budget options.budget asks.5
-sweep_lacks rows options (inr (inr (inr (inr (inr (inr (inl protocols))))))) asks = absurd protocols
-sweep_lacks rows options (inr (inr (inr (inr (inr (inr (inr (inl target)))))))) asks =
-    no_word rows (codes "target") options.target.now target asks.6
-sweep_lacks rows options (inr (inr (inr (inr (inr (inr (inr (inr none)))))))) asks = absurd none
+sweep_lacks rows options lacks asks = run_lacks rows options.run sweep_own none lacks asks.run
+  where
+    none : LacksOneOf rows sweep_own → ⊥
+    none (inl steps) = steps options.steps asks.steps
+    none (inr (inl all)) = all options.all asks.all
+    none (inr (inr (inl progress))) = progress options.progress asks.progress
+    none (inr (inr (inr other))) = absurd other
 
 pub no_sweep : (name : Text) (rows : List Row) → name ≡ codes "sweep" → LacksOneOf rows sweep_command.arguments
     → CommandAsksNothing (Some (name, rows))

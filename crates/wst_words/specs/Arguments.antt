@@ -7,8 +7,8 @@ use Rattle.clap.specs.declared.builder.value_parser.ValueParser.{ValueParser}
 use Rattle.clap.specs.declared.builder.value_parser.ValueParser.TheVariants.{Names, Signed, Unsigned}
 use Rattle.wst_words.specs.declared.arguments.Argument.{Argument}
 use Rattle.wst_words.specs.declared.arguments.ArgumentKind.{ArgumentKind}
-use Rattle.wst_words.specs.declared.arguments.ArgumentKind.TheVariants.{End, Flag, FreeWord, NeededCount, NeededWord}
-use Rattle.wst_words.specs.declared.arguments.ArgumentKind.TheVariants.{Number, Word, Words}
+use Rattle.wst_words.specs.declared.arguments.ArgumentKind.TheVariants.{EachWord, End, Flag, FreeWord, NeededCount}
+use Rattle.wst_words.specs.declared.arguments.ArgumentKind.TheVariants.{NeededWord, Number, Word, Words}
 
 -- an argument: its name, its kind, and its value where it is left out
 pub record ArgumentRow : Type 0 where
@@ -60,12 +60,17 @@ free_rule name = record (new_rule name) { action = Some Set; value_names = 1 }
 abbrev pub needed_rule : Text → Rule
 needed_rule name = record (free_rule name) { required = true }
 
--- an argument of this kind: an end as it is parsed, a number of 64 bits, any word, a flag, a word and a number
--- of 32 bits that may not be left out, a word that may, as many words as there are
+-- an option that takes one value each time that it is given
+abbrev pub each_rule : Text → Rule
+each_rule name = record (new_rule name) { long = Some name; action = Some Append; value_names = 1 }
+
+-- an argument of this kind: an end as it is parsed, a number of 64 bits, any word, any word each time that it is given,
+-- a flag, a word and a number of 32 bits that may not be left out, a word that may, as many words as there are
 abbrev pub kind_rule : ValueParser → ArgumentKind → Text → Rule
 kind_rule ends End name = record (option_rule name) { parser = Some ends }
 kind_rule ends Number name = record (option_rule name) { parser = Some (Unsigned 0 18446744073709551615) }
 kind_rule ends Word name = option_rule name
+kind_rule ends EachWord name = each_rule name
 kind_rule ends Flag name = record (new_rule name) { long = Some name; action = Some SetTrue }
 kind_rule ends NeededWord name = needed_rule name
 kind_rule ends FreeWord name = free_rule name

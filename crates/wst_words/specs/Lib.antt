@@ -7,6 +7,7 @@ pub mod Pair
 pub mod Session
 pub mod Judge
 pub mod Cases
+pub mod RunOptions
 pub mod Test
 pub mod Send
 pub mod Sweep

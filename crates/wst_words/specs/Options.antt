@@ -9,8 +9,8 @@ use Rattle.ws_wire.specs.declared.role.Role.{Role}
 use Rattle.ws_wire.specs.declared.role.Role.TheVariants.{Client, Server}
 use Rattle.wst_words.specs.Arguments.{ArgumentRow}
 use Rattle.wst_words.specs.declared.arguments.ArgumentKind.{ArgumentKind}
-use Rattle.wst_words.specs.declared.arguments.ArgumentKind.TheVariants.{End, Flag, FreeWord, NeededCount, NeededWord}
-use Rattle.wst_words.specs.declared.arguments.ArgumentKind.TheVariants.{Number, Word, Words}
+use Rattle.wst_words.specs.declared.arguments.ArgumentKind.TheVariants.{EachWord, End, Flag, FreeWord, NeededCount}
+use Rattle.wst_words.specs.declared.arguments.ArgumentKind.TheVariants.{NeededWord, Number, Word, Words}
 
 -- ---- an end of the connection
 
@@ -104,6 +104,7 @@ LacksValueOf rows name Number None = GivesNoNumberOr rows name
 LacksValueOf rows name Number (Some number) = GivesNoNumber rows name
 LacksValueOf rows name Word None = ⊥
 LacksValueOf rows name Word (Some word) = first_of name rows ≡ None
+LacksValueOf rows name EachWord default = ⊥
 LacksValueOf rows name Flag default = GivesNoFlag rows name
 LacksValueOf rows name NeededWord default = first_of name rows ≡ None
 LacksValueOf rows name FreeWord default = ⊥

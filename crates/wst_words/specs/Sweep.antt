@@ -1,30 +1,26 @@
 -- The command `sweep`: its arguments, and what they give.
-use Rattle.std.specs.Prelude.{◌≡◌, List, [], ◌∷◌, Some, codes}
-use Rattle.clap.specs.Words.{Row, first_of}
+use Rattle.std.specs.Prelude.{List, [], ◌∷◌, ◌++◌, codes}
+use Rattle.clap.specs.Words.{Row}
 use Rattle.wst_words.specs.Arguments.{argument, argument_or}
 use Rattle.wst_words.specs.Commands.{CommandRow}
-use Rattle.wst_words.specs.declared.arguments.ArgumentKind.TheVariants.{Flag, NeededWord, Number, Word}
-use Rattle.wst_words.specs.Options.{GivesFlag, GivesNumber, GivesProtocols, GivesWord}
+use Rattle.wst_words.specs.declared.arguments.ArgumentKind.TheVariants.{Flag, Number}
+use Rattle.wst_words.specs.Options.{GivesFlag, GivesNumber}
+use Rattle.wst_words.specs.RunOptions.{AsksForRun, run_arguments_without_timeout}
 use Rattle.wst_words.specs.declared.sweep.SweepOptions.{SweepOptions}
 
 -- its arguments
 abbrev pub sweep_command : CommandRow
 sweep_command = record {
   name = codes "sweep";
-  arguments = argument_or (codes "steps") Number (codes "2")
+  arguments = run_arguments_without_timeout
+      ++ argument_or (codes "steps") Number (codes "2")
       ∷ argument (codes "all") Flag
-      ∷ argument (codes "progress") Flag
-      ∷ argument_or (codes "key") Word (codes "37fa213d")
-      ∷ argument (codes "timeout") Word
-      ∷ argument_or (codes "budget") Number (codes "67108864")
-      ∷ argument (codes "protocols") Word
-      ∷ argument (codes "target") NeededWord ∷ [];
+      ∷ argument (codes "progress") Flag ∷ [];
 }
 
 -- the words give these
-abbrev pub AsksToSweep : List Row → SweepOptions → Type 0
-AsksToSweep rows options = GivesNumber rows (codes "steps") options.steps
-    × GivesFlag rows (codes "all") options.all × GivesFlag rows (codes "progress") options.progress
-    × (first_of (codes "key") rows ≡ Some options.key.now) × GivesWord rows (codes "timeout") options.timeout
-    × GivesNumber rows (codes "budget") options.budget × (first_of (codes "target") rows ≡ Some options.target.now)
-    × GivesProtocols rows options.protocols
+pub record AsksToSweep (rows : List Row) (options : SweepOptions) : Type 0 where
+  pub run : AsksForRun rows options.run
+  pub steps : GivesNumber rows (codes "steps") options.steps
+  pub all : GivesFlag rows (codes "all") options.all
+  pub progress : GivesFlag rows (codes "progress") options.progress

@@ -2,8 +2,8 @@
 
 ghost use Rattle.std.specs.Prelude.{◌≡◌, false};
 ghost use Rattle.clap.specs.Words.{rule_of};
-ghost use Rattle.wst_words.specs.Arguments.{argument_row, argument_rule, free_rule, kind_rule, needed_rule};
-ghost use Rattle.wst_words.specs.Arguments.{option_rule};
+ghost use Rattle.wst_words.specs.Arguments.{argument_row, argument_rule, each_rule, free_rule, kind_rule};
+ghost use Rattle.wst_words.specs.Arguments.{needed_rule, option_rule};
 
 use clap::builder::ValueParser;
 use clap::{Arg, ArgAction};
@@ -18,6 +18,8 @@ pub(crate) enum ArgumentKind {
     Number,
     /// An option that takes any word.
     Word,
+    /// An option that takes any word, each time that it is given.
+    EachWord,
     /// An option without a value.
     Flag,
     /// Any word, which may not be left out.
@@ -64,6 +66,7 @@ fn arg_of_kind<'a>(alloc: Global, argument: &Argument, ends: ValueParser<'a>) ->
         ArgumentKind::End => option_arg(alloc, argument).value_parser(ends),
         ArgumentKind::Number => option_arg(alloc, argument).value_parser(clap::value_parser!(u64)),
         ArgumentKind::Word => option_arg(alloc, argument),
+        ArgumentKind::EachWord => each_arg(alloc, argument),
         ArgumentKind::Flag => Arg::new(alloc, argument.name)
             .long(argument.name)
             .help(argument.help)
@@ -90,6 +93,18 @@ fn option_arg<'a>(alloc: Global, argument: &Argument) -> Arg<'a>
         .value_name(argument.value_name)
         .help(argument.help)
         .action(ArgAction::Set)
+}
+
+/// An option that takes one value each time that it is given.
+fn each_arg<'a>(alloc: Global, argument: &Argument) -> Arg<'a>
+    ensures rule { rule_of result ≡ each_rule argument.now.name.now }
+    ensures local { result.global ≡ false }
+{
+    Arg::new(alloc, argument.name)
+        .long(argument.name)
+        .value_name(argument.value_name)
+        .help(argument.help)
+        .action(ArgAction::Append)
 }
 
 /// A word that may not be left out.

@@ -1,77 +1,49 @@
 //! The words of the command `send`.
 
-ghost use Rattle.std.specs.Prelude.{◌≡◌, MatchOption, map};
+ghost use Rattle.std.specs.Prelude.{◌≡◌, IfOk, MatchOption, map};
 ghost use Rattle.clap.specs.Words.{found_of, rows_of};
 ghost use Rattle.wst_words.specs.Arguments.{argument_row};
 ghost use Rattle.wst_words.specs.Options.{LacksOneOf};
+ghost use Rattle.wst_words.specs.RunOptions.{AsksForRun};
 ghost use Rattle.wst_words.specs.Send.{AsksToSend, send_command};
 
 use crate::arguments::Argument;
-use crate::arguments::ArgumentKind::{Flag, NeededWord, Number, Word};
+use crate::arguments::ArgumentKind::Flag;
 use crate::commands::HelpText;
-use crate::options::{flag_of, number_of, word_of};
+use crate::options::{flag_of, word_of};
+use crate::run_options::{
+    BUDGET, CONNECT, HEADER, KEY, PROTOCOLS, RunOptions, TARGET, TIMEOUT, run_options,
+};
 use clap::ArgMatches;
+use std::alloc::{AllocError, Global};
 
 /// What `send` is asked to send its script to, and how.
-#[derive(Clone, Copy)]
+#[derive(Drop)]
 pub struct SendOptions<'a> {
-    /// The masking key of the frames that have none of their own, as a word.
-    pub key: &'a str,
+    /// Over which server, and how. A time limit is always given.
+    pub run: RunOptions<'a>,
     /// The capture is written in place of the frames.
     pub capture: bool,
-    /// For so many seconds, as a word, a byte is waited for.
-    pub timeout: &'a str,
-    /// At most so many bytes are read of a server behind the head of its answer.
-    pub budget: u64,
-    /// The subprotocols that are offered, joined by commas, where they are given.
-    pub protocols: Option<&'a str>,
-    /// The peer: `own`, `tung` or an address.
-    pub target: &'a str,
 }
 
 /// Its arguments.
-static ARGUMENTS: [Argument; 6] = [
+static ARGUMENTS: [Argument; 8] = [
+    KEY,
     Argument {
-        name: "key",
-        kind: Word,
-        default: Some("37fa213d"),
-        value_name: "HEX8",
-        help: "Masking key: eight lower-case hexadecimal digits",
+        default: Some("2"),
+        ..TIMEOUT
     },
+    BUDGET,
+    PROTOCOLS,
+    HEADER,
+    CONNECT,
+    TARGET,
     Argument {
         name: "capture",
         kind: Flag,
         default: None,
         value_name: "",
         help: "Write the capture in place of the frames",
-    },
-    Argument {
-        name: "timeout",
-        kind: Word,
-        default: Some("2"),
-        value_name: "SECONDS",
-        help: "Wait so long for each byte of a server, 1 to 3600",
-    },
-    Argument {
-        name: "budget",
-        kind: Number,
-        default: Some("67108864"),
-        value_name: "N",
-        help: "Most bytes to read of it behind its head",
-    },
-    Argument {
-        name: "protocols",
-        kind: Word,
-        default: None,
-        value_name: "LIST",
-        help: "Subprotocols to offer to a server at an address, joined by commas",
-    },
-    Argument {
-        name: "target",
-        kind: NeededWord,
-        default: None,
-        value_name: "TARGET",
-        help: "The address of a server, or one in memory: `own`, our echo, or `tung`, tungstenite's",
     },
 ];
 
@@ -83,23 +55,30 @@ pub(crate) fn arguments() -> &'static [Argument]
 }
 
 /// What the words give. `None` where a word has no value.
-pub(crate) fn send_options<'a>(options: &ArgMatches<'a>) -> Option<SendOptions<'a>>
+pub(crate) fn send_options<'a>(
+    alloc: Global,
+    options: &ArgMatches<'a>,
+) -> Result<Option<SendOptions<'a>>, AllocError>
+    ensures { IfOk result (λ found. MatchOption found
+        (LacksOneOf (rows_of (found_of options.now)) send_command.arguments)
+        (AsksToSend (rows_of (found_of options.now)))) }
+{
+    let found = run_options(alloc, options)?;
+    match found {
+        Some(run) => Ok(options_with(options, run)),
+        None => Ok(None),
+    }
+}
+
+/// What the words give, with this run.
+fn options_with<'a>(options: &ArgMatches<'a>, run: RunOptions<'a>) -> Option<SendOptions<'a>>
+    requires { AsksForRun (rows_of (found_of options.now)) run }
     ensures { MatchOption result (LacksOneOf (rows_of (found_of options.now)) send_command.arguments)
         (AsksToSend (rows_of (found_of options.now))) }
 {
-    let key = word_of(options, "key")?;
+    let _seconds = word_of(options, "timeout")?;
     let capture = flag_of(options, "capture")?;
-    let timeout = word_of(options, "timeout")?;
-    let budget = number_of(options, "budget")?;
-    let target = word_of(options, "target")?;
-    Some(SendOptions {
-        key,
-        capture,
-        timeout,
-        budget,
-        protocols: word_of(options, "protocols"),
-        target,
-    })
+    Some(SendOptions { run, capture })
 }
 
 /// What help says of `send`.
@@ -113,10 +92,11 @@ pub(crate) fn help<'a>() -> HelpText<'a> {
 
 /// What `send` is for.
 const LONG_ABOUT: &str =
-    "Reads a script, whose lines `wst cases --help` describes, and runs it at TARGET: the address of a
-server, as 127.0.0.1:9001, [::1]:9001 or localhost:9001, which is asked for an upgrade at `/`, or a
-new server in memory: `own`, our echo, or `tung`, one of the crate tungstenite. What it sends may
-break any rule. Each frame is shown as soon as it is certain:
+    "Reads a script, whose lines `wst cases --help` describes, and runs it at TARGET: HOST:PORT, as
+127.0.0.1:9001, [::1]:9001 or localhost:9001, which is asked for an upgrade at `/`; or a URL, as
+ws://localhost:9001/echo?x=1, whose port is 80 where it has none; or a new server in memory: `own`,
+our echo, or `tung`, one of the crate tungstenite. What it sends may break any rule. Each frame is
+shown as soon as it is certain:
 
   turn N         a turn begins, counted from 1; `wait` in the script ends one
   > FRAME        a frame that was sent, as `wst show` shows it, its place counted in what was sent
@@ -133,14 +113,15 @@ format 2. The command gives no verdict: wst send --capture TARGET | wst judge
 A turn is sent before anything is read for it. One that is larger than what the sockets' buffers
 hold wants a peer that reads meanwhile; else it waits for SECONDS, and the run ends as `broken`.
 
-With --protocols the request offers the subprotocols of LIST, as for `wst test`. At a server in
-memory, LIST, SECONDS and the budget are checked and without effect. An answer to the request that
-is to be refused is `FAIL Head NAME` on the fault output, which `wst test --help` describes, and a
-server that is not there `no connection: WHY`: then nothing stands on the output.
+With --protocols the request offers the subprotocols of LIST, with --header it has more lines, and
+with --connect the connection is made elsewhere, as `wst test --help` tells. At a server in memory
+these, SECONDS and the budget are checked and without effect. An answer to the request that is to be
+refused is `FAIL Head NAME` on the fault output, which that help describes too, and a server that is
+not there `no connection: WHY`: then nothing stands on the output.
 
 Exit status: 0 the script was run, whoever ended it, 1 the input is no script (`line N: not a step`)
-or the answer is to be refused, 2 wrong words, also a word that is no LIST, no SECONDS, no key or no
-host of a request, 3 there is no connection, the input or the output failed or memory ran out.";
+or the answer is to be refused, 2 wrong words, also a word that is no LIST, header, SECONDS, key,
+TARGET or address, 3 there is no connection, the input or the output failed or memory ran out.";
 
 /// What stands at the end of the help of `send`.
 const AFTER_HELP: &str =

@@ -1,40 +1,44 @@
 //! The words of the command `sweep`.
 
-ghost use Rattle.std.specs.Prelude.{◌≡◌, MatchOption, map};
+ghost use Rattle.std.specs.Prelude.{◌≡◌, IfOk, MatchOption, map};
 ghost use Rattle.clap.specs.Words.{found_of, rows_of};
 ghost use Rattle.wst_words.specs.Arguments.{argument_row};
 ghost use Rattle.wst_words.specs.Options.{LacksOneOf};
+ghost use Rattle.wst_words.specs.RunOptions.{AsksForRun};
 ghost use Rattle.wst_words.specs.Sweep.{AsksToSweep, sweep_command};
 
 use crate::arguments::Argument;
-use crate::arguments::ArgumentKind::{Flag, NeededWord, Number, Word};
+use crate::arguments::ArgumentKind::{Flag, Number};
 use crate::commands::HelpText;
-use crate::options::{flag_of, number_of, word_of};
+use crate::options::{flag_of, number_of};
+use crate::run_options::{
+    BUDGET, CONNECT, HEADER, KEY, PROTOCOLS, RunOptions, TARGET, TIMEOUT, run_options,
+};
 use clap::ArgMatches;
+use std::alloc::{AllocError, Global};
 
 /// Which scripts `sweep` is asked to run, and against what.
-#[derive(Clone, Copy)]
+#[derive(Drop)]
 pub struct SweepOptions<'a> {
+    /// Over which server, and how.
+    pub run: RunOptions<'a>,
     /// Scripts of at most so many steps.
     pub steps: u64,
     /// Those that are LOOSE are told too.
     pub all: bool,
     /// The steps of each script are told before it runs.
     pub progress: bool,
-    /// The masking key of the frames, as a word.
-    pub key: &'a str,
-    /// For so many seconds, as a word, a byte is waited for, where that is given.
-    pub timeout: Option<&'a str>,
-    /// At most so many bytes are read of a server for one script behind the head of its answer.
-    pub budget: u64,
-    /// The subprotocols that are offered, joined by commas, where they are given.
-    pub protocols: Option<&'a str>,
-    /// The peer: `own`, `tung` or an address.
-    pub target: &'a str,
 }
 
 /// Its arguments.
-static ARGUMENTS: [Argument; 8] = [
+static ARGUMENTS: [Argument; 10] = [
+    KEY,
+    TIMEOUT,
+    BUDGET,
+    PROTOCOLS,
+    HEADER,
+    CONNECT,
+    TARGET,
     Argument {
         name: "steps",
         kind: Number,
@@ -56,41 +60,6 @@ static ARGUMENTS: [Argument; 8] = [
         value_name: "",
         help: "Tell the steps of each script on the fault output before it runs",
     },
-    Argument {
-        name: "key",
-        kind: Word,
-        default: Some("37fa213d"),
-        value_name: "HEX8",
-        help: "Masking key: eight lower-case hexadecimal digits",
-    },
-    Argument {
-        name: "timeout",
-        kind: Word,
-        default: None,
-        value_name: "SECONDS",
-        help: "Wait so long for each byte of a server at an address, 1 to 3600",
-    },
-    Argument {
-        name: "budget",
-        kind: Number,
-        default: Some("67108864"),
-        value_name: "N",
-        help: "Most bytes to read of it a script behind its head",
-    },
-    Argument {
-        name: "protocols",
-        kind: Word,
-        default: None,
-        value_name: "LIST",
-        help: "Subprotocols to offer to a server at an address, joined by commas",
-    },
-    Argument {
-        name: "target",
-        kind: NeededWord,
-        default: None,
-        value_name: "TARGET",
-        help: "The address of a server, or one in memory: `own`, our echo, or `tung`, tungstenite's",
-    },
 ];
 
 /// The arguments of `sweep`.
@@ -101,25 +70,35 @@ pub(crate) fn arguments() -> &'static [Argument]
 }
 
 /// What the words give. `None` where a word has no value.
-pub(crate) fn sweep_options<'a>(options: &ArgMatches<'a>) -> Option<SweepOptions<'a>>
+pub(crate) fn sweep_options<'a>(
+    alloc: Global,
+    options: &ArgMatches<'a>,
+) -> Result<Option<SweepOptions<'a>>, AllocError>
+    ensures { IfOk result (λ found. MatchOption found
+        (LacksOneOf (rows_of (found_of options.now)) sweep_command.arguments)
+        (AsksToSweep (rows_of (found_of options.now)))) }
+{
+    let found = run_options(alloc, options)?;
+    match found {
+        Some(run) => Ok(options_with(options, run)),
+        None => Ok(None),
+    }
+}
+
+/// What the words give, with this run.
+fn options_with<'a>(options: &ArgMatches<'a>, run: RunOptions<'a>) -> Option<SweepOptions<'a>>
+    requires { AsksForRun (rows_of (found_of options.now)) run }
     ensures { MatchOption result (LacksOneOf (rows_of (found_of options.now)) sweep_command.arguments)
         (AsksToSweep (rows_of (found_of options.now))) }
 {
     let steps = number_of(options, "steps")?;
     let all = flag_of(options, "all")?;
     let progress = flag_of(options, "progress")?;
-    let key = word_of(options, "key")?;
-    let budget = number_of(options, "budget")?;
-    let target = word_of(options, "target")?;
     Some(SweepOptions {
+        run,
         steps,
         all,
         progress,
-        key,
-        timeout: word_of(options, "timeout"),
-        budget,
-        protocols: word_of(options, "protocols"),
-        target,
     })
 }
 

@@ -3,48 +3,44 @@
 ghost use Rattle.std.specs.Prelude.{◌≡◌, IfOk, MatchOption, codes, map};
 ghost use Rattle.clap.specs.Words.{found_of, rows_of};
 ghost use Rattle.wst_words.specs.Options.{LacksOneOf, given_words};
+ghost use Rattle.wst_words.specs.RunOptions.{AsksForRun};
 ghost use Rattle.wst_words.specs.Test.{AsksToTest, test_command};
 ghost use Rattle.wst_words.specs.Arguments.{argument_row};
 
 use crate::arguments::Argument;
-use crate::arguments::ArgumentKind::{Flag, NeededWord, Number, Word, Words};
+use crate::arguments::ArgumentKind::{Flag, Words};
 use crate::commands::HelpText;
-use crate::options::{flag_of, number_of, word_of, words_of};
+use crate::options::{flag_of, words_of};
+use crate::run_options::{
+    BUDGET, CONNECT, HEADER, KEY, PROTOCOLS, RunOptions, TARGET, TIMEOUT, run_options,
+};
 use clap::ArgMatches;
 use std::alloc::{AllocError, Global};
 
 /// What `test` is asked to run.
 #[derive(Drop)]
 pub struct TestOptions<'a> {
-    /// The masking key of the frames, as a word.
-    pub key: &'a str,
+    /// Over which server, and how.
+    pub run: RunOptions<'a>,
     /// The capture is written in place of the verdict.
     pub capture: bool,
     /// Below a verdict other than PASS it is told why.
     pub explain: bool,
     /// The name of each case is told before it runs.
     pub progress: bool,
-    /// For so many seconds, as a word, a byte is waited for, where that is given.
-    pub timeout: Option<&'a str>,
-    /// At most so many bytes are read of a server in one case behind the head of its answer.
-    pub budget: u64,
-    /// The subprotocols that are offered, joined by commas, where they are given.
-    pub protocols: Option<&'a str>,
-    /// The peer: `own`, `tung` or an address.
-    pub target: &'a str,
     /// The names of the cases in the order in which they run. None stands for all.
     pub ids: Vec<&'a str>,
 }
 
 /// Its arguments.
-static ARGUMENTS: [Argument; 9] = [
-    Argument {
-        name: "key",
-        kind: Word,
-        default: Some("37fa213d"),
-        value_name: "HEX8",
-        help: "Masking key: eight lower-case hexadecimal digits",
-    },
+static ARGUMENTS: [Argument; 11] = [
+    KEY,
+    TIMEOUT,
+    BUDGET,
+    PROTOCOLS,
+    HEADER,
+    CONNECT,
+    TARGET,
     Argument {
         name: "capture",
         kind: Flag,
@@ -65,34 +61,6 @@ static ARGUMENTS: [Argument; 9] = [
         default: None,
         value_name: "",
         help: "Tell each ID on the fault output before its case runs",
-    },
-    Argument {
-        name: "timeout",
-        kind: Word,
-        default: None,
-        value_name: "SECONDS",
-        help: "Wait so long for each byte of a server at an address, 1 to 3600",
-    },
-    Argument {
-        name: "budget",
-        kind: Number,
-        default: Some("67108864"),
-        value_name: "N",
-        help: "Most bytes to read of it in one case behind its head",
-    },
-    Argument {
-        name: "protocols",
-        kind: Word,
-        default: None,
-        value_name: "LIST",
-        help: "Subprotocols to offer to a server at an address, joined by commas",
-    },
-    Argument {
-        name: "target",
-        kind: NeededWord,
-        default: None,
-        value_name: "TARGET",
-        help: "The address of a server, or one in memory: `own`, our echo, or `tung`, tungstenite's",
     },
     Argument {
         name: "ids",
@@ -120,31 +88,32 @@ pub(crate) fn test_options<'a>(
         (AsksToTest (rows_of (found_of options.now)))) }
 {
     let ids = words_of(alloc, options, "ids")?;
-    let found = options_with(options, ids);
-    Ok(found)
+    let found = run_options(alloc, options)?;
+    match found {
+        Some(run) => Ok(options_with(options, run, ids)),
+        None => Ok(None),
+    }
 }
 
-/// What the words give, with these names of cases.
-fn options_with<'a>(options: &ArgMatches<'a>, ids: Vec<&'a str>) -> Option<TestOptions<'a>>
-    requires { map (λ id. id.now) ids.items ≡ given_words (codes "ids") (rows_of (found_of options.now)) }
+/// What the words give, with this run and these names of cases.
+fn options_with<'a>(
+    options: &ArgMatches<'a>,
+    run: RunOptions<'a>,
+    ids: Vec<&'a str>,
+) -> Option<TestOptions<'a>>
+    requires run { AsksForRun (rows_of (found_of options.now)) run }
+    requires ids { map (λ id. id.now) ids.items ≡ given_words (codes "ids") (rows_of (found_of options.now)) }
     ensures { MatchOption result (LacksOneOf (rows_of (found_of options.now)) test_command.arguments)
         (AsksToTest (rows_of (found_of options.now))) }
 {
-    let key = word_of(options, "key")?;
     let capture = flag_of(options, "capture")?;
     let explain = flag_of(options, "explain")?;
     let progress = flag_of(options, "progress")?;
-    let budget = number_of(options, "budget")?;
-    let target = word_of(options, "target")?;
     Some(TestOptions {
-        key,
+        run,
         capture,
         explain,
         progress,
-        timeout: word_of(options, "timeout"),
-        budget,
-        protocols: word_of(options, "protocols"),
-        target,
         ids,
     })
 }
@@ -160,11 +129,12 @@ pub(crate) fn help<'a>() -> HelpText<'a> {
 
 /// What `test` is for.
 const LONG_ABOUT: &str =
-    "Runs cases, scripts that test a server, each over a connection of its own. TARGET is the address
-of a server, as 127.0.0.1:9001, [::1]:9001 or localhost:9001, which is asked for an upgrade at `/`
-and is to send each message back; or a new server in memory for each case, to see what a run looks
-like: `own`, our echo, which passes, or `tung`, one of the crate tungstenite. As soon as a case is
-judged a line for it is written, and the total at last:
+    "Runs cases, scripts that test a server, each over a connection of its own. TARGET is a server that
+is to send each message back: HOST:PORT, as 127.0.0.1:9001, [::1]:9001 or localhost:9001, which is
+asked for an upgrade at `/`; or a URL, as ws://localhost:9001/echo?x=1, whose port is 80 where it
+has none; or a new server in memory for each case, to see what a run looks like: `own`, our echo,
+which passes, or `tung`, one of the crate tungstenite. As soon as a case is judged a line for it is
+written, and the total at last:
 
   ID PASS             the server kept the rules
   ID LOOSE WHY        it answered otherwise than an echo that is fed turn by turn
@@ -182,11 +152,17 @@ in the order of `wst cases`, which lists the IDs. `wst judge --help` says what e
 is Head, Version, Status, Upgrade, Connection, Accept, Extension, Protocol or TooLarge. With
 --capture, which takes one case by its whole ID, the capture of what went over the connection is
 written in place of the lines, and the status is that of its verdict. Nothing is read. With
---explain the lines that `wst judge --help` tells follow LOOSE and FAIL, but for FAIL Head.
+--explain the lines that `wst judge --help` tells follow LOOSE and FAIL, and `  status NNN`, with
+the three digits that came, follows FAIL Head Status.
 
 With --protocols each request offers the subprotocols of LIST in its order, which `wst head --help`
-describes. An answer that names another one, or more than one, is to be refused as Protocol. A
-server in memory asks for no handshake, and so LIST is without effect there.
+describes. An answer that names another one, or more than one, is to be refused as Protocol. With
+--header, up to 32 times, each request has the line NAME: VALUE behind its own, in their order. With
+--connect the connection is made there, and what is asked for stays: so TLS is left to another
+program. A server in memory asks for no handshake: all three are without effect there.
+  wst test --header 'Authorization: Bearer TOKEN' ws://localhost:9001/echo
+  socat TCP-LISTEN:9443,fork,reuseaddr OPENSSL:example.org:443 &
+  wst test --connect localhost:9443 ws://example.org/echo
 
 A server that neither answers nor ends the connection keeps the command waiting, unless --timeout
 says for how long: decimal, without leading zeros. Where for so long no byte has come, the next turn
@@ -196,8 +172,8 @@ in the total; the third in a row ends it as the first one does without --timeout
 up, a case ends as broken off. A server in memory answers at once: there SECONDS and the budget are
 without effect. In parts: wst test 127.0.0.1:9001 '1.*'
 
-Exit status: 0 no case is FAIL, 1 one is, 2 wrong words, also a word that is no LIST, no SECONDS, no
-key, no ID or no host of a request, and --capture with other than one case, 3 there is no
+Exit status: 0 no case is FAIL, 1 one is, 2 wrong words, also a word that is no LIST, header,
+SECONDS, key, TARGET, address or ID, and --capture with other than one case, 3 there is no
 connection, the output failed or memory ran out.";
 
 /// What stands at the end of the help of `test`.

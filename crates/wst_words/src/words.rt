@@ -101,6 +101,14 @@ fn task_of<'a>(alloc: Global, matches: &ArgMatches<'a>) -> Result<Option<Task<'a
             let found = test_task(alloc, options)?;
             Ok(found)
         }
+        "send" => {
+            let found = send_task(alloc, options)?;
+            Ok(found)
+        }
+        "sweep" => {
+            let found = sweep_task(alloc, options)?;
+            Ok(found)
+        }
         _ => Ok(plain_task(name, options)),
     }
 }
@@ -118,10 +126,38 @@ fn test_task<'a>(alloc: Global, options: &ArgMatches<'a>) -> Result<Option<Task<
     }
 }
 
+/// The task of the command `send`. `None` where a word has no value.
+fn send_task<'a>(alloc: Global, options: &ArgMatches<'a>) -> Result<Option<Task<'a>>, AllocError>
+    ensures { IfOk result (λ found. MatchOption found
+        (CommandAsksNothing (Some (codes "send", rows_of (found_of options.now))))
+        (CommandAsks (Some (codes "send", rows_of (found_of options.now))))) }
+{
+    let found = send_options(alloc, options)?;
+    match found {
+        Some(options) => Ok(Some(Task::Send(options))),
+        None => Ok(None),
+    }
+}
+
+/// The task of the command `sweep`. `None` where a word has no value.
+fn sweep_task<'a>(alloc: Global, options: &ArgMatches<'a>) -> Result<Option<Task<'a>>, AllocError>
+    ensures { IfOk result (λ found. MatchOption found
+        (CommandAsksNothing (Some (codes "sweep", rows_of (found_of options.now))))
+        (CommandAsks (Some (codes "sweep", rows_of (found_of options.now))))) }
+{
+    let found = sweep_options(alloc, options)?;
+    match found {
+        Some(options) => Ok(Some(Task::Sweep(options))),
+        None => Ok(None),
+    }
+}
+
 /// The task of a command whose options take no memory. `None` where there is none of this name, or an option has no
 /// value.
 fn plain_task<'a>(name: &str, options: &ArgMatches<'a>) -> Option<Task<'a>>
-    requires { name.now ≢ codes "test" }
+    requires test { name.now ≢ codes "test" }
+    requires send { name.now ≢ codes "send" }
+    requires sweep { name.now ≢ codes "sweep" }
     ensures { MatchOption result (CommandAsksNothing (Some (name.now, rows_of (found_of options.now))))
         (CommandAsks (Some (name.now, rows_of (found_of options.now)))) }
 {
@@ -133,8 +169,6 @@ fn plain_task<'a>(name: &str, options: &ArgMatches<'a>) -> Option<Task<'a>>
         "judge" => Some(Task::Judge(judge_options(options)?)),
         "convert" => Some(Task::Convert),
         "cases" => Some(Task::Cases(cases_options(options))),
-        "send" => Some(Task::Send(send_options(options)?)),
-        "sweep" => Some(Task::Sweep(sweep_options(options)?)),
         "serve" => Some(Task::Serve(serve_options(options)?)),
         _ => None,
     }

@@ -1,33 +1,38 @@
 -- What comes of a connection is what a probe over its two sides tells.
-use Rattle.std.proofs.Common.{map, subst}
+use Rattle.std.proofs.Common.{subst}
 use Rattle.ws_connection.specs.ConnectionValues.{ConnectionRun}
 use Rattle.ws_connection.specs.Observing.{HearsProbe}
 use Rattle.ws_connection.specs.declared.probe_end.Probe.{Probe}
 use Rattle.ws_connection.specs.declared.probe_end.Probe.TheVariants.{NoConnection, Ran, Refused}
+use Rattle.ws_connection.specs.UpgradeRequests.{request_value}
+use Rattle.wst_run.specs.Servers.{AddressValue}
 use Rattle.wst_run.proofs.TargetLemmas.{probed_so}
 use Rattle.wst_run.proofs.address_server.meet_over.Goals as goal
 
 pub returns-in-Ran-clause-probed : goal.returns-in-Ran-clause-probed
 returns-in-Ran-clause-probed g c =
     let asked = c.args.asked.now in
+    let server : AddressValue = record { request = request_value asked.request; budget = c.args.bounds.budget } in
     let run : ConnectionRun = record { old = c.new-connection.result; new = c.probe.new.connection } in
-    probed_so asked.host.now (map (λ name. name.now) asked.protocols.now) c.args.bounds.budget asked.key c.args.case.now
+    probed_so server asked.key c.args.case.now
     c.in_ok-transcript.field-0 (Ran c.in-Ran.transcript) run c.in_ok-transcript.ensures.probes c.in-Ran.is
     c.new-connection.ensures.budget
 
 pub returns-in-Refused-clause-probed : goal.returns-in-Refused-clause-probed
 returns-in-Refused-clause-probed g c =
     let asked = c.args.asked.now in
+    let server : AddressValue = record { request = request_value asked.request; budget = c.args.bounds.budget } in
     let run : ConnectionRun = record { old = c.new-connection.result; new = c.probe.new.connection } in
-    probed_so asked.host.now (map (λ name. name.now) asked.protocols.now) c.args.bounds.budget asked.key c.args.case.now
-    c.in_ok-transcript.field-0 (Refused c.in-Refused.fault) run c.in_ok-transcript.ensures.probes c.in-Refused.is
+    probed_so server asked.key c.args.case.now
+    c.in_ok-transcript.field-0 (Refused c.in-Refused.refusal) run c.in_ok-transcript.ensures.probes c.in-Refused.is
     c.new-connection.ensures.budget
 
 pub returns-clause-probed : goal.returns-clause-probed
 returns-clause-probed g c =
     let asked = c.args.asked.now in
+    let server : AddressValue = record { request = request_value asked.request; budget = c.args.bounds.budget } in
     let run : ConnectionRun = record { old = c.new-connection.result; new = c.probe.new.connection } in
-    probed_so asked.host.now (map (λ name. name.now) asked.protocols.now) c.args.bounds.budget asked.key c.args.case.now
+    probed_so server asked.key c.args.case.now
     c.in_ok-transcript.field-0 NoConnection run c.in_ok-transcript.ensures.probes c.in-NoConnection.is
     c.new-connection.ensures.budget
 

@@ -1,0 +1,26 @@
+-- Each option was judged, and the connection is made where the words say.
+use Rattle.std.proofs.Common.{rules, ◌≡◌, ℕ, List, refl, subst}
+use Rattle.ws_formats.specs.Words.{IsKeyWord}
+use Rattle.ws_connection.specs.Protocols.{protocols_given}
+use Rattle.ws_connection.specs.RequestHeaders.{headers_in}
+use Rattle.wst_run.specs.RunPlans.{CanConnect, HasHeaders, HasOffers, header_words}
+use Rattle.wst_run.proofs.run_plans.plan_run.Goals as goal
+
+pub returns : goal.returns
+returns c =
+    let options = c.args.options.now in
+    let offered : (c.in-Some.protocols ≡ protocols_given options.protocols) × HasOffers options = search rules in
+    let added : (c.in-Some-2.headers ≡ headers_in (header_words options)) × HasHeaders options = search rules in
+    let can : CanConnect options.connect = search rules in
+    record {
+      has_offers = offered.1;
+      protocols = offered.0;
+      has_headers = added.1;
+      headers = added.0;
+      timeout = c.in-Some-timeout_given.ensures;
+      key = subst (λ (word : List ℕ). IsKeyWord c.in-Some-read_key.key word) c.as_bytes.ensures.value c.in-Some-read_key.ensures;
+      named = (c.in_ok-named.named, c.in_ok-named.ensures);
+      can_connect = can;
+      server = c.in_ok-server.ensures options.target.now c.in_ok-named.ensures;
+      budget = refl;
+    }

@@ -1,0 +1,206 @@
+//! What the options that commands share ask for: over which server scripts are run, and how. One place judges them.
+
+ghost use Rattle.std.specs.Prelude.{◌≡◌, ◌≢◌, ◌↔◌, IfOk, IsTrue, List, MatchOption, MatchResult, ℕ, codes};
+ghost use Rattle.ws_frame.specs.Devices.{watched};
+ghost use Rattle.wst_commands.specs.Devices.{Tells};
+ghost use Rattle.ws_connection.specs.RequestHeaders.{headers_in};
+ghost use Rattle.wst_run.specs.RunPlans.{HasHeaders, header_words};
+ghost use Rattle.wst_run.specs.RunPlans.{CanConnect, IsRunPlan, IsServerOf, CanNotRun, RefusesTarget, TellsRefusal};
+ghost use Rattle.wst_commands.specs.declared.exit.Exit.TheVariants.{WrongWords};
+
+use crate::case_server::MemoryServer;
+use std::alloc::Global;
+use std::io::Write;
+use ws_base::NoMemory;
+use ws_connection::{Protocols, RequestHeaders, headers_of, protocols_of};
+use ws_formats::read_key;
+use ws_frame::Watched;
+use ws_targets::{Target, TargetFault, asks_for_tls, is_address, read_target};
+use wst_commands::{Exit, NoCases, TimeLimit, tell, tell_no_cases, timeout_given};
+use wst_words::RunOptions;
+
+/// The server that scripts are run over.
+#[derive(Drop)]
+pub enum Server {
+    /// It stands in memory.
+    Memory(MemoryServer),
+    /// It is met there.
+    At(Target),
+}
+
+/// Over which server scripts are run, and how.
+#[derive(Drop)]
+pub struct RunPlan<'a> {
+    /// The masking key of the frames that have none of their own.
+    pub key: [u8; 4],
+    pub server: Server,
+    /// How long a server that is not in memory is waited for.
+    pub timeout: TimeLimit,
+    /// At most so many bytes are read of such a server in one script behind the head of its answer.
+    pub budget: u64,
+    /// The subprotocols that are offered to such a server.
+    pub protocols: Protocols<'a>,
+    /// The headers that its request has behind its own.
+    pub headers: RequestHeaders<'a>,
+}
+
+/// Why nothing is run: the first of these that applies.
+#[derive(Clone, Copy)]
+pub enum Refusal<'a> {
+    /// The names that are given can't be offered as subprotocols.
+    BadProtocols,
+    /// A word is no header that can be added to a request, or there are too many.
+    BadHeader,
+    /// The seconds are no limit of time.
+    BadTimeout,
+    /// The key is not eight lower-case hexadecimal digits.
+    BadKey,
+    /// The target names no server, or no connection can be made at the address that is given for it.
+    BadAddress,
+    /// The target names no server, and begins as a URL whose connection is encrypted.
+    EncryptedTarget,
+    /// A capture is asked for, and not exactly one case is given.
+    NotOneCase,
+    /// A word stands for no case, or memory ran out.
+    NoCases(NoCases<'a>),
+}
+
+impl<'a> From<NoCases<'a>> for Refusal<'a> {
+    ghost use Rattle.wst_run.specs.declared.run_plans.Refusal.TheVariants as refusal;
+
+    ghost from_gives = { λ why given. given ≡ refusal.NoCases why };
+
+    fn from(why: NoCases<'a>) -> Self {
+        Refusal::NoCases(why)
+    }
+}
+
+impl From<NoMemory> for Refusal<'_> {
+    ghost use Rattle.wst_commands.specs.declared.given_cases.NoCases.TheVariants as why;
+    ghost use Rattle.wst_run.specs.declared.run_plans.Refusal.TheVariants as refusal;
+
+    ghost from_gives = { λ _ given. given ≡ refusal.NoCases why.NoMemory };
+
+    fn from(_refused: NoMemory) -> Self {
+        Refusal::NoCases(NoCases::NoMemory)
+    }
+}
+
+/// What the options ask for, or the first reason against it.
+pub fn plan_run<'a>(alloc: Global, options: &RunOptions<'a>) -> Result<RunPlan<'a>, Refusal<'a>>
+    ensures { MatchResult result (IsRunPlan options.now) (CanNotRun options.now) }
+{
+    let Some(protocols) = protocols_of(alloc, options.protocols)? else {
+        return Err(Refusal::BadProtocols);
+    };
+    let Some(headers) = headers_given(alloc, options)? else {
+        return Err(Refusal::BadHeader);
+    };
+    let Some(timeout) = timeout_given(options.timeout) else {
+        return Err(Refusal::BadTimeout);
+    };
+    let Some(key) = read_key(options.key.as_bytes()) else {
+        return Err(Refusal::BadKey);
+    };
+    let named = server_of(alloc, options.target)?;
+    if !can_connect(options.connect) {
+        return Err(Refusal::BadAddress);
+    }
+    let server = connected(alloc, named, options.connect)?;
+    Ok(RunPlan {
+        key,
+        server,
+        timeout,
+        budget: options.budget,
+        protocols,
+        headers,
+    })
+}
+
+/// The headers of the words. `None` where a request can't have them.
+fn headers_given<'a>(
+    alloc: Global,
+    options: &RunOptions<'a>,
+) -> Result<Option<RequestHeaders<'a>>, NoMemory>
+    ensures { IfOk result (λ found. MatchOption found (¬ (HasHeaders options.now))
+        (λ headers. (headers ≡ headers_in (header_words options.now)) × HasHeaders options.now)) }
+{
+    let found = headers_of(alloc, options.headers.as_slice())?;
+    Ok(found)
+}
+
+/// The server that a word names.
+fn server_of<'a>(alloc: Global, word: &'a str) -> Result<Server, Refusal<'a>>
+    ensures { MatchResult result (IsServerOf word.now None) (RefusesTarget word.now) }
+{
+    match word {
+        "own" => Ok(Server::Memory(MemoryServer::Own)),
+        "tung" => Ok(Server::Memory(MemoryServer::Tung)),
+        _ => server_at(alloc, word),
+    }
+}
+
+/// The server at a target.
+fn server_at<'a>(alloc: Global, word: &'a str) -> Result<Server, Refusal<'a>>
+    requires own { word.now ≢ codes "own" }
+    requires tung { word.now ≢ codes "tung" }
+    ensures { MatchResult result (IsServerOf word.now None) (RefusesTarget word.now) }
+{
+    match read_target(alloc, word) {
+        Ok(target) => Ok(Server::At(target)),
+        Err(TargetFault::NoMemory) => Err(Refusal::NoCases(NoCases::NoMemory)),
+        Err(TargetFault::Bad) if asks_for_tls(word) => Err(Refusal::EncryptedTarget),
+        Err(TargetFault::Bad) => Err(Refusal::BadAddress),
+    }
+}
+
+/// Whether a connection can be made at the address that is given, if one is.
+fn can_connect(connect: Option<&str>) -> bool
+    ensures { IsTrue result ↔ CanConnect connect.entry }
+{
+    match connect {
+        Some(address) => is_address(address.as_bytes()),
+        None => true,
+    }
+}
+
+/// The server to which the connection is made at the address that is given, if one is.
+fn connected(alloc: Global, server: Server, connect: Option<&str>) -> Result<Server, NoMemory>
+    ensures { IfOk result (λ at. (word : List ℕ) → IsServerOf word None server → IsServerOf word connect.entry at) }
+{
+    match (server, connect) {
+        (Server::At(target), Some(address)) => {
+            let target = target.connected_at(alloc, address)?;
+            Ok(Server::At(target))
+        }
+        (server, _) => Ok(server),
+    }
+}
+
+/// Tells a refusal in its lines, where the fault output takes them, and answers the exit that it stands for.
+pub fn tell_refusal<F: Write>(alloc: Global, refusal: Refusal<'_>, faults: &mut Watched<F>) -> Exit
+    ensures { TellsRefusal refusal.entry result (watched F.contents faults.old faults.new) }
+{
+    match refusal {
+        Refusal::BadProtocols => tell_wrong(b"bad protocol list\n", faults),
+        Refusal::BadHeader => tell_wrong(b"bad header\n", faults),
+        Refusal::BadTimeout => tell_wrong(b"bad timeout\n", faults),
+        Refusal::BadKey => tell_wrong(b"bad key\n", faults),
+        Refusal::BadAddress => tell_wrong(b"bad address\n", faults),
+        Refusal::EncryptedTarget => tell_wrong(
+            b"bad address\nwss is not spoken: put a TLS client before it, see --connect\n",
+            faults,
+        ),
+        Refusal::NotOneCase => tell_wrong(b"--capture takes one case\n", faults),
+        Refusal::NoCases(why) => tell_no_cases(alloc, why, faults),
+    }
+}
+
+/// Tells what is wrong with the words.
+fn tell_wrong<F: Write>(text: &[u8], faults: &mut Watched<F>) -> Exit
+    ensures exit { result ≡ WrongWords }
+    ensures told { Tells text.now (watched F.contents faults.old faults.new) }
+{
+    tell(text, faults);
+    Exit::WrongWords
+}

@@ -1,0 +1,120 @@
+//! The arguments that commands share which run scripts over a server, and what they give.
+
+ghost use Rattle.std.specs.Prelude.{◌≡◌, IfOk, MatchOption, codes, map};
+ghost use Rattle.clap.specs.Words.{found_of, rows_of};
+ghost use Rattle.wst_words.specs.Options.{LacksOneOf, given_words};
+ghost use Rattle.wst_words.specs.RunOptions.{AsksForRun, run_arguments_without_timeout};
+
+use crate::arguments::Argument;
+use crate::arguments::ArgumentKind::{EachWord, NeededWord, Number, Word};
+use crate::options::{number_of, word_of, words_of};
+use clap::ArgMatches;
+use std::alloc::{AllocError, Global};
+
+/// Over which server scripts are run, and how.
+#[derive(Drop)]
+pub struct RunOptions<'a> {
+    /// The masking key of the frames that have none of their own, as a word.
+    pub key: &'a str,
+    /// For so many seconds, as a word, a byte is waited for, where that is given.
+    pub timeout: Option<&'a str>,
+    /// At most so many bytes are read of a server in one script behind the head of its answer.
+    pub budget: u64,
+    /// The subprotocols that are offered, joined by commas, where they are given.
+    pub protocols: Option<&'a str>,
+    /// The headers that the request has behind its own, each a word, in their order.
+    pub headers: Vec<&'a str>,
+    /// The address at which the connection is made, where that is given.
+    pub connect: Option<&'a str>,
+    /// The peer: `own`, `tung`, an address or a URL.
+    pub target: &'a str,
+}
+
+pub(crate) const KEY: Argument = Argument {
+    name: "key",
+    kind: Word,
+    default: Some("37fa213d"),
+    value_name: "HEX8",
+    help: "Masking key: eight lower-case hexadecimal digits",
+};
+
+pub(crate) const TIMEOUT: Argument = Argument {
+    name: "timeout",
+    kind: Word,
+    default: None,
+    value_name: "SECONDS",
+    help: "Wait so long for each byte of a server, 1 to 3600",
+};
+
+pub(crate) const BUDGET: Argument = Argument {
+    name: "budget",
+    kind: Number,
+    default: Some("67108864"),
+    value_name: "N",
+    help: "Most bytes to read of it in one script behind its head",
+};
+
+pub(crate) const PROTOCOLS: Argument = Argument {
+    name: "protocols",
+    kind: Word,
+    default: None,
+    value_name: "LIST",
+    help: "Subprotocols to offer, joined by commas",
+};
+
+pub(crate) const HEADER: Argument = Argument {
+    name: "header",
+    kind: EachWord,
+    default: None,
+    value_name: "NAME: VALUE",
+    help: "A header of the request, as often as one is wanted",
+};
+
+pub(crate) const CONNECT: Argument = Argument {
+    name: "connect",
+    kind: Word,
+    default: None,
+    value_name: "HOST:PORT",
+    help: "Connect there, and ask for TARGET",
+};
+
+pub(crate) const TARGET: Argument = Argument {
+    name: "target",
+    kind: NeededWord,
+    default: None,
+    value_name: "TARGET",
+    help: "A server: HOST:PORT, a ws:// URL, or in memory `own`, our echo, or `tung`, tungstenite's",
+};
+
+/// What the words give. `None` where a word has no value.
+pub(crate) fn run_options<'a>(
+    alloc: Global,
+    options: &ArgMatches<'a>,
+) -> Result<Option<RunOptions<'a>>, AllocError>
+    ensures { IfOk result (λ found. MatchOption found
+        (LacksOneOf (rows_of (found_of options.now)) run_arguments_without_timeout)
+        (AsksForRun (rows_of (found_of options.now)))) }
+{
+    let headers = words_of(alloc, options, "header")?;
+    Ok(options_with(options, headers))
+}
+
+/// What the words give, with these headers.
+fn options_with<'a>(options: &ArgMatches<'a>, headers: Vec<&'a str>) -> Option<RunOptions<'a>>
+    requires { map (λ word. word.now) headers.items ≡ given_words (codes "header") (rows_of (found_of options.now)) }
+    ensures { MatchOption result (LacksOneOf (rows_of (found_of options.now)) run_arguments_without_timeout)
+        (AsksForRun (rows_of (found_of options.now))) }
+{
+    let key = word_of(options, "key")?;
+    let budget = number_of(options, "budget")?;
+    let target = word_of(options, "target")?;
+    Some(RunOptions {
+        key,
+        timeout: word_of(options, "timeout"),
+        budget,
+        protocols: word_of(options, "protocols"),
+        headers,
+        connect: word_of(options, "connect"),
+        target,
+    })
+}

@@ -1,0 +1,139 @@
+"""What `wst test` and `wst send` ask servers for at URLs, with headers of their users, and where they connect."""
+
+import socket
+import threading
+
+from server import SECONDS, Client, run, start
+from wire import CLOSE_BACK, EMPTY_BACK, EMPTY_TEXT, MASKED_CLOSE, RESPONSE
+
+ONE_PASS = b"1.1.1 PASS\n1 pass, 0 loose, 0 fail\n"
+KEY_LINES = (
+    b"Upgrade: websocket\r\nConnection: Upgrade\r\n"
+    b"Sec-WebSocket-Key: dGhlIHNhbXBsZSBub25jZQ==\r\nSec-WebSocket-Version: 13\r\n"
+)
+FORBIDDEN = b"HTTP/1.1 403 Forbidden\r\nContent-Length: 9\r\n\r\nforbidden"
+
+
+def asked(path, host, *lines):
+    """The request for a path, with these lines behind its own."""
+    more = b"".join(line + b"\r\n" for line in lines)
+    return b"GET %s HTTP/1.1\r\nHost: %s\r\n" % (path, host) + KEY_LINES + more + b"\r\n"
+
+
+class Asked:
+    """A socket that listens, and takes one connection, which is asked so and answers so."""
+
+    def __init__(self):
+        self.listener = socket.create_server(("127.0.0.1", 0))
+        self.listener.settimeout(SECONDS)
+        self.port = self.listener.getsockname()[1]
+
+    def echoes(self, request, *words):
+        """`wst test` with these words passes at a server that is asked so."""
+        process = start("test", *words)
+        client = Client(self.listener.accept()[0])
+        got = client.get(len(request))
+        assert got == request, got
+        client.send(RESPONSE)
+        assert client.get(len(EMPTY_TEXT)) == EMPTY_TEXT
+        client.send(EMPTY_BACK)
+        assert client.get(len(MASKED_CLOSE)) == MASKED_CLOSE
+        client.send(CLOSE_BACK)
+        client.close()
+        output, faults = process.communicate(timeout=SECONDS)
+        assert (process.returncode, output, faults) == (0, ONE_PASS, b""), (output, faults)
+
+    def refuses(self, answer, *words):
+        """What comes of a run with these words, at a server that answers so."""
+        process = start(*words)
+        client = Client(self.listener.accept()[0])
+        client.send(answer)
+        output, faults = process.communicate(timeout=SECONDS)
+        client.close()
+        return process.returncode, output, faults
+
+
+def a_server_that_wants_a_path_and_headers():
+    server = Asked()
+    headers = (b"Origin: http://localhost", b"Authorization: Bearer a: b")
+    words = [word for header in headers for word in ("--header", header.decode())]
+    request = asked(b"/echo?x=1+2", b"127.0.0.1:%d" % server.port, *headers)
+    server.echoes(request, *words, f"ws://127.0.0.1:{server.port}/echo?x=1+2", "1.1.1")
+
+
+def headers_behind_the_offers():
+    server = Asked()
+    lines = (b"Sec-WebSocket-Protocol: chat", b"X: ", b"X: 2")
+    words = ("--header", "X: ", "--protocols", "chat", "--header", "X: 2")
+    server.echoes(asked(b"/", b"127.0.0.1:%d" % server.port, *lines), *words, f"127.0.0.1:{server.port}", "1.1.1")
+
+
+def paths_as_they_stand():
+    for behind, path in ((b"", b"/"), (b"?a=/b", b"/?a=/b"), (b"//a/../%41", b"//a/../%41"), (b"/a?ws://b", b"/a?ws://b")):
+        server = Asked()
+        host = b"127.0.0.1:%d" % server.port
+        server.echoes(asked(path, host), (b"wS://" + host + behind).decode(), "1.1.1")
+
+
+def the_port_80_is_not_told():
+    for url in ("ws://example.org/a", "ws://example.org:80/a"):
+        server = Asked()
+        server.echoes(asked(b"/a", b"example.org"), "--connect", f"127.0.0.1:{server.port}", url, "1.1.1")
+
+
+def another_port_is_told_where_it_is_not_connected_to():
+    server = Asked()
+    request = asked(b"/", b"example.org:9443")
+    server.echoes(request, "--connect", f"127.0.0.1:{server.port}", "ws://example.org:9443", "1.1.1")
+    server.echoes(request, "--connect", f"127.0.0.1:{server.port}", "example.org:9443", "1.1.1")
+
+
+def a_status_that_is_told():
+    server = Asked()
+    target = f"ws://127.0.0.1:{server.port}/echo"
+    line, total = b"1.1.1 FAIL Head Status\n", b"0 pass, 0 loose, 1 fail\n"
+    told = server.refuses(FORBIDDEN, "test", "--explain", target, "1.1.1")
+    assert told == (1, line + b"  status 403\n" + total, b""), told
+    assert server.refuses(FORBIDDEN, "test", target, "1.1.1") == (1, line + total, b"")
+    assert server.refuses(FORBIDDEN, "test", "--explain", "--capture", target, "1.1.1") == (1, line, b"")
+    low = FORBIDDEN.replace(b"403 Forbidden", b"007 Low")
+    told = server.refuses(low, "test", "--explain", target, "1.1.1")
+    assert told == (1, line + b"  status 007\n" + total, b""), told
+
+
+def another_refusal_has_no_status():
+    server = Asked()
+    other = RESPONSE.replace(b"s3pPLMB", b"s3pPLMC")
+    told = server.refuses(other, "test", "--explain", f"127.0.0.1:{server.port}", "1.1.1")
+    assert told == (1, b"1.1.1 FAIL Head Accept\n0 pass, 0 loose, 1 fail\n", b""), told
+
+
+def a_script_at_a_url():
+    server = Asked()
+    host = b"127.0.0.1:%d" % server.port
+    got = []
+
+    def answers():
+        client = Client(server.listener.accept()[0])
+        got.append(client.get(len(asked(b"/echo", host, b"X: y"))))
+        client.send(FORBIDDEN)
+        client.close()
+
+    thread = threading.Thread(target=answers)
+    thread.start()
+    told = run("send", "--header", "X: y", f"ws://127.0.0.1:{server.port}/echo")
+    thread.join()
+    assert got == [asked(b"/echo", host, b"X: y")], got
+    assert told == (1, b"", b"FAIL Head Status\n"), told
+
+
+TESTS = [
+    a_server_that_wants_a_path_and_headers,
+    headers_behind_the_offers,
+    paths_as_they_stand,
+    the_port_80_is_not_told,
+    another_port_is_told_where_it_is_not_connected_to,
+    a_status_that_is_told,
+    another_refusal_has_no_status,
+    a_script_at_a_url,
+]
