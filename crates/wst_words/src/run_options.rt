@@ -51,7 +51,7 @@ pub(crate) const BUDGET: Argument = Argument {
     kind: Number,
     default: Some("67108864"),
     value_name: "N",
-    help: "Most bytes to read of it in one script behind its head",
+    help: "Most bytes to read behind its head in one script",
 };
 
 pub(crate) const PROTOCOLS: Argument = Argument {

@@ -137,14 +137,14 @@ soon as a script is judged there is a line for it, where there is something to t
   FAIL Head NAME: STEP; STEP; ..   its answer to the request is to be refused
   S scripts: P pass, L loose, F fail
 
-`wst judge --help` says what each WHY means, and `wst test --help` what NAME, LIST, SECONDS and the
-budget are: they are as there. A script is tried by hand by `wst send`, a line a step. Without a
-connection the run ends, with `no connection: WHY` on the fault output and no total. Nothing is
-read.
+`wst judge --help` says what each WHY means, and `wst test --help` what TARGET, NAME, LIST, SECONDS,
+headers and the budget are: they are as there. A script is tried by hand by `wst send`, a line a
+step. Without a connection the run ends, with `no connection: WHY` on the fault output and no total.
+Nothing is read.
 
 Exit status: 0 no script is FAIL, 1 one is, 2 wrong words, also a number of steps above 4, and a
-word that is no LIST, no SECONDS, no key or no host of a request, 3 there is no connection, the
-output failed or memory ran out.";
+word that is no LIST, header, SECONDS, key, TARGET or address, 3 there is no connection, the output
+failed or memory ran out.";
 
 /// What stands at the end of the help of `sweep`.
 const AFTER_HELP: &str = "Example:
