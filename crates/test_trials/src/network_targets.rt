@@ -22,11 +22,11 @@ fn check(
     rt: &impl Abort,
     alloc: Global,
     words: &str,
-    book: &Book<'_>,
+    book: Book<'_>,
     (status, asked): (u8, u64),
     (front, more): (&[u8], &[u8]),
 ) -> Result<(), Fail> {
-    let net = MemoryNet { book };
+    let net = MemoryNet { book: &book };
     let after = run_over(alloc, words, &net, Failing::Never, Failing::Never)?;
     same_number(rt, 0, u64::from(after.status), u64::from(status));
     same_number(rt, 1, book.asked.get(), asked);
@@ -34,7 +34,7 @@ fn check(
     request.extend_from_slice(LINES)?;
     request.extend_from_slice(more)?;
     request.extend_from_slice(b"\r\n")?;
-    let written = book.written.replace(Vec::new(alloc));
+    let written = book.written.into_inner();
     let begun = &written.as_slice()[..request.len().min(written.len())];
     same_bytes(rt, 2, begun, request.as_slice());
     Ok(())
@@ -67,7 +67,7 @@ fn what_is_asked_for(rt: HostRuntime) -> Result<(), Fail> {
     ];
     for (words, front, more) in asked {
         let book = Book::new(rt.alloc(), b"HTTP/1.1 200 OK\r\n\r\n");
-        check(&rt, rt.alloc(), words, &book, (1, 1), (front, more))?;
+        check(&rt, rt.alloc(), words, book, (1, 1), (front, more))?;
     }
     Ok(())
 }
@@ -84,7 +84,7 @@ fn the_second_address(rt: HostRuntime) -> Result<(), Fail> {
     );
     let front = b"GET /a HTTP/1.1\r\nHost: double:9001";
     let words = "test ws://double:9001/a 1.1.1";
-    check(&rt, rt.alloc(), words, &book, (0, 2), (front, b""))
+    check(&rt, rt.alloc(), words, book, (0, 2), (front, b""))
 }
 
 /// Where both refuse, there is no connection.
