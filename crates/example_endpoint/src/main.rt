@@ -11,12 +11,14 @@ use std::io::{Read, Write};
 use ws_session::{Event, Limits, Session};
 use ws_wire::{NO_KEY, Role};
 
-/// The most bytes of a message that is taken, and of one read.
-const MOST: u32 = 1_048_576;
+/// The most bytes of a message that is taken.
+const MAX_MESSAGE: u32 = 1_048_576;
+
+/// The most bytes of one read.
 const READ_SIZE: usize = 4096;
 
 fn main(rt: HostRuntime) -> Result<()> {
-    let limits = Limits::new(MOST).context("bad limits")?;
+    let limits = Limits::new(MAX_MESSAGE).context("bad limits")?;
     let mut session = Session::new(rt.alloc(), Role::Server, limits);
     serve(rt.alloc(), &mut session, &mut rt.stdin(), &mut rt.stdout())?;
     eprintln!(rt; "{}", session.status())?;
@@ -58,7 +60,8 @@ fn answer(session: &mut Session, piece: &[u8], replies: &mut Vec<u8>) -> Result<
         let taken = session.take(rest, NO_KEY, replies)?;
         rest = &rest[taken.used..];
         if let Some(Event::Message(message)) = taken.event {
-            session.begin(message.kind, message.payload.as_slice(), true, NO_KEY, replies)?;
+            let payload = message.payload.as_slice();
+            session.begin(message.kind, payload, true, NO_KEY, replies)?;
         }
     }
     Ok(())
