@@ -1,6 +1,6 @@
 # shellcheck shell=sh disable=SC2154 # (root is set by the reader)
-# What the programs wst, test_rows and test_refusals were built from, for the launcher and the test command, which read this
-# file with the variable `root` set to the top of the repository. The stamp of a program says from which sources it was
+# What the programs wst, test_rows and test_refusals were built from, for the launchers and the test command, which read
+# this file with the variable `root` set to the top of the repository. The stamp of a program says from which sources it was
 # built: a checksum of their paths and contents, and one of the program. Times are not looked at.
 
 # The file of a program.
@@ -55,6 +55,14 @@ go_on() {
         *) (cd "$root/crates/$name" && rt run) ;;
         esac || return 1
     done
+}
+
+# Whether the command rt is there. Where it isn't, says so, and what therefore was not done.
+has_rt() {
+    command -v rt >/dev/null || {
+        echo "wst: $1: the command rt of the Rattle kit is not found" >&2
+        return 1
+    }
 }
 
 # Removes what was built of a program, and its stamp.

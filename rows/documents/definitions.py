@@ -48,8 +48,19 @@ def taken_names(text, ours):
     return {name for name in taken if WORD.fullmatch(name)}
 
 
+def bound_names(lines):
+    """The names that one definition binds, as its parameters: they are no uses of a definition of that name."""
+    found = re.findall(r"[({] *((?:\w+ +)+): |λ ((?:\w+ *)+)\.", code_of(lines))
+    return {name for names in found for name in " ".join(names).split()}
+
+
+def code_of(lines):
+    """The lines without their comments and texts."""
+    code = " ".join(line for line in lines if not line.lstrip().startswith("--"))
+    return re.sub(r'"[^"]*"', " ", code)
+
+
 def words_of(lines, text):
     """The names that some lines of a file use: those of ours, which it defines or takes, and those of the kit."""
-    code = " ".join(line for line in lines if not line.startswith("--"))
-    used = set(WORD.findall(re.sub(r'"[^"]*"', " ", code)))
+    used = set(WORD.findall(code_of(lines)))
     return used & (names_by(DEFINED, text) | taken_names(text, True)), used & taken_names(text, False)

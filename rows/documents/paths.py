@@ -20,11 +20,15 @@ HEADING = re.compile(r"^## (\d+)\. ")
 
 @dataclass
 class Quoted:
-    """A definition that is quoted: the number of its unit, how many lines it has, and the words that it uses."""
+    """A definition that is quoted: the number of its unit, the text of its file, and its lines."""
 
     unit: int
-    lines: int = 0
-    uses: set = field(default_factory=set)
+    text: str
+    lines: list = field(default_factory=list)
+
+    def uses(self):
+        """The definitions that it uses; a name that it binds is none of them."""
+        return definitions.words_of(self.lines, self.text)[0] - definitions.bound_names(self.lines)
 
 
 def quoted_in(review, read):
@@ -40,9 +44,8 @@ def quoted_in(review, read):
                 if match and match[1] not in definitions.NO_NAMES:
                     name = match[1]
                 if name:
-                    it = found.setdefault(name, Quoted(int(unit.heading.split(".")[0])))
-                    it.lines += 1
-                    it.uses |= definitions.words_of([line], text)[0]
+                    it = found.setdefault(name, Quoted(int(unit.heading.split(".")[0]), text))
+                    it.lines.append(line)
     return found
 
 
@@ -53,7 +56,7 @@ def stands_on(quoted, words):
         name = left.pop()
         if name in quoted and name not in found:
             found.add(name)
-            left += quoted[name].uses
+            left += quoted[name].uses()
     return found
 
 
@@ -92,7 +95,7 @@ def rows_of(quoted, paths):
     rows, above = {}, set()
     for path, names in paths.items():
         units = {quoted[name].unit for name in names}
-        lines = sum(quoted[name].lines for name in names)
+        lines = sum(len(quoted[name].lines) for name in names)
         minutes = -(-lines // (5 * LINES_A_MINUTE)) * 5
         rows[path] = [f" {count} " for count in (len(units), len(names), len(names - above), lines, minutes)] + [""]
         above |= names

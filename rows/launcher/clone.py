@@ -1,4 +1,4 @@
-"""A copy of the launcher and of the test command, with small sources and stand-ins for what they call."""
+"""A copy of the launchers and of the test command, with small sources and stand-ins for what they call."""
 
 import os
 import shutil
@@ -13,8 +13,12 @@ ROWS_PROGRAM = "crates/test_rows/out/test_rows"
 REFUSALS_SOURCE = "crates/test_refusals/src/main.rt"
 REFUSALS_PROGRAM = "crates/test_refusals/out/test_refusals"
 
+# What the launchers call beside rt.
+TOOLS = ("cat", "cut", "dirname", "find", "flock", "mkdir", "mktemp", "mv", "readlink", "rm", "sed", "sh", "sha256sum")
+TOOLS += ("sort", "tail", "touch")
+
 # The stand-in for rt notes each call, takes a while, fails or builds nothing where a source says so, and changes a
-# source where it says so. `ci` notes the programs that it finds.
+# source where it says so. `ci` notes the programs that it finds. `try` runs a source, and says what rt says of a run.
 STAND_IN = r"""#!/bin/sh
 [ "$*" = version ] && echo "stand-in" && exit
 echo "$PWD: $*" >>"$BUILDS"
@@ -34,8 +38,28 @@ build() {
     mv "out/$1.new" "out/$1"
 }
 
+# Runs the source with the words behind the first `--`.
+try() {
+    while [ "$1" != -- ]; do shift; done
+    shift
+    read -r word <src/main.rt
+    status=3 end=ended
+    case $word in
+    broken) echo "error: broken" >&2; echo "run=none runners=0 races=unchecked proved=no" >&2; exit 1 ;;
+    faulty) echo "line 1: not a capture" >&2; status=1 ;;
+    panics) end=fault status=4 ;;
+    *) echo "$word $*"; cat ;;
+    esac
+    echo "interpreter: no-answer: the run did not finish within 1 step: the program may loop forever" >&2
+    echo "checked: $end status=$status" >&2
+    echo "races: not looked for, since a kit has no ThreadSanitizer" >&2
+    echo "run=$end status=$status runners=1 races=unchecked proved=no" >&2
+    exit "$status"
+}
+
 case $1 in
 run) build "${PWD##*/}" ;;
+try) try "$@" ;;
 ci)
     for name in wst test_rows test_refusals; do
         cd "$(dirname "$0")/../a clone/crates/$name" || exit 1
@@ -100,7 +124,7 @@ for name in wst.1 wst _wst wst.fish; do echo "$1" >"$2/$name"; done
 
 
 class Clone:
-    """A copy of the launcher with a small source, in a folder of its own."""
+    """A copy of the launchers with a small source, in a folder of its own."""
 
     def __init__(self, folder):
         self.folder = Path(folder)
@@ -108,6 +132,7 @@ class Clone:
         self.top = self.folder / "a clone"
         self.top.mkdir()
         shutil.copy(ROOT / "wst", self.top)
+        shutil.copy(ROOT / "try", self.top)
         shutil.copytree(ROOT / "tools", self.top / "tools")
         self.write("crates.txt", "wst:\ntest_rows:\ntest_refusals:\n")
         self.write("HANDLES", "Handles allowed: none.\n")
@@ -151,6 +176,14 @@ class Clone:
         given = {"cwd": self.top, "env": env, "input": text, "capture_output": True, "text": True, "timeout": 60}
         ran = subprocess.run([*how, *words], **given)
         return ran.returncode, ran.stdout, ran.stderr
+
+    def tools_alone(self):
+        """A folder with what the launchers call, but rt."""
+        tools = self.folder / "tools"
+        tools.mkdir()
+        for name in TOOLS:
+            (tools / name).symlink_to(shutil.which(name))
+        return tools
 
     def shell(self, script):
         """Runs a script with the functions of tools/built.sh, and gives its output."""

@@ -1,16 +1,11 @@
 """Tests of the launcher `wst`."""
 
 import os
-import shutil
 import threading
 
 from clone import PROGRAM, SOURCE
 
 BUILDING = "wst: proving and building first"
-
-# What the launcher calls beside rt.
-TOOLS = ("cat", "cut", "dirname", "find", "flock", "mkdir", "mv", "readlink", "sha256sum", "sort", "touch")
-
 
 
 def builds_once(clone):
@@ -116,11 +111,7 @@ def a_source_that_changes_is_built_again(clone):
 
 
 def no_rt(clone):
-    tools = clone.folder / "tools"
-    tools.mkdir()
-    for name in TOOLS:
-        (tools / name).symlink_to(shutil.which(name))
-    status, out, faults = clone.run(path=str(tools), how=(shutil.which("sh"), "wst"))
+    status, out, faults = clone.run(path=str(clone.tools_alone()))
     assert (status, out) == (4, "") and "rt of the Rattle kit is not found" in faults, (status, faults)
 
 
