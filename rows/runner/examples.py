@@ -6,7 +6,7 @@ BESIDE = (".out", ".args", ".faults", ".status")
 
 # Folders that no command is run on: the example of two commands, which `rows/loopback/run` runs, the scripts, which
 # `rows/cases/scripts.rows` reads, and the broken server, which README.md runs.
-OTHERS = ("broken", "loopback", "scripts")
+OTHERS = ("broken", "loopback", "scripts", "tls")
 
 
 def examples_below(folder):
