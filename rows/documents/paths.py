@@ -8,7 +8,10 @@ import definitions
 # Each path by its name, with the words at which it ends, in the order of the page.
 PATHS = {
     "session": ("Takes",),
-    "headline": ("HasDelivered", "IsWholeWhereClean", "HasNothingAfterClose", "AtEachEnd"),
+    "headline": (
+        "HasDelivered", "IsWholeWhereClean", "HasNothingAfterClose", "AtEachEnd",
+        "both_limits", "HasPut", "HasReached", "HasStatus",
+    ),
     "judge": ("IsVerdictOf",),
 }
 
