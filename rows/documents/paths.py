@@ -9,8 +9,14 @@ import definitions
 PATHS = {
     "session": ("Takes",),
     "headline": (
-        "HasDelivered", "IsWholeWhereClean", "HasNothingAfterClose", "AtEachEnd",
-        "both_limits", "HasPut", "HasReached", "HasStatus",
+        "HasDelivered",
+        "IsWholeWhereClean",
+        "HasNothingAfterClose",
+        "AtEachEnd",
+        "both_limits",
+        "HasPut",
+        "HasReached",
+        "HasStatus",
     ),
     "judge": ("IsVerdictOf",),
 }
