@@ -1,7 +1,7 @@
 //! A plain echo of WebSocket messages over the sockets of Rust's standard library, for `bench/serve` to measure beside
 //! `wst serve`. It takes connections one after the other, reads 4096 bytes at a time as that does, and answers the
-//! frames of a read in one write. It checks nothing of what comes: its answer to any request is the one to the key of RFC
-//! 6455 section 1.3, and each data frame is a message.
+//! frames of a read in one write. It checks nothing of what comes: its answer to any request is the one to the key of
+//! RFC 6455 section 1.3, and each data frame is a message.
 //!
 //!     plain_server ADDRESS COUNT
 
