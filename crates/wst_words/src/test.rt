@@ -12,7 +12,7 @@ use crate::arguments::ArgumentKind::{Flag, Words};
 use crate::commands::HelpText;
 use crate::options::{flag_of, words_of};
 use crate::run_options::{
-    BUDGET, CONNECT, HEADER, KEY, PROTOCOLS, RunOptions, TARGET, TIMEOUT, run_options,
+    BUDGET, CONNECT, HEADER, KEY, PROTOCOLS, ROLE, RunOptions, TARGET, TIMEOUT, run_options,
 };
 use clap::ArgMatches;
 use std::alloc::{AllocError, Global};
@@ -33,7 +33,8 @@ pub struct TestOptions<'a> {
 }
 
 /// Its arguments.
-static ARGUMENTS: [Argument; 11] = [
+static ARGUMENTS: [Argument; 12] = [
+    ROLE,
     KEY,
     TIMEOUT,
     BUDGET,
