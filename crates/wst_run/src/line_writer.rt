@@ -87,8 +87,8 @@ impl<'a, W> LineWriter<'a, W> {
         ensures tested { result.tested ≡ tested }
         ensures writer { result.writer.now ≡ writer.old }
         ensures borrow { result.writer.ghost_name ≡ writer.entry.ghost_name }
-        ensures lines { HasToldTurns tested result.lines [] [] }
-        ensures places { AreCounted tested result.places [] }
+        ensures lines { HasToldTurns result.tested result.lines [] [] }
+        ensures places { AreCounted result.tested result.places [] }
     {
         LineWriter {
             tested,
@@ -110,10 +110,10 @@ impl<W: Write> Observer for LineWriter<'_, W> {
 
     type Fault = LineStop;
 
-    ghost heard = { λ start now turns. HasWrittenTurns now.tested now.lines now.places turns
+    ghost heard = { λ start now turns. HasWrittenTurns start.tested now.lines now.places turns
         (watched W.contents start.writer.now now.writer.now) };
 
-    ghost heard_all = { λ start now transcript. HasWrittenRun now.tested transcript
+    ghost heard_all = { λ start now transcript. HasWrittenRun start.tested transcript
         (watched W.contents start.writer.now now.writer.now) };
 
     ghost borrow = { λ lines. Some lines.writer.ghost_name };

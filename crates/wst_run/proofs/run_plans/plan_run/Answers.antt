@@ -21,6 +21,6 @@ returns c =
       key = subst (λ (word : List ℕ). IsKeyWord c.in-Some-read_key.key word) c.as_bytes.ensures.value c.in-Some-read_key.ensures;
       named = (c.in_ok-named.named, c.in_ok-named.ensures);
       can_connect = can;
-      server = c.in_ok-server.ensures options.target.now c.in_ok-named.ensures;
+      tested = c.in_ok-tested.ensures options.role options.target.now c.in_ok-named.ensures;
       budget = refl;
     }
