@@ -22,7 +22,7 @@ use Rattle.wst_commands.specs.declared.reading_whole.ReadStop.TheVariants as rea
 use Rattle.wst_run.specs.LineWriting.{HasWrittenRun}
 use Rattle.wst_run.specs.Meetings.{miss_line}
 use Rattle.wst_run.specs.Outcomes.{outcome_words}
-use Rattle.wst_run.specs.Testing.{capture_of}
+use Rattle.wst_run.specs.Testing.{run_capture}
 use Rattle.ws_connection.specs.declared.probe_end.HeadRefusal.{HeadRefusal}
 use Rattle.wst_run.specs.RunPlans.{IsRunPlan, CanNotRun, TellsRefusal, tested_role}
 use Rattle.wst_run.specs.Servers.{MeetsAtTarget, MeetsInMemory}
@@ -50,7 +50,7 @@ abbrev pub WritesRun : SendPlan → Transcript → Device → Type 0
 WritesRun plan transcript output =
     ((plan.capture ≡ false) × HasWrittenRun (tested_role plan.run.tested) transcript output)
     ⊎ ((plan.capture ≡ true)
-    × HasWritten (written_capture2 (capture_of (tested_role plan.run.tested) plan.run.key transcript)) output
+    × HasWritten (written_capture2 (run_capture (tested_role plan.run.tested) plan.run.key transcript)) output
     × (output.failed ≡ false))
 
 -- why a script was not run to its end, over one of the ends that meet cases so: where there is no connection, or its

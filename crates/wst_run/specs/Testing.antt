@@ -140,8 +140,8 @@ RunsCases Meets rules cases ended output faults = (notes : List (List ℕ))
 
 -- the capture of a run that tests this end: the key is that under which the tester's frames were masked, if it is the
 -- client
-abbrev pub capture_of : Role → List ℕ → Transcript → Capture
-capture_of tested key transcript = record { key = key_for (other_role tested) key; transcript = transcript }
+abbrev pub run_capture : Role → List ℕ → Transcript → Capture
+run_capture tested key transcript = record { key = key_for (other_role tested) key; transcript = transcript }
 
 -- a capture was written, and the exit is that of the verdict on the tested end by its transcript
 abbrev pub WritesCapture : Role → Capture → Exit → Device → Type 0
@@ -151,7 +151,7 @@ WritesCapture tested capture exit output = (verdict : Verdict) × IsVerdictOf te
 -- the capture was written; or in its place the line of a case that has none
 abbrev pub TellsMeeting : RunRules → Case → Meeting → Exit → Device → Type 0
 TellsMeeting rules case (meeting.Ran transcript) exit output =
-    WritesCapture rules.tested (capture_of rules.tested rules.key transcript) exit output
+    WritesCapture rules.tested (run_capture rules.tested rules.key transcript) exit output
 TellsMeeting rules case (meeting.Refused refusal) exit output =
     Delivers Damaged (test_line (case, outcome.HeadRefused (told_refusal false refusal))) exit output
 TellsMeeting rules case (meeting.NoConnection why) exit output =

@@ -150,11 +150,7 @@ fn headers_given<'a>(
 }
 
 /// The end of this role that a word names.
-fn end_named<'a>(
-    alloc: Global,
-    role: Role,
-    word: &'a str,
-) -> Result<TestedEnd<'a>, Refusal<'a>>
+fn end_named<'a>(alloc: Global, role: Role, word: &'a str) -> Result<TestedEnd<'a>, Refusal<'a>>
     ensures { MatchResult result (IsEndOf role word.now None) (RefusesTarget role word.now) }
 {
     match word {

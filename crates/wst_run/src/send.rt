@@ -14,7 +14,7 @@ use crate::line_writer::{LineStop, LineWriter};
 use crate::meeting::{ConnectFault, Meeting};
 use crate::outcome::Outcome;
 use crate::run_plans::{Refusal, RunPlan, TestedEnd, plan_run};
-use crate::testing::capture_of;
+use crate::testing::run_capture;
 use std::alloc::Global;
 use std::io::{Read, Write};
 use std::net::Net;
@@ -181,7 +181,7 @@ fn send_captured<S: CaseServer, W: Write>(
 {
     match server.run(alloc, case, plan.run.key)? {
         Meeting::Ran(transcript) => {
-            let capture = capture_of(plan.run.tested.role(), plan.run.key, transcript);
+            let capture = run_capture(plan.run.tested.role(), plan.run.key, transcript);
             let text = write_capture2(alloc, &capture)?;
             write_whole(writer, text.as_slice())?;
             Ok(())

@@ -8,7 +8,7 @@ ghost use Rattle.ws_scripts.specs.Scripts.{CanBeRun};
 ghost use Rattle.wst_commands.specs.Devices.{Delivers, StaysFailed};
 ghost use Rattle.wst_run.specs.Notes.{TellsEach, miss_notes, progress_notes};
 ghost use Rattle.wst_run.specs.Outcomes.{exit_of_tests, is_missed, max_missed, told_refusal, total_line};
-ghost use Rattle.wst_run.specs.Testing.{IsTested, RunsCapture, RunsCases, WritesCapture, capture_of, test_line};
+ghost use Rattle.wst_run.specs.Testing.{IsTested, RunsCapture, RunsCases, WritesCapture, run_capture, test_line};
 ghost use Rattle.wst_commands.specs.declared.fault.Fault.TheVariants as variant;
 
 use crate::case_server::CaseServer;
@@ -211,7 +211,7 @@ pub fn capture_case<S: CaseServer, W: Write, F: Write>(
     tell_progress(alloc, rules.progress, case, faults)?;
     match server.run(alloc, case, rules.key)? {
         Meeting::Ran(transcript) => {
-            let capture = capture_of(rules.tested, rules.key, transcript);
+            let capture = run_capture(rules.tested, rules.key, transcript);
             tell_capture(alloc, rules.tested, &capture, writer)
         }
         Meeting::Refused(refusal) => {
@@ -231,8 +231,8 @@ pub fn capture_case<S: CaseServer, W: Write, F: Write>(
 }
 
 /// The capture of a run that tests an end of this role.
-pub(crate) fn capture_of(tested: Role, key: [u8; 4], transcript: Transcript) -> Capture
-    ensures { result ≡ capture_of tested key transcript }
+pub(crate) fn run_capture(tested: Role, key: [u8; 4], transcript: Transcript) -> Capture
+    ensures { result ≡ run_capture tested key transcript }
 {
     Capture {
         key: tester_key(tested, key),
