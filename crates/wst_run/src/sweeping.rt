@@ -125,12 +125,8 @@ fn run_script<S: CaseServer, W: Write, F: Write>(
         (watched W.contents writer.old writer.new) }
 {
     tell_script(alloc, rules, script, faults)?;
-    let case = short_case(
-        alloc,
-        rules.tested,
-        tester_key(rules.tested, rules.key),
-        script,
-    )?;
+    let key = tester_key(rules.tested, rules.key);
+    let case = short_case(alloc, rules.tested, key, script)?;
     let outcome = outcome_of(alloc, server, &case, case_rules(rules))?;
     let told = connected(outcome)?;
     tell_outcome(alloc, rules, script, &told, writer)?;
