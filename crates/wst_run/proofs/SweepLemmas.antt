@@ -163,6 +163,13 @@ pub tested_so : (Meets : List ℕ → Case → Meeting → Type 0) (rules : Swee
 tested_so Meets rules asked case outcome same tested =
     subst (λ (r : RunRules). IsTested (Meets r.key) r case outcome) same tested
 
+-- the key under which its case is made is that of the rules, where the tester masks
+pub short_so : (rules : SweepRules) (places : List ℕ) (case : Case) (key : Option (List ℕ))
+    → key ≡ key_for (other_role rules.tested) rules.key → IsShortCase rules.tested key places case
+    → IsShortCase rules.tested (key_for (other_role rules.tested) rules.key) places case
+short_so rules places case key is short =
+    subst (λ (k : Option (List ℕ)). IsShortCase rules.tested k places case) is short
+
 -- there is no connection to it
 pub script_misses : (Meets : Case → Meeting → Type 0) (rules : SweepRules) (places : List ℕ) (case : Case)
     (outcome : Outcome) (why : SweepStop) (ended : Result Outcome SweepStop) (held : Option (List ℕ)) (f : Bool)

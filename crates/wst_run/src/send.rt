@@ -14,14 +14,14 @@ use crate::line_writer::{LineStop, LineWriter};
 use crate::meeting::{ConnectFault, Meeting};
 use crate::outcome::Outcome;
 use crate::run_plans::{Refusal, RunPlan, TestedEnd, plan_run};
-use crate::testing::run_capture;
+use crate::testing::capture_text;
 use std::alloc::Global;
 use std::io::{Read, Write};
 use std::net::Net;
 use ws_base::{NoMemory, TextFault};
 use ws_connection::HeadRefusal;
 use ws_frame::{Watched, WriteFault, write_whole};
-use ws_suite::{Case, read_script, write_capture2};
+use ws_suite::{Case, read_script};
 use wst_commands::{Exit, Fault, ListenFault, ReadStop, read_whole, tell, tell_fault};
 use wst_words::SendOptions;
 
@@ -181,8 +181,8 @@ fn send_captured<S: CaseServer, W: Write>(
 {
     match server.run(alloc, case, plan.run.key)? {
         Meeting::Ran(transcript) => {
-            let capture = run_capture(plan.run.tested.role(), plan.run.key, transcript);
-            let text = write_capture2(alloc, &capture)?;
+            let tested = plan.run.tested.role();
+            let text = capture_text(alloc, tested, plan.run.key, transcript)?;
             write_whole(writer, text.as_slice())?;
             Ok(())
         }

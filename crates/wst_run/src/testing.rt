@@ -4,6 +4,7 @@ ghost use Rattle.std.specs.Prelude.{◌≡◌, ◌+◌, ◌<◌, ◌^◌, List, 
 ghost use Rattle.std.specs.List.{All};
 ghost use Rattle.ws_frame.specs.Devices.{watched};
 ghost use Rattle.ws_frame.specs.Watching.{has_failed};
+ghost use Rattle.ws_scripts.specs.Captures2.{written_capture2};
 ghost use Rattle.ws_scripts.specs.Scripts.{CanBeRun};
 ghost use Rattle.wst_commands.specs.Devices.{Delivers, StaysFailed};
 ghost use Rattle.wst_run.specs.Notes.{TellsEach, miss_notes, progress_notes};
@@ -210,10 +211,7 @@ pub fn capture_case<S: CaseServer, W: Write, F: Write>(
 {
     tell_progress(alloc, rules.progress, case, faults)?;
     match server.run(alloc, case, rules.key)? {
-        Meeting::Ran(transcript) => {
-            let capture = run_capture(rules.tested, rules.key, transcript);
-            tell_capture(alloc, rules.tested, &capture, writer)
-        }
+        Meeting::Ran(transcript) => tell_capture(alloc, rules, transcript, writer),
         Meeting::Refused(refusal) => {
             let outcome = Outcome::HeadRefused(HeadRefusal {
                 fault: refusal.fault,
@@ -230,29 +228,37 @@ pub fn capture_case<S: CaseServer, W: Write, F: Write>(
     }
 }
 
-/// The capture of a run that tests an end of this role.
-pub(crate) fn run_capture(tested: Role, key: [u8; 4], transcript: Transcript) -> Capture
-    ensures { result ≡ run_capture tested key transcript }
-{
-    Capture {
-        key: tester_key(tested, key),
-        transcript,
-    }
-}
-
-/// Writes a capture. The exit is that of the verdict on the tested end by its transcript.
+/// Writes the capture of a run. The exit is that of the verdict on the tested end by its transcript.
 fn tell_capture<W: Write>(
     alloc: Global,
-    tested: Role,
-    capture: &Capture,
+    rules: RunRules,
+    transcript: Transcript,
     writer: &mut Watched<W>,
 ) -> Result<Exit, Fault>
     requires { has_failed writer.old ≡ false }
     ensures { MatchResult result
-        (λ exit. WritesCapture tested capture.now exit (watched W.contents writer.old writer.new))
+        (λ exit. WritesCapture rules.tested (run_capture rules.tested rules.key transcript) exit
+        (watched W.contents writer.old writer.new))
         (λ fault. (fault ≡ variant.NoMemory) × (writer.new ≡ writer.old)) }
 {
-    let text = write_capture2(alloc, capture)?;
-    let verdict = judge_end(alloc, tested, &capture.transcript)?;
+    let verdict = judge_end(alloc, rules.tested, &transcript)?;
+    let text = capture_text(alloc, rules.tested, rules.key, transcript)?;
     Ok(deliver(exit_of(verdict), text.as_slice(), writer))
+}
+
+/// The capture of a run that tests an end of this role, in format 2.
+pub(crate) fn capture_text(
+    alloc: Global,
+    tested: Role,
+    key: [u8; 4],
+    transcript: Transcript,
+) -> Result<Vec<u8>, NoMemory>
+    ensures { IfOk result (λ text. text.items ≡ written_capture2 (run_capture tested key transcript)) }
+{
+    let capture = Capture {
+        key: tester_key(tested, key),
+        transcript,
+    };
+    let text = write_capture2(alloc, &capture)?;
+    Ok(text)
 }

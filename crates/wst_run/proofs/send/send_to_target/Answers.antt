@@ -1,5 +1,6 @@
 -- The script is run over the end that the plan names.
 use Rattle.std.proofs.Common.{subst, sym}
+use Rattle.std.proofs.KnownBytes.{Keeps-refl}
 use Rattle.ws_frame.specs.Devices.{watched}
 use Rattle.wst_run.specs.Send.{RunsSendPlan, SendsOver}
 use Rattle.wst_run.specs.Servers.{AddressValue, MeetsAtAddress}
@@ -24,3 +25,15 @@ returns-in-Server g c =
     let met = subst (λ (v : AddressValue). RunsSendPlan (λ case meeting. MeetsAtAddress v plan.run.key case meeting) plan
     c.send_to-in-Server.result input output faults) c.new-server.ensures c.send_to-in-Server.ensures in
     subst (λ (e : TestedEnd). SendsOver e plan c.send_to-in-Server.result input output faults) (sym c.in-Server.is) met
+
+pub returns-in-Clients : goal.returns-in-Clients
+returns-in-Clients g c =
+    let plan = c.args.plan.now in
+    let input = watched g.R.Read.remaining c.args.reader.now c.args.reader.now in
+    let output = watched g.W.Write.contents c.args.writer.now c.args.writer.now in
+    let faults = watched g.F.Write.contents c.args.faults.now c.tell_fault.new.faults in
+    subst (λ (e : TestedEnd). SendsOver e plan c.tell_fault.result input output faults) (sym c.in-Clients.is) (
+      Keeps-refl input.old,
+      Keeps-refl output.old,
+      c.tell_fault.ensures.told,
+    )

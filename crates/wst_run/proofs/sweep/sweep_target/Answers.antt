@@ -1,5 +1,6 @@
 -- The scripts of a plan run over the end that it names.
 use Rattle.std.proofs.Common.{subst, sym}
+use Rattle.std.proofs.KnownBytes.{Keeps-refl}
 use Rattle.ws_frame.specs.Devices.{watched}
 use Rattle.wst_run.specs.Sweep.{RunsSweepPlan, SweepsOver}
 use Rattle.wst_run.specs.Servers.{AddressValue, MeetsAtAddress}
@@ -22,3 +23,13 @@ returns-in-Server g c =
     let met = subst (λ (v : AddressValue). RunsSweepPlan (λ case meeting. MeetsAtAddress v plan.run.key case meeting) plan
     c.sweep_over-in-Server.result output faults) c.new-server.ensures c.sweep_over-in-Server.ensures in
     subst (λ (e : TestedEnd). SweepsOver e plan c.sweep_over-in-Server.result output faults) (sym c.in-Server.is) met
+
+pub returns-in-Clients : goal.returns-in-Clients
+returns-in-Clients g c =
+    let plan = c.args.plan.now in
+    let output = watched g.W.Write.contents c.args.writer.now c.args.writer.now in
+    let faults = watched g.F.Write.contents c.args.faults.now c.tell_fault.new.faults in
+    subst (λ (e : TestedEnd). SweepsOver e plan c.tell_fault.result output faults) (sym c.in-Clients.is) (
+      Keeps-refl output.old,
+      c.tell_fault.ensures.told,
+    )
