@@ -232,7 +232,7 @@ fn connected<'a>(
     end: TestedEnd<'a>,
     connect: Option<&str>,
 ) -> Result<TestedEnd<'a>, NoMemory>
-    ensures { IfOk result (λ at. (role : Role) (word : List ℕ) → IsEndOf role word None end →
+    ensures { IfOk result (λ at. (role : Role) (word : List ℕ) → IsEndOf role word None end.entry →
         IsEndOf role word connect.entry at) }
 {
     match (end, connect) {

@@ -137,9 +137,10 @@ fn run_script<S: CaseServer, W: Write, F: Write>(
 fn case_rules(rules: SweepRules) -> RunRules
     ensures { result ≡ case_rules rules }
 {
+    let key = rules.key;
     RunRules {
         tested: rules.tested,
-        key: rules.key,
+        key,
         explains: false,
         progress: false,
         is_limited: false,

@@ -28,10 +28,10 @@ returns-in-Ok-Ran g c =
     let whole = rw c.in-Ok-Ran.field-0-is at c.in-Ok-Ran.ensures.told in
     let told = whole lines fresh in
     let shown = shown_by lines.tested g.W.Write.contents c.in-Ok-Ran.field-0-0 lines.writer.now c.args.writer.now
-    c.run_told.new.observer.writer.now _ c.new-lines.ensures.writer (search rules) told in
+    c.run_told.new.observer.writer.now c.writer-1.given.0 c.new-lines.ensures.writer (search rules) told in
     let as_asked = subst (λ (role : Role). HasWrittenRun role c.in-Ok-Ran.field-0-0
-    (watched g.W.Write.contents c.args.writer.now c.run_told.new.observer.writer.now))
-    (c.new-lines.ensures.tested ∙ c.role.ensures) shown in (
+    (watched g.W.Write.contents c.args.writer.now c.writer-1.given.0)) (c.new-lines.ensures.tested ∙ c.role.ensures)
+    shown in (
       c.in-Ok-Ran.field-0-0,
       rw c.in-Ok-Ran.field-0-is at c.in-Ok-Ran.ensures.meets,
       inl (c.requires.shows, as_asked),
