@@ -17,6 +17,7 @@ mod row_fault;
 mod scripts;
 mod sessions;
 mod streams;
+mod sweeps;
 mod takes;
 mod texts;
 mod upgrades;
@@ -92,6 +93,8 @@ fn answer_of_scripts(
         "script_back" => scripts::write_again(alloc, words, out),
         "script_of" => scripts::write_case(alloc, words, out),
         "scripts_kept" => scripts::count_kept(alloc, words, out),
+        "alphabet" => sweeps::count_read(alloc, words, out),
+        "short_script" => sweeps::tell_script(alloc, words, out),
         "paths" => paths::tell_purposes(alloc, words, out),
         "case_count" => paths::tell_count(alloc, words, out),
         "case_info" => paths::tell_info(alloc, words, out),

@@ -110,7 +110,7 @@ fn put_script(case: &Case, out: &mut String) -> Result<(), RowFault> {
 }
 
 /// A step, in which long runs of equal bytes are told by their number.
-fn put_short_step(step: &Step, out: &mut String) -> Result<(), RowFault> {
+pub fn put_short_step(step: &Step, out: &mut String) -> Result<(), RowFault> {
     match step {
         Step::Raw(bytes) => {
             out.push_str("raw ")?;

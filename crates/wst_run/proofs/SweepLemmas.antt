@@ -11,7 +11,8 @@ use Rattle.std.specs.Io.KnownBytes.{Appends, Keeps}
 use Rattle.ws_frame.specs.Devices.{Device}
 use Rattle.ws_frame.specs.Watching.{AppendsFront}
 use Rattle.ws_scripts.specs.declared.script.Case.{Case}
-use Rattle.ws_wire.specs.declared.role.Role.TheVariants.{Server}
+use Rattle.ws_session.specs.Replies.{key_for}
+use Rattle.ws_suite.specs.Evidence.{other_role}
 use Rattle.ws_sweep.specs.Order.{ArePlaces, count_of_scripts, script_number}
 use Rattle.ws_sweep.specs.ShortCases.{IsShortCase}
 use Rattle.wst_commands.specs.declared.exit.Exit.{Exit}
@@ -20,13 +21,14 @@ use Rattle.wst_run.specs.Testing.{IsTested}
 use Rattle.wst_run.specs.Sweeps.{IsConnected}
 use Rattle.wst_run.specs.Sweeps.{AreSwept, CountsScripts, HasSwept, IsSwept, StopsAtScript, StopsSweep, SweepsAll}
 use Rattle.wst_run.specs.Sweeps.{SweepsScript, SweepsScripts, SweptScript, WritesText, missed_by, outcomes_of}
-use Rattle.wst_run.specs.Sweeps.{script_line}
+use Rattle.wst_run.specs.Sweeps.{case_rules, script_line}
 use Rattle.wst_run.specs.Sweeps.{sweep_lines, sweep_total, total_of_scripts}
 use Rattle.wst_run.specs.declared.meeting.Meeting.{Meeting}
 use Rattle.wst_run.specs.declared.outcome.Outcome.{Outcome}
 use Rattle.wst_run.specs.declared.outcome.Tally.{Tally}
 use Rattle.wst_run.specs.declared.sweeping.SweepRules.{SweepRules}
 use Rattle.wst_run.specs.declared.sweeping.SweepStop.{SweepStop}
+use Rattle.wst_run.specs.declared.testing.RunRules.{RunRules}
 use Rattle.wst_run.specs.declared.sweeping.SweepStop.TheVariants as stop
 use Rattle.ws_sweep.proofs.Numbers.{count_within}
 use Rattle.wst_run.proofs.TestLemmas.{tally_more, then_begun}
@@ -40,25 +42,25 @@ still_written (Some xs) (Some ys) None bytes written kept = absurd kept
 still_written (Some xs) (Some ys) (Some zs) bytes written kept = kept ∙ written
 
 -- one more script in the order
-one_more : (Meets : Case → Meeting → Type 0) (key : List ℕ) (number : ℕ) (scripts : List SweptScript)
-    (next : SweptScript) → AreSwept Meets key number scripts → ArePlaces next.0
-    → script_number next.0 ≡ number + length scripts → missed_by next.1 ≡ None → IsSwept Meets key next
-    → AreSwept Meets key number (scripts ++ next ∷ [])
-one_more Meets key number [] next are places is there swept = (places, is ∙ omega arith, there, swept, tt)
-one_more Meets key number (script ∷ scripts) next are places is there swept = (
+one_more : (Meets : Case → Meeting → Type 0) (rules : SweepRules) (number : ℕ) (scripts : List SweptScript)
+    (next : SweptScript) → AreSwept Meets rules number scripts → ArePlaces next.0
+    → script_number next.0 ≡ number + length scripts → missed_by next.1 ≡ None → IsSwept Meets rules next
+    → AreSwept Meets rules number (scripts ++ next ∷ [])
+one_more Meets rules number [] next are places is there swept = (places, is ∙ omega arith, there, swept, tt)
+one_more Meets rules number (script ∷ scripts) next are places is there swept = (
   are.0,
   are.1,
   are.2,
   are.3,
-  one_more Meets key (number + 1) scripts next are.4 places (is ∙ omega arith) there swept,
+  one_more Meets rules (number + 1) scripts next are.4 places (is ∙ omega arith) there swept,
 )
 
 -- its line behind theirs
-lines_with : (all : Bool) (scripts : List SweptScript) (next : SweptScript)
-    → sweep_lines all scripts ++ script_line all next ≡ sweep_lines all (scripts ++ next ∷ [])
-lines_with all scripts next =
-    ap (λ (l : List ℕ). sweep_lines all scripts ++ l) (sym (append-nil (script_line all next)))
-    ∙ sym (flat_map-append (script_line all) scripts (next ∷ []))
+lines_with : (rules : SweepRules) (scripts : List SweptScript) (next : SweptScript)
+    → sweep_lines rules scripts ++ script_line rules next ≡ sweep_lines rules (scripts ++ next ∷ [])
+lines_with rules scripts next =
+    ap (λ (l : List ℕ). sweep_lines rules scripts ++ l) (sym (append-nil (script_line rules next)))
+    ∙ sym (flat_map-append (script_line rules) scripts (next ∷ []))
 
 -- and its outcome counted
 counted_with : (scripts : List SweptScript) (next : SweptScript)
@@ -81,20 +83,20 @@ pub swept_more : (Meets : Case → Meeting → Type 0) (rules : SweepRules) (cou
     (tally next_tally : Tally) (places : List ℕ) (outcome : Outcome) (old mid new : Option (List ℕ)) (f g : Bool)
     → HasSwept Meets rules count tally (record { failed = f; old = old; new = mid }) → ArePlaces places
     → script_number places ≡ count → next_count ≡ count + 1 → next_tally ≡ tally_with tally outcome
-    → missed_by outcome ≡ None → IsSwept Meets rules.key (places, outcome)
-    → Appends mid new (script_line rules.all (places, outcome))
+    → missed_by outcome ≡ None → IsSwept Meets rules (places, outcome)
+    → Appends mid new (script_line rules (places, outcome))
     → HasSwept Meets rules next_count next_tally (record { failed = g; old = old; new = new })
 swept_more Meets rules count next_count tally next_tally places outcome old mid new f g before are number counts tallies
     there swept written =
     let next : SweptScript = (places, outcome) in
     record {
       scripts = before.scripts ++ next ∷ [];
-      in_order = one_more Meets rules.key 0 before.scripts next before.in_order are
+      in_order = one_more Meets rules 0 before.scripts next before.in_order are
           (number ∙ (sym before.many ∙ omega arith)) there swept;
       many = length-append before.scripts (next ∷ []) ∙ (ap (λ (n : ℕ). n + 1) before.many ∙ sym counts);
       counted = tallies ∙ (ap (λ (t : Tally). tally_with t outcome) before.counted ∙ counted_with before.scripts next);
-      written = subst (λ (l : List ℕ). Appends old new l) (lines_with rules.all before.scripts next)
-          (Appends-trans old mid new (sweep_lines rules.all before.scripts) (script_line rules.all next) before.written
+      written = subst (λ (l : List ℕ). Appends old new l) (lines_with rules before.scripts next)
+          (Appends-trans old mid new (sweep_lines rules before.scripts) (script_line rules next) before.written
           written);
     }
 
@@ -110,10 +112,10 @@ stops_behind Meets rules count tally places stop.Device old mid new f g before a
       scripts = before.scripts;
       in_order = before.in_order;
       stops = (
-        script_line rules.all (places, outcome),
+        script_line rules (places, outcome),
         inl ((places, outcome), (are, number ∙ sym before.many, swept), refl),
         fails,
-        then_begun old mid new (sweep_lines rules.all before.scripts) (script_line rules.all (places, outcome))
+        then_begun old mid new (sweep_lines rules before.scripts) (script_line rules (places, outcome))
             before.written begun,
       );
     }
@@ -123,13 +125,13 @@ stops_behind Meets rules count tally places (stop.NoConnection why) old mid new 
       in_order = before.in_order;
       stops = (
         (places, (are, number ∙ sym before.many, swept)),
-        still_written old mid new (sweep_lines rules.all before.scripts) before.written kept,
+        still_written old mid new (sweep_lines rules before.scripts) before.written kept,
       );
     }
 stops_behind Meets rules count tally places stop.NoMemory old mid new f g before are number kept = record {
   scripts = before.scripts;
   in_order = before.in_order;
-  stops = still_written old mid new (sweep_lines rules.all before.scripts) before.written kept;
+  stops = still_written old mid new (sweep_lines rules before.scripts) before.written kept;
 }
 
 -- and so a count of them ends
@@ -154,18 +156,25 @@ script_lacks Meets rules places (Err stopped) held f is =
     subst (λ (w : SweepStop). StopsAtScript Meets rules places w (record { failed = f; old = held; new = held }))
     (sym is) (Keeps-refl held)
 
--- what is told of a server by the rules of a sweep
-pub tested_so : (Meets : List ℕ → Case → Meeting → Type 0) (key asked : List ℕ) (explains : Bool) (case : Case)
-    (outcome : Outcome) → asked ≡ key → explains ≡ false → IsTested (Meets asked) explains case outcome
-    → IsTested (Meets key) false case outcome
-tested_so Meets key asked explains case outcome same none tested =
-    subst (λ (k : List ℕ). IsTested (Meets k) false case outcome) same
-    (subst (λ (b : Bool). IsTested (Meets asked) b case outcome) none tested)
+-- what is told of an end by the rules of a sweep
+pub tested_so : (Meets : List ℕ → Case → Meeting → Type 0) (rules : SweepRules) (asked : RunRules) (case : Case)
+    (outcome : Outcome) → asked ≡ case_rules rules → IsTested (Meets asked.key) asked case outcome
+    → IsTested (Meets rules.key) (case_rules rules) case outcome
+tested_so Meets rules asked case outcome same tested =
+    subst (λ (r : RunRules). IsTested (Meets r.key) r case outcome) same tested
+
+-- the key under which its case is made is that of the rules, where the tester masks
+pub short_so : (rules : SweepRules) (places : List ℕ) (case : Case) (key : Option (List ℕ))
+    → key ≡ key_for (other_role rules.tested) rules.key → IsShortCase rules.tested key places case
+    → IsShortCase rules.tested (key_for (other_role rules.tested) rules.key) places case
+short_so rules places case key is short =
+    subst (λ (k : Option (List ℕ)). IsShortCase rules.tested k places case) is short
 
 -- there is no connection to it
 pub script_misses : (Meets : Case → Meeting → Type 0) (rules : SweepRules) (places : List ℕ) (case : Case)
     (outcome : Outcome) (why : SweepStop) (ended : Result Outcome SweepStop) (held : Option (List ℕ)) (f : Bool)
-    → IsShortCase Server (Some rules.key) places case → IsTested Meets false case outcome
+    → IsShortCase rules.tested (key_for (other_role rules.tested) rules.key) places case
+    → IsTested Meets (case_rules rules) case outcome
     → IsConnected outcome (Err why)
     → IsErrAnd ended (λ stopped. stopped ≡ why)
     → SweepsScript Meets rules places ended (record { failed = f; old = held; new = held })
@@ -175,15 +184,15 @@ script_misses Meets rules places case outcome stop.NoMemory (Err stopped) held f
 script_misses Meets rules places case outcome (stop.NoConnection why) (Err stopped) held f short tested misses is =
     subst (λ (w : SweepStop). StopsAtScript Meets rules places w (record { failed = f; old = held; new = held }))
     (sym is) (
-      (case, short, subst (λ (o : Outcome). IsTested Meets false case o) misses tested),
+      (case, short, subst (λ (o : Outcome). IsTested Meets (case_rules rules) case o) misses tested),
       Keeps-refl held,
     )
 
 -- its line could not be written, or memory ran out for it
 pub line_stops : (Meets : Case → Meeting → Type 0) (rules : SweepRules) (places : List ℕ) (outcome : Outcome)
     (why : SweepStop) (ended : Result Outcome SweepStop) (d : Device)
-    → IsSwept Meets rules.key (places, outcome)
-    → WritesText (script_line rules.all (places, outcome)) (Err why) d → IsErrAnd ended (λ stopped. stopped ≡ why)
+    → IsSwept Meets rules (places, outcome)
+    → WritesText (script_line rules (places, outcome)) (Err why) d → IsErrAnd ended (λ stopped. stopped ≡ why)
     → SweepsScript Meets rules places ended d
 line_stops Meets rules places outcome why (Ok told) d swept writes is = absurd is
 line_stops Meets rules places outcome stop.Device (Err stopped) d swept (begun, fails) is =
@@ -201,7 +210,7 @@ pub lacks_memory : (Meets : Case → Meeting → Type 0) (rules : SweepRules) (c
 lacks_memory Meets rules count tally old mid new f g before kept = record {
   scripts = before.scripts;
   in_order = before.in_order;
-  stops = still_written old mid new (sweep_lines rules.all before.scripts) before.written kept;
+  stops = still_written old mid new (sweep_lines rules before.scripts) before.written kept;
 }
 
 -- the total of all that were run
@@ -225,7 +234,7 @@ total_fails Meets rules tally text old mid new f g all is fails begun =
         text,
         inr (all.many, total),
         fails,
-        then_begun old mid new (sweep_lines rules.all all.scripts) text all.written begun,
+        then_begun old mid new (sweep_lines rules all.scripts) text all.written begun,
       );
     }
 
@@ -240,8 +249,8 @@ total_told Meets rules tally text exit old mid new f g all is works written is_e
       scripts = all.scripts;
       in_order = all.in_order;
       all = all.many;
-      written = subst (λ (l : List ℕ). Appends old new (sweep_lines rules.all all.scripts ++ l)) total
-          (Appends-trans old mid new (sweep_lines rules.all all.scripts) text all.written written);
+      written = subst (λ (l : List ℕ). Appends old new (sweep_lines rules all.scripts ++ l)) total
+          (Appends-trans old mid new (sweep_lines rules all.scripts) text all.written written);
       works = works;
       is_exit = is_exit ∙ ap (λ (t : Tally). exit_of_tests t) all.counted;
     }

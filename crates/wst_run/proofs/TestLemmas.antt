@@ -35,13 +35,13 @@ use Rattle.wst_run.specs.declared.testing.RunRules.{RunRules}
 use Rattle.wst_run.proofs.NoteLemmas.{may_run_more, missed_more, noted_more, noted_next}
 
 -- one more case, and what is told in it
-pub one_more_test : (Meets : Case → Meeting → Type 0) (explains : Bool) (cases more : List Case) (tests : List (Case × Outcome))
+pub one_more_test : (Meets : Case → Meeting → Type 0) (rules : RunRules) (cases more : List Case) (tests : List (Case × Outcome))
     (case : Case) (outcome : Outcome)
-    → AreTested Meets explains cases tests → IsTested Meets explains case outcome → more ≡ cases ++ case ∷ []
-    → AreTested Meets explains more (tests ++ (case, outcome) ∷ [])
-one_more_test Meets explains cases more tests case outcome before is grown = record {
+    → AreTested Meets rules cases tests → IsTested Meets rules case outcome → more ≡ cases ++ case ∷ []
+    → AreTested Meets rules more (tests ++ (case, outcome) ∷ [])
+one_more_test Meets rules cases more tests case outcome before is grown = record {
   of_cases = map-append (λ (t : Case × Outcome). t.0) tests ((case, outcome) ∷ []) ∙ ap (λ (l : List Case). l ++ case ∷ []) before.of_cases ∙ sym grown;
-  tested = all-append (λ (t : Case × Outcome). IsTested Meets explains t.0 t.1) tests ((case, outcome) ∷ []) before.tested (is, tt);
+  tested = all-append (λ (t : Case × Outcome). IsTested Meets rules t.0 t.1) tests ((case, outcome) ∷ []) before.tested (is, tt);
 }
 
 -- and its line
@@ -111,25 +111,25 @@ delivers_after old mid new failed first second by exit before (inr (is, fails, b
 -- ---- the cases so far
 
 -- these cases were tested and counted, and their lines are written
-pub record HasTold (Meets : Case → Meeting → Type 0) (explains : Bool) (cases : List Case) (tally : Tally) (old new : Option (List ℕ)) :
+pub record HasTold (Meets : Case → Meeting → Type 0) (rules : RunRules) (cases : List Case) (tally : Tally) (old new : Option (List ℕ)) :
     Type 0 where
   pub tests : List (Case × Outcome)
-  pub are_tested : AreTested Meets explains cases tests
+  pub are_tested : AreTested Meets rules cases tests
   pub counted : tally ≡ tally_of (outcomes_in tests)
   pub written : Appends old new (test_lines tests)
 
-pub told_nothing : (Meets : Case → Meeting → Type 0) (explains : Bool) (tally : Tally) (held : Option (List ℕ)) → tally ≡ no_tally →
-    HasTold Meets explains [] tally held held
-told_nothing Meets explains tally held none = record { tests = []; are_tested = record { of_cases = refl; tested = tt }; counted = none; written = Appends-nil held }
+pub told_nothing : (Meets : Case → Meeting → Type 0) (rules : RunRules) (tally : Tally) (held : Option (List ℕ)) → tally ≡ no_tally →
+    HasTold Meets rules [] tally held held
+told_nothing Meets rules tally held none = record { tests = []; are_tested = record { of_cases = refl; tested = tt }; counted = none; written = Appends-nil held }
 
 -- the next case
-pub told_more : (Meets : Case → Meeting → Type 0) (explains : Bool) (cases more : List Case) (case : Case) (outcome : Outcome)
+pub told_more : (Meets : Case → Meeting → Type 0) (rules : RunRules) (cases more : List Case) (case : Case) (outcome : Outcome)
     (tally next : Tally) (old mid new : Option (List ℕ))
-    → HasTold Meets explains cases tally old mid → IsTested Meets explains case outcome → more ≡ cases ++ case ∷ [] → next ≡ tally_with tally outcome
-    → Appends mid new (test_line (case, outcome)) → HasTold Meets explains more next old new
-told_more Meets explains cases more case outcome tally next old mid new before is grown counted written = record {
+    → HasTold Meets rules cases tally old mid → IsTested Meets rules case outcome → more ≡ cases ++ case ∷ [] → next ≡ tally_with tally outcome
+    → Appends mid new (test_line (case, outcome)) → HasTold Meets rules more next old new
+told_more Meets rules cases more case outcome tally next old mid new before is grown counted written = record {
   tests = before.tests ++ (case, outcome) ∷ [];
-  are_tested = one_more_test Meets explains cases more before.tests case outcome before.are_tested is grown;
+  are_tested = one_more_test Meets rules cases more before.tests case outcome before.are_tested is grown;
   counted = counted ∙ ap (λ (t : Tally). tally_with t outcome) before.counted ∙ tally_of_more before.tests case outcome;
   written = subst (λ (l : List ℕ). Appends old new l) (one_more_line before.tests (case, outcome)) (Appends-trans old mid new (test_lines before.tests) (test_line (case, outcome)) before.written written);
 }
@@ -140,7 +140,7 @@ told_more Meets explains cases more case outcome tally next old mid new before i
 -- last, and what was to be told beside their lines was told.
 pub record HasRun (Meets : Case → Meeting → Type 0) (rules : RunRules) (cases : List Case) (tally : Tally) (missed : ℕ)
     (old new : Option (List ℕ)) (faults : Device) : Type 0 where
-  pub told : HasTold Meets rules.explains cases tally old new
+  pub told : HasTold Meets rules cases tally old new
   pub may_run : MayRunEach (max_missed rules.is_limited) (outcomes_in told.tests)
   pub counted : missed ≡ missed_at_end (outcomes_in told.tests)
   pub noted : TellsEach (notes_of rules.progress told.tests) faults
@@ -149,7 +149,7 @@ pub run_nothing : (Meets : Case → Meeting → Type 0) (rules : RunRules) (tall
     (faults : Device) → tally ≡ no_tally → TellsEach [] faults → HasRun Meets rules [] tally 0 held held faults
 unfolding told_nothing
 run_nothing Meets rules tally held faults none untouched = record {
-  told = told_nothing Meets rules.explains tally held none;
+  told = told_nothing Meets rules tally held none;
   may_run = λ k below. absurd (omega (arith, below));
   counted = refl;
   noted = untouched;
@@ -186,14 +186,14 @@ pub run_more : (Meets : Case → Meeting → Type 0) (rules : RunRules) (cases m
     (outcome : Outcome) (tally next : Tally) (missed less : ℕ) (old mid new : Option (List ℕ)) (f g h : Bool)
     (a b c d : Option (List ℕ))
     → HasRun Meets rules cases tally missed old mid (record { failed = f; old = a; new = b })
-    → missed < max_missed rules.is_limited → RunsNext rules case outcome f g h b c d → IsTested Meets rules.explains case outcome
+    → missed < max_missed rules.is_limited → RunsNext rules case outcome f g h b c d → IsTested Meets rules case outcome
     → more ≡ cases ++ case ∷ [] → next ≡ tally_with tally outcome
     → less ≡ (if is_missed outcome then 1 + missed else 0) → Appends mid new (test_line (case, outcome))
     → HasRun Meets rules more next less old new (record { failed = h; old = a; new = d })
 unfolding told_more
 run_more Meets rules cases more case outcome tally next missed less old mid new f g h a b c d before few runs is grown
     counted so written = record {
-      told = told_more Meets rules.explains cases more case outcome tally next old mid new before.told is grown counted written;
+      told = told_more Meets rules cases more case outcome tally next old mid new before.told is grown counted written;
       may_run = may_run_then (max_missed rules.is_limited) before.told.tests case outcome missed before.may_run
           before.counted few;
       counted = missed_then before.told.tests case outcome missed less before.counted so;
@@ -209,7 +209,7 @@ pub run_stops : (Meets : Case → Meeting → Type 0) (rules : RunRules) (all : 
     (outcome : Outcome) (tally : Tally) (missed : ℕ) (old mid new : Option (List ℕ)) (exit : Exit) (failed f g h : Bool)
     (a b c d : Option (List ℕ))
     → HasRun Meets rules (take n all) tally missed old mid (record { failed = f; old = a; new = b })
-    → missed < max_missed rules.is_limited → RunsNext rules case outcome f g h b c d → IsTested Meets rules.explains case outcome
+    → missed < max_missed rules.is_limited → RunsNext rules case outcome f g h b c d → IsTested Meets rules case outcome
     → take (n + 1) all ≡ take n all ++ case ∷ [] → exit ≡ Failed → failed ≡ true
     → AppendsFront mid new (test_line (case, outcome))
     → RunsCases Meets rules all (Ok exit) (record { failed = failed; old = old; new = new })
@@ -222,7 +222,7 @@ run_stops Meets rules all n case outcome tally missed old mid new exit failed f 
     (record { failed = failed; old = old; new = new }) = record {
       n = n + 1;
       tests = tests;
-      are_tested = one_more_test Meets rules.explains (take n all) (take (n + 1) all) before.told.tests case outcome
+      are_tested = one_more_test Meets rules (take n all) (take (n + 1) all) before.told.tests case outcome
           before.told.are_tested is grown;
       may_run = may_run_then (max_missed rules.is_limited) before.told.tests case outcome missed before.may_run
           before.counted few;
@@ -317,16 +317,16 @@ run_all Meets rules all tally missed old mid new exit failed faults so few told 
 count_within : {X : Type 0} (p : X → Bool) (xs : List X) → length (filter p xs) ≤ length xs
 count_within p xs = omega (arith, length-filter_both p (λ x. not (p x)) (λ x. refl) xs)
 
-outcomes_of_cases : (Meets : Case → Meeting → Type 0) (explains : Bool) (cases : List Case) (tests : List (Case × Outcome)) → AreTested
-    Meets explains cases tests → length (outcomes_in tests) ≡ length cases
-outcomes_of_cases Meets explains cases tests are = length-map tests (λ (t : Case × Outcome). t.1) ∙ sym (length-map tests (λ (t : Case × Outcome). t.0)) ∙ ap (λ (l : List Case). length l) are.of_cases
+outcomes_of_cases : (Meets : Case → Meeting → Type 0) (rules : RunRules) (cases : List Case) (tests : List (Case × Outcome)) → AreTested
+    Meets rules cases tests → length (outcomes_in tests) ≡ length cases
+outcomes_of_cases Meets rules cases tests are = length-map tests (λ (t : Case × Outcome). t.1) ∙ sym (length-map tests (λ (t : Case × Outcome). t.0)) ∙ ap (λ (l : List Case). length l) are.of_cases
 
 -- there are no more outcomes of a kind than cases
-pub tally_within : (Meets : Case → Meeting → Type 0) (explains : Bool) (cases : List Case) (tally : Tally) (old new : Option (List ℕ)) →
-    HasTold Meets explains cases tally old new
+pub tally_within : (Meets : Case → Meeting → Type 0) (rules : RunRules) (cases : List Case) (tally : Tally) (old new : Option (List ℕ)) →
+    HasTold Meets rules cases tally old new
     → (tally.pass ≤ length cases) × (tally.loose ≤ length cases) × (tally.fail ≤ length cases)
-tally_within Meets explains cases tally old new told =
-    let long = outcomes_of_cases Meets explains cases told.tests told.are_tested in
+tally_within Meets rules cases tally old new told =
+    let long = outcomes_of_cases Meets rules cases told.tests told.are_tested in
     let pass : tally.pass ≡ length (filter is_pass (outcomes_in told.tests)) = ap (λ (t : Tally). t.pass) told.counted in
     let loose : tally.loose ≡ length (filter is_loose (outcomes_in told.tests)) = ap (λ (t : Tally). t.loose) told.counted in
     let fail : tally.fail ≡ length (filter is_fail (outcomes_in told.tests)) = ap (λ (t : Tally). t.fail) told.counted in (
@@ -336,11 +336,11 @@ tally_within Meets explains cases tally old new told =
     )
 
 -- so there is room for one outcome more while there is a case more
-pub tally_has_room : (Meets : Case → Meeting → Type 0) (explains : Bool) (all : List Case) (n : ℕ) (tally : Tally)
-    (old new : Option (List ℕ)) → HasTold Meets explains (take n all) tally old new
+pub tally_has_room : (Meets : Case → Meeting → Type 0) (rules : RunRules) (all : List Case) (n : ℕ) (tally : Tally)
+    (old new : Option (List ℕ)) → HasTold Meets rules (take n all) tally old new
     → n < length all → length all < 2 ^ 64 → (tally.pass + 1 < 2 ^ 64) × (tally.loose + 1 < 2 ^ 64) × (tally.fail + 1 < 2 ^ 64)
-tally_has_room Meets explains all n tally old new told within fits =
-    let (pass, loose, fail) = tally_within Meets explains (take n all) tally old new told in
+tally_has_room Meets rules all n tally old new told within fits =
+    let (pass, loose, fail) = tally_within Meets rules (take n all) tally old new told in
     let long = length-take-le n all (omega (arith, within)) in
     (omega (arith, pass, long, within, fits), omega (arith, loose, long, within, fits), omega (arith, fail, long, within, fits))
 

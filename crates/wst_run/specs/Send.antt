@@ -1,6 +1,6 @@
--- A run of `send`: the script that comes in is run over the server that the words name, and what went over the
+-- A run of `send`: the script that comes in is run over the end that the words name, and what went over the
 -- connection is written; or it is told why it is not run.
-use Rattle.std.specs.Prelude.{◌≡◌, ◌⊎◌, ⊤, ℕ, true, false, List, ◌++◌, Some, Result, Ok, Err, MatchResult, codes}
+use Rattle.std.specs.Prelude.{◌≡◌, ◌⊎◌, ⊤, ℕ, true, false, List, ◌++◌, Result, Ok, Err, MatchResult, codes}
 use Rattle.ws_base.specs.declared.text_fault.TextFault.{TextFault}
 use Rattle.ws_base.specs.declared.text_fault.TextFault.TheVariants as text_fault
 use Rattle.ws_formats.specs.Lines.{Damages}
@@ -16,15 +16,19 @@ use Rattle.wst_commands.specs.ReadingWhole.{ReadsAll, StopsReading}
 use Rattle.wst_commands.specs.declared.exit.Exit.{Exit}
 use Rattle.wst_commands.specs.declared.exit.Exit.TheVariants.{Damaged, Done, Failed}
 use Rattle.wst_commands.specs.declared.fault.Fault.TheVariants as fault
+use Rattle.wst_commands.specs.declared.fault.ListenFault.TheVariants as why
 use Rattle.wst_commands.specs.declared.reading_whole.ReadStop.{ReadStop}
 use Rattle.wst_commands.specs.declared.reading_whole.ReadStop.TheVariants as read
 use Rattle.wst_run.specs.LineWriting.{HasWrittenRun}
 use Rattle.wst_run.specs.Meetings.{miss_line}
 use Rattle.wst_run.specs.Outcomes.{outcome_words}
+use Rattle.wst_run.specs.Testing.{run_capture}
 use Rattle.ws_connection.specs.declared.probe_end.HeadRefusal.{HeadRefusal}
-use Rattle.wst_run.specs.RunPlans.{IsRunPlan, CanNotRun, TellsRefusal}
-use Rattle.wst_run.specs.Servers.{MeetsBy}
+use Rattle.wst_run.specs.RunPlans.{IsRunPlan, CanNotRun, TellsRefusal, tested_role}
+use Rattle.wst_run.specs.Servers.{MeetsAtTarget, MeetsInMemory}
 use Rattle.wst_run.specs.declared.run_plans.Refusal.{Refusal}
+use Rattle.wst_run.specs.declared.run_plans.TestedEnd.{TestedEnd}
+use Rattle.wst_run.specs.declared.run_plans.TestedEnd.TheVariants.{Clients, Memory, Server}
 use Rattle.wst_run.specs.declared.meeting.Meeting.{Meeting}
 use Rattle.wst_run.specs.declared.meeting.Meeting.TheVariants.{NoConnection, Ran, Refused}
 use Rattle.wst_run.specs.declared.outcome.Outcome.TheVariants.{HeadRefused}
@@ -44,11 +48,12 @@ pub record IsSendPlan (options : SendOptions) (plan : SendPlan) : Type 0 where
 -- the lines of a run were written, flushed, or its capture, with the key under which frames without one were masked
 abbrev pub WritesRun : SendPlan → Transcript → Device → Type 0
 WritesRun plan transcript output =
-    ((plan.capture ≡ false) × HasWrittenRun transcript output)
-    ⊎ ((plan.capture ≡ true) × HasWritten (written_capture2 (record { key = Some plan.run.key; transcript = transcript })) output
+    ((plan.capture ≡ false) × HasWrittenRun (tested_role plan.run.tested) transcript output)
+    ⊎ ((plan.capture ≡ true)
+    × HasWritten (written_capture2 (run_capture (tested_role plan.run.tested) plan.run.key transcript)) output
     × (output.failed ≡ false))
 
--- why a script was not run to its end, over one of the servers that meet cases so: where there is no connection, or its
+-- why a script was not run to its end, over one of the ends that meet cases so: where there is no connection, or its
 -- answer is refused, nothing was written
 abbrev pub StopsSending : (Case → Meeting → Type 0) → Case → SendStop → Device → Type 0
 StopsSending Meets case stop.Device output = ⊤
@@ -57,7 +62,7 @@ StopsSending Meets case (stop.Refused refusal) output = Meets case (Refused refu
 StopsSending Meets case (stop.NoConnection why) output = Meets case (NoConnection why) × IsUntouched output
 StopsSending Meets case stop.NoMemory output = ⊤
 
--- the script was run over one of the servers that meet cases so, and that was written; or why not
+-- the script was run over one of the ends that meet cases so, and that was written; or why not
 abbrev pub SendsCase : (Case → Meeting → Type 0) → SendPlan → Case → Result (Unit {0}) SendStop → Device → Type 0
 SendsCase Meets plan case ended output = MatchResult ended
     (λ _. (transcript : Transcript) × Meets case (Ran transcript) × WritesRun plan transcript output)
@@ -100,15 +105,24 @@ TellsSendEnd (Err stop.NoMemory) exit faults = LacksMemory exit faults
 
 -- ---- a run
 
--- the plan is carried out over servers that meet cases so, and how that ended is told
+-- the plan is carried out over ends that meet cases so, and how that ended is told
 abbrev pub RunsSendPlan : (Case → Meeting → Type 0) → SendPlan → Exit → Device → Device → Device → Type 0
 RunsSendPlan Meets plan exit input output faults = (ended : Result (Unit {0}) SendStop)
     × SendsInput Meets plan ended input output × TellsSendEnd ended exit faults
+
+-- the plan is carried out over this end; a client that comes to an address isn't listened for yet
+abbrev pub SendsOver : TestedEnd → SendPlan → Exit → Device → Device → Device → Type 0
+SendsOver (Memory end) plan exit input output faults =
+    RunsSendPlan (MeetsInMemory end plan.run.key) plan exit input output faults
+SendsOver (Server target) plan exit input output faults =
+    RunsSendPlan (MeetsAtTarget target plan.run) plan exit input output faults
+SendsOver (Clients address) plan exit input output faults =
+    IsUntouched input × IsUntouched output × TellsFault (fault.NotListening why.Failed) exit faults
 
 -- A run of `send`: the script that comes in is run as the words ask; or nothing is read, and it is told why.
 abbrev pub RunsSend : SendOptions → Exit → Device → Device → Device → Type 0
 RunsSend options exit input output faults =
     ((plan : SendPlan) × IsSendPlan options plan
-    × RunsSendPlan (MeetsBy plan.run) plan exit input output faults)
+    × SendsOver plan.run.tested plan exit input output faults)
     ⊎ ((reason : Refusal) × CanNotRun options.run reason × IsUntouched input × IsUntouched output
     × TellsRefusal reason exit faults)

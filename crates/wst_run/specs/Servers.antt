@@ -1,6 +1,8 @@
--- Servers that cases are run over: what is known of a meeting with one in memory, and with one at an address.
-use Rattle.std.specs.Prelude.{◌≡◌, ◌⊎◌, ℕ, List, Some}
-use Rattle.ws_wire.specs.declared.role.Role.TheVariants as role
+-- Ends that cases are run over: what is known of a meeting with one in memory, and with a server at an address.
+use Rattle.std.specs.Prelude.{◌≡◌, ◌⊎◌, ℕ, List}
+use Rattle.ws_wire.specs.declared.role.Role.{Role}
+use Rattle.ws_session.specs.Replies.{key_for}
+use Rattle.ws_suite.specs.Evidence.{other_role}
 use Rattle.ws_connection.specs.ConnectionValues.{ConnectionRun}
 use Rattle.ws_connection.specs.Probing.{Probes}
 use Rattle.ws_peer.specs.EchoRuns.{IsEchoRun}
@@ -11,8 +13,9 @@ use Rattle.ws_suite.specs.Verdicts.{IsVerdictOf}
 use Rattle.ws_suite.specs.declared.verdict.Verdict.TheVariants.{Pass}
 use Rattle.ws_scripts.specs.declared.script.Case.{Case}
 use Rattle.ws_scripts.specs.declared.transcript.Transcript.{Transcript}
-use Rattle.wst_run.specs.declared.case_server.MemoryServer.{MemoryServer}
-use Rattle.wst_run.specs.declared.case_server.MemoryServer.TheVariants.{Own, Tung}
+use Rattle.wst_run.specs.declared.case_server.MemoryEnd.{MemoryEnd}
+use Rattle.wst_run.specs.declared.case_server.MemoryPeer.{MemoryPeer}
+use Rattle.wst_run.specs.declared.case_server.MemoryPeer.TheVariants.{Own, Tung}
 use Rattle.ws_connection.specs.declared.probe_end.Probe.{Probe}
 use Rattle.ws_connection.specs.declared.probe_end.Probe.TheVariants as probe
 use Rattle.wst_run.specs.Meetings.{probe_of}
@@ -21,26 +24,27 @@ use Rattle.wst_run.specs.declared.meeting.Meeting.TheVariants.{NoConnection, Ran
 use Rattle.ws_connection.specs.UpgradeRequests.{RequestValue}
 use Rattle.ws_targets.specs.Targets.{TargetValue}
 use Rattle.wst_run.specs.declared.run_plans.RunPlan.{RunPlan}
-use Rattle.wst_run.specs.declared.run_plans.Server.{Server}
-use Rattle.wst_run.specs.declared.run_plans.Server.TheVariants.{At, Memory}
 
--- The transcript is that of a run of the script's pieces in some talk with a peer, of which nothing else is known.
-pub record IsPeerRun (key : List ℕ) (case : Case) (transcript : Transcript) : Type 0 where
+-- The transcript is that of a run of the script's pieces in some talk with a peer of this role, of which nothing else is
+-- known. The client masks with this key, be it the tester or the peer.
+pub record IsPeerRun (tested : Role) (key : List ℕ) (case : Case) (transcript : Transcript) : Type 0 where
   pub turns : List (List (List ℕ))
-  pub are_turns : AreTurns case (Some key) turns
+  pub are_turns : AreTurns case (key_for (other_role tested) key) turns
   pub talk : List Entry
   pub is_run : IsRunOf turns talk transcript
 
--- over our echo the talk is an echo's, and the verdict is Pass; a server of `tungstenite` may answer anything
-abbrev pub IsMemoryRun : MemoryServer → List ℕ → Case → Transcript → Type 0
-IsMemoryRun Own key case transcript = IsEchoRun role.Server case key transcript × IsVerdictOf role.Server transcript Pass
-IsMemoryRun Tung key case transcript = IsPeerRun key case transcript
+-- over our echo the talk is an echo's, and the verdict on an end of its role is Pass; a socket of `tungstenite` may
+-- answer anything
+abbrev pub IsMemoryRun : MemoryPeer → Role → List ℕ → Case → Transcript → Type 0
+IsMemoryRun Own tested key case transcript =
+    IsEchoRun tested case key transcript × IsVerdictOf tested transcript Pass
+IsMemoryRun Tung tested key case transcript = IsPeerRun tested key case transcript
 
--- a server in memory is always there, and asks for no handshake
-abbrev pub MeetsInMemory : MemoryServer → List ℕ → Case → Meeting → Type 0
-MeetsInMemory server key case (Ran transcript) = IsMemoryRun server key case transcript
-MeetsInMemory server key case (Refused fault) = ⊥
-MeetsInMemory server key case (NoConnection why) = ⊥
+-- an end in memory is always there, and asks for no handshake
+abbrev pub MeetsInMemory : MemoryEnd → List ℕ → Case → Meeting → Type 0
+MeetsInMemory end key case (Ran transcript) = IsMemoryRun end.peer end.role key case transcript
+MeetsInMemory end key case (Refused fault) = ⊥
+MeetsInMemory end key case (NoConnection why) = ⊥
 
 -- a server that is met over a network: what it is asked for, and how many bytes are read of it at most in one case
 -- behind the head of its answer
@@ -66,11 +70,6 @@ asked_by plan target = record {
   budget = plan.budget;
 }
 
--- what may come of a case over this server, where it is run by this plan
-abbrev pub MeetsServer : Server → RunPlan → Case → Meeting → Type 0
-MeetsServer (Memory server) plan case meeting = MeetsInMemory server plan.key case meeting
-MeetsServer (At target) plan case meeting = MeetsAtAddress (asked_by plan target) plan.key case meeting
-
--- what may come of a case that is run by this plan
-abbrev pub MeetsBy : RunPlan → Case → Meeting → Type 0
-MeetsBy plan = MeetsServer plan.server plan
+-- what may come of a case that is run by this plan over the server at a target
+abbrev pub MeetsAtTarget : TargetValue → RunPlan → Case → Meeting → Type 0
+MeetsAtTarget target plan case meeting = MeetsAtAddress (asked_by plan target) plan.key case meeting

@@ -1,16 +1,21 @@
--- A run of `sweep`: every short script is run over the server that the words name; or it is told why none is.
+-- A run of `sweep`: every short script is run over the end that the words name; or it is told why none is.
 use Rattle.std.specs.Prelude.{◌≡◌, ◌⊎◌, ℕ, ◌<◌, ◌≤◌, List, Option, Result, codes}
 use Rattle.ws_frame.specs.Devices.{Device, IsUntouched}
 use Rattle.ws_scripts.specs.declared.script.Case.{Case}
 use Rattle.ws_sweep.specs.Order.{max_steps}
 use Rattle.wst_words.specs.declared.sweep.SweepOptions.{SweepOptions}
 use Rattle.wst_commands.specs.Devices.{Tells}
+use Rattle.wst_commands.specs.Faults.{TellsFault}
 use Rattle.wst_commands.specs.declared.exit.Exit.{Exit}
 use Rattle.wst_commands.specs.declared.exit.Exit.TheVariants.{WrongWords}
-use Rattle.wst_run.specs.RunPlans.{CanNotRun, IsRunPlan, TellsRefusal}
-use Rattle.wst_run.specs.Servers.{MeetsBy}
+use Rattle.wst_commands.specs.declared.fault.Fault.TheVariants.{NotListening}
+use Rattle.wst_commands.specs.declared.fault.ListenFault.TheVariants as why
+use Rattle.wst_run.specs.RunPlans.{CanNotRun, IsRunPlan, TellsRefusal, tested_role}
+use Rattle.wst_run.specs.Servers.{MeetsAtTarget, MeetsInMemory}
 use Rattle.wst_run.specs.Sweeps.{SweepsScripts, TellsSweepEnd}
 use Rattle.wst_run.specs.declared.meeting.Meeting.{Meeting}
+use Rattle.wst_run.specs.declared.run_plans.TestedEnd.{TestedEnd}
+use Rattle.wst_run.specs.declared.run_plans.TestedEnd.TheVariants.{Clients, Memory, Server}
 use Rattle.wst_run.specs.declared.sweep.SweepPlan.{SweepPlan}
 use Rattle.wst_run.specs.declared.sweep.SweepRefusal.{SweepRefusal}
 use Rattle.wst_run.specs.declared.sweep.SweepRefusal.TheVariants.{Other, TooManySteps}
@@ -48,17 +53,32 @@ TellsSweepRefusal (Other why) exit faults = TellsRefusal why exit faults
 
 -- how its scripts are run
 abbrev pub sweep_rules_of : SweepPlan → SweepRules
-sweep_rules_of plan = record { steps = plan.steps; all = plan.all; progress = plan.progress; key = plan.run.key }
+sweep_rules_of plan = record {
+  tested = tested_role plan.run.tested;
+  steps = plan.steps;
+  all = plan.all;
+  progress = plan.progress;
+  key = plan.run.key;
+}
 
--- the plan is carried out over servers that meet cases so, and how that ended is told behind what was told before
+-- the plan is carried out over ends that meet cases so, and how that ended is told behind what was told before
 abbrev pub RunsSweepPlan : (Case → Meeting → Type 0) → SweepPlan → Exit → Device → Device → Type 0
 RunsSweepPlan Meets plan exit output faults = (ended : Result Exit SweepStop) × (held : Option (List ℕ))
     × SweepsScripts Meets (sweep_rules_of plan) ended output × TellsSweepEnd ended exit (record faults { old = held })
+
+-- the plan is carried out over this end; clients that come to an address aren't listened for yet
+abbrev pub SweepsOver : TestedEnd → SweepPlan → Exit → Device → Device → Type 0
+SweepsOver (Memory end) plan exit output faults =
+    RunsSweepPlan (MeetsInMemory end plan.run.key) plan exit output faults
+SweepsOver (Server target) plan exit output faults =
+    RunsSweepPlan (MeetsAtTarget target plan.run) plan exit output faults
+SweepsOver (Clients address) plan exit output faults =
+    IsUntouched output × TellsFault (NotListening why.Failed) exit faults
 
 -- A run of `sweep`: every short script is run as the words ask; or none is, and it is told why.
 abbrev pub RunsSweep : SweepOptions → Exit → Device → Device → Type 0
 RunsSweep options exit output faults =
     ((plan : SweepPlan) × IsSweepPlan options plan
-    × RunsSweepPlan (MeetsBy plan.run) plan exit output faults)
+    × SweepsOver plan.run.tested plan exit output faults)
     ⊎ ((reason : SweepRefusal) × RefusesSweep options reason × IsUntouched output
     × TellsSweepRefusal reason exit faults)

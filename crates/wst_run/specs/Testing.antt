@@ -1,11 +1,14 @@
--- Cases run over new servers: what is written of them, a line for each as soon as it is judged, and the total; and what
+-- Cases run over new ends: what is written of them, a line for each as soon as it is judged, and the total; and what
 -- is told on the fault output.
 use Rattle.std.specs.Prelude.{◌≡◌, ◌⊎◌, ℕ, ◌+◌, ◌<◌, Bool, true, false, List, [], ◌∷◌, ◌++◌}
-use Rattle.std.specs.Prelude.{map, flat_map, take, Result, MatchResult, Some, codes, string_bytes}
+use Rattle.std.specs.Prelude.{map, flat_map, take, Result, MatchResult, codes, string_bytes}
 use Rattle.std.specs.List.{AllByRecursion, concat}
-use Rattle.ws_wire.specs.declared.role.Role.TheVariants.{Server}
+use Rattle.ws_wire.specs.declared.role.Role.{Role}
 use Rattle.ws_frame.specs.Devices.{Device, HasBegun, HasWritten, IsUntouched}
 use Rattle.ws_scripts.specs.Captures2.{written_capture2}
+use Rattle.ws_session.specs.Replies.{key_for}
+use Rattle.ws_suite.specs.Evidence.{other_role}
+use Rattle.ws_scripts.specs.declared.transcript.Transcript.{Transcript}
 use Rattle.ws_scripts.specs.declared.capture.Capture.{Capture}
 use Rattle.ws_suite.specs.Verdicts.{IsVerdictOf}
 use Rattle.ws_scripts.specs.declared.script.Case.{Case}
@@ -28,28 +31,29 @@ use Rattle.wst_run.specs.declared.testing.RunRules.{RunRules}
 
 -- ---- one case
 
--- what is told of such a meeting: the verdict on its transcript, with why it is told where that is asked for; that the
--- head of the answer is to be refused, or that there is no connection
-abbrev pub IsOutcomeOf : Bool → Meeting → Outcome → Type 0
-IsOutcomeOf explains (meeting.Ran transcript) (outcome.Judged told) = IsJudgementOf explains Server transcript told
-IsOutcomeOf explains (meeting.Refused refusal) (outcome.HeadRefused told) = told ≡ told_refusal explains refusal
-IsOutcomeOf explains (meeting.NoConnection why) (outcome.NoConnection told) = told ≡ why
-IsOutcomeOf explains _ _ = ⊥
+-- what is told of such a meeting by these rules: the verdict on the tested end by its transcript, with why it is told
+-- where that is asked for; that the head of the answer is to be refused, or that there is no connection
+abbrev pub IsOutcomeOf : RunRules → Meeting → Outcome → Type 0
+IsOutcomeOf rules (meeting.Ran transcript) (outcome.Judged told) =
+    IsJudgementOf rules.explains rules.tested transcript told
+IsOutcomeOf rules (meeting.Refused refusal) (outcome.HeadRefused told) = told ≡ told_refusal rules.explains refusal
+IsOutcomeOf rules (meeting.NoConnection why) (outcome.NoConnection told) = told ≡ why
+IsOutcomeOf rules _ _ = ⊥
 
--- the outcome of a case over one of the servers that meet cases so
-pub record IsTested (Meets : Case → Meeting → Type 0) (explains : Bool) (case : Case) (outcome : Outcome)
+-- the outcome of a case by these rules, over one of the ends that meet cases so
+pub record IsTested (Meets : Case → Meeting → Type 0) (rules : RunRules) (case : Case) (outcome : Outcome)
     : Type 0 where
   pub meeting : Meeting
   pub met : Meets case meeting
-  pub told : IsOutcomeOf explains meeting outcome
+  pub told : IsOutcomeOf rules meeting outcome
 
 -- ---- cases
 
--- these are the cases in their order, each with what is told of a server of its own
-pub record AreTested (Meets : Case → Meeting → Type 0) (explains : Bool) (cases : List Case)
+-- these are the cases in their order, each with what is told of an end of its own
+pub record AreTested (Meets : Case → Meeting → Type 0) (rules : RunRules) (cases : List Case)
     (tests : List (Case × Outcome)) : Type 0 where
   pub of_cases : map (λ test. test.0) tests ≡ cases
-  pub tested : AllByRecursion (λ test. IsTested Meets explains test.0 test.1) tests
+  pub tested : AllByRecursion (λ test. IsTested Meets rules test.0 test.1) tests
 
 abbrev pub outcomes_in : List (Case × Outcome) → List Outcome
 outcomes_in tests = map (λ test. test.1) tests
@@ -69,7 +73,7 @@ test_lines tests = flat_map test_line tests
 pub record TellsAll (Meets : Case → Meeting → Type 0) (rules : RunRules) (cases : List Case) (notes : List (List ℕ))
     (exit : Exit) (output : Device) : Type 0 where
   pub tests : List (Case × Outcome)
-  pub are_tested : AreTested Meets rules.explains cases tests
+  pub are_tested : AreTested Meets rules cases tests
   pub may_run : MayRunEach (max_missed rules.is_limited) (outcomes_in tests)
   pub few : missed_at_end (outcomes_in tests) < max_missed rules.is_limited
   pub noted : notes ≡ notes_of rules.progress tests
@@ -81,7 +85,7 @@ pub record StopsAtLine (Meets : Case → Meeting → Type 0) (rules : RunRules) 
     (exit : Exit) (output : Device) : Type 0 where
   pub n : ℕ
   pub tests : List (Case × Outcome)
-  pub are_tested : AreTested Meets rules.explains (take n cases) tests
+  pub are_tested : AreTested Meets rules (take n cases) tests
   pub may_run : MayRunEach (max_missed rules.is_limited) (outcomes_in tests)
   pub noted : notes ≡ notes_of rules.progress tests
   pub failed : (exit ≡ Failed) × (output.failed ≡ true)
@@ -93,7 +97,7 @@ pub record StopsAtConnection (Meets : Case → Meeting → Type 0) (rules : RunR
     (notes : List (List ℕ)) (exit : Exit) (output : Device) : Type 0 where
   pub n : ℕ
   pub tests : List (Case × Outcome)
-  pub are_tested : AreTested Meets rules.explains (take n cases) tests
+  pub are_tested : AreTested Meets rules (take n cases) tests
   pub may_run : MayRunEach (max_missed rules.is_limited) (outcomes_in tests)
   pub missed : missed_at_end (outcomes_in tests) ≡ max_missed rules.is_limited
   pub noted : notes ≡ notes_of rules.progress tests
@@ -110,7 +114,7 @@ pub record LacksMemoryAfter (Meets : Case → Meeting → Type 0) (rules : RunRu
     (notes : List (List ℕ)) (output : Device) : Type 0 where
   pub n : ℕ
   pub tests : List (Case × Outcome)
-  pub are_tested : AreTested Meets rules.explains (take n cases) tests
+  pub are_tested : AreTested Meets rules (take n cases) tests
   pub may_run : MayRunEach (max_missed rules.is_limited) (outcomes_in tests)
   pub few : missed_at_end (outcomes_in tests) < max_missed rules.is_limited
   pub next : List (List ℕ)
@@ -119,7 +123,7 @@ pub record LacksMemoryAfter (Meets : Case → Meeting → Type 0) (rules : RunRu
   pub works : output.failed ≡ false
   pub written : HasWritten (test_lines tests) output
 
--- how a run of these cases ended, over servers that meet cases so, and what was to be told beside it
+-- how a run of these cases ended, over ends that meet cases so, and what was to be told beside it
 abbrev pub TestsCases : (Case → Meeting → Type 0) → RunRules → List Case → List (List ℕ) → Result Exit Fault → Device
     → Type 0
 TestsCases Meets rules cases notes ended output = MatchResult ended
@@ -134,19 +138,23 @@ RunsCases Meets rules cases ended output faults = (notes : List (List ℕ))
 
 -- ---- a capture
 
--- a capture was written, and the exit is that of the verdict on its transcript
-abbrev pub WritesCapture : Capture → Exit → Device → Type 0
-WritesCapture capture exit output = (verdict : Verdict) × IsVerdictOf Server capture.transcript verdict
+-- the capture of a run that tests this end: the key is that under which the tester's frames were masked, if it is the
+-- client
+abbrev pub run_capture : Role → List ℕ → Transcript → Capture
+run_capture tested key transcript = record { key = key_for (other_role tested) key; transcript = transcript }
+
+-- a capture was written, and the exit is that of the verdict on the tested end by its transcript
+abbrev pub WritesCapture : Role → Capture → Exit → Device → Type 0
+WritesCapture tested capture exit output = (verdict : Verdict) × IsVerdictOf tested capture.transcript verdict
     × Delivers (exit_of verdict) (written_capture2 capture) exit output
 
--- the capture was written, with the key under which frames were masked; or in its place the line of a case that has
--- none
-abbrev pub TellsMeeting : List ℕ → Case → Meeting → Exit → Device → Type 0
-TellsMeeting key case (meeting.Ran transcript) exit output =
-    WritesCapture (record { key = Some key; transcript = transcript }) exit output
-TellsMeeting key case (meeting.Refused refusal) exit output =
+-- the capture was written; or in its place the line of a case that has none
+abbrev pub TellsMeeting : RunRules → Case → Meeting → Exit → Device → Type 0
+TellsMeeting rules case (meeting.Ran transcript) exit output =
+    WritesCapture rules.tested (run_capture rules.tested rules.key transcript) exit output
+TellsMeeting rules case (meeting.Refused refusal) exit output =
     Delivers Damaged (test_line (case, outcome.HeadRefused (told_refusal false refusal))) exit output
-TellsMeeting key case (meeting.NoConnection why) exit output =
+TellsMeeting rules case (meeting.NoConnection why) exit output =
     Delivers Failed (test_line (case, outcome.NoConnection why)) exit output
 
 -- what is to be told beside it
@@ -155,11 +163,11 @@ meeting_notes (meeting.Ran transcript) = []
 meeting_notes (meeting.Refused refusal) = []
 meeting_notes (meeting.NoConnection why) = miss_notes (outcome.NoConnection why)
 
--- what came of the case over one of these servers was written; or memory ran out, and nothing was written
+-- what came of the case over one of these ends was written; or memory ran out, and nothing was written
 abbrev pub CapturesCase : (Case → Meeting → Type 0) → RunRules → Case → List (List ℕ) → Result Exit Fault → Device
     → Type 0
 CapturesCase Meets rules case notes ended output = MatchResult ended
-    (λ exit. (meeting : Meeting) × Meets case meeting × TellsMeeting rules.key case meeting exit output
+    (λ exit. (meeting : Meeting) × Meets case meeting × TellsMeeting rules case meeting exit output
     × (notes ≡ progress_notes rules.progress case ++ meeting_notes meeting))
     (λ fault. (fault ≡ NoMemory) × IsUntouched output
     × ((notes ≡ []) ⊎ (notes ≡ progress_notes rules.progress case)))

@@ -1,4 +1,4 @@
-//! Servers that cases are run over: what is known of a meeting with one, and those in memory.
+//! Ends that cases are run over: what is known of a meeting with one, and those in memory.
 
 ghost use Rattle.std.specs.Prelude.{◌≡◌, IfOk, OnOk};
 ghost use Rattle.ws_connection.specs.Observing.{HearsProbe, IsHearing};
@@ -11,19 +11,20 @@ use crate::meeting::Meeting;
 use std::alloc::Global;
 use ws_base::NoMemory;
 use ws_connection::Observer;
-use ws_peer::{TungPeer, run_case, run_over_echo};
+use ws_peer::{TungPeer, run_case_with, run_over_echo_as, tester_key};
 use ws_suite::{Case, Transcript};
+use ws_wire::Role;
 
-/// Servers of one kind. Each case is run over a new one.
+/// Tested ends of one kind. Each case is run over a new one.
 pub trait CaseServer {
     ghost use Rattle.std.specs.Prelude.{◌≡◌, List, ℕ};
     ghost use Rattle.ws_scripts.specs.declared.script.Case.{Case};
     ghost use Rattle.wst_run.specs.declared.meeting.Meeting.{Meeting};
 
-    /// With this masking key, this may come of this case over a new server.
+    /// With this masking key, this may come of this case over a new end.
     ghost meets: { Self → List ℕ → Case → Meeting → Type 0 };
 
-    /// Runs a case over a new server, its frames masked with `key`.
+    /// Runs a case over a new end. The client, be it the tester or that end, masks its frames with `key`.
     fn run(&self, alloc: Global, case: &Case, key: [u8; 4]) -> Result<Meeting, NoMemory>
         requires { CanBeRun case.now }
         ensures { IfOk result (λ meeting. meets self.now key case.now meeting) };
@@ -44,16 +45,23 @@ pub trait CaseServer {
         ensures borrow { O.borrow observer.new ≡ O.borrow observer.old };
 }
 
-/// A server in memory.
+/// Who stands in memory.
 #[derive(Clone, Copy)]
-pub enum MemoryServer {
+pub enum MemoryPeer {
     /// Our echo.
     Own,
-    /// A server of the crate `tungstenite`.
+    /// A socket of the crate `tungstenite`.
     Tung,
 }
 
-impl CaseServer for MemoryServer {
+/// An end in memory that is tested: a server or a client.
+#[derive(Clone, Copy)]
+pub struct MemoryEnd {
+    pub peer: MemoryPeer,
+    pub role: Role,
+}
+
+impl CaseServer for MemoryEnd {
     ghost meets = { MeetsInMemory };
 
     fn run(&self, alloc: Global, case: &Case, key: [u8; 4]) -> Result<Meeting, NoMemory> {
@@ -89,28 +97,33 @@ fn tell_transcript<O: Observer>(transcript: &Transcript, observer: &mut O) -> Re
     Ok(())
 }
 
-/// The transcript of a case over a new server in memory.
+/// The transcript of a case over a new end in memory.
 fn transcript_of(
     alloc: Global,
-    server: MemoryServer,
+    end: MemoryEnd,
     case: &Case,
     key: [u8; 4],
 ) -> Result<Transcript, NoMemory>
     requires { CanBeRun case.now }
-    ensures { IfOk result (λ transcript. IsMemoryRun server key case.now transcript) }
+    ensures { IfOk result (λ transcript. IsMemoryRun end.peer end.role key case.now transcript) }
 {
-    match server {
-        MemoryServer::Own => run_over_echo(alloc, case, key),
-        MemoryServer::Tung => run_over_tung(alloc, case, key),
+    match end.peer {
+        MemoryPeer::Own => run_over_echo_as(alloc, end.role, case, key),
+        MemoryPeer::Tung => run_over_tung(alloc, end.role, case, key),
     }
 }
 
-/// The transcript of a case over a new server of `tungstenite`.
-fn run_over_tung(alloc: Global, case: &Case, key: [u8; 4]) -> Result<Transcript, NoMemory>
+/// The transcript of a case over a new socket of `tungstenite` that has this role.
+fn run_over_tung(
+    alloc: Global,
+    tested: Role,
+    case: &Case,
+    key: [u8; 4],
+) -> Result<Transcript, NoMemory>
     requires { CanBeRun case.now }
-    ensures { IfOk result (λ transcript. IsPeerRun key case.now transcript) }
+    ensures { IfOk result (λ transcript. IsPeerRun tested key case.now transcript) }
 {
-    let mut peer = TungPeer::new(alloc)?;
-    let transcript = run_case(alloc, case, &mut peer, key)?;
+    let mut peer = TungPeer::with_role(alloc, tested, key)?;
+    let transcript = run_case_with(alloc, case, &mut peer, tester_key(tested, key))?;
     Ok(transcript)
 }

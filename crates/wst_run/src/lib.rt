@@ -26,10 +26,10 @@ mod sweeping;
 mod test;
 mod testing;
 
-pub use case_server::{CaseServer, MemoryServer};
+pub use case_server::{CaseServer, MemoryEnd, MemoryPeer};
 pub use clients::Clients;
 pub use meeting::{ConnectFault, Meeting};
-pub use run_plans::{Refusal, RunPlan, Server, plan_run, tell_refusal};
+pub use run_plans::{Refusal, RunPlan, TestedEnd, plan_run, tell_refusal};
 pub use running::{run, words_are_no_text};
 pub use send::{SendPlan, SendStop, plan_send, send_to};
 pub use serve::{ServePlan, run_serve};

@@ -1,10 +1,9 @@
-//! The lines of a run over a connection to a server, written as it goes on.
+//! The lines of a run over a connection, written as it goes on.
 
 ghost use Rattle.std.specs.Prelude.{◌≡◌, ◌+◌, ◌<◌, ◌^◌, IfSome, OnOk, [], false};
 ghost use Rattle.std.specs.Io.KnownBytes.{Keeps};
 ghost use Rattle.ws_frame.specs.Watching.{has_failed, inner_of};
 ghost use Rattle.ws_lines.specs.Telling.{HasToldTurns};
-ghost use Rattle.ws_wire.specs.declared.role.Role.TheVariants.{Server};
 ghost use Rattle.wst_run.specs.LineWriting.{AreCounted};
 
 use std::io::Write;
@@ -76,21 +75,24 @@ impl Places {
 /// Writes the lines of a run as soon as their places in the order are certain, and flushes them.
 #[derive(Drop)]
 pub struct LineWriter<'a, W> {
+    tested: Role,
     lines: TranscriptLines,
     places: Places,
     writer: &'a mut Watched<W>,
 }
 
 impl<'a, W> LineWriter<'a, W> {
-    /// Nothing is written yet.
-    pub fn new(writer: &'a mut Watched<W>) -> LineWriter<'a, W>
+    /// Nothing is written yet. The tested end has this role.
+    pub fn new(tested: Role, writer: &'a mut Watched<W>) -> LineWriter<'a, W>
+        ensures tested { result.tested ≡ tested }
         ensures writer { result.writer.now ≡ writer.old }
         ensures borrow { result.writer.ghost_name ≡ writer.entry.ghost_name }
-        ensures lines { HasToldTurns Server result.lines [] [] }
-        ensures places { AreCounted result.places [] }
+        ensures lines { HasToldTurns result.tested result.lines [] [] }
+        ensures places { AreCounted result.tested result.places [] }
     {
         LineWriter {
-            lines: TranscriptLines::new(Role::Server),
+            tested,
+            lines: TranscriptLines::new(tested),
             places: Places {
                 turns: 0,
                 sent: 0,
@@ -108,10 +110,10 @@ impl<W: Write> Observer for LineWriter<'_, W> {
 
     type Fault = LineStop;
 
-    ghost heard = { λ start now turns. HasWrittenTurns now.lines now.places turns
+    ghost heard = { λ start now turns. HasWrittenTurns start.tested now.lines now.places turns
         (watched W.contents start.writer.now now.writer.now) };
 
-    ghost heard_all = { λ start now transcript. HasWrittenRun transcript
+    ghost heard_all = { λ start now transcript. HasWrittenRun start.tested transcript
         (watched W.contents start.writer.now now.writer.now) };
 
     ghost borrow = { λ lines. Some lines.writer.ghost_name };

@@ -1,14 +1,18 @@
-//! What the options that commands share ask for: over which server scripts are run, and how. One place judges them.
+//! What the options that commands share ask for: over which end scripts are run, and how. One place judges them.
 
 ghost use Rattle.std.specs.Prelude.{◌≡◌, ◌≢◌, ◌↔◌, IfOk, IsTrue, List, MatchOption, MatchResult, ℕ, codes};
 ghost use Rattle.ws_frame.specs.Devices.{watched};
 ghost use Rattle.wst_commands.specs.Devices.{Tells};
 ghost use Rattle.ws_connection.specs.RequestHeaders.{headers_in};
 ghost use Rattle.wst_run.specs.RunPlans.{HasHeaders, header_words};
-ghost use Rattle.wst_run.specs.RunPlans.{CanConnect, IsRunPlan, IsServerOf, CanNotRun, RefusesTarget, TellsRefusal};
+ghost use Rattle.wst_run.specs.RunPlans.{CanConnect, IsEndOf, IsRunPlan, CanNotRun, RefusesTarget, TellsRefusal};
+ghost use Rattle.wst_run.specs.RunPlans.{bad_target, tested_role};
+ghost use Rattle.ws_wire.specs.declared.role.Role.{Role};
+ghost use Rattle.ws_wire.specs.declared.role.Role.TheVariants.{Client, Server};
 ghost use Rattle.wst_commands.specs.declared.exit.Exit.TheVariants.{WrongWords};
+ghost use Rattle.wst_run.specs.declared.run_plans.TestedEnd.TheVariants.{Memory};
 
-use crate::case_server::MemoryServer;
+use crate::case_server::{MemoryEnd, MemoryPeer};
 use std::alloc::Global;
 use std::io::Write;
 use ws_base::NoMemory;
@@ -16,31 +20,47 @@ use ws_connection::{Protocols, RequestHeaders, headers_of, protocols_of};
 use ws_formats::read_key;
 use ws_frame::Watched;
 use ws_targets::{Target, TargetFault, asks_for_tls, is_address, read_target};
+use ws_wire::Role;
 use wst_commands::{Exit, NoCases, TimeLimit, tell, tell_no_cases, timeout_given};
 use wst_words::RunOptions;
 
-/// The server that scripts are run over.
+/// The end that scripts are run over.
 #[derive(Drop)]
-pub enum Server {
+pub enum TestedEnd<'a> {
     /// It stands in memory.
-    Memory(MemoryServer),
-    /// It is met there.
-    At(Target),
+    Memory(MemoryEnd),
+    /// A server that is met there.
+    Server(Target),
+    /// Clients that come to this address.
+    Clients(&'a str),
 }
 
-/// Over which server scripts are run, and how.
+impl TestedEnd<'_> {
+    /// Its role.
+    pub fn role(&self) -> Role
+        ensures { result ≡ tested_role self.now }
+    {
+        match self {
+            TestedEnd::Memory(end) => end.role,
+            TestedEnd::Server(_) => Role::Server,
+            TestedEnd::Clients(_) => Role::Client,
+        }
+    }
+}
+
+/// Over which end scripts are run, and how.
 #[derive(Drop)]
 pub struct RunPlan<'a> {
-    /// The masking key of the frames that have none of their own.
+    /// The masking key of the client's frames that have none of their own.
     pub key: [u8; 4],
-    pub server: Server,
-    /// How long a server that is not in memory is waited for.
+    pub tested: TestedEnd<'a>,
+    /// How long an end that is not in memory is waited for.
     pub timeout: TimeLimit,
-    /// At most so many bytes are read of such a server in one script behind the head of its answer.
+    /// At most so many bytes are read of such an end in one script behind its head.
     pub budget: u64,
-    /// The subprotocols that are offered to such a server.
+    /// The subprotocols that are offered to a server, or of which one is chosen for a client.
     pub protocols: Protocols<'a>,
-    /// The headers that its request has behind its own.
+    /// The headers that the request to a server has behind its own.
     pub headers: RequestHeaders<'a>,
 }
 
@@ -102,14 +122,14 @@ pub fn plan_run<'a>(alloc: Global, options: &RunOptions<'a>) -> Result<RunPlan<'
     let Some(key) = read_key(options.key.as_bytes()) else {
         return Err(Refusal::BadKey);
     };
-    let named = server_of(alloc, options.target)?;
+    let named = end_named(alloc, options.role, options.target)?;
     if !can_connect(options.connect) {
         return Err(Refusal::BadAddress);
     }
-    let server = connected(alloc, named, options.connect)?;
+    let tested = connected(alloc, named, options.connect)?;
     Ok(RunPlan {
         key,
-        server,
+        tested,
         timeout,
         budget: options.budget,
         protocols,
@@ -129,28 +149,70 @@ fn headers_given<'a>(
     Ok(found)
 }
 
-/// The server that a word names.
-fn server_of<'a>(alloc: Global, word: &'a str) -> Result<Server, Refusal<'a>>
-    ensures { MatchResult result (IsServerOf word.now None) (RefusesTarget word.now) }
+/// The end of this role that a word names.
+fn end_named<'a>(alloc: Global, role: Role, word: &'a str) -> Result<TestedEnd<'a>, Refusal<'a>>
+    ensures { MatchResult result (IsEndOf role word.now None) (RefusesTarget role word.now) }
 {
     match word {
-        "own" => Ok(Server::Memory(MemoryServer::Own)),
-        "tung" => Ok(Server::Memory(MemoryServer::Tung)),
-        _ => server_at(alloc, word),
+        "own" => Ok(in_memory(MemoryPeer::Own, role)),
+        "tung" => Ok(in_memory(MemoryPeer::Tung, role)),
+        _ => end_at(alloc, role, word),
     }
 }
 
-/// The server at a target.
-fn server_at<'a>(alloc: Global, word: &'a str) -> Result<Server, Refusal<'a>>
+/// The end of this role at an address.
+fn end_at<'a>(alloc: Global, role: Role, word: &'a str) -> Result<TestedEnd<'a>, Refusal<'a>>
     requires own { word.now ≢ codes "own" }
     requires tung { word.now ≢ codes "tung" }
-    ensures { MatchResult result (IsServerOf word.now None) (RefusesTarget word.now) }
+    ensures { MatchResult result (IsEndOf role word.now None) (RefusesTarget role word.now) }
+{
+    match role {
+        Role::Server => server_at(alloc, word),
+        Role::Client => clients_at(word),
+    }
+}
+
+/// This one in memory.
+fn in_memory<'a>(peer: MemoryPeer, role: Role) -> TestedEnd<'a>
+    ensures { result ≡ Memory (record { peer = peer; role = role }) }
+{
+    TestedEnd::Memory(MemoryEnd { peer, role })
+}
+
+/// The server at a target.
+fn server_at<'a>(alloc: Global, word: &'a str) -> Result<TestedEnd<'a>, Refusal<'a>>
+    requires own { word.now ≢ codes "own" }
+    requires tung { word.now ≢ codes "tung" }
+    ensures { MatchResult result (IsEndOf Server word.now None) (RefusesTarget Server word.now) }
 {
     match read_target(alloc, word) {
-        Ok(target) => Ok(Server::At(target)),
+        Ok(target) => Ok(TestedEnd::Server(target)),
         Err(TargetFault::NoMemory) => Err(Refusal::NoCases(NoCases::NoMemory)),
-        Err(TargetFault::Bad) if asks_for_tls(word) => Err(Refusal::EncryptedTarget),
-        Err(TargetFault::Bad) => Err(Refusal::BadAddress),
+        Err(TargetFault::Bad) => Err(bad_target(word)),
+    }
+}
+
+/// The clients that come to an address. A URL is none.
+fn clients_at<'a>(word: &'a str) -> Result<TestedEnd<'a>, Refusal<'a>>
+    requires own { word.now ≢ codes "own" }
+    requires tung { word.now ≢ codes "tung" }
+    ensures { MatchResult result (IsEndOf Client word.now None) (RefusesTarget Client word.now) }
+{
+    if word.contains("://") {
+        Err(bad_target(word))
+    } else {
+        Ok(TestedEnd::Clients(word))
+    }
+}
+
+/// What is told of a word that names no end.
+fn bad_target<'a>(word: &str) -> Refusal<'a>
+    ensures { result ≡ bad_target word.now }
+{
+    if asks_for_tls(word) {
+        Refusal::EncryptedTarget
+    } else {
+        Refusal::BadAddress
     }
 }
 
@@ -164,16 +226,21 @@ fn can_connect(connect: Option<&str>) -> bool
     }
 }
 
-/// The server to which the connection is made at the address that is given, if one is.
-fn connected(alloc: Global, server: Server, connect: Option<&str>) -> Result<Server, NoMemory>
-    ensures { IfOk result (λ at. (word : List ℕ) → IsServerOf word None server → IsServerOf word connect.entry at) }
+/// The end, where a server is met at the address that is given, if one is.
+fn connected<'a>(
+    alloc: Global,
+    end: TestedEnd<'a>,
+    connect: Option<&str>,
+) -> Result<TestedEnd<'a>, NoMemory>
+    ensures { IfOk result (λ at. (role : Role) (word : List ℕ) → IsEndOf role word None end.entry →
+        IsEndOf role word connect.entry at) }
 {
-    match (server, connect) {
-        (Server::At(target), Some(address)) => {
+    match (end, connect) {
+        (TestedEnd::Server(target), Some(address)) => {
             let target = target.connected_at(alloc, address)?;
-            Ok(Server::At(target))
+            Ok(TestedEnd::Server(target))
         }
-        (server, _) => Ok(server),
+        (end, _) => Ok(end),
     }
 }
 

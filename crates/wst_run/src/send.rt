@@ -1,34 +1,34 @@
-//! The command `send`: what is to be run, and its run over a server. Its lines are told in docs/FORMATS.md.
+//! The command `send`: what is to be run, and its run over an end. Its lines are told in docs/FORMATS.md.
 
 ghost use Rattle.std.specs.Prelude.{◌≡◌, MatchResult, true, false};
 ghost use Rattle.ws_frame.specs.Devices.{watched};
 ghost use Rattle.ws_frame.specs.Watching.{has_failed};
 ghost use Rattle.ws_scripts.specs.Scripts.{CanBeRun};
 ghost use Rattle.wst_run.specs.RunPlans.{CanNotRun};
-ghost use Rattle.wst_run.specs.Send.{IsSendPlan, RunsSendPlan, SendsCase, SendsInput, SendsText};
+ghost use Rattle.wst_run.specs.Send.{IsSendPlan, RunsSendPlan, SendsCase, SendsInput, SendsOver, SendsText};
 ghost use Rattle.wst_run.specs.Send.{TellsRefused, TellsSendEnd};
-ghost use Rattle.wst_run.specs.Servers.{MeetsBy};
 
 use crate::address_server::AddressServer;
 use crate::case_server::CaseServer;
 use crate::line_writer::{LineStop, LineWriter};
 use crate::meeting::{ConnectFault, Meeting};
 use crate::outcome::Outcome;
-use crate::run_plans::{Refusal, RunPlan, Server, plan_run};
+use crate::run_plans::{Refusal, RunPlan, TestedEnd, plan_run};
+use crate::testing::capture_text;
 use std::alloc::Global;
 use std::io::{Read, Write};
 use std::net::Net;
 use ws_base::{NoMemory, TextFault};
 use ws_connection::HeadRefusal;
 use ws_frame::{Watched, WriteFault, write_whole};
-use ws_suite::{Capture, Case, read_script, write_capture2};
-use wst_commands::{Exit, Fault, ReadStop, read_whole, tell, tell_fault};
+use ws_suite::{Case, read_script};
+use wst_commands::{Exit, Fault, ListenFault, ReadStop, read_whole, tell, tell_fault};
 use wst_words::SendOptions;
 
 /// How the script that comes in is run, and where.
 #[derive(Drop)]
 pub struct SendPlan<'a> {
-    /// Over which server, and how.
+    /// Over which end, and how.
     pub run: RunPlan<'a>,
     /// The capture is written in place of the lines.
     pub capture: bool,
@@ -43,7 +43,7 @@ pub enum SendStop {
     NotAStep(u64),
     /// The server's answer to the request is to be refused.
     Refused(HeadRefusal),
-    /// There is no connection to the server, or no whole answer came.
+    /// There is no connection to the tested end, or no whole answer came.
     NoConnection(ConnectFault),
     /// Memory ran out.
     NoMemory,
@@ -80,7 +80,7 @@ pub fn plan_send<'a>(alloc: Global, options: &SendOptions<'a>) -> Result<SendPla
     })
 }
 
-/// Runs the script that comes in over the server that a plan names, and tells how that ended.
+/// Runs the script that comes in over the end that a plan names, and tells how that ended.
 pub fn send_to_target<N: Net, R: Read, W: Write, F: Write>(
     alloc: Global,
     plan: &SendPlan<'_>,
@@ -91,19 +91,22 @@ pub fn send_to_target<N: Net, R: Read, W: Write, F: Write>(
 ) -> Exit
     requires reader_works { has_failed reader.old ≡ false }
     requires writer_works { has_failed writer.old ≡ false }
-    ensures { RunsSendPlan (MeetsBy plan.now.run) plan.now result (watched R.remaining reader.old reader.new)
+    ensures { SendsOver plan.now.run.tested plan.now result (watched R.remaining reader.old reader.new)
         (watched W.contents writer.old writer.new) (watched F.contents faults.old faults.new) }
 {
-    match &plan.run.server {
-        Server::Memory(server) => send_to(alloc, server, plan, reader, writer, faults),
-        Server::At(target) => {
+    match &plan.run.tested {
+        TestedEnd::Memory(end) => send_to(alloc, end, plan, reader, writer, faults),
+        TestedEnd::Server(target) => {
             let server = AddressServer::new(net, target, &plan.run);
             send_to(alloc, &server, plan, reader, writer, faults)
+        }
+        TestedEnd::Clients(_) => {
+            tell_fault(alloc, Fault::NotListening(ListenFault::Failed), faults)
         }
     }
 }
 
-/// Runs the script that comes in over a new server, and tells how that ended.
+/// Runs the script that comes in over a new end, and tells how that ended.
 pub fn send_to<S: CaseServer, R: Read, W: Write, F: Write>(
     alloc: Global,
     server: &S,
@@ -178,11 +181,8 @@ fn send_captured<S: CaseServer, W: Write>(
 {
     match server.run(alloc, case, plan.run.key)? {
         Meeting::Ran(transcript) => {
-            let capture = Capture {
-                key: Some(plan.run.key),
-                transcript,
-            };
-            let text = write_capture2(alloc, &capture)?;
+            let tested = plan.run.tested.role();
+            let text = capture_text(alloc, tested, plan.run.key, transcript)?;
             write_whole(writer, text.as_slice())?;
             Ok(())
         }
@@ -205,7 +205,7 @@ fn send_shown<S: CaseServer, W: Write>(
     ensures { SendsCase (S.meets server.now plan.now.run.key) plan.now case.now result
         (watched W.contents writer.old writer.new) }
 {
-    let mut lines = LineWriter::new(writer);
+    let mut lines = LineWriter::new(plan.run.tested.role(), writer);
     match server.run_told(alloc, case, plan.run.key, &mut lines) {
         Ok(Meeting::Ran(_)) => Ok(()),
         Ok(Meeting::Refused(refusal)) => Err(SendStop::Refused(refusal)),

@@ -1,29 +1,28 @@
-//! The command `sweep`: which scripts are run, and over which server. Its lines are told in docs/FORMATS.md.
+//! The command `sweep`: which scripts are run, and over which end. Its lines are told in docs/FORMATS.md.
 
 ghost use Rattle.std.specs.Prelude.{◌≡◌, ◌≤◌, IfOk, MatchOption, MatchResult, false};
 ghost use Rattle.ws_frame.specs.Devices.{watched};
 ghost use Rattle.ws_frame.specs.Watching.{has_failed};
 ghost use Rattle.ws_sweep.specs.Order.{max_steps};
-ghost use Rattle.wst_run.specs.Servers.{MeetsBy};
 ghost use Rattle.wst_run.specs.Sweep.{GivesSteps, IsSweepPlan, RefusesSweep, RunsSweepPlan, TellsSweepRefusal};
-ghost use Rattle.wst_run.specs.Sweep.{HasTooManySteps, sweep_rules_of};
+ghost use Rattle.wst_run.specs.Sweep.{HasTooManySteps, SweepsOver, sweep_rules_of};
 
 use crate::address_server::AddressServer;
 use crate::case_server::CaseServer;
-use crate::run_plans::{Refusal, RunPlan, Server, plan_run, tell_refusal};
+use crate::run_plans::{Refusal, RunPlan, TestedEnd, plan_run, tell_refusal};
 use crate::sweeping::{SweepRules, sweep_scripts, tell_sweep_end};
 use std::alloc::Global;
 use std::io::Write;
 use std::net::Net;
 use ws_frame::Watched;
 use ws_sweep::MAX_STEPS;
-use wst_commands::{Exit, tell};
+use wst_commands::{Exit, Fault, ListenFault, tell, tell_fault};
 use wst_words::SweepOptions;
 
-/// Which scripts are run, and over which server.
+/// Which scripts are run, and over which end.
 #[derive(Drop)]
 pub struct SweepPlan<'a> {
-    /// Over which server, and how.
+    /// Over which end, and how.
     pub run: RunPlan<'a>,
     /// Scripts of at most so many steps.
     pub steps: usize,
@@ -83,7 +82,7 @@ fn steps_given(steps: u64) -> Option<usize>
     }
 }
 
-/// Runs the scripts of a plan over the server that it names, and tells how that ended.
+/// Runs the scripts of a plan over the end that it names, and tells how that ended.
 pub fn sweep_target<N: Net, W: Write, F: Write>(
     alloc: Global,
     plan: &SweepPlan<'_>,
@@ -93,19 +92,22 @@ pub fn sweep_target<N: Net, W: Write, F: Write>(
 ) -> Exit
     requires works { has_failed writer.old ≡ false }
     requires steps { plan.now.steps ≤ max_steps }
-    ensures { RunsSweepPlan (MeetsBy plan.now.run) plan.now result (watched W.contents writer.old writer.new)
+    ensures { SweepsOver plan.now.run.tested plan.now result (watched W.contents writer.old writer.new)
         (watched F.contents faults.old faults.new) }
 {
-    match &plan.run.server {
-        Server::Memory(server) => sweep_over(alloc, server, plan, writer, faults),
-        Server::At(target) => {
+    match &plan.run.tested {
+        TestedEnd::Memory(end) => sweep_over(alloc, end, plan, writer, faults),
+        TestedEnd::Server(target) => {
             let server = AddressServer::new(net, target, &plan.run);
             sweep_over(alloc, &server, plan, writer, faults)
+        }
+        TestedEnd::Clients(_) => {
+            tell_fault(alloc, Fault::NotListening(ListenFault::Failed), faults)
         }
     }
 }
 
-/// Runs the scripts of a plan, each over a new server, and tells how that ended.
+/// Runs the scripts of a plan, each over a new end, and tells how that ended.
 pub fn sweep_over<S: CaseServer, W: Write, F: Write>(
     alloc: Global,
     server: &S,
@@ -127,6 +129,7 @@ fn rules_of(plan: &SweepPlan<'_>) -> SweepRules
     ensures { result ≡ sweep_rules_of plan.now }
 {
     SweepRules {
+        tested: plan.run.tested.role(),
         steps: plan.steps,
         all: plan.all,
         progress: plan.progress,

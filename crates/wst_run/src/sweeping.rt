@@ -1,4 +1,4 @@
-//! Every short script run over new servers: each is judged, and its line is written where there is one to tell, before
+//! Every short script run over new ends: each is judged, and its line is written where there is one to tell, before
 //! the next one runs.
 
 ghost use Rattle.std.specs.Prelude.{◌≡◌, ◌≤◌, IfOk, OnErr, OnOk, false, string_bytes};
@@ -7,7 +7,8 @@ ghost use Rattle.ws_frame.specs.Watching.{has_failed};
 ghost use Rattle.ws_sweep.specs.Order.{ArePlaces, max_steps};
 ghost use Rattle.wst_run.specs.Notes.{TellsEach};
 ghost use Rattle.wst_run.specs.Sweeps.{CountsScripts, IsConnected, SweepsScript, SweepsScripts, TellsSweepEnd};
-ghost use Rattle.wst_run.specs.Sweeps.{WritesText, is_told, script_line, script_notes, sweep_total, told_line};
+ghost use Rattle.wst_run.specs.Sweeps.{WritesText, case_rules, is_told, script_line, script_notes, sweep_total};
+ghost use Rattle.wst_run.specs.Sweeps.{told_line};
 
 use crate::case_server::CaseServer;
 use crate::meeting::ConnectFault;
@@ -17,6 +18,7 @@ use std::alloc::Global;
 use std::io::Write;
 use ws_base::NoMemory;
 use ws_frame::{Watched, WriteFault, write_whole};
+use ws_peer::tester_key;
 use ws_suite::Verdict;
 use ws_sweep::{ShortScript, ShortScripts, script_count, short_case, tell_steps};
 use ws_wire::Role;
@@ -25,13 +27,15 @@ use wst_commands::{Exit, Fault, tell, tell_fault};
 /// How short scripts are run.
 #[derive(Clone, Copy)]
 pub struct SweepRules {
+    /// The role of the tested end.
+    pub tested: Role,
     /// Those of at most so many steps.
     pub steps: usize,
     /// What is Loose is told too.
     pub all: bool,
     /// The steps of each are told before it runs.
     pub progress: bool,
-    /// The masking key of the frames.
+    /// The masking key of the client's frames.
     pub key: [u8; 4],
 }
 
@@ -40,7 +44,7 @@ pub struct SweepRules {
 pub enum SweepStop {
     /// The output failed.
     Device,
-    /// There is no connection to the server, or no whole answer came.
+    /// There is no connection to the tested end, or no whole answer came.
     NoConnection(ConnectFault),
     /// Memory ran out.
     NoMemory,
@@ -66,7 +70,7 @@ impl From<WriteFault> for SweepStop {
     }
 }
 
-/// Runs every script of at most so many steps in their order, each over a new server, and writes its line, where there
+/// Runs every script of at most so many steps in their order, each over a new end, and writes its line, where there
 /// is one to tell, as soon as it is judged, and the total last.
 pub fn sweep_scripts<S: CaseServer, W: Write, F: Write>(
     alloc: Global,
@@ -85,7 +89,7 @@ pub fn sweep_scripts<S: CaseServer, W: Write, F: Write>(
     Ok(tally.exit())
 }
 
-/// Runs the scripts, and counts what was told of the server in them.
+/// Runs the scripts, and counts what was told of the tested end in them.
 fn run_scripts<S: CaseServer, W: Write, F: Write>(
     alloc: Global,
     server: &S,
@@ -106,8 +110,7 @@ fn run_scripts<S: CaseServer, W: Write, F: Write>(
     Ok(tally)
 }
 
-/// Runs a script over a new server, and writes its line, where there is one to tell. Answers what is told of the
-/// server.
+/// Runs a script over a new end, and writes its line, where there is one to tell. Answers what is told of that end.
 fn run_script<S: CaseServer, W: Write, F: Write>(
     alloc: Global,
     server: &S,
@@ -121,21 +124,22 @@ fn run_script<S: CaseServer, W: Write, F: Write>(
     ensures { SweepsScript (S.meets server.now rules.key) rules script.now result
         (watched W.contents writer.old writer.new) }
 {
-    tell_script(alloc, rules.progress, script, faults)?;
-    let case = short_case(alloc, Role::Server, Some(rules.key), script)?;
+    tell_script(alloc, rules, script, faults)?;
+    let key = tester_key(rules.tested, rules.key);
+    let case = short_case(alloc, rules.tested, key, script)?;
     let outcome = outcome_of(alloc, server, &case, case_rules(rules))?;
     let told = connected(outcome)?;
-    tell_outcome(alloc, rules.all, script, &told, writer)?;
+    tell_outcome(alloc, rules, script, &told, writer)?;
     Ok(told)
 }
 
 /// How the case of a script is run.
 fn case_rules(rules: SweepRules) -> RunRules
-    ensures key { result.key ≡ rules.key }
-    ensures explains { result.explains ≡ false }
+    ensures { result ≡ case_rules rules }
 {
     let key = rules.key;
     RunRules {
+        tested: rules.tested,
         key,
         explains: false,
         progress: false,
@@ -143,7 +147,7 @@ fn case_rules(rules: SweepRules) -> RunRules
     }
 }
 
-/// The outcome, where there is a connection to the server.
+/// The outcome, where there is a connection to the tested end.
 fn connected(outcome: Outcome) -> Result<Outcome, SweepStop>
     ensures { IsConnected outcome result }
 {
@@ -157,19 +161,19 @@ fn connected(outcome: Outcome) -> Result<Outcome, SweepStop>
 /// Tells the steps of a script that is run next, where that is asked for.
 fn tell_script<F: Write>(
     alloc: Global,
-    progress: bool,
+    rules: SweepRules,
     script: &ShortScript,
     faults: &mut Watched<F>,
 ) -> Result<(), NoMemory>
     requires { ArePlaces script.now }
-    ensures told { OnOk result (TellsEach (script_notes progress script.now)
+    ensures told { OnOk result (TellsEach (script_notes rules.progress rules.tested script.now)
         (watched F.contents faults.old faults.new)) }
     ensures kept { OnErr result (faults.new ≡ faults.old) }
 {
-    if !progress {
+    if !rules.progress {
         return Ok(());
     }
-    let mut line = tell_steps(alloc, Role::Server, script)?;
+    let mut line = tell_steps(alloc, rules.tested, script)?;
     line.push_str("\n")?;
     tell(line.as_bytes(), faults);
     Ok(())
@@ -178,20 +182,20 @@ fn tell_script<F: Write>(
 /// Writes the line of a script, where there is one to tell.
 fn tell_outcome<W: Write>(
     alloc: Global,
-    all: bool,
+    rules: SweepRules,
     script: &ShortScript,
     outcome: &Outcome,
     writer: &mut Watched<W>,
 ) -> Result<(), SweepStop>
     requires works { has_failed writer.old ≡ false }
     requires places { ArePlaces script.now }
-    ensures { WritesText (script_line all (script.now, outcome.now)) result
+    ensures { WritesText (script_line rules (script.now, outcome.now)) result
         (watched W.contents writer.old writer.new) }
 {
-    if !is_told(all, outcome) {
+    if !is_told(rules.all, outcome) {
         return Ok(());
     }
-    let line = line_of(alloc, script, outcome)?;
+    let line = line_of(alloc, rules.tested, script, outcome)?;
     write_whole(writer, line.as_bytes())?;
     Ok(())
 }
@@ -211,11 +215,16 @@ fn is_told(all: bool, outcome: &Outcome) -> bool
 }
 
 /// Its line.
-fn line_of(alloc: Global, script: &ShortScript, outcome: &Outcome) -> Result<String, NoMemory>
+fn line_of(
+    alloc: Global,
+    tested: Role,
+    script: &ShortScript,
+    outcome: &Outcome,
+) -> Result<String, NoMemory>
     requires { ArePlaces script.now }
-    ensures { IfOk result (λ line. string_bytes line ≡ told_line (script.now, outcome.now)) }
+    ensures { IfOk result (λ line. string_bytes line ≡ told_line tested (script.now, outcome.now)) }
 {
-    let steps = tell_steps(alloc, Role::Server, script)?;
+    let steps = tell_steps(alloc, tested, script)?;
     let line = format!(in alloc; "{outcome}: {steps}\n")?;
     Ok(line)
 }

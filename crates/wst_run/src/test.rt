@@ -1,29 +1,29 @@
-//! The command `test`: what is to be run, and its run over servers of any kind. Its lines are told in docs/FORMATS.md.
+//! The command `test`: what is to be run, and its run over ends of any kind. Its lines are told in docs/FORMATS.md.
 
 ghost use Rattle.std.specs.Prelude.{◌≡◌, IfOk, MatchResult, false};
 ghost use Rattle.ws_frame.specs.Devices.{watched};
 ghost use Rattle.ws_frame.specs.Watching.{has_failed};
 ghost use Rattle.wst_commands.specs.Devices.{StaysFailed};
 ghost use Rattle.wst_commands.specs.GivenCases.{names_of};
-ghost use Rattle.wst_run.specs.Servers.{MeetsBy};
-ghost use Rattle.wst_run.specs.Test.{CanBeTested, CarriesOut, IsPlan, RefusesTest, RunsPlan, is_one_case, rules_of};
+ghost use Rattle.wst_run.specs.Test.{CanBeTested, CarriesOut, IsPlan, RefusesTest, RunsPlan, RunsPlanOver};
+ghost use Rattle.wst_run.specs.Test.{is_one_case, rules_of};
 
 use crate::address_server::AddressServer;
 use crate::case_server::CaseServer;
-use crate::run_plans::{Refusal, RunPlan, Server, plan_run};
+use crate::run_plans::{Refusal, RunPlan, TestedEnd, plan_run};
 use crate::testing::{RunRules, capture_case, test_cases};
 use std::alloc::Global;
 use std::io::Write;
 use std::net::Net;
 use ws_frame::Watched;
 use ws_suite::Case;
-use wst_commands::{Exit, Fault, cases_of, end_run, is_glob};
+use wst_commands::{Exit, Fault, ListenFault, cases_of, end_run, is_glob, tell_fault};
 use wst_words::TestOptions;
 
 /// What is to be run.
 #[derive(Drop)]
 pub struct TestPlan<'a> {
-    /// Over which server, and how.
+    /// Over which end, and how.
     pub run: RunPlan<'a>,
     /// The capture of the one case is written in place of the verdicts.
     pub capture: bool,
@@ -34,7 +34,7 @@ pub struct TestPlan<'a> {
     pub cases: Vec<Case>,
 }
 
-/// Runs the cases of a plan over the server that it names, and tells how that ended.
+/// Runs the cases of a plan over the end that it names, and tells how that ended.
 pub fn run_over_target<N: Net, W: Write, F: Write>(
     alloc: Global,
     plan: &TestPlan<'_>,
@@ -44,19 +44,22 @@ pub fn run_over_target<N: Net, W: Write, F: Write>(
 ) -> Exit
     requires works { has_failed writer.old ≡ false }
     requires plan { CanBeTested plan.now }
-    ensures { RunsPlan (MeetsBy plan.now.run) plan.now result (watched W.contents writer.old writer.new)
+    ensures { RunsPlanOver plan.now.run.tested plan.now result (watched W.contents writer.old writer.new)
         (watched F.contents faults.old faults.new) }
 {
-    match &plan.run.server {
-        Server::Memory(server) => run_plan(alloc, server, plan, writer, faults),
-        Server::At(target) => {
+    match &plan.run.tested {
+        TestedEnd::Memory(end) => run_plan(alloc, end, plan, writer, faults),
+        TestedEnd::Server(target) => {
             let server = AddressServer::new(net, target, &plan.run);
             run_plan(alloc, &server, plan, writer, faults)
+        }
+        TestedEnd::Clients(_) => {
+            tell_fault(alloc, Fault::NotListening(ListenFault::Failed), faults)
         }
     }
 }
 
-/// Runs the cases of a plan, each over a new server, and tells how that ended.
+/// Runs the cases of a plan, each over a new end, and tells how that ended.
 pub fn run_plan<S: CaseServer, W: Write, F: Write>(
     alloc: Global,
     server: &S,
@@ -101,6 +104,7 @@ fn rules_of(plan: &TestPlan<'_>) -> RunRules
     ensures { result ≡ rules_of plan.now }
 {
     RunRules {
+        tested: plan.run.tested.role(),
         key: plan.run.key,
         explains: plan.explain,
         progress: plan.progress,

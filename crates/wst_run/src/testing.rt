@@ -1,14 +1,15 @@
-//! Cases run over new servers: each is judged, and its line is written, before the next one runs.
+//! Cases run over new ends: each is judged, and its line is written, before the next one runs.
 
 ghost use Rattle.std.specs.Prelude.{◌≡◌, ◌+◌, ◌<◌, ◌^◌, List, ℕ, IfOk, MatchResult, OnErr, OnOk, false, if◌then◌else◌};
 ghost use Rattle.std.specs.List.{All};
 ghost use Rattle.ws_frame.specs.Devices.{watched};
 ghost use Rattle.ws_frame.specs.Watching.{has_failed};
+ghost use Rattle.ws_scripts.specs.Captures2.{written_capture2};
 ghost use Rattle.ws_scripts.specs.Scripts.{CanBeRun};
 ghost use Rattle.wst_commands.specs.Devices.{Delivers, StaysFailed};
 ghost use Rattle.wst_run.specs.Notes.{TellsEach, miss_notes, progress_notes};
 ghost use Rattle.wst_run.specs.Outcomes.{exit_of_tests, is_missed, max_missed, told_refusal, total_line};
-ghost use Rattle.wst_run.specs.Testing.{IsTested, RunsCapture, RunsCases, WritesCapture, test_line};
+ghost use Rattle.wst_run.specs.Testing.{IsTested, RunsCapture, RunsCases, WritesCapture, run_capture, test_line};
 ghost use Rattle.wst_commands.specs.declared.fault.Fault.TheVariants as variant;
 
 use crate::case_server::CaseServer;
@@ -19,7 +20,8 @@ use std::io::Write;
 use ws_base::NoMemory;
 use ws_connection::HeadRefusal;
 use ws_frame::Watched;
-use ws_suite::{Capture, Case, judge, write_capture2};
+use ws_peer::tester_key;
+use ws_suite::{Capture, Case, Transcript, judge_end, write_capture2};
 use ws_upgrade::HeadFault;
 use ws_wire::Role;
 use wst_commands::{Exit, Fault, deliver, exit_of, judgement_of, tell};
@@ -27,18 +29,20 @@ use wst_commands::{Exit, Fault, deliver, exit_of, judgement_of, tell};
 /// How cases are run.
 #[derive(Clone, Copy)]
 pub struct RunRules {
-    /// The masking key of the frames.
+    /// The role of the tested end.
+    pub tested: Role,
+    /// The masking key of the client's frames.
     pub key: [u8; 4],
     /// Below a verdict other than Pass it is told why.
     pub explains: bool,
     /// The name of each case is told before it runs.
     pub progress: bool,
-    /// Servers are waited for in time: a case without a connection doesn't end the run then, but the third in a row.
+    /// Tested ends are waited for in time: a case without a connection doesn't end the run then, but the third in a row.
     pub is_limited: bool,
 }
 
-/// Runs the cases in their order, each over a new server, and writes a line for each as soon as it is judged, and the
-/// total last. A line that can't be written ends the run, and so does, after its line, a server to which there is no
+/// Runs the cases in their order, each over a new end, and writes a line for each as soon as it is judged, and the
+/// total last. A line that can't be written ends the run, and so does, after its line, an end to which there is no
 /// connection, or the third in a row. Why there is none is told to `faults`, and the name of a case where that is asked
 /// for.
 pub fn test_cases<S: CaseServer, W: Write, F: Write>(
@@ -112,7 +116,7 @@ fn tell_progress<F: Write>(
     Ok(())
 }
 
-/// Tells why there is no connection to the server of a case, where there is none.
+/// Tells why there is no connection to the tested end of a case, where there is none.
 fn tell_miss<F: Write>(outcome: &Outcome, faults: &mut Watched<F>)
     ensures told { TellsEach (miss_notes outcome.now) (watched F.contents faults.old faults.new) }
     ensures still { StaysFailed faults.old faults.new }
@@ -123,7 +127,7 @@ fn tell_miss<F: Write>(outcome: &Outcome, faults: &mut Watched<F>)
     }
 }
 
-/// What is told of a new server in a case.
+/// What is told of a new end in a case.
 pub(crate) fn outcome_of<S: CaseServer>(
     alloc: Global,
     server: &S,
@@ -131,11 +135,11 @@ pub(crate) fn outcome_of<S: CaseServer>(
     rules: RunRules,
 ) -> Result<Outcome, NoMemory>
     requires { CanBeRun case.now }
-    ensures { IfOk result (λ outcome. IsTested (S.meets server.now rules.key) rules.explains case.now outcome) }
+    ensures { IfOk result (λ outcome. IsTested (S.meets server.now rules.key) rules case.now outcome) }
 {
     match server.run(alloc, case, rules.key)? {
         Meeting::Ran(transcript) => {
-            let told = judgement_of(alloc, rules.explains, Role::Server, &transcript)?;
+            let told = judgement_of(alloc, rules.explains, rules.tested, &transcript)?;
             Ok(Outcome::Judged(told))
         }
         Meeting::Refused(refusal) => {
@@ -189,7 +193,7 @@ fn tell_total<W: Write>(alloc: Global, tally: Tally, writer: &mut Watched<W>) ->
     Ok(deliver(tally.exit(), line.as_bytes(), writer))
 }
 
-/// Runs a case over a new server, and writes the capture of it in format 2. Where there is none, it writes the line of
+/// Runs a case over a new end, and writes the capture of it in format 2. Where there is none, it writes the line of
 /// the case. What is told to `faults` is told as by `test_cases`.
 pub fn capture_case<S: CaseServer, W: Write, F: Write>(
     alloc: Global,
@@ -207,13 +211,7 @@ pub fn capture_case<S: CaseServer, W: Write, F: Write>(
 {
     tell_progress(alloc, rules.progress, case, faults)?;
     match server.run(alloc, case, rules.key)? {
-        Meeting::Ran(transcript) => {
-            let capture = Capture {
-                key: Some(rules.key),
-                transcript,
-            };
-            tell_capture(alloc, &capture, writer)
-        }
+        Meeting::Ran(transcript) => tell_capture(alloc, rules, transcript, writer),
         Meeting::Refused(refusal) => {
             let outcome = Outcome::HeadRefused(HeadRefusal {
                 fault: refusal.fault,
@@ -230,18 +228,37 @@ pub fn capture_case<S: CaseServer, W: Write, F: Write>(
     }
 }
 
-/// Writes a capture. The exit is that of the verdict on its transcript.
+/// Writes the capture of a run. The exit is that of the verdict on the tested end by its transcript.
 fn tell_capture<W: Write>(
     alloc: Global,
-    capture: &Capture,
+    rules: RunRules,
+    transcript: Transcript,
     writer: &mut Watched<W>,
 ) -> Result<Exit, Fault>
     requires { has_failed writer.old ≡ false }
     ensures { MatchResult result
-        (λ exit. WritesCapture capture.now exit (watched W.contents writer.old writer.new))
+        (λ exit. WritesCapture rules.tested (run_capture rules.tested rules.key transcript) exit
+        (watched W.contents writer.old writer.new))
         (λ fault. (fault ≡ variant.NoMemory) × (writer.new ≡ writer.old)) }
 {
-    let text = write_capture2(alloc, capture)?;
-    let verdict = judge(alloc, &capture.transcript)?;
+    let verdict = judge_end(alloc, rules.tested, &transcript)?;
+    let text = capture_text(alloc, rules.tested, rules.key, transcript)?;
     Ok(deliver(exit_of(verdict), text.as_slice(), writer))
+}
+
+/// The capture of a run that tests an end of this role, in format 2.
+pub(crate) fn capture_text(
+    alloc: Global,
+    tested: Role,
+    key: [u8; 4],
+    transcript: Transcript,
+) -> Result<Vec<u8>, NoMemory>
+    ensures { IfOk result (λ text. text.items ≡ written_capture2 (run_capture tested key transcript)) }
+{
+    let capture = Capture {
+        key: tester_key(tested, key),
+        transcript,
+    };
+    let text = write_capture2(alloc, &capture)?;
+    Ok(text)
 }

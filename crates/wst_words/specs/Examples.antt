@@ -254,10 +254,20 @@ pub test_options : (places : Places)
 unfolding on_words
 test_options places = refl
 
+-- `wst test --role client tung` tests a client, and words without a role a server
+abbrev client_test_words : List Text
+client_test_words = words (codes "test" ∷ codes "--role" ∷ codes "client" ∷ codes "tung" ∷ [])
+
+pub test_roles : (places : Places)
+    → map (λ asked. option_map (λ met. first_of (codes "role") met.1) (subcommand_of (wst_app places) asked))
+    (client_test_words ∷ test_words ∷ []) ≡ Some (Some (codes "client")) ∷ Some (Some (codes "server")) ∷ []
+unfolding on_words
+test_roles places = refl
+
 -- such words can fail for want of memory alone
 pub asking_words_are_taken : (places : Places)
     → map (takes (wst_app places)) (plain_words ∷ client_words ∷ head_words ∷ protocol_words ∷ no_protocol_words
     ∷ session_words ∷ echo_words ∷ judge_words ∷ convert_words ∷ cases_words ∷ some_cases_words ∷ test_words ∷ serve_words ∷ waiting_words
-    ∷ []) ≡ true ∷ true ∷ true ∷ true ∷ true ∷ true ∷ true ∷ true ∷ true ∷ true ∷ true ∷ true ∷ true ∷ true ∷ []
+    ∷ client_test_words ∷ []) ≡ true ∷ true ∷ true ∷ true ∷ true ∷ true ∷ true ∷ true ∷ true ∷ true ∷ true ∷ true ∷ true ∷ true ∷ true ∷ []
 unfolding on_words
 asking_words_are_taken places = refl

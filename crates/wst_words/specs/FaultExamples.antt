@@ -57,6 +57,13 @@ pub test_alone : (places : Places)
 unfolding on_words
 test_alone places = refl
 
+-- `wst test --role echo own`: no end
+pub test_of_no_end : (places : Places)
+    → fault_of (wst_app places) (words (codes "test" ∷ codes "--role" ∷ codes "echo" ∷ codes "own" ∷ []))
+    ≡ InvalidValue ∷ []
+unfolding on_words
+test_of_no_end places = refl
+
 -- `wst serve localhost:9001`: no count
 pub serve_without_count : (places : Places)
     → fault_of (wst_app places) (words (codes "serve" ∷ codes "localhost:9001" ∷ []))

@@ -1,14 +1,15 @@
--- The arguments that commands share which run scripts over a server, and what they give.
+-- The arguments that commands share which run scripts over a tested end, and what they give.
 use Rattle.std.specs.Prelude.{◌≡◌, List, [], ◌∷◌, Some, codes, map}
 use Rattle.clap.specs.Words.{Row, first_of}
 use Rattle.wst_words.specs.Arguments.{ArgumentRow, argument, argument_or}
-use Rattle.wst_words.specs.declared.arguments.ArgumentKind.TheVariants.{EachWord, NeededWord, Number, Word}
-use Rattle.wst_words.specs.Options.{GivesNumber, GivesProtocols, GivesWord, given_words}
+use Rattle.wst_words.specs.declared.arguments.ArgumentKind.TheVariants.{EachWord, End, NeededWord, Number, Word}
+use Rattle.wst_words.specs.Options.{GivesEnd, GivesNumber, GivesProtocols, GivesWord, given_words}
 use Rattle.wst_words.specs.declared.run_options.RunOptions.{RunOptions}
 
--- the arguments, with this one for how long a server is waited for
+-- the arguments, with this one for how long the tested end is waited for
 abbrev pub run_arguments : ArgumentRow → List ArgumentRow
-run_arguments timeout = argument_or (codes "key") Word (codes "37fa213d")
+run_arguments timeout = argument_or (codes "role") End (codes "server")
+    ∷ argument_or (codes "key") Word (codes "37fa213d")
     ∷ timeout
     ∷ argument_or (codes "budget") Number (codes "67108864")
     ∷ argument (codes "protocols") Word
@@ -16,12 +17,13 @@ run_arguments timeout = argument_or (codes "key") Word (codes "37fa213d")
     ∷ argument (codes "connect") Word
     ∷ argument (codes "target") NeededWord ∷ []
 
--- a server is waited for without a limit where none is given
+-- it is waited for without a limit where none is given
 abbrev pub run_arguments_without_timeout : List ArgumentRow
 run_arguments_without_timeout = run_arguments (argument (codes "timeout") Word)
 
 -- the words give these
 pub record AsksForRun (rows : List Row) (options : RunOptions) : Type 0 where
+  pub role : GivesEnd rows (codes "role") options.role
   pub key : first_of (codes "key") rows ≡ Some options.key.now
   pub timeout : GivesWord rows (codes "timeout") options.timeout
   pub budget : GivesNumber rows (codes "budget") options.budget

@@ -1,4 +1,4 @@
-//! The arguments that commands share which run scripts over a server, and what they give.
+//! The arguments that commands share which run scripts over a tested end, and what they give.
 
 ghost use Rattle.std.specs.Prelude.{◌≡◌, IfOk, MatchOption, codes, map};
 ghost use Rattle.clap.specs.Words.{found_of, rows_of};
@@ -6,29 +6,40 @@ ghost use Rattle.wst_words.specs.Options.{LacksOneOf, given_words};
 ghost use Rattle.wst_words.specs.RunOptions.{AsksForRun, run_arguments_without_timeout};
 
 use crate::arguments::Argument;
-use crate::arguments::ArgumentKind::{EachWord, NeededWord, Number, Word};
-use crate::options::{number_of, word_of, words_of};
+use crate::arguments::ArgumentKind::{EachWord, End, NeededWord, Number, Word};
+use crate::options::{end_of, number_of, word_of, words_of};
 use clap::ArgMatches;
 use std::alloc::{AllocError, Global};
+use ws_wire::Role;
 
-/// Over which server scripts are run, and how.
+/// Over which end scripts are run, and how.
 #[derive(Drop)]
 pub struct RunOptions<'a> {
-    /// The masking key of the frames that have none of their own, as a word.
+    /// The tested end.
+    pub role: Role,
+    /// The masking key of the client's frames that have none of their own, as a word.
     pub key: &'a str,
     /// For so many seconds, as a word, a byte is waited for, where that is given.
     pub timeout: Option<&'a str>,
-    /// At most so many bytes are read of a server in one script behind the head of its answer.
+    /// At most so many bytes are read of the tested end in one script behind its head.
     pub budget: u64,
-    /// The subprotocols that are offered, joined by commas, where they are given.
+    /// The subprotocols that are offered, or of a server known, joined by commas, where they are given.
     pub protocols: Option<&'a str>,
     /// The headers that the request has behind its own, each a word, in their order.
     pub headers: Vec<&'a str>,
     /// The address at which the connection is made, where that is given.
     pub connect: Option<&'a str>,
-    /// The peer: `own`, `tung`, an address or a URL.
+    /// The tested end: `own`, `tung`, an address or a URL. Clients come to the address.
     pub target: &'a str,
 }
+
+pub(crate) const ROLE: Argument = Argument {
+    name: "role",
+    kind: End,
+    default: Some("server"),
+    value_name: "END",
+    help: "The end that is tested",
+};
 
 pub(crate) const KEY: Argument = Argument {
     name: "key",
@@ -105,10 +116,12 @@ fn options_with<'a>(options: &ArgMatches<'a>, headers: Vec<&'a str>) -> Option<R
     ensures { MatchOption result (LacksOneOf (rows_of (found_of options.now)) run_arguments_without_timeout)
         (AsksForRun (rows_of (found_of options.now))) }
 {
+    let role = end_of(options, "role")?;
     let key = word_of(options, "key")?;
     let budget = number_of(options, "budget")?;
     let target = word_of(options, "target")?;
     Some(RunOptions {
+        role,
         key,
         timeout: word_of(options, "timeout"),
         budget,

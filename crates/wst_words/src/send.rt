@@ -12,7 +12,7 @@ use crate::arguments::ArgumentKind::Flag;
 use crate::commands::HelpText;
 use crate::options::{flag_of, word_of};
 use crate::run_options::{
-    BUDGET, CONNECT, HEADER, KEY, PROTOCOLS, RunOptions, TARGET, TIMEOUT, run_options,
+    BUDGET, CONNECT, HEADER, KEY, PROTOCOLS, ROLE, RunOptions, TARGET, TIMEOUT, run_options,
 };
 use clap::ArgMatches;
 use std::alloc::{AllocError, Global};
@@ -20,14 +20,15 @@ use std::alloc::{AllocError, Global};
 /// What `send` is asked to send its script to, and how.
 #[derive(Drop)]
 pub struct SendOptions<'a> {
-    /// Over which server, and how. A time limit is always given.
+    /// Over which end, and how. A time limit is always given.
     pub run: RunOptions<'a>,
     /// The capture is written in place of the frames.
     pub capture: bool,
 }
 
 /// Its arguments.
-static ARGUMENTS: [Argument; 8] = [
+static ARGUMENTS: [Argument; 9] = [
+    ROLE,
     KEY,
     Argument {
         default: Some("2"),
@@ -84,7 +85,7 @@ fn options_with<'a>(options: &ArgMatches<'a>, run: RunOptions<'a>) -> Option<Sen
 /// What help says of `send`.
 pub(crate) fn help<'a>() -> HelpText<'a> {
     HelpText {
-        about: "Sends the frames of a script to a server, and shows every frame that comes back",
+        about: "Sends the frames of a script to a server or a client, and shows all that come back",
         long_about: LONG_ABOUT,
         after_help: AFTER_HELP,
     }
@@ -95,15 +96,16 @@ const LONG_ABOUT: &str =
     "Reads a script, whose lines `wst cases --help` describes, and runs it at TARGET: HOST:PORT, as
 127.0.0.1:9001, [::1]:9001 or localhost:9001, which is asked for an upgrade at `/`; or a URL, as
 ws://localhost:9001/echo?x=1, whose port is 80 where it has none; or a new server in memory: `own`,
-our echo, or `tung`, one of the crate tungstenite. What it sends may break any rule. Each frame is
-shown as soon as it is certain:
+our echo, or `tung`, one of the crate tungstenite. With --role client it is a client in memory that
+gets the script, as `wst test --help` tells. What it sends may break any rule. Each frame is shown
+as soon as it is certain:
 
   turn N         a turn begins, counted from 1; `wait` in the script ends one
   > FRAME        a frame that was sent, as `wst show` shows it, its place counted in what was sent
   < FRAME        one that came back, its place counted in what came back
   > bad length at N, > cut at N, the same with `<`    as `wst show` has them
   end WHO        who ended the run: `peer`; `tester`, which had sent all and waited in vain, or got
-                 what no server may send; or `broken`, where the connection broke
+                 what the tested end may not send; or `broken`, where the connection broke
 
 Lines of `>` stand as soon as their turn was sent, those of `<` as soon as their frame is whole. A
 turn ends once what is due for it has come, or once for so many SECONDS nothing has; once a close

@@ -12,7 +12,7 @@ use crate::arguments::ArgumentKind::{Flag, Number};
 use crate::commands::HelpText;
 use crate::options::{flag_of, number_of};
 use crate::run_options::{
-    BUDGET, CONNECT, HEADER, KEY, PROTOCOLS, RunOptions, TARGET, TIMEOUT, run_options,
+    BUDGET, CONNECT, HEADER, KEY, PROTOCOLS, ROLE, RunOptions, TARGET, TIMEOUT, run_options,
 };
 use clap::ArgMatches;
 use std::alloc::{AllocError, Global};
@@ -20,7 +20,7 @@ use std::alloc::{AllocError, Global};
 /// Which scripts `sweep` is asked to run, and against what.
 #[derive(Drop)]
 pub struct SweepOptions<'a> {
-    /// Over which server, and how.
+    /// Over which end, and how.
     pub run: RunOptions<'a>,
     /// Scripts of at most so many steps.
     pub steps: u64,
@@ -31,7 +31,8 @@ pub struct SweepOptions<'a> {
 }
 
 /// Its arguments.
-static ARGUMENTS: [Argument; 10] = [
+static ARGUMENTS: [Argument; 11] = [
+    ROLE,
     KEY,
     TIMEOUT,
     BUDGET,
@@ -105,7 +106,7 @@ fn options_with<'a>(options: &ArgMatches<'a>, run: RunOptions<'a>) -> Option<Swe
 /// What help says of `sweep`.
 pub(crate) fn help<'a>() -> HelpText<'a> {
     HelpText {
-        about: "Runs every short script against a server, and tells those in which it broke a rule",
+        about: "Runs every short script against a server or a client, and tells where it broke a rule",
         long_about: LONG_ABOUT,
         after_help: AFTER_HELP,
     }
@@ -114,10 +115,12 @@ pub(crate) fn help<'a>() -> HelpText<'a> {
 /// What `sweep` is for.
 const LONG_ABOUT: &str =
     "Runs every script of at most N steps, each over a connection of its own: whatever a script sends,
-lawful or not, a FAIL is the server's. TARGET is the address of a server, as 127.0.0.1:9001,
+lawful or not, a FAIL is the tested end's. TARGET is the address of a server, as 127.0.0.1:9001,
 [::1]:9001 or localhost:9001, which is asked for an upgrade at `/` and is to send each message back;
 or a new server in memory for each script: `own`, our echo, which passes, or `tung`, one of the
-crate tungstenite. The steps are these 27, which `wst cases --help` describes:
+crate tungstenite. With --role client they are clients in memory, as `wst test --help` tells. The
+steps are these 27, which `wst cases --help` describes; to a client the last one is
+`text key=00000000 \"a\"`, since its mask is wrong there:
 
   text \"a\"     text fin=0 \"a\"     text -           text fin=0 -      text fin=0 c3
   text c3      text c328          binary 00ff      binary fin=0 00ff

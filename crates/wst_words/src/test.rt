@@ -12,7 +12,7 @@ use crate::arguments::ArgumentKind::{Flag, Words};
 use crate::commands::HelpText;
 use crate::options::{flag_of, words_of};
 use crate::run_options::{
-    BUDGET, CONNECT, HEADER, KEY, PROTOCOLS, RunOptions, TARGET, TIMEOUT, run_options,
+    BUDGET, CONNECT, HEADER, KEY, PROTOCOLS, ROLE, RunOptions, TARGET, TIMEOUT, run_options,
 };
 use clap::ArgMatches;
 use std::alloc::{AllocError, Global};
@@ -20,7 +20,7 @@ use std::alloc::{AllocError, Global};
 /// What `test` is asked to run.
 #[derive(Drop)]
 pub struct TestOptions<'a> {
-    /// Over which server, and how.
+    /// Over which end, and how.
     pub run: RunOptions<'a>,
     /// The capture is written in place of the verdict.
     pub capture: bool,
@@ -33,7 +33,8 @@ pub struct TestOptions<'a> {
 }
 
 /// Its arguments.
-static ARGUMENTS: [Argument; 11] = [
+static ARGUMENTS: [Argument; 12] = [
+    ROLE,
     KEY,
     TIMEOUT,
     BUDGET,
@@ -121,7 +122,7 @@ fn options_with<'a>(
 /// What help says of `test`.
 pub(crate) fn help<'a>() -> HelpText<'a> {
     HelpText {
-        about: "Runs cases against a server, and tells which rule it broke in each",
+        about: "Runs cases against a server or a client, and tells which rule it broke in each",
         long_about: LONG_ABOUT,
         after_help: AFTER_HELP,
     }
@@ -133,10 +134,12 @@ const LONG_ABOUT: &str =
 is to send each message back: HOST:PORT, as 127.0.0.1:9001, [::1]:9001 or localhost:9001, which is
 asked for an upgrade at `/`; or a URL, as ws://localhost:9001/echo?x=1, whose port is 80 where it
 has none; or a new server in memory for each case, to see what a run looks like: `own`, our echo,
-which passes, or `tung`, one of the crate tungstenite. As soon as a case is judged a line for it is
-written, and the total at last:
+which passes, or `tung`, one of the crate tungstenite. With --role client the same cases test a
+client: `own` and `tung` are clients in memory then, which mask their frames with --key. A client is
+sent frames without a mask, but where a case has a key of its own. As soon as a case is judged a
+line for it is written, and the total at last:
 
-  ID PASS             the server kept the rules
+  ID PASS             the tested end kept the rules
   ID LOOSE WHY        it answered otherwise than an echo that is fed turn by turn
   ID FAIL WHY         it broke this rule
   ID FAIL Head NAME   its answer to the request is to be refused

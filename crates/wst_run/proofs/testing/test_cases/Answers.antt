@@ -138,21 +138,21 @@ pub with-tally-requires-clause-pass : goal.with-tally-requires-clause-pass
 with-tally-requires-clause-pass g c =
     let (works, few, so, still) = c.loop-case.invariant in
     let fits : length c.args.cases.now < 18446744073709551616 = search rules in
-    (tally_has_room (g.S.CaseServer.meets c.args.server.now c.args.rules.key) c.args.rules.explains c.args.cases.now c.loop-case.case-index
+    (tally_has_room (g.S.CaseServer.meets c.args.server.now c.args.rules.key) c.args.rules c.args.cases.now c.loop-case.case-index
     c.loop-case.tally _ _ so.told c.loop-case-test.true fits).0
 
 pub with-tally-requires-clause-loose : goal.with-tally-requires-clause-loose
 with-tally-requires-clause-loose g c =
     let (works, few, so, still) = c.loop-case.invariant in
     let fits : length c.args.cases.now < 18446744073709551616 = search rules in
-    (tally_has_room (g.S.CaseServer.meets c.args.server.now c.args.rules.key) c.args.rules.explains c.args.cases.now c.loop-case.case-index
+    (tally_has_room (g.S.CaseServer.meets c.args.server.now c.args.rules.key) c.args.rules c.args.cases.now c.loop-case.case-index
     c.loop-case.tally _ _ so.told c.loop-case-test.true fits).1
 
 pub with-tally-requires-clause-fail : goal.with-tally-requires-clause-fail
 with-tally-requires-clause-fail g c =
     let (works, few, so, still) = c.loop-case.invariant in
     let fits : length c.args.cases.now < 18446744073709551616 = search rules in
-    (tally_has_room (g.S.CaseServer.meets c.args.server.now c.args.rules.key) c.args.rules.explains c.args.cases.now c.loop-case.case-index
+    (tally_has_room (g.S.CaseServer.meets c.args.server.now c.args.rules.key) c.args.rules c.args.cases.now c.loop-case.case-index
     c.loop-case.tally _ _ so.told c.loop-case-test.true fits).2
 
 pub loop-case-preserved : goal.loop-case-preserved

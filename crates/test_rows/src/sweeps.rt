@@ -1,0 +1,65 @@
+//! Rows of short scripts.
+
+ghost use Rattle.std.specs.Prelude.{◌<◌};
+ghost use Rattle.ws_sweep.specs.Order.{alphabet_size};
+
+use crate::row_fault::RowFault;
+use crate::scripts::put_short_step;
+use crate::words::{number_of, role_of};
+use std::alloc::Global;
+use std::fmt::Write;
+use ws_suite::{Case, read_script};
+use ws_sweep::{MAX_STEPS, STEPS, ShortScript, script_count, short_case, step_line, tell_steps};
+use ws_wire::Role;
+
+/// `alphabet client|server`: how many lines of the alphabet for such a tested end are read as what they send.
+pub fn count_read(alloc: Global, words: &[&str], out: &mut String) -> Result<(), RowFault> {
+    let [end] = words else {
+        return Err(RowFault::NotARow);
+    };
+    let tested = role_of(end)?;
+    let mut read: u32 = 0;
+    for place in 0..STEPS {
+        if is_read(alloc, tested, place)? {
+            read = read.saturating_add(1);
+        }
+    }
+    write!(out, "{read}")?;
+    Ok(())
+}
+
+/// Whether the line at a place is read, as the text of a script, as the first step of the case that has it alone.
+fn is_read(alloc: Global, tested: Role, place: usize) -> Result<bool, RowFault>
+    requires { place < alphabet_size }
+{
+    let text = format!(in alloc; "{}\n", step_line(tested, place))?;
+    let Ok(read) = read_script(alloc, text.as_bytes()) else {
+        return Ok(false);
+    };
+    let sent = short_case(alloc, tested, None, &ShortScript::at(place + 1))?;
+    let (read, sent) = (first_step(alloc, &read)?, first_step(alloc, &sent)?);
+    Ok(!read.is_empty() && read.as_str() == sent.as_str())
+}
+
+/// The first step of a case, as the table of cases has it.
+fn first_step(alloc: Global, case: &Case) -> Result<String, RowFault> {
+    let mut told = String::new(alloc);
+    if let [first, ..] = case.steps.as_slice() {
+        put_short_step(first, &mut told)?;
+    }
+    Ok(told)
+}
+
+/// `short_script client|server NUMBER`: the steps of the script of this number, counted from 0, for such a tested end.
+pub fn tell_script(alloc: Global, words: &[&str], out: &mut String) -> Result<(), RowFault> {
+    let [end, number] = words else {
+        return Err(RowFault::NotARow);
+    };
+    let (tested, number) = (role_of(end)?, number_of(number)? as usize);
+    if number >= script_count(MAX_STEPS) {
+        return Err(RowFault::NotARow);
+    }
+    let steps = tell_steps(alloc, tested, &ShortScript::at(number))?;
+    out.push_str(steps.as_str())?;
+    Ok(())
+}
