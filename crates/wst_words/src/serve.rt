@@ -133,7 +133,8 @@ end of its session is read and dropped until it ends, for two seconds at most. A
 
 A line is written as soon as the command listens, and one for each connection that has ended:
 
-  listening on ADDR   the word as it was given
+  listening on ADDR   the word as it was given; where its port is 0, the port that the system
+                      chose stands in the place of that 0
   K STATUS            how the session of connection K ended, counted from 1: `clean CODE` or
                       `clean none`, `failed NAME`, or `lost` where the client ended the stream
                       without a close frame
