@@ -8,6 +8,7 @@ use crate::scripts::put_short_step;
 use crate::words::{number_of, role_of};
 use std::alloc::Global;
 use std::fmt::Write;
+use ws_formats::Hex;
 use ws_suite::{Case, read_script};
 use ws_sweep::{MAX_STEPS, STEPS, ShortScript, script_count, short_case, step_line, tell_steps};
 use ws_wire::Role;
@@ -50,7 +51,8 @@ fn first_step(alloc: Global, case: &Case) -> Result<String, RowFault> {
     Ok(told)
 }
 
-/// `short_script client|server NUMBER`: the steps of the script of this number, counted from 0, for such a tested end.
+/// `short_script client|server NUMBER`: the text of the steps of the script of this number, counted from 0, for such a
+/// tested end, as digits.
 pub fn tell_script(alloc: Global, words: &[&str], out: &mut String) -> Result<(), RowFault> {
     let [end, number] = words else {
         return Err(RowFault::NotARow);
@@ -60,6 +62,6 @@ pub fn tell_script(alloc: Global, words: &[&str], out: &mut String) -> Result<()
         return Err(RowFault::NotARow);
     }
     let steps = tell_steps(alloc, tested, &ShortScript::at(number))?;
-    out.push_str(steps.as_str())?;
+    write!(out, "{}", Hex(steps.as_bytes()))?;
     Ok(())
 }

@@ -38,7 +38,7 @@ pub(crate) const ROLE: Argument = Argument {
     kind: End,
     default: Some("server"),
     value_name: "END",
-    help: "The end that is tested",
+    help: "The tested end",
 };
 
 pub(crate) const KEY: Argument = Argument {
