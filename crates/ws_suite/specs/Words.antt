@@ -34,11 +34,11 @@ verdict_words (Fail why) = codes "FAIL " ++ fail_name why
 abbrev pub fail_rule : Role → FailWhy → List ℕ
 fail_rule Server fail.NotFrames = codes "A server sends whole frames by the rules of RFC 6455 section 5, unmasked, with text in UTF-8 (section 8.1), and nothing behind its close frame (ours)"
 fail_rule Client fail.NotFrames = codes "A client sends whole frames by the rules of RFC 6455 section 5, masked, with text in UTF-8 (section 8.1), and nothing behind its close frame (ours)"
-fail_rule tested fail.Early = codes "A pong, a close frame or an echo answers what was sent before it (RFC 6455 sections 5.5.1 and 5.5.3; of an echo ours)"
+fail_rule tested fail.Early = codes "A pong, a close frame or an echo answers what was sent before it (ours; RFC 6455 sections 5.5.3 and 7.3 allow a pong, and a server a close, unasked)"
 fail_rule tested fail.Messages = codes "Each message is sent back, in order, of the same kind and payload (RFC 6455 sections 5.4 and 5.6; ours); after a fault the last may be missing"
 fail_rule tested fail.Pongs = codes "A pong has the payload of a ping (RFC 6455 section 5.5.3) that no other pong answers (ours), and the last ping is answered (section 5.5.2)"
 fail_rule tested fail.Close = codes "A close frame is answered by a close frame (RFC 6455 section 5.5.1), and none is sent without a close or a fault before it (ours)"
-fail_rule Server fail.End = codes "A server ends the connection after a close frame or a fault (RFC 6455 section 7.1.1), and not without one (ours)"
+fail_rule Server fail.End = codes "A server ends the connection after a close frame or a fault (RFC 6455 sections 5.5.1 and 7.1.7; of some faults ours), and not without one (ours)"
 fail_rule Client fail.End = codes "A client sends a close frame or ends the connection after a close frame or a fault (RFC 6455 sections 5.5.1 and 7.1.7), and does not end it without one (ours)"
 
 -- the rule that asks or allows otherwise

@@ -30,7 +30,7 @@ fn fail_rule(tested: Role, why: FailWhy) -> &'static str
                 "A client sends whole frames by the rules of RFC 6455 section 5, masked, with text in UTF-8 (section 8.1), and nothing behind its close frame (ours)",
         },
         FailWhy::Early =>
-            "A pong, a close frame or an echo answers what was sent before it (RFC 6455 sections 5.5.1 and 5.5.3; of an echo ours)",
+            "A pong, a close frame or an echo answers what was sent before it (ours; RFC 6455 sections 5.5.3 and 7.3 allow a pong, and a server a close, unasked)",
         FailWhy::Messages =>
             "Each message is sent back, in order, of the same kind and payload (RFC 6455 sections 5.4 and 5.6; ours); after a fault the last may be missing",
         FailWhy::Pongs =>
@@ -39,7 +39,7 @@ fn fail_rule(tested: Role, why: FailWhy) -> &'static str
             "A close frame is answered by a close frame (RFC 6455 section 5.5.1), and none is sent without a close or a fault before it (ours)",
         FailWhy::End => match tested {
             Role::Server =>
-                "A server ends the connection after a close frame or a fault (RFC 6455 section 7.1.1), and not without one (ours)",
+                "A server ends the connection after a close frame or a fault (RFC 6455 sections 5.5.1 and 7.1.7; of some faults ours), and not without one (ours)",
             Role::Client =>
                 "A client sends a close frame or ends the connection after a close frame or a fault (RFC 6455 sections 5.5.1 and 7.1.7), and does not end it without one (ours)",
         },
