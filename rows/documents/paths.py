@@ -47,7 +47,7 @@ def quoted_in(review, read):
         for block in unit.blocks:
             text, name = read(block.file) if block.file else "", None
             for line in block.lines:
-                if not line.strip() or line.startswith("--"):
+                if not line.strip() or line.lstrip().startswith("--"):
                     continue
                 match = definitions.DEFINED.match(line)
                 if match and match[1] not in definitions.NO_NAMES:
@@ -91,11 +91,17 @@ def line_of(unit, quoted, paths):
     parts = []
     inside = [name for name, it in quoted.items() if it.unit == unit]
     for path, names in paths.items():
+        needed = [name for name in inside if name in names]
         left_out = [name for name in inside if name not in names]
-        if len(left_out) < len(inside):
-            without = ", ".join(f"`{name}`" for name in left_out)
-            parts.append(f"{path} without {without}" if without else path)
+        if len(needed) < len(left_out):
+            parts += [f"{path}: {quoted_words(needed)} alone"] if needed else []
+        else:
+            parts.append(f"{path} without {quoted_words(left_out)}" if left_out else path)
     return f"Paths: {'; '.join(parts) or 'none of the three'}."
+
+
+def quoted_words(names):
+    return ", ".join(f"`{name}`" for name in names)
 
 
 def rows_of(quoted, paths):
