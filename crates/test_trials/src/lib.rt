@@ -23,11 +23,7 @@ mod masks;
 #[cfg(test)]
 mod memory_net;
 #[cfg(test)]
-mod network_sends;
-#[cfg(test)]
 mod network_serves;
-#[cfg(test)]
-mod network_targets;
 #[cfg(test)]
 mod network_tests;
 #[cfg(test)]
