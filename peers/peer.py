@@ -31,7 +31,8 @@ ENVIRONMENT = {
 
 @dataclass
 class Peer:
-    """A library: the name of its folder, Debian's package, the ending of its sources, what runs or builds these."""
+    """A library: the name of its folder, Debian's package, the ending of its sources, what runs or builds these. A
+    server that waits on at nearly each fault isn't swept: each wait takes two seconds."""
 
     name: str
     package: str
@@ -39,6 +40,7 @@ class Peer:
     runs: tuple = ()
     builds: tuple = ()
     libraries: tuple = ()
+    is_swept: bool = True
 
     def has(self, part):
         return self.source(part).exists()
@@ -77,7 +79,7 @@ PEERS = [
     Peer("websocket-client", "python3-websocket", "py", runs=PYTHON),
     Peer("ws", "node-ws", "js", runs=NODE),
     Peer("faye", "node-faye-websocket", "js", runs=NODE),
-    Peer("mojolicious", "libmojolicious-perl", "pl", runs=PERL),
+    Peer("mojolicious", "libmojolicious-perl", "pl", runs=PERL, is_swept=False),
     Peer("gorilla", "golang-github-gorilla-websocket-dev", "go", builds=GO),
     Peer("nhooyr", "golang-nhooyr-websocket-dev", "go", builds=GO),
     Peer("beast", "libboost-dev", "cpp", builds=CPP, libraries=["-pthread"]),

@@ -1,24 +1,26 @@
-"""The page docs/SCORES.md: a table of counts, and a sentence for what isn't PASS."""
+"""The page docs/SCORES.md: tables of counts, and a sentence for what isn't PASS."""
 
 from fnmatch import fnmatchcase
 from itertools import groupby
 
 from peer import FOLDER
+from tester import TIMEOUT
 
-REMARKS = FOLDER / "remarks.txt"
-NO_SENTENCE = "(no sentence in peers/remarks.txt yet)"
+REMARKS, SWEEPS = FOLDER / "remarks.txt", FOLDER / "sweeps.txt"
+NO_SENTENCE = "(no sentence in peers/ yet)"
 HEAD = """\
 # Scores of real peers
 
-Written by `peers/run`, with `{version}`: the {count} cases{options} at an echo over each library as Debian \
+Written by `peers/run`, with `{version}`: the {count} cases with `{timeout}` at an echo over each library as Debian \
 packages it, over loopback, without compression, with messages of 16777216 bytes and less. \
 [peers/README.md](../peers/README.md) says how it is run, [VERDICTS.md](VERDICTS.md) what the words mean, and \
 [CASES.md](CASES.md) what a case sends. It is the measurement of one day, which no test compares.
 
 A FAIL breaks a rule of RFC 6455 or one of ours for an echo; its sentence says which. A LOOSE is no fault: the \
-standard allows it, or what went over the connection can't decide. Where a case sends single bytes a server's last \
-frame may be lost in the reset that they meet, so that it can be PASS in one run and LOOSE in the next. `A to B` are \
-all cases from A to B in the order of `wst cases`. The longest case is that after which its line took longest to come.
+standard allows it, or what went over the connection can't decide. Where a case sends single bytes the last frame \
+of a peer may be lost in the reset that they meet, so that it can be PASS in one run and LOOSE in the next. `A to B` \
+are all cases from A to B in the order of `wst cases`. The longest case is that after which its line took longest to \
+come.
 """
 TABLE = """
 ## {kind}s
@@ -26,21 +28,30 @@ TABLE = """
 | {kind} | Version | Pass | Loose | Fail | No verdict | Seconds | Longest case |
 |---|---|---|---|---|---|---|---|
 """
-NO_CLIENTS = """
-## Clients
+SWEEP_TABLE = """
+## Sweeps
 
-The program has no `wst test --role client` yet: the clients of `peers/` were not run.
+`wst sweep --steps 2 {timeout}` at the same servers, but for mojolicious, which waits on at nearly each fault: every \
+script of at most two steps out of its alphabet of 27, with a close frame behind it where it has no close and no \
+fault. Of each sort of FAIL it is told in how many scripts it shows, and the first of these, one of the shortest.
+
+| Server | Scripts | Pass | Loose | Fail | Seconds |
+|---|---|---|---|---|---|
 """
 
 
-def page_of(version, options, order, parts):
-    """The page. Parts are (kind, list of (peer, Score)), the order is that of all cases."""
-    told = HEAD.format(version=version, options=f" with `{' '.join(options)}`" if options else "", count=len(order))
+def page_of(version, order, parts, sweeps):
+    """The page. Parts are (kind, list of (peer, Score)), sweeps (peer, Sweep), the order is that of all cases."""
+    timeout = " ".join(TIMEOUT)
+    told = HEAD.format(version=version, timeout=timeout, count=len(order))
     for kind, scores in parts:
         told += TABLE.format(kind=kind.capitalize())
         told += "".join(row_of(peer, score) for peer, score in scores)
         told += "".join(part_of(peer, score, order) for peer, score in scores)
-    return told + ("" if any(kind == "client" for kind, _ in parts) else NO_CLIENTS)
+    told += SWEEP_TABLE.format(timeout=timeout)
+    told += "".join(sweep_row_of(peer, sweep) for peer, sweep in sweeps)
+    told += "\n"
+    return told + "".join(sweep_part_of(peer, sweep) for peer, sweep in sweeps)
 
 
 def row_of(peer, score):
@@ -55,34 +66,55 @@ def part_of(peer, score, order):
     found = {}
     for case, verdict, _ in score.lines:
         if verdict != "PASS":
-            found.setdefault((verdict, sentence_of(peer.name, verdict, case)), []).append(case)
+            found.setdefault((verdict, sentence_of(REMARKS, peer.name, verdict, case)), []).append(case)
     ordered = sorted(found.items(), key=lambda item: item[0][0])
     lines = [f"- `{verdict}` at {in_short(cases, order)}: {told}\n" for (verdict, told), cases in ordered]
     return f"\n### {peer.name}\n\n" + ("".join(lines) or "All pass.\n")
 
 
-def without_sentence(peer, score):
-    """The cases that are a FAIL about which no sentence is told."""
-    fails = [(case, verdict) for case, verdict, _ in score.lines if verdict.startswith("FAIL")]
-    return [case for case, verdict in fails if sentence_of(peer.name, verdict, case) == NO_SENTENCE]
+def sweep_row_of(peer, sweep):
+    cells = sweep.counts() or ["not all", "-", "-", len(sweep.fails)]
+    return f"| {peer.name} | {' | '.join(map(str, cells))} | {sweep.seconds:.1f} |\n"
 
 
-def remarks():
-    """(peers, verdicts, cases, sentence) of each remark, the first three as lists of patterns."""
-    lines = [line for line in REMARKS.read_text().splitlines() if line and not line.startswith("#")]
+def sweep_part_of(peer, sweep):
+    """The FAILs of a server in a sweep: a line for each verdict and sentence."""
+    found = {}
+    for verdict, steps in sweep.fails:
+        found.setdefault((verdict, sentence_of(SWEEPS, peer.name, verdict, steps)), []).append(steps)
+    return "".join(
+        f"- {peer.name}: `{verdict}` in {len(scripts)}, first `{scripts[0]}`: {told}\n"
+        for (verdict, told), scripts in found.items()
+    )
+
+
+def without_sentence(parts, sweeps):
+    """(peer, case or script) of each FAIL about which no sentence is told."""
+    fails = [(REMARKS, peer, line[1], line[0]) for _, tried in parts for peer, score in tried for line in score.lines]
+    fails += [(SWEEPS, peer, *fail) for peer, sweep in sweeps for fail in sweep.fails]
+    return [
+        (peer.name, what)
+        for file, peer, verdict, what in fails
+        if verdict.startswith("FAIL") and sentence_of(file, peer.name, verdict, what) == NO_SENTENCE
+    ]
+
+
+def remarks(file):
+    """(peers, verdicts, cases or scripts, sentence) of each remark, the first three as lists of patterns."""
+    lines = [line for line in file.read_text().splitlines() if line and not line.startswith("#")]
     found = []
     for line in lines:
         if line.startswith(" "):
             found[-1][-1].append(line.strip())
         else:
-            peers, verdicts, cases = (cell.strip() for cell in line.split("|"))
-            found.append((peers.split(), [verdicts], cases.split(), []))
+            peers, verdict, what = (cell.strip() for cell in line.split("|"))
+            found.append((peers.split(), [verdict], what.split() if file == REMARKS else [what], []))
     return [(*words, " ".join(sentence)) for *words, sentence in found]
 
 
-def sentence_of(name, verdict, case):
-    for *patterns, sentence in remarks():
-        if all(map(fits_one, (name, verdict, case), patterns)):
+def sentence_of(file, name, verdict, what):
+    for *patterns, sentence in remarks(file):
+        if all(map(fits_one, (name, verdict, what), patterns)):
             return sentence
     return NO_SENTENCE
 

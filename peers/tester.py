@@ -12,6 +12,7 @@ TIMEOUT = ["--timeout", "2"]
 SILENCE = 15  # seconds: a case that has no line by then has no verdict
 MOST_SECONDS = 900  # of one peer
 MOST_RUNS = 50  # of `wst test` for one peer: a case without a verdict ends one
+MOST_SWEEP_SECONDS = 180  # of the sweep of one server
 
 
 @dataclass
@@ -24,12 +25,32 @@ class Score:
     def count(self, word):
         return sum(verdict.split()[0] == word for _, verdict, _ in self.lines)
 
+    def in_short(self):
+        return ", ".join(f"{self.count(word)} {word.lower()}" for word in ("PASS", "LOOSE", "FAIL"))
+
     def longest(self):
         return max(self.lines, key=lambda line: line[2])
 
     def left_of(self, cases):
         told = {case for case, _, _ in self.lines}
         return [case for case in cases if case not in told]
+
+
+@dataclass
+class Sweep:
+    """What a sweep of a server told: (verdict, steps) of each script that is a FAIL, the line of the total, which is
+    empty where there was no time for it, and the seconds of all."""
+
+    fails: list = field(default_factory=list)
+    total: str = ""
+    seconds: float = 0.0
+
+    def in_short(self):
+        return self.total or "no total"
+
+    def counts(self):
+        """How many scripts were tried, and how many of them are a PASS, a LOOSE and a FAIL."""
+        return [word for word in self.total.replace(":", "").split() if word.isdigit()]
 
 
 def ask(*words):
@@ -42,21 +63,12 @@ def all_cases():
     return [line.split()[0] for line in ask("cases").splitlines()]
 
 
-def has_option(option):
-    return option in ask("test", "--help")
+def try_server(peer, cases):
+    return try_peer(peer, cases, run_server)
 
 
-def limit_of_time():
-    """The words for it, where the program has that option."""
-    return TIMEOUT if has_option("--timeout") else []
-
-
-def try_server(peer, cases, options):
-    return try_peer(peer, cases, lambda score, left: run_server(score, peer, left, options))
-
-
-def try_client(peer, cases, options):
-    return try_peer(peer, cases, lambda score, left: run_client(score, peer, left, options))
+def try_client(peer, cases):
+    return try_peer(peer, cases, run_client)
 
 
 def try_peer(peer, cases, run):
@@ -67,25 +79,51 @@ def try_peer(peer, cases, run):
         left = score.left_of(cases)
         if not left or time.monotonic() - began > MOST_SECONDS:
             break
-        run(score, left)
+        run(score, peer, left)
     score.lines += [(case, "not run", 0.0) for case in score.left_of(cases)]
     return score
 
 
-def run_server(score, peer, cases, options):
+def run_server(score, peer, cases):
     with listening(peer) as port:
-        with Running([PROGRAM, "test", *options, f"127.0.0.1:{port}", *cases], "tester.log") as tester:
+        with Running([PROGRAM, "test", *TIMEOUT, f"127.0.0.1:{port}", *cases], "tester.log") as tester:
             read_verdicts(score, tester, cases)
 
 
-def run_client(score, peer, cases, options):
-    words = [PROGRAM, "test", "--role", "client", *options, "127.0.0.1:0", *cases]
+def run_client(score, peer, cases):
+    words = [PROGRAM, "test", "--role", "client", *TIMEOUT, "127.0.0.1:0", *cases]
     with Running(words, "tester.log") as tester:
-        address = tester.line(START_SECONDS).removeprefix("listening on ")
+        address = (tester.line(START_SECONDS) or "").removeprefix("listening on ")
+        if not address:
+            raise OSError("wst listens for no client")
         with Running([*peer.command("client"), f"ws://{address}"], f"{peer.name}-client.log") as client:
             read_verdicts(score, tester, cases)
             if score.left_of(cases) and client.process.poll():
                 raise OSError(f"it ended with status {client.process.poll()}")
+
+
+def sweep_server(peer):
+    """All scripts of two steps and fewer, at one server."""
+    sweep = Sweep()
+    began = time.monotonic()
+    with listening(peer) as port:
+        with Running([PROGRAM, "sweep", "--steps", "2", *TIMEOUT, f"127.0.0.1:{port}"], "tester.log") as tester:
+            try:
+                read_sweep(sweep, tester, began + MOST_SWEEP_SECONDS)
+            except TimeoutError:
+                pass  # there is no total then
+    sweep.seconds = time.monotonic() - began
+    return sweep
+
+
+def read_sweep(sweep, tester, until):
+    """Adds the lines of a sweep. TimeoutError where it goes on for longer."""
+    while line := tester.line(until - time.monotonic()):
+        verdict, is_script, steps = line.partition(": ")
+        if verdict.startswith("FAIL") and is_script:
+            sweep.fails.append((verdict, steps))
+        else:
+            sweep.total = line
 
 
 def read_verdicts(score, tester, cases):

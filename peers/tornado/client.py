@@ -7,6 +7,7 @@ import sys
 from tornado.websocket import WebSocketClosedError, websocket_connect
 
 LIMIT = 16 * 1024 * 1024  # bytes of a message
+PATIENCE = 10  # seconds without a message: at some faults the library neither tells the end nor ends the connection
 
 
 def connect(path):
@@ -16,10 +17,12 @@ def connect(path):
 async def run(path):
     connection = await connect(path)
     try:
-        while (message := await connection.read_message()) is not None:
+        while (message := await asyncio.wait_for(connection.read_message(), PATIENCE)) is not None:
             await connection.write_message(message, binary=isinstance(message, bytes))
     except WebSocketClosedError:
         pass  # the server has closed while its message was echoed
+    except asyncio.TimeoutError:
+        connection.close()
 
 
 async def main():

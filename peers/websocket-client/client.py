@@ -5,6 +5,20 @@ import sys
 
 from websocket import ABNF, WebSocketException, create_connection
 
+PATIENCE = 2  # seconds in which the server may end the connection
+
+
+def end(stream):
+    """Waits for the server's end, and closes: the library does neither once it has answered a close."""
+    if stream:
+        stream.settimeout(PATIENCE)
+        try:
+            while stream.recv(65536):
+                pass
+        except OSError:
+            pass
+        stream.close()
+
 
 def run(path):
     connection = create_connection(sys.argv[1] + path)
@@ -17,6 +31,7 @@ def run(path):
         print(f"{path} ended: {error!r}", file=sys.stderr)
     finally:
         connection.close()
+        end(connection.sock)
 
 
 connection = create_connection(sys.argv[1] + "/getCaseCount")

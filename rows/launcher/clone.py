@@ -20,7 +20,7 @@ TOOLS += ("sort", "tail", "touch")
 # The stand-in for rt notes each call, takes a while, fails or builds nothing where a source says so, and changes a
 # source where it says so. `ci` notes the programs that it finds. `try` runs a source, and says what rt says of a run.
 STAND_IN = r"""#!/bin/sh
-[ "$*" = version ] && echo "stand-in" && exit
+[ "$*" = version ] && echo "stand-in logic 1" && exit
 echo "$PWD: $*" >>"$BUILDS"
 sleep "${BUILD_SECONDS:-0}"
 
@@ -32,7 +32,7 @@ build() {
     changing) echo "calm" >src/main.rt ;;
     esac
     mkdir -p out
-    printf '#!/bin/sh\n[ "$*" = --version ] && echo "wst 0.2.0 (stand-in)" && exit\n' >"out/$1.new"
+    printf '#!/bin/sh\n[ "$*" = --version ] && echo "wst 0.2.0 (rattle logic 1)" && exit\n' >"out/$1.new"
     printf 'echo "%s $*"; cat; exit 3\n' "$word" >>"out/$1.new"
     chmod +x "out/$1.new"
     mv "out/$1.new" "out/$1"
@@ -94,7 +94,7 @@ changing) echo "calm" >"$source" ;;
 esac
 case $source in
 src/lib.rt) mkdir "$made" ;;
-*) printf '#!/bin/sh\n[ "$*" = --version ] && echo "wst 0.2.0 (stand-in)" && exit\necho "%s $*"; cat; exit 3\n' "$word" >"$made" ;;
+*) printf '#!/bin/sh\n[ "$*" = --version ] && echo "wst 0.2.0 (rattle logic 1)" && exit\necho "%s $*"; cat; exit 3\n' "$word" >"$made" ;;
 esac
 echo "$name ends" >>"$BUILDS"
 """

@@ -6,7 +6,8 @@ import subprocess
 import time
 
 from server import SECONDS, WST, Server, Tested, free_port, run, start
-from wire import CLOSE_BACK, FAILED_1002, HELLO, HELLO_BACK, MASKED_CLOSE, NOT_MASKED, RESPONSE, request_to, with_line
+from wire import CLOSE_BACK, FAILED_1002, FAILED_1009, HELLO, HELLO_BACK, MASKED_CLOSE, NOT_MASKED, RESPONSE
+from wire import binary, request_to, with_line
 
 SCRIPT = b'text "Hello"\n'
 WITH_CLOSE = b'text "Hello"\nwait\nclose=1000\n'
@@ -97,6 +98,25 @@ def two_frames_in_a_turn():
     )
 
 
+def an_answer_in_the_middle_of_a_turn():
+    """No buffer holds the turn, so that it is not sent yet when its first frame is answered. Its lines stand before."""
+    server = Sent(b'text "Hello"\nbinary 00*8388608\n', "--key", "00000000")
+    client = server.accepted(RESPONSE)
+    hello = b"\x81\x85" + bytes(4) + b"Hello"
+    assert client.get(len(hello)) == hello
+    client.send(HELLO_BACK)
+    assert server.says_nothing_for(0.3)
+    frame = binary(8388608)
+    assert client.get(len(frame)) == frame
+    client.send(FAILED_1009)
+    client.close()
+    server.ends(
+        f"{TURN_1}\n> 0 text fin=1 rsv=0 key=00000000 len=5 short 48656c6c6f\n"
+        "> 11 binary fin=1 rsv=0 key=00000000 len=8388608 eight 00000000000000000000000000000000..\n"
+        f"{GOT_HELLO}\n< 7 close fin=1 rsv=0 key=- len=2 short 03f1\nend peer\n"
+    )
+
+
 def a_frame_before_anything_was_sent():
     """It came with the head, and stands behind what its turn has sent."""
     server = Sent(SCRIPT)
@@ -122,6 +142,34 @@ def a_server_that_never_answers():
     server.ends(f"{TURN_1}\n{SENT_HELLO}\nend tester\n")
     assert 1.5 < time.monotonic() - begun < 5
     client.close()
+
+
+def a_request_that_is_never_answered():
+    server = Sent(SCRIPT)
+    client = server.next()
+    begun = time.monotonic()
+    server.ends("", status=3, faults=b"no connection: timed out\n")
+    assert 1.5 < time.monotonic() - begun < 5
+    client.close()
+
+
+def a_budget_that_is_used_up():
+    """Of the answer no more is read than the words allow."""
+    server = Sent(SCRIPT, "--budget", "4")
+    client = server.accepted(RESPONSE)
+    assert client.get(len(HELLO)) == HELLO
+    client.send(HELLO_BACK)
+    server.ends(f"{TURN_1}\n{SENT_HELLO}\n< cut at 0\nend broken\n")
+    client.close()
+
+
+def a_reset():
+    """The run was made, also where it ended so."""
+    server = Sent(WITH_CLOSE)
+    client = server.accepted(RESPONSE)
+    assert client.get(len(HELLO)) == HELLO
+    client.reset()
+    server.ends(f"{TURN_1}\n{SENT_HELLO}\nend broken\n")
 
 
 def a_frame_that_no_client_may_send():
@@ -175,6 +223,13 @@ def a_refused_answer():
     client = server.accepted(with_line(RESPONSE, b"Sec-WebSocket-Protocol: chat"))
     client.close()
     server.ends("", status=1, faults=b"FAIL Head Protocol\n")
+
+
+def a_refused_answer_in_place_of_a_capture():
+    server = Sent(SCRIPT, "--capture")
+    client = server.accepted(with_line(RESPONSE, b"Sec-WebSocket-Extensions: x"))
+    client.close()
+    server.ends("", status=1, faults=b"FAIL Head Extension\n")
 
 
 def no_connection():
@@ -270,14 +325,19 @@ TESTS = [
     an_answer_that_comes_late,
     single_bytes,
     two_frames_in_a_turn,
+    an_answer_in_the_middle_of_a_turn,
     a_frame_before_anything_was_sent,
     an_end_inside_a_frame,
     a_server_that_never_answers,
+    a_request_that_is_never_answered,
+    a_budget_that_is_used_up,
+    a_reset,
     a_frame_that_no_client_may_send,
     a_capture,
     a_script_of_16_mib,
     a_server_that_takes_nothing,
     a_refused_answer,
+    a_refused_answer_in_place_of_a_capture,
     no_connection,
     an_answer_that_is_cut,
     no_script,

@@ -73,6 +73,8 @@ class Server(Running):
 class Tested(Running):
     """`wst test` with these options and cases against a socket of ours that listens."""
 
+    command = "test"
+
     def __init__(self, *words, host="127.0.0.1", backlog=16, waiting=0):
         self.listener = socket.create_server(("127.0.0.1", 0), backlog=backlog)
         self.waiting = [socket.socket() for _ in range(waiting)]
@@ -83,7 +85,7 @@ class Tested(Running):
         self.address = f"{host}:{self.listener.getsockname()[1]}"
         options = [word for word in words if word.startswith("-")]
         cases = [word for word in words if not word.startswith("-")]
-        self.process = start("test", *options, self.address, *cases)
+        self.process = start(self.command, *options, self.address, *cases)
 
     def next(self):
         """The server's end of the next connection."""
@@ -121,6 +123,13 @@ class Client:
         """So many bytes, or fewer where the stream ends before."""
         got = b""
         while len(got) < count and (more := self.stream.recv(count - len(got))):
+            got += more
+        return got
+
+    def head(self):
+        """What comes up to the first empty line, with it."""
+        got = b""
+        while not got.endswith(b"\r\n\r\n") and (more := self.stream.recv(1)):
             got += more
         return got
 

@@ -5,7 +5,7 @@ import codecs
 import socket
 import threading
 
-from server import SECONDS, free_port, run
+from server import SECONDS, Tested, free_port, run
 from wire import BAD_REQUEST, RESPONSE
 
 CONTROL = (8, 9, 10)
@@ -251,6 +251,28 @@ def the_first_forty_scripts():
     assert len(told) == len(set(told)) == 757
 
 
+class Swept(Tested):
+    """`wst sweep` with these options against a socket of ours that listens."""
+
+    command = "sweep"
+
+
+def told_as_it_runs():
+    """The steps of a script are told before it runs, and its line before the next one runs."""
+    server = Swept("--steps=1", "--progress")
+    assert server.process.stderr.readline() == b"-\n"
+    assert server.says_nothing_for(0.1)
+    first = server.next()
+    first.head()
+    first.send(BAD_REQUEST)
+    first.close()
+    assert server.line() == "FAIL Head Status: -"
+    assert server.process.stderr.readline() == b'text "a"\n'
+    assert server.says_nothing_for(0.1)
+    server.next().close()
+    server.ends("", status=3, faults=b"no connection: closed before the answer\n")
+
+
 def no_server():
     address = f"127.0.0.1:{free_port()}"
     assert run("sweep", address) == (3, b"", b"no connection: refused\n")
@@ -265,5 +287,6 @@ TESTS = [
     a_server_that_sends_a_pong_behind_its_close,
     a_server_that_refuses,
     the_first_forty_scripts,
+    told_as_it_runs,
     no_server,
 ]

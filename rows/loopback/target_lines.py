@@ -61,6 +61,47 @@ def a_server_that_wants_a_path_and_headers():
     server.echoes(request, *words, f"ws://127.0.0.1:{server.port}/echo?x=1+2", "1.1.1")
 
 
+# What a server asks for, in this order, and its refusal of a request that lacks it.
+WANTED = (
+    (b"GET /echo?x=1+2 HTTP/1.1", b"404 Not Found"),
+    (b"Authorization: Bearer t", b"401 Unauthorized"),
+    (b"Origin: http://localhost", b"403 Forbidden"),
+)
+
+
+def answer_to(request):
+    lines = request.split(b"\r\n")
+    lacks = [status for line, status in WANTED if line not in lines]
+    return b"HTTP/1.1 %s\r\nContent-Length: 4\r\n\r\nnot\n" % lacks[0] if lacks else RESPONSE
+
+
+def what_a_server_wants():
+    """A server refuses a request that lacks its path, its authorization or its origin, and each status is told."""
+    origin, token = ["--header", "Origin: http://localhost"], ["--header", "Authorization: Bearer t"]
+    for path, headers, status in (
+        ("", [*origin, *token], 404),
+        ("echo", [*origin, *token], 404),
+        ("echo?x=1%2B2", [*token, *origin], 404),
+        ("echo?x=1+2", origin, 401),
+        ("echo?x=1+2", [*origin, "--header", "Authorization: Bearer T"], 401),
+        ("echo?x=1+2", token, 403),
+        ("echo?x=1+2", [*token, *origin], None),
+    ):
+        server = Asked()
+        process = start("test", "--explain", *headers, f"ws://127.0.0.1:{server.port}/{path}", "1.1.1")
+        client = Client(server.listener.accept()[0])
+        answer = answer_to(client.head())
+        client.send(answer, EMPTY_BACK if status is None else b"")
+        if status is None:
+            client.get(len(EMPTY_TEXT + MASKED_CLOSE))
+            client.send(CLOSE_BACK)
+        client.close()
+        output, faults = process.communicate(timeout=SECONDS)
+        refused = f"1.1.1 FAIL Head Status\n  status {status}\n0 pass, 0 loose, 1 fail\n"
+        assert (output, faults) == (ONE_PASS if status is None else refused.encode(), b""), (path, output, faults)
+        assert process.returncode == int(status is not None), path
+
+
 def headers_behind_the_offers():
     server = Asked()
     lines = (b"Sec-WebSocket-Protocol: chat", b"X: ", b"X: 2")
@@ -69,7 +110,12 @@ def headers_behind_the_offers():
 
 
 def paths_as_they_stand():
-    for behind, path in ((b"", b"/"), (b"?a=/b", b"/?a=/b"), (b"//a/../%41", b"//a/../%41"), (b"/a?ws://b", b"/a?ws://b")):
+    for behind, path in (
+        (b"", b"/"),
+        (b"?a=/b", b"/?a=/b"),
+        (b"//a/../%41", b"//a/../%41"),
+        (b"/a?ws://b", b"/a?ws://b"),
+    ):
         server = Asked()
         host = b"127.0.0.1:%d" % server.port
         server.echoes(asked(path, host), (b"wS://" + host + behind).decode(), "1.1.1")
@@ -129,6 +175,7 @@ def a_script_at_a_url():
 
 TESTS = [
     a_server_that_wants_a_path_and_headers,
+    what_a_server_wants,
     headers_behind_the_offers,
     paths_as_they_stand,
     the_port_80_is_not_told,

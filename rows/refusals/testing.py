@@ -1,4 +1,4 @@
-"""Runs of `wst test` against a server over loopback, for which a request for memory is refused."""
+"""Runs of `wst test` and `wst send` against a server over loopback, for which a request for memory is refused."""
 
 import socket
 import subprocess
@@ -9,27 +9,41 @@ from loopback.wire import CLOSE_BACK, EMPTY_BACK, EMPTY_TEXT, MASKED_CLOSE, RESP
 from shim import Ended, refusing
 
 SECONDS = 20
-LINES = b"1.1.1 PASS\n1 pass, 0 loose, 0 fail\n"
+
+# The words of a run, the server at ADDRESS, what it reads, and what it writes: a case, and the same as a script.
+TEST = (
+    ["test", "ADDRESS", "1.1.1"],
+    b"",
+    b"1.1.1 PASS\n1 pass, 0 loose, 0 fail\n",
+)
+SEND = (
+    ["send", "ADDRESS"],
+    b"text -\nwait\nclose=1000\n",
+    b"turn 1\n> 0 text fin=1 rsv=0 key=37fa213d len=0 short -\n< 0 text fin=1 rsv=0 key=- len=0 short -\n"
+    b"turn 2\n> 6 close fin=1 rsv=0 key=37fa213d len=2 short 03e8\n< 2 close fin=1 rsv=0 key=- len=2 short 03e8\n"
+    b"end peer\n",
+)
 
 
-class Test:
-    """`wst test` of one case against a server that echoes, and the shim that refuses its memory."""
+class AtServer:
+    """`wst` with these words and this input against a server that echoes, and the shim that refuses its memory."""
 
-    def __init__(self, shim, wst):
-        self.shim, self.wst = shim, wst
+    def __init__(self, shim, wst, words, given):
+        self.shim, self.wst, self.words, self.given = shim, wst, words, given
 
     def outcome(self, place):
         """Refuses the request with this number: how the run ended, and whether a request was refused."""
         return refusing(self.shim, place, self.run)
 
     def run(self, **options):
-        pipes = {"stdin": subprocess.DEVNULL, "stdout": subprocess.PIPE, "stderr": subprocess.STDOUT}
+        pipes = {"input": self.given, "stdout": subprocess.PIPE, "stderr": subprocess.STDOUT}
         with socket.create_server(("127.0.0.1", 0)) as listener:
             address = f"127.0.0.1:{listener.getsockname()[1]}"
             echo = Thread(target=answer, args=[listener, address])
             echo.start()
             try:
-                ran = subprocess.run([self.wst, "test", address, "1.1.1"], timeout=SECONDS, **pipes, **options)
+                words = [address if word == "ADDRESS" else word for word in self.words]
+                ran = subprocess.run([self.wst, *words], timeout=SECONDS, **pipes, **options)
             finally:
                 # Where there was no connection, none is waited for any more.
                 listener.shutdown(socket.SHUT_RDWR)

@@ -12,7 +12,7 @@ from runner.row_files import BadFile
 QUOTED = r'"(?:[^"\\]|\\.)*"'
 BYTES = re.compile(rf'\[((?:{QUOTED}|[^\]"])*)\]|({QUOTED})')
 STREAM = re.compile(rf'\{{((?:{QUOTED}|[^}}"|])*)(?:\|([0-9 ]+))?\}}')
-FRONTS = re.compile(rf'<((?:{QUOTED}|[^>"])*)>')
+FRONTS = re.compile(rf'<(?! )((?:{QUOTED}|[^>"])*)>')
 SECONDS = 120
 
 

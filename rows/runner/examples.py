@@ -4,9 +4,10 @@ from runner.commands import Run
 
 BESIDE = (".out", ".args", ".faults", ".status")
 
-# Folders that no command is run on: the example of two commands, which `rows/loopback/run` runs, the scripts, which
-# `rows/cases/scripts.rows` reads, the broken server, which README.md runs, and servers behind TLS, which a person runs.
-OTHERS = ("broken", "loopback", "scripts", "tls")
+# Folders that no command is run on: the example of two commands and the workflow, which `rows/loopback/run` runs, the
+# scripts, which `rows/cases/scripts.rows` reads, the broken server, which README.md runs, and servers behind TLS, which a
+# person runs.
+OTHERS = ("broken", "ci", "loopback", "scripts", "tls")
 
 
 def examples_below(folder):

@@ -5,7 +5,7 @@ use crate::row_fault::RowFault;
 use std::alloc::Global;
 use std::fmt::Write;
 use ws_formats::Hex;
-use ws_suite::{Direction, Ending, Reply, explain};
+use ws_suite::{Direction, Ending, Kept, ReplyKind, explain};
 use ws_wire::Role;
 
 /// `explain ROLE END SENT GOT ..`: the verdict on these turns and this end where a `server` or a `client` is tested;
@@ -36,9 +36,10 @@ fn role_of(word: &str) -> Result<Role, RowFault> {
 
 /// Each reply and the end of a direction, behind this word.
 fn tell_direction(word: &str, told: &Direction, out: &mut String) -> Result<(), RowFault> {
-    for reply in told.replies.as_slice() {
+    let mut replies = told.replies.iter();
+    while let Some(reply) = replies.next() {
         write!(out, ", {word} {} ", reply.turn.saturating_add(1))?;
-        tell_reply(&reply.what, out)?;
+        tell_reply(reply, out)?;
     }
     if let Some(ending) = &told.ending {
         write!(out, ", {word} {} ", ending.turn.saturating_add(1))?;
@@ -47,13 +48,13 @@ fn tell_direction(word: &str, told: &Direction, out: &mut String) -> Result<(), 
     Ok(())
 }
 
-fn tell_reply(reply: &Reply, out: &mut String) -> Result<(), RowFault> {
-    match reply {
-        Reply::Message(message) => {
-            write!(out, "{} {}", message.kind, Hex(message.payload.as_slice()))?
-        }
-        Reply::Pong(payload) => write!(out, "pong {}", Hex(payload.as_slice()))?,
-        Reply::Ping(payload) => write!(out, "ping {}", Hex(payload.as_slice()))?,
+fn tell_reply(reply: Kept<'_>, out: &mut String) -> Result<(), RowFault> {
+    let payload = Hex(reply.payload);
+    match reply.kind {
+        ReplyKind::Text => write!(out, "text {payload}")?,
+        ReplyKind::Binary => write!(out, "binary {payload}")?,
+        ReplyKind::Pong => write!(out, "pong {payload}")?,
+        ReplyKind::Ping => write!(out, "ping {payload}")?,
     }
     Ok(())
 }

@@ -19,6 +19,8 @@ mod sessions;
 mod streams;
 mod sweeps;
 mod takes;
+mod tap_devices;
+mod taps;
 mod texts;
 mod upgrades;
 mod words;
@@ -58,7 +60,7 @@ fn answer_words(alloc: Global, words: &[&str], out: &mut String) -> Result<(), R
     answer_of_sessions(alloc, call, words, out)
 }
 
-/// Puts the answer of a call at a session or an echo, or of another call.
+/// Puts the answer of a call at a session, an echo or a tap, or of another call.
 fn answer_of_sessions(
     alloc: Global,
     call: &str,
@@ -74,6 +76,8 @@ fn answer_of_sessions(
         "echo_all" => echoes::take_pieces(alloc, words, out),
         "session" => sessions::play(alloc, words, out),
         "doomed" => dooms::mark_lengths(alloc, words, out),
+        "tap" => taps::tap_moves(alloc, words, out),
+        "tap_orders" => taps::tap_orders(alloc, words, out),
         _ => answer_of_scripts(alloc, call, words, out),
     }
 }
@@ -119,6 +123,7 @@ fn answer_of_verdicts(
         "written" => captures::write_turns(alloc, words, out),
         "verdict" => peers::tell_verdict(alloc, words, out),
         "verdict_client" => peers::tell_client_verdict(alloc, words, out),
+        "verdict_of" => peers::tell_script_verdict(alloc, words, out),
         "verdicts" => peers::count_passes(alloc, words, out),
         "verdicts_client" => peers::count_client_passes(alloc, words, out),
         _ => answer_below_sessions(alloc, call, words, out),

@@ -3,12 +3,12 @@
 ghost use Rattle.ws_scripts.specs.Scripts.{CanBeRun};
 
 use crate::row_fault::RowFault;
-use crate::words::{bytes_of, mask_key_of};
+use crate::words::{bytes_of, mask_key_of, role_of};
 use std::alloc::Global;
 use std::fmt::Write;
 use ws_base::NoMemory;
 use ws_peer::{Peer, TungPeer, run_case_with, run_over_echo_as, tester_key};
-use ws_suite::{Case, Chop, Step, Verdict, case, ids, judge_end};
+use ws_suite::{Case, Chop, Step, Verdict, case, ids, judge_end, read_script};
 use ws_wire::Role;
 
 /// The key of the cases where none is given.
@@ -57,6 +57,25 @@ fn tell_verdict_on(
         _ => return Err(RowFault::NotARow),
     };
     write!(out, "{verdict}")?;
+    Ok(())
+}
+
+/// `verdict_of ROLE SCRIPT`: the verdict on our echo in this role, to which the script that the text tells is run, or why
+/// it tells none.
+pub fn tell_script_verdict(
+    alloc: Global,
+    words: &[&str],
+    out: &mut String,
+) -> Result<(), RowFault> {
+    let [role, text] = words else {
+        return Err(RowFault::NotARow);
+    };
+    let tested = role_of(role)?;
+    let text = bytes_of(alloc, text)?;
+    match read_script(alloc, text.as_slice()) {
+        Ok(case) => write!(out, "{}", own_verdict(alloc, tested, &case, KEY)?)?,
+        Err(fault) => write!(out, "{fault}")?,
+    }
     Ok(())
 }
 

@@ -23,7 +23,15 @@ mod masks;
 #[cfg(test)]
 mod memory_net;
 #[cfg(test)]
+mod network_clients;
+#[cfg(test)]
+mod network_reports;
+#[cfg(test)]
+mod network_sends;
+#[cfg(test)]
 mod network_serves;
+#[cfg(test)]
+mod network_targets;
 #[cfg(test)]
 mod network_tests;
 #[cfg(test)]
@@ -46,6 +54,8 @@ mod single_bytes;
 mod sockets;
 #[cfg(test)]
 mod stopping;
+#[cfg(test)]
+mod taps;
 #[cfg(test)]
 mod turn_lines;
 #[cfg(test)]

@@ -16,7 +16,7 @@ use ws_frame::{ByteReader, ByteWriter, Failing};
 use ws_suite::judge;
 
 /// So many bytes an echo sends in the case 5.19 behind its response.
-const GOT: usize = 67;
+pub const GOT: usize = 67;
 
 /// So many bytes it is sent behind the request.
 const SENT: usize = 107;
@@ -88,12 +88,39 @@ fn refused_connections(rt: HostRuntime) -> Result<(), Fail> {
 }
 
 /// A connection that is refused.
-fn refusal() -> io::Error {
+pub fn refusal() -> io::Error {
     io::Error::from(ErrorKind::ConnectionRefused)
 }
 
 /// What is told of it.
-const REFUSED: &[u8] = b"no connection: refused\n";
+pub const REFUSED: &[u8] = b"no connection: refused\n";
+
+/// Of two addresses that a host has the second is met where the first refuses, and where both do that is told once.
+#[test]
+fn two_addresses(rt: HostRuntime) -> Result<(), Fail> {
+    let answer = answer(rt.alloc(), GOT)?;
+    let one_pass = (
+        b"5.19 PASS\n1 pass, 0 loose, 0 fail\n".as_slice(),
+        b"".as_slice(),
+    );
+    let missed = (
+        b"5.19 no connection\n0 pass, 0 loose, 1 fail\n".as_slice(),
+        REFUSED,
+    );
+    let refused = [
+        (Failing::Never, 1u64, 0u8, one_pass),
+        (Failing::Once(1), 2u64, 0u8, one_pass),
+        (Failing::From(1), 2u64, 1u8, missed),
+    ];
+    for (failing, asked, status, told) in refused {
+        let mut book = Book::new(rt.alloc(), answer.as_slice());
+        book.refused = (failing, refusal());
+        let words = "test --timeout 2 double:9001 5.19";
+        check(&rt, rt.alloc(), words, &book, status, told)?;
+        same_number(&rt, 1, book.asked.get(), asked);
+    }
+    Ok(())
+}
 
 /// Why a connection is not made.
 #[test]

@@ -1,7 +1,6 @@
 -- What a piece at a session answers, and what calls one after the other do.
-use Rattle.std.proofs.Common.{◌≡◌, ◌∙◌, ℕ, ◌+◌, ◌≤◌, Bool, true, false, MatchBool, List, [], ◌∷◌, ◌++◌, length, take, map, sum_by, Option, Some, None, ap, ap₂, sym, refl, subst, arith}
+use Rattle.std.proofs.Common.{◌≡◌, ◌∙◌, ℕ, ◌+◌, ◌≤◌, Bool, true, false, MatchBool, List, [], ◌∷◌, ◌++◌, length, take, map, Option, Some, None, ap, ap₂, sym, refl, subst, arith, append_assoc}
 use Rattle.std.proofs.lemmas.List.{length-append}
-use Rattle.std.proofs.lemmas.List.Sums.{sum_by-cons}
 use Rattle.std.specs.List.{AllByRecursion}
 use Rattle.ws_wire.specs.Frame.{Frame, stream_bytes}
 use Rattle.ws_session.specs.declared.event.Event.{Event}
@@ -15,13 +14,12 @@ use Rattle.ws_session.specs.declared.message.Message.{Message}
 use Rattle.ws_session.specs.Faults.{open_payload}
 use Rattle.ws_calls.specs.declared.calls.Call.{Call}
 use Rattle.ws_calls.specs.declared.calls.Call.TheVariants.{Take}
-use Rattle.ws_calls.specs.declared.calls.EchoCall.{EchoCall}
 use Rattle.ws_calls.specs.declared.report.PlacedInStream.{PlacedInStream}
 use Rattle.ws_calls.specs.declared.report.CallAnswer.{CallAnswer}
 use Rattle.ws_calls.specs.declared.report.CallAnswer.TheVariants.{Taken}
-use Rattle.ws_calls.specs.Calls.{AreAnswered, Endpoint, IsCallAnswered, IsTakeAnswered, Keeps, count_taken, events_without_places, piece_of_call, placed_by}
-use Rattle.ws_calls.specs.Script.{as_call}
-use Rattle.ws_calls.specs.InnerSteps.{Agrees, HasAnsweredCall, placed_behind}
+use Rattle.ws_calls.specs.Calls.{AreAnswered, Endpoint, IsCallAnswered, IsTakeAnswered, Keeps, events_without_places, placed_by}
+use Rattle.ws_calls.specs.CallLines.{answer_lines}
+use Rattle.ws_calls.specs.InnerSteps.{Agrees, HasTakenPart, HasToldCall, placed_behind, told_behind}
 use Rattle.ws_calls.proofs.Placed.{places_within, same_events, same_front_events}
 use Rattle.ws_calls.proofs.Sending.{endpoint_of, status_there}
 
@@ -89,23 +87,33 @@ module _ (reply : Event → List Frame) (exchange : Exchange) (start : ℕ) (old
         h.same,
       )
 
-  -- the same, of what the calls hand over
-  pub take_call : (new : SessionValue) (slice before put put_told : List ℕ) (told_before told : List PlacedEvent) (placed : List PlacedInStream) (len : ℕ) → is_over old.status ≡ false
-      → slice ≡ piece → before ≡ [] → told_before ≡ [] → HasTakenAll reply old new (record { piece = slice; key = key; before = before; after = put }) told_before told
-      → placed ≡ map (placed_behind start) told → len ≡ length piece → put_told ≡ put
-      → HasAnsweredCall (endpoint_of reply old) exchange (Take piece key) (Taken placed len put_told) (start + len) new
-  take_call new slice before put put_told told_before told placed len going same_piece none no_event h same_events same_len same_put =
-      let h1 = subst (λ (l : List ℕ). HasTakenAll reply old new (record { piece = l; key = key; before = before; after = put }) told_before told) same_piece h in
-      let h2 = subst (λ (l : List ℕ). HasTakenAll reply old new (record { piece = piece; key = key; before = l; after = put }) told_before told) none h1 in
-      let h3 = subst (λ (l : List PlacedEvent). HasTakenAll reply old new (record { piece = piece; key = key; before = []; after = put }) l told) no_event h2 in
-      let g = take_going new put told going h3 in
-      let a = subst (λ (l : List PlacedInStream). IsTakeAnswered (endpoint_of reply old) exchange piece key (Taken l (length piece) put) g.0) (sym same_events) g.1 in
-      let b = subst (λ (n : ℕ). IsTakeAnswered (endpoint_of reply old) exchange piece key (Taken placed n put) g.0) (sym same_len) a in
+  pub told_over : (len : ℕ) (put before lines : List ℕ) (events : List PlacedInStream) → is_over old.status ≡ true → len ≡ length piece → events ≡ [] → put ≡ []
+      → lines ≡ before ++ answer_lines (Taken events len put) → HasToldCall (endpoint_of reply old) exchange (Take piece key) before start old lines
+  told_over len put before lines events over count none empty last =
+      let g = take_over over in
+      let same : Taken events len put ≡ Taken [] (length piece) [] = ap (λ (l : List PlacedInStream). Taken l len put) none ∙ (ap (λ (n : ℕ). Taken [] n put) count ∙ ap (λ (l : List ℕ). Taken [] (length piece) l) empty) in
       record {
-        after = g.0;
-        answered = subst (λ (l : List ℕ). IsTakeAnswered (endpoint_of reply old) exchange piece key (Taken placed len l) g.0) (sym same_put) b;
-        agrees = subst (λ (n : ℕ). Agrees g.0 (start + n) new) (sym same_len) g.2;
-        same = g.3;
+        answer = Taken [] (length piece) [];
+        answered = record { after = g.0; answered = g.1; agrees = g.2; same = g.3 };
+        told = last ∙ ap (λ (a : CallAnswer). before ++ answer_lines a) same;
+      }
+
+  -- the events were told, and then what was put
+  pub told_going : (new : SessionValue) (slice empty put put_told before between lines : List ℕ) (told : List PlacedEvent) (events : List PlacedInStream) (taken len : ℕ) → is_over old.status ≡ false → slice ≡ piece → empty ≡ []
+      → HasTakenPart reply old new slice key empty put told → taken ≡ start + length slice → between ≡ before ++ told_behind start told → len ≡ length piece → events ≡ [] → put_told ≡ put
+      → lines ≡ between ++ answer_lines (Taken events len put_told) → HasToldCall (endpoint_of reply old) exchange (Take piece key) before taken new lines
+  told_going new slice empty put put_told before between lines told events taken len going same_piece nothing h count first same_len none same_put last =
+      let h1 = subst (λ (l : List ℕ). HasTakenPart reply old new l key empty put told) same_piece h in
+      let h2 = subst (λ (l : List ℕ). HasTakenPart reply old new piece key l put told) nothing h1 in
+      let all : taken ≡ start + length piece = count ∙ ap (λ (l : List ℕ). start + length l) same_piece in
+      let g = take_going new put told going h2 in
+      let lines_of_events = told_behind start told in
+      let same : Taken events len put_told ≡ Taken [] (length piece) put = ap (λ (l : List PlacedInStream). Taken l len put_told) none ∙ (ap (λ (n : ℕ). Taken [] n put_told) same_len ∙ ap (λ (l : List ℕ). Taken [] (length piece) l) same_put) in
+      let after = answer_lines (Taken [] (length piece) put) in
+      record {
+        answer = Taken (map (placed_behind start) told) (length piece) put;
+        answered = record { after = g.0; answered = g.1; agrees = subst (λ (n : ℕ). Agrees g.0 n new) (sym all) g.2; same = g.3 };
+        told = last ∙ (ap (λ (a : CallAnswer). between ++ answer_lines a) same ∙ (ap (λ (l : List ℕ). l ++ after) first ∙ append_assoc before lines_of_events after));
       }
 
 -- the bytes kept
@@ -128,15 +136,3 @@ answered_added endpoint first next after [] call [] answer h is = (after, subst 
 answered_added endpoint first next after [] call (a ∷ answers) answer h is = absurd (let e = h.0 in cc)
 answered_added endpoint first next after (c ∷ calls) call [] answer h is = absurd h
 answered_added endpoint first next after (c ∷ calls) call (a ∷ answers) answer (x, one, h) is = (x, one, answered_added endpoint x next after calls call answers answer h is)
-
--- ---- calls of an echo
-
-pub one_more_as_call : (calls : List EchoCall) (call : EchoCall) → map as_call (calls ++ call ∷ []) ≡ map as_call calls ++ as_call call ∷ []
-one_more_as_call [] call = refl
-one_more_as_call (first ∷ calls) call = ap (λ (l : List Call). as_call first ∷ l) (one_more_as_call calls call)
-
-pub count_as_calls : (calls : List EchoCall) → count_taken (map as_call calls) ≡ sum_by (λ (call : EchoCall). length (piece_of_call (as_call call))) calls
-count_as_calls [] = refl
-count_as_calls (call ∷ calls) =
-    sum_by-cons (λ (x : Call). length (piece_of_call x)) (as_call call) (map as_call calls) ∙ ap (λ (n : ℕ). length (piece_of_call (as_call call)) + n) (count_as_calls calls)
-    ∙ sym (sum_by-cons (λ (x : EchoCall). length (piece_of_call (as_call x))) call calls)

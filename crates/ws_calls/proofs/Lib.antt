@@ -1,6 +1,9 @@
 mod PassedUp
 mod CallWords
 mod Placed
+mod Parts
 mod Sending
 mod Answering
-mod Pieces
+mod Damages
+mod Playing
+mod Ending

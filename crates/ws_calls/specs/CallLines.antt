@@ -7,11 +7,12 @@ use Rattle.ws_text.specs.Close.{CloseValue}
 use Rattle.ws_session.specs.declared.message.Message.{Message}
 use Rattle.ws_session.specs.declared.event.Event.{Event}
 use Rattle.ws_session.specs.declared.event.Event.TheVariants as event
+use Rattle.ws_session.specs.declared.status.Status.{Status}
 use Rattle.ws_session.specs.Words.{fault_name, kind_word, reason_name, status_words}
 use Rattle.ws_calls.specs.declared.report.PlacedInStream.{PlacedInStream}
 use Rattle.ws_calls.specs.declared.report.CallAnswer.{CallAnswer}
 use Rattle.ws_calls.specs.declared.report.CallAnswer.TheVariants.{Sent, Refused, Taken, Ended}
-use Rattle.ws_calls.specs.declared.report.CallsReport.{CallsReport}
+use Rattle.ws_calls.specs.Calls.{CallsReport}
 
 abbrev pub message_words : Message → List ℕ
 message_words message = kind_word message.kind ++ (codes " " ++ hex_word message.payload)
@@ -45,8 +46,10 @@ abbrev pub held_line : Option ℕ → List ℕ
 held_line None = []
 held_line (Some held) = concat (codes "held " ∷ decimal held ∷ codes "\n" ∷ [])
 
--- the lines of each call, then the bytes kept, where that is told, and the status
+-- the bytes kept, where that is told, and the status
+abbrev pub last_lines : Option ℕ → Status → List ℕ
+last_lines held status = held_line held ++ concat (codes "status " ∷ status_words status ∷ codes "\n" ∷ [])
+
+-- the lines of each call, and those that come last
 abbrev pub calls_lines : CallsReport → List ℕ
-calls_lines report = concat (
-    flat_map answer_lines report.answers ∷ held_line report.held
-    ∷ concat (codes "status " ∷ status_words report.status ∷ codes "\n" ∷ []) ∷ [])
+calls_lines report = flat_map answer_lines report.answers ++ last_lines report.held report.status

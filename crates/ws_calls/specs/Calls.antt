@@ -2,7 +2,7 @@
 -- stream has ended: RFC 6455 sections 5 to 7. No part of a frame, masking phase, unfinished character or buffer is in
 -- it.
 use Rattle.std.specs.Prelude.{◌≡◌, ℕ, ◌+◌, ◌≤◌, nat_le, if◌then◌else◌, true, false, MatchBool, List, [], ◌∷◌, ◌++◌}
-use Rattle.std.specs.Prelude.{length, take, map, sum_by, Some, None}
+use Rattle.std.specs.Prelude.{length, take, map, Option, Some, None}
 use Rattle.std.specs.List.{AllByRecursion}
 use Rattle.ws_wire.specs.declared.role.Role.{Role}
 use Rattle.ws_wire.specs.Frame.{Frame, KeyedFrame, frame_bytes, stream_bytes}
@@ -23,7 +23,6 @@ use Rattle.ws_calls.specs.declared.calls.EchoCall.{EchoCall}
 use Rattle.ws_calls.specs.declared.report.PlacedInStream.{PlacedInStream}
 use Rattle.ws_calls.specs.declared.report.CallAnswer.{CallAnswer}
 use Rattle.ws_calls.specs.declared.report.CallAnswer.TheVariants.{Sent, Refused, Taken, Ended}
-use Rattle.ws_calls.specs.declared.report.CallsReport.{CallsReport}
 use Rattle.ws_calls.specs.Script.{as_call}
 
 -- an endpoint: its role and limits, and the frames that it owes for an event
@@ -148,6 +147,13 @@ abbrev pub HasHeld : Endpoint → Exchange → ℕ → Type 0
 HasHeld endpoint exchange held = (status : Status) × IsStatusAfter endpoint exchange status
     × MatchBool (is_over status) (held ≡ 0) (Keeps exchange.taken held)
 
+-- what comes of all calls: what each answers, how many input bytes are kept after the last, which an echo doesn't tell,
+-- and the status
+pub record CallsReport : Type 0 where
+  pub answers : List CallAnswer
+  pub held : Option ℕ
+  pub status : Status
+
 -- the report of these calls at a session
 pub record IsSessionReport (role : Role) (limits : LimitsValue) (calls : List Call) (report : CallsReport)
     : Type 0 where
@@ -163,13 +169,3 @@ pub record IsEchoReport (role : Role) (limits : LimitsValue) (calls : List EchoC
   pub answers : AreAnswered (echo_of role limits) new_exchange (map as_call calls) report.answers after
   pub held : report.held ≡ None
   pub status : IsStatusAfter (echo_of role limits) after report.status
-
--- ---- all pieces
-
-abbrev pub piece_of_call : Call → List ℕ
-piece_of_call (asked.Take piece key) = piece
-piece_of_call _ = []
-
--- how many bytes the takes of these calls hand over
-abbrev pub count_taken : List Call → ℕ
-count_taken calls = sum_by (λ (call : Call). length (piece_of_call call)) calls

@@ -1,15 +1,24 @@
 -- Inside the crate: an endpoint between two calls, for contracts of private functions. A reader may skip this file.
-use Rattle.std.specs.Prelude.{◌≡◌, ℕ, List, length, ◌+◌, Result, Ok, Err}
+use Rattle.std.specs.Prelude.{◌≡◌, ℕ, true, List, [], ◌++◌, length, map, ◌+◌, Result, Ok, Err}
+use Rattle.std.specs.List.{flat_map}
+use Rattle.ws_formats.specs.Lines.{HasLineForEach}
+use Rattle.ws_wire.specs.Frame.{Frame}
+use Rattle.ws_session.specs.declared.event.Event.{Event}
 use Rattle.ws_session.specs.declared.event.PlacedEvent.{PlacedEvent}
 use Rattle.ws_session.specs.declared.send_fault.SendFault.{SendFault}
 use Rattle.ws_session.specs.declared.send_fault.SendFault.TheVariants as fault
-use Rattle.ws_session.specs.Exchange.{Exchange, SessionValue, HasExchanged}
+use Rattle.ws_session.specs.Exchange.{Exchange, SessionValue, HasExchanged, is_over}
+use Rattle.ws_session.specs.Faults.{open_payload}
+use Rattle.ws_session.specs.Taking.{HasTakenAll}
 use Rattle.ws_session.specs.Sends.{Send}
 use Rattle.ws_calls.specs.declared.calls.Call.{Call}
 use Rattle.ws_calls.specs.declared.report.PlacedInStream.{PlacedInStream}
 use Rattle.ws_calls.specs.declared.report.CallAnswer.{CallAnswer}
 use Rattle.ws_calls.specs.declared.report.CallAnswer.TheVariants.{Sent, Refused}
-use Rattle.ws_calls.specs.Calls.{Endpoint, IsSendAnswered, IsCallAnswered}
+use Rattle.ws_calls.specs.declared.calls.EchoCall.{EchoCall}
+use Rattle.ws_calls.specs.CallLines.{answer_lines, event_line}
+use Rattle.ws_calls.specs.Calls.{Endpoint, AreAnswered, IsSendAnswered, IsCallAnswered, new_exchange}
+use Rattle.ws_calls.specs.Script.{IsCallLine, IsEchoCallLine}
 
 -- the session has exchanged this, and so many bytes of it are counted as taken
 pub record Agrees (exchange : Exchange) (taken : ℕ) (session : SessionValue) : Type 0 where
@@ -41,3 +50,47 @@ pub record HasAnsweredSend (endpoint : Endpoint) (exchange : Exchange) (what : S
   pub answered : IsSendAnswered endpoint exchange what key answer after
   pub agrees : Agrees after taken session
   pub same : (session.role ≡ endpoint.role) × (session.limits ≡ endpoint.limits)
+
+-- the line tells a call, or one of an echo
+abbrev pub TellsCall : List ℕ → Type 0
+TellsCall line = (call : Call) × IsCallLine call line
+
+abbrev pub TellsEchoCall : List ℕ → Type 0
+TellsEchoCall line = (call : EchoCall) × IsEchoCallLine call line
+
+-- the lines of the events of a piece behind so many bytes
+abbrev pub told_behind : ℕ → List PlacedEvent → List ℕ
+told_behind start told = flat_map event_line (map (placed_behind start) told)
+
+-- a piece, or a part of one, was taken under this key, and gave these events
+abbrev pub HasTakenPart : (Event → List Frame) → SessionValue → SessionValue → List ℕ → List ℕ → List ℕ → List ℕ
+    → List PlacedEvent → Type 0
+HasTakenPart reply old new piece key before after told =
+    HasTakenAll reply old new (record { piece = piece; key = key; before = before; after = after }) [] told
+
+-- the call was answered, and its answer was told behind these lines
+pub record HasToldCall (endpoint : Endpoint) (exchange : Exchange) (call : Call) (before : List ℕ) (taken : ℕ)
+    (session : SessionValue) (lines : List ℕ) : Type 0 where
+  pub answer : CallAnswer
+  pub answered : HasAnsweredCall endpoint exchange call answer taken session
+  pub told : lines ≡ before ++ answer_lines answer
+
+-- so many input bytes are kept
+pub record IsHeld (session : SessionValue) (held : ℕ) : Type 0 where
+  pub count : held ≡ length (open_payload session.opened) + length session.partial_frame
+  pub over : is_over session.status ≡ true → held ≡ 0
+
+-- The calls of the lines before the rest of a text were made, at an endpoint that was new, and told in these lines. Each
+-- line tells a value, which is the call that `call_of` says.
+pub record HasPlayed {T : Type 0} (IsLineOf : T → List ℕ → Type 0) (call_of : T → Call) (endpoint : Endpoint)
+    (text rest : List ℕ) (taken : ℕ) (session : SessionValue) (lines : List ℕ) : Type 0 where
+  pub calls : List T
+  pub answers : List CallAnswer
+  pub after : Exchange
+  pub answered : AreAnswered endpoint new_exchange (map call_of calls) answers after
+  pub agrees : Agrees after taken session
+  pub same : (session.role ≡ endpoint.role) × (session.limits ≡ endpoint.limits)
+  pub told : lines ≡ flat_map answer_lines answers
+  -- what the rest tells comes behind these calls, and what the text tells goes on in the rest
+  pub before : (later : List T) → HasLineForEach IsLineOf later rest → HasLineForEach IsLineOf (calls ++ later) text
+  pub goes_on : (all : List T) → HasLineForEach IsLineOf all text → (later : List T) × HasLineForEach IsLineOf later rest

@@ -1,6 +1,7 @@
 pub mod Script
 pub mod Calls
 pub mod CallLines
+pub mod Runs
 pub mod Examples
 pub mod InnerSteps
 pub mod InnerPrinting

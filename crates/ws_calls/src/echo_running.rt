@@ -1,103 +1,183 @@
-//! Calls at an echo, one after the other.
+//! The calls of a script at an echo, one after the other.
 
-ghost use Rattle.std.specs.Prelude.{◌+◌, ◌^◌, ◌<◌, ◌≤◌, length, map, IfOk};
+ghost use Rattle.std.specs.Prelude.{◌≡◌, ◌+◌, ◌++◌, List, length, None, IfErr, IfOk, MatchResult, OnOk, string_bytes};
+ghost use Rattle.ws_base.specs.declared.text_fault.LineFault.TheVariants.{Damaged};
+ghost use Rattle.ws_formats.specs.Lines.{Damages};
+ghost use Rattle.ws_session.specs.declared.event.PlacedEvent.{PlacedEvent};
 ghost use Rattle.ws_session.specs.Exchange.{Exchange};
-ghost use Rattle.ws_calls.specs.Calls.{IsEchoReport, count_taken, echo_of, piece_of_call};
-ghost use Rattle.ws_calls.specs.Script.{as_call};
-ghost use Rattle.ws_calls.specs.InnerSteps.{Agrees, HasAnsweredCall};
+ghost use Rattle.ws_session.specs.Replies.{echo_reply_to};
 ghost use Rattle.ws_calls.specs.declared.calls.Call.TheVariants.{Take};
+ghost use Rattle.ws_calls.specs.declared.calls.EchoCall.{EchoCall};
+ghost use Rattle.ws_calls.specs.CallLines.{last_lines};
+ghost use Rattle.ws_calls.specs.Calls.{echo_of};
+ghost use Rattle.ws_calls.specs.InnerSteps.{Agrees, HasTakenPart, HasToldCall, told_behind};
+ghost use Rattle.ws_calls.specs.Runs.{TellsEcho};
+ghost use Rattle.ws_calls.specs.Script.{AreEchoCallLines, IsEchoCallLine, as_call};
 
 use crate::calls::EchoCall;
-use crate::placing::placed_behind;
-use crate::report::{CallAnswer, CallsReport};
+use crate::echo_script::echo_call_damage;
+use crate::report::CallAnswer;
+use crate::report_lines::{tell_answer, tell_events, tell_last};
+use crate::running::AT_ONCE;
 use std::alloc::Global;
-use ws_base::{NoMemory, Payload, Sequence};
+use ws_base::{LineFault, NoMemory, Payload, Sequence, TextFault};
+use ws_formats::{Line, cut_line};
+use ws_session::laws::{one_list_of_events, replies_go_on};
 use ws_session::{Echo, Limits};
 use ws_wire::Role;
 
-/// Plays the calls, one after the other, at a new echo, and answers what came of each, as `run_calls` does at a
-/// session. An echo also sends each message back in one frame, and tells nothing of the bytes that it keeps. `NoMemory`
-/// where a growth was refused: then the run stops.
+/// Makes the calls of a script, one after the other, at a new echo, and tells what came of each, as `run_calls` does at
+/// a session; each line is `take HEX KEY` or `end`. An echo also sends each message back in one frame, and tells nothing
+/// of the bytes that it keeps.
 pub fn run_echo_calls(
     alloc: Global,
     role: Role,
     limits: Limits,
-    calls: &[EchoCall],
-) -> Result<CallsReport, NoMemory>
-    requires { count_taken (map as_call calls.now) < 2 ^ 64 }
-    ensures { IfOk result (IsEchoReport role limits calls.now) }
+    text: &[u8],
+) -> Result<String, TextFault>
+    ensures { MatchResult result (λ lines. TellsEcho role limits text.now (string_bytes lines))
+        (λ fault. Damages AreEchoCallLines fault text.now) }
 {
     let mut caller = EchoCaller {
         echo: Echo::new(alloc, limits, role),
         taken: 0,
+        lines: String::new(alloc),
     };
-    let mut answers = Vec::new(alloc);
-    for call in calls {
-        let answer = caller.call(alloc, call)?;
-        answers.push(answer)?;
+    let mut rest = text;
+    while let Some((line, after)) = cut_line(rest) {
+        match caller.next_line(alloc, line) {
+            Ok(()) => rest = after,
+            Err(LineFault::Damaged) => return Err(echo_call_damage(alloc, text)),
+            Err(LineFault::NoMemory) => return Err(TextFault::NoMemory),
+        }
     }
-    Ok(CallsReport {
-        answers: Sequence::from_vec(answers),
-        held: None,
-        status: caller.echo.status(),
-    })
+    if !rest.is_empty() {
+        return Err(echo_call_damage(alloc, text));
+    }
+    match caller.end(alloc) {
+        Ok(lines) => Ok(lines),
+        Err(NoMemory) => Err(TextFault::NoMemory),
+    }
 }
 
-/// An echo, and how many bytes it has taken.
+/// An echo, how many bytes it has taken, and the lines that tell what came of its calls.
 #[derive(Drop)]
 struct EchoCaller {
     echo: Echo,
     taken: u64,
+    lines: String,
 }
 
 impl EchoCaller {
-    /// One call, and what came of it.
-    fn call(&mut self, alloc: Global, call: &EchoCall) -> Result<CallAnswer, NoMemory>
-        requires room { self.old.taken + length (piece_of_call (as_call call.now)) < 2 ^ 64 }
-        ensures answered { (exchange : Exchange) → Agrees exchange self.old.taken self.old.echo →
-            IfOk result (λ answer. HasAnsweredCall (echo_of self.old.echo.role self.old.echo.limits) exchange
-            (as_call call.now) answer self.new.taken self.new.echo) }
-        ensures taken { IfOk result (λ answer.
-            self.new.taken ≤ self.old.taken + length (piece_of_call (as_call call.now))) }
+    /// Makes the call of a line, and tells what came of it.
+    fn next_line(&mut self, alloc: Global, line: &[u8]) -> Result<(), LineFault>
+        ensures made { (exchange : Exchange) → Agrees exchange self.old.taken self.old.echo →
+            OnOk result ((call : EchoCall) × IsEchoCallLine call line.now
+            × HasToldCall (echo_of self.old.echo.role self.old.echo.limits) exchange (as_call call)
+            (string_bytes self.old.lines) self.new.taken self.new.echo (string_bytes self.new.lines)) }
+        ensures damaged { IfErr result (λ fault. fault ≡ Damaged → (call : EchoCall) → IsEchoCallLine call line.now
+            → ⊥) }
+    {
+        let call = EchoCall::read(alloc, line)?;
+        match self.call(alloc, &call) {
+            Ok(()) => Ok(()),
+            Err(NoMemory) => Err(LineFault::NoMemory),
+        }
+    }
+
+    /// One call, and the lines that tell what came of it.
+    fn call(&mut self, alloc: Global, call: &EchoCall) -> Result<(), NoMemory>
+        ensures { (exchange : Exchange) → Agrees exchange self.old.taken self.old.echo →
+            OnOk result (HasToldCall (echo_of self.old.echo.role self.old.echo.limits) exchange (as_call call.now)
+            (string_bytes self.old.lines) self.new.taken self.new.echo (string_bytes self.new.lines)) }
     {
         match call {
-            EchoCall::Take { piece, key } => {
-                let answer = self.take(alloc, piece, *key)?;
-                Ok(answer)
-            }
+            EchoCall::Take { piece, key } => self.take(alloc, piece, *key),
             EchoCall::End => {
                 self.echo.end();
-                Ok(CallAnswer::Ended)
+                tell_answer(alloc, &CallAnswer::Ended, &mut self.lines)?;
+                Ok(())
             }
         }
     }
 
     /// A piece is taken whole, unless the echo is over.
-    fn take(&mut self, alloc: Global, piece: &Payload, key: [u8; 4]) -> Result<CallAnswer, NoMemory>
-        requires room { self.old.taken + length piece.now < 2 ^ 64 }
-        ensures answered { (exchange : Exchange) → Agrees exchange self.old.taken self.old.echo →
-            IfOk result (λ answer. HasAnsweredCall (echo_of self.old.echo.role self.old.echo.limits) exchange
-            (Take piece.now key) answer self.new.taken self.new.echo) }
-        ensures taken { IfOk result (λ answer. self.new.taken ≤ self.old.taken + length piece.now) }
+    fn take(&mut self, alloc: Global, piece: &Payload, key: [u8; 4]) -> Result<(), NoMemory>
+        ensures { (exchange : Exchange) → Agrees exchange self.old.taken self.old.echo →
+            OnOk result (HasToldCall (echo_of self.old.echo.role self.old.echo.limits) exchange
+            (Take piece.now key) (string_bytes self.old.lines) self.new.taken self.new.echo
+            (string_bytes self.new.lines)) }
     {
-        let len = piece.len() as u64;
-        if self.echo.status().is_over() {
-            return Ok(CallAnswer::Taken {
-                events: Sequence::new(alloc),
-                len,
-                put: Payload::new(alloc),
-            });
-        }
         let mut put = Vec::new(alloc);
-        let mut events = Vec::new(alloc);
-        self.echo
-            .take_all(piece.as_slice(), key, &mut put, &mut events)?;
-        let events = placed_behind(alloc, self.taken, events)?;
-        self.taken += len;
-        Ok(CallAnswer::Taken {
-            events,
-            len,
+        if !self.echo.status().is_over() {
+            self.take_parts(alloc, piece.as_slice(), key, &mut put)?;
+        }
+        // Its events are told.
+        let answer = CallAnswer::Taken {
+            events: Sequence::new(alloc),
+            len: piece.len() as u64,
             put: Payload::from_vec(put),
-        })
+        };
+        tell_answer(alloc, &answer, &mut self.lines)?;
+        Ok(())
+    }
+
+    /// Takes a piece part by part, and tells its events: those of a part are told before more bytes are taken.
+    fn take_parts(
+        &mut self,
+        alloc: Global,
+        piece: &[u8],
+        key: [u8; 4],
+        put: &mut Vec<u8>,
+    ) -> Result<(), NoMemory>
+        ensures { OnOk result ((told : List PlacedEvent)
+            × HasTakenPart echo_reply_to self.old.echo self.new.echo piece.now key put.old.items put.new.items told
+            × (self.new.taken ≡ self.old.taken + length piece.now)
+            × (string_bytes self.new.lines ≡ string_bytes self.old.lines ++ told_behind self.old.taken told)) }
+    {
+        one_list_of_events();
+        replies_go_on();
+        let mut rest = piece;
+        while !rest.is_empty() {
+            let (part, after) = rest.split_at(rest.len().min(AT_ONCE));
+            self.take_part(alloc, part, key, put)?;
+            rest = after;
+        }
+        Ok(())
+    }
+
+    /// Takes a part of a piece, and tells its events.
+    fn take_part(
+        &mut self,
+        alloc: Global,
+        part: &[u8],
+        key: [u8; 4],
+        put: &mut Vec<u8>,
+    ) -> Result<(), NoMemory>
+        ensures { OnOk result ((told : List PlacedEvent)
+            × HasTakenPart echo_reply_to self.old.echo self.new.echo part.now key put.old.items put.new.items told
+            × (self.new.taken ≡ self.old.taken + length part.now)
+            × (string_bytes self.new.lines ≡ string_bytes self.old.lines ++ told_behind self.old.taken told)) }
+    {
+        let mut events = Vec::new(alloc);
+        self.echo.take_all(part, key, put, &mut events)?;
+        // There is no room for a greater number, as there is none for so many bytes.
+        let Some(taken) = self.taken.checked_add(part.len() as u64) else {
+            return Err(NoMemory);
+        };
+        tell_events(alloc, self.taken, events.as_slice(), &mut self.lines)?;
+        self.taken = taken;
+        Ok(())
+    }
+
+    /// All lines: those of the calls, and then the status.
+    fn end(self, alloc: Global) -> Result<String, NoMemory>
+        ensures { IfOk result (λ lines.
+            string_bytes lines ≡ string_bytes self.lines ++ last_lines None self.echo.status) }
+    {
+        let status = self.echo.status();
+        let mut lines = self.lines;
+        tell_last(alloc, None, status, &mut lines)?;
+        Ok(lines)
     }
 }

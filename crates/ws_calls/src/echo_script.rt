@@ -1,27 +1,43 @@
 //! Scripts of calls of an echo, one call a line.
 
-ghost use Rattle.std.specs.Prelude.{◌≡◌, ◌≤◌, length, map, IfOk, MatchResult};
+ghost use Rattle.std.specs.Prelude.{◌≡◌, List, map};
 ghost use Rattle.ws_formats.specs.Lines.{Damages};
 ghost use Rattle.ws_formats.specs.Reading.{Reads};
 ghost use Rattle.ws_base.specs.Finding.{Finds};
-ghost use Rattle.ws_calls.specs.Script.{AreEchoCallLines, AreEchoCallWords, IsEchoCallLine, IsEchoCallOf, as_call};
+ghost use Rattle.ws_calls.specs.Script.{AreEchoCallLines, AreEchoCallWords, IsEchoCallLine, IsEchoCallOf};
 ghost use Rattle.ws_calls.specs.Script.{echo_name_word};
-ghost use Rattle.ws_calls.specs.Calls.{count_taken};
+ghost use Rattle.ws_calls.specs.InnerSteps.{TellsEchoCall};
+ghost use Rattle.ws_calls.specs.declared.calls.EchoCall.{EchoCall};
 
 use crate::calls::EchoCall;
 use std::alloc::Global;
-use ws_base::{LineFault, Sequence, TextFault};
-use ws_formats::laws::hexadecimal_is_no_shorter;
+use ws_base::{LineFault, TextFault};
 use ws_formats::{Line, read_hex, read_key_or_dash, read_lines, words_of};
 
-/// The calls of a script for an echo: each line is `take HEX KEY` or `end`.
-pub fn read_echo_calls(alloc: Global, text: &[u8]) -> Result<Sequence<EchoCall>, TextFault>
-    ensures read { MatchResult result (λ calls. AreEchoCallLines calls text.now)
-        (λ fault. Damages AreEchoCallLines fault text.now) }
-    ensures pieces { IfOk result (λ calls. count_taken (map as_call calls) ≤ length text.now) }
+/// What is wrong with a text that is no script for an echo. Its lines are read, and nothing is kept of them.
+pub(crate) fn echo_call_damage(alloc: Global, text: &[u8]) -> TextFault
+    requires { (calls : List EchoCall) → AreEchoCallLines calls text.now → ⊥ }
+    ensures { Damages AreEchoCallLines result text.now }
 {
-    hexadecimal_is_no_shorter();
-    read_lines::<EchoCall>(alloc, text)
+    match read_lines::<CheckedEchoCall>(alloc, text) {
+        Ok(_) => unreachable!(),
+        Err(fault) => fault,
+    }
+}
+
+/// What is kept of a line that tells a call of an echo: nothing.
+#[derive(Clone, Copy)]
+struct CheckedEchoCall;
+
+impl Line for CheckedEchoCall {
+    ghost is_line_of = { λ _ line. TellsEchoCall line };
+
+    fn read(alloc: Global, line: &[u8]) -> Result<CheckedEchoCall, LineFault> {
+        match EchoCall::read(alloc, line) {
+            Ok(_) => Ok(CheckedEchoCall),
+            Err(fault) => Err(fault),
+        }
+    }
 }
 
 impl Line for EchoCall {

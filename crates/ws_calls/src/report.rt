@@ -1,7 +1,7 @@
 //! What came of the calls of one endpoint.
 
 use ws_base::{Payload, Sequence};
-use ws_session::{Event, SendFault, Status};
+use ws_session::{Event, SendFault};
 
 /// An event, and how many bytes were taken since the start up to it: those up to and with its last, or to the place of
 /// a fault.
@@ -26,14 +26,4 @@ pub enum CallAnswer {
     },
     /// The stream has ended.
     Ended,
-}
-
-/// What came of all calls.
-#[derive(Drop)]
-pub struct CallsReport {
-    /// What came of each call, in order.
-    pub answers: Sequence<CallAnswer>,
-    /// How many input bytes the session keeps after the last call. An echo doesn't tell it.
-    pub held: Option<u64>,
-    pub status: Status,
 }

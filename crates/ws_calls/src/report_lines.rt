@@ -1,43 +1,82 @@
 //! The lines that tell what came of the calls of one endpoint.
 
-ghost use Rattle.std.specs.Prelude.{◌≡◌, IfOk, Some, string_bytes};
-ghost use Rattle.ws_calls.specs.CallLines.{calls_lines};
-ghost use Rattle.ws_calls.specs.InnerPrinting.{printed_answer, printed_event, printed_report, printed_words};
+ghost use Rattle.std.specs.Prelude.{◌≡◌, ◌+◌, ◌^◌, ◌<◌, ◌++◌, OnOk, Some, string_bytes};
+ghost use Rattle.std.specs.List.{AllByRecursion};
+ghost use Rattle.ws_session.specs.declared.event.PlacedEvent.{PlacedEvent};
+ghost use Rattle.ws_calls.specs.CallLines.{answer_lines, last_lines};
+ghost use Rattle.ws_calls.specs.InnerSteps.{told_behind};
+ghost use Rattle.ws_calls.specs.InnerPrinting.{printed_answer, printed_event, printed_last, printed_words};
 
-use crate::report::{CallAnswer, CallsReport, PlacedInStream};
+use crate::report::CallAnswer;
 use std::alloc::Global;
 use std::fmt;
 use ws_base::NoMemory;
 use ws_formats::Hex;
-use ws_session::Event;
+use ws_session::{Event, PlacedEvent, Status};
 
-/// The lines of a report: those of each call, then the bytes kept, where that is told, and the status. Each ends with
-/// LF.
-pub fn write_calls_report(alloc: Global, report: &CallsReport) -> Result<String, NoMemory>
-    ensures { IfOk result (λ text. string_bytes text ≡ calls_lines report.now) }
+/// Tells what came of a call, after the lines that stand there. Each line ends with LF.
+pub(crate) fn tell_answer(
+    alloc: Global,
+    answer: &CallAnswer,
+    lines: &mut String,
+) -> Result<(), NoMemory>
+    ensures { OnOk result (string_bytes lines.new ≡ string_bytes lines.old ++ answer_lines answer.now) }
 {
-    let lines = CallsLines { report };
-    let text = format!(in alloc; "{lines}")?;
-    Ok(text)
+    let text = format!(in alloc; "{}", AnswerLines { answer })?;
+    lines.push_str(text.as_str())?;
+    Ok(())
 }
 
-/// A whole report.
+/// Tells the events of a piece, behind so many bytes.
+pub(crate) fn tell_events(
+    alloc: Global,
+    start: u64,
+    events: &[PlacedEvent],
+    lines: &mut String,
+) -> Result<(), NoMemory>
+    requires { AllByRecursion (λ (x : PlacedEvent). start + x.end < 2 ^ 64) events.now }
+    ensures { OnOk result (string_bytes lines.new ≡ string_bytes lines.old ++ told_behind start events.now) }
+{
+    for placed in events {
+        let line = EventLine {
+            place: start + placed.end as u64,
+            event: &placed.event,
+        };
+        let text = format!(in alloc; "{line}")?;
+        lines.push_str(text.as_str())?;
+    }
+    Ok(())
+}
+
+/// Tells the bytes kept, where that is told, and the status.
+pub(crate) fn tell_last(
+    alloc: Global,
+    held: Option<u64>,
+    status: Status,
+    lines: &mut String,
+) -> Result<(), NoMemory>
+    ensures { OnOk result (string_bytes lines.new ≡ string_bytes lines.old ++ last_lines held status) }
+{
+    let text = format!(in alloc; "{}", LastLines { held, status })?;
+    lines.push_str(text.as_str())?;
+    Ok(())
+}
+
+/// The lines that come last.
 #[derive(Drop)]
-struct CallsLines<'a> {
-    report: &'a CallsReport,
+struct LastLines {
+    held: Option<u64>,
+    status: Status,
 }
 
-impl fmt::Display for CallsLines<'_> {
-    ghost output = { λ lines. Some (printed_report lines) };
+impl fmt::Display for LastLines {
+    ghost output = { λ lines. Some (printed_last lines) };
 
     fn fmt<W: fmt::Write>(&self, f: &mut fmt::Formatter<W>) -> fmt::Result {
-        for answer in self.report.answers.as_slice() {
-            write!(f, "{}", AnswerLines { answer })?;
-        }
-        if let Some(held) = self.report.held {
+        if let Some(held) = self.held {
             writeln!(f, "held {held}")?;
         }
-        writeln!(f, "status {}", self.report.status)
+        writeln!(f, "status {}", self.status)
     }
 }
 
@@ -56,7 +95,11 @@ impl fmt::Display for AnswerLines<'_> {
             CallAnswer::Refused(fault) => writeln!(f, "refused {fault}"),
             CallAnswer::Taken { events, len, put } => {
                 for placed in events.as_slice() {
-                    write!(f, "{}", EventLine { placed })?;
+                    let line = EventLine {
+                        place: placed.place,
+                        event: &placed.event,
+                    };
+                    write!(f, "{line}")?;
                 }
                 writeln!(f, "taken {len} put {}", Hex(put.as_slice()))
             }
@@ -68,17 +111,16 @@ impl fmt::Display for AnswerLines<'_> {
 /// One event behind its place.
 #[derive(Drop)]
 struct EventLine<'a> {
-    placed: &'a PlacedInStream,
+    place: u64,
+    event: &'a Event,
 }
 
 impl fmt::Display for EventLine<'_> {
     ghost output = { λ line. Some (printed_event line) };
 
     fn fmt<W: fmt::Write>(&self, f: &mut fmt::Formatter<W>) -> fmt::Result {
-        let event = EventWords {
-            event: &self.placed.event,
-        };
-        writeln!(f, "{} {event}", self.placed.place)
+        let event = EventWords { event: self.event };
+        writeln!(f, "{} {event}", self.place)
     }
 }
 

@@ -1,70 +1,113 @@
-//! Calls at a session, one after the other.
+//! The calls of a script at a session, one after the other.
 
-ghost use Rattle.std.specs.Prelude.{◌≡◌, ◌+◌, ◌^◌, ◌<◌, ◌≤◌, length, IfOk};
+ghost use Rattle.std.specs.Prelude.{◌≡◌, ℕ, ◌+◌, ◌++◌, List, length, Some, IfErr, IfOk, MatchResult, OnOk, string_bytes};
+ghost use Rattle.ws_base.specs.declared.text_fault.LineFault.TheVariants.{Damaged};
+ghost use Rattle.ws_formats.specs.Lines.{Damages};
+ghost use Rattle.ws_session.specs.declared.event.PlacedEvent.{PlacedEvent};
 ghost use Rattle.ws_session.specs.Exchange.{Exchange};
+ghost use Rattle.ws_session.specs.Replies.{reply_to};
 ghost use Rattle.ws_session.specs.Sends.{send_of};
-ghost use Rattle.ws_calls.specs.Calls.{IsSessionReport, count_taken, piece_of_call, session_of};
-ghost use Rattle.ws_calls.specs.InnerSteps.{Agrees, HasAnsweredCall, HasAnsweredSend, IsOutcome};
+ghost use Rattle.ws_calls.specs.declared.calls.Call.{Call};
 ghost use Rattle.ws_calls.specs.declared.calls.Call.TheVariants.{Take};
+ghost use Rattle.ws_calls.specs.CallLines.{last_lines};
+ghost use Rattle.ws_calls.specs.Calls.{session_of};
+ghost use Rattle.ws_calls.specs.InnerSteps.{Agrees, HasAnsweredSend, HasTakenPart, HasToldCall, IsHeld, IsOutcome};
+ghost use Rattle.ws_calls.specs.InnerSteps.{told_behind};
+ghost use Rattle.ws_calls.specs.Runs.{TellsSession};
+ghost use Rattle.ws_calls.specs.Script.{AreCallLines, IsCallLine};
 
 use crate::calls::Call;
-use crate::placing::placed_behind;
-use crate::report::{CallAnswer, CallsReport};
+use crate::report::CallAnswer;
+use crate::report_lines::{tell_answer, tell_events, tell_last};
+use crate::script::call_damage;
 use std::alloc::Global;
-use ws_base::{NoMemory, Payload, Sequence};
+use ws_base::{LineFault, NoMemory, Payload, Sequence, TextFault};
+use ws_formats::{Line, cut_line};
+use ws_session::laws::{one_list_of_events, replies_go_on};
 use ws_session::{Limits, Outgoing, SendFault, Session};
 use ws_wire::Role;
 
-/// Plays the calls, one after the other, at a new session, and answers what came of each. A piece is taken whole, and
-/// each of its events has its place in all bytes taken since the start (RFC 6455 sections 5 to 7). `NoMemory` where a
-/// growth was refused, also of a send: then the run stops.
+/// How many bytes of a piece are taken at once: so few that the room for their events doesn't count.
+pub(crate) const AT_ONCE: usize = 4096;
+
+/// Makes the calls of a script, one after the other, at a new session, and tells what came of each (RFC 6455 sections 5
+/// to 7), then the bytes kept and the status. The script has a line for each call, which ends with LF, and its words are
+/// parted by one space: `begin text|binary fin|part HEX KEY`, `more fin|part HEX KEY`, `ping HEX KEY`, `pong HEX KEY`,
+/// `close CODE|none HEX KEY`, `take HEX KEY` or `end`. A piece is taken whole, and each of its events has its place in
+/// all bytes taken since the start. Nothing is kept of a line once its call is told. `NoMemory` where a growth was
+/// refused, also of a send: then the run stops.
 pub fn run_calls(
     alloc: Global,
     role: Role,
     limits: Limits,
-    calls: &[Call],
-) -> Result<CallsReport, NoMemory>
-    requires { count_taken calls.now < 2 ^ 64 }
-    ensures { IfOk result (IsSessionReport role limits calls.now) }
+    text: &[u8],
+) -> Result<String, TextFault>
+    ensures { MatchResult result (λ lines. TellsSession role limits text.now (string_bytes lines))
+        (λ fault. Damages AreCallLines fault text.now) }
 {
     let mut caller = Caller {
         session: Session::new(alloc, role, limits),
         taken: 0,
+        lines: String::new(alloc),
     };
-    let mut answers = Vec::new(alloc);
-    for call in calls {
-        let answer = caller.call(alloc, call)?;
-        answers.push(answer)?;
+    let mut rest = text;
+    while let Some((line, after)) = cut_line(rest) {
+        match caller.next_line(alloc, line) {
+            Ok(()) => rest = after,
+            Err(LineFault::Damaged) => return Err(call_damage(alloc, text)),
+            Err(LineFault::NoMemory) => return Err(TextFault::NoMemory),
+        }
     }
-    Ok(CallsReport {
-        answers: Sequence::from_vec(answers),
-        held: Some(caller.session.held() as u64),
-        status: caller.session.status(),
-    })
+    if !rest.is_empty() {
+        return Err(call_damage(alloc, text));
+    }
+    match caller.end(alloc) {
+        Ok(lines) => Ok(lines),
+        Err(NoMemory) => Err(TextFault::NoMemory),
+    }
 }
 
-/// A session, and how many bytes it has taken.
+/// A session, how many bytes it has taken, and the lines that tell what came of its calls.
 #[derive(Drop)]
 struct Caller {
     session: Session,
     taken: u64,
+    lines: String,
 }
 
 impl Caller {
-    /// One call, and what came of it.
-    fn call(&mut self, alloc: Global, call: &Call) -> Result<CallAnswer, NoMemory>
-        requires room { self.old.taken + length (piece_of_call call.now) < 2 ^ 64 }
-        ensures answered { (exchange : Exchange) → Agrees exchange self.old.taken self.old.session →
-            IfOk result (λ answer. HasAnsweredCall (session_of self.old.session.role self.old.session.limits) exchange
-            call.now answer self.new.taken self.new.session) }
-        ensures taken { IfOk result (λ answer. self.new.taken ≤ self.old.taken + length (piece_of_call call.now)) }
+    /// Makes the call of a line, and tells what came of it.
+    fn next_line(&mut self, alloc: Global, line: &[u8]) -> Result<(), LineFault>
+        ensures made { (exchange : Exchange) → Agrees exchange self.old.taken self.old.session →
+            OnOk result ((call : Call) × IsCallLine call line.now
+            × HasToldCall (session_of self.old.session.role self.old.session.limits) exchange call
+            (string_bytes self.old.lines) self.new.taken self.new.session (string_bytes self.new.lines)) }
+        ensures damaged { IfErr result (λ fault. fault ≡ Damaged → (call : Call) → IsCallLine call line.now → ⊥) }
+    {
+        let call = Call::read(alloc, line)?;
+        match self.call(alloc, &call) {
+            Ok(()) => Ok(()),
+            Err(NoMemory) => Err(LineFault::NoMemory),
+        }
+    }
+
+    /// One call, and the lines that tell what came of it.
+    fn call(&mut self, alloc: Global, call: &Call) -> Result<(), NoMemory>
+        ensures { (exchange : Exchange) → Agrees exchange self.old.taken self.old.session →
+            OnOk result (HasToldCall (session_of self.old.session.role self.old.session.limits) exchange call.now
+            (string_bytes self.old.lines) self.new.taken self.new.session (string_bytes self.new.lines)) }
     {
         match call {
-            Call::Send(send) => self.send(alloc, &send.outgoing(), send.key()),
+            Call::Send(send) => {
+                let answer = self.send(alloc, &send.outgoing(), send.key())?;
+                tell_answer(alloc, &answer, &mut self.lines)?;
+                Ok(())
+            }
             Call::Take { piece, key } => self.take(alloc, piece, *key),
             Call::End => {
                 self.session.end();
-                Ok(CallAnswer::Ended)
+                tell_answer(alloc, &CallAnswer::Ended, &mut self.lines)?;
+                Ok(())
             }
         }
     }
@@ -79,7 +122,7 @@ impl Caller {
         ensures answered { (exchange : Exchange) → Agrees exchange self.old.taken self.old.session →
             IfOk result (λ answer. HasAnsweredSend (session_of self.old.session.role self.old.session.limits) exchange
             (send_of frame.now) key answer self.new.taken self.new.session) }
-        ensures taken { self.new.taken ≡ self.old.taken }
+        ensures lines { self.new.lines ≡ self.old.lines }
     {
         let mut put = Vec::new(alloc);
         let sent = self.session.send(frame, key, &mut put);
@@ -88,32 +131,84 @@ impl Caller {
     }
 
     /// A piece is taken whole, unless the session is over.
-    fn take(&mut self, alloc: Global, piece: &Payload, key: [u8; 4]) -> Result<CallAnswer, NoMemory>
-        requires room { self.old.taken + length piece.now < 2 ^ 64 }
-        ensures answered { (exchange : Exchange) → Agrees exchange self.old.taken self.old.session →
-            IfOk result (λ answer. HasAnsweredCall (session_of self.old.session.role self.old.session.limits) exchange
-            (Take piece.now key) answer self.new.taken self.new.session) }
-        ensures taken { IfOk result (λ answer. self.new.taken ≤ self.old.taken + length piece.now) }
+    fn take(&mut self, alloc: Global, piece: &Payload, key: [u8; 4]) -> Result<(), NoMemory>
+        ensures { (exchange : Exchange) → Agrees exchange self.old.taken self.old.session →
+            OnOk result (HasToldCall (session_of self.old.session.role self.old.session.limits) exchange
+            (Take piece.now key) (string_bytes self.old.lines) self.new.taken self.new.session
+            (string_bytes self.new.lines)) }
     {
-        let len = piece.len() as u64;
-        if self.session.status().is_over() {
-            return Ok(CallAnswer::Taken {
-                events: Sequence::new(alloc),
-                len,
-                put: Payload::new(alloc),
-            });
-        }
         let mut put = Vec::new(alloc);
-        let mut events = Vec::new(alloc);
-        self.session
-            .take_all(piece.as_slice(), key, &mut put, &mut events)?;
-        let events = placed_behind(alloc, self.taken, events)?;
-        self.taken += len;
-        Ok(CallAnswer::Taken {
-            events,
-            len,
+        if !self.session.status().is_over() {
+            self.take_parts(alloc, piece.as_slice(), key, &mut put)?;
+        }
+        // Its events are told.
+        let answer = CallAnswer::Taken {
+            events: Sequence::new(alloc),
+            len: piece.len() as u64,
             put: Payload::from_vec(put),
-        })
+        };
+        tell_answer(alloc, &answer, &mut self.lines)?;
+        Ok(())
+    }
+
+    /// Takes a piece part by part, and tells its events: those of a part are told before more bytes are taken.
+    fn take_parts(
+        &mut self,
+        alloc: Global,
+        piece: &[u8],
+        key: [u8; 4],
+        put: &mut Vec<u8>,
+    ) -> Result<(), NoMemory>
+        ensures { OnOk result ((told : List PlacedEvent)
+            × HasTakenPart reply_to self.old.session self.new.session piece.now key put.old.items put.new.items told
+            × (self.new.taken ≡ self.old.taken + length piece.now)
+            × (string_bytes self.new.lines ≡ string_bytes self.old.lines ++ told_behind self.old.taken told)) }
+    {
+        one_list_of_events();
+        replies_go_on();
+        let mut rest = piece;
+        while !rest.is_empty() {
+            let (part, after) = rest.split_at(rest.len().min(AT_ONCE));
+            self.take_part(alloc, part, key, put)?;
+            rest = after;
+        }
+        Ok(())
+    }
+
+    /// Takes a part of a piece, and tells its events.
+    fn take_part(
+        &mut self,
+        alloc: Global,
+        part: &[u8],
+        key: [u8; 4],
+        put: &mut Vec<u8>,
+    ) -> Result<(), NoMemory>
+        ensures { OnOk result ((told : List PlacedEvent)
+            × HasTakenPart reply_to self.old.session self.new.session part.now key put.old.items put.new.items told
+            × (self.new.taken ≡ self.old.taken + length part.now)
+            × (string_bytes self.new.lines ≡ string_bytes self.old.lines ++ told_behind self.old.taken told)) }
+    {
+        let mut events = Vec::new(alloc);
+        self.session.take_all(part, key, put, &mut events)?;
+        // There is no room for a greater number, as there is none for so many bytes.
+        let Some(taken) = self.taken.checked_add(part.len() as u64) else {
+            return Err(NoMemory);
+        };
+        tell_events(alloc, self.taken, events.as_slice(), &mut self.lines)?;
+        self.taken = taken;
+        Ok(())
+    }
+
+    /// All lines: those of the calls, and then the bytes kept and the status.
+    fn end(self, alloc: Global) -> Result<String, NoMemory>
+        ensures { IfOk result (λ lines. (held : ℕ) × IsHeld self.session held
+            × (string_bytes lines ≡ string_bytes self.lines ++ last_lines (Some held) self.session.status)) }
+    {
+        let held = self.session.held() as u64;
+        let status = self.session.status();
+        let mut lines = self.lines;
+        tell_last(alloc, Some(held), status, &mut lines)?;
+        Ok(lines)
     }
 }
 

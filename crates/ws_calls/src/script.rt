@@ -1,29 +1,43 @@
 //! Scripts of calls of one endpoint, one call a line.
 
-ghost use Rattle.std.specs.Prelude.{◌≡◌, ◌≤◌, length, map, IfOk, MatchResult};
+ghost use Rattle.std.specs.Prelude.{◌≡◌, List, map};
 ghost use Rattle.ws_formats.specs.Lines.{Damages};
 ghost use Rattle.ws_formats.specs.Reading.{Reads};
 ghost use Rattle.ws_calls.specs.Script.{AreCallLines, AreCallWords, IsCallLine, as_call};
-ghost use Rattle.ws_calls.specs.Calls.{count_taken};
+ghost use Rattle.ws_calls.specs.InnerSteps.{TellsCall};
+ghost use Rattle.ws_calls.specs.declared.calls.Call.{Call};
 
 use crate::calls::{Call, EchoCall};
 use crate::echo_script::{read_echo_fields, read_echo_name};
 use std::alloc::Global;
-use ws_base::{LineFault, Sequence, TextFault};
-use ws_formats::laws::hexadecimal_is_no_shorter;
+use ws_base::{LineFault, TextFault};
 use ws_formats::{Line, read_lines, words_of};
 use ws_sends::read_send;
 
-/// The calls of a script, which has a line for each. Every line ends with LF, and its words are parted by one space:
-/// `begin text|binary fin|part HEX KEY`, `more fin|part HEX KEY`, `ping HEX KEY`, `pong HEX KEY`, `close CODE|none HEX
-/// KEY`, `take HEX KEY` or `end`.
-pub fn read_calls(alloc: Global, text: &[u8]) -> Result<Sequence<Call>, TextFault>
-    ensures read { MatchResult result (λ calls. AreCallLines calls text.now)
-        (λ fault. Damages AreCallLines fault text.now) }
-    ensures pieces { IfOk result (λ calls. count_taken calls ≤ length text.now) }
+/// What is wrong with a text that is no script. Its lines are read, and nothing is kept of them.
+pub(crate) fn call_damage(alloc: Global, text: &[u8]) -> TextFault
+    requires { (calls : List Call) → AreCallLines calls text.now → ⊥ }
+    ensures { Damages AreCallLines result text.now }
 {
-    hexadecimal_is_no_shorter();
-    read_lines::<Call>(alloc, text)
+    match read_lines::<CheckedCall>(alloc, text) {
+        Ok(_) => unreachable!(),
+        Err(fault) => fault,
+    }
+}
+
+/// What is kept of a line that tells a call: nothing.
+#[derive(Clone, Copy)]
+struct CheckedCall;
+
+impl Line for CheckedCall {
+    ghost is_line_of = { λ _ line. TellsCall line };
+
+    fn read(alloc: Global, line: &[u8]) -> Result<CheckedCall, LineFault> {
+        match Call::read(alloc, line) {
+            Ok(_) => Ok(CheckedCall),
+            Err(fault) => Err(fault),
+        }
+    }
 }
 
 impl Line for Call {

@@ -5,3 +5,4 @@ pub mod StandingLemmas
 pub mod ProbingLemmas
 pub mod ObservingLemmas
 pub mod HeaderLemmas
+pub mod AdmittingLemmas

@@ -1,5 +1,5 @@
 -- How bytes stand, by the status of the session that has taken them, and what a run makes of it.
-use Rattle.std.proofs.Common.{◌≡◌, ◌∙◌, ℕ, inl, inr, List, Bool, true, false, if◌then◌else◌, Option, refl, sym, ap, subst}
+use Rattle.std.proofs.Common.{◌≡◌, ◌∙◌, ℕ, List, Bool, true, false, if◌then◌else◌, Option, refl, sym, ap, subst}
 use Rattle.std.specs.Prelude.{None, Some}
 use Rattle.ws_wire.specs.declared.role.Role.{Role}
 use Rattle.ws_wire.specs.declared.role.Role.TheVariants.{Client, Server}
@@ -14,7 +14,7 @@ use Rattle.ws_session.specs.Exchange.{SessionValue, is_over, last_event, status_
 use Rattle.ws_session.specs.Replies.{has_close}
 use Rattle.ws_session.specs.Sends.{most_limits}
 use Rattle.ws_suite.specs.Evidence.{other_role}
-use Rattle.ws_connection.specs.Standings.{HalfCloses, HasHeard, MayGoOn, Stands, StandsSo, awaits_end, ends_at_close, half_closes, is_final, standing_at, standing_by}
+use Rattle.ws_connection.specs.Standings.{HalfCloses, HasHeard, MayGoOn, Stands, StandsSo, half_closes, standing_at, standing_by}
 use Rattle.ws_connection.specs.declared.standing.Standing.{Standing}
 use Rattle.ws_connection.specs.declared.standing.Standing.TheVariants.{Going, Closed, Faulty}
 

@@ -9,7 +9,6 @@ use Rattle.ws_session.specs.Exchange.{SessionValue, is_over}
 use Rattle.ws_scripts.specs.declared.transcript.Ended.{Ended}
 use Rattle.ws_scripts.specs.declared.transcript.Ended.TheVariants.{Tester, Peer, Broken}
 use Rattle.ws_scripts.specs.declared.transcript.Turn.{Turn}
-use Rattle.ws_scripts.specs.declared.transcript.Transcript.{Transcript}
 use Rattle.ws_connection.specs.ConnectionValues.{ConnectionRun, ConnectionValue}
 use Rattle.ws_suite.specs.declared.evidence.keeping.ReplyTally.{ReplyTally}
 use Rattle.ws_suite.specs.Growing.{AreTurnsAnswered, GrowingValue, HasGrown, IsTallyOf, turn_with_got}

@@ -10,4 +10,5 @@ pub mod Standings
 pub mod Probing
 pub mod Observing
 pub mod Serving
+pub mod Admitting
 pub mod InnerProbeTurns

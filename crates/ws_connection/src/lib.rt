@@ -2,11 +2,13 @@
 //! comes behind it, on either side (RFC 6455 sections 4.1, 4.2 and 5 to 7). The device is any: a socket, or bytes in
 //! memory.
 //!
-//! The layer above uses: `serve_one` (the clauses with `Serves`), `probe` (`Probes`) over a `Connection` and `run_script`
-//! (`Records`) over one whose handshake is done, `read_head` (the clauses with `ReadsHead`) with `RequestHead` and
-//! `ResponseHead`, `protocols_of`, whose `Protocols` both take, and `headers_of`, whose `RequestHeaders` a request has.
+//! The layer above uses: `serve_one` (the clauses with `Serves`), `probe` (`Probes`) over a `Connection`, `admit`
+//! (`Admits`) over one as a server, and `run_script` (`Records`) over one whose handshake is done, `read_head` (the
+//! clauses with `ReadsHead`) with `RequestHead` and `ResponseHead`, `protocols_of`, whose `Protocols` they take, and
+//! `headers_of`, whose `RequestHeaders` a request has.
 #![tactic(auto)]
 
+mod admitting;
 mod connection;
 mod incoming;
 mod observer;
@@ -21,6 +23,7 @@ mod serving;
 mod standing;
 mod upgrade_request;
 
+pub use admitting::{AcceptedRequest, Admission, admit};
 pub use connection::{Connection, EndsDirection};
 pub use incoming::Incoming;
 pub use observer::{Observer, Silent};

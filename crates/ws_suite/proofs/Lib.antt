@@ -15,3 +15,5 @@ mod AnsweredTurns
 mod FairVerdict
 mod TurnsAdded
 mod FairEvidence
+mod KeptLemmas
+mod ChosenLemmas

@@ -49,7 +49,7 @@ pub record AreTurnsAnswered (tested : Role) (turns : List Turn) : Type 0 where
 
 -- all replies are kept
 abbrev pub AreAll : AllReplies → List (InTurn Reply) → Type 0
-AreAll kept replies = kept.list.items ≡ replies
+AreAll kept replies = kept.list ≡ replies
 
 -- how many messages there are among the replies, and the last pong are kept
 pub record IsTallyOf (tally : ReplyTally) (replies : List (InTurn Reply)) : Type 0 where

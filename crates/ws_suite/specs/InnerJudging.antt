@@ -1,5 +1,5 @@
 -- Inside the crate: lists of replies as the judge's functions see them. A reader may skip this file.
-use Rattle.std.specs.Prelude.{◌≡◌, ◌↔◌, ℕ, ◌<◌, ◌≤◌, Bool, true, false, List, [], ◌∷◌, filter, length, map, Option, None, Some}
+use Rattle.std.specs.Prelude.{◌≡◌, ◌↔◌, ℕ, ◌<◌, ◌≤◌, Bool, true, false, List, filter, length, Option, None, Some}
 use Rattle.std.specs.Borrow.{Bor}
 use Rattle.std.specs.BTreeMap.{BTreeMap, get_by}
 use Rattle.std.specs.Cmp.Lexicographic.{slice_cmp}
@@ -13,15 +13,10 @@ use Rattle.ws_suite.specs.declared.evidence.Reply.{Reply}
 use Rattle.ws_suite.specs.declared.evidence.Reply.TheVariants as reply
 use Rattle.ws_suite.specs.declared.evidence.Evidence.{Evidence}
 use Rattle.ws_suite.specs.declared.judging.findings.Findings.{Findings}
-use Rattle.ws_suite.specs.declared.judging.replies.Lists.{Lists}
 use Rattle.ws_suite.specs.Matching.{HasLastPong, IsBeginningOf, IsShortOfMessages, IsShortOfPongs, IsWithSomeLeftOut}
-use Rattle.ws_suite.specs.Matching.{bare, due_messages, due_pongs, got_messages, got_pongs, matches, payload_of}
+use Rattle.ws_suite.specs.Matching.{bare, due_messages, due_pongs, got_messages, matches, payload_of}
 use Rattle.ws_suite.specs.Verdicts.{FailsNowhere, IsLowestFail, IsLowestLoose, IsNowhereLoose, is_before}
 use Rattle.ws_suite.specs.Verdicts.{is_before_match, is_unmatched}
-
--- what references to replies point to
-abbrev pub targets : List (Bor (InTurn Reply)) → List (InTurn Reply)
-targets replies = map (λ (r : Bor (InTurn Reply)). r.now) replies
 
 -- a message or a pong, and no ping
 abbrev pub is_answer : Reply → Bool
@@ -41,14 +36,6 @@ without_pings x = record {
   ended = x.ended;
   answers_doom = x.answers_doom;
 }
-
--- the messages and the pongs of both directions
-pub record AreListsOf (x : Evidence) (lists : Lists) : Type 0 where
-  pub due_messages : targets lists.due_messages.items ≡ due_messages x
-  pub got_messages : targets lists.got_messages.items ≡ got_messages x
-  pub due_pongs : targets lists.due_pongs.items ≡ due_pongs x
-  pub got_pongs : targets lists.got_pongs.items ≡ got_pongs x
-  pub got : targets lists.got.items ≡ x.got.replies
 
 -- what was found by comparing what was got with what is due, with the words of the verdict's definition
 pub record AreFindingsOf (x : Evidence) (found : Findings) : Type 0 where
@@ -76,8 +63,3 @@ IsFirstFail tested x (Some why) = IsLowestFail tested x why
 abbrev pub IsFirstLoose : Role → Evidence → Option LooseWhy → Type 0
 IsFirstLoose tested x None = IsNowhereLoose tested x
 IsFirstLoose tested x (Some why) = IsLowestLoose tested x why
-
--- the first of the replies passes the test
-abbrev pub IsAtFront : (InTurn Reply → Bool) → List (InTurn Reply) → Type 0
-IsAtFront test [] = ⊥
-IsAtFront test (x ∷ xs) = test x ≡ true

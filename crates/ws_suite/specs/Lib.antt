@@ -1,3 +1,4 @@
+pub mod Kept
 pub mod Evidence
 pub mod Matching
 pub mod Doom
@@ -11,3 +12,4 @@ pub mod InnerCollecting
 pub mod InnerDoom
 pub mod InnerEchoReplyLaws
 pub mod InnerJudging
+pub mod InnerChosen

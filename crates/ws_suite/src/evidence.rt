@@ -7,14 +7,16 @@ mod collecting;
 mod doom;
 mod growing;
 mod keeping;
+mod kept;
 mod telling;
 
 pub(crate) use doom::with_doom;
 pub(crate) use growing::evidence_of;
 pub use growing::{GrowingEvidence, RunEvidence};
 pub use keeping::{KeepsReplies, ReplyTally};
+pub(crate) use kept::is_same;
+pub use kept::{Kept, Replies, ReplyKind, Walk};
 pub(crate) use telling::{ToldEvidence, told_evidence_of};
-use ws_base::Sequence;
 use ws_scripts::Ended;
 use ws_session::{Message, Reason, Small};
 
@@ -51,7 +53,7 @@ pub enum Ending {
 #[derive(Drop)]
 pub struct Direction {
     /// The replies that are due for what was sent, or that were got, in their order.
-    pub replies: Sequence<InTurn<Reply>>,
+    pub replies: Replies,
     /// The close or the fault, if there is one: nothing follows it.
     pub ending: Option<InTurn<Ending>>,
     /// Bytes stand after the last event.

@@ -1,5 +1,6 @@
 //! The judge: which rules the tested end broke, by what a transcript shows.
 
+mod chosen;
 mod fails;
 mod findings;
 mod looses;

@@ -16,7 +16,8 @@ mod rules;
 mod verdict;
 
 pub use evidence::{
-    Direction, Ending, GrowingEvidence, InTurn, KeepsReplies, Reply, ReplyTally, RunEvidence,
+    Direction, Ending, GrowingEvidence, InTurn, KeepsReplies, Kept, Replies, Reply, ReplyKind,
+    ReplyTally, RunEvidence, Walk,
 };
 pub use explaining::{Explanation, explain};
 pub use judging::{judge, judge_end};

@@ -7,7 +7,7 @@ ghost use Rattle.ws_text.specs.Text.{HasUnfinished, IsUnfinished};
 ghost use Rattle.ws_text.specs.Stream.{BreaksTextAt, IsWanted};
 ghost use Rattle.ws_text.specs.InnerStep.{kept_bytes, BeginsCharacter, GoesOn};
 
-use crate::whole::valid_prefix;
+use crate::whole::{is_short_ascii, valid_prefix};
 
 /// The first bytes of a character that is not all there, or none.
 #[derive(Clone, Copy)]
@@ -90,7 +90,7 @@ impl Unfinished {
 
     /// Takes a piece: what is unfinished after it, or the place of the byte with which no text goes on.
     /// A cut character is joined byte by byte, and so is one that the piece cuts; `simdutf8` checks
-    /// what lies between.
+    /// what lies between, unless all is a short piece of ASCII.
     pub(crate) fn push(self, piece: &[u8]) -> Result<Unfinished, usize>
         requires { IsUnfinished (kept_bytes self) }
         ensures unfinished { IfOk result (λ new. IsUnfinished (kept_bytes new)) }
@@ -98,6 +98,9 @@ impl Unfinished {
             MatchResult result (λ new. HasUnfinished (text ++ piece.now) (kept_bytes new))
             (BreaksTextAt text piece.now) }
     {
+        if self.is_nothing() && is_short_ascii(piece) {
+            return Ok(Unfinished::Nothing);
+        }
         let (unfinished, used) = self.complete(piece)?;
         let rest = &piece[used..];
         let whole = valid_prefix(rest);

@@ -8,7 +8,7 @@ use Rattle.wst_commands.specs.declared.exit.Exit.{Exit}
 use Rattle.wst_commands.specs.declared.exit.Exit.TheVariants.{Damaged, Failed, WrongWords}
 use Rattle.wst_commands.specs.declared.fault.Fault.{Fault}
 use Rattle.wst_commands.specs.declared.fault.Fault.TheVariants.{BadLimits, BadProtocols, BadTimeout, HeadIsCut}
-use Rattle.wst_commands.specs.declared.fault.Fault.TheVariants.{NotACall, NotACapture, NotAMove, NotAStep}
+use Rattle.wst_commands.specs.declared.fault.Fault.TheVariants.{NotACall, NotACapture, NotAMove, NotAStep, NotAVerdict}
 use Rattle.wst_commands.specs.declared.fault.Fault.TheVariants.{NotListening, StreamWithCapture}
 use Rattle.wst_commands.specs.declared.fault.Fault.TheVariants.{NoText, NoTask, NoMemory, RoleWithoutCapture}
 use Rattle.wst_commands.specs.declared.fault.ListenFault.{ListenFault}
@@ -46,6 +46,7 @@ TellsFault (NotAMove number) exit faults = TellsLine number (codes "not a move")
 TellsFault (NotACall number) exit faults = TellsLine number (codes "not a call") exit faults
 TellsFault (NotACapture number) exit faults = TellsLine number (codes "not a capture") exit faults
 TellsFault (NotAStep number) exit faults = TellsLine number (codes "not a step") exit faults
+TellsFault (NotAVerdict number) exit faults = TellsLine number (codes "not a verdict") exit faults
 TellsFault NoText exit faults = (exit ≡ WrongWords) × Tells (codes "error: the words are not UTF-8\n") faults
 TellsFault NoTask exit faults = (exit ≡ WrongWords) × Tells (codes "error: the words ask for nothing\n") faults
 TellsFault (NotListening why) exit faults = (exit ≡ Failed) × Tells (not_listening_line why) faults

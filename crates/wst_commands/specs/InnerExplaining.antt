@@ -2,6 +2,7 @@
 use Rattle.std.specs.Prelude.{ℕ, ◌+◌, List, [], ◌∷◌, ◌++◌, codes, option_map}
 use Rattle.std.specs.List.{concat}
 use Rattle.std.specs.Fmt.{decimal}
+use Rattle.ws_suite.specs.Kept.{reply_in}
 use Rattle.wst_commands.specs.Explaining.{direction_lines, ending_line, explanation_lines, note_line}
 use Rattle.wst_commands.specs.Explaining.{reply_line, rule_line, shown_data, side_word}
 use Rattle.wst_commands.specs.declared.explanation_lines.EndingLine.{EndingLine}
@@ -20,7 +21,7 @@ abbrev pub printed_side : SideLines → List ℕ
 printed_side lines = direction_lines lines.side lines.direction.now
 
 abbrev pub printed_reply : ReplyLine → List ℕ
-printed_reply line = reply_line line.side line.reply.now
+printed_reply line = reply_line line.side (reply_in line.reply)
 
 abbrev pub printed_ending : EndingLine → List ℕ
 printed_ending line = ending_line line.side line.ending.now

@@ -4,14 +4,9 @@ use Rattle.ws_formats.specs.Lines.{Damages}
 use Rattle.ws_base.specs.declared.text_fault.TextFault.{TextFault}
 use Rattle.ws_base.specs.declared.text_fault.TextFault.TheVariants as text
 use Rattle.ws_frame.specs.Devices.{Device, IsUntouched}
-use Rattle.ws_wire.specs.declared.role.Role.{Role}
 use Rattle.ws_session.specs.Limits.{LimitsValue, AreLimits}
-use Rattle.ws_calls.specs.CallLines.{calls_lines}
-use Rattle.ws_calls.specs.Calls.{IsEchoReport, IsSessionReport}
 use Rattle.ws_calls.specs.Script.{AreCallLines, AreEchoCallLines}
-use Rattle.ws_calls.specs.declared.calls.Call.{Call}
-use Rattle.ws_calls.specs.declared.calls.EchoCall.{EchoCall}
-use Rattle.ws_calls.specs.declared.report.CallsReport.{CallsReport}
+use Rattle.ws_calls.specs.Runs.{TellsEcho, TellsSession}
 use Rattle.wst_words.specs.declared.session.SessionOptions.{SessionOptions}
 use Rattle.wst_commands.specs.Devices.{Delivers}
 use Rattle.wst_commands.specs.Limits.{limits_given}
@@ -21,17 +16,7 @@ use Rattle.wst_commands.specs.declared.exit.Exit.TheVariants.{Done}
 use Rattle.wst_commands.specs.declared.fault.Fault.{Fault}
 use Rattle.wst_commands.specs.declared.fault.Fault.TheVariants.{BadLimits, NotACall, NoMemory}
 
--- the text is a script, and these are the lines of the report of its calls at a session
-abbrev pub TellsSession : Role → LimitsValue → List ℕ → List ℕ → Type 0
-TellsSession role limits text lines = (calls : List Call) × AreCallLines calls text
-    × ((report : CallsReport) × IsSessionReport role limits calls report × (lines ≡ calls_lines report))
-
--- and at an echo
-abbrev pub TellsEcho : Role → LimitsValue → List ℕ → List ℕ → Type 0
-TellsEcho role limits text lines = (calls : List EchoCall) × AreEchoCallLines calls text
-    × ((report : CallsReport) × IsEchoReport role limits calls report × (lines ≡ calls_lines report))
-
--- and at the endpoint that the words ask for
+-- the text is a script, and these are the lines of the report of its calls at the endpoint that the words ask for
 abbrev pub TellsCalls : SessionOptions → LimitsValue → List ℕ → List ℕ → Type 0
 TellsCalls options limits text lines =
     MatchBool options.echo (TellsEcho options.role limits text lines) (TellsSession options.role limits text lines)

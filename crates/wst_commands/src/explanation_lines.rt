@@ -8,7 +8,7 @@ ghost use Rattle.wst_commands.specs.InnerExplaining.{printed_note, printed_reply
 use std::fmt;
 use ws_formats::HexDigits;
 use ws_scripts::Ended;
-use ws_suite::{Direction, Ending, Explanation, InTurn, Reply, rule};
+use ws_suite::{Direction, Ending, Explanation, InTurn, Kept, ReplyKind, rule};
 use ws_wire::Role;
 
 /// A payload is shown up to so many bytes.
@@ -95,7 +95,8 @@ impl fmt::Display for SideLines<'_> {
     ghost output = { λ lines. Some (printed_side lines) };
 
     fn fmt<W: fmt::Write>(&self, f: &mut fmt::Formatter<W>) -> fmt::Result {
-        for reply in self.direction.replies.as_slice() {
+        let mut replies = self.direction.replies.iter();
+        while let Some(reply) = replies.next() {
             let line = ReplyLine {
                 side: self.side,
                 reply,
@@ -114,7 +115,7 @@ impl fmt::Display for SideLines<'_> {
 #[derive(Drop)]
 struct ReplyLine<'a> {
     side: Side,
-    reply: &'a InTurn<Reply>,
+    reply: Kept<'a>,
 }
 
 impl fmt::Display for ReplyLine<'_> {
@@ -127,13 +128,12 @@ impl fmt::Display for ReplyLine<'_> {
             side: self.side,
             turn: self.reply.turn,
         };
-        match &self.reply.what {
-            Reply::Message(message) => {
-                let data = Shown(message.payload.as_slice());
-                writeln!(f, "{start}{} {data}", message.kind)
-            }
-            Reply::Pong(payload) => writeln!(f, "{start}pong {}", Shown(payload.as_slice())),
-            Reply::Ping(payload) => writeln!(f, "{start}ping {}", Shown(payload.as_slice())),
+        let data = Shown(self.reply.payload);
+        match self.reply.kind {
+            ReplyKind::Text => writeln!(f, "{start}text {data}"),
+            ReplyKind::Binary => writeln!(f, "{start}binary {data}"),
+            ReplyKind::Pong => writeln!(f, "{start}pong {data}"),
+            ReplyKind::Ping => writeln!(f, "{start}ping {data}"),
         }
     }
 }

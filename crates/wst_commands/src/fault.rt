@@ -49,6 +49,8 @@ pub enum Fault {
     NotACapture(u64),
     /// The first line that is damaged in a script of steps, counted from 1.
     NotAStep(u64),
+    /// The first line of an earlier run that tells no verdict, and may not stand beside one, counted from 1.
+    NotAVerdict(u64),
     /// The words of the command line are no text.
     NoText,
     /// The words of the command line ask for nothing.
@@ -121,6 +123,7 @@ pub fn tell_fault<F: Write>(alloc: Global, fault: Fault, faults: &mut Watched<F>
         Fault::NotACall(line) => tell_line(alloc, line, "not a call", faults),
         Fault::NotACapture(line) => tell_line(alloc, line, "not a capture", faults),
         Fault::NotAStep(line) => tell_line(alloc, line, "not a step", faults),
+        Fault::NotAVerdict(line) => tell_line(alloc, line, "not a verdict", faults),
         Fault::NoText => {
             tell(b"error: the words are not UTF-8\n", faults);
             Exit::WrongWords

@@ -1,10 +1,12 @@
 //! The command `pair`. Its script and its report are told in docs/FORMATS.md.
 
-ghost use Rattle.std.specs.Prelude.{◌≡◌, false, IfOk, MatchOption, string_bytes};
+ghost use Rattle.std.specs.Prelude.{◌≡◌, false, IfOk, MatchOption, MatchResult, string_bytes};
+ghost use Rattle.ws_formats.specs.Lines.{Damages};
 ghost use Rattle.ws_frame.specs.Devices.{watched};
 ghost use Rattle.ws_frame.specs.Watching.{has_failed};
 ghost use Rattle.ws_pair.specs.Headline.{IsReportOf};
 ghost use Rattle.ws_pair.specs.ReportLines.{report_lines};
+ghost use Rattle.ws_pair.specs.Script.{AreMoveLines};
 ghost use Rattle.ws_pair.specs.declared.report.Report.{Report};
 ghost use Rattle.wst_commands.specs.Limits.{limits_given};
 ghost use Rattle.wst_commands.specs.Pairs.{AnswersScript, CanLimit, PlaysMoves, RunsPair, script_fault};
@@ -16,7 +18,7 @@ use crate::reading_whole::{ReadStop, read_whole};
 use crate::telling::deliver;
 use std::alloc::Global;
 use std::io::{Read, Write};
-use ws_base::{NoMemory, TextFault};
+use ws_base::{NoMemory, Sequence, TextFault};
 use ws_frame::Watched;
 use ws_pair::{Move, read_moves, run_pair, write_report};
 use ws_session::Limits;
@@ -38,7 +40,7 @@ pub fn run_moves<R: Read, W: Write>(
         return Err(Fault::BadLimits);
     };
     match read_whole(alloc, reader) {
-        Ok(text) => answer(alloc, limits.0, limits.1, text.as_slice(), writer),
+        Ok(text) => answer(alloc, limits.0, limits.1, text, writer),
         Err(ReadStop::Fault) => Ok(Exit::Failed),
         Err(ReadStop::NoMemory) => Err(Fault::NoMemory),
     }
@@ -60,16 +62,24 @@ fn answer<W: Write>(
     alloc: Global,
     client: Limits,
     server: Limits,
-    text: &[u8],
+    text: Vec<u8>,
     writer: &mut Watched<W>,
 ) -> Result<Exit, Fault>
     requires { has_failed writer.old ≡ false }
-    ensures { AnswersScript client server text.now result (watched W.contents writer.old writer.new) }
+    ensures { AnswersScript client server text.items result (watched W.contents writer.old writer.new) }
 {
-    match read_moves(alloc, text) {
+    match moves_in(alloc, text) {
         Ok(moves) => play(alloc, client, server, moves.as_slice(), writer),
         Err(fault) => Err(fault_of(fault)),
     }
+}
+
+/// The moves of a script, whose text is dropped before they are played.
+fn moves_in(alloc: Global, text: Vec<u8>) -> Result<Sequence<Move>, TextFault>
+    ensures { MatchResult result (λ moves. AreMoveLines moves text.items)
+        (λ fault. Damages AreMoveLines fault text.items) }
+{
+    read_moves(alloc, text.as_slice())
 }
 
 /// What is told of a script that can't be played.

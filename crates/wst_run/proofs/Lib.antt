@@ -1,9 +1,4 @@
-pub mod RunLemmas
-pub mod NoteLemmas
-pub mod TestLemmas
 pub mod PlanLemmas
-pub mod ServeLemmas
-pub mod TargetLemmas
-pub mod ObserverLemmas
-pub mod LineLemmas
-pub mod SweepLemmas
+pub mod RunLemmas
+pub mod ClientRunLemmas
+pub mod ClientSweepLemmas

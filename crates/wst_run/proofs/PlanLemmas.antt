@@ -1,6 +1,6 @@
--- What words ask for: the end that they name, and the cases with the names that are given.
+-- The cases that the words of `test` stand for, and what is told while they are run.
 use Rattle.std.proofs.Common.{◌≡◌, ◌∙◌, ℕ, Bool, Option, Result, inl, inr, not, true, false, List, [], ◌∷◌, ap, arith}
-use Rattle.std.proofs.Common.{refl, sym, subst, length, slice_index_or, if◌then◌else◌}
+use Rattle.std.proofs.Common.{refl, sym, length, slice_index_or}
 use Rattle.std.specs.Borrow.{Bor}
 use Rattle.std.specs.List.{All}
 use Rattle.ws_scripts.specs.Scripts.{CanBeRun}
@@ -10,59 +10,12 @@ use Rattle.wst_run.specs.Test.{is_one_case}
 use Rattle.ws_frame.specs.Devices.{Device}
 use Rattle.wst_commands.specs.declared.exit.Exit.{Exit}
 use Rattle.wst_commands.specs.declared.fault.Fault.{Fault}
-use Rattle.wst_run.specs.Test.{CarriesOut}
-use Rattle.wst_run.specs.declared.meeting.Meeting.{Meeting}
+use Rattle.ws_reports.specs.Reports.{ReportValue}
+use Rattle.wst_run.specs.Test.{CarriesOut, ReportsCases}
+use Rattle.wst_sockets.specs.declared.meeting.Meeting.{Meeting}
 use Rattle.wst_run.specs.declared.test.TestPlan.{TestPlan}
 use Rattle.wst_commands.proofs.CaseLemmas.{one_case}
-use Rattle.wst_run.proofs.NoteLemmas.{each_on}
-use Rattle.ws_wire.specs.declared.role.Role.{Role}
-use Rattle.ws_wire.specs.declared.role.Role.TheVariants as role
-use Rattle.ws_targets.specs.Targets.{TargetValue, IsTargetText, begins_with_wss}
-use Rattle.wst_run.specs.RunPlans.{IsNoMemoryWord, IsUrl, NamesEnd, RefusesTarget, bad_target, memory_word}
-use Rattle.wst_run.specs.declared.case_server.MemoryPeer.{MemoryPeer}
-use Rattle.wst_run.specs.declared.case_server.MemoryPeer.TheVariants.{Own, Tung}
-use Rattle.wst_run.specs.declared.run_plans.Refusal.{Refusal}
-use Rattle.wst_run.specs.declared.run_plans.Refusal.TheVariants as refusal
-use Rattle.wst_run.specs.declared.run_plans.TestedEnd.TheVariants.{Clients, Memory, Server}
-
--- ---- the end that a word names
-
-no_memory_word : (peer : MemoryPeer) (word : List ℕ) → IsNoMemoryWord word → word ≡ memory_word peer → ⊥
-no_memory_word Own word none is = none.0 is
-no_memory_word Tung word none is = none.1 is
-
--- what names no end is told by how it begins
-refused_so : (tested : Role) (word : List ℕ) (why : Refusal) → ¬ (NamesEnd tested word) → why ≡ bad_target word
-    → RefusesTarget tested word why
-refused_so tested word why none is =
-    subst (λ (r : Refusal). RefusesTarget tested word r) (sym is) (by_wss (begins_with_wss word) refl)
-  where
-    by_wss : (b : Bool) → begins_with_wss word ≡ b
-        → RefusesTarget tested word (if b then refusal.EncryptedTarget else refusal.BadAddress)
-    by_wss true begins = (none, begins)
-    by_wss false begins = (none, begins)
-
-no_server : (word : List ℕ) → IsNoMemoryWord word → ((target : TargetValue) → IsTargetText word target → ⊥)
-    → ¬ (NamesEnd role.Server word)
-no_server word none lacks (Memory end, asks) = no_memory_word end.peer word none asks.1
-no_server word none lacks (Server target, asks) = lacks target asks.2
-no_server word none lacks (Clients address, asks) = absurd (cc)
-
--- a word that is no target names no server
-pub target_refused : (word : List ℕ) (why : Refusal) → IsNoMemoryWord word
-    → ((target : TargetValue) → IsTargetText word target → ⊥) → why ≡ bad_target word
-    → RefusesTarget role.Server word why
-target_refused word why none lacks is = refused_so role.Server word why (no_server word none lacks) is
-
-no_clients : (word : List ℕ) → IsNoMemoryWord word → IsUrl word → ¬ (NamesEnd role.Client word)
-no_clients word none url (Memory end, asks) = no_memory_word end.peer word none asks.1
-no_clients word none url (Server target, asks) = absurd (cc)
-no_clients word none url (Clients address, asks) = asks.2 url
-
--- to a URL no clients come
-pub url_refused : (word : List ℕ) (why : Refusal) → IsNoMemoryWord word → IsUrl word → why ≡ bad_target word
-    → RefusesTarget role.Client word why
-url_refused word why none url is = refused_so role.Client word why (no_clients word none url) is
+use Rattle.wst_testing.proofs.NoteLemmas.{each_on}
 
 -- ---- the cases
 
@@ -96,12 +49,21 @@ asks_for_others (x ∷ []) other = absurd (other refl)
 asks_for_others (x ∷ y ∷ more) other = refl
 
 -- what was told while a plan was carried out, where the fault output may have failed since
-pub carries_on : (Meets : Case → Meeting → Type 0) (plan : TestPlan) (ended : Result Exit Fault) (output : Device)
-    (f g : Bool)
-    (old new : Option (List ℕ)) → (f ≡ true → g ≡ true)
-    → CarriesOut Meets plan ended output (record { failed = f; old = old; new = new })
-    → CarriesOut Meets plan ended output (record { failed = g; old = old; new = new })
-carries_on Meets plan ended output f g old new still (inl (case, is, one, (notes, captured, told))) =
+pub carries_on : (Meets : Case → Meeting → Type 0) (plan : TestPlan) (report : ReportValue) (ended : Result Exit Fault)
+    (output : Device) (f g : Bool) (old new : Option (List ℕ)) → (f ≡ true → g ≡ true)
+    → CarriesOut Meets plan report ended output (record { failed = f; old = old; new = new })
+    → CarriesOut Meets plan report ended output (record { failed = g; old = old; new = new })
+carries_on Meets plan report ended output f g old new still (inl (case, is, one, (notes, captured, told))) =
     inl (case, is, one, (notes, captured, each_on notes f g old new still told))
-carries_on Meets plan ended output f g old new still (inr (is, (notes, tested, told))) =
-    inr (is, (notes, tested, each_on notes f g old new still told))
+carries_on Meets plan report ended output f g old new still (inr (is, inl done)) =
+    let (notes, tested, told) = done.runs in
+    let on : ReportsCases Meets plan report ended output (record { failed = g; old = old; new = new }) = record {
+      begun = done.begun;
+      started = done.started;
+      failed = done.failed;
+      behind = done.behind;
+      runs = (notes, tested, each_on notes f g old new still told);
+      closes = done.closes;
+    } in
+    inr (is, inl on)
+carries_on Meets plan report ended output f g old new still (inr (is, inr none)) = inr (is, inr none)

@@ -7,7 +7,7 @@ use Rattle.ws_frame.specs.Devices.{Device, IsUntouched}
 use Rattle.wst_words.specs.Words.{AsksFor, RefusesWords}
 use Rattle.wst_words.specs.declared.words.Task.{Task}
 use Rattle.wst_words.specs.declared.words.Task.TheVariants.{Cases, Convert, Head, Judge, Pair, Serve}
-use Rattle.wst_words.specs.declared.words.Task.TheVariants.{Send, Session, Show, Sweep, Test}
+use Rattle.wst_words.specs.declared.words.Task.TheVariants.{Send, Session, Show, Sweep, Tap, Test}
 use Rattle.wst_words.specs.declared.words.WordsFault.{WordsFault}
 use Rattle.wst_words.specs.declared.words.WordsFault.TheVariants as words
 use Rattle.wst_commands.specs.Cases.{ListsCases}
@@ -17,8 +17,9 @@ use Rattle.wst_commands.specs.Head.{RunsHead}
 use Rattle.wst_commands.specs.Judge.{RunsJudge}
 use Rattle.wst_commands.specs.Pairs.{RunsPair}
 use Rattle.wst_run.specs.Send.{RunsSend}
-use Rattle.wst_run.specs.Serve.{RunsServe}
+use Rattle.wst_sockets.specs.Serve.{RunsServe}
 use Rattle.wst_run.specs.Sweep.{RunsSweep}
+use Rattle.wst_run.specs.Tap.{RunsTap}
 use Rattle.wst_commands.specs.Session.{RunsSession}
 use Rattle.wst_commands.specs.Show.{RunsShow}
 use Rattle.wst_run.specs.Test.{RunsTest}
@@ -45,10 +46,11 @@ RunsTask (Judge options) exit input output faults =
     RunsCommand (λ ended. RunsJudge options ended input output) exit faults
 RunsTask Convert exit input output faults = RunsCommand (λ ended. RunsConvert ended input output) exit faults
 RunsTask (Cases options) exit input output faults = IsUntouched input × ListsCases options exit output faults
-RunsTask (Test options) exit input output faults = IsUntouched input × RunsTest options exit output faults
+RunsTask (Test options) exit input output faults = RunsTest options exit input output faults
 RunsTask (Send options) exit input output faults = RunsSend options exit input output faults
 RunsTask (Sweep options) exit input output faults = IsUntouched input × RunsSweep options exit output faults
 RunsTask (Serve options) exit input output faults = IsUntouched input × RunsServe options exit output faults
+RunsTask (Tap options) exit input output faults = IsUntouched input × RunsTap options exit output faults
 
 -- help and the version go to the output, which is done exactly where no write to it failed
 abbrev pub TellsHelp : Exit → Device → Device → Type 0

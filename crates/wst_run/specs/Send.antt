@@ -16,22 +16,22 @@ use Rattle.wst_commands.specs.ReadingWhole.{ReadsAll, StopsReading}
 use Rattle.wst_commands.specs.declared.exit.Exit.{Exit}
 use Rattle.wst_commands.specs.declared.exit.Exit.TheVariants.{Damaged, Done, Failed}
 use Rattle.wst_commands.specs.declared.fault.Fault.TheVariants as fault
-use Rattle.wst_commands.specs.declared.fault.ListenFault.TheVariants as why
 use Rattle.wst_commands.specs.declared.reading_whole.ReadStop.{ReadStop}
 use Rattle.wst_commands.specs.declared.reading_whole.ReadStop.TheVariants as read
-use Rattle.wst_run.specs.LineWriting.{HasWrittenRun}
-use Rattle.wst_run.specs.Meetings.{miss_line}
-use Rattle.wst_run.specs.Outcomes.{outcome_words}
-use Rattle.wst_run.specs.Testing.{run_capture}
+use Rattle.wst_run.specs.ClientRuns.{SendsToClientAt}
+use Rattle.wst_testing.specs.LineWriting.{HasWrittenRun}
+use Rattle.wst_sockets.specs.Meetings.{miss_line}
+use Rattle.wst_testing.specs.Outcomes.{outcome_words}
+use Rattle.wst_testing.specs.Testing.{run_capture}
 use Rattle.ws_connection.specs.declared.probe_end.HeadRefusal.{HeadRefusal}
-use Rattle.wst_run.specs.RunPlans.{IsRunPlan, CanNotRun, TellsRefusal, tested_role}
-use Rattle.wst_run.specs.Servers.{MeetsAtTarget, MeetsInMemory}
-use Rattle.wst_run.specs.declared.run_plans.Refusal.{Refusal}
-use Rattle.wst_run.specs.declared.run_plans.TestedEnd.{TestedEnd}
-use Rattle.wst_run.specs.declared.run_plans.TestedEnd.TheVariants.{Clients, Memory, Server}
-use Rattle.wst_run.specs.declared.meeting.Meeting.{Meeting}
-use Rattle.wst_run.specs.declared.meeting.Meeting.TheVariants.{NoConnection, Ran, Refused}
-use Rattle.wst_run.specs.declared.outcome.Outcome.TheVariants.{HeadRefused}
+use Rattle.wst_testing.specs.RunPlans.{IsRunPlan, CanNotRun, TellsRefusal, tested_role}
+use Rattle.wst_testing.specs.Servers.{MeetsAtTarget, MeetsInMemory}
+use Rattle.wst_testing.specs.declared.run_plans.Refusal.{Refusal}
+use Rattle.wst_testing.specs.declared.run_plans.TestedEnd.{TestedEnd}
+use Rattle.wst_testing.specs.declared.run_plans.TestedEnd.TheVariants.{Clients, Memory, Server}
+use Rattle.wst_sockets.specs.declared.meeting.Meeting.{Meeting}
+use Rattle.wst_sockets.specs.declared.meeting.Meeting.TheVariants.{NoConnection, Ran, Refused}
+use Rattle.wst_testing.specs.declared.outcome.Outcome.TheVariants.{HeadRefused}
 use Rattle.wst_run.specs.declared.send.SendPlan.{SendPlan}
 use Rattle.wst_run.specs.declared.send.SendStop.{SendStop}
 use Rattle.wst_run.specs.declared.send.SendStop.TheVariants as stop
@@ -110,14 +110,14 @@ abbrev pub RunsSendPlan : (Case → Meeting → Type 0) → SendPlan → Exit �
 RunsSendPlan Meets plan exit input output faults = (ended : Result (Unit {0}) SendStop)
     × SendsInput Meets plan ended input output × TellsSendEnd ended exit faults
 
--- the plan is carried out over this end; a client that comes to an address isn't listened for yet
+-- the plan is carried out over this end
 abbrev pub SendsOver : TestedEnd → SendPlan → Exit → Device → Device → Device → Type 0
 SendsOver (Memory end) plan exit input output faults =
     RunsSendPlan (MeetsInMemory end plan.run.key) plan exit input output faults
 SendsOver (Server target) plan exit input output faults =
     RunsSendPlan (MeetsAtTarget target plan.run) plan exit input output faults
 SendsOver (Clients address) plan exit input output faults =
-    IsUntouched input × IsUntouched output × TellsFault (fault.NotListening why.Failed) exit faults
+    SendsToClientAt address.now plan exit input output faults
 
 -- A run of `send`: the script that comes in is run as the words ask; or nothing is read, and it is told why.
 abbrev pub RunsSend : SendOptions → Exit → Device → Device → Device → Type 0

@@ -5,22 +5,20 @@ use Rattle.ws_scripts.specs.declared.script.Case.{Case}
 use Rattle.ws_sweep.specs.Order.{max_steps}
 use Rattle.wst_words.specs.declared.sweep.SweepOptions.{SweepOptions}
 use Rattle.wst_commands.specs.Devices.{Tells}
-use Rattle.wst_commands.specs.Faults.{TellsFault}
 use Rattle.wst_commands.specs.declared.exit.Exit.{Exit}
 use Rattle.wst_commands.specs.declared.exit.Exit.TheVariants.{WrongWords}
-use Rattle.wst_commands.specs.declared.fault.Fault.TheVariants.{NotListening}
-use Rattle.wst_commands.specs.declared.fault.ListenFault.TheVariants as why
-use Rattle.wst_run.specs.RunPlans.{CanNotRun, IsRunPlan, TellsRefusal, tested_role}
-use Rattle.wst_run.specs.Servers.{MeetsAtTarget, MeetsInMemory}
-use Rattle.wst_run.specs.Sweeps.{SweepsScripts, TellsSweepEnd}
-use Rattle.wst_run.specs.declared.meeting.Meeting.{Meeting}
-use Rattle.wst_run.specs.declared.run_plans.TestedEnd.{TestedEnd}
-use Rattle.wst_run.specs.declared.run_plans.TestedEnd.TheVariants.{Clients, Memory, Server}
+use Rattle.wst_run.specs.ClientSweeps.{SweepsClientsAt}
+use Rattle.wst_testing.specs.RunPlans.{CanNotRun, IsRunPlan, TellsRefusal, tested_role}
+use Rattle.wst_testing.specs.Servers.{MeetsAtTarget, MeetsInMemory}
+use Rattle.wst_testing.specs.Sweeps.{SweepsScripts, TellsSweepEnd}
+use Rattle.wst_sockets.specs.declared.meeting.Meeting.{Meeting}
+use Rattle.wst_testing.specs.declared.run_plans.TestedEnd.{TestedEnd}
+use Rattle.wst_testing.specs.declared.run_plans.TestedEnd.TheVariants.{Clients, Memory, Server}
 use Rattle.wst_run.specs.declared.sweep.SweepPlan.{SweepPlan}
 use Rattle.wst_run.specs.declared.sweep.SweepRefusal.{SweepRefusal}
 use Rattle.wst_run.specs.declared.sweep.SweepRefusal.TheVariants.{Other, TooManySteps}
-use Rattle.wst_run.specs.declared.sweeping.SweepRules.{SweepRules}
-use Rattle.wst_run.specs.declared.sweeping.SweepStop.{SweepStop}
+use Rattle.wst_testing.specs.declared.sweeping.SweepRules.{SweepRules}
+use Rattle.wst_testing.specs.declared.sweeping.SweepStop.{SweepStop}
 
 -- ---- what the words ask for
 
@@ -66,14 +64,13 @@ abbrev pub RunsSweepPlan : (Case → Meeting → Type 0) → SweepPlan → Exit 
 RunsSweepPlan Meets plan exit output faults = (ended : Result Exit SweepStop) × (held : Option (List ℕ))
     × SweepsScripts Meets (sweep_rules_of plan) ended output × TellsSweepEnd ended exit (record faults { old = held })
 
--- the plan is carried out over this end; clients that come to an address aren't listened for yet
+-- the plan is carried out over this end
 abbrev pub SweepsOver : TestedEnd → SweepPlan → Exit → Device → Device → Type 0
 SweepsOver (Memory end) plan exit output faults =
     RunsSweepPlan (MeetsInMemory end plan.run.key) plan exit output faults
 SweepsOver (Server target) plan exit output faults =
     RunsSweepPlan (MeetsAtTarget target plan.run) plan exit output faults
-SweepsOver (Clients address) plan exit output faults =
-    IsUntouched output × TellsFault (NotListening why.Failed) exit faults
+SweepsOver (Clients address) plan exit output faults = SweepsClientsAt address.now plan exit output faults
 
 -- A run of `sweep`: every short script is run as the words ask; or none is, and it is told why.
 abbrev pub RunsSweep : SweepOptions → Exit → Device → Device → Type 0

@@ -1,30 +1,34 @@
 -- A run of `test`: the cases that the words ask for are run over ends in memory, over the server at an address, or over
 -- clients that come to one; or it is told why nothing is run.
-use Rattle.std.specs.Prelude.{◌≡◌, ◌⊎◌, ⊤, ℕ, Bool, true, false, not, List, [], ◌∷◌, Option, Result, length}
+use Rattle.std.specs.Prelude.{◌≡◌, ◌⊎◌, ⊤, ℕ, Bool, true, false, not, ◌||◌, ◌&&◌, List, [], ◌∷◌, Option, Result}
+use Rattle.std.specs.Prelude.{length}
 use Rattle.std.specs.List.{All}
-use Rattle.ws_frame.specs.Devices.{Device, IsUntouched}
+use Rattle.ws_frame.specs.Devices.{Device, HasWritten, IsUntouched}
+use Rattle.ws_reports.specs.Reports.{ReportValue, start_text}
 use Rattle.ws_scripts.specs.Scripts.{CanBeRun}
 use Rattle.ws_scripts.specs.declared.script.Case.{Case}
 use Rattle.wst_words.specs.declared.test.TestOptions.{TestOptions}
-use Rattle.wst_commands.specs.Faults.{Ends, TellsFault}
+use Rattle.wst_commands.specs.Faults.{Ends}
 use Rattle.wst_commands.specs.GivenCases.{AreCasesFor, LackCases, is_glob, names_of, or_all}
 use Rattle.wst_commands.specs.TimeLimits.{is_limited}
 use Rattle.wst_commands.specs.declared.exit.Exit.{Exit}
 use Rattle.wst_commands.specs.declared.fault.Fault.{Fault}
-use Rattle.wst_commands.specs.declared.fault.Fault.TheVariants.{NotListening}
-use Rattle.wst_commands.specs.declared.fault.ListenFault.TheVariants as why
 use Rattle.wst_commands.specs.declared.given_cases.NoCases.TheVariants.{NoMemory, NoSuchCase}
-use Rattle.wst_run.specs.RunPlans.{IsRunPlan, CanNotRun, TellsRefusal, tested_role}
-use Rattle.wst_run.specs.Servers.{MeetsAtTarget, MeetsInMemory}
-use Rattle.wst_run.specs.Testing.{RunsCapture, RunsCases}
-use Rattle.wst_run.specs.declared.meeting.Meeting.{Meeting}
-use Rattle.wst_run.specs.declared.run_plans.Refusal.{Refusal}
-use Rattle.wst_run.specs.declared.run_plans.Refusal.TheVariants as refusal
-use Rattle.wst_run.specs.declared.run_plans.RunPlan.{RunPlan}
-use Rattle.wst_run.specs.declared.run_plans.TestedEnd.{TestedEnd}
-use Rattle.wst_run.specs.declared.run_plans.TestedEnd.TheVariants.{Clients, Memory, Server}
+use Rattle.wst_run.specs.ClientRuns.{TestsClientsAt}
+use Rattle.wst_testing.specs.KnownInput.{IsKnownBy, StopsKnowing, TellsKnownStop}
+use Rattle.wst_testing.specs.Reporting.{ClosesReport, StopsAtStart}
+use Rattle.wst_testing.specs.RunPlans.{IsRunPlan, CanNotRun, TellsRefusal, tested_role}
+use Rattle.wst_testing.specs.Servers.{MeetsAtTarget, MeetsInMemory}
+use Rattle.wst_testing.specs.Testing.{RunsCapture, RunsCases}
+use Rattle.wst_testing.specs.declared.known_input.KnownStop.{KnownStop}
+use Rattle.wst_sockets.specs.declared.meeting.Meeting.{Meeting}
+use Rattle.wst_testing.specs.declared.run_plans.Refusal.{Refusal}
+use Rattle.wst_testing.specs.declared.run_plans.Refusal.TheVariants as refusal
+use Rattle.wst_testing.specs.declared.run_plans.RunPlan.{RunPlan}
+use Rattle.wst_testing.specs.declared.run_plans.TestedEnd.{TestedEnd}
+use Rattle.wst_testing.specs.declared.run_plans.TestedEnd.TheVariants.{Clients, Memory, Server}
 use Rattle.wst_run.specs.declared.test.TestPlan.{TestPlan}
-use Rattle.wst_run.specs.declared.testing.RunRules.{RunRules}
+use Rattle.wst_testing.specs.declared.testing.RunRules.{RunRules}
 
 -- ---- what the words ask for
 
@@ -38,15 +42,29 @@ is_one_case (word ∷ next ∷ words) = false
 abbrev pub CanCapture : TestOptions → Type 0
 CanCapture options = options.capture ≡ true → is_one_case (names_of options.ids.items) ≡ true
 
+-- lines are to be told beside an earlier run, or a document is to be written
+abbrev pub reports : TestOptions → Bool
+reports options = options.known || options.junit
+
+-- a capture, which stands in the place of both, is asked for too
+abbrev pub captures_in_report : TestOptions → Bool
+captures_in_report options = options.capture && reports options
+
+-- no report is asked for beside a capture
+abbrev pub CanReport : TestOptions → Type 0
+CanReport options = captures_in_report options ≡ false
+
 -- the words for cases that are given, a star where there are none
 abbrev pub words_given : TestOptions → List (List ℕ)
 words_given options = or_all (names_of options.ids.items)
 
 -- the words ask for this
 pub record IsPlan (options : TestOptions) (plan : TestPlan) : Type 0 where
+  pub can_report : CanReport options
   pub run : IsRunPlan options.run plan.run
+  pub target : plan.target.now ≡ options.run.target.now
   pub capture : plan.capture ≡ options.capture
-  pub explain : plan.explain ≡ options.explain
+  pub explain : plan.explain ≡ (options.explain || options.junit)
   pub progress : plan.progress ≡ options.progress
   pub can_capture : CanCapture options
   pub cases : AreCasesFor (words_given options) plan.cases.items
@@ -57,18 +75,19 @@ CanBeTested plan = All CanBeRun plan.cases.items × (plan.capture ≡ true → l
 
 -- ---- what they can't ask for
 
--- nothing is wrong with the words that are shared
+-- a report can be made where one is asked for, and nothing is wrong with the words that are shared
 abbrev pub CanRun : TestOptions → Type 0
-CanRun options = (run : RunPlan) × IsRunPlan options.run run
+CanRun options = CanReport options × ((run : RunPlan) × IsRunPlan options.run run)
 
--- The first of these that applies: the shared words can't be run; a capture is not of one case; a word stands for no
--- case. Memory may run out at any of them.
+-- The first of these that applies: a capture is asked for beside a report; the shared words can't be run; a capture is
+-- not of one case; a word stands for no case. Memory may run out at any of them but the first.
 abbrev pub RefusesTest : TestOptions → Refusal → Type 0
+RefusesTest options refusal.CaptureInReport = captures_in_report options ≡ true
 RefusesTest options refusal.NotOneCase = CanRun options × ¬ (CanCapture options)
 RefusesTest options (refusal.NoCases (NoSuchCase id)) =
     CanRun options × CanCapture options × LackCases (words_given options) (NoSuchCase id)
 RefusesTest options (refusal.NoCases NoMemory) = ⊤
-RefusesTest options other = CanNotRun options.run other
+RefusesTest options other = CanReport options × CanNotRun options.run other
 
 -- ---- a run
 
@@ -82,31 +101,62 @@ rules_of plan = record {
   is_limited = is_limited plan.run.timeout;
 }
 
+-- What the report has before all cases was written, the cases were run, and where that ended early, what it has behind
+-- them was written too, if the output works.
+pub record ReportsCases (Meets : Case → Meeting → Type 0) (plan : TestPlan) (report : ReportValue)
+    (ended : Result Exit Fault) (output faults : Device) : Type 0 where
+  pub begun : Option (List ℕ)
+  pub started : HasWritten (start_text report plan.target.now) (record output { new = begun })
+  pub failed : Bool
+  pub behind : Option (List ℕ)
+  pub runs : RunsCases Meets (rules_of plan) report plan.cases.items ended
+      (record { failed = failed; old = begun; new = behind }) faults
+  pub closes : ClosesReport report ended failed (record output { old = behind })
+
+-- the cases of a plan were run and told as the report asks, or none was
+abbrev pub ReportsPlan : (Case → Meeting → Type 0) → TestPlan → ReportValue → Result Exit Fault → Device → Device → Type 0
+ReportsPlan Meets plan report ended output faults = ReportsCases Meets plan report ended output faults
+    ⊎ (StopsAtStart plan.target.now report ended output × IsUntouched faults)
+
 -- the capture of the one case is written, or the outcomes of the cases, over ends that meet cases so
-abbrev pub CarriesOut : (Case → Meeting → Type 0) → TestPlan → Result Exit Fault → Device → Device → Type 0
-CarriesOut Meets plan ended output faults =
+abbrev pub CarriesOut : (Case → Meeting → Type 0) → TestPlan → ReportValue → Result Exit Fault → Device → Device → Type 0
+CarriesOut Meets plan report ended output faults =
     ((case : Case) × (plan.capture ≡ true) × (plan.cases.items ≡ case ∷ [])
     × RunsCapture Meets (rules_of plan) case ended output faults)
-    ⊎ ((plan.capture ≡ false) × RunsCases Meets (rules_of plan) plan.cases.items ended output faults)
+    ⊎ ((plan.capture ≡ false) × ReportsPlan Meets plan report ended output faults)
 
 -- the plan is carried out over ends that meet cases so, and how that ended is told behind what was told before
-abbrev pub RunsPlan : (Case → Meeting → Type 0) → TestPlan → Exit → Device → Device → Type 0
-RunsPlan Meets plan exit output faults = (ended : Result Exit Fault) × (held : Option (List ℕ))
-    × CarriesOut Meets plan ended output (record faults { new = held }) × Ends ended exit (record faults { old = held })
+abbrev pub RunsPlan : (Case → Meeting → Type 0) → TestPlan → ReportValue → Exit → Device → Device → Type 0
+RunsPlan Meets plan report exit output faults = (ended : Result Exit Fault) × (held : Option (List ℕ))
+    × CarriesOut Meets plan report ended output (record faults { new = held })
+    × Ends ended exit (record faults { old = held })
 
--- the plan is carried out over this end; clients that come to an address aren't listened for yet
-abbrev pub RunsPlanOver : TestedEnd → TestPlan → Exit → Device → Device → Type 0
-RunsPlanOver (Memory end) plan exit output faults =
-    RunsPlan (MeetsInMemory end plan.run.key) plan exit output faults
-RunsPlanOver (Server target) plan exit output faults =
-    RunsPlan (MeetsAtTarget target plan.run) plan exit output faults
-RunsPlanOver (Clients address) plan exit output faults =
-    IsUntouched output × TellsFault (NotListening why.Failed) exit faults
+-- the plan is carried out over this end
+abbrev pub RunsPlanOver : TestedEnd → TestPlan → ReportValue → Exit → Device → Device → Type 0
+RunsPlanOver (Memory end) plan report exit output faults =
+    RunsPlan (MeetsInMemory end plan.run.key) plan report exit output faults
+RunsPlanOver (Server target) plan report exit output faults =
+    RunsPlan (MeetsAtTarget target plan.run) plan report exit output faults
+RunsPlanOver (Clients address) plan report exit output faults =
+    TestsClientsAt address.now plan report exit output faults
+
+-- ---- the earlier run
+
+-- the report is a document where one is asked for, beside the earlier run whose lines came in, where one is to be known
+abbrev pub IsReportFor : TestOptions → ReportValue → Device → Type 0
+IsReportFor options report input = (report.is_junit ≡ options.junit) × IsKnownBy options.known report.known input
+
+-- the plan is carried out, and told beside the earlier run; or that can't be known, which is told, and nothing is run
+abbrev pub RunsPlanAsked : TestOptions → TestPlan → Exit → Device → Device → Device → Type 0
+RunsPlanAsked options plan exit input output faults =
+    ((report : ReportValue) × IsReportFor options report input
+    × RunsPlanOver plan.run.tested plan report exit output faults)
+    ⊎ ((why : KnownStop) × StopsKnowing options.known why input × IsUntouched output × TellsKnownStop why exit faults)
 
 -- A run of `test`: what the words ask for is run, over the end that they name, and how that ended is told; or nothing is
 -- run, and it is told why.
-abbrev pub RunsTest : TestOptions → Exit → Device → Device → Type 0
-RunsTest options exit output faults =
-    ((plan : TestPlan) × IsPlan options plan
-    × RunsPlanOver plan.run.tested plan exit output faults)
-    ⊎ ((reason : Refusal) × RefusesTest options reason × IsUntouched output × TellsRefusal reason exit faults)
+abbrev pub RunsTest : TestOptions → Exit → Device → Device → Device → Type 0
+RunsTest options exit input output faults =
+    ((plan : TestPlan) × IsPlan options plan × RunsPlanAsked options plan exit input output faults)
+    ⊎ ((reason : Refusal) × RefusesTest options reason × IsUntouched input × IsUntouched output
+    × TellsRefusal reason exit faults)

@@ -10,25 +10,27 @@ ghost use Rattle.wst_commands.specs.Devices.{Tells};
 ghost use Rattle.wst_commands.specs.Exits.{exit_status};
 ghost use Rattle.wst_run.specs.Run.{AnswersWords, Runs, RunsTask, TellsOf};
 ghost use Rattle.wst_run.specs.Send.{RunsSend};
-ghost use Rattle.wst_run.specs.Serve.{RunsServe};
+ghost use Rattle.wst_sockets.specs.Serve.{RunsServe};
 ghost use Rattle.wst_run.specs.Sweep.{RunsSweep};
-ghost use Rattle.wst_run.specs.Test.{RunsTest};
+ghost use Rattle.wst_run.specs.Test.{CanBeTested, RunsPlanAsked, RunsTest};
 
-use crate::run_plans::tell_refusal;
 use crate::send::{plan_send, send_to_target};
-use crate::serve::{plan_serve, run_serve};
 use crate::sweep::{plan_sweep, sweep_target, tell_sweep_refusal};
-use crate::test::{plan_test, run_over_target};
+use crate::tap::run_tap;
+use crate::test::{TestPlan, plan_test, run_over_target};
 use clap::Error;
 use clap::error::ErrorKind;
 use std::alloc::Global;
 use std::io::{Read, Write};
 use std::net::Net;
 use ws_frame::Watched;
+use ws_reports::Report;
 use wst_commands::{
     Exit, Fault, end_run, run_cases, run_convert, run_head, run_judge, run_moves, run_session,
     run_show, tell_fault,
 };
+use wst_sockets::{plan_serve, run_serve};
+use wst_testing::{known_given, tell_known_stop, tell_refusal};
 use wst_words::{
     SendOptions, ServeOptions, SweepOptions, Task, TestOptions, WordsFault, read_words,
 };
@@ -85,10 +87,11 @@ fn run_task<N: Net, R: Read, W: Write, F: Write>(
         Task::Judge(options) => end_run(alloc, run_judge(alloc, options, reader, writer), faults),
         Task::Convert => end_run(alloc, run_convert(alloc, reader, writer), faults),
         Task::Cases(options) => run_cases(alloc, options, writer, faults),
-        Task::Test(options) => run_test(alloc, &options, net, writer, faults),
+        Task::Test(options) => run_test(alloc, &options, net, reader, writer, faults),
         Task::Send(options) => run_send(alloc, &options, net, reader, writer, faults),
         Task::Sweep(options) => run_sweep(alloc, &options, net, writer, faults),
         Task::Serve(options) => serve_as_asked(alloc, &options, net, writer, faults),
+        Task::Tap(options) => run_tap(alloc, &options, net, writer, faults),
     }
 }
 
@@ -112,20 +115,47 @@ fn serve_as_asked<N: Net, W: Write, F: Write>(
 
 /// Runs the cases that the words ask for over the server that they name, or tells on the fault output why nothing is
 /// run.
-fn run_test<N: Net, W: Write, F: Write>(
+fn run_test<N: Net, R: Read, W: Write, F: Write>(
     alloc: Global,
     options: &TestOptions<'_>,
     net: &N,
+    reader: &mut Watched<R>,
     writer: &mut Watched<W>,
     faults: &mut Watched<F>,
 ) -> Exit
-    requires { has_failed writer.old ≡ false }
-    ensures { RunsTest options.now result (watched W.contents writer.old writer.new)
-        (watched F.contents faults.old faults.new) }
+    requires reader_works { has_failed reader.old ≡ false }
+    requires writer_works { has_failed writer.old ≡ false }
+    ensures { RunsTest options.now result (watched R.remaining reader.old reader.new)
+        (watched W.contents writer.old writer.new) (watched F.contents faults.old faults.new) }
 {
     match plan_test(alloc, options) {
-        Ok(plan) => run_over_target(alloc, &plan, net, writer, faults),
+        Ok(plan) => run_planned(alloc, options, &plan, net, reader, writer, faults),
         Err(refusal) => tell_refusal(alloc, refusal, faults),
+    }
+}
+
+/// Runs the cases of a plan beside the earlier run, where one is to be known, or tells why that isn't known.
+fn run_planned<N: Net, R: Read, W: Write, F: Write>(
+    alloc: Global,
+    options: &TestOptions<'_>,
+    plan: &TestPlan<'_>,
+    net: &N,
+    reader: &mut Watched<R>,
+    writer: &mut Watched<W>,
+    faults: &mut Watched<F>,
+) -> Exit
+    requires reader_works { has_failed reader.old ≡ false }
+    requires writer_works { has_failed writer.old ≡ false }
+    requires plan { CanBeTested plan.now }
+    ensures { RunsPlanAsked options.now plan.now result (watched R.remaining reader.old reader.new)
+        (watched W.contents writer.old writer.new) (watched F.contents faults.old faults.new) }
+{
+    match known_given(alloc, options.known, reader) {
+        Ok(known) => {
+            let report = Report::new(options.junit, known);
+            run_over_target(alloc, plan, &report, net, writer, faults)
+        }
+        Err(why) => tell_known_stop(alloc, why, faults),
     }
 }
 

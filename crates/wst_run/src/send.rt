@@ -4,17 +4,11 @@ ghost use Rattle.std.specs.Prelude.{◌≡◌, MatchResult, true, false};
 ghost use Rattle.ws_frame.specs.Devices.{watched};
 ghost use Rattle.ws_frame.specs.Watching.{has_failed};
 ghost use Rattle.ws_scripts.specs.Scripts.{CanBeRun};
-ghost use Rattle.wst_run.specs.RunPlans.{CanNotRun};
+ghost use Rattle.wst_testing.specs.RunPlans.{CanNotRun};
 ghost use Rattle.wst_run.specs.Send.{IsSendPlan, RunsSendPlan, SendsCase, SendsInput, SendsOver, SendsText};
 ghost use Rattle.wst_run.specs.Send.{TellsRefused, TellsSendEnd};
 
-use crate::address_server::AddressServer;
-use crate::case_server::CaseServer;
-use crate::line_writer::{LineStop, LineWriter};
-use crate::meeting::{ConnectFault, Meeting};
-use crate::outcome::Outcome;
-use crate::run_plans::{Refusal, RunPlan, TestedEnd, plan_run};
-use crate::testing::capture_text;
+use crate::clients_at::send_to_clients_at;
 use std::alloc::Global;
 use std::io::{Read, Write};
 use std::net::Net;
@@ -22,7 +16,12 @@ use ws_base::{NoMemory, TextFault};
 use ws_connection::HeadRefusal;
 use ws_frame::{Watched, WriteFault, write_whole};
 use ws_suite::{Case, read_script};
-use wst_commands::{Exit, Fault, ListenFault, ReadStop, read_whole, tell, tell_fault};
+use wst_commands::{Exit, Fault, ReadStop, read_whole, tell, tell_fault};
+use wst_sockets::{ConnectFault, Meeting};
+use wst_testing::{
+    AddressServer, CaseServer, LineStop, LineWriter, Outcome, Refusal, RunPlan, TestedEnd,
+    capture_text, plan_run,
+};
 use wst_words::SendOptions;
 
 /// How the script that comes in is run, and where.
@@ -81,7 +80,7 @@ pub fn plan_send<'a>(alloc: Global, options: &SendOptions<'a>) -> Result<SendPla
 }
 
 /// Runs the script that comes in over the end that a plan names, and tells how that ended.
-pub fn send_to_target<N: Net, R: Read, W: Write, F: Write>(
+pub(crate) fn send_to_target<N: Net, R: Read, W: Write, F: Write>(
     alloc: Global,
     plan: &SendPlan<'_>,
     net: &N,
@@ -100,8 +99,8 @@ pub fn send_to_target<N: Net, R: Read, W: Write, F: Write>(
             let server = AddressServer::new(net, target, &plan.run);
             send_to(alloc, &server, plan, reader, writer, faults)
         }
-        TestedEnd::Clients(_) => {
-            tell_fault(alloc, Fault::NotListening(ListenFault::Failed), faults)
+        TestedEnd::Clients(address) => {
+            send_to_clients_at(alloc, net, address, plan, reader, writer, faults)
         }
     }
 }

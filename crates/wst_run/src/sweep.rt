@@ -7,16 +7,17 @@ ghost use Rattle.ws_sweep.specs.Order.{max_steps};
 ghost use Rattle.wst_run.specs.Sweep.{GivesSteps, IsSweepPlan, RefusesSweep, RunsSweepPlan, TellsSweepRefusal};
 ghost use Rattle.wst_run.specs.Sweep.{HasTooManySteps, SweepsOver, sweep_rules_of};
 
-use crate::address_server::AddressServer;
-use crate::case_server::CaseServer;
-use crate::run_plans::{Refusal, RunPlan, TestedEnd, plan_run, tell_refusal};
-use crate::sweeping::{SweepRules, sweep_scripts, tell_sweep_end};
+use crate::sweeping_clients::sweep_clients_at;
 use std::alloc::Global;
 use std::io::Write;
 use std::net::Net;
 use ws_frame::Watched;
 use ws_sweep::MAX_STEPS;
-use wst_commands::{Exit, Fault, ListenFault, tell, tell_fault};
+use wst_commands::{Exit, tell};
+use wst_testing::{
+    AddressServer, CaseServer, Refusal, RunPlan, SweepRules, TestedEnd, plan_run, sweep_scripts,
+    tell_refusal, tell_sweep_end,
+};
 use wst_words::SweepOptions;
 
 /// Which scripts are run, and over which end.
@@ -83,7 +84,7 @@ fn steps_given(steps: u64) -> Option<usize>
 }
 
 /// Runs the scripts of a plan over the end that it names, and tells how that ended.
-pub fn sweep_target<N: Net, W: Write, F: Write>(
+pub(crate) fn sweep_target<N: Net, W: Write, F: Write>(
     alloc: Global,
     plan: &SweepPlan<'_>,
     net: &N,
@@ -101,8 +102,8 @@ pub fn sweep_target<N: Net, W: Write, F: Write>(
             let server = AddressServer::new(net, target, &plan.run);
             sweep_over(alloc, &server, plan, writer, faults)
         }
-        TestedEnd::Clients(_) => {
-            tell_fault(alloc, Fault::NotListening(ListenFault::Failed), faults)
+        TestedEnd::Clients(address) => {
+            sweep_clients_at(alloc, net, address, plan, writer, faults)
         }
     }
 }

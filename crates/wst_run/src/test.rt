@@ -5,19 +5,21 @@ ghost use Rattle.ws_frame.specs.Devices.{watched};
 ghost use Rattle.ws_frame.specs.Watching.{has_failed};
 ghost use Rattle.wst_commands.specs.Devices.{StaysFailed};
 ghost use Rattle.wst_commands.specs.GivenCases.{names_of};
-ghost use Rattle.wst_run.specs.Test.{CanBeTested, CarriesOut, IsPlan, RefusesTest, RunsPlan, RunsPlanOver};
+ghost use Rattle.wst_run.specs.Test.{CanBeTested, CarriesOut, IsPlan, RefusesTest, ReportsPlan, RunsPlan, RunsPlanOver};
 ghost use Rattle.wst_run.specs.Test.{is_one_case, rules_of};
 
-use crate::address_server::AddressServer;
-use crate::case_server::CaseServer;
-use crate::run_plans::{Refusal, RunPlan, TestedEnd, plan_run};
-use crate::testing::{RunRules, capture_case, test_cases};
+use crate::clients_at::test_clients_at;
 use std::alloc::Global;
 use std::io::Write;
 use std::net::Net;
 use ws_frame::Watched;
+use ws_reports::Report;
 use ws_suite::Case;
-use wst_commands::{Exit, Fault, ListenFault, cases_of, end_run, is_glob, tell_fault};
+use wst_commands::{Exit, Fault, cases_of, deliver, end_run, is_glob};
+use wst_testing::{
+    AddressServer, CaseServer, Refusal, RunPlan, RunRules, TestedEnd, capture_case, close_report,
+    plan_run, test_cases,
+};
 use wst_words::TestOptions;
 
 /// What is to be run.
@@ -25,6 +27,8 @@ use wst_words::TestOptions;
 pub struct TestPlan<'a> {
     /// Over which end, and how.
     pub run: RunPlan<'a>,
+    /// The word that names it.
+    pub target: &'a str,
     /// The capture of the one case is written in place of the verdicts.
     pub capture: bool,
     /// Below a verdict other than Pass it is told why.
@@ -35,26 +39,27 @@ pub struct TestPlan<'a> {
 }
 
 /// Runs the cases of a plan over the end that it names, and tells how that ended.
-pub fn run_over_target<N: Net, W: Write, F: Write>(
+pub(crate) fn run_over_target<N: Net, W: Write, F: Write>(
     alloc: Global,
     plan: &TestPlan<'_>,
+    report: &Report,
     net: &N,
     writer: &mut Watched<W>,
     faults: &mut Watched<F>,
 ) -> Exit
     requires works { has_failed writer.old ≡ false }
     requires plan { CanBeTested plan.now }
-    ensures { RunsPlanOver plan.now.run.tested plan.now result (watched W.contents writer.old writer.new)
+    ensures { RunsPlanOver plan.now.run.tested plan.now report.now result (watched W.contents writer.old writer.new)
         (watched F.contents faults.old faults.new) }
 {
     match &plan.run.tested {
-        TestedEnd::Memory(end) => run_plan(alloc, end, plan, writer, faults),
+        TestedEnd::Memory(end) => run_plan(alloc, end, plan, report, writer, faults),
         TestedEnd::Server(target) => {
             let server = AddressServer::new(net, target, &plan.run);
-            run_plan(alloc, &server, plan, writer, faults)
+            run_plan(alloc, &server, plan, report, writer, faults)
         }
-        TestedEnd::Clients(_) => {
-            tell_fault(alloc, Fault::NotListening(ListenFault::Failed), faults)
+        TestedEnd::Clients(address) => {
+            test_clients_at(alloc, net, address, plan, report, writer, faults)
         }
     }
 }
@@ -64,15 +69,16 @@ pub fn run_plan<S: CaseServer, W: Write, F: Write>(
     alloc: Global,
     server: &S,
     plan: &TestPlan<'_>,
+    report: &Report,
     writer: &mut Watched<W>,
     faults: &mut Watched<F>,
 ) -> Exit
     requires works { has_failed writer.old ≡ false }
     requires plan { CanBeTested plan.now }
-    ensures { RunsPlan (S.meets server.now plan.now.run.key) plan.now result
+    ensures { RunsPlan (S.meets server.now plan.now.run.key) plan.now report.now result
         (watched W.contents writer.old writer.new) (watched F.contents faults.old faults.new) }
 {
-    let ended = carry_out(alloc, server, plan, writer, faults);
+    let ended = carry_out(alloc, server, plan, report, writer, faults);
     end_run(alloc, ended, faults)
 }
 
@@ -81,22 +87,58 @@ fn carry_out<S: CaseServer, W: Write, F: Write>(
     alloc: Global,
     server: &S,
     plan: &TestPlan<'_>,
+    report: &Report,
     writer: &mut Watched<W>,
     faults: &mut Watched<F>,
 ) -> Result<Exit, Fault>
     requires works { has_failed writer.old ≡ false }
     requires plan { CanBeTested plan.now }
-    ensures runs { CarriesOut (S.meets server.now plan.now.run.key) plan.now result
+    ensures runs { CarriesOut (S.meets server.now plan.now.run.key) plan.now report.now result
         (watched W.contents writer.old writer.new) (watched F.contents faults.old faults.new) }
     ensures still { StaysFailed faults.old faults.new }
 {
-    let rules = rules_of(plan);
-    let cases = plan.cases.as_slice();
     if plan.capture {
+        let rules = rules_of(plan);
+        let cases = plan.cases.as_slice();
         capture_case(alloc, server, rules, &cases[0], writer, faults)
     } else {
-        test_cases(alloc, server, rules, cases, writer, faults)
+        report_cases(alloc, server, plan, report, writer, faults)
     }
+}
+
+/// Runs the cases of a plan as `test_cases` does, between what the report has before and behind them. What it has behind
+/// them is written also where the run ends early, if the output works.
+fn report_cases<S: CaseServer, W: Write, F: Write>(
+    alloc: Global,
+    server: &S,
+    plan: &TestPlan<'_>,
+    report: &Report,
+    writer: &mut Watched<W>,
+    faults: &mut Watched<F>,
+) -> Result<Exit, Fault>
+    requires works { has_failed writer.old ≡ false }
+    requires plan { CanBeTested plan.now }
+    ensures runs { ReportsPlan (S.meets server.now plan.now.run.key) plan.now report.now result
+        (watched W.contents writer.old writer.new) (watched F.contents faults.old faults.new) }
+    ensures still { StaysFailed faults.old faults.new }
+{
+    let start = report.start_text(alloc, plan.target)?;
+    let begun = deliver(Exit::Done, start.as_bytes(), writer);
+    if writer.failed() {
+        return Ok(begun);
+    }
+    let rules = rules_of(plan);
+    let ended = test_cases(
+        alloc,
+        server,
+        rules,
+        report,
+        plan.cases.as_slice(),
+        writer,
+        faults,
+    );
+    close_report(report, &ended, writer);
+    ended
 }
 
 /// How the cases of a plan are run.
@@ -117,6 +159,9 @@ pub fn plan_test<'a>(alloc: Global, options: &TestOptions<'a>) -> Result<TestPla
     ensures plan { MatchResult result (IsPlan options.now) (RefusesTest options.now) }
     ensures fits { IfOk result CanBeTested }
 {
+    if options.capture && (options.known || options.junit) {
+        return Err(Refusal::CaptureInReport);
+    }
     let run = plan_run(alloc, &options.run)?;
     if options.capture && !is_one_case(options.ids.as_slice()) {
         return Err(Refusal::NotOneCase);
@@ -124,8 +169,9 @@ pub fn plan_test<'a>(alloc: Global, options: &TestOptions<'a>) -> Result<TestPla
     let cases = cases_of(alloc, options.ids.as_slice())?;
     Ok(TestPlan {
         run,
+        target: options.run.target,
         capture: options.capture,
-        explain: options.explain,
+        explain: options.explain || options.junit,
         progress: options.progress,
         cases,
     })

@@ -14,6 +14,7 @@ use Rattle.wst_words.specs.Serve.{AsksToServe, serve_command}
 use Rattle.wst_words.specs.Session.{AsksForSession, session_command}
 use Rattle.wst_words.specs.Show.{AsksToShow, show_command}
 use Rattle.wst_words.specs.Sweep.{AsksToSweep, sweep_command}
+use Rattle.wst_words.specs.Tap.{AsksToTap, tap_command}
 use Rattle.wst_words.specs.Test.{AsksToTest, test_command}
 use Rattle.wst_words.specs.Words.{CommandAsks, CommandAsksNothing}
 use Rattle.wst_words.specs.declared.judge.JudgeOptions.{JudgeOptions}
@@ -24,10 +25,11 @@ use Rattle.wst_words.specs.declared.serve.ServeOptions.{ServeOptions}
 use Rattle.wst_words.specs.declared.session.SessionOptions.{SessionOptions}
 use Rattle.wst_words.specs.declared.show.ShowOptions.{ShowOptions}
 use Rattle.wst_words.specs.declared.sweep.SweepOptions.{SweepOptions}
+use Rattle.wst_words.specs.declared.tap.TapOptions.{TapOptions}
 use Rattle.wst_words.specs.declared.test.TestOptions.{TestOptions}
 use Rattle.wst_words.specs.declared.words.Task.{Task}
 use Rattle.wst_words.specs.declared.words.Task.TheVariants.{Cases, Convert, Head, Judge, Pair, Serve, Session, Show}
-use Rattle.wst_words.specs.declared.words.Task.TheVariants.{Send, Sweep, Test}
+use Rattle.wst_words.specs.declared.words.Task.TheVariants.{Send, Sweep, Tap, Test}
 use Rattle.wst_words.proofs.WordLemmas.{no_word}
 
 -- the command that a task is asked for by
@@ -43,6 +45,7 @@ task_name (Test options) = codes "test"
 task_name (Send options) = codes "send"
 task_name (Sweep options) = codes "sweep"
 task_name (Serve options) = codes "serve"
+task_name (Tap options) = codes "tap"
 
 called : (name : Text) (rows : List Row) (task : Task) → CommandAsks (Some (name, rows)) task → name ≡ task_name task
 called name rows (Show options) asks = asks.0
@@ -56,6 +59,7 @@ called name rows (Test options) asks = asks.0
 called name rows (Send options) asks = asks.0
 called name rows (Sweep options) asks = asks.0
 called name rows (Serve options) asks = asks.0
+called name rows (Tap options) asks = asks.0
 
 -- a word is no other
 differs : (a b name : Text) → bytes_eq a a ≡ true → bytes_eq a b ≡ false → name ≡ a → name ≡ b → ⊥
@@ -151,7 +155,7 @@ sweep_own = argument_or (codes "steps") Number (codes "2") ∷ argument (codes "
 
 abbrev test_own : List ArgumentRow
 test_own = argument (codes "capture") Flag ∷ argument (codes "explain") Flag ∷ argument (codes "progress") Flag
-    ∷ argument (codes "ids") Words ∷ []
+    ∷ argument (codes "known") Flag ∷ argument (codes "junit") Flag ∷ argument (codes "ids") Words ∷ []
 
 abbrev send_own : List ArgumentRow
 send_own = argument (codes "capture") Flag ∷ []
@@ -164,8 +168,10 @@ test_lacks rows options lacks asks = run_lacks rows options.run test_own none la
     none (inl capture) = capture options.capture asks.capture
     none (inr (inl explain)) = explain options.explain asks.explain
     none (inr (inr (inl progress))) = progress options.progress asks.progress
-    none (inr (inr (inr (inl ids)))) = absurd ids
-    none (inr (inr (inr (inr other)))) = absurd other
+    none (inr (inr (inr (inl known)))) = known options.known asks.known
+    none (inr (inr (inr (inr (inl junit))))) = junit options.junit asks.junit
+    none (inr (inr (inr (inr (inr (inl ids)))))) = absurd ids
+    none (inr (inr (inr (inr (inr (inr other)))))) = absurd other
 
 pub no_test : (name : Text) (rows : List Row) → name ≡ codes "test" → LacksOneOf rows test_command.arguments
     → CommandAsksNothing (Some (name, rows))
@@ -194,6 +200,21 @@ no_serve name rows is lacks = refuses
     refuses : (task : Task) → CommandAsks (Some (name, rows)) task → ⊥
     refuses (Serve options) asks = serve_lacks rows options lacks asks.1
     refuses task asks = differs (codes "serve") (task_name task) name refl refl is (called name rows task asks)
+
+tap_lacks : (rows : List Row) (options : TapOptions) → LacksOneOf rows tap_command.arguments
+    → AsksToTap rows options → ⊥
+tap_lacks rows options (inl listen) asks = no_word rows (codes "listen") options.listen.now listen asks.0
+tap_lacks rows options (inr (inl target)) asks = no_word rows (codes "target") options.target.now target asks.1
+tap_lacks rows options (inr (inr (inl count))) asks = count options.count asks.2
+tap_lacks rows options (inr (inr (inr none))) asks = absurd none
+
+pub no_tap : (name : Text) (rows : List Row) → name ≡ codes "tap" → LacksOneOf rows tap_command.arguments
+    → CommandAsksNothing (Some (name, rows))
+no_tap name rows is lacks = refuses
+  where
+    refuses : (task : Task) → CommandAsks (Some (name, rows)) task → ⊥
+    refuses (Tap options) asks = tap_lacks rows options lacks asks.1
+    refuses task asks = differs (codes "tap") (task_name task) name refl refl is (called name rows task asks)
 
 send_lacks : (rows : List Row) (options : SendOptions) → LacksOneOf rows send_command.arguments
     → AsksToSend rows options → ⊥

@@ -254,6 +254,18 @@ pub test_options : (places : Places)
 unfolding on_words
 test_options places = refl
 
+-- `wst test --known --junit own` reads an earlier run and writes a document, and these words do neither
+abbrev known_words : List Text
+known_words = words (codes "test" ∷ codes "--known" ∷ codes "--junit" ∷ codes "own" ∷ [])
+
+pub test_reports : (places : Places)
+    → map (λ asked. option_map (λ met. one_of (codes "known") met.1 ∷ one_of (codes "junit") met.1 ∷ [])
+    (subcommand_of (wst_app places) asked)) (known_words ∷ test_words ∷ [])
+    ≡ Some (Some (codes "true") ∷ Some (codes "true") ∷ [])
+    ∷ Some (Some (codes "false") ∷ Some (codes "false") ∷ []) ∷ []
+unfolding on_words
+test_reports places = refl
+
 -- `wst test --role client tung` tests a client, and words without a role a server
 abbrev client_test_words : List Text
 client_test_words = words (codes "test" ∷ codes "--role" ∷ codes "client" ∷ codes "tung" ∷ [])
@@ -268,6 +280,6 @@ test_roles places = refl
 pub asking_words_are_taken : (places : Places)
     → map (takes (wst_app places)) (plain_words ∷ client_words ∷ head_words ∷ protocol_words ∷ no_protocol_words
     ∷ session_words ∷ echo_words ∷ judge_words ∷ convert_words ∷ cases_words ∷ some_cases_words ∷ test_words ∷ serve_words ∷ waiting_words
-    ∷ client_test_words ∷ []) ≡ true ∷ true ∷ true ∷ true ∷ true ∷ true ∷ true ∷ true ∷ true ∷ true ∷ true ∷ true ∷ true ∷ true ∷ true ∷ []
+    ∷ client_test_words ∷ known_words ∷ []) ≡ true ∷ true ∷ true ∷ true ∷ true ∷ true ∷ true ∷ true ∷ true ∷ true ∷ true ∷ true ∷ true ∷ true ∷ true ∷ true ∷ []
 unfolding on_words
 asking_words_are_taken places = refl

@@ -12,6 +12,7 @@ pub mod Test
 pub mod Send
 pub mod Sweep
 pub mod Serve
+pub mod Tap
 pub mod Words
 pub mod Examples
 pub mod FaultExamples

@@ -16,6 +16,8 @@ test_command = record {
       ++ argument (codes "capture") Flag
       ∷ argument (codes "explain") Flag
       ∷ argument (codes "progress") Flag
+      ∷ argument (codes "known") Flag
+      ∷ argument (codes "junit") Flag
       ∷ argument (codes "ids") Words ∷ [];
 }
 
@@ -25,4 +27,6 @@ pub record AsksToTest (rows : List Row) (options : TestOptions) : Type 0 where
   pub capture : GivesFlag rows (codes "capture") options.capture
   pub explain : GivesFlag rows (codes "explain") options.explain
   pub progress : GivesFlag rows (codes "progress") options.progress
+  pub known : GivesFlag rows (codes "known") options.known
+  pub junit : GivesFlag rows (codes "junit") options.junit
   pub ids : map (λ id. id.now) options.ids.items ≡ given_words (codes "ids") rows

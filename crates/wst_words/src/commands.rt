@@ -8,7 +8,7 @@ ghost use Rattle.wst_words.specs.Arguments.{Places, argument_row};
 ghost use Rattle.wst_words.specs.Words.{row_of, wst_app};
 
 use crate::arguments::{Argument, arg_of};
-use crate::{cases, convert, head, judge, pair, send, serve, session, show, sweep, test};
+use crate::{cases, convert, head, judge, pair, send, serve, session, show, sweep, tap, test};
 use clap::Command;
 use clap::builder::ValueParser;
 use std::alloc::{AllocError, Global};
@@ -27,6 +27,7 @@ pub(crate) enum CommandName {
     Send,
     Sweep,
     Serve,
+    Tap,
 }
 
 /// What help says of a command.
@@ -41,7 +42,7 @@ pub(crate) struct HelpText<'a> {
 }
 
 /// All commands, in the order in which help lists them.
-static COMMANDS: [CommandName; 11] = [
+static COMMANDS: [CommandName; 12] = [
     CommandName::Show,
     CommandName::Head,
     CommandName::Pair,
@@ -53,6 +54,7 @@ static COMMANDS: [CommandName; 11] = [
     CommandName::Send,
     CommandName::Sweep,
     CommandName::Serve,
+    CommandName::Tap,
 ];
 
 /// The word for a command.
@@ -71,6 +73,7 @@ fn name_of<'a>(command: CommandName) -> &'a str
         CommandName::Send => "send",
         CommandName::Sweep => "sweep",
         CommandName::Serve => "serve",
+        CommandName::Tap => "tap",
     }
 }
 
@@ -90,6 +93,7 @@ fn arguments_of(command: CommandName) -> &'static [Argument]
         CommandName::Send => send::arguments(),
         CommandName::Sweep => sweep::arguments(),
         CommandName::Serve => serve::arguments(),
+        CommandName::Tap => tap::arguments(),
     }
 }
 
@@ -107,12 +111,13 @@ fn help_of<'a>(command: CommandName) -> HelpText<'a> {
         CommandName::Send => send::help(),
         CommandName::Sweep => sweep::help(),
         CommandName::Serve => serve::help(),
+        CommandName::Tap => tap::help(),
     }
 }
 
-/// What `wst --version` prints after the name: the version, and the line of the kit that proved the
-/// program, as `rt version` prints it.
-const VERSION: &str = "0.2.0 (rattle-kit-13f logic dac8208d650f15bf)";
+/// What `wst --version` prints after the name: the version, and the logic that proved the program, as
+/// the last words of `rt version` tell it. (Kits of several names have one logic.)
+const VERSION: &str = "0.2.0 (rattle logic dac8208d650f15bf)";
 
 /// `wst` with its commands, as `clap` is told of them.
 pub(crate) fn wst_command<'a>(alloc: Global) -> Result<Command<'a>, AllocError>
@@ -185,9 +190,9 @@ fn with_arguments<'a>(
 
 /// What stands at the end of the help.
 const AFTER_HELP: &str =
-    "Each command but `cases`, `test`, `sweep` and `serve` reads its standard input. What it reads and
-writes is told by `wst COMMAND --help`, with an example. In scripts HEX is bytes as lower-case pairs
-of hexadecimal digits, or `-` for none.
+    "Each command but `cases`, `test`, `sweep`, `serve` and `tap` reads its standard input. What it reads
+and writes is told by `wst COMMAND --help`, with an example. In scripts HEX is bytes as lower-case
+pairs of hexadecimal digits, or `-` for none.
 
 Exit status: 0 done, 1 the input is damaged or refused or a verdict is FAIL, 2 wrong words, limits
 or lists, 3 the input, the output, the network, the budget or memory failed.

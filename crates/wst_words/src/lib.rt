@@ -19,6 +19,7 @@ mod serve;
 mod session;
 mod show;
 mod sweep;
+mod tap;
 mod test;
 mod words;
 
@@ -32,5 +33,6 @@ pub use serve::ServeOptions;
 pub use session::SessionOptions;
 pub use show::ShowOptions;
 pub use sweep::SweepOptions;
+pub use tap::TapOptions;
 pub use test::TestOptions;
 pub use words::{Task, WordsFault, read_words};

@@ -96,9 +96,10 @@ const LONG_ABOUT: &str =
     "Reads a script, whose lines `wst cases --help` describes, and runs it at TARGET: HOST:PORT, as
 127.0.0.1:9001, [::1]:9001 or localhost:9001, which is asked for an upgrade at `/`; or a URL, as
 ws://localhost:9001/echo?x=1, whose port is 80 where it has none; or a new server in memory: `own`,
-our echo, or `tung`, one of the crate tungstenite. With --role client it is a client in memory that
-gets the script, as `wst test --help` tells. What it sends may break any rule. Each frame is shown
-as soon as it is certain:
+our echo, or `tung`, one of the crate tungstenite. With --role client a client gets the script: one
+in memory, as `wst test --help` tells, or at any other HOST:PORT the first that comes, whatever
+its path, once `listening on ADDR` was told on the fault output. What is sent may break any rule.
+Each frame is shown as soon as it is certain:
 
   turn N         a turn begins, counted from 1; `wait` in the script ends one
   > FRAME        a frame that was sent, as `wst show` shows it, its place counted in what was sent
@@ -123,7 +124,8 @@ not there `no connection: WHY`: then nothing stands on the output.
 
 Exit status: 0 the script was run, whoever ended it, 1 the input is no script (`line N: not a step`)
 or the answer is to be refused, 2 wrong words, also a word that is no LIST, header, SECONDS, key,
-TARGET or address, 3 there is no connection, the input or the output failed or memory ran out.";
+TARGET or address, 3 there is no connection, nothing can be listened at, the input or the output
+failed or memory ran out.";
 
 /// What stands at the end of the help of `send`.
 const AFTER_HELP: &str =

@@ -118,8 +118,9 @@ const LONG_ABOUT: &str =
 lawful or not, a FAIL is the tested end's. TARGET is the address of a server, as 127.0.0.1:9001,
 [::1]:9001 or localhost:9001, which is asked for an upgrade at `/` and is to send each message back;
 or a new server in memory for each script: `own`, our echo, which passes, or `tung`, one of the
-crate tungstenite. With --role client they are clients in memory, as `wst test --help` tells. The
-steps are these 27, which `wst cases --help` describes; to a client the last one is
+crate tungstenite. With --role client they are clients in memory, or those that come to HOST:PORT,
+as `wst test --help` tells: the scripts are its cases then, and their numbers, from 1 on, its IDs.
+The steps are these 27, which `wst cases --help` describes; to a client the last one is
 `text key=00000000 \"a\"`, since its mask is wrong there:
 
   text \"a\"     text fin=0 \"a\"     text -           text fin=0 -      text fin=0 c3
@@ -146,8 +147,8 @@ step. Without a connection the run ends, with `no connection: WHY` on the fault 
 Nothing is read.
 
 Exit status: 0 no script is FAIL, 1 one is, 2 wrong words, also a number of steps above 4, and a
-word that is no LIST, header, SECONDS, key, TARGET or address, 3 there is no connection, the output
-failed or memory ran out.";
+word that is no LIST, header, SECONDS, key, TARGET or address, 3 there is no connection, nothing can
+be listened at, the output failed or memory ran out.";
 
 /// What stands at the end of the help of `sweep`.
 const AFTER_HELP: &str = "Example:

@@ -28,12 +28,16 @@ pub struct TestOptions<'a> {
     pub explain: bool,
     /// The name of each case is told before it runs.
     pub progress: bool,
+    /// The input has the lines of an earlier run, and what is otherwise is told.
+    pub known: bool,
+    /// A JUnit document is written in place of lines.
+    pub junit: bool,
     /// The names of the cases in the order in which they run. None stands for all.
     pub ids: Vec<&'a str>,
 }
 
 /// Its arguments.
-static ARGUMENTS: [Argument; 12] = [
+static ARGUMENTS: [Argument; 14] = [
     ROLE,
     KEY,
     TIMEOUT,
@@ -62,6 +66,20 @@ static ARGUMENTS: [Argument; 12] = [
         default: None,
         value_name: "",
         help: "Tell each ID on the fault output before its case runs",
+    },
+    Argument {
+        name: "known",
+        kind: Flag,
+        default: None,
+        value_name: "",
+        help: "Read the lines of an earlier run, and tell what is otherwise",
+    },
+    Argument {
+        name: "junit",
+        kind: Flag,
+        default: None,
+        value_name: "",
+        help: "Write a JUnit document",
     },
     Argument {
         name: "ids",
@@ -110,11 +128,15 @@ fn options_with<'a>(
     let capture = flag_of(options, "capture")?;
     let explain = flag_of(options, "explain")?;
     let progress = flag_of(options, "progress")?;
+    let known = flag_of(options, "known")?;
+    let junit = flag_of(options, "junit")?;
     Some(TestOptions {
         run,
         capture,
         explain,
         progress,
+        known,
+        junit,
         ids,
     })
 }
@@ -135,9 +157,10 @@ is to send each message back: HOST:PORT, as 127.0.0.1:9001, [::1]:9001 or localh
 asked for an upgrade at `/`; or a URL, as ws://localhost:9001/echo?x=1, whose port is 80 where it
 has none; or a new server in memory for each case, to see what a run looks like: `own`, our echo,
 which passes, or `tung`, one of the crate tungstenite. With --role client the same cases test a
-client: `own` and `tung` are clients in memory then, which mask their frames with --key. A client is
-sent frames without a mask, but where a case has a key of its own. As soon as a case is judged a
-line for it is written, and the total at last:
+client: `own` and `tung` are clients in memory then, which mask their frames with --key, and at any
+other HOST:PORT clients are listened for, as told below. A client is sent frames without a mask, but
+where a case has a key of its own. As soon as a case is judged a line for it is written, and the
+total at last:
 
   ID PASS             the tested end kept the rules
   ID LOOSE WHY        it answered otherwise than an echo that is fed turn by turn
@@ -154,9 +177,35 @@ where none is. An ID that ends in `*` stands for all cases whose IDs begin with 
 in the order of `wst cases`, which lists the IDs. `wst judge --help` says what each WHY means. NAME
 is Head, Version, Status, Upgrade, Connection, Accept, Extension, Protocol or TooLarge. With
 --capture, which takes one case by its whole ID, the capture of what went over the connection is
-written in place of the lines, and the status is that of its verdict. Nothing is read. With
---explain the lines that `wst judge --help` tells follow LOOSE and FAIL, and `  status NNN`, with
-the three digits that came, follows FAIL Head Status.
+written in place of the lines, and the status is that of its verdict. With --explain the lines that
+`wst judge --help` tells follow LOOSE and FAIL, and `  status NNN`, with the three digits that came,
+follows FAIL Head Status.
+
+With --known the input has the lines of an earlier run, of which the last of each case counts. What
+is otherwise is told behind a verdict: ` (was VERDICT)` where the known one has other words, and
+` (new)` where none is known. The status is then 1 where a case is new or got otherwise, and else 0,
+whatever the verdicts are: two count as the same where neither is a FAIL, or both are the same FAIL;
+`no connection` counts as one. Totals, `listening on ..`, lines that begin with a space, and these
+two ends of a line are passed by, so that what is written can be known next; at another line it is
+told `line N: not a verdict`, and nothing runs. Without --known nothing is read.
+
+With --junit the output is one JUnit document, with what --explain tells: a case has a <failure>
+where it is a FAIL or has no connection, with --known where it is new or got otherwise, and what
+else is no PASS stands in a <system-out>. The tags are closed however the run ends, if the output
+works. Neither goes with --capture.
+  wst test ws://localhost:9001/echo > known.txt
+  wst test --timeout 5 --known --junit ws://localhost:9001/echo < known.txt > report.xml
+
+With --role client HOST:PORT, as 127.0.0.1:9001, `listening on ADDR` comes first, with the real port
+where it is 0, and connections are taken one after the other. Test clients for Autobahn's fuzzing
+server run as they are: the paths /getCaseCount, /runCase?case=N, /getCaseInfo?case=N,
+/getCaseStatus?case=N and /updateReports mean here what they mean there, and the run ends with the
+last of them; at any other path the next case is run, and the run ends with the last case. Then
+`ID FAIL NotRun` is told of each case that none has asked for. A request that is to be refused is
+`refused NAME` on the fault output, and where nothing can be listened at `not listening: WHY`. With
+--capture, whose run ends with the first connection that runs the case, and with --junit the address
+is told on the fault output. SECONDS are for bytes, and not for a client to come.
+  wst test --role client --timeout 5 --explain 127.0.0.1:9001
 
 With --protocols each request offers the subprotocols of LIST in its order, which `wst head --help`
 describes. An answer that names another one, or more than one, is to be refused as Protocol. With
@@ -175,9 +224,10 @@ in the total; the third in a row ends it as the first one does without --timeout
 up, a case ends as broken off. A server in memory answers at once: there SECONDS and the budget are
 without effect. In parts: wst test 127.0.0.1:9001 '1.*'
 
-Exit status: 0 no case is FAIL, 1 one is, 2 wrong words, also a word that is no LIST, header,
-SECONDS, key, TARGET, address or ID, and --capture with other than one case, 3 there is no
-connection, the output failed or memory ran out.";
+Exit status: 0 no case is FAIL, 1 one is (see --known), or a line of the input is no verdict, 2
+wrong words, also a word that is no LIST, header, SECONDS, key, TARGET, address or ID, and --capture
+with other than one case, with --known or with --junit, 3 there is no connection, nothing can be
+listened at, a device failed or memory ran out.";
 
 /// What stands at the end of the help of `test`.
 const AFTER_HELP: &str = "Example:

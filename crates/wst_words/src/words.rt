@@ -17,6 +17,7 @@ use crate::serve::{ServeOptions, serve_options};
 use crate::session::{SessionOptions, session_options};
 use crate::show::{ShowOptions, show_options};
 use crate::sweep::{SweepOptions, sweep_options};
+use crate::tap::{TapOptions, tap_options};
 use crate::test::{TestOptions, test_options};
 use clap::{ArgMatches, Command, Error};
 use std::alloc::{AllocError, Global};
@@ -46,6 +47,8 @@ pub enum Task<'a> {
     Sweep(SweepOptions<'a>),
     /// Connections to serve.
     Serve(ServeOptions<'a>),
+    /// Connections between clients and a server to tap.
+    Tap(TapOptions<'a>),
 }
 
 /// Why the words give no task.
@@ -170,6 +173,7 @@ fn plain_task<'a>(name: &str, options: &ArgMatches<'a>) -> Option<Task<'a>>
         "convert" => Some(Task::Convert),
         "cases" => Some(Task::Cases(cases_options(options))),
         "serve" => Some(Task::Serve(serve_options(options)?)),
+        "tap" => Some(Task::Tap(tap_options(options)?)),
         _ => None,
     }
 }

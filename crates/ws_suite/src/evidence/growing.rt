@@ -15,7 +15,7 @@ use crate::evidence::{Direction, Evidence};
 use crate::lemmas::session_laws;
 use std::alloc::Global;
 use std::marker::Model;
-use ws_base::{NoMemory, Sequence};
+use ws_base::NoMemory;
 use ws_scripts::{Ended, Transcript};
 use ws_session::Status;
 use ws_wire::Role;
@@ -171,7 +171,7 @@ pub(super) fn direction_of(collected: Collected<AllReplies>) -> Direction
         has_rest,
     } = collected;
     Direction {
-        replies: Sequence::from_vec(replies.list),
+        replies: replies.list,
         ending,
         has_rest,
     }

@@ -5,7 +5,7 @@ ghost use Rattle.ws_suite.specs.declared.evidence.InTurn.{InTurn};
 ghost use Rattle.ws_suite.specs.declared.evidence.Reply.{Reply};
 ghost use Rattle.ws_suite.specs.Growing.{AnswersTally, IsAnsweredPong};
 
-use crate::evidence::{InTurn, Reply, is_answer, is_message, is_pong};
+use crate::evidence::{InTurn, Replies, Reply, is_answer, is_message, is_pong};
 use std::alloc::Global;
 use ws_base::NoMemory;
 
@@ -27,7 +27,7 @@ pub trait KeepsReplies {
 /// All replies.
 #[derive(Drop)]
 pub(crate) struct AllReplies {
-    pub list: Vec<InTurn<Reply>>,
+    pub list: Replies,
 }
 
 impl KeepsReplies for AllReplies {
@@ -37,12 +37,12 @@ impl KeepsReplies for AllReplies {
 
     fn none(alloc: Global) -> AllReplies {
         AllReplies {
-            list: Vec::new(alloc),
+            list: Replies::new(alloc),
         }
     }
 
     fn keep(&mut self, reply: InTurn<Reply>) -> Result<(), NoMemory> {
-        self.list.push(reply)?;
+        self.list.push(&reply)?;
         Ok(())
     }
 }

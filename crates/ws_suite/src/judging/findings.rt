@@ -1,12 +1,13 @@
-//! What is found by comparing what was got with what is due: each pair of lists is walked once, and the rules read what
-//! came of it.
+//! What is found by comparing what was got with what is due: no list is made of them, and the rules read what came
+//! of it.
 
 ghost use Rattle.std.specs.Prelude.{IfOk};
 ghost use Rattle.ws_suite.specs.InnerJudging.{AreFindingsOf, without_pings};
 
 use crate::evidence::Evidence;
+use crate::judging::chosen::{Chosen, Wanted};
 use crate::judging::pongs::{has_last_pong, match_pongs};
-use crate::judging::replies::{any_before, are_left, begins, lists_of};
+use crate::judging::replies::{any_before, are_fewer, are_left, begins, is_any};
 use std::alloc::Global;
 use ws_base::NoMemory;
 
@@ -37,17 +38,40 @@ pub(crate) struct Findings {
 pub(super) fn findings_of(alloc: Global, x: &Evidence) -> Result<Findings, NoMemory>
     ensures { IfOk result (λ found. AreFindingsOf (without_pings x.now) found) }
 {
-    let lists = lists_of(alloc, x)?;
-    let matched = match_pongs(alloc, &lists.due_pongs, &lists.got_pongs)?;
+    let due = &x.due.replies;
+    let got = &x.got.replies;
+    let matched = match_pongs(
+        alloc,
+        Chosen::among(due, Wanted::Pongs),
+        Chosen::among(got, Wanted::Pongs),
+    )?;
     Ok(Findings {
-        has_early_message: any_before(&lists.got_messages, &lists.due_messages),
+        has_early_message: any_before(
+            Chosen::among(got, Wanted::Messages),
+            Chosen::among(due, Wanted::Messages),
+        ),
         has_early_pong: matched.is_early,
         has_unmatched_pong: matched.is_unmatched,
-        begins: begins(&lists.got_messages, &lists.due_messages),
-        is_short_of_messages: lists.got_messages.len() < lists.due_messages.len(),
-        is_short_of_pongs: lists.got_pongs.len() < lists.due_pongs.len(),
-        owes_pongs: !lists.due_pongs.is_empty(),
-        has_last_pong: has_last_pong(&lists.due_pongs, &lists.got_pongs),
-        keeps_order: are_left(&lists.got, x.due.replies.as_slice()),
+        begins: begins(
+            Chosen::among(got, Wanted::Messages),
+            Chosen::among(due, Wanted::Messages),
+        ),
+        is_short_of_messages: are_fewer(
+            Chosen::among(got, Wanted::Messages),
+            Chosen::among(due, Wanted::Messages),
+        ),
+        is_short_of_pongs: are_fewer(
+            Chosen::among(got, Wanted::Pongs),
+            Chosen::among(due, Wanted::Pongs),
+        ),
+        owes_pongs: is_any(Chosen::among(due, Wanted::Pongs)),
+        has_last_pong: has_last_pong(
+            Chosen::among(due, Wanted::Pongs),
+            Chosen::among(got, Wanted::Pongs),
+        ),
+        keeps_order: are_left(
+            Chosen::among(got, Wanted::Answers),
+            Chosen::among(due, Wanted::All),
+        ),
     })
 }

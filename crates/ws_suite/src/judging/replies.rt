@@ -1,145 +1,91 @@
 //! Replies of one kind, and replies that are the same.
 
-ghost use Rattle.std.specs.Prelude.{◌≡◌, ◌↔◌, ◌∷◌, List, IfOk, IsTrue};
-ghost use Rattle.ws_suite.specs.declared.evidence.Reply.{Reply};
-ghost use Rattle.ws_suite.specs.InnerJudging.{AreListsOf, answers_among, targets, without_pings};
+ghost use Rattle.std.specs.Prelude.{◌≡◌, ◌↔◌, ◌<◌, length, IsTrue};
 ghost use Rattle.std.specs.List.{list_any, zip};
+ghost use Rattle.ws_suite.specs.InnerChosen.{IsThere};
+ghost use Rattle.ws_suite.specs.Kept.{what_of};
 ghost use Rattle.ws_suite.specs.Matching.{IsBeginningOf, IsWithSomeLeftOut, bare};
-ghost use Rattle.ws_suite.specs.Matching.{message_replies, pong_replies};
 ghost use Rattle.ws_suite.specs.Verdicts.{is_before};
 
-use crate::evidence::{Evidence, InTurn, Reply, are_same, is_message, is_pong};
-use std::alloc::Global;
-use ws_base::NoMemory;
+use crate::evidence::{Kept, is_same};
+use crate::judging::chosen::Chosen;
 
-/// The messages and the pongs that are due, and those that were got.
-#[derive(Drop)]
-pub(crate) struct Lists<'a> {
-    pub due_messages: Vec<&'a InTurn<Reply>>,
-    pub got_messages: Vec<&'a InTurn<Reply>>,
-    pub due_pongs: Vec<&'a InTurn<Reply>>,
-    pub got_pongs: Vec<&'a InTurn<Reply>>,
-    /// The messages and the pongs that were got, in their common order.
-    pub got: Vec<&'a InTurn<Reply>>,
+/// Whether any reply is to come.
+pub(super) fn is_any(replies: Chosen<'_>) -> bool
+    ensures { IsTrue result ↔ (0 < length replies.entry) }
+{
+    let mut left = replies;
+    left.next().is_some()
 }
 
-/// The lists of both directions.
-pub(super) fn lists_of<'a>(alloc: Global, evidence: &'a Evidence) -> Result<Lists<'a>, NoMemory>
-    ensures { IfOk result (λ lists. AreListsOf (without_pings evidence.entry.now) lists) }
+/// Whether the first replies are fewer than the others.
+pub(super) fn are_fewer(some: Chosen<'_>, others: Chosen<'_>) -> bool
+    ensures { IsTrue result ↔ (length some.entry < length others.entry) }
 {
-    let due_messages = messages(alloc, evidence.due.replies.as_slice())?;
-    let got_messages = messages(alloc, evidence.got.replies.as_slice())?;
-    let due_pongs = pongs(alloc, evidence.due.replies.as_slice())?;
-    let got_pongs = pongs(alloc, evidence.got.replies.as_slice())?;
-    let got = answers(alloc, evidence.got.replies.as_slice())?;
-    Ok(Lists {
-        due_messages,
-        got_messages,
-        due_pongs,
-        got_pongs,
-        got,
-    })
-}
-
-/// The messages among replies, in order.
-fn messages<'a>(
-    alloc: Global,
-    replies: &'a [InTurn<Reply>],
-) -> Result<Vec<&'a InTurn<Reply>>, NoMemory>
-    ensures { IfOk result (λ found. targets found.items ≡ message_replies replies.entry.now) }
-{
-    let mut found = Vec::new(alloc);
-    for reply in replies {
-        if is_message(&reply.what) {
-            found.push(reply)?;
+    let mut left = some;
+    let mut others_left = others;
+    while let Some(_other) = others_left.next() {
+        if left.next().is_none() {
+            return true;
         }
     }
-    Ok(found)
-}
-
-/// The pongs among replies, in order.
-fn pongs<'a>(
-    alloc: Global,
-    replies: &'a [InTurn<Reply>],
-) -> Result<Vec<&'a InTurn<Reply>>, NoMemory>
-    ensures { IfOk result (λ found. targets found.items ≡ pong_replies replies.entry.now) }
-{
-    let mut found = Vec::new(alloc);
-    for reply in replies {
-        if is_pong(&reply.what) {
-            found.push(reply)?;
-        }
-    }
-    Ok(found)
-}
-
-/// The messages and the pongs among replies, in order.
-fn answers<'a>(
-    alloc: Global,
-    replies: &'a [InTurn<Reply>],
-) -> Result<Vec<&'a InTurn<Reply>>, NoMemory>
-    ensures { IfOk result (λ found. targets found.items ≡ answers_among replies.entry.now) }
-{
-    let mut found = Vec::new(alloc);
-    for reply in replies {
-        if is_message(&reply.what) || is_pong(&reply.what) {
-            found.push(reply)?;
-        }
-    }
-    Ok(found)
+    false
 }
 
 /// Whether the first replies are a beginning of the others, without their turns.
-pub(super) fn begins(front: &[&InTurn<Reply>], all: &[&InTurn<Reply>]) -> bool
-    ensures { IsTrue result ↔ IsBeginningOf (bare (targets front.now)) (bare (targets all.now)) }
+pub(super) fn begins(front: Chosen<'_>, all: Chosen<'_>) -> bool
+    ensures { IsTrue result ↔ IsBeginningOf (bare front.entry) (bare all.entry) }
 {
-    if front.len() > all.len() {
-        return false;
-    }
-    let mut place = 0;
-    while place < front.len() {
-        if !are_same(&front[place].what, &all[place].what) {
+    let mut left = front;
+    let mut all_left = all;
+    while let Some(one) = left.next() {
+        if !is_there(&one, &all_left.next()) {
             return false;
         }
-        place += 1;
     }
     true
 }
 
-/// Whether the first replies are the others with some left out, without their turns. Both lists are walked once.
-pub(super) fn are_left(some: &[&InTurn<Reply>], all: &[InTurn<Reply>]) -> bool
-    ensures { IsTrue result ↔ IsWithSomeLeftOut (bare (targets some.now)) (bare all.now) }
+/// Whether the first replies are the others with some left out, without their turns. Both are gone over once.
+pub(super) fn are_left(some: Chosen<'_>, all: Chosen<'_>) -> bool
+    ensures { IsTrue result ↔ IsWithSomeLeftOut (bare some.entry) (bare all.entry) }
 {
     let mut left = some;
-    for reply in all {
-        left = without(left, reply);
-    }
-    left.is_empty()
-}
-
-/// The replies without the first, where that is this one.
-fn without<'a, 'b>(left: &'a [&'b InTurn<Reply>], reply: &InTurn<Reply>) -> &'a [&'b InTurn<Reply>]
-    ensures { (all : List Reply) → IsWithSomeLeftOut (bare (targets left.entry.now)) (reply.now.what ∷ all)
-        ↔ IsWithSomeLeftOut (bare (targets result.now)) all }
-{
-    if let [first, others @ ..] = left {
-        if are_same(&first.what, &reply.what) {
-            return others;
+    let mut all_left = all;
+    let mut first = left.next();
+    while let Some(reply) = all_left.next() {
+        if is_there(&reply, &first) {
+            first = left.next();
         }
     }
-    left
+    first.is_none()
+}
+
+/// Whether there is such a reply, whatever its turn.
+fn is_there(one: &Kept<'_>, other: &Option<Kept<'_>>) -> bool
+    ensures { IsTrue result ↔ IsThere (what_of one.now) other.now }
+{
+    match other {
+        Some(other) => is_same(one, other),
+        None => false,
+    }
 }
 
 /// Whether some reply stands in an earlier turn than the one at its place among the others.
-pub(super) fn any_before(got: &[&InTurn<Reply>], due: &[&InTurn<Reply>]) -> bool
-    ensures { result ≡ list_any is_before (zip (targets got.now) (targets due.now)) }
+pub(super) fn any_before(got: Chosen<'_>, due: Chosen<'_>) -> bool
+    ensures { result ≡ list_any is_before (zip got.entry due.entry) }
 {
-    let mut place = 0;
-    while place < got.len() && place < due.len() {
-        if got[place].turn < due[place].turn {
-            return true;
+    let mut left = got;
+    let mut due_left = due;
+    while let Some(one) = left.next() {
+        match due_left.next() {
+            Some(other) => {
+                if one.turn < other.turn {
+                    return true;
+                }
+            }
+            None => return false,
         }
-        place += 1;
     }
     false
 }

@@ -1,13 +1,12 @@
-use Rattle.std.proofs.Common.{◌≡◌, ◌≤◌, map, take}
-use Rattle.ws_session.specs.Exchange.{Exchange}
-use Rattle.ws_calls.specs.Calls.{AreAnswered, count_taken, new_exchange, echo_of}
-use Rattle.ws_calls.specs.Script.{as_call}
-use Rattle.ws_calls.specs.InnerSteps.{Agrees}
+use Rattle.std.proofs.Common.{length, string_bytes}
+use Rattle.ws_calls.specs.Calls.{echo_of}
+use Rattle.ws_calls.specs.InnerSteps.{HasPlayed}
+use Rattle.ws_calls.specs.Script.{IsEchoCallLine, as_call}
 use Rattle.ws_calls.proofs.echo_running.run_echo_calls.Given as goal
 
--- the calls so far were answered, and the echo agrees with what it has then exchanged
-abbrev pub invariant-loop-call : goal.invariant-loop-call
-invariant-loop-call l = (after : Exchange) × AreAnswered (echo_of l.fn.role l.fn.limits) new_exchange (map as_call (take l.call-index l.calls)) l.answers.items after
-    × Agrees after l.caller.taken l.caller.echo
-    × (l.caller.echo.role ≡ l.fn.role) × (l.caller.echo.limits ≡ l.fn.limits)
-    × (l.caller.taken ≤ count_taken (map as_call (take l.call-index l.calls)))
+-- the calls of the lines before the rest were made and told
+abbrev pub invariant-loop-line : goal.invariant-loop-line
+invariant-loop-line l = HasPlayed IsEchoCallLine as_call (echo_of l.fn.role l.fn.limits) l.text l.rest l.caller.taken l.caller.echo (string_bytes l.caller.lines)
+
+abbrev pub decreases-loop-line : goal.decreases-loop-line
+decreases-loop-line l = length l.rest

@@ -1,49 +1,48 @@
-use Rattle.std.proofs.Common.{◌≡◌, ◌+◌, ◌++◌, List, [], ◌∷◌, ap, sym, ◌∙◌, subst, arith, take, length, refl}
-use Rattle.std.proofs.lemmas.List.{take_all, take_more}
-use Rattle.std.proofs.lemmas.List.Sums.{sum_by_more}
+-- A call a line, until no line is left.
+use Rattle.std.proofs.Common.{◌≡◌, ◌<◌, ◌≤◌, List, ℕ, ap, ap₂, arith, length, rules, string_bytes, sym}
 use Rattle.ws_wire.specs.declared.role.Role.{Role}
 use Rattle.ws_session.specs.Limits.{LimitsValue}
-use Rattle.ws_session.specs.Exchange.{is_over}
+use Rattle.ws_session.specs.Replies.{reply_to}
 use Rattle.ws_calls.specs.declared.calls.Call.{Call}
-use Rattle.ws_calls.specs.declared.report.CallAnswer.{CallAnswer}
-use Rattle.ws_calls.specs.Calls.{AreAnswered, IsStatusAfter, IsCallAnswered, count_taken, new_exchange, piece_of_call, session_of}
-use Rattle.ws_calls.proofs.Answering.{answered_added, held_there}
+use Rattle.ws_calls.specs.Calls.{session_of}
+use Rattle.ws_calls.specs.Script.{IsCallLine}
+use Rattle.ws_calls.proofs.Ending.{session_told}
+use Rattle.ws_calls.proofs.Parts.{no_bytes}
+use Rattle.ws_calls.proofs.Playing.{never_ended, never_read, next_played}
 use Rattle.ws_calls.proofs.running.run_calls.Goals as goal
 
-pub loop-call-preserved : goal.loop-call-preserved
-loop-call-preserved c =
-    let calls = c.args.calls.now in
-    let i = c.loop-call.call-index in
-    let call = c.call-item.result in
-    let answers = c.loop-call.answers.items in
-    let answer = c.in_ok-answer.answer in
-    let before = c.loop-call.invariant in
-    let old = c.loop-call.caller.session in
-    let h = c.in_ok-answer.ensures.answered before.0 before.2 in
-    let by_role : IsCallAnswered (session_of c.args.role old.limits) before.0 call answer h.after = subst (λ (r : Role). IsCallAnswered (session_of r old.limits) before.0 call answer h.after) before.3 h.answered in
-    let answered : IsCallAnswered (session_of c.args.role c.args.limits) before.0 call answer h.after = subst (λ (m : LimitsValue). IsCallAnswered (session_of c.args.role m) before.0 call answer h.after) before.4 by_role in
-    let all : take i calls ++ call ∷ [] ≡ take (i + 1) calls = ap (λ (m : Call). take i calls ++ m ∷ []) c.call-item.is ∙ sym (take_more calls i call c.loop-call-test.true) in
-    let one = answered_added (session_of c.args.role c.args.limits) new_exchange before.0 h.after (take i calls) call answers answer before.1 answered in
-    let count : count_taken (take (i + 1) calls) ≡ count_taken (take i calls) + length (piece_of_call call) = sum_by_more (λ (x : Call). length (piece_of_call x)) calls i call c.loop-call-test.true ∙ ap (λ (m : Call). count_taken (take i calls) + length (piece_of_call m)) (sym c.call-item.is) in (
-      h.after,
-      subst (λ (l : List CallAnswer). AreAnswered (session_of c.args.role c.args.limits) new_exchange (take (i + 1) calls) l h.after) (sym c.in_ok-push.ensures.items)
-          (subst (λ (l : List Call). AreAnswered (session_of c.args.role c.args.limits) new_exchange l (answers ++ answer ∷ []) h.after) all one),
-      h.agrees,
-      h.same.0 ∙ before.3,
-      h.same.1 ∙ before.4,
-      omega (arith, count, before.5, c.in_ok-answer.ensures.taken),
-    )
+pub loop-line-preserved : goal.loop-line-preserved
+loop-line-preserved c =
+    let h = c.loop-line.invariant in
+    let caller = c.loop-line.caller in
+    let after = c.next_line.new.self in
+    let t = c.in-Ok.ensures.made h.after h.agrees in
+    let endpoint = session_of c.args.role c.args.limits in
+    let same : endpoint ≡ session_of caller.session.role caller.session.limits = sym (ap₂ (λ (r : Role) (m : LimitsValue). session_of r m) h.same.0 h.same.1) in
+    next_played IsCallLine (λ (x : Call). x) reply_to endpoint c.args.text.now c.loop-line.rest.now c.in-Some.line.now c.in-Some.after.now caller.taken after.taken caller.session after.session (string_bytes caller.lines) (string_bytes after.lines)
+    c.in-Some.ensures.0 c.in-Some.ensures.1 h t.0 t.1 same t.2
 
-pub returns : goal.returns
-returns c =
-    let i = c.loop-call.invariant in
-    let v = c.loop-call.caller.session in
-    let status : IsStatusAfter (session_of c.args.role c.args.limits) i.0 v.status = subst (λ (m : LimitsValue). IsStatusAfter (session_of c.args.role m) i.0 v.status) i.4
-    (subst (λ (r : Role). IsStatusAfter (session_of r v.limits) i.0 v.status) i.3 (i.2.exchanged.events, i.2.exchanged.has_events, i.2.exchanged.status)) in
-    record {
-      after = i.0;
-      answers = subst (λ (l : List CallAnswer). AreAnswered (session_of c.args.role c.args.limits) new_exchange c.args.calls.now l i.0) (sym c.from_vec.ensures)
-          (subst (λ (l : List Call). AreAnswered (session_of c.args.role c.args.limits) new_exchange l c.loop-call.answers.items i.0) (take_all c.loop-call.call-index c.args.calls.now (omega (arith, c.loop-call-test.false))) i.1);
-      held = (c.held.result, refl, (v.status, status, held_there (is_over v.status) v i.0 c.held.result refl i.2.exchanged c.held.ensures.over c.held.ensures.held));
-      status = subst (λ s. IsStatusAfter (session_of c.args.role c.args.limits) i.0 s) (sym c.status.ensures) status;
-    }
+pub call_damage-requires : goal.call_damage-requires
+call_damage-requires c =
+    let h = c.loop-line.invariant in
+    let caller = c.loop-line.caller in
+    never_read IsCallLine (λ (x : Call). x) reply_to (session_of c.args.role c.args.limits) c.args.text.now c.loop-line.rest.now c.in-Some.line.now c.in-Some.after.now caller.taken caller.session (string_bytes caller.lines)
+    c.in-Some.ensures.0 c.in-Some.ensures.1 h (c.in-Err-Damaged.ensures.damaged c.in-Err-Damaged.field-0-is)
+
+pub call_damage-requires-then-not-is_empty : goal.call_damage-requires-then-not-is_empty
+call_damage-requires-then-not-is_empty c =
+    let h = c.loop-line.invariant in
+    let caller = c.loop-line.caller in
+    let rest = c.loop-line.rest.now in
+    let some : 0 < length rest = search rules in
+    never_ended IsCallLine (λ (x : Call). x) reply_to (session_of c.args.role c.args.limits) c.args.text.now rest caller.taken caller.session (string_bytes caller.lines)
+    c.in_default.ensures (λ none. omega (arith, some, ap (λ (l : List ℕ). length l) none)) h
+
+pub returns-in-Ok-end : goal.returns-in-Ok-end
+returns-in-Ok-end c =
+    let h = c.loop-line.invariant in
+    let caller = c.loop-line.caller in
+    let rest = c.loop-line.rest.now in
+    let short : length rest ≤ 0 = search rules in
+    let e = c.in-Ok-end.ensures in
+    session_told c.args.role c.args.limits c.args.text.now rest caller.taken caller.session (string_bytes caller.lines) (string_bytes c.in-Ok-end.lines) e.0 h (no_bytes rest short) e.1 e.2

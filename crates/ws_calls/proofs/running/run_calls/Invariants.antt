@@ -1,12 +1,13 @@
-use Rattle.std.proofs.Common.{◌≡◌, ◌≤◌, take}
-use Rattle.ws_session.specs.Exchange.{Exchange}
-use Rattle.ws_calls.specs.Calls.{AreAnswered, count_taken, new_exchange, session_of}
-use Rattle.ws_calls.specs.InnerSteps.{Agrees}
+use Rattle.std.proofs.Common.{length, string_bytes}
+use Rattle.ws_calls.specs.declared.calls.Call.{Call}
+use Rattle.ws_calls.specs.Calls.{session_of}
+use Rattle.ws_calls.specs.InnerSteps.{HasPlayed}
+use Rattle.ws_calls.specs.Script.{IsCallLine}
 use Rattle.ws_calls.proofs.running.run_calls.Given as goal
 
--- the calls so far were answered, and the session agrees with what it has then exchanged
-abbrev pub invariant-loop-call : goal.invariant-loop-call
-invariant-loop-call l = (after : Exchange) × AreAnswered (session_of l.fn.role l.fn.limits) new_exchange (take l.call-index l.calls) l.answers.items after
-    × Agrees after l.caller.taken l.caller.session
-    × (l.caller.session.role ≡ l.fn.role) × (l.caller.session.limits ≡ l.fn.limits)
-    × (l.caller.taken ≤ count_taken (take l.call-index l.calls))
+-- the calls of the lines before the rest were made and told
+abbrev pub invariant-loop-line : goal.invariant-loop-line
+invariant-loop-line l = HasPlayed IsCallLine (λ (x : Call). x) (session_of l.fn.role l.fn.limits) l.text l.rest l.caller.taken l.caller.session (string_bytes l.caller.lines)
+
+abbrev pub decreases-loop-line : goal.decreases-loop-line
+decreases-loop-line l = length l.rest

@@ -1,5 +1,5 @@
 -- Each word has one header more; one that is not parted stops them.
-use Rattle.std.proofs.Common.{rules, arith}
+use Rattle.std.proofs.Common.{arith}
 use Rattle.ws_connection.proofs.HeaderLemmas.{all_headers, no_headers, not_all_parted, one_header_more}
 use Rattle.ws_connection.proofs.request_headers.headers_in.Goals as goal
 

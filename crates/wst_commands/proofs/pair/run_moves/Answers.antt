@@ -1,4 +1,4 @@
-use Rattle.std.proofs.Common.{ℕ, List, inl, subst}
+use Rattle.std.proofs.Common.{inl, subst}
 use Rattle.ws_frame.specs.Devices.{watched}
 use Rattle.ws_session.specs.Limits.{LimitsValue}
 use Rattle.wst_commands.specs.Limits.{limits_given}
@@ -12,6 +12,5 @@ returns-in-Ok g c =
     let both = c.in-Some.ensures in
     let server = c.in-Some.limits.1 in
     let client = limits_given c.args.options.limit_client c.args.options.frame_client in
-    let played = subst (λ (t : List ℕ). AnswersScript c.in-Some.limits.0 server t c.answer.result output) c.as_slice.ensures.value c.answer.ensures in
-    let of_client = subst (λ (l : LimitsValue). AnswersScript l server text c.answer.result output) both.1 played in
+    let of_client = subst (λ (l : LimitsValue). AnswersScript l server text c.answer.result output) both.1 c.answer.ensures in
     inl (both.0, inl (text, c.in-Ok.ensures, subst (λ (l : LimitsValue). AnswersScript client l text c.answer.result output) both.2 of_client))

@@ -3,4 +3,4 @@ use Rattle.std.proofs.Common.{inl}
 use Rattle.wst_run.proofs.running.run_test.Goals as goal
 
 pub returns-in-Ok : goal.returns-in-Ok
-returns-in-Ok g c = inl (c.in-Ok.plan, c.in-Ok.ensures.plan, c.run_over_target.ensures)
+returns-in-Ok g c = inl (c.in-Ok.plan, c.in-Ok.ensures.plan, c.run_planned.ensures)

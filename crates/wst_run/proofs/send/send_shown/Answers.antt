@@ -3,8 +3,8 @@ use Rattle.std.proofs.Common.{◌≡◌, ◌∙◌, [], ap, inl, rules, subst}
 use Rattle.ws_frame.specs.Devices.{watched}
 use Rattle.ws_frame.specs.Watching.{has_failed, inner_of}
 use Rattle.ws_wire.specs.declared.role.Role.{Role}
-use Rattle.wst_run.specs.LineWriting.{HasWrittenRun}
-use Rattle.wst_run.proofs.LineLemmas.{nothing_written, shown_by}
+use Rattle.wst_testing.specs.LineWriting.{HasWrittenRun}
+use Rattle.wst_testing.proofs.LineLemmas.{nothing_written, shown_by}
 use Rattle.wst_run.proofs.send.send_shown.Goals as goal
 
 pub run_told-requires-clause-hearing : goal.run_told-requires-clause-hearing

@@ -3,8 +3,8 @@ use Rattle.std.proofs.Common.{subst, sym}
 use Rattle.std.proofs.KnownBytes.{Keeps-refl}
 use Rattle.ws_frame.specs.Devices.{watched}
 use Rattle.wst_run.specs.Send.{RunsSendPlan, SendsOver}
-use Rattle.wst_run.specs.Servers.{AddressValue, MeetsAtAddress}
-use Rattle.wst_run.specs.declared.run_plans.TestedEnd.{TestedEnd}
+use Rattle.wst_testing.specs.Servers.{AddressValue, MeetsAtAddress}
+use Rattle.wst_testing.specs.declared.run_plans.TestedEnd.{TestedEnd}
 use Rattle.wst_run.proofs.send.send_to_target.Goals as goal
 
 pub returns-in-Memory : goal.returns-in-Memory
@@ -29,11 +29,8 @@ returns-in-Server g c =
 pub returns-in-Clients : goal.returns-in-Clients
 returns-in-Clients g c =
     let plan = c.args.plan.now in
-    let input = watched g.R.Read.remaining c.args.reader.now c.args.reader.now in
-    let output = watched g.W.Write.contents c.args.writer.now c.args.writer.now in
-    let faults = watched g.F.Write.contents c.args.faults.now c.tell_fault.new.faults in
-    subst (λ (e : TestedEnd). SendsOver e plan c.tell_fault.result input output faults) (sym c.in-Clients.is) (
-      Keeps-refl input.old,
-      Keeps-refl output.old,
-      c.tell_fault.ensures.told,
-    )
+    let input = watched g.R.Read.remaining c.args.reader.now c.send_to_clients_at.new.reader in
+    let output = watched g.W.Write.contents c.args.writer.now c.send_to_clients_at.new.writer in
+    let faults = watched g.F.Write.contents c.args.faults.now c.send_to_clients_at.new.faults in
+    subst (λ (e : TestedEnd). SendsOver e plan c.send_to_clients_at.result input output faults) (sym c.in-Clients.is)
+    c.send_to_clients_at.ensures

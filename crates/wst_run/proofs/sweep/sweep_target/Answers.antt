@@ -3,8 +3,8 @@ use Rattle.std.proofs.Common.{subst, sym}
 use Rattle.std.proofs.KnownBytes.{Keeps-refl}
 use Rattle.ws_frame.specs.Devices.{watched}
 use Rattle.wst_run.specs.Sweep.{RunsSweepPlan, SweepsOver}
-use Rattle.wst_run.specs.Servers.{AddressValue, MeetsAtAddress}
-use Rattle.wst_run.specs.declared.run_plans.TestedEnd.{TestedEnd}
+use Rattle.wst_testing.specs.Servers.{AddressValue, MeetsAtAddress}
+use Rattle.wst_testing.specs.declared.run_plans.TestedEnd.{TestedEnd}
 use Rattle.wst_run.proofs.sweep.sweep_target.Goals as goal
 
 pub returns-in-Memory : goal.returns-in-Memory
@@ -27,9 +27,7 @@ returns-in-Server g c =
 pub returns-in-Clients : goal.returns-in-Clients
 returns-in-Clients g c =
     let plan = c.args.plan.now in
-    let output = watched g.W.Write.contents c.args.writer.now c.args.writer.now in
-    let faults = watched g.F.Write.contents c.args.faults.now c.tell_fault.new.faults in
-    subst (λ (e : TestedEnd). SweepsOver e plan c.tell_fault.result output faults) (sym c.in-Clients.is) (
-      Keeps-refl output.old,
-      c.tell_fault.ensures.told,
-    )
+    let output = watched g.W.Write.contents c.args.writer.now c.sweep_clients_at.new.writer in
+    let faults = watched g.F.Write.contents c.args.faults.now c.sweep_clients_at.new.faults in
+    subst (λ (e : TestedEnd). SweepsOver e plan c.sweep_clients_at.result output faults) (sym c.in-Clients.is)
+    c.sweep_clients_at.ensures

@@ -2,8 +2,8 @@
 use Rattle.std.proofs.Common.{◌≡◌, List, inl, slice_index_or, subst}
 use Rattle.ws_frame.specs.Devices.{watched}
 use Rattle.ws_scripts.specs.declared.script.Case.{Case}
-use Rattle.wst_run.specs.Testing.{RunsCapture}
-use Rattle.wst_run.specs.declared.testing.RunRules.{RunRules}
+use Rattle.wst_testing.specs.Testing.{RunsCapture}
+use Rattle.wst_testing.specs.declared.testing.RunRules.{RunRules}
 use Rattle.wst_commands.proofs.CaseLemmas.{only_one}
 use Rattle.wst_run.proofs.test.carry_out.Goals as goal
 

@@ -8,7 +8,7 @@ pub returns : goal.returns
 returns g c = (
   c.carry_out-ended.result,
   g.F.Write.contents (inner_of c.carry_out-ended.new.faults),
-  carries_on (g.S.CaseServer.meets c.args.server.now c.args.plan.now.run.key) c.args.plan.now c.carry_out-ended.result
+  carries_on (g.S.CaseServer.meets c.args.server.now c.args.plan.now.run.key) c.args.plan.now c.args.report.now c.carry_out-ended.result
       (watched g.W.Write.contents c.args.writer.now c.carry_out-ended.new.writer)
       (has_failed c.carry_out-ended.new.faults) (has_failed c.end_run.new.faults)
       (g.F.Write.contents (inner_of c.args.faults.now))

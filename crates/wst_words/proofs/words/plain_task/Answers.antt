@@ -1,7 +1,7 @@
 use Rattle.std.proofs.Common.{rules, ◌≡◌, List, Option, Some, codes}
 use Rattle.clap.specs.Words.{Row, Text, found_of, rows_of}
 use Rattle.wst_words.specs.Words.{CommandAsks, CommandAsksNothing}
-use Rattle.wst_words.proofs.OtherTasks.{no_judge, no_pair, no_serve, no_session, no_show}
+use Rattle.wst_words.proofs.OtherTasks.{no_judge, no_pair, no_serve, no_session, no_show, no_tap}
 use Rattle.wst_words.proofs.WordLemmas.{none_from}
 use Rattle.wst_words.proofs.words.plain_task.Goals as goal
 
@@ -39,3 +39,10 @@ returns-in_err-judge_options-in-judge c =
     let called : c.args.name.now ≡ codes "judge" = search rules in
     let none : CommandAsksNothing met = no_judge c.args.name.now (rows_of (found_of c.args.options.now)) called c.in_err-judge_options-in-judge.ensures in
     none_from c.from_residual-in_err-judge_options-in-judge.result (CommandAsksNothing met) (CommandAsks met) c.from_residual-in_err-judge_options-in-judge.ensures none
+
+pub returns-in_err-tap_options-in-tap : goal.returns-in_err-tap_options-in-tap
+returns-in_err-tap_options-in-tap c =
+    let met : Option (Text × List Row) = Some (c.args.name.now, rows_of (found_of c.args.options.now)) in
+    let called : c.args.name.now ≡ codes "tap" = search rules in
+    let none : CommandAsksNothing met = no_tap c.args.name.now (rows_of (found_of c.args.options.now)) called c.in_err-tap_options-in-tap.ensures in
+    none_from c.from_residual-in_err-tap_options-in-tap.result (CommandAsksNothing met) (CommandAsks met) c.from_residual-in_err-tap_options-in-tap.ensures none

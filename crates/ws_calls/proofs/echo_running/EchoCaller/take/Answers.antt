@@ -1,11 +1,40 @@
-use Rattle.std.proofs.Common.{rules, ◌≡◌, false}
+-- Whether the piece was taken or passed over.
+use Rattle.std.proofs.Common.{◌≡◌, ◌∙◌, ◌++◌, true, false, ℕ, ap, sym, subst, rules, string_bytes, Vec, Global}
 use Rattle.ws_session.specs.Exchange.{is_over}
 use Rattle.ws_session.specs.Replies.{echo_reply_to}
-use Rattle.ws_calls.proofs.Answering.{take_call}
+use Rattle.ws_calls.specs.declared.echo_running.EchoCaller.{EchoCaller}
+use Rattle.ws_calls.specs.declared.calls.Call.TheVariants.{Take}
+use Rattle.ws_calls.specs.declared.report.CallAnswer.TheVariants.{Taken}
+use Rattle.ws_calls.specs.CallLines.{answer_lines}
+use Rattle.ws_calls.specs.InnerSteps.{HasToldCall}
+use Rattle.ws_calls.proofs.Answering.{told_going, told_over}
+use Rattle.ws_calls.proofs.Sending.{endpoint_of}
+use Rattle.ws_calls.proofs.echo_running.EchoCaller.take.Goals.{then-not-is_over+in_ok-take_parts, else-not-is_over}
 use Rattle.ws_calls.proofs.echo_running.EchoCaller.take.Goals as goal
 
-pub returns-clause-answered : goal.returns-clause-answered
-returns-clause-answered c = λ exchange is.
-    let going : is_over c.args.self.now.echo.status ≡ false = search rules in
-    take_call echo_reply_to exchange c.args.self.now.taken c.args.self.now.echo c.args.piece.now c.args.key is c.take_all.new.self c.as_slice.result.now c.new-put.result.items c.take_all.new.out.items c.from_vec.result
-    c.new-events.result.items c.take_all.new.events.items c.in_ok-events.events c.len-len.result going c.as_slice.ensures c.new-put.ensures.items c.new-events.ensures.items c.in_ok-take_all.ensures.taken c.in_ok-events.ensures c.len-len.ensures c.from_vec.ensures
+pub returns : goal.returns
+returns c =
+    let old = c.args.self.now.echo in
+    let before = string_bytes c.args.self.now.lines in
+    let lines = string_bytes c.tell_answer.new.lines in
+    let answer = Taken c.new.result c.len.result c.from_vec.result in
+    elim c.if-not-is_over.branch [
+      | then-not-is_over+in_ok-take_parts w ↦ λ exchange is.
+          let after = w.take_parts.new.self in
+          let same : c.if-not-is_over.self ≡ after = search rules in
+          let same_put : c.if-not-is_over.put ≡ w.take_parts.new.put = search rules in
+          let going : is_over old.status ≡ false = search rules in
+          let h = w.in_ok-take_parts.ensures in
+          subst (λ (s : EchoCaller). HasToldCall (endpoint_of echo_reply_to old) exchange (Take c.args.piece.now c.args.key) before s.taken s.echo lines) (sym same)
+          (told_going echo_reply_to exchange c.args.self.now.taken old c.args.piece.now c.args.key is after.echo w.as_slice.result.now c.new-put.result.items w.take_parts.new.put.items c.from_vec.result before (string_bytes after.lines) lines
+          h.0 c.new.result after.taken c.len.result going w.as_slice.ensures c.new-put.ensures.items h.1 h.2 h.3 c.len.ensures c.new.ensures (c.from_vec.ensures ∙ ap (λ (v : Vec ℕ Global). v.items) same_put)
+          (c.in_ok-tell_answer.ensures ∙ ap (λ (s : EchoCaller). string_bytes s.lines ++ answer_lines answer) same))
+      | else-not-is_over w ↦ λ exchange is.
+          let same : c.if-not-is_over.self ≡ c.args.self.now = search rules in
+          let same_put : c.if-not-is_over.put ≡ c.new-put.result = search rules in
+          let over : is_over old.status ≡ true = search rules in
+          subst (λ (s : EchoCaller). HasToldCall (endpoint_of echo_reply_to old) exchange (Take c.args.piece.now c.args.key) before s.taken s.echo lines) (sym same)
+          (told_over echo_reply_to exchange c.args.self.now.taken old c.args.piece.now c.args.key is c.len.result c.from_vec.result before lines c.new.result over c.len.ensures c.new.ensures
+          (c.from_vec.ensures ∙ (ap (λ (v : Vec ℕ Global). v.items) same_put ∙ c.new-put.ensures.items))
+          (c.in_ok-tell_answer.ensures ∙ ap (λ (s : EchoCaller). string_bytes s.lines ++ answer_lines answer) same))
+    ]

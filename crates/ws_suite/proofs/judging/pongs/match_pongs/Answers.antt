@@ -1,40 +1,46 @@
-use Rattle.std.proofs.Common.{◌≡◌, ◌∙◌, ◌+◌, List, None, Bor, find, ap, sym, subst, drop, length, arith}
-use Rattle.std.proofs.lemmas.List.{drop-drop, length-drop, take_rest}
-use Rattle.std.specs.List.{drop-map}
+use Rattle.std.proofs.Common.{◌≡◌, ◌∙◌, ◌∷◌, List, None, find, ap, sym, subst, drop, length, rules, arith}
+use Rattle.std.proofs.lemmas.List.{drop-drop, length-drop}
 use Rattle.ws_suite.specs.declared.evidence.InTurn.{InTurn}
 use Rattle.ws_suite.specs.declared.evidence.Reply.{Reply}
-use Rattle.ws_suite.specs.InnerJudging.{targets}
-use Rattle.ws_suite.specs.Matching.{due_after, has_payload_of}
+use Rattle.ws_suite.specs.InnerJudging.{AreLastPlaces}
+use Rattle.ws_suite.specs.Kept.{reply_in}
+use Rattle.ws_suite.specs.Matching.{has_payload_of}
 use Rattle.ws_suite.specs.Verdicts.{is_before_match, is_unmatched}
-use Rattle.ws_suite.proofs.JudgeLemmas.{match_step, target_at}
+use Rattle.ws_suite.proofs.JudgeLemmas.{match_step}
 use Rattle.ws_suite.proofs.judging.pongs.match_pongs.Goals as goal
 
-pub loop-pong-preserved : goal.loop-pong-preserved
-loop-pong-preserved c =
-    let due = c.args.due.now in
-    let next = c.loop-pong.next in
-    let i = c.loop-pong.pong-index in
-    let pong = c.pong-item.result in
+pub loop-next-preserved : goal.loop-next-preserved
+loop-next-preserved c =
+    let i = c.loop-next.invariant in
+    let due = c.args.due in
+    let next = c.loop-next.next in
+    let here = c.loop-next.left in
+    let pong = reply_in c.in-Some.pong in
     let first = c.match_first-first.result in
-    let rest = take_rest due next in
-    let here = drop next due in
-    let laters = target_at c.args.got.now i pong c.loop-pong-test.true c.pong-item.is in
-    let early = subst (λ (l : List (Bor (InTurn Reply))). first.is_early ≡ is_before_match (pong.now, find (has_payload_of pong.now) (targets l))) rest c.match_first-first.ensures.early in
-    let unmatched = subst (λ (l : List (Bor (InTurn Reply))). first.is_unmatched ≡ is_unmatched (pong.now, find (has_payload_of pong.now) (targets l))) rest c.match_first-first.ensures.no_match in
-    let after = subst (λ (l : List (Bor (InTurn Reply))). targets (drop first.passed l) ≡ due_after pong.now (targets l)) rest c.match_first-first.ensures.left in
-    let left = ap (λ (l : List (Bor (InTurn Reply))). targets l) (sym (drop-drop first.passed next due)) ∙ after in
+    let e = c.match_first-first.ensures in
+    let laters : c.loop-next.got_left ≡ pong ∷ c.next.new.self = search rules in
     record {
-      within = omega (arith, c.loop-pong.invariant.within, c.match_first-first.ensures.within, ap (λ (l : List (Bor (InTurn Reply))). length l) rest, length-drop next due);
-      early = match_step is_before_match c.loop-pong.is_early first.is_early c.either-is_early.result _ pong.now (drop i (targets c.args.got.now)) (drop (i + 1) (targets c.args.got.now)) (targets here) (targets (drop (next + first.passed) due))
-          laters early left c.either-is_early.ensures c.loop-pong.invariant.early;
-      unmatched = match_step is_unmatched c.loop-pong.is_unmatched first.is_unmatched c.either-is_unmatched.result _ pong.now (drop i (targets c.args.got.now)) (drop (i + 1) (targets c.args.got.now)) (targets here) (targets (drop (next + first.passed) due))
-          laters unmatched left c.either-is_unmatched.ensures c.loop-pong.invariant.unmatched;
+      within = omega (
+        arith,
+        i.within,
+        e.within,
+        ap (λ (l : List (InTurn Reply)). length l) i.left,
+        length-drop next due,
+      );
+      left = sym (drop-drop first.passed next due)
+          ∙ (ap (λ (l : List (InTurn Reply)). drop first.passed l) i.left ∙ e.passed);
+      early = match_step is_before_match c.loop-next.is_early first.is_early c.either-is_early.result _
+          pong c.loop-next.got_left c.next.new.self here first.left
+          laters e.early e.left c.either-is_early.ensures i.early;
+      unmatched = match_step is_unmatched c.loop-next.is_unmatched first.is_unmatched c.either-is_unmatched.result _
+          pong c.loop-next.got_left c.next.new.self here first.left
+          laters e.no_match e.left c.either-is_unmatched.ensures i.unmatched;
     }
 
 pub match_first-first-requires : goal.match_first-first-requires
 match_first-first-requires c = λ no.
-    let due = c.args.due.now in
-    let next = c.loop-pong.next in
-    let none = c.is_left-is_left.ensures (targets due) c.in_ok-places.ensures no in
-    subst (λ (l : List (Bor (InTurn Reply))). find (has_payload_of c.pong-item.result.now) (targets l) ≡ None) (sym (take_rest due next))
-    (subst (λ (l : List (InTurn Reply)). find (has_payload_of c.pong-item.result.now) l ≡ None) (drop-map (λ (r : Bor (InTurn Reply)). r.now) next due) none)
+    let i = c.loop-next.invariant in
+    let places = subst (λ (l : List (InTurn Reply)). AreLastPlaces l c.in_ok-places.places)
+    c.again.ensures c.in_ok-places.ensures in
+    subst (λ (l : List (InTurn Reply)). find (has_payload_of (reply_in c.in-Some.pong)) l ≡ None)
+    i.left (c.is_left-is_left.ensures c.args.due places no)

@@ -1,15 +1,11 @@
-use Rattle.std.proofs.Common.{◌≡◌, ◌-◌, ◌≤◌, drop, length}
+use Rattle.std.proofs.Common.{◌≡◌, length}
 use Rattle.std.specs.List.{list_any, zip}
-use Rattle.ws_suite.specs.InnerJudging.{targets}
 use Rattle.ws_suite.specs.Verdicts.{is_before}
 use Rattle.ws_suite.proofs.judging.replies.any_before.Given as goal
 
 -- what is left decides
-abbrev pub invariant-loop-place : goal.invariant-loop-place
-invariant-loop-place l = record {
-  within : l.place ≤ length l.got;
-  left : list_any is_before (zip (drop l.place (targets l.got)) (drop l.place (targets l.due))) ≡ list_any is_before (zip (targets l.got) (targets l.due));
-}
+abbrev pub invariant-loop-one : goal.invariant-loop-one
+invariant-loop-one l = list_any is_before (zip l.left l.due_left) ≡ list_any is_before (zip l.fn.got l.fn.due)
 
-abbrev pub decreases-loop-place : goal.decreases-loop-place
-decreases-loop-place l = length l.got - l.place
+abbrev pub decreases-loop-one : goal.decreases-loop-one
+decreases-loop-one l = length l.left

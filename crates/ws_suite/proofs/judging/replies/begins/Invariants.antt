@@ -1,15 +1,13 @@
-use Rattle.std.proofs.Common.{◌-◌, ◌≤◌, drop, length}
-use Rattle.ws_suite.specs.InnerJudging.{targets}
+use Rattle.std.proofs.Common.{length}
 use Rattle.ws_suite.specs.Matching.{IsBeginningOf, bare}
 use Rattle.ws_suite.proofs.judging.replies.begins.Given as goal
 
 -- what is left decides
-abbrev pub invariant-loop-place : goal.invariant-loop-place
-invariant-loop-place l = record {
-  within : l.place ≤ length l.front;
-  back : IsBeginningOf (drop l.place (bare (targets l.front))) (drop l.place (bare (targets l.all))) → IsBeginningOf (bare (targets l.front)) (bare (targets l.all));
-  on : IsBeginningOf (bare (targets l.front)) (bare (targets l.all)) → IsBeginningOf (drop l.place (bare (targets l.front))) (drop l.place (bare (targets l.all)));
+abbrev pub invariant-loop-one : goal.invariant-loop-one
+invariant-loop-one l = record {
+  back : IsBeginningOf (bare l.left) (bare l.all_left) → IsBeginningOf (bare l.fn.front) (bare l.fn.all);
+  on : IsBeginningOf (bare l.fn.front) (bare l.fn.all) → IsBeginningOf (bare l.left) (bare l.all_left);
 }
 
-abbrev pub decreases-loop-place : goal.decreases-loop-place
-decreases-loop-place l = length l.front - l.place
+abbrev pub decreases-loop-one : goal.decreases-loop-one
+decreases-loop-one l = length l.left

@@ -1,0 +1,131 @@
+"""How much memory `wst session`, `judge` and `pair` hold over many small frames.
+
+Told is the peak of the resident memory above that over an empty input, in bytes of the input text. A program writes
+first when all is done; as its pipe is full, it stands still there, and its peak can be read.
+"""
+
+import os
+import subprocess
+import tempfile
+import time
+from pathlib import Path
+
+SIZE = 4_000_000  # bytes of an input
+MOST = 8  # times its bytes
+
+PING, PONG, TEXT = "898000000000", "8a8000000000", "81810000000061"  # of a client; the key is zero
+PING_BACK, PONG_BACK, TEXT_BACK = "8900", "8a00", "810161"  # of a server
+
+
+def rounds_of(text, share=1.0):
+    """The text as often as it goes into this share of SIZE."""
+    return text * int(SIZE * share / len(text))
+
+
+def capture(*lines):
+    return "\n".join(["wst-capture 2", "key 00000000", *lines, "end tester", ""])
+
+
+def taken(frames):
+    return f"take {frames} -\n"
+
+
+def arrived(sends, end):
+    return f"{sends}arrive {end} 4294967295 -\n"
+
+
+# What is run: its words, its empty input, and the inputs with their names.
+RUNS = [
+    (
+        ["judge"],
+        capture(),
+        {
+            "pings sent": capture("turn", f"> {rounds_of(PING)}"),
+            "pongs sent": capture("turn", f"> {rounds_of(PONG)}"),
+            "texts sent": capture("turn", f"> {rounds_of(TEXT)}"),
+            "pings got": capture("turn", f"< {rounds_of(PING_BACK)}"),
+            "pongs got": capture("turn", f"< {rounds_of(PONG_BACK)}"),
+            "texts got": capture("turn", f"< {rounds_of(TEXT_BACK)}"),
+            "pings and pongs": capture("turn", f"> {rounds_of(PING, 0.75)}", f"< {rounds_of(PONG_BACK, 0.25)}"),
+            "texts and texts": capture("turn", f"> {rounds_of(TEXT, 0.7)}", f"< {rounds_of(TEXT_BACK, 0.3)}"),
+        },
+    ),
+    *(
+        (
+            ["session", "--role", "server", *echo],
+            "",
+            {
+                "pings in a line": taken(rounds_of(PING)),
+                "pongs in a line": taken(rounds_of(PONG)),
+                "texts in a line": taken(rounds_of(TEXT)),
+                "a line for each ping": rounds_of(taken(PING)),
+                "a line for each pong": rounds_of(taken(PONG)),
+                "a line for each text": rounds_of(taken(TEXT)),
+            },
+        )
+        for echo in ([], ["--echo"])
+    ),
+    (
+        ["pair"],
+        "",
+        {
+            "pings": arrived(rounds_of("ping client - 00000000\n"), "server"),
+            "pongs": arrived(rounds_of("pong client - 00000000\n"), "server"),
+            "texts": arrived(rounds_of("begin client text fin 61 00000000\n"), "server"),
+            "pings of the server": arrived(rounds_of("ping server - -\n"), "client"),
+            "pongs of the server": arrived(rounds_of("pong server - -\n"), "client"),
+            "texts of the server": arrived(rounds_of("begin server text fin 61 -\n"), "client"),
+        },
+    ),
+]
+
+
+def tell_peaks(program):
+    """Prints a line for each input, and gives the greatest multiple."""
+    greatest = 0.0
+    for words, empty, inputs in RUNS:
+        least = peak([program, *words], empty)
+        for name, text in inputs.items():
+            times = (peak([program, *words], text) - least) / len(text)
+            greatest = max(greatest, times)
+            print(f"{times:>6.2f}  {' '.join(words)}: {name}", flush=True)
+    return greatest
+
+
+def peak(words, text):
+    """The most bytes that were resident before the first write."""
+    with tempfile.TemporaryFile() as file:
+        file.write(text.encode())
+        file.seek(0)
+        reader, writer = full_pipe()
+        with subprocess.Popen(words, stdin=file, stdout=writer, stderr=writer) as process:
+            os.close(writer)
+            while state_of(process.pid) == "R":
+                time.sleep(0.005)
+            bytes_held = held_by(process.pid)
+            os.close(reader)
+            process.kill()
+    return bytes_held
+
+
+def full_pipe():
+    """A pipe that takes no byte."""
+    reader, writer = os.pipe()
+    os.set_blocking(writer, False)
+    try:
+        while True:
+            os.write(writer, bytes(4096))
+    except BlockingIOError:
+        os.set_blocking(writer, True)
+    return reader, writer
+
+
+def state_of(pid):
+    """R while it runs or waits for a page, S where it waits for room in the pipe."""
+    state = Path(f"/proc/{pid}/stat").read_text(encoding="ascii").rpartition(") ")[2][0]
+    return {"D": "R"}.get(state, state)
+
+
+def held_by(pid):
+    status = Path(f"/proc/{pid}/status").read_text(encoding="ascii")
+    return int(status.split("VmHWM:")[1].split()[0]) * 1024

@@ -1,0 +1,271 @@
+//! Rows of a tapped connection.
+
+use crate::row_fault::RowFault;
+use crate::tap_devices::{Move, MoveReader, Moves, NoMoveLeft, NotingWriter};
+use crate::words::{bytes_of, most_of};
+use std::alloc::Global;
+use std::cell::RefCell;
+use std::fmt::Write;
+use ws_base::Payload;
+use ws_formats::Hex;
+use ws_frame::Watched;
+use ws_tap::{TapEnd, TapSide, tap_ends};
+use ws_wire::Role;
+
+/// Each order in which two ends send two pieces each.
+const ORDERS: [[Role; 4]; 6] = [
+    [Role::Client, Role::Client, Role::Server, Role::Server],
+    [Role::Client, Role::Server, Role::Client, Role::Server],
+    [Role::Client, Role::Server, Role::Server, Role::Client],
+    [Role::Server, Role::Client, Role::Client, Role::Server],
+    [Role::Server, Role::Client, Role::Server, Role::Client],
+    [Role::Server, Role::Server, Role::Client, Role::Client],
+];
+
+/// What a tap has told, and passed on.
+#[derive(Drop)]
+struct Tapped {
+    text: Vec<u8>,
+    to_server: NotingWriter,
+    to_client: NotingWriter,
+    end: TapEnd,
+}
+
+/// `tap NUMBER MOVE ..`: the lines that a tap tells of the connection of this number; `>` and what it writes to the
+/// server; `<` and what it writes to the client, each with `ended` where that direction was ended; and how it ended:
+/// `client` or `server`, whose direction ended first, or `broken` where no move is left. Behind `>` stand the moves of
+/// the client, behind `<` those of the server: pieces that it sends, and `end` where it ends its direction.
+pub fn tap_moves(alloc: Global, words: &[&str], out: &mut String) -> Result<(), RowFault> {
+    let [number, words @ ..] = words else {
+        return Err(RowFault::NotARow);
+    };
+    let moves = moves_of(alloc, words)?;
+    let tapped = tap(alloc, most_of(number)?, moves)?;
+    write!(out, "{}", Hex(tapped.text.as_slice()))?;
+    put_passed(out, ">", &tapped.to_server)?;
+    put_passed(out, "<", &tapped.to_client)?;
+    out.push_str(end_word(tapped.end))?;
+    Ok(())
+}
+
+/// `tap_orders NUMBER CLIENT SERVER`: each end sends its bytes in two pieces, cut at every place, and then ends its
+/// direction, in each order of the four pieces. The lines that are told of the client, and those of the server, where
+/// all these are the same and all bytes were passed on; else where they are not.
+pub fn tap_orders(alloc: Global, words: &[&str], out: &mut String) -> Result<(), RowFault> {
+    let [number, client, server] = words else {
+        return Err(RowFault::NotARow);
+    };
+    let number = most_of(number)?;
+    let (client, server) = (bytes_of(alloc, client)?, bytes_of(alloc, server)?);
+    let first = tap_cut(alloc, number, &client, 0, &server, 0)?;
+    for at in 0..=client.len() {
+        for place in 0..=server.len() {
+            let lines = tap_cut(alloc, number, &client, at, &server, place)?;
+            if lines.as_str() != first.as_str() {
+                write!(out, "differs at {at} and {place}: ")?;
+                out.push_str(lines.as_str())?;
+                return Ok(());
+            }
+        }
+    }
+    out.push_str(first.as_str())?;
+    Ok(())
+}
+
+/// What is told of the client, and of the server, where each sends its bytes in two pieces, in each order of them: the
+/// lines of the one that the first order gives, and those of the other; and which orders give others, or lose bytes.
+fn tap_cut(
+    alloc: Global,
+    number: u32,
+    client: &Payload,
+    at: usize,
+    server: &Payload,
+    place: usize,
+) -> Result<String, RowFault> {
+    let mut out = String::new(alloc);
+    for order in ORDERS {
+        let mut pieces = Pieces::cut(client, at, server, place);
+        let tapped = tap(alloc, number, pieces.in_order(alloc, order)?)?;
+        let lines = told_of_both(alloc, &tapped, client, server)?;
+        if out.is_empty() {
+            out = lines;
+        } else if out.as_str() != lines.as_str() {
+            write!(out, ", another order: {}", lines.as_str())?;
+        }
+    }
+    Ok(out)
+}
+
+/// The pieces of both ends that are left.
+#[derive(Drop)]
+struct Pieces<'a> {
+    client: [&'a [u8]; 2],
+    server: [&'a [u8]; 2],
+    of_client: usize,
+    of_server: usize,
+}
+
+impl<'a> Pieces<'a> {
+    /// Two pieces of each end.
+    fn cut(client: &'a Payload, at: usize, server: &'a Payload, place: usize) -> Pieces<'a> {
+        Pieces {
+            client: halves(client.as_slice(), at),
+            server: halves(server.as_slice(), place),
+            of_client: 0,
+            of_server: 0,
+        }
+    }
+
+    /// The moves of both ends in this order, which both end then.
+    fn in_order(&mut self, alloc: Global, order: [Role; 4]) -> Result<Vec<Move>, RowFault> {
+        let mut moves = Vec::new(alloc);
+        for by in order {
+            let piece = self.next(by);
+            if !piece.is_empty() {
+                let mut bytes = Vec::new(alloc);
+                bytes.extend_from_slice(piece)?;
+                moves.push(Move { by, bytes })?;
+            }
+        }
+        for by in [Role::Client, Role::Server] {
+            moves.push(Move {
+                by,
+                bytes: Vec::new(alloc),
+            })?;
+        }
+        Ok(moves)
+    }
+
+    /// The next piece of this end.
+    fn next(&mut self, by: Role) -> &'a [u8] {
+        let (pieces, at) = match by {
+            Role::Client => (self.client, self.of_client),
+            Role::Server => (self.server, self.of_server),
+        };
+        match by {
+            Role::Client => self.of_client = at.saturating_add(1),
+            Role::Server => self.of_server = at.saturating_add(1),
+        }
+        pieces.get(at).copied().unwrap_or(&[])
+    }
+}
+
+/// The bytes up to this place, and those behind it.
+fn halves(bytes: &[u8], at: usize) -> [&[u8]; 2] {
+    let at = at.min(bytes.len());
+    [&bytes[..at], &bytes[at..]]
+}
+
+/// The lines of the client, those of the server, and whether all that they sent was passed on, with their ends.
+fn told_of_both(
+    alloc: Global,
+    tapped: &Tapped,
+    client: &Payload,
+    server: &Payload,
+) -> Result<String, RowFault> {
+    let Ok(text) = str::from_utf8(tapped.text.as_slice()) else {
+        return Err(RowFault::NotARow);
+    };
+    let mut out = String::new(alloc);
+    for mark in [" > ", " < "] {
+        let mut lines = Vec::new(alloc);
+        for line in text.lines() {
+            if line.contains(mark) {
+                lines.extend_from_slice(line.as_bytes())?;
+                lines.push(b'\n')?;
+            }
+        }
+        write!(out, "{} ", Hex(lines.as_slice()))?;
+    }
+    let is_passed = has_got(&tapped.to_server, client) && has_got(&tapped.to_client, server);
+    out.push_str(if is_passed {
+        "passed on"
+    } else {
+        "not passed on"
+    })?;
+    Ok(out)
+}
+
+/// Whether all these bytes were written, and the direction was ended behind them.
+fn has_got(writer: &NotingWriter, bytes: &Payload) -> bool {
+    writer.is_ended && writer.taken.as_slice() == bytes.as_slice()
+}
+
+/// What a tap of the connection of this number tells and passes on where its ends make these moves.
+fn tap(alloc: Global, number: u32, moves: Vec<Move>) -> Result<Tapped, RowFault> {
+    let moves = RefCell::new(Moves::new(moves));
+    let mut client = side_of(alloc, &moves, Role::Client);
+    let mut server = side_of(alloc, &moves, Role::Server);
+    let mut output = Watched::new(Vec::new(alloc));
+    let ended = tap_ends(
+        number,
+        &mut client,
+        &mut server,
+        &mut NoMoveLeft {},
+        &mut output,
+    );
+    let Ok(end) = ended else {
+        return Err(RowFault::NoMemory);
+    };
+    Ok(Tapped {
+        text: output.into_inner(),
+        to_server: server.writer,
+        to_client: client.writer,
+        end,
+    })
+}
+
+/// The moves that words spell.
+fn moves_of(alloc: Global, words: &[&str]) -> Result<Vec<Move>, RowFault> {
+    let mut moves = Vec::new(alloc);
+    let mut by = Role::Client;
+    for word in words {
+        match *word {
+            ">" => by = Role::Client,
+            "<" => by = Role::Server,
+            "end" => moves.push(Move {
+                by,
+                bytes: Vec::new(alloc),
+            })?,
+            _ => push_piece(alloc, word, by, &mut moves)?,
+        }
+    }
+    Ok(moves)
+}
+
+/// Puts the piece of an end behind the moves, where it has bytes.
+fn push_piece(alloc: Global, word: &str, by: Role, moves: &mut Vec<Move>) -> Result<(), RowFault> {
+    let bytes = bytes_of(alloc, word)?.into_vec();
+    if !bytes.is_empty() {
+        moves.push(Move { by, bytes })?;
+    }
+    Ok(())
+}
+
+/// One end of the connection.
+fn side_of<'a>(
+    alloc: Global,
+    moves: &'a RefCell<Moves>,
+    by: Role,
+) -> TapSide<MoveReader<'a>, NotingWriter> {
+    TapSide {
+        reader: MoveReader::of(moves, by),
+        writer: NotingWriter::new(alloc),
+    }
+}
+
+/// Puts what was written to an end.
+fn put_passed(out: &mut String, mark: &str, writer: &NotingWriter) -> Result<(), RowFault> {
+    let ended = if writer.is_ended { " ended" } else { "" };
+    write!(out, " {mark} {}{ended}", Hex(writer.taken.as_slice()))?;
+    Ok(())
+}
+
+/// The word for an end.
+fn end_word<'a>(end: TapEnd) -> &'a str {
+    match end {
+        TapEnd::Ended(Role::Client) => ", client",
+        TapEnd::Ended(Role::Server) => ", server",
+        TapEnd::Broken => ", broken",
+    }
+}

@@ -1,0 +1,5 @@
+mod Cuts
+mod Parts
+mod Knowing
+mod Escapes
+mod Noted

@@ -1,0 +1,45 @@
+-- Inside the crate: where bytes are cut. A reader may skip it.
+use Rattle.std.specs.Prelude.{◌≡◌, ◌≢◌, ◌⊎◌, ℕ, ◌≤◌, length, All, List, [], ◌∷◌, ◌++◌, Option, MatchOption, codes, string_bytes}
+use Rattle.std.specs.Borrow.{Bor}
+use Rattle.ws_reports.specs.KnownLines.{HasCount, IsCaseLine, IsRemark}
+use Rattle.ws_reports.specs.Verdicts.{IsVerdict}
+use Rattle.ws_reports.specs.declared.known_line.KnownLine.{KnownLine}
+use Rattle.ws_reports.specs.declared.known_line.KnownLine.TheVariants.{Other, Verdict}
+
+-- the bytes are front, the first of these marks, and back
+abbrev pub IsCutAtFirst : ℕ → List ℕ → List ℕ → List ℕ → Type 0
+IsCutAtFirst mark bytes front back = (bytes ≡ front ++ mark ∷ back) × All (λ byte. byte ≢ mark) front
+
+-- the bytes cut so, or none of them is the mark
+abbrev pub CutsAtFirst : ℕ → List ℕ → Option (Bor (List ℕ) × Bor (List ℕ)) → Type 0
+CutsAtFirst mark bytes result =
+    MatchOption result (All (λ byte. byte ≢ mark) bytes) (λ parts. IsCutAtFirst mark bytes parts.0.now parts.1.now)
+
+-- nothing, or a space and an opening bracket and more
+abbrev pub BeginsRemark : List ℕ → Type 0
+BeginsRemark remark = (remark ≡ []) ⊎ ((more : List ℕ) × (remark ≡ codes " (" ++ more))
+
+-- The bytes are words and a remark; and where they are words without a bracket and what begins as a remark does, they
+-- are those.
+abbrev pub CutsRemark : List ℕ → List ℕ → List ℕ → Type 0
+CutsRemark behind words remark = (behind ≡ words ++ remark)
+    × ((front : List ℕ) (back : List ℕ) → behind ≡ front ++ back → All (λ byte. byte ≢ 40) front → BeginsRemark back
+    → (words ≡ front) × (remark ≡ back))
+
+-- the line tells this of a case
+abbrev pub IsCaseRead : List ℕ → KnownLine → Type 0
+IsCaseRead line (Verdict id words) = IsCaseLine id (string_bytes words) line
+IsCaseRead line Other = ⊥
+
+-- the line is that of no case
+abbrev pub TellsNoCase : List ℕ → Type 0
+TellsNoCase line = (id : List ℕ) (words : List ℕ) → IsCaseLine id words line → ⊥
+
+-- the name of a case, the words of a verdict and what may stand behind them, as far as their cut doesn't tell it
+abbrev pub AreParts : List ℕ → List ℕ → List ℕ → Type 0
+AreParts id words remark = (1 ≤ length id) × IsVerdict words × IsRemark remark
+
+-- the first two counts of a total, and what stands behind them
+abbrev pub CountsPasses : List ℕ → List ℕ → Type 0
+CountsPasses rest line = (behind_pass : List ℕ) × HasCount (codes "pass, ") behind_pass line
+    × HasCount (codes "loose, ") rest behind_pass

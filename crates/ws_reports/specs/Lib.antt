@@ -1,0 +1,10 @@
+pub mod Verdicts
+pub mod KnownLines
+pub mod Known
+pub mod Told
+pub mod Remarks
+pub mod Escaping
+pub mod Junit
+pub mod Reports
+pub mod Examples
+pub mod Cutting

@@ -1,0 +1,56 @@
+//! The parts of a JUnit document.
+
+ghost use Rattle.std.specs.Prelude.{◌≡◌, IfOk, string_bytes};
+ghost use Rattle.ws_reports.specs.Junit.{failed_case, junit_start, noted_case, passed_case};
+
+use crate::escaping::{Escaped, Quoted};
+use std::alloc::Global;
+use ws_base::NoMemory;
+
+/// What ends a document.
+pub(crate) const END: &str = "</testsuite></testsuites>\n";
+
+/// What begins a document about a target.
+pub(crate) fn junit_start(alloc: Global, target: &str) -> Result<String, NoMemory>
+    ensures { IfOk result (λ text. string_bytes text ≡ junit_start target.now) }
+{
+    let target = Quoted(target.as_bytes());
+    Ok(format!(in alloc;
+        "<?xml version=\"1.0\" encoding=\"UTF-8\"?>\n<testsuites><testsuite name=\"wst {target}\">\n"
+    )?)
+}
+
+/// The element of a case of which nothing is told.
+pub(crate) fn passed_case(alloc: Global, id: &str) -> Result<String, NoMemory>
+    ensures { IfOk result (λ text. string_bytes text ≡ passed_case id.now) }
+{
+    let id = Quoted(id.as_bytes());
+    Ok(format!(in alloc; "<testcase classname=\"wst\" name=\"{id}\"/>\n")?)
+}
+
+/// The element of a case that failed, with these words and lines.
+pub(crate) fn failed_case(
+    alloc: Global,
+    id: &str,
+    words: &str,
+    below: &str,
+) -> Result<String, NoMemory>
+    ensures { IfOk result (λ text. string_bytes text ≡ failed_case id.now words.now below.now) }
+{
+    let id = Quoted(id.as_bytes());
+    let words = Quoted(words.as_bytes());
+    let below = Escaped(below.as_bytes());
+    Ok(format!(in alloc;
+        "<testcase classname=\"wst\" name=\"{id}\"><failure message=\"{words}\">\n{below}</failure></testcase>\n"
+    )?)
+}
+
+/// The element of a case that did not fail, and of which this text is told.
+pub(crate) fn noted_case(alloc: Global, id: &str, text: &str) -> Result<String, NoMemory>
+    ensures { IfOk result (λ element. string_bytes element ≡ noted_case id.now text.now) }
+{
+    let (id, text) = (Quoted(id.as_bytes()), Escaped(text.as_bytes()));
+    Ok(format!(in alloc;
+        "<testcase classname=\"wst\" name=\"{id}\"><system-out>{text}</system-out></testcase>\n"
+    )?)
+}

@@ -1,0 +1,135 @@
+//! How a run tells what comes of its cases.
+
+ghost use Rattle.std.specs.Prelude.{◌≡◌, IfOk, false, true, string_bytes, if◌then◌else◌};
+ghost use Rattle.ws_reports.specs.Junit.{noted_case, noted_text};
+ghost use Rattle.ws_reports.specs.Remarks.{remark_on, remark_words, told_failed};
+ghost use Rattle.ws_reports.specs.Reports.{case_element, case_text, end_text, start_text, told_words};
+ghost use Rattle.ws_reports.specs.Told.{texts_of};
+
+use crate::junit::{END, failed_case, junit_start, noted_case, passed_case};
+use crate::known::KnownVerdicts;
+use crate::remark::Remark;
+use crate::told::Told;
+use crate::verdict_words::{is_same_verdict, tells_fail};
+use std::alloc::Global;
+use std::marker::Model;
+use ws_base::NoMemory;
+
+/// How a run tells what comes of its cases: whether as a JUnit document, and beside which earlier run, if one is known.
+#[derive(Drop)]
+pub struct Report {
+    is_junit: bool,
+    known: Option<KnownVerdicts>,
+}
+
+impl Model for Report {
+    ghost use Rattle.ws_reports.specs.Reports.{ReportValue};
+
+    ghost Value = { ReportValue };
+
+    ghost view = { λ report. record { is_junit = report.is_junit; known = report.known } };
+}
+
+impl Report {
+    /// Lines, or a JUnit document, beside the earlier run that is known.
+    pub fn new(is_junit: bool, known: Option<KnownVerdicts>) -> Report
+        ensures junit { result.is_junit ≡ is_junit }
+        ensures known { result.known ≡ known }
+    {
+        Report { is_junit, known }
+    }
+
+    /// Whether it is a JUnit document.
+    pub fn is_junit(&self) -> bool
+        ensures { result ≡ self.now.is_junit }
+    {
+        self.is_junit
+    }
+
+    /// What is written before any case runs.
+    pub fn start_text(&self, alloc: Global, target: &str) -> Result<String, NoMemory>
+        ensures { IfOk result (λ text. string_bytes text ≡ start_text self.now target.now) }
+    {
+        if self.is_junit {
+            junit_start(alloc, target)
+        } else {
+            Ok(String::new(alloc))
+        }
+    }
+
+    /// What is written of a case.
+    pub fn case_text(&self, alloc: Global, told: Told<'_>) -> Result<String, NoMemory>
+        ensures { IfOk result (λ text. string_bytes text ≡ case_text self.now (texts_of told.entry)) }
+    {
+        let words = self.words_text(alloc, told)?;
+        if self.is_junit {
+            return self.element_text(alloc, told, words.as_str());
+        }
+        Ok(format!(in alloc; "{} {words}\n{}", told.id, told.below)?)
+    }
+
+    /// The element of a case in a JUnit document.
+    fn element_text(&self, alloc: Global, told: Told<'_>, words: &str) -> Result<String, NoMemory>
+        requires { words.now ≡ told_words self.now (texts_of told) }
+        ensures { IfOk result (λ text. string_bytes text ≡ case_element self.now (texts_of told.entry)) }
+    {
+        if self.is_failed(told) {
+            failed_case(alloc, told.id, words, told.below)
+        } else if told.verdict == "PASS" {
+            passed_case(alloc, told.id)
+        } else {
+            noted_element(alloc, told, words)
+        }
+    }
+
+    /// The words of a case's verdict, and what stands behind them.
+    fn words_text(&self, alloc: Global, told: Told<'_>) -> Result<String, NoMemory>
+        ensures { IfOk result (λ text. string_bytes text ≡ told_words self.now (texts_of told.entry)) }
+    {
+        Ok(format!(in alloc; "{}{}", told.verdict, self.remark(told))?)
+    }
+
+    /// What stands behind the verdict of a case.
+    fn remark(&self, told: Told<'_>) -> Remark<'_>
+        ensures { remark_words result ≡ remark_on self.now.known (texts_of told.entry) }
+    {
+        let Some(known) = &self.known else {
+            return Remark::Nothing;
+        };
+        match known.verdict_of(told.id) {
+            None => Remark::New,
+            Some(words) if words == told.verdict => Remark::Nothing,
+            Some(words) => Remark::Was(words),
+        }
+    }
+
+    /// Whether a run of this case alone would be said to have failed: where no earlier run is known, its verdict is a
+    /// Fail; else it is new, or doesn't count as the same.
+    pub fn is_failed(&self, told: Told<'_>) -> bool
+        ensures { result ≡ told_failed self.now.known (texts_of told.entry) }
+    {
+        let Some(known) = &self.known else {
+            return tells_fail(told.verdict.as_bytes());
+        };
+        match known.verdict_of(told.id) {
+            None => true,
+            Some(words) => !is_same_verdict(words.as_bytes(), told.verdict.as_bytes()),
+        }
+    }
+
+    /// What is written last, in place of the total that is given where it is a JUnit document.
+    pub fn end_text<'a>(&self, total: &'a str) -> &'a str
+        ensures { result.now ≡ end_text self.now total.now }
+    {
+        if self.is_junit { END } else { total }
+    }
+}
+
+/// The element of a case that did not fail, with these words.
+fn noted_element(alloc: Global, told: Told<'_>, words: &str) -> Result<String, NoMemory>
+    ensures { IfOk result (λ text. string_bytes text
+        ≡ noted_case told.entry.id.now (noted_text words.now told.entry.below.now)) }
+{
+    let text = format!(in alloc; "{words}\n{}", told.below)?;
+    noted_case(alloc, told.id, text.as_str())
+}

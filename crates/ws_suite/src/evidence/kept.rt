@@ -1,0 +1,177 @@
+//! Replies that take little room: their payloads stand one behind the other, and each reply has a small head.
+
+ghost use Rattle.std.specs.Prelude.{◌≡◌, ◌↔◌, ◌≤◌, ◌∷◌, ◌++◌, [], length, IsTrue, OnOk};
+ghost use Rattle.ws_suite.specs.Kept.{first_of, reply_of, what_of};
+
+use crate::evidence::{InTurn, Reply};
+use std::alloc::Global;
+use std::marker::Model;
+use ws_base::NoMemory;
+use ws_session::Kind;
+
+/// What a reply is, but for its payload.
+#[derive(Clone, Copy)]
+pub enum ReplyKind {
+    Text,
+    Binary,
+    Pong,
+    Ping,
+}
+
+/// The head of a reply: its turn, what it is, and how many bytes its payload has.
+#[derive(Clone, Copy)]
+pub(crate) struct Head {
+    pub turn: usize,
+    pub len: u32,
+    pub kind: ReplyKind,
+}
+
+/// Replies in their order, each with its turn. Contracts see the list of them.
+#[derive(Drop)]
+pub struct Replies {
+    heads: Vec<Head>,
+    payloads: Vec<u8>,
+}
+
+impl Model for Replies {
+    ghost use Rattle.std.specs.Prelude.{◌≡◌, List, length};
+    ghost use Rattle.ws_suite.specs.declared.evidence.InTurn.{InTurn};
+    ghost use Rattle.ws_suite.specs.declared.evidence.Reply.{Reply};
+    ghost use Rattle.ws_suite.specs.Kept.{payloads_len, kept_replies};
+
+    ghost Value = { List (InTurn Reply) };
+
+    ghost view = { λ r. kept_replies r.heads.items r.payloads.items };
+
+    ghost invariant = { λ r. payloads_len r.heads.items ≡ length r.payloads.items };
+}
+
+impl Replies {
+    /// No replies.
+    pub(crate) fn new(alloc: Global) -> Replies
+        ensures { result ≡ [] }
+    {
+        Replies {
+            heads: Vec::new(alloc),
+            payloads: Vec::new(alloc),
+        }
+    }
+
+    /// One more reply.
+    pub(crate) fn push(&mut self, reply: &InTurn<Reply>) -> Result<(), NoMemory>
+        ensures { OnOk result (self.new ≡ self.old ++ reply.now ∷ []) }
+    {
+        let (kind, payload) = parts(&reply.what);
+        // No payload is longer than the longest message.
+        let Ok(len) = u32::try_from(payload.len()) else {
+            return Err(NoMemory);
+        };
+        self.heads.reserve(1)?;
+        self.payloads.extend_from_slice(payload)?;
+        self.heads.push_reserved(Head {
+            turn: reply.turn,
+            len,
+            kind,
+        });
+        Ok(())
+    }
+
+    /// The replies, one after the other.
+    pub fn iter(&self) -> Walk<'_>
+        ensures { result ≡ self.now }
+    {
+        Walk {
+            heads: self.heads.as_slice(),
+            payloads: self.payloads.as_slice(),
+        }
+    }
+}
+
+/// What a reply is, and its payload.
+fn parts(reply: &Reply) -> (ReplyKind, &[u8])
+    ensures { reply_of result.0 result.1.now ≡ reply.now }
+{
+    match reply {
+        Reply::Message(message) => match message.kind {
+            Kind::Text => (ReplyKind::Text, message.payload.as_slice()),
+            Kind::Binary => (ReplyKind::Binary, message.payload.as_slice()),
+        },
+        Reply::Pong(payload) => (ReplyKind::Pong, payload.as_slice()),
+        Reply::Ping(payload) => (ReplyKind::Ping, payload.as_slice()),
+    }
+}
+
+/// A reply that is kept.
+#[derive(Clone, Copy)]
+pub struct Kept<'a> {
+    pub turn: usize,
+    pub kind: ReplyKind,
+    pub payload: &'a [u8],
+}
+
+/// The replies that are still to come. Contracts see the list of them.
+#[derive(Drop)]
+pub struct Walk<'a> {
+    heads: &'a [Head],
+    payloads: &'a [u8],
+}
+
+impl<'a> Model for Walk<'a> {
+    ghost use Rattle.std.specs.Prelude.{◌≡◌, List, length};
+    ghost use Rattle.ws_suite.specs.declared.evidence.InTurn.{InTurn};
+    ghost use Rattle.ws_suite.specs.declared.evidence.Reply.{Reply};
+    ghost use Rattle.ws_suite.specs.Kept.{payloads_len, kept_replies};
+
+    ghost Value = { List (InTurn Reply) };
+
+    ghost view = { λ w. kept_replies w.heads.now w.payloads.now };
+
+    ghost invariant = { λ w. payloads_len w.heads.now ≡ length w.payloads.now };
+}
+
+impl<'a> Walk<'a> {
+    /// The next reply, if there is one.
+    pub fn next(&mut self) -> Option<Kept<'a>>
+        ensures { self.old ≡ first_of result self.new }
+    {
+        let (head, heads) = self.heads.split_first()?;
+        let (payload, payloads) = self.payloads.split_at(head.len as usize);
+        self.heads = heads;
+        self.payloads = payloads;
+        Some(Kept {
+            turn: head.turn,
+            kind: head.kind,
+            payload,
+        })
+    }
+
+    /// The same replies once more.
+    pub(crate) fn again(&self) -> Walk<'a>
+        ensures { result ≡ self.now }
+    {
+        Walk {
+            heads: self.heads,
+            payloads: self.payloads,
+        }
+    }
+
+    /// No more replies than this are to come.
+    pub(crate) fn most(&self) -> usize
+        ensures { length self.now ≤ result }
+    {
+        self.heads.len()
+    }
+}
+
+/// Whether two replies are one, whatever their turns.
+pub(crate) fn is_same(one: &Kept<'_>, other: &Kept<'_>) -> bool
+    ensures { IsTrue result ↔ (what_of one.now ≡ what_of other.now) }
+{
+    match (one.kind, other.kind) {
+        (ReplyKind::Text, ReplyKind::Text)
+        | (ReplyKind::Binary, ReplyKind::Binary)
+        | (ReplyKind::Pong, ReplyKind::Pong)
+        | (ReplyKind::Ping, ReplyKind::Ping) => one.payload == other.payload,
+        _ => false,
+    }
+}

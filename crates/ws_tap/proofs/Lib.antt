@@ -1,0 +1,11 @@
+pub mod Rooms
+pub mod FirstLines
+pub mod Passing
+pub mod HeadLemmas
+pub mod HeadStarts
+pub mod Keeping
+pub mod Sides
+pub mod ServerLemmas
+pub mod ClientLemmas
+pub mod TapLemmas
+pub mod RunLemmas

@@ -1,0 +1,146 @@
+-- Where the lines of a server stand behind each step.
+use Rattle.std.proofs.Common.{◌≡◌, ℕ, ◌+◌, ◌^◌, ◌<◌, false, List, [], ◌++◌, length, take, drop, refl, sym, ap, ◌∙◌}
+use Rattle.std.proofs.Common.{append-nil, append_assoc, inl, inr, arith, subst}
+use Rattle.std.proofs.lemmas.List.{length-drop}
+use Rattle.ws_frame.specs.declared.showing.StreamEnd.{StreamEnd}
+use Rattle.ws_frame.specs.declared.stream_lines.StreamLines.{StreamLines}
+use Rattle.ws_frame.specs.Lines.{AreLinesOf}
+use Rattle.ws_frame.specs.Streaming.{HasShown, HasRoomFor, source_of}
+use Rattle.ws_tap.specs.declared.heads.HeadKind.TheVariants.{Response}
+use Rattle.ws_tap.specs.declared.heads.Head.{Head}
+use Rattle.ws_tap.specs.declared.head_room.HeadFound.{HeadFound}
+use Rattle.ws_tap.specs.declared.server_lines.ServerStage.{ServerStage}
+use Rattle.ws_tap.specs.declared.server_lines.ServerStage.TheVariants as server
+use Rattle.ws_tap.specs.Heads.{HasHead}
+use Rattle.ws_tap.specs.Texts.{source_at, head_line, Sent, Switches, IsServerText}
+use Rattle.ws_tap.specs.Standing.{LooksIn, IsFoundWith, ServerStandsAt, StandsBehindResponse, UsesPiece}
+use Rattle.ws_tap.specs.Standing.{is_behind_response, with_bytes, with_its_end}
+use Rattle.ws_tap.proofs.HeadLemmas.{head_stays}
+use Rattle.ws_tap.proofs.Sides.{all_of, front_stays, behind_grows, behind_found, found_line, shown_open, open_shown}
+use Rattle.ws_tap.proofs.Sides.{lines_to}
+
+pub server_at : (stage other : ServerStage) (number : ℕ) (sent : Sent) (text : List ℕ) → stage ≡ other
+    → ServerStandsAt stage number sent text → ServerStandsAt other number sent text
+server_at stage other number sent text e s = subst (λ (t : ServerStage). ServerStandsAt t number sent text) e s
+
+pub server_no_head : (room : List ℕ) (number : ℕ) (sent : Sent) (text piece : List ℕ)
+    → LooksIn Response room (sent.bytes ++ piece) → text ≡ []
+    → ServerStandsAt (server.Head room) number (with_bytes sent (take (length piece) piece)) (text ++ [])
+server_no_head room number sent text piece l none =
+    (subst (λ (t : List ℕ). LooksIn Response room (sent.bytes ++ t)) (sym (all_of piece)) l, append-nil text ∙ none)
+
+pub server_found : (stage : ServerStage) (number at : ℕ) (sent : Sent) (text piece : List ℕ) (found : HeadFound)
+    → at ≡ number → text ≡ [] → sent.ended ≡ false → IsFoundWith Response at sent.bytes piece found
+    → StandsBehindResponse at found.head.status stage
+    → UsesPiece false (is_behind_response stage) (length piece) found.used
+    × ServerStandsAt stage number (with_bytes sent (take found.used piece)) (text ++ found.line)
+server_found (server.Head room) number at sent text piece found en none going f b = absurd b
+server_found (server.Frames lines) number at sent text piece found en none going f (switches, source, shown) = (
+  (f.used, (λ e. absurd cc), (λ e. absurd cc)),
+  (
+    found.head,
+    [],
+    f.has,
+    switches,
+    ap (λ (t : List ℕ). t ++ found.line) none ∙ found_line Response at sent.bytes piece found f
+        ∙ ap (λ n. head_line (source_at Response n) (take found.head.len (sent.bytes ++ take found.used piece)) ++ [])
+        en,
+    source ∙ ap (λ n. source_at Response n) en,
+    open_shown sent.ended lines [] (drop found.head.len (sent.bytes ++ take found.used piece)) [] [] going
+        (sym (behind_found Response at sent.bytes piece found f)) refl shown,
+  ),
+)
+server_found server.Other number at sent text piece found en none going f other = (
+  (f.used, (λ e. absurd cc), (λ e. absurd cc)),
+  (
+    found.head,
+    f.has,
+    other,
+    ap (λ (t : List ℕ). t ++ found.line) none ∙ found_line Response at sent.bytes piece found f ∙ append-nil _
+        ∙ ap (λ n. head_line (source_at Response n) (take found.head.len (sent.bytes ++ take found.used piece))) en,
+  ),
+)
+
+-- the stream behind the head, and room in it
+pub server_room : (lines : StreamLines) (number count : ℕ) (sent : Sent) (text : List ℕ) → sent.ended ≡ false
+    → length sent.bytes + count < 2 ^ 64 → ServerStandsAt (server.Frames lines) number sent text
+    → HasRoomFor count lines
+server_room lines number count sent text going small (head, shown, has, switches, is, source, s) = (
+  drop head.len sent.bytes,
+  shown,
+  shown_open sent.ended lines (drop head.len sent.bytes) shown going s,
+  omega
+      (arith, small, length-drop head.len sent.bytes),
+)
+
+pub server_more : (lines new : StreamLines) (number : ℕ) (sent : Sent) (text more piece : List ℕ) (head : Head)
+    (shown : List ℕ) → HasHead Response sent.bytes head → Switches head
+    → text ≡ head_line (source_at Response number) (take head.len sent.bytes) ++ shown
+    → source_of lines ≡ source_at Response number → source_of new ≡ source_of lines → sent.ended ≡ false
+    → HasShown new (drop head.len sent.bytes ++ piece) (shown ++ more)
+    → ServerStandsAt (server.Frames new) number (with_bytes sent (take (length piece) piece)) (text ++ more)
+server_more lines new number sent text more piece head shown has switches is source same going s =
+    let bytes = sent.bytes ++ take (length piece) piece in (
+      head,
+      shown ++ more,
+      head_stays Response sent.bytes (take (length piece) piece) head has,
+      switches,
+      ap (λ (t : List ℕ). t ++ more) is ∙ append_assoc _ shown more
+          ∙ ap (λ (t : List ℕ). head_line (source_at Response number) t ++ (shown ++ more))
+          (sym (front_stays Response sent.bytes (take (length piece) piece) head has)),
+      same ∙ source,
+      open_shown sent.ended new (drop head.len sent.bytes ++ piece) (drop head.len bytes) (shown ++ more)
+          (shown ++ more) going
+          (ap (λ (t : List ℕ). drop head.len sent.bytes ++ t) (sym (all_of piece))
+          ∙ sym (behind_grows Response sent.bytes (take (length piece) piece) head has)) refl s,
+    )
+
+pub server_other : (number : ℕ) (sent : Sent) (text piece : List ℕ) → ServerStandsAt server.Other number sent text
+    → ServerStandsAt server.Other number (with_bytes sent (take (length piece) piece)) (text ++ [])
+server_other number sent text piece (head, has, other, is) = (
+  head,
+  head_stays Response sent.bytes (take (length piece) piece) head has,
+  other,
+  append-nil text ∙ is ∙ ap (λ (t : List ℕ). head_line (source_at Response number) t)
+      (sym (front_stays Response sent.bytes (take (length piece) piece) head has)),
+)
+
+pub server_ended : (lines new : StreamLines) (number : ℕ) (sent : Sent) (text last : List ℕ) (head : Head)
+    (shown : List ℕ) (end : StreamEnd) → HasHead Response sent.bytes head → Switches head
+    → text ≡ head_line (source_at Response number) (take head.len sent.bytes) ++ shown
+    → source_of lines ≡ source_at Response number → source_of new ≡ source_of lines
+    → AreLinesOf (source_of lines) (drop head.len sent.bytes) end (shown ++ last)
+    → ServerStandsAt (server.Frames new) number (with_its_end sent) (text ++ last)
+server_ended lines new number sent text last head shown end has switches is source same all = (
+  head,
+  shown ++ last,
+  has,
+  switches,
+  ap (λ (t : List ℕ). t ++ last) is ∙ append_assoc _ shown last,
+  same ∙ source,
+  (end, rw same all),
+)
+
+pub server_is_text : (stage : ServerStage) (number : ℕ) (sent : Sent) (text : List ℕ)
+    → ServerStandsAt stage number sent text → IsServerText number sent text
+server_is_text (server.Head room) number sent text (l, none) = inl (l.1, none)
+server_is_text (server.Frames lines) number sent text (head, shown, has, switches, is, source, s) =
+    inr (
+      head,
+      shown,
+      has,
+      is,
+      inl (
+        switches,
+        lines_to sent.ended (source_at Response number) lines
+            (drop head.len sent.bytes) shown source s,
+      ),
+    )
+server_is_text server.Other number sent text (head, has, other, is) = inr (
+  head,
+  [],
+  has,
+  is
+      ∙ sym (append-nil _),
+  inr (other, refl),
+)

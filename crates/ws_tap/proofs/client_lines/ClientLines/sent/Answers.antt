@@ -1,0 +1,194 @@
+-- Where a client stands behind a piece.
+use Rattle.std.proofs.Common.{◌≡◌, ◌∙◌, ◌||◌, Bool, true, false, refl, sym, ap, subst, [], ◌++◌, take, length, List}
+use Rattle.std.proofs.Common.{ℕ, append-nil}
+use Rattle.std.proofs.KnownBytes.{Appends-nil}
+use Rattle.ws_frame.specs.Devices.{watched, HasWritten}
+use Rattle.ws_tap.specs.declared.heads.HeadKind.TheVariants.{Request}
+use Rattle.ws_tap.specs.declared.client_lines.ClientStage.{ClientStage}
+use Rattle.ws_tap.specs.declared.client_lines.ClientStage.TheVariants as client
+use Rattle.ws_tap.specs.declared.client_lines.Release.TheVariants.{Awaited, Told, Never}
+use Rattle.ws_tap.specs.Texts.{source_at}
+use Rattle.ws_tap.specs.Standing.{UsesPiece, is_behind_request, with_bytes}
+use Rattle.ws_tap.proofs.HeadLemmas.{head_stays}
+use Rattle.ws_tap.proofs.Sides.{all_used, looked_in, looked_found}
+use Rattle.ws_tap.proofs.ClientLemmas.{client_at, tells_at, client_no_head, client_found, client_room_waiting}
+use Rattle.ws_tap.proofs.ClientLemmas.{client_room_told, client_line, client_waits, client_tells, client_never}
+use Rattle.ws_tap.proofs.client_lines.ClientLines.sent.Goals as goal
+
+pub take-requires : goal.take-requires
+take-requires g c =
+    let self = c.args.self.now in
+    let (number, answered, sent, text, told, going, small) = c.requires.room in (
+      sent.bytes,
+      (client_at self.stage (client.Head c.in-Head.room) self.release number answered sent text
+          c.in-Head.is told.1).0,
+    )
+
+pub returns-in_default : goal.returns-in_default
+returns-in_default g c = record {
+  told = λ number answered sent text told going.
+      let self = c.args.self.now in
+      let piece = c.args.piece.now in
+      let stands = client_at self.stage (client.Head c.in-Head.room) self.release number answered sent text
+      c.in-Head.is told.1 in
+      let l = looked_in Request self.number c.take.new.self sent.bytes piece c.take.result c.in_default.is
+      (c.take.ensures sent.bytes stands.0) in (
+        [],
+        Appends-nil _,
+        (
+          c.requires.writer_works,
+          all_used (is_behind_request self.stage) false piece,
+          (told.0, client_no_head c.take.new.self self.release number answered sent text piece l stands.1 stands.2),
+        ),
+      );
+}
+
+pub returns-in_ok-write_whole-in-Head : goal.returns-in_ok-write_whole-in-Head
+returns-in_ok-write_whole-in-Head g c = record {
+  told = λ number answered sent text told going.
+      let self = c.args.self.now in
+      let piece = c.args.piece.now in
+      let head = c.in-Some.found in
+      let stands = client_at self.stage (client.Head c.in-Head.room) self.release number answered sent text
+      c.in-Head.is told.1 in
+      let l = looked_found Request self.number c.take.new.self sent.bytes piece c.take.result head c.in-Some.is
+      (c.take.ensures sent.bytes stands.0) in
+      let found = client_found c.new.result self.release number self.number answered sent text piece head told.0
+      stands.1 going l c.new.ensures.source c.new.ensures.begun stands.2 in
+      let was : false ≡ is_behind_request self.stage = ap (λ (s : ClientStage). is_behind_request s)
+      (sym c.in-Head.is) in (
+        head.line,
+        subst (λ (t : List ℕ). HasWritten t (watched g.W.Write.contents c.args.writer.now c.write_whole.new.writer))
+            c.as_slice.ensures c.in_ok-write_whole-in-Head.ensures.written,
+        (
+          c.in_ok-write_whole-in-Head.ensures.failed ∙ ap (λ (b : Bool). b || false) c.requires.writer_works,
+          subst (λ (b : Bool). UsesPiece b true (length piece) head.used) was found.0,
+          (told.0, found.1),
+        ),
+      );
+}
+
+pub keep_lines-requires : goal.keep_lines-requires
+keep_lines-requires g c =
+    let self = c.args.self.now in
+    let (number, answered, sent, text, told, going, small) = c.requires.room in
+    let (head, shown, has, is, source, t) = client_at self.stage (client.Frames c.in-Frames.lines) self.release number
+    answered sent text c.in-Frames.is told.1 in
+    let here = tells_at self.release (Awaited c.in-Awaited.kept) answered (source_at Request number) head.len
+    c.in-Frames.lines sent shown c.in-Awaited.is t in
+    client_room_waiting c.in-Awaited.kept answered (source_at Request number) head.len (length c.args.piece.now)
+    c.in-Frames.lines sent shown going small here
+
+pub take-requires-in-Told-clause-room : goal.take-requires-in-Told-clause-room
+take-requires-in-Told-clause-room g c =
+    let self = c.args.self.now in
+    let (number, answered, sent, text, told, going, small) = c.requires.room in
+    let (head, shown, has, is, source, t) = client_at self.stage (client.Frames c.in-Frames.lines) self.release number
+    answered sent text c.in-Frames.is told.1 in
+    let here = tells_at self.release Told answered (source_at Request number) head.len c.in-Frames.lines sent shown
+    c.in-Told.is t in
+    client_room_told answered (source_at Request number) head.len (length c.args.piece.now) c.in-Frames.lines sent
+    shown going small here
+
+pub returns-in-Awaited : goal.returns-in-Awaited
+returns-in-Awaited g c = record {
+  told = λ number answered sent text told going.
+      let self = c.args.self.now in
+      let piece = c.args.piece.now in
+      let (head, shown, has, is, source, t) = client_at self.stage (client.Frames c.in-Frames.lines) self.release
+      number answered sent text c.in-Frames.is told.1 in
+      let here = tells_at self.release (Awaited c.in-Awaited.kept) answered (source_at Request number) head.len
+      c.in-Frames.lines sent shown c.in-Awaited.is t in
+      let (none, after) = client_waits c.in-Frames.lines c.keep_lines.new.lines c.in-Awaited.kept
+      c.keep_lines.new.kept answered (source_at Request number) sent shown piece head has source going
+      c.keep_lines.ensures.kept here in (
+        [],
+        Appends-nil _,
+        (
+          c.requires.writer_works,
+          all_used (is_behind_request self.stage) true piece,
+          (
+            told.0,
+            (
+              head,
+              shown,
+              head_stays Request sent.bytes (take (length piece) piece) head has,
+              client_line
+                  number sent text [] piece shown shown head has is (append-nil shown),
+              c.keep_lines.ensures.source
+                  ∙ source,
+              after,
+            ),
+          ),
+        ),
+      );
+}
+
+pub returns-in_ok-take-in-Told : goal.returns-in_ok-take-in-Told
+returns-in_ok-take-in-Told g c = record {
+  told = λ number answered sent text told going.
+      let self = c.args.self.now in
+      let piece = c.args.piece.now in
+      let out = watched g.W.Write.contents c.args.writer.now c.take-in-Told.new.writer in
+      let (head, shown, has, is, source, t) = client_at self.stage (client.Frames c.in-Frames.lines) self.release
+      number answered sent text c.in-Frames.is told.1 in
+      let here = tells_at self.release Told answered (source_at Request number) head.len c.in-Frames.lines sent shown
+      c.in-Told.is t in
+      let (more, (wrote, works), after) = client_tells c.in-Frames.lines c.take-in-Told.new.self answered
+      (source_at Request number) sent shown piece head (λ (more : List ℕ). HasWritten more out
+      × (out.failed ≡ false)) has going
+      (λ bytes told t. let (more, wrote, (works, on)) = c.in_ok-take-in-Told.ensures.shown bytes told t in
+      (more, (wrote, works), on)) here in (
+        more,
+        wrote,
+        (
+          works,
+          all_used (is_behind_request self.stage) true piece,
+          (
+            told.0,
+            (
+              head,
+              shown ++ more,
+              head_stays Request sent.bytes (take (length piece) piece) head has,
+              client_line number sent text more piece shown (shown ++ more) head has is refl,
+              c.in_ok-take-in-Told.ensures.source ∙ source,
+              tells_at Told self.release answered (source_at Request number) head.len c.take-in-Told.new.self
+                  (with_bytes sent (take (length piece) piece)) (shown ++ more) (sym c.in-Told.is) after,
+            ),
+          ),
+        ),
+      );
+}
+
+pub returns-in-Never : goal.returns-in-Never
+returns-in-Never g c = record {
+  told = λ number answered sent text told going.
+      let self = c.args.self.now in
+      let piece = c.args.piece.now in
+      let now = with_bytes sent (take (length piece) piece) in
+      let (head, shown, has, is, source, t) = client_at self.stage (client.Frames c.in-Frames.lines) self.release
+      number answered sent text c.in-Frames.is told.1 in
+      let here = tells_at self.release Never answered (source_at Request number) head.len c.in-Frames.lines sent shown
+      c.in-Never.is t in
+      let (none, after) = client_never c.in-Frames.lines answered (source_at Request number) head.len sent now shown
+      here in (
+        [],
+        Appends-nil _,
+        (
+          c.requires.writer_works,
+          all_used (is_behind_request self.stage) true piece,
+          (
+            told.0,
+            (
+              head,
+              shown,
+              head_stays Request sent.bytes (take (length piece) piece) head has,
+              client_line number sent text [] piece shown shown head has is (append-nil shown),
+              source,
+              tells_at Never self.release answered (source_at Request number) head.len c.in-Frames.lines now shown
+                  (sym c.in-Never.is) after,
+            ),
+          ),
+        ),
+      );
+}

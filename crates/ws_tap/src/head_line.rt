@@ -1,0 +1,84 @@
+//! The line that tells of a head.
+
+ghost use Rattle.std.specs.Prelude.{◌≡◌, ◌≤◌, ◌+◌, [], ◌++◌, length};
+ghost use Rattle.ws_tap.specs.Texts.{head_line, source_at, side_mark};
+
+use crate::first_line::first_line;
+use crate::heads::{HeadKind, MAX_HEAD};
+use itoa::Buffer;
+use std::marker::Model;
+
+/// How many bytes the line of a head has at most: its own, a number, a mark and a line end.
+const MAX_LINE: usize = MAX_HEAD + 32;
+
+/// The line that tells of a head: contracts see its bytes.
+#[derive(Drop)]
+pub(crate) struct HeadLine {
+    bytes: [u8; MAX_LINE],
+    len: usize,
+}
+
+impl Model for HeadLine {
+    ghost use Rattle.std.specs.Prelude.{List, ℕ, take, ◌≤◌};
+
+    ghost Value = { List ℕ };
+
+    ghost view = { λ line. take line.len line.bytes };
+
+    ghost invariant = { λ line. line.len ≤ 8224 };
+}
+
+impl HeadLine {
+    /// The line of this head, in the connection of this number.
+    pub(crate) fn of(kind: HeadKind, number: u32, head: &[u8]) -> HeadLine
+        requires { length head.now ≤ 8192 }
+        ensures { result ≡ head_line (source_at kind number) head.now }
+    {
+        let mut line = HeadLine::new();
+        let mut digits = Buffer::new();
+        line.push(digits.format(number).as_bytes());
+        line.push(mark_of(kind));
+        line.push(first_line(head));
+        line.push(b"\n");
+        line
+    }
+
+    /// The bytes of the line.
+    pub(crate) fn as_slice(&self) -> &[u8]
+        ensures { result.now ≡ self.now }
+    {
+        &self.bytes[..self.len]
+    }
+
+    /// No bytes.
+    fn new() -> HeadLine
+        ensures { result ≡ [] }
+    {
+        HeadLine {
+            bytes: [0; MAX_LINE],
+            len: 0,
+        }
+    }
+
+    /// Puts bytes behind those that stand in it.
+    fn push(&mut self, bytes: &[u8])
+        requires { length self.old + length bytes.now ≤ 8224 }
+        ensures pushed { self.new ≡ self.old ++ bytes.now }
+        ensures len { length self.new ≡ length self.old + length bytes.now }
+    {
+        let end = self.len + bytes.len();
+        self.bytes[self.len..end].copy_from_slice(bytes);
+        self.len = end;
+    }
+}
+
+/// The mark of the end that sends such a head.
+fn mark_of(kind: HeadKind) -> &'static [u8]
+    ensures mark { result.now ≡ side_mark kind }
+    ensures short { length result.now ≤ 3 }
+{
+    match kind {
+        HeadKind::Request => b" > ",
+        HeadKind::Response => b" < ",
+    }
+}

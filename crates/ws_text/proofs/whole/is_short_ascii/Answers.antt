@@ -1,0 +1,26 @@
+-- Vectors that cover a piece are ASCII, and so is the piece.
+use Rattle.std.proofs.Common.{◌≡◌, ◌+◌, ◌-◌, ◌≤◌, ◌<◌, ℕ, List, length, take, drop, get_or, sym, subst, arith, inl, inr, take-add}
+use Rattle.std.proofs.lemmas.Bool.{cases_lt}
+use Rattle.std.proofs.lemmas.List.{get_or-take, get_or-drop, length-drop, take_all}
+use Rattle.std.proofs.lemmas.Str.{IsAscii-append}
+use Rattle.std.specs.Str.{IsAscii}
+use Rattle.ws_text.proofs.whole.is_short_ascii.Goals as goal
+
+covered : (l : List ℕ) (at from : ℕ) → from ≤ at → IsAscii (take at l) → IsAscii (drop from l) → IsAscii l
+covered l at from le first last = λ i.
+    elim (cases_lt i at) [ inl low ↦ omega (arith, first i, get_or-take at l i 0 low) | inr high ↦ behind i high ]
+  where
+    behind : (i : ℕ) → at ≤ i → get_or l i 0 < 128
+    behind i high =
+        let same : from + (i - from) ≡ i = omega (arith, le, high) in
+        let low : get_or l (from + (i - from)) 0 < 128 = omega (arith, last (i - from), get_or-drop from l (i - from) 0) in
+        subst (λ (k : ℕ). get_or l k 0 < 128) same low
+
+pub loop-at-preserved : goal.loop-at-preserved
+loop-at-preserved c = (omega arith, subst IsAscii (sym (take-add c.loop-at.at 64 c.args.bytes.now)) (IsAscii-append _ _ c.loop-at.invariant.1 (c.is_ascii.ensures c.if-not-is_ascii.false)))
+
+pub returns : goal.returns
+returns c = λ yes.
+    let l = c.args.bytes.now in
+    let last : IsAscii (drop (length l - 64) l) = subst IsAscii (take_all 64 (drop (length l - 64) l) (omega (arith, length-drop (length l - 64) l))) (c.is_ascii-2.ensures yes) in
+    covered l c.loop-at.at (length l - 64) (omega arith) c.loop-at.invariant.1 last

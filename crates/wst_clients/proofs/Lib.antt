@@ -1,0 +1,3 @@
+pub mod VisitLemmas
+pub mod ClientLemmas
+pub mod CaptureLemmas

@@ -1,0 +1,82 @@
+-- A script that is sent to the first client whose request is accepted, whatever it asks for.
+use Rattle.std.specs.Prelude.{◌≡◌, ℕ, ⊤, List, [], ◌∷◌, Option, None, Some}
+use Rattle.std.specs.Prelude.{flat_map, map}
+use Rattle.ws_frame.specs.Devices.{Device}
+use Rattle.ws_connection.specs.Admitting.{Admits}
+use Rattle.ws_connection.specs.ConnectionValues.{ConnectionRun, ConnectionValue}
+use Rattle.ws_connection.specs.declared.admitting.AcceptedRequest.{AcceptedRequest}
+use Rattle.ws_connection.specs.declared.admitting.Admission.TheVariants as admission
+use Rattle.ws_connection.specs.declared.probe_end.Probe.{Probe}
+use Rattle.ws_connection.specs.declared.probe_end.Probe.TheVariants as probe
+use Rattle.ws_scripts.specs.declared.script.Case.{Case}
+use Rattle.ws_scripts.specs.declared.transcript.Transcript.{Transcript}
+use Rattle.wst_testing.specs.Notes.{TellsEach}
+use Rattle.wst_clients.specs.Visits.{RunsOver, refused_line}
+use Rattle.wst_clients.specs.declared.scripting.ScriptRules.{ScriptRules}
+use Rattle.wst_clients.specs.declared.scripting.Scripted.{Scripted}
+use Rattle.wst_clients.specs.declared.scripting.Scripted.TheVariants.{Lost, Ran, Refused}
+
+-- ---- one connection
+
+-- The request was accepted, whatever it asks for, and the script run behind it.
+pub record IsScripted (known : List (List ℕ)) (case : Case) (transcript : Transcript) (run : ConnectionRun) : Type 0 where
+  pub behind : ConnectionValue
+  pub request : AcceptedRequest
+  pub accepted : Admits known (admission.Accepted request) (record { old = run.old; new = behind })
+  pub runs : RunsOver case request.behind.items transcript (record { old = behind; new = run.new })
+
+-- what came of it
+abbrev pub Scripts : List (List ℕ) → Case → Scripted → ConnectionRun → Type 0
+Scripts known case Lost run = Admits known admission.Lost run
+Scripts known case (Refused fault) run = Admits known (admission.Refused fault) run
+Scripts known case (Ran transcript) run = IsScripted known case transcript run
+
+abbrev pub protocols_known : ScriptRules → List (List ℕ)
+protocols_known rules = map (λ name. name.now) rules.protocols.now
+
+-- There is a connection with this budget of which this came.
+abbrev pub IsScriptedSo : ScriptRules → Case → Scripted → Type 0
+IsScriptedSo rules case scripted = (run : ConnectionRun) × (run.old.input.allowance ≡ rules.budget)
+    × Scripts (protocols_known rules) case scripted run
+
+-- what an observer is told of it
+abbrev pub scripted_probe : Scripted → Probe
+scripted_probe Lost = probe.NoConnection
+scripted_probe (Refused fault) = probe.NoConnection
+scripted_probe (Ran transcript) = probe.Ran transcript
+
+-- what is told of it on the fault output
+abbrev pub scripted_notes : Scripted → List (List ℕ)
+scripted_notes Lost = []
+scripted_notes (Refused fault) = refused_line fault ∷ []
+scripted_notes (Ran transcript) = []
+
+-- ---- connections one after the other
+
+-- over such connections no script was run
+abbrev pub AreUnscripted : (Case → Scripted → Type 0) → Case → List Scripted → Type 0
+AreUnscripted Scripts case [] = ⊤
+AreUnscripted Scripts case (Lost ∷ more) = Scripts case Lost × AreUnscripted Scripts case more
+AreUnscripted Scripts case (Refused fault ∷ more) = Scripts case (Refused fault) × AreUnscripted Scripts case more
+AreUnscripted Scripts case (Ran transcript ∷ more) = ⊥
+
+-- what is told of them on the fault output
+abbrev pub notes_of_scripted : List Scripted → List (List ℕ)
+notes_of_scripted scripted = flat_map scripted_notes scripted
+
+abbrev pub sent_probe : Option Transcript → Probe
+sent_probe None = probe.NoConnection
+sent_probe (Some transcript) = probe.Ran transcript
+
+-- the script was run over the last of them, if over any
+abbrev pub IsScriptRun : (Case → Scripted → Type 0) → Case → Option Transcript → Type 0
+IsScriptRun Scripts case None = ⊤
+IsScriptRun Scripts case (Some transcript) = Scripts case (Ran transcript)
+
+-- Connections came, each of which may come to that, and what was told of them.
+pub record ScriptsClient (Scripts : Case → Scripted → Type 0) (case : Case) (sent : Option Transcript)
+    (faults : Device) : Type 0 where
+  pub before : List Scripted
+  pub unscripted : AreUnscripted Scripts case before
+  pub runs : IsScriptRun Scripts case sent
+  pub noted : TellsEach (notes_of_scripted before) faults

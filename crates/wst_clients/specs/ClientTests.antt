@@ -1,0 +1,158 @@
+-- Clients under test, one after the other: what is written of them, a line for each case that was run, one for each that
+-- none has asked for, and the total; and what is told on the fault output.
+use Rattle.std.specs.Prelude.{◌≡◌, ℕ, ◌<◌, ◌^◌, ◌⊎◌, ⊤, Bool, true, false, List, [], ◌∷◌, ◌++◌, Option, Result, Ok}
+use Rattle.std.specs.Prelude.{Err, length}
+use Rattle.ws_frame.specs.Devices.{Device, HasBegun, HasWritten, IsUntouched}
+use Rattle.ws_paths.specs.Standings.{StandingValue, none_run}
+use Rattle.ws_reports.specs.Reports.{ReportValue, start_text}
+use Rattle.ws_paths.specs.declared.behavior.Behavior.{Behavior}
+use Rattle.ws_scripts.specs.declared.script.Case.{Case}
+use Rattle.wst_commands.specs.Devices.{Delivers}
+use Rattle.wst_commands.specs.declared.exit.Exit.{Exit}
+use Rattle.wst_commands.specs.declared.exit.Exit.TheVariants.{Failed}
+use Rattle.wst_commands.specs.declared.fault.Fault.{Fault}
+use Rattle.wst_commands.specs.declared.fault.Fault.TheVariants.{NoMemory}
+use Rattle.wst_testing.specs.Notes.{TellsEach}
+use Rattle.wst_clients.specs.ClientLines.{lines_for, score_for, score_with_all, total_for}
+use Rattle.wst_testing.specs.Reporting.{ClosesReport, StopsAtStart, exit_of_report}
+use Rattle.wst_clients.specs.VisitOutcomes.{AreVisits, after_outcome, ends_with_outcome, not_run}
+use Rattle.wst_clients.specs.VisitOutcomes.{notes_of_visits, tests_of}
+use Rattle.wst_clients.specs.Visits.{AreSomeNotes}
+use Rattle.wst_testing.specs.declared.outcome.Outcome.{Outcome}
+use Rattle.wst_testing.specs.declared.score.Score.{Score}
+use Rattle.wst_clients.specs.declared.testing_clients.VisitsEnd.{VisitsEnd}
+use Rattle.wst_clients.specs.declared.testing_clients.VisitsEnd.TheVariants.{Ended, Stopped}
+use Rattle.wst_clients.specs.declared.visiting.Telling.{Telling}
+use Rattle.wst_clients.specs.declared.visiting.VisitRules.{VisitRules}
+use Rattle.wst_clients.specs.declared.visit_outcome.VisitOutcome.{VisitOutcome}
+
+-- ---- connections so far. `Comes` says of a connection what may come of it, where the cases stand so.
+
+-- such connections came, from the first on, none of which ends the run, and they have left the cases so
+abbrev pub HaveCome : (StandingValue → VisitOutcome → Type 0) → VisitRules → List VisitOutcome → StandingValue → Type 0
+HaveCome Comes rules visits standing = AreVisits Comes rules (none_run (length rules.cases.now)) visits standing
+
+-- They came, and then one that ends the run.
+pub record HaveAllCome (Comes : StandingValue → VisitOutcome → Type 0) (rules : VisitRules) (visits : List VisitOutcome) (standing : StandingValue) : Type 0 where
+  pub before : List VisitOutcome
+  pub earlier : StandingValue
+  pub have_come : HaveCome Comes rules before earlier
+  pub last : VisitOutcome
+  pub comes : Comes earlier last
+  pub ends : ends_with_outcome (length rules.cases.now) last ≡ true
+  pub all : visits ≡ before ++ last ∷ []
+  pub stands : standing ≡ after_outcome earlier last
+
+-- the lines of the cases that were run were written
+abbrev pub HasToldVisits : VisitRules → List VisitOutcome → Device → Type 0
+HasToldVisits rules visits output =
+    HasWritten (lines_for rules.telling (tests_of rules visits)) output × (output.failed ≡ false)
+
+-- Connections came, none of which ends the run, and their lines were written; these texts were told behind their own on
+-- the fault output.
+pub record HasVisited (Comes : StandingValue → VisitOutcome → Type 0) (rules : VisitRules) (next : List (List ℕ)) (output faults : Device)
+    : Type 0 where
+  pub visits : List VisitOutcome
+  pub standing : StandingValue
+  pub have_come : HaveCome Comes rules visits standing
+  pub told : HasToldVisits rules visits output
+  pub noted : TellsEach (notes_of_visits rules visits ++ next) faults
+
+-- the line of the last of them could not be written
+pub record StopsAtVisit (Comes : StandingValue → VisitOutcome → Type 0) (rules : VisitRules) (output faults : Device) : Type 0 where
+  pub visits : List VisitOutcome
+  pub standing : StandingValue
+  pub have_come : HaveCome Comes rules visits standing
+  pub last : VisitOutcome
+  pub comes : Comes standing last
+  pub failed : output.failed ≡ true
+  pub begun : HasBegun (lines_for rules.telling (tests_of rules (visits ++ last ∷ []))) output
+  pub noted : TellsEach (notes_of_visits rules (visits ++ last ∷ [])) faults
+
+-- no connection can be taken any more, or a line could not be written
+abbrev pub StopsVisiting : (StandingValue → VisitOutcome → Type 0) → VisitRules → Device → Device → Type 0
+StopsVisiting Comes rules output faults =
+    HasVisited Comes rules [] output faults ⊎ StopsAtVisit Comes rules output faults
+
+-- One of them ends the run.
+pub record EndsVisits (Comes : StandingValue → VisitOutcome → Type 0) (rules : VisitRules) (standing : StandingValue) (score : Score)
+    (output faults : Device) : Type 0 where
+  pub visits : List VisitOutcome
+  pub have_all : HaveAllCome Comes rules visits standing
+  pub counted : score ≡ score_for rules.telling (tests_of rules visits)
+  pub told : HasToldVisits rules visits output
+  pub noted : TellsEach (notes_of_visits rules visits) faults
+
+-- memory ran out
+abbrev pub LacksMemoryVisiting : (StandingValue → VisitOutcome → Type 0) → VisitRules → Device → Device → Type 0
+LacksMemoryVisiting Comes rules output faults =
+    (next : List (List ℕ)) × AreSomeNotes rules next × HasVisited Comes rules next output faults
+
+-- how the taking of connections ended
+abbrev pub RunsVisits : (StandingValue → VisitOutcome → Type 0) → VisitRules → Result VisitsEnd Fault → Device → Device → Type 0
+RunsVisits Comes rules (Ok (Ended standing score)) output faults = EndsVisits Comes rules standing score output faults
+RunsVisits Comes rules (Ok Stopped) output faults = StopsVisiting Comes rules output faults
+RunsVisits Comes rules (Err fault) output faults = (fault ≡ NoMemory) × LacksMemoryVisiting Comes rules output faults
+
+-- ---- a run
+
+-- One of the connections ends the run. The lines of the cases that were run were written, then those of the cases that
+-- no client has asked for, and the total of all; or a write failed at last.
+pub record TestsAll (Comes : StandingValue → VisitOutcome → Type 0) (rules : VisitRules) (exit : Exit) (output faults : Device) : Type 0 where
+  pub visits : List VisitOutcome
+  pub standing : StandingValue
+  pub have_all : HaveAllCome Comes rules visits standing
+  pub tests : List (Case × Outcome)
+  pub are_tests : tests ≡ tests_of rules visits ++ not_run rules.cases.now standing.behaviors
+  pub told : Delivers (exit_of_report (score_for rules.telling tests).is_failed)
+      (lines_for rules.telling tests ++ total_for rules.telling (length rules.cases.now)
+      (score_for rules.telling tests).tally) exit output
+  pub noted : TellsEach (notes_of_visits rules visits) faults
+
+-- how a run over clients ended
+abbrev pub TestsClients : (StandingValue → VisitOutcome → Type 0) → VisitRules → Result Exit Fault → Device → Device → Type 0
+TestsClients Comes rules (Ok exit) output faults = TestsAll Comes rules exit output faults
+    ⊎ ((exit ≡ Failed) × StopsVisiting Comes rules output faults)
+TestsClients Comes rules (Err fault) output faults = (fault ≡ NoMemory)
+    × (LacksMemoryVisiting Comes rules output faults
+    ⊎ ((standing : StandingValue) × (score : Score) × EndsVisits Comes rules standing score output faults))
+
+-- ---- a document
+
+-- What a report has before all cases was written, the clients were tested, and where that ended early, what it has behind
+-- all cases was written too, if the output works.
+pub record ReportsClients (Comes : StandingValue → VisitOutcome → Type 0) (rules : VisitRules) (target : List ℕ)
+    (report : ReportValue) (ended : Result Exit Fault) (output faults : Device) : Type 0 where
+  pub begun : Option (List ℕ)
+  pub started : HasWritten (start_text report target) (record output { new = begun })
+  pub failed : Bool
+  pub behind : Option (List ℕ)
+  pub tests : TestsClients Comes rules ended (record { failed = failed; old = begun; new = behind }) faults
+  pub closes : ClosesReport report ended failed (record output { old = behind })
+
+-- so a document about this target was written of clients; or what it has before all cases was not, and none was tested
+abbrev pub DocumentsClients : (StandingValue → VisitOutcome → Type 0) → VisitRules → List ℕ → ReportValue
+    → Result Exit Fault → Device → Device → Type 0
+DocumentsClients Comes rules target report ended output faults =
+    ReportsClients Comes rules target report ended output faults
+    ⊎ (StopsAtStart target report ended output × IsUntouched faults)
+
+-- ---- inside the crate: the last lines, for the contracts of private functions
+
+-- the cases stand, as many as there are, and there is room to count them
+abbrev pub FitsCases : ℕ → VisitsEnd → Type 0
+FitsCases count Stopped = ⊤
+FitsCases count (Ended standing score) = (length standing.behaviors ≡ count) × (count < 2 ^ 32)
+    × (score.tally.pass < 2 ^ 63) × (score.tally.loose < 2 ^ 63) × (score.tally.fail < 2 ^ 63)
+
+-- the lines of the cases that were not run, and the count with them
+abbrev pub AddsNotRun : Telling → List Case → List Behavior → Score → List ℕ → Score → Type 0
+AddsNotRun telling cases behaviors score lines counted = (lines ≡ lines_for telling (not_run cases behaviors))
+    × (counted ≡ score_with_all telling score (not_run cases behaviors))
+
+-- and the total
+abbrev pub AddsLastLines : VisitRules → List Behavior → Score → List ℕ → Score → Type 0
+AddsLastLines rules behaviors score lines counted =
+    (lines ≡ lines_for rules.telling (not_run rules.cases.now behaviors)
+    ++ total_for rules.telling (length rules.cases.now) counted.tally)
+    × (counted ≡ score_with_all rules.telling score (not_run rules.cases.now behaviors))

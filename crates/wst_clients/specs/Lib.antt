@@ -1,0 +1,6 @@
+pub mod ClientLines
+pub mod Visits
+pub mod VisitOutcomes
+pub mod ClientTests
+pub mod ClientCaptures
+pub mod ClientSends

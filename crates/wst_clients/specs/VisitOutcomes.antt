@@ -1,0 +1,141 @@
+-- What is told of connections of clients under test, and how the cases stand after them.
+use Rattle.std.specs.Prelude.{◌≡◌, ℕ, ◌+◌, ◌<◌, ◌^◌, Bool, true, false, ⊤, List, [], ◌∷◌, ◌++◌, Option}
+use Rattle.std.specs.Prelude.{Some, None, length, flat_map}
+use Rattle.ws_wire.specs.declared.role.Role.TheVariants.{Client}
+use Rattle.ws_paths.specs.Paths.{AsksWithin}
+use Rattle.ws_paths.specs.Standings.{StandingValue, after_connection, ends_run}
+use Rattle.ws_paths.specs.declared.behavior.Behavior.{Behavior}
+use Rattle.ws_paths.specs.declared.behavior.Behavior.TheVariants as behavior
+use Rattle.ws_paths.specs.declared.purpose.Purpose.{Purpose}
+use Rattle.ws_scripts.specs.declared.script.Case.{Case}
+use Rattle.ws_scripts.specs.declared.transcript.Transcript.{Transcript}
+use Rattle.ws_suite.specs.declared.verdict.Verdict.{Verdict}
+use Rattle.ws_suite.specs.declared.verdict.Verdict.TheVariants.{Fail, Loose, Pass}
+use Rattle.wst_commands.specs.Explaining.{IsJudgementOf}
+use Rattle.wst_commands.specs.declared.explaining.Judgement.{Judgement}
+use Rattle.wst_clients.specs.Visits.{case_for, case_notes, refused_line}
+use Rattle.wst_testing.specs.declared.outcome.Outcome.{Outcome}
+use Rattle.wst_testing.specs.declared.outcome.Outcome.TheVariants.{HeadRefused, Judged, NoConnection, NotRun}
+use Rattle.wst_testing.specs.declared.outcome.Tally.{Tally}
+use Rattle.wst_clients.specs.declared.visiting.Visit.{Visit}
+use Rattle.wst_clients.specs.declared.visiting.Visit.TheVariants as visit
+use Rattle.wst_clients.specs.declared.visiting.VisitRules.{VisitRules}
+use Rattle.wst_clients.specs.declared.visit_outcome.VisitOutcome.{VisitOutcome}
+use Rattle.wst_clients.specs.declared.visit_outcome.VisitOutcome.TheVariants.{Lost, Ran, Refused, Told}
+
+-- ---- what is told of a connection
+
+-- the verdict on the client by the transcript of its case, with why it is told where that is asked for
+abbrev pub IsClientOutcome : Bool → Transcript → Outcome → Type 0
+IsClientOutcome explains transcript outcome =
+    (told : Judgement) × (outcome ≡ Judged told) × IsJudgementOf explains Client transcript told
+
+-- this is told of what came of a connection
+abbrev pub IsVisitOutcome : Bool → Visit → VisitOutcome → Type 0
+IsVisitOutcome explains visit.Lost Lost = ⊤
+IsVisitOutcome explains (visit.Refused fault) (Refused other) = other ≡ fault
+IsVisitOutcome explains (visit.Told purpose) (Told other) = other ≡ purpose
+IsVisitOutcome explains (visit.Ran purpose transcript) (Ran other outcome) =
+    (other ≡ purpose) × IsClientOutcome explains transcript outcome
+IsVisitOutcome explains _ _ = ⊥
+
+-- the case that is run is one of those that are given
+abbrev pub AsksInside : VisitRules → VisitOutcome → Type 0
+AsksInside rules Lost = ⊤
+AsksInside rules (Refused fault) = ⊤
+AsksInside rules (Told purpose) = AsksWithin (length rules.cases.now) purpose
+AsksInside rules (Ran purpose outcome) = AsksWithin (length rules.cases.now) purpose
+
+-- this may be told of a client that can be visited so, where the cases stand so
+pub record ComesTo (Visits : StandingValue → Visit → Type 0) (rules : VisitRules) (standing : StandingValue)
+    (outcome : VisitOutcome) : Type 0 where
+  pub visit : Visit
+  pub visited : Visits standing visit
+  pub told : IsVisitOutcome rules.explains visit outcome
+  pub inside : AsksInside rules outcome
+
+-- ---- its line and its notes
+
+-- a case with what is told of a client in it, where there is a case
+abbrev pub test_of : Option Case → Outcome → List (Case × Outcome)
+test_of None outcome = []
+test_of (Some case) outcome = (case, outcome) ∷ []
+
+-- the case that was run, if one was, with what is told of the client in it
+abbrev pub tests_in : VisitRules → VisitOutcome → List (Case × Outcome)
+tests_in rules Lost = []
+tests_in rules (Refused fault) = []
+tests_in rules (Told purpose) = []
+tests_in rules (Ran purpose outcome) = test_of (case_for rules.cases.now purpose) outcome
+
+-- what is told on the fault output
+abbrev pub outcome_notes : VisitRules → VisitOutcome → List (List ℕ)
+outcome_notes rules Lost = []
+outcome_notes rules (Refused fault) = refused_line fault ∷ []
+outcome_notes rules (Told purpose) = []
+outcome_notes rules (Ran purpose outcome) = case_notes rules.progress (case_for rules.cases.now purpose)
+
+-- ---- how the cases stand
+
+abbrev pub behavior_by : Verdict → Behavior
+behavior_by Pass = behavior.Ok
+behavior_by (Loose why) = behavior.NonStrict
+behavior_by (Fail why) = behavior.Failed
+
+-- what came of a case in which this is told of a client
+abbrev pub behavior_for : Outcome → Behavior
+behavior_for (Judged told) = behavior_by told.verdict
+behavior_for (HeadRefused refusal) = behavior.Failed
+behavior_for (NoConnection why) = behavior.Failed
+behavior_for NotRun = behavior.Unimplemented
+
+-- after a connection: a request that was refused, or lost, counts for nothing
+abbrev pub after_outcome : StandingValue → VisitOutcome → StandingValue
+after_outcome standing Lost = standing
+after_outcome standing (Refused fault) = standing
+after_outcome standing (Told purpose) = standing
+after_outcome standing (Ran purpose outcome) = after_connection standing purpose (behavior_for outcome)
+
+-- a run of so many cases ends with it
+abbrev pub ends_with_outcome : ℕ → VisitOutcome → Bool
+ends_with_outcome count Lost = false
+ends_with_outcome count (Refused fault) = false
+ends_with_outcome count (Told purpose) = ends_run count purpose
+ends_with_outcome count (Ran purpose outcome) = ends_run count purpose
+
+-- ---- connections one after the other
+
+-- From the one standing of the cases such connections lead to the other, each of which may come to that where the cases
+-- stand as those before it have left them, and none of them ends the run.
+abbrev pub AreVisits : (StandingValue → VisitOutcome → Type 0) → VisitRules → StandingValue → List VisitOutcome
+    → StandingValue → Type 0
+AreVisits Comes rules start [] end = start ≡ end
+AreVisits Comes rules start (outcome ∷ outcomes) end = Comes start outcome
+    × (ends_with_outcome (length rules.cases.now) outcome ≡ false)
+    × AreVisits Comes rules (after_outcome start outcome) outcomes end
+
+-- the cases that were run, and what is told of the clients in them
+abbrev pub tests_of : VisitRules → List VisitOutcome → List (Case × Outcome)
+tests_of rules outcomes = flat_map (tests_in rules) outcomes
+
+-- what is told of all on the fault output
+abbrev pub notes_of_visits : VisitRules → List VisitOutcome → List (List ℕ)
+notes_of_visits rules outcomes = flat_map (outcome_notes rules) outcomes
+
+-- a case that no client has asked for: one of which nothing came
+abbrev pub not_run_if : Case → Behavior → List (Case × Outcome)
+not_run_if case behavior.Unimplemented = (case, NotRun) ∷ []
+not_run_if case behavior.Ok = []
+not_run_if case behavior.NonStrict = []
+not_run_if case behavior.Failed = []
+
+-- those of the cases of which this came
+abbrev pub not_run : List Case → List Behavior → List (Case × Outcome)
+not_run [] behaviors = []
+not_run (case ∷ cases) [] = []
+not_run (case ∷ cases) (behavior ∷ behaviors) = not_run_if case behavior ++ not_run cases behaviors
+
+-- ---- inside the crate: a step of a count, for the contracts of private functions
+
+abbrev pub HasRoomToCount : Tally → Type 0
+HasRoomToCount tally = (tally.pass + 1 < 2 ^ 64) × (tally.loose + 1 < 2 ^ 64) × (tally.fail + 1 < 2 ^ 64)

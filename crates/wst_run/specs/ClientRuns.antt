@@ -1,0 +1,178 @@
+-- Clients under test that come to an address of a network.
+use Rattle.std.specs.Prelude.{◌≡◌, ◌⊎◌, ℕ, ⊤, Bool, true, false, List, [], ◌∷◌, Option, Some, Result, Ok, Err}
+use Rattle.ws_base.specs.declared.text_fault.TextFault.{TextFault}
+use Rattle.ws_base.specs.declared.text_fault.TextFault.TheVariants as text_fault
+use Rattle.ws_formats.specs.Lines.{Damages}
+use Rattle.ws_wire.specs.declared.role.Role.TheVariants.{Client}
+use Rattle.ws_frame.specs.Devices.{Device, HasBegun, HasWritten, IsUntouched}
+use Rattle.ws_reports.specs.Reports.{ReportValue}
+use Rattle.ws_scripts.specs.Captures2.{written_capture2}
+use Rattle.ws_scripts.specs.ScriptTexts.{IsScriptText, IsTextOfScript}
+use Rattle.ws_scripts.specs.declared.script.Case.{Case}
+use Rattle.ws_scripts.specs.declared.transcript.Transcript.{Transcript}
+use Rattle.wst_commands.specs.Faults.{Ends}
+use Rattle.wst_commands.specs.ReadingWhole.{ReadsAll}
+use Rattle.wst_commands.specs.TimeLimits.{is_limited}
+use Rattle.wst_commands.specs.declared.exit.Exit.{Exit}
+use Rattle.wst_commands.specs.declared.exit.Exit.TheVariants.{Done, Failed}
+use Rattle.wst_commands.specs.declared.fault.Fault.{Fault}
+use Rattle.wst_commands.specs.declared.fault.Fault.TheVariants.{NoMemory, NotAStep, NotListening}
+use Rattle.wst_commands.specs.declared.fault.ListenFault.{ListenFault}
+use Rattle.wst_clients.specs.ClientCaptures.{CapturesClient, client_capture}
+use Rattle.wst_clients.specs.ClientSends.{IsScriptedSo, ScriptsClient, protocols_known}
+use Rattle.wst_clients.specs.ClientTests.{DocumentsClients, TestsClients}
+use Rattle.wst_testing.specs.LineWriting.{HasWrittenRun}
+use Rattle.wst_sockets.specs.Listening.{IsToldFor}
+use Rattle.wst_testing.specs.Notes.{TellsEach}
+use Rattle.wst_sockets.specs.Serve.{listening_line}
+use Rattle.wst_clients.specs.VisitOutcomes.{ComesTo}
+use Rattle.wst_clients.specs.Visits.{IsVisitedSo, known_by}
+use Rattle.wst_run.specs.declared.send.SendPlan.{SendPlan}
+use Rattle.wst_clients.specs.declared.scripting.ScriptRules.{ScriptRules}
+use Rattle.wst_run.specs.declared.test.TestPlan.{TestPlan}
+use Rattle.wst_clients.specs.declared.visiting.Telling.{Telling}
+use Rattle.wst_clients.specs.declared.visiting.Telling.TheVariants.{Cases, Scripts}
+use Rattle.wst_clients.specs.declared.visiting.VisitRules.{VisitRules}
+
+-- ---- one thing behind another on the fault output
+
+-- the first device tells what was told up to some point of all, since when the output may have failed
+abbrev pub GoesBefore : Device → Device → Type 0
+GoesBefore first all = (first.old ≡ all.old) × (first.failed ≡ true → all.failed ≡ true)
+
+-- a run ended, and how it ended is told behind what was told before
+abbrev pub EndsBehind : (Result Exit Fault → Device → Type 0) → Exit → Device → Type 0
+EndsBehind Runs exit faults = (ended : Result Exit Fault) × (first : Device) × GoesBefore first faults
+    × Runs ended first × Ends ended exit (record faults { old = first.new })
+
+-- it is told there at which address is listened, and that is done behind it
+abbrev pub NotesBefore : List ℕ → (Device → Type 0) → Device → Type 0
+NotesBefore address Runs faults = (first : Device) × GoesBefore first faults
+    × TellsEach (listening_line address ∷ []) first × Runs (record faults { old = first.new })
+
+-- ---- tests
+
+-- cases are told of as this report has them
+abbrev pub TellsBy : ReportValue → Telling → Type 0
+TellsBy report (Cases told) = told.now ≡ report
+TellsBy report (Scripts all) = ⊥
+
+-- these are the rules of a plan, told of so
+pub record AreRulesOf (plan : TestPlan) (report : ReportValue) (rules : VisitRules) : Type 0 where
+  pub cases : rules.cases.now ≡ plan.cases.items
+  pub protocols : known_by rules ≡ plan.run.protocols
+  pub budget : rules.budget ≡ plan.run.budget
+  pub has_timeouts : rules.has_timeouts ≡ is_limited plan.run.timeout
+  pub explains : rules.explains ≡ plan.explain
+  pub progress : rules.progress ≡ plan.progress
+  pub telling : TellsBy report rules.telling
+
+-- the first line could not be written, or not flushed, and nothing was written after it
+abbrev pub StopsAtFirstLine : List ℕ → Result Exit Fault → Device → Device → Type 0
+StopsAtFirstLine address ended output faults = (ended ≡ Ok Failed) × (output.failed ≡ true)
+    × HasBegun (listening_line address) output × IsUntouched faults
+
+-- nothing was written or told: nothing can be listened at, or memory ran out; that it is so is not said
+abbrev pub TestsNone : Result Exit Fault → Device → Device → Type 0
+TestsNone ended output faults = (((why : ListenFault) × (ended ≡ Err (NotListening why))) ⊎ (ended ≡ Err NoMemory))
+    × IsUntouched output × IsUntouched faults
+
+-- It is told on the output at which address is listened, and clients are tested; or that line could not be written, or
+-- nothing was.
+abbrev pub TestsBehind : List ℕ → VisitRules → Result Exit Fault → Device → Device → Type 0
+TestsBehind address rules ended output faults =
+    ((told : Option (List ℕ)) × HasWritten (listening_line address) (record output { new = told })
+    × TestsClients (ComesTo (IsVisitedSo rules) rules) rules ended (record output { old = told }) faults)
+    ⊎ StopsAtFirstLine address ended output faults ⊎ TestsNone ended output faults
+
+-- the address is told on the fault output, and one client is captured
+abbrev pub CapturesTold : List ℕ → TestPlan → VisitRules → Result Exit Fault → Device → Device → Type 0
+CapturesTold address plan rules ended output faults = (case : Case) × (plan.cases.items ≡ case ∷ [])
+    × NotesBefore address (λ behind. CapturesClient (IsVisitedSo rules) rules case ended output behind) faults
+
+-- the address is told on the fault output, and a document is written of the clients
+abbrev pub DocumentsTold : List ℕ → TestPlan → ReportValue → VisitRules → Result Exit Fault → Device → Device → Type 0
+DocumentsTold address plan report rules ended output faults = NotesBefore address
+    (λ behind. DocumentsClients (ComesTo (IsVisitedSo rules) rules) rules plan.target.now report ended output behind)
+    faults
+
+-- so, or nothing was written or told
+abbrev pub CapturesOrNone : List ℕ → TestPlan → VisitRules → Result Exit Fault → Device → Device → Type 0
+CapturesOrNone address plan rules ended output faults =
+    CapturesTold address plan rules ended output faults ⊎ TestsNone ended output faults
+
+abbrev pub DocumentsOrNone : List ℕ → TestPlan → ReportValue → VisitRules → Result Exit Fault → Device → Device → Type 0
+DocumentsOrNone address plan report rules ended output faults =
+    DocumentsTold address plan report rules ended output faults ⊎ TestsNone ended output faults
+
+-- so clients are tested; or they are captured, or a document is written of them, as is asked for
+abbrev pub TestsToldAt : List ℕ → TestPlan → ReportValue → Result Exit Fault → Device → Device → Type 0
+TestsToldAt address plan report ended output faults = (rules : VisitRules) × AreRulesOf plan report rules
+    × (((plan.capture ≡ true) × CapturesOrNone address plan rules ended output faults)
+    ⊎ ((plan.capture ≡ false) × (((report.is_junit ≡ true) × DocumentsOrNone address plan report rules ended output faults)
+    ⊎ ((report.is_junit ≡ false) × TestsBehind address rules ended output faults))))
+
+-- what is told of the address is told, and then clients are tested; or nothing is
+abbrev pub TestsAt : List ℕ → TestPlan → ReportValue → Result Exit Fault → Device → Device → Type 0
+TestsAt address plan report ended output faults =
+    ((told : List ℕ) × IsToldFor address told × TestsToldAt told plan report ended output faults)
+    ⊎ TestsNone ended output faults
+
+-- and how that ended is told behind what was told before
+abbrev pub TestsClientsAt : List ℕ → TestPlan → ReportValue → Exit → Device → Device → Type 0
+TestsClientsAt address plan report exit output faults =
+    EndsBehind (λ ended first. TestsAt address plan report ended output first) exit faults
+
+-- ---- a script that is sent
+
+-- these are the rules of a plan
+pub record AreScriptRulesOf (plan : SendPlan) (rules : ScriptRules) : Type 0 where
+  pub protocols : protocols_known rules ≡ plan.run.protocols
+  pub budget : rules.budget ≡ plan.run.budget
+  pub has_timeouts : rules.has_timeouts ≡ is_limited plan.run.timeout
+
+-- the lines of the run were written, flushed, or its capture
+abbrev pub WritesClientRun : Bool → Transcript → Device → Type 0
+WritesClientRun false transcript output = HasWrittenRun Client transcript output
+WritesClientRun true transcript output =
+    HasWritten (written_capture2 (client_capture transcript)) output × (output.failed ≡ false)
+
+-- The script was run over a connection, and that was written; or a write failed, no connection can be taken any more or
+-- memory ran out.
+abbrev pub SendsScript : SendPlan → Case → Result Exit Fault → Device → Device → Type 0
+SendsScript plan case (Ok Done) output faults = (rules : ScriptRules) × AreScriptRulesOf plan rules
+    × ((transcript : Transcript) × ScriptsClient (IsScriptedSo rules) case (Some transcript) faults
+    × WritesClientRun plan.capture transcript output)
+SendsScript plan case (Ok Failed) output faults = ⊤
+SendsScript plan case (Ok other) output faults = ⊥
+SendsScript plan case (Err fault) output faults = fault ≡ NoMemory
+
+-- It is told at which address is listened, and the script is sent; or nothing can be listened at, or memory ran out.
+abbrev pub SendsAt : List ℕ → SendPlan → Case → Result Exit Fault → Device → Device → Type 0
+SendsAt address plan case ended output faults =
+    ((told : List ℕ) × IsToldFor address told
+    × NotesBefore told (λ behind. SendsScript plan case ended output behind) faults)
+    ⊎ TestsNone ended output faults
+
+-- what stops a text that is no script
+abbrev pub fault_of_script : TextFault → Fault
+fault_of_script (text_fault.Damaged line) = NotAStep line
+fault_of_script text_fault.NoMemory = NoMemory
+
+-- a text is a script, which is sent; or it is none, and nothing was written or told
+abbrev pub SendsTextAt : List ℕ → SendPlan → List ℕ → Result Exit Fault → Device → Device → Type 0
+SendsTextAt address plan text ended output faults =
+    ((case : Case) × IsScriptText case text × SendsAt address plan case ended output faults)
+    ⊎ ((why : TextFault) × Damages IsTextOfScript why text × (ended ≡ Err (fault_of_script why))
+    × IsUntouched output × IsUntouched faults)
+
+-- so of the input; or it could not be read, and nothing was written or told
+abbrev pub SendsInputAt : List ℕ → SendPlan → Result Exit Fault → Device → Device → Device → Type 0
+SendsInputAt address plan ended input output faults =
+    ((text : List ℕ) × ReadsAll text input × SendsTextAt address plan text ended output faults)
+    ⊎ (((ended ≡ Ok Failed) ⊎ (ended ≡ Err NoMemory)) × IsUntouched output × IsUntouched faults)
+
+-- and how that ended is told behind what was told before
+abbrev pub SendsToClientAt : List ℕ → SendPlan → Exit → Device → Device → Device → Type 0
+SendsToClientAt address plan exit input output faults =
+    EndsBehind (λ ended first. SendsInputAt address plan ended input output first) exit faults

@@ -1,0 +1,393 @@
+//! Clients under test that come to an address of a network.
+
+ghost use Rattle.std.specs.Prelude.{◌≡◌, OnErr, OnOk, [], ◌∷◌, false, true};
+ghost use Rattle.std.specs.List.{All};
+ghost use Rattle.ws_frame.specs.Devices.{watched};
+ghost use Rattle.ws_frame.specs.Watching.{has_failed};
+ghost use Rattle.ws_scripts.specs.Scripts.{CanBeRun};
+ghost use Rattle.ws_upgrade.specs.Protocols.{AreOffers};
+ghost use Rattle.wst_commands.specs.Devices.{StaysFailed};
+ghost use Rattle.wst_run.specs.ClientRuns.{AreRulesOf, AreScriptRulesOf, CapturesOrNone, DocumentsOrNone};
+ghost use Rattle.wst_run.specs.ClientRuns.{SendsAt, SendsInputAt, SendsScript};
+ghost use Rattle.wst_run.specs.ClientRuns.{SendsTextAt, SendsToClientAt, TestsAt, TestsBehind, TestsClientsAt, TestsToldAt};
+ghost use Rattle.wst_clients.specs.ClientSends.{protocols_known};
+ghost use Rattle.wst_testing.specs.Notes.{TellsEach};
+ghost use Rattle.wst_sockets.specs.Serve.{listening_line};
+ghost use Rattle.wst_run.specs.Test.{CanBeTested};
+ghost use Rattle.wst_clients.specs.Visits.{known_by};
+
+use crate::send::SendPlan;
+use crate::test::TestPlan;
+use std::alloc::Global;
+use std::io::{Read, Write};
+use std::net::Net;
+use ws_base::{NoMemory, TextFault};
+use ws_connection::Silent;
+use ws_frame::Watched;
+use ws_reports::Report;
+use ws_suite::{Case, read_script};
+use ws_wire::Role;
+use wst_clients::{
+    ScriptRules, Telling, VisitRules, capture_client, document_clients, script_client, test_clients,
+};
+use wst_commands::{Exit, Fault, ReadStop, deliver, end_run, read_whole, tell};
+use wst_sockets::{ListenerClients, listen, listening_line, tell_listening, told_address};
+use wst_testing::{LineStop, LineWriter, capture_text};
+
+/// Listens at an address, which is told in a line, with the port that the system chose in the place of a port 0, and
+/// tests the clients that come, as a plan asks, and tells of them as a report does. Where a capture or a document is
+/// asked for, that line goes to `faults`. Why nothing can be listened at is told there too.
+pub(crate) fn test_clients_at<N: Net, W: Write, F: Write>(
+    alloc: Global,
+    net: &N,
+    address: &str,
+    plan: &TestPlan<'_>,
+    report: &Report,
+    writer: &mut Watched<W>,
+    faults: &mut Watched<F>,
+) -> Exit
+    requires works { has_failed writer.old ≡ false }
+    requires plan { CanBeTested plan.now }
+    ensures { TestsClientsAt address.now plan.now report.now result (watched W.contents writer.old writer.new)
+        (watched F.contents faults.old faults.new) }
+{
+    let ended = test_at(alloc, net, address, plan, report, writer, faults);
+    end_run(alloc, ended, faults)
+}
+
+/// Listens at an address, and tests the clients that come.
+fn test_at<N: Net, W: Write, F: Write>(
+    alloc: Global,
+    net: &N,
+    address: &str,
+    plan: &TestPlan<'_>,
+    report: &Report,
+    writer: &mut Watched<W>,
+    faults: &mut Watched<F>,
+) -> Result<Exit, Fault>
+    requires works { has_failed writer.old ≡ false }
+    requires plan { CanBeTested plan.now }
+    ensures tests { TestsAt address.now plan.now report.now result (watched W.contents writer.old writer.new)
+        (watched F.contents faults.old faults.new) }
+    ensures still { StaysFailed faults.old faults.new }
+{
+    let listener = match listen(net, address) {
+        Ok(listener) => listener,
+        Err(why) => return Err(Fault::NotListening(why)),
+    };
+    let told = told_address(alloc, &listener, address)?;
+    let clients = ListenerClients::of(net, &listener, plan.run.timeout);
+    test_told(
+        alloc,
+        &clients,
+        told.as_slice(),
+        plan,
+        report,
+        writer,
+        faults,
+    )
+}
+
+/// Tells at which address is listened, and tests the clients that come to it.
+fn test_told<N: Net, W: Write, F: Write>(
+    alloc: Global,
+    clients: &ListenerClients<'_, N, N::Listener>,
+    address: &[u8],
+    plan: &TestPlan<'_>,
+    report: &Report,
+    writer: &mut Watched<W>,
+    faults: &mut Watched<F>,
+) -> Result<Exit, Fault>
+    requires works { has_failed writer.old ≡ false }
+    requires plan { CanBeTested plan.now }
+    ensures tests { TestsToldAt address.now plan.now report.now result (watched W.contents writer.old writer.new)
+        (watched F.contents faults.old faults.new) }
+    ensures still { StaysFailed faults.old faults.new }
+{
+    let rules = visit_rules(plan, report);
+    if plan.capture {
+        return capture_noted(alloc, clients, address, plan, &rules, writer, faults);
+    }
+    if report.is_junit() {
+        return document_noted(
+            alloc, clients, address, plan, report, &rules, writer, faults,
+        );
+    }
+    test_all(alloc, clients, address, &rules, writer, faults)
+}
+
+/// Tells on the fault output at which address is listened, and captures a client that comes to it.
+fn capture_noted<N: Net, W: Write, F: Write>(
+    alloc: Global,
+    clients: &ListenerClients<'_, N, N::Listener>,
+    address: &[u8],
+    plan: &TestPlan<'_>,
+    rules: &VisitRules<'_>,
+    writer: &mut Watched<W>,
+    faults: &mut Watched<F>,
+) -> Result<Exit, Fault>
+    requires works { has_failed writer.old ≡ false }
+    requires plan { CanBeTested plan.now }
+    requires captures { plan.now.capture ≡ true }
+    requires cases { rules.now.cases.now ≡ plan.now.cases.items }
+    requires known { AreOffers (known_by rules.now) }
+    ensures captures { CapturesOrNone address.now plan.now rules.now result (watched W.contents writer.old writer.new)
+        (watched F.contents faults.old faults.new) }
+    ensures still { StaysFailed faults.old faults.new }
+{
+    note_listening(alloc, address, faults)?;
+    let cases = plan.cases.as_slice();
+    capture_client(alloc, clients, rules, &cases[0], writer, faults)
+}
+
+/// Tells on the fault output at which address is listened, and writes a document of the clients that come to it.
+fn document_noted<N: Net, W: Write, F: Write>(
+    alloc: Global,
+    clients: &ListenerClients<'_, N, N::Listener>,
+    address: &[u8],
+    plan: &TestPlan<'_>,
+    report: &Report,
+    rules: &VisitRules<'_>,
+    writer: &mut Watched<W>,
+    faults: &mut Watched<F>,
+) -> Result<Exit, Fault>
+    requires works { has_failed writer.old ≡ false }
+    requires can { All CanBeRun rules.now.cases.now }
+    requires known { AreOffers (known_by rules.now) }
+    ensures documents { DocumentsOrNone address.now plan.now report.now rules.now result
+        (watched W.contents writer.old writer.new) (watched F.contents faults.old faults.new) }
+    ensures still { StaysFailed faults.old faults.new }
+{
+    note_listening(alloc, address, faults)?;
+    document_clients(alloc, clients, rules, plan.target, report, writer, faults)
+}
+
+/// Tells on the output at which address is listened, and tests the clients that come to it.
+pub(crate) fn test_all<N: Net, W: Write, F: Write>(
+    alloc: Global,
+    clients: &ListenerClients<'_, N, N::Listener>,
+    address: &[u8],
+    rules: &VisitRules<'_>,
+    writer: &mut Watched<W>,
+    faults: &mut Watched<F>,
+) -> Result<Exit, Fault>
+    requires works { has_failed writer.old ≡ false }
+    requires can { All CanBeRun rules.now.cases.now }
+    requires known { AreOffers (known_by rules.now) }
+    ensures tests { TestsBehind address.now rules.now result (watched W.contents writer.old writer.new)
+        (watched F.contents faults.old faults.new) }
+    ensures still { StaysFailed faults.old faults.new }
+{
+    let told = tell_listening(alloc, address, writer)?;
+    if writer.failed() {
+        return Ok(told);
+    }
+    test_clients(alloc, clients, rules, writer, faults)
+}
+
+/// How the clients of a plan are tested.
+fn visit_rules<'a>(plan: &'a TestPlan<'_>, report: &'a Report) -> VisitRules<'a>
+    ensures rules { AreRulesOf plan.now report.now result }
+    ensures known { AreOffers (known_by result) }
+{
+    VisitRules {
+        cases: plan.cases.as_slice(),
+        protocols: plan.run.protocols.as_slice(),
+        budget: plan.run.budget,
+        has_timeouts: plan.run.timeout.is_limited(),
+        explains: plan.explain,
+        progress: plan.progress,
+        telling: Telling::Cases(report),
+    }
+}
+
+/// Tells on the fault output at which address is listened.
+pub(crate) fn note_listening<F: Write>(
+    alloc: Global,
+    address: &[u8],
+    faults: &mut Watched<F>,
+) -> Result<(), NoMemory>
+    ensures told { OnOk result (TellsEach (listening_line address.now ∷ []) (watched F.contents faults.old faults.new)) }
+    ensures kept { OnErr result (faults.new ≡ faults.old) }
+    ensures still { StaysFailed faults.old faults.new }
+{
+    let line = listening_line(alloc, address)?;
+    tell(line.as_slice(), faults);
+    Ok(())
+}
+
+/// Reads a script, listens at an address, which is told to `faults` in a line, and sends the script to the first client
+/// whose request is accepted, as a plan asks.
+pub(crate) fn send_to_clients_at<N: Net, R: Read, W: Write, F: Write>(
+    alloc: Global,
+    net: &N,
+    address: &str,
+    plan: &SendPlan<'_>,
+    reader: &mut Watched<R>,
+    writer: &mut Watched<W>,
+    faults: &mut Watched<F>,
+) -> Exit
+    requires reader_works { has_failed reader.old ≡ false }
+    requires writer_works { has_failed writer.old ≡ false }
+    ensures { SendsToClientAt address.now plan.now result (watched R.remaining reader.old reader.new)
+        (watched W.contents writer.old writer.new) (watched F.contents faults.old faults.new) }
+{
+    let ended = send_input(alloc, net, address, plan, reader, writer, faults);
+    end_run(alloc, ended, faults)
+}
+
+/// Reads a script, and sends it to a client.
+fn send_input<N: Net, R: Read, W: Write, F: Write>(
+    alloc: Global,
+    net: &N,
+    address: &str,
+    plan: &SendPlan<'_>,
+    reader: &mut Watched<R>,
+    writer: &mut Watched<W>,
+    faults: &mut Watched<F>,
+) -> Result<Exit, Fault>
+    requires reader_works { has_failed reader.old ≡ false }
+    requires writer_works { has_failed writer.old ≡ false }
+    ensures sends { SendsInputAt address.now plan.now result (watched R.remaining reader.old reader.new)
+        (watched W.contents writer.old writer.new) (watched F.contents faults.old faults.new) }
+    ensures still { StaysFailed faults.old faults.new }
+{
+    match read_whole(alloc, reader) {
+        Ok(text) => send_text(alloc, net, address, plan, text.as_slice(), writer, faults),
+        Err(ReadStop::Fault) => Ok(Exit::Failed),
+        Err(ReadStop::NoMemory) => Err(Fault::NoMemory),
+    }
+}
+
+/// Sends the script that a text is.
+fn send_text<N: Net, W: Write, F: Write>(
+    alloc: Global,
+    net: &N,
+    address: &str,
+    plan: &SendPlan<'_>,
+    text: &[u8],
+    writer: &mut Watched<W>,
+    faults: &mut Watched<F>,
+) -> Result<Exit, Fault>
+    requires writer_works { has_failed writer.old ≡ false }
+    ensures sends { SendsTextAt address.now plan.now text.now result (watched W.contents writer.old writer.new)
+        (watched F.contents faults.old faults.new) }
+    ensures still { StaysFailed faults.old faults.new }
+{
+    match read_script(alloc, text) {
+        Ok(case) => send_at(alloc, net, address, plan, &case, writer, faults),
+        Err(TextFault::Damaged(line)) => Err(Fault::NotAStep(line)),
+        Err(TextFault::NoMemory) => Err(Fault::NoMemory),
+    }
+}
+
+/// Listens at an address, and sends a script to a client that comes.
+fn send_at<N: Net, W: Write, F: Write>(
+    alloc: Global,
+    net: &N,
+    address: &str,
+    plan: &SendPlan<'_>,
+    case: &Case,
+    writer: &mut Watched<W>,
+    faults: &mut Watched<F>,
+) -> Result<Exit, Fault>
+    requires writer_works { has_failed writer.old ≡ false }
+    requires can { CanBeRun case.now }
+    ensures sends { SendsAt address.now plan.now case.now result (watched W.contents writer.old writer.new)
+        (watched F.contents faults.old faults.new) }
+    ensures still { StaysFailed faults.old faults.new }
+{
+    let listener = match listen(net, address) {
+        Ok(listener) => listener,
+        Err(why) => return Err(Fault::NotListening(why)),
+    };
+    let told = told_address(alloc, &listener, address)?;
+    note_listening(alloc, told.as_slice(), faults)?;
+    let clients = ListenerClients::of(net, &listener, plan.run.timeout);
+    send_script(alloc, &clients, plan, case, writer, faults)
+}
+
+/// Sends a script to a client, and writes the run as the plan asks.
+fn send_script<N: Net, W: Write, F: Write>(
+    alloc: Global,
+    clients: &ListenerClients<'_, N, N::Listener>,
+    plan: &SendPlan<'_>,
+    case: &Case,
+    writer: &mut Watched<W>,
+    faults: &mut Watched<F>,
+) -> Result<Exit, Fault>
+    requires writer_works { has_failed writer.old ≡ false }
+    requires can { CanBeRun case.now }
+    ensures sends { SendsScript plan.now case.now result (watched W.contents writer.old writer.new)
+        (watched F.contents faults.old faults.new) }
+    ensures still { StaysFailed faults.old faults.new }
+{
+    if plan.capture {
+        capture_script(alloc, clients, plan, case, writer, faults)
+    } else {
+        show_script(alloc, clients, plan, case, writer, faults)
+    }
+}
+
+/// Sends a script to a client, and writes the capture of the run.
+fn capture_script<N: Net, W: Write, F: Write>(
+    alloc: Global,
+    clients: &ListenerClients<'_, N, N::Listener>,
+    plan: &SendPlan<'_>,
+    case: &Case,
+    writer: &mut Watched<W>,
+    faults: &mut Watched<F>,
+) -> Result<Exit, Fault>
+    requires writer_works { has_failed writer.old ≡ false }
+    requires can { CanBeRun case.now }
+    requires captures { plan.now.capture ≡ true }
+    ensures sends { SendsScript plan.now case.now result (watched W.contents writer.old writer.new)
+        (watched F.contents faults.old faults.new) }
+    ensures still { StaysFailed faults.old faults.new }
+{
+    let rules = script_rules(plan);
+    let sent = script_client(alloc, clients, &rules, case, &mut Silent, faults)?;
+    let Some(transcript) = sent else {
+        return Ok(Exit::Failed);
+    };
+    let text = capture_text(alloc, Role::Client, plan.run.key, transcript)?;
+    Ok(deliver(Exit::Done, text.as_slice(), writer))
+}
+
+/// Sends a script to a client, and writes the lines of the run as it goes on.
+fn show_script<N: Net, W: Write, F: Write>(
+    alloc: Global,
+    clients: &ListenerClients<'_, N, N::Listener>,
+    plan: &SendPlan<'_>,
+    case: &Case,
+    writer: &mut Watched<W>,
+    faults: &mut Watched<F>,
+) -> Result<Exit, Fault>
+    requires writer_works { has_failed writer.old ≡ false }
+    requires can { CanBeRun case.now }
+    requires shows { plan.now.capture ≡ false }
+    ensures sends { SendsScript plan.now case.now result (watched W.contents writer.old writer.new)
+        (watched F.contents faults.old faults.new) }
+    ensures still { StaysFailed faults.old faults.new }
+{
+    let rules = script_rules(plan);
+    let mut lines = LineWriter::new(Role::Client, writer);
+    match script_client(alloc, clients, &rules, case, &mut lines, faults) {
+        Ok(Some(_)) => Ok(Exit::Done),
+        Ok(None) => Ok(Exit::Failed),
+        Err(LineStop::Output) => Ok(Exit::Failed),
+        Err(LineStop::NoMemory) => Err(Fault::NoMemory),
+    }
+}
+
+/// How a script of a plan is sent.
+fn script_rules<'a>(plan: &'a SendPlan<'_>) -> ScriptRules<'a>
+    ensures rules { AreScriptRulesOf plan.now result }
+    ensures known { AreOffers (protocols_known result) }
+{
+    ScriptRules {
+        protocols: plan.run.protocols.as_slice(),
+        budget: plan.run.budget,
+        has_timeouts: plan.run.timeout.is_limited(),
+    }
+}

@@ -1,0 +1,114 @@
+//! Every short script as a case of clients that come to an address.
+
+ghost use Rattle.std.specs.Prelude.{◌≡◌, ◌≤◌, IfOk, false};
+ghost use Rattle.std.specs.List.{All};
+ghost use Rattle.ws_frame.specs.Devices.{watched};
+ghost use Rattle.ws_frame.specs.Watching.{has_failed};
+ghost use Rattle.ws_scripts.specs.Scripts.{CanBeRun};
+ghost use Rattle.ws_sweep.specs.Order.{ArePlaces, max_steps};
+ghost use Rattle.ws_upgrade.specs.Protocols.{AreOffers};
+ghost use Rattle.wst_commands.specs.Devices.{StaysFailed};
+ghost use Rattle.wst_run.specs.ClientSweeps.{AreShortCases, AreSweepRulesOf, IsNamedCase, SweepsAt, SweepsClientsAt};
+ghost use Rattle.wst_clients.specs.Visits.{known_by};
+
+use crate::clients_at::test_all;
+use crate::sweep::SweepPlan;
+use std::alloc::Global;
+use std::io::Write;
+use std::net::Net;
+use ws_base::NoMemory;
+use ws_frame::Watched;
+use ws_suite::Case;
+use ws_sweep::{ShortScript, ShortScripts, short_case, tell_steps};
+use ws_wire::Role;
+use wst_clients::{Telling, VisitRules};
+use wst_commands::{Exit, Fault, end_run};
+use wst_sockets::{ListenerClients, listen, told_address};
+
+/// Listens at an address, which is told in a line, with the port that the system chose in the place of a port 0, and
+/// tests the clients that come, whose cases are the short scripts of a plan. Why nothing can be listened at is told to
+/// `faults`.
+pub(crate) fn sweep_clients_at<N: Net, W: Write, F: Write>(
+    alloc: Global,
+    net: &N,
+    address: &str,
+    plan: &SweepPlan<'_>,
+    writer: &mut Watched<W>,
+    faults: &mut Watched<F>,
+) -> Exit
+    requires works { has_failed writer.old ≡ false }
+    requires steps { plan.now.steps ≤ max_steps }
+    ensures { SweepsClientsAt address.now plan.now result (watched W.contents writer.old writer.new)
+        (watched F.contents faults.old faults.new) }
+{
+    let ended = sweep_at(alloc, net, address, plan, writer, faults);
+    end_run(alloc, ended, faults)
+}
+
+/// Listens at an address, and tests the clients that come.
+fn sweep_at<N: Net, W: Write, F: Write>(
+    alloc: Global,
+    net: &N,
+    address: &str,
+    plan: &SweepPlan<'_>,
+    writer: &mut Watched<W>,
+    faults: &mut Watched<F>,
+) -> Result<Exit, Fault>
+    requires works { has_failed writer.old ≡ false }
+    requires steps { plan.now.steps ≤ max_steps }
+    ensures sweeps { SweepsAt address.now plan.now result (watched W.contents writer.old writer.new)
+        (watched F.contents faults.old faults.new) }
+    ensures still { StaysFailed faults.old faults.new }
+{
+    let cases = short_cases(alloc, plan.steps)?;
+    let listener = match listen(net, address) {
+        Ok(listener) => listener,
+        Err(why) => return Err(Fault::NotListening(why)),
+    };
+    let told = told_address(alloc, &listener, address)?;
+    let clients = ListenerClients::of(net, &listener, plan.run.timeout);
+    let rules = sweep_rules(plan, cases.as_slice());
+    test_all(alloc, &clients, told.as_slice(), &rules, writer, faults)
+}
+
+/// How the clients of a plan are tested, with these cases.
+fn sweep_rules<'a>(plan: &'a SweepPlan<'_>, cases: &'a [Case]) -> VisitRules<'a>
+    ensures rules { AreSweepRulesOf plan.now cases.now result }
+    ensures known { AreOffers (known_by result) }
+{
+    VisitRules {
+        cases,
+        protocols: plan.run.protocols.as_slice(),
+        budget: plan.run.budget,
+        has_timeouts: plan.run.timeout.is_limited(),
+        explains: false,
+        progress: plan.progress,
+        telling: Telling::Scripts { all: plan.all },
+    }
+}
+
+/// The cases of the scripts of at most so many steps, in their order.
+fn short_cases(alloc: Global, steps: usize) -> Result<Vec<Case>, NoMemory>
+    requires { steps ≤ max_steps }
+    ensures cases { IfOk result (λ cases. AreShortCases steps cases.items) }
+    ensures runs { IfOk result (λ cases. All CanBeRun cases.items) }
+{
+    let mut cases = Vec::new(alloc);
+    let mut scripts = ShortScripts::up_to(steps);
+    while let Some(script) = scripts.next() {
+        let case = named_case(alloc, &script)?;
+        cases.push(case)?;
+    }
+    Ok(cases)
+}
+
+/// The case of a script, named by its steps.
+fn named_case(alloc: Global, script: &ShortScript) -> Result<Case, NoMemory>
+    requires { ArePlaces script.now }
+    ensures named { IfOk result (IsNamedCase script.now) }
+    ensures runs { IfOk result CanBeRun }
+{
+    let id = tell_steps(alloc, Role::Client, script)?;
+    let Case { steps, chop, .. } = short_case(alloc, Role::Client, None, script)?;
+    Ok(Case { id, steps, chop })
+}

@@ -1,0 +1,3 @@
+pub mod WrittenLemmas
+pub mod ServeLemmas
+pub mod TapLemmas

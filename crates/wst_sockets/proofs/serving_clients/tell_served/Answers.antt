@@ -1,0 +1,13 @@
+-- The line is delivered, or memory ran out for it and nothing is written.
+use Rattle.std.proofs.Common.{rules, ◌≡◌, refl}
+use Rattle.ws_frame.specs.Devices.{watched}
+use Rattle.wst_sockets.specs.Serve.{connection_line}
+use Rattle.wst_commands.proofs.Delivering.{delivers_same}
+use Rattle.wst_commands.specs.declared.exit.Exit.TheVariants.{Done}
+use Rattle.wst_sockets.proofs.serving_clients.tell_served.Goals as goal
+
+pub returns : goal.returns
+returns g c =
+    let line : c.as_bytes.result.now ≡ connection_line c.args.number c.args.served = search rules in
+    delivers_same Done Done c.as_bytes.result.now (connection_line c.args.number c.args.served) c.deliver_line.result
+    (watched g.W.Write.contents c.args.writer.now c.deliver_line.new.writer) refl line c.deliver_line.ensures

@@ -1,0 +1,6 @@
+pub mod Meetings
+pub mod Connecting
+pub mod Listening
+pub mod Lingering
+pub mod Serve
+pub mod Tapping

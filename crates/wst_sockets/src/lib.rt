@@ -1,0 +1,30 @@
+//! The sockets of a network: what connects, what listens, and the connections that are served or tapped one after the
+//! other. No rule of the protocol stands here.
+//!
+//! The layers above use `connect`, which answers a stream or why there is none (`ConnectFault`); `shared`, `Side` and
+//! `Noted`, a stream as a reader and a writer; `listen`, `told_address` and `tell_listening`, an address that is listened
+//! at and the line that tells it; `plan_serve` and `run_serve`, the command `serve`; `tap_pairs`, connections between
+//! clients and a server, which are told frame by frame; `Clients`, what is known of those that are served.
+#![tactic(auto)]
+
+mod clients;
+mod connecting;
+mod lingering;
+mod listening;
+mod meeting;
+mod serve;
+mod serving_clients;
+mod stream;
+mod tapping_pairs;
+mod tapping_sockets;
+mod waking;
+
+pub use clients::{Clients, ListenerClients};
+pub use connecting::{connect, connect_fault};
+pub use listening::{listen, told_address};
+pub use meeting::{ConnectFault, Meeting};
+pub use serve::{ServePlan, plan_serve, run_serve};
+pub use serving_clients::{listening_line, serve_clients, tell_listening};
+pub use stream::{Noted, Side, shared};
+pub use tapping_pairs::{PairEnd, Pairs, tap_pairs};
+pub use tapping_sockets::ListenerPairs;

@@ -1,0 +1,139 @@
+//! An address of a network that is listened at, and the clients that come to it.
+
+ghost use Rattle.std.specs.Prelude.{◌≡◌, ◌↔◌, MatchResult, true};
+ghost use Rattle.wst_sockets.specs.Listening.{CanNotTell, IsClientNumber, IsOfOneClient, IsToldFor, is_client_kind};
+ghost use Rattle.wst_sockets.specs.Listening.{listen_fault_at, lookup_fault_at};
+
+use std::alloc::Global;
+use std::io;
+use std::io::ErrorKind;
+use std::net::{Net, OpenListener, ToSocketAddrs};
+use wst_commands::{Fault, ListenFault};
+
+/// Listens at the first of an address's own addresses that can be bound. Where none can, the reason is that of the
+/// last.
+pub fn listen<N: Net>(net: &N, address: &str) -> Result<N::Listener, ListenFault> {
+    let addresses = match address.to_socket_addrs(net) {
+        Ok(addresses) => addresses,
+        Err(error) => return Err(lookup_fault(error.kind())),
+    };
+    let mut why = ListenFault::NoSuchHost;
+    for address in addresses {
+        match net.bind(address) {
+            Ok(listener) => return Ok(listener),
+            Err(error) => why = listen_fault(error.kind()),
+        }
+    }
+    Err(why)
+}
+
+/// What is told of an address at which a listener takes connections: the word as it was given, but that the port which
+/// the system chose stands in the place of a port 0. A listener whose port is not known can't be told of.
+pub fn told_address<L: OpenListener>(
+    alloc: Global,
+    listener: &L,
+    address: &str,
+) -> Result<Vec<u8>, Fault>
+    ensures { MatchResult result (λ told. IsToldFor address.now told.items) CanNotTell }
+{
+    let bytes = address.as_bytes();
+    let mut told = Vec::new(alloc);
+    if !bytes.ends_with(b":0") {
+        told.extend_from_slice(bytes)?;
+        return Ok(told);
+    }
+    let Ok(local) = listener.local_addr() else {
+        return Err(Fault::NotListening(ListenFault::Failed));
+    };
+    let port = format!(in alloc; "{}", local.port())?;
+    told.extend_from_slice(&bytes[..bytes.len() - 1])?;
+    told.extend_from_slice(port.as_bytes())?;
+    Ok(told)
+}
+
+/// Why nothing can be listened at, where the look-up of the address fails so.
+fn lookup_fault(kind: ErrorKind) -> ListenFault
+    ensures { result ≡ lookup_fault_at kind }
+{
+    match kind {
+        ErrorKind::OutOfMemory => ListenFault::Failed,
+        _ => ListenFault::NoSuchHost,
+    }
+}
+
+/// Why nothing can be listened at, where the address can't be bound so.
+fn listen_fault(kind: ErrorKind) -> ListenFault
+    ensures { result ≡ listen_fault_at kind }
+{
+    match kind {
+        ErrorKind::AddrInUse => ListenFault::AddressInUse,
+        ErrorKind::PermissionDenied => ListenFault::NotPermitted,
+        _ => ListenFault::Failed,
+    }
+}
+
+/// The next connection. `None` where none can be taken. A client that went away while it waited is passed over, and so
+/// is one that the network failed.
+pub(crate) fn accepted<L: OpenListener>(listener: &L) -> Option<L::Stream> {
+    for _ in 0..u64::MAX {
+        match listener.accept() {
+            Ok((stream, _)) => return Some(stream),
+            Err(error) if is_of_one_client(&error) => {}
+            Err(_) => return None,
+        }
+    }
+    None
+}
+
+/// Whether the failure of an accept is of the client that waited, and not of the listener.
+fn is_of_one_client(error: &io::Error) -> bool
+    ensures { (result ≡ true) ↔ IsOfOneClient error.now }
+{
+    if is_client_kind(error.kind()) {
+        return true;
+    }
+    match error.raw_os_error() {
+        Some(number) => is_client_number(number),
+        None => false,
+    }
+}
+
+/// Whether it is, by its kind.
+fn is_client_kind(kind: ErrorKind) -> bool
+    ensures { result ≡ is_client_kind kind }
+{
+    match kind {
+        ErrorKind::ConnectionAborted
+        | ErrorKind::ConnectionReset
+        | ErrorKind::HostUnreachable
+        | ErrorKind::NetworkUnreachable
+        | ErrorKind::NetworkDown
+        | ErrorKind::Interrupted => true,
+        _ => false,
+    }
+}
+
+/// Whether it is, by the number that Linux has for it: of the errors that have no kind of their own.
+fn is_client_number(number: i32) -> bool
+    ensures { (result ≡ true) ↔ IsClientNumber number }
+{
+    match number {
+        ENONET | EPROTO | ENOPROTOOPT | EOPNOTSUPP | EHOSTDOWN => true,
+        _ => false,
+    }
+}
+
+/// The machine is not on the network.
+const ENONET: i32 = 64;
+
+/// The protocol was broken.
+const EPROTO: i32 = 71;
+
+/// The protocol has no such option.
+const ENOPROTOOPT: i32 = 92;
+
+/// The socket does not support the call.
+const EOPNOTSUPP: i32 = 95;
+
+/// The host is down.
+const EHOSTDOWN: i32 = 112;

@@ -1,0 +1,122 @@
+//! A stream of a network, as a reader and a writer.
+
+use std::cell::{Cell, RefCell};
+use std::io;
+use std::io::{ErrorKind, Read, Write};
+use std::net::{OpenStream, Shutdown};
+use ws_connection::EndsDirection;
+use wst_commands::TimeLimit;
+
+/// A stream, which is read and written by turns. What is sent goes out at once, where the system allows it. A read or a
+/// write that waits for longer than the limit answers an error of the kind `WouldBlock`.
+pub fn shared<S: OpenStream>(stream: S, timeout: TimeLimit) -> RefCell<S> {
+    let _ = stream.set_nodelay(true);
+    let _ = stream.set_read_timeout(timeout.duration());
+    let _ = stream.set_write_timeout(timeout.duration());
+    RefCell::new(stream)
+}
+
+/// A stream whose direction from this side was ended: the other end sees the end of its stream behind what was written.
+pub(crate) fn half_closed<S: OpenStream>(stream: S) -> S {
+    let _ = stream.shutdown(Shutdown::Write);
+    stream
+}
+
+/// One side of a stream: its reader, or its writer. No contract of a stream says which bytes pass.
+#[derive(Drop)]
+pub struct Side<'a, S> {
+    stream: &'a RefCell<S>,
+}
+
+impl<'a, S> Side<'a, S> {
+    /// A side of this stream.
+    pub fn of(stream: &'a RefCell<S>) -> Side<'a, S> {
+        Side { stream }
+    }
+}
+
+impl<S: Read> Read for Side<'_, S> {
+    fn read(&mut self, buf: &mut [u8]) -> io::Result<usize> {
+        match self.stream.try_borrow_mut() {
+            Ok(mut stream) => stream.read(buf),
+            Err(_) => Err(io::Error::from(ErrorKind::Other)),
+        }
+    }
+}
+
+impl<S: Write> Write for Side<'_, S> {
+    fn write(&mut self, buf: &[u8]) -> io::Result<usize> {
+        match self.stream.try_borrow_mut() {
+            Ok(mut stream) => stream.write(buf),
+            Err(_) => Err(io::Error::from(ErrorKind::Other)),
+        }
+    }
+
+    fn flush(&mut self) -> io::Result<()> {
+        match self.stream.try_borrow_mut() {
+            Ok(mut stream) => stream.flush(),
+            Err(_) => Err(io::Error::from(ErrorKind::Other)),
+        }
+    }
+}
+
+impl<S: Write + OpenStream> EndsDirection for Side<'_, S> {
+    fn end_direction(&mut self) -> io::Result<()> {
+        match self.stream.try_borrow_mut() {
+            Ok(stream) => stream.shutdown(Shutdown::Write),
+            Err(_) => Err(io::Error::from(ErrorKind::Other)),
+        }
+    }
+}
+
+/// A reader or a writer that notes of which kind the first error was that a call through it answered, or through another
+/// that notes it in the same place.
+#[derive(Drop)]
+pub struct Noted<'a, T> {
+    inner: T,
+    failure: &'a Cell<Option<ErrorKind>>,
+}
+
+impl<'a, T> Noted<'a, T> {
+    /// Notes it here.
+    pub fn of(inner: T, failure: &'a Cell<Option<ErrorKind>>) -> Noted<'a, T> {
+        Noted { inner, failure }
+    }
+
+    /// Notes the error that a call answered.
+    fn note<A>(&self, answer: &io::Result<A>) {
+        if let Err(error) = answer {
+            if self.failure.get().is_none() {
+                self.failure.set(Some(error.kind()));
+            }
+        }
+    }
+}
+
+impl<R: Read> Read for Noted<'_, R> {
+    fn read(&mut self, buf: &mut [u8]) -> io::Result<usize> {
+        let answer = self.inner.read(buf);
+        self.note(&answer);
+        answer
+    }
+}
+
+impl<W: Write> Write for Noted<'_, W> {
+    fn write(&mut self, buf: &[u8]) -> io::Result<usize> {
+        let answer = self.inner.write(buf);
+        self.note(&answer);
+        answer
+    }
+
+    fn flush(&mut self) -> io::Result<()> {
+        let answer = self.inner.flush();
+        self.note(&answer);
+        answer
+    }
+}
+
+impl<W: EndsDirection> EndsDirection for Noted<'_, W> {
+    fn end_direction(&mut self) -> io::Result<()> {
+        self.inner.end_direction()
+    }
+}

@@ -1,0 +1,109 @@
+-- Texts that are told one after the other, and cases in a row without a connection.
+use Rattle.std.proofs.Common.{◌≡◌, ◌∙◌, ◌+◌, ◌<◌, ◌++◌, ℕ, Bool, true, if◌then◌else◌, List, [], ◌∷◌, Option, Some, None}
+use Rattle.std.proofs.Common.{ap, append-nil, arith, below_more, inl, inr, length, refl, subst, sym, take}
+use Rattle.std.proofs.KnownBytes.{Keeps-trans}
+use Rattle.std.proofs.lemmas.Grind.{flat_map-append}
+use Rattle.std.proofs.lemmas.List.{length-append, reverse-append, take-append-le, take_at}
+use Rattle.std.specs.Io.KnownBytes.{Appends, Keeps}
+use Rattle.std.specs.List.{prefix_len}
+use Rattle.ws_scripts.specs.declared.script.Case.{Case}
+use Rattle.wst_commands.specs.Devices.{Tells}
+use Rattle.wst_testing.specs.Notes.{TellsEach, miss_notes, notes_of, progress_notes}
+use Rattle.wst_testing.specs.Outcomes.{MayRunEach, is_missed, missed_at_end}
+use Rattle.wst_testing.specs.declared.outcome.Outcome.{Outcome}
+
+-- ---- texts
+
+-- a device that has failed since has failed
+tells_on : (text : List ℕ) (f g : Bool) (old new : Option (List ℕ)) → (f ≡ true → g ≡ true)
+    → Tells text (record { failed = f; old = old; new = new }) → Tells text
+    (record { failed = g; old = old; new = new })
+tells_on text f g old new still (inl written) = inl written
+tells_on text f g old new still (inr (failed, begun)) = inr (still failed, begun)
+
+pub each_on : (texts : List (List ℕ)) (f g : Bool) (old new : Option (List ℕ)) → (f ≡ true → g ≡ true)
+    → TellsEach texts (record { failed = f; old = old; new = new })
+    → TellsEach texts (record { failed = g; old = old; new = new })
+each_on [] f g old new still untouched = untouched
+each_on (text ∷ texts) f g old new still (held, first, rest) =
+    (held, tells_on text f g old held still first, each_on texts f g held new still rest)
+
+-- bytes behind what was kept
+keeps_then : (a b c : Option (List ℕ)) (bytes : List ℕ) → Keeps a b → Appends b c bytes → Appends a c bytes
+keeps_then None b c bytes kept written = tt
+keeps_then (Some xs) None c bytes kept written = absurd kept
+keeps_then (Some xs) (Some ys) None bytes kept written = absurd written
+keeps_then (Some xs) (Some ys) (Some zs) bytes kept written = written ∙ ap (λ (l : List ℕ). l ++ bytes) kept
+
+tells_kept : (text : List ℕ) (f : Bool) (a b c : Option (List ℕ)) → Keeps a b
+    → Tells text (record { failed = f; old = b; new = c }) → Tells text (record { failed = f; old = a; new = c })
+tells_kept text f a b c kept (inl written) = inl (keeps_then a b c text kept written)
+tells_kept text f a b c kept (inr (failed, (front, more, parts, begun))) =
+    inr (failed, (front, more, parts, keeps_then a b c front kept begun))
+
+each_kept : (texts : List (List ℕ)) (f : Bool) (a b c : Option (List ℕ)) → Keeps a b
+    → TellsEach texts (record { failed = f; old = b; new = c }) → TellsEach texts
+    (record { failed = f; old = a; new = c })
+each_kept [] f a b c kept untouched = Keeps-trans a b c kept untouched
+each_kept (text ∷ texts) f a b c kept (held, first, rest) = (held, tells_kept text f a b held kept first, rest)
+
+-- other texts behind them
+pub each_then : (first second : List (List ℕ)) (f : Bool) (a b c : Option (List ℕ))
+    → TellsEach first (record { failed = f; old = a; new = b }) → TellsEach second
+    (record { failed = f; old = b; new = c })
+    → TellsEach (first ++ second) (record { failed = f; old = a; new = c })
+each_then [] second f a b c kept told = each_kept second f a b c kept told
+each_then (text ∷ texts) second f a b c (held, first, rest) told =
+    (held, first, each_then texts second f held b c rest told)
+
+-- the notes of one case more
+pub notes_more : (progress : Bool) (tests : List (Case × Outcome)) (case : Case) (outcome : Outcome)
+    → notes_of progress tests ++ (progress_notes progress case ++ miss_notes outcome)
+    ≡ notes_of progress (tests ++ (case, outcome) ∷ [])
+notes_more progress tests case outcome =
+    let one = progress_notes progress case ++ miss_notes outcome in
+    ap (λ (l : List (List ℕ)). notes_of progress tests ++ l) (sym (append-nil one))
+    ∙ sym (flat_map-append (λ (t : Case × Outcome). progress_notes progress t.0 ++ miss_notes t.1) tests
+    ((case, outcome) ∷ []))
+
+-- and the telling of them, where a device has failed by f, then by g, and then by h
+pub noted_more : (progress : Bool) (tests : List (Case × Outcome)) (case : Case) (outcome : Outcome) (f g h : Bool)
+    (a b c d : Option (List ℕ)) → (f ≡ true → g ≡ true) → (g ≡ true → h ≡ true)
+    → TellsEach (notes_of progress tests) (record { failed = f; old = a; new = b })
+    → TellsEach (progress_notes progress case) (record { failed = g; old = b; new = c })
+    → TellsEach (miss_notes outcome) (record { failed = h; old = c; new = d })
+    → TellsEach (notes_of progress (tests ++ (case, outcome) ∷ [])) (record { failed = h; old = a; new = d })
+noted_more progress tests case outcome f g h a b c d first second before name why =
+    let was = each_on (notes_of progress tests) f h a b (λ x. second (first x)) before in
+    let next = each_then (progress_notes progress case) (miss_notes outcome) h b c d
+    (each_on (progress_notes progress case) g h b c second name) why in
+    subst (λ (texts : List (List ℕ)). TellsEach texts (record { failed = h; old = a; new = d }))
+    (notes_more progress tests case outcome)
+    (each_then (notes_of progress tests) (progress_notes progress case ++ miss_notes outcome) h a b d was next)
+
+-- the name of the next case behind the notes so far
+pub noted_next : (notes next : List (List ℕ)) (f g : Bool) (a b c : Option (List ℕ)) → (f ≡ true → g ≡ true)
+    → TellsEach notes (record { failed = f; old = a; new = b }) → TellsEach next
+    (record { failed = g; old = b; new = c })
+    → TellsEach (notes ++ next) (record { failed = g; old = a; new = c })
+noted_next notes next f g a b c still before told = each_then notes next g a b c (each_on notes f g a b still before)
+    told
+
+-- ---- cases in a row without a connection
+
+pub missed_more : (outcomes : List Outcome) (outcome : Outcome)
+    → missed_at_end (outcomes ++ outcome ∷ []) ≡ (if is_missed outcome then 1 + missed_at_end outcomes else 0)
+missed_more outcomes outcome =
+    ap (λ (l : List Outcome). prefix_len is_missed l) (reverse-append outcomes (outcome ∷ []))
+
+pub may_run_more : (most : ℕ) (outcomes : List Outcome) (outcome : Outcome) → MayRunEach most outcomes
+    → missed_at_end outcomes < most → MayRunEach most (outcomes ++ outcome ∷ [])
+may_run_more most outcomes outcome may few = λ k below.
+    let long = length-append outcomes (outcome ∷ []) in
+    let each : (j : ℕ) → j < length outcomes + 1 → missed_at_end (take j (outcomes ++ outcome ∷ [])) < most =
+    below_more (λ (j : ℕ). missed_at_end (take j (outcomes ++ outcome ∷ [])) < most) (length outcomes)
+    (λ j within. subst (λ (l : List Outcome). missed_at_end l < most)
+    (sym (take-append-le j outcomes (outcome ∷ []) (omega (arith, within)))) (may j within))
+    (subst (λ (l : List Outcome). missed_at_end l < most)
+    (sym (take_at outcomes (outcome ∷ []) (length outcomes) refl)) few) in
+    each k (omega (arith, below, long))

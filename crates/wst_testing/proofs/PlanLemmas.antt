@@ -1,0 +1,49 @@
+-- The end that a word names.
+use Rattle.std.proofs.Common.{◌≡◌, ℕ, Bool, true, false, List}
+use Rattle.std.proofs.Common.{refl, sym, subst, if◌then◌else◌}
+use Rattle.ws_wire.specs.declared.role.Role.{Role}
+use Rattle.ws_wire.specs.declared.role.Role.TheVariants as role
+use Rattle.ws_targets.specs.Targets.{TargetValue, IsTargetText, begins_with_wss}
+use Rattle.wst_testing.specs.RunPlans.{IsNoMemoryWord, IsUrl, NamesEnd, RefusesTarget, bad_target, memory_word}
+use Rattle.wst_testing.specs.declared.case_server.MemoryPeer.{MemoryPeer}
+use Rattle.wst_testing.specs.declared.case_server.MemoryPeer.TheVariants.{Own, Tung}
+use Rattle.wst_testing.specs.declared.run_plans.Refusal.{Refusal}
+use Rattle.wst_testing.specs.declared.run_plans.Refusal.TheVariants as refusal
+use Rattle.wst_testing.specs.declared.run_plans.TestedEnd.TheVariants.{Clients, Memory, Server}
+
+no_memory_word : (peer : MemoryPeer) (word : List ℕ) → IsNoMemoryWord word → word ≡ memory_word peer → ⊥
+no_memory_word Own word none is = none.0 is
+no_memory_word Tung word none is = none.1 is
+
+-- what names no end is told by how it begins
+refused_so : (tested : Role) (word : List ℕ) (why : Refusal) → ¬ (NamesEnd tested word) → why ≡ bad_target word
+    → RefusesTarget tested word why
+refused_so tested word why none is =
+    subst (λ (r : Refusal). RefusesTarget tested word r) (sym is) (by_wss (begins_with_wss word) refl)
+  where
+    by_wss : (b : Bool) → begins_with_wss word ≡ b
+        → RefusesTarget tested word (if b then refusal.EncryptedTarget else refusal.BadAddress)
+    by_wss true begins = (none, begins)
+    by_wss false begins = (none, begins)
+
+no_server : (word : List ℕ) → IsNoMemoryWord word → ((target : TargetValue) → IsTargetText word target → ⊥)
+    → ¬ (NamesEnd role.Server word)
+no_server word none lacks (Memory end, asks) = no_memory_word end.peer word none asks.1
+no_server word none lacks (Server target, asks) = lacks target asks.2
+no_server word none lacks (Clients address, asks) = absurd (cc)
+
+-- a word that is no target names no server
+pub target_refused : (word : List ℕ) (why : Refusal) → IsNoMemoryWord word
+    → ((target : TargetValue) → IsTargetText word target → ⊥) → why ≡ bad_target word
+    → RefusesTarget role.Server word why
+target_refused word why none lacks is = refused_so role.Server word why (no_server word none lacks) is
+
+no_clients : (word : List ℕ) → IsNoMemoryWord word → IsUrl word → ¬ (NamesEnd role.Client word)
+no_clients word none url (Memory end, asks) = no_memory_word end.peer word none asks.1
+no_clients word none url (Server target, asks) = absurd (cc)
+no_clients word none url (Clients address, asks) = asks.2 url
+
+-- to a URL no clients come
+pub url_refused : (word : List ℕ) (why : Refusal) → IsNoMemoryWord word → IsUrl word → why ≡ bad_target word
+    → RefusesTarget role.Client word why
+url_refused word why none url is = refused_so role.Client word why (no_clients word none url) is

@@ -1,0 +1,52 @@
+-- What comes of a connection is what a probe over its two sides tells.
+use Rattle.std.proofs.Common.{subst}
+use Rattle.ws_connection.specs.ConnectionValues.{ConnectionRun}
+use Rattle.ws_connection.specs.Observing.{HearsProbe}
+use Rattle.ws_connection.specs.declared.probe_end.Probe.{Probe}
+use Rattle.ws_connection.specs.declared.probe_end.Probe.TheVariants.{NoConnection, Ran, Refused}
+use Rattle.ws_connection.specs.UpgradeRequests.{request_value}
+use Rattle.wst_testing.specs.Servers.{AddressValue}
+use Rattle.wst_testing.proofs.TargetLemmas.{probed_so}
+use Rattle.wst_testing.proofs.address_server.meet_over.Goals as goal
+
+pub returns-in-Ran-clause-probed : goal.returns-in-Ran-clause-probed
+returns-in-Ran-clause-probed g c =
+    let asked = c.args.asked.now in
+    let server : AddressValue = record { request = request_value asked.request; budget = c.args.bounds.budget } in
+    let run : ConnectionRun = record { old = c.new-connection.result; new = c.probe.new.connection } in
+    probed_so server asked.key c.args.case.now
+    c.in_ok-transcript.field-0 (Ran c.in-Ran.transcript) run c.in_ok-transcript.ensures.probes c.in-Ran.is
+    c.new-connection.ensures.budget
+
+pub returns-in-Refused-clause-probed : goal.returns-in-Refused-clause-probed
+returns-in-Refused-clause-probed g c =
+    let asked = c.args.asked.now in
+    let server : AddressValue = record { request = request_value asked.request; budget = c.args.bounds.budget } in
+    let run : ConnectionRun = record { old = c.new-connection.result; new = c.probe.new.connection } in
+    probed_so server asked.key c.args.case.now
+    c.in_ok-transcript.field-0 (Refused c.in-Refused.refusal) run c.in_ok-transcript.ensures.probes c.in-Refused.is
+    c.new-connection.ensures.budget
+
+pub returns-clause-probed : goal.returns-clause-probed
+returns-clause-probed g c =
+    let asked = c.args.asked.now in
+    let server : AddressValue = record { request = request_value asked.request; budget = c.args.bounds.budget } in
+    let run : ConnectionRun = record { old = c.new-connection.result; new = c.probe.new.connection } in
+    probed_so server asked.key c.args.case.now
+    c.in_ok-transcript.field-0 NoConnection run c.in_ok-transcript.ensures.probes c.in-NoConnection.is
+    c.new-connection.ensures.budget
+
+pub returns-in-Ran-clause-told : goal.returns-in-Ran-clause-told
+returns-in-Ran-clause-told g c =
+    subst (λ (p : Probe). HearsProbe g.O.Observer.heard g.O.Observer.heard_all c.args.observer.now c.probe.new.observer p)
+    c.in-Ran.is c.in_ok-transcript.ensures.told
+
+pub returns-in-Refused-clause-told : goal.returns-in-Refused-clause-told
+returns-in-Refused-clause-told g c =
+    subst (λ (p : Probe). HearsProbe g.O.Observer.heard g.O.Observer.heard_all c.args.observer.now c.probe.new.observer p)
+    c.in-Refused.is c.in_ok-transcript.ensures.told
+
+pub returns-clause-told : goal.returns-clause-told
+returns-clause-told g c =
+    subst (λ (p : Probe). HearsProbe g.O.Observer.heard g.O.Observer.heard_all c.args.observer.now c.probe.new.observer p)
+    c.in-NoConnection.is c.in_ok-transcript.ensures.told

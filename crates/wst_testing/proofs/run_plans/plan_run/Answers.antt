@@ -1,0 +1,43 @@
+-- Each option was judged, and the connection is made where the words say.
+use Rattle.std.proofs.Common.{rules, ◌≡◌, ℕ, List, inr, refl, subst}
+use Rattle.ws_formats.specs.Words.{IsKeyWord}
+use Rattle.ws_connection.specs.Protocols.{protocols_given}
+use Rattle.ws_connection.specs.RequestHeaders.{headers_in}
+use Rattle.wst_testing.specs.RunPlans.{CanConnect, HasHeaders, HasOffers, header_words}
+use Rattle.wst_testing.proofs.run_plans.plan_run.Goals as goal
+
+pub returns : goal.returns
+returns c =
+    let options = c.args.options.now in
+    let offered : (c.in-Some.protocols ≡ protocols_given options.protocols) × HasOffers options = search rules in
+    let added : (c.in-Some-2.headers ≡ headers_in (header_words options)) × HasHeaders options = search rules in
+    let can : CanConnect options.connect = search rules in
+    record {
+      has_offers = offered.1;
+      protocols = offered.0;
+      has_headers = added.1;
+      headers = added.0;
+      timeout = c.in-Some-timeout_given.ensures;
+      key = subst (λ (word : List ℕ). IsKeyWord c.in-Some-read_key.key word) c.as_bytes.ensures.value c.in-Some-read_key.ensures;
+      named = (c.in_ok-named.named, c.in_ok-named.ensures);
+      can_connect = can;
+      tested = c.in_ok-tested.ensures options.role options.target.now c.in_ok-named.ensures;
+      budget = refl;
+    }
+
+pub returns-then-not-can_connect : goal.returns-then-not-can_connect
+returns-then-not-can_connect c =
+    let options = c.args.options.now in
+    let offered : (c.in-Some.protocols ≡ protocols_given options.protocols) × HasOffers options = search rules in
+    let added : (c.in-Some-2.headers ≡ headers_in (header_words options)) × HasHeaders options = search rules in
+    let can_not : ¬ (CanConnect options.connect) = search rules in
+    let key = subst (λ (word : List ℕ). IsKeyWord c.in-Some-read_key.key word) c.as_bytes.ensures.value
+    c.in-Some-read_key.ensures in (
+      (
+        offered.1,
+        added.1,
+        (c.in-Some-timeout_given.timeout, c.in-Some-timeout_given.ensures),
+        (c.in-Some-read_key.key, key),
+      ),
+      inr ((c.in_ok-named.named, c.in_ok-named.ensures), can_not),
+    )

@@ -1,0 +1,59 @@
+-- A script was run, and its line was written; or it is told why not.
+use Rattle.std.proofs.Common.{subst, sym}
+use Rattle.ws_frame.specs.Devices.{watched}
+use Rattle.ws_frame.specs.Watching.{has_failed, inner_of}
+use Rattle.wst_testing.specs.Sweeps.{IsSwept, case_rules}
+use Rattle.wst_testing.specs.Testing.{IsTested}
+use Rattle.wst_testing.specs.declared.outcome.Outcome.{Outcome}
+use Rattle.wst_testing.proofs.SweepLemmas.{line_stops, script_misses, short_so, tested_so}
+use Rattle.wst_testing.proofs.sweeping.run_script.Goals as goal
+
+pub returns-in_err-told : goal.returns-in_err-told
+returns-in_err-told g c =
+    let Meets = g.S.CaseServer.meets c.args.server.now in
+    let rules = c.args.rules in
+    let tested = tested_so Meets rules c.case_rules.result c.in_ok-case.case c.in_ok-outcome.outcome
+    c.case_rules.ensures c.in_ok-outcome.ensures in
+    let short = short_so rules c.args.script.now c.in_ok-case.case c.tester_key-key.result c.tester_key-key.ensures
+    c.in_ok-case.ensures.is in
+    script_misses (Meets rules.key) rules c.args.script.now c.in_ok-case.case c.in_ok-outcome.outcome
+    c.in_err-told.field-0.0 c.from_residual-in_err-told.result (g.W.Write.contents (inner_of c.args.writer.now))
+    (has_failed c.args.writer.now) short tested c.in_err-told.ensures
+    c.from_residual-in_err-told.ensures.1
+
+pub returns-in_err-tell_outcome : goal.returns-in_err-tell_outcome
+returns-in_err-tell_outcome g c =
+    let Meets = g.S.CaseServer.meets c.args.server.now in
+    let rules = c.args.rules in
+    let case = c.in_ok-case.case in
+    let told = c.in_ok-told.told in
+    let tested = tested_so Meets rules c.case_rules.result case c.in_ok-outcome.outcome c.case_rules.ensures
+    c.in_ok-outcome.ensures in
+    let short = short_so rules c.args.script.now case c.tester_key-key.result c.tester_key-key.ensures
+    c.in_ok-case.ensures.is in
+    let swept : IsSwept (Meets rules.key) rules (c.args.script.now, told) = (
+      case,
+      short,
+      subst (λ (o : Outcome). IsTested (Meets rules.key) (case_rules rules) case o) (sym c.in_ok-told.ensures.0) tested,
+    ) in
+    line_stops (Meets rules.key) rules c.args.script.now told c.in_err-tell_outcome.field-0.0
+    c.from_residual-in_err-tell_outcome.result
+    (watched g.W.Write.contents c.args.writer.now c.tell_outcome.new.writer) swept c.in_err-tell_outcome.ensures
+    c.from_residual-in_err-tell_outcome.ensures.1
+
+pub returns : goal.returns
+returns g c =
+    let Meets = g.S.CaseServer.meets c.args.server.now in
+    let rules = c.args.rules in
+    let case = c.in_ok-case.case in
+    let told = c.in_ok-told.told in
+    let tested = tested_so Meets rules c.case_rules.result case c.in_ok-outcome.outcome c.case_rules.ensures
+    c.in_ok-outcome.ensures in
+    let short = short_so rules c.args.script.now case c.tester_key-key.result c.tester_key-key.ensures
+    c.in_ok-case.ensures.is in
+    let swept : IsSwept (Meets rules.key) rules (c.args.script.now, told) = (
+      case,
+      short,
+      subst (λ (o : Outcome). IsTested (Meets rules.key) (case_rules rules) case o) (sym c.in_ok-told.ensures.0) tested,
+    ) in
+    (c.in_ok-told.ensures.1, swept, c.in_ok-tell_outcome.ensures.0, c.in_ok-tell_outcome.ensures.1)

@@ -1,0 +1,9 @@
+pub mod RunPlans
+pub mod Servers
+pub mod Outcomes
+pub mod Notes
+pub mod Reporting
+pub mod Testing
+pub mod KnownInput
+pub mod LineWriting
+pub mod Sweeps

@@ -1,0 +1,153 @@
+-- What the options that commands share ask for: over which end scripts are run, and how.
+use Rattle.std.specs.Prelude.{◌≡◌, ◌≢◌, ◌⊎◌, ⊤, ℕ, true, false, List, Option, None, Some, codes, map}
+use Rattle.std.specs.Prelude.{if◌then◌else◌}
+use Rattle.std.specs.Borrow.{Bor}
+use Rattle.std.specs.Str.Iter.{HasSubslice}
+use Rattle.ws_wire.specs.declared.role.Role.{Role}
+use Rattle.ws_wire.specs.declared.role.Role.TheVariants as role
+use Rattle.ws_connection.specs.Protocols.{protocols_given}
+use Rattle.ws_connection.specs.RequestHeaders.{AreHeaderWords, headers_in}
+use Rattle.ws_formats.specs.Words.{IsKeyWord}
+use Rattle.ws_frame.specs.Devices.{Device}
+use Rattle.ws_targets.specs.Places.{IsAddress}
+use Rattle.ws_targets.specs.Targets.{IsTargetText, TargetValue, begins_with_wss, connected_at}
+use Rattle.ws_upgrade.specs.Protocols.{AreOffers}
+use Rattle.wst_words.specs.declared.run_options.RunOptions.{RunOptions}
+use Rattle.wst_commands.specs.Devices.{Tells}
+use Rattle.wst_commands.specs.GivenCases.{TellsNoCases}
+use Rattle.wst_commands.specs.TimeLimits.{GivesTimeout, HasTimeout}
+use Rattle.wst_commands.specs.declared.exit.Exit.{Exit}
+use Rattle.wst_commands.specs.declared.exit.Exit.TheVariants.{WrongWords}
+use Rattle.wst_commands.specs.declared.given_cases.NoCases.TheVariants.{NoMemory, NoSuchCase}
+use Rattle.wst_testing.specs.declared.case_server.MemoryEnd.{MemoryEnd}
+use Rattle.wst_testing.specs.declared.case_server.MemoryPeer.{MemoryPeer}
+use Rattle.wst_testing.specs.declared.case_server.MemoryPeer.TheVariants.{Own, Tung}
+use Rattle.wst_testing.specs.declared.run_plans.Refusal.{Refusal}
+use Rattle.wst_testing.specs.declared.run_plans.Refusal.TheVariants as refusal
+use Rattle.wst_testing.specs.declared.run_plans.RunPlan.{RunPlan}
+use Rattle.wst_testing.specs.declared.run_plans.TestedEnd.{TestedEnd}
+use Rattle.wst_testing.specs.declared.run_plans.TestedEnd.TheVariants.{Clients, Memory, Server}
+
+-- ---- the tested end
+
+abbrev pub tested_role : TestedEnd → Role
+tested_role (Memory end) = end.role
+tested_role (Server target) = role.Server
+tested_role (Clients address) = role.Client
+
+-- the word for one in memory
+abbrev pub memory_word : MemoryPeer → List ℕ
+memory_word Own = codes "own"
+memory_word Tung = codes "tung"
+
+-- the word is of none in memory
+abbrev pub IsNoMemoryWord : List ℕ → Type 0
+IsNoMemoryWord word = (word ≢ codes "own") × (word ≢ codes "tung")
+
+-- a word with :// is a URL
+abbrev pub IsUrl : List ℕ → Type 0
+IsUrl word = HasSubslice word (codes "://")
+
+-- the word names this target, and the connection to it is made at the other address, where one is given
+abbrev pub IsTargetBy : List ℕ → Option (Bor (List ℕ)) → TargetValue → Type 0
+IsTargetBy word None target = IsTargetText word target
+IsTargetBy word (Some address) target =
+    (asked : TargetValue) × IsTargetText word asked × (target ≡ connected_at address.now asked)
+
+-- The word names this end of this role: one in memory, which has no connection; a server at a target; or the clients that
+-- come to an address, which is no URL.
+abbrev pub IsEndOf : Role → List ℕ → Option (Bor (List ℕ)) → TestedEnd → Type 0
+IsEndOf tested word connect (Memory end) = (end.role ≡ tested) × (word ≡ memory_word end.peer)
+IsEndOf tested word connect (Server target) =
+    (tested ≡ role.Server) × IsNoMemoryWord word × IsTargetBy word connect target
+IsEndOf tested word connect (Clients address) =
+    (tested ≡ role.Client) × IsNoMemoryWord word × ¬ (IsUrl word) × (address.now ≡ word)
+
+abbrev pub NamesEnd : Role → List ℕ → Type 0
+NamesEnd tested word = (end : TestedEnd) × IsEndOf tested word None end
+
+-- a connection can be made at the address, where one is given
+abbrev pub CanConnect : Option (Bor (List ℕ)) → Type 0
+CanConnect None = ⊤
+CanConnect (Some address) = IsAddress address.now
+
+-- ---- what the words ask for
+
+-- the names that are given can be offered
+abbrev pub HasOffers : RunOptions → Type 0
+HasOffers options = AreOffers (protocols_given options.protocols)
+
+abbrev pub header_words : RunOptions → List (List ℕ)
+header_words options = map (λ word. word.now) options.headers.items
+
+-- the headers that are given can be added to a request
+abbrev pub HasHeaders : RunOptions → Type 0
+HasHeaders options = AreHeaderWords (header_words options)
+
+abbrev pub HasKey : RunOptions → Type 0
+HasKey options = (key : List ℕ) × IsKeyWord key options.key.now
+
+-- the words ask for this
+pub record IsRunPlan (options : RunOptions) (plan : RunPlan) : Type 0 where
+  pub has_offers : HasOffers options
+  pub protocols : plan.protocols ≡ protocols_given options.protocols
+  pub has_headers : HasHeaders options
+  pub headers : plan.headers ≡ headers_in (header_words options)
+  pub timeout : GivesTimeout options.timeout plan.timeout
+  pub key : IsKeyWord plan.key options.key.now
+  pub named : NamesEnd options.role options.target.now
+  pub can_connect : CanConnect options.connect
+  pub tested : IsEndOf options.role options.target.now options.connect plan.tested
+  pub budget : plan.budget ≡ options.budget
+
+-- ---- what they can't ask for
+
+-- what is told of a word that names no end
+abbrev pub bad_target : List ℕ → Refusal
+bad_target word = if begins_with_wss word then refusal.EncryptedTarget else refusal.BadAddress
+
+-- why a word names no end of this role
+abbrev pub RefusesTarget : Role → List ℕ → Refusal → Type 0
+RefusesTarget tested word refusal.BadAddress = ¬ (NamesEnd tested word) × (begins_with_wss word ≡ false)
+RefusesTarget tested word refusal.EncryptedTarget = ¬ (NamesEnd tested word) × (begins_with_wss word ≡ true)
+RefusesTarget tested word (refusal.NoCases NoMemory) = ⊤
+RefusesTarget tested word _ = ⊥
+
+-- nothing is wrong with what stands before the target
+abbrev pub HasAllButEnd : RunOptions → Type 0
+HasAllButEnd options = HasOffers options × HasHeaders options × HasTimeout options.timeout × HasKey options
+
+-- The first of these that applies: the names that are given can't be offered; the headers can't be added; the seconds
+-- are no limit of time; the key is none; the target names no end of the role, or no connection can be made at the address that
+-- is given for it. Memory may run out at any of them.
+abbrev pub CanNotRun : RunOptions → Refusal → Type 0
+CanNotRun options refusal.BadProtocols = ¬ (HasOffers options)
+CanNotRun options refusal.BadHeader = HasOffers options × ¬ (HasHeaders options)
+CanNotRun options refusal.BadTimeout = HasOffers options × HasHeaders options × ¬ (HasTimeout options.timeout)
+CanNotRun options refusal.BadKey = HasOffers options × HasHeaders options × HasTimeout options.timeout
+    × ((key : List ℕ) → ¬ (IsKeyWord key options.key.now))
+CanNotRun options refusal.BadAddress = HasAllButEnd options
+    × (RefusesTarget options.role options.target.now refusal.BadAddress
+    ⊎ (NamesEnd options.role options.target.now × ¬ (CanConnect options.connect)))
+CanNotRun options refusal.EncryptedTarget =
+    HasAllButEnd options × RefusesTarget options.role options.target.now refusal.EncryptedTarget
+CanNotRun options refusal.CaptureInReport = ⊥
+CanNotRun options refusal.NotOneCase = ⊥
+CanNotRun options (refusal.NoCases (NoSuchCase id)) = ⊥
+CanNotRun options (refusal.NoCases NoMemory) = ⊤
+
+-- ---- what is told
+
+-- what is told of a refusal, and the exit
+abbrev pub TellsRefusal : Refusal → Exit → Device → Type 0
+TellsRefusal refusal.BadProtocols exit faults = (exit ≡ WrongWords) × Tells (codes "bad protocol list\n") faults
+TellsRefusal refusal.BadHeader exit faults = (exit ≡ WrongWords) × Tells (codes "bad header\n") faults
+TellsRefusal refusal.BadTimeout exit faults = (exit ≡ WrongWords) × Tells (codes "bad timeout\n") faults
+TellsRefusal refusal.BadKey exit faults = (exit ≡ WrongWords) × Tells (codes "bad key\n") faults
+TellsRefusal refusal.BadAddress exit faults = (exit ≡ WrongWords) × Tells (codes "bad address\n") faults
+TellsRefusal refusal.EncryptedTarget exit faults = (exit ≡ WrongWords)
+    × Tells (codes "bad address\nwss is not spoken: put a TLS client before it, see --connect\n") faults
+TellsRefusal refusal.CaptureInReport exit faults =
+    (exit ≡ WrongWords) × Tells (codes "--capture does not go with --known or --junit\n") faults
+TellsRefusal refusal.NotOneCase exit faults = (exit ≡ WrongWords) × Tells (codes "--capture takes one case\n") faults
+TellsRefusal (refusal.NoCases why) exit faults = TellsNoCases why exit faults

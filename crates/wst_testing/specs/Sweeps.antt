@@ -1,0 +1,201 @@
+-- Every short script run over new ends: what is told of them, a line for each with something to tell, and the total.
+use Rattle.std.specs.Prelude.{◌≡◌, ◌⊎◌, ⊤, ℕ, ◌+◌, Bool, true, false, if◌then◌else◌, List, [], ◌∷◌, ◌++◌, length, map}
+use Rattle.std.specs.Prelude.{Option, Some, None, Result, Ok, Err, MatchResult, codes, flat_map}
+use Rattle.std.specs.Fmt.{decimal}
+use Rattle.std.specs.List.{concat}
+use Rattle.ws_wire.specs.declared.role.Role.{Role}
+use Rattle.ws_session.specs.Replies.{key_for}
+use Rattle.ws_suite.specs.Evidence.{other_role}
+use Rattle.ws_frame.specs.Devices.{Device, HasBegun, HasWritten, IsUntouched}
+use Rattle.ws_scripts.specs.declared.script.Case.{Case}
+use Rattle.ws_suite.specs.declared.verdict.Verdict.{Verdict}
+use Rattle.ws_suite.specs.declared.verdict.Verdict.TheVariants as verdict
+use Rattle.ws_sweep.specs.Order.{ArePlaces, count_of_scripts, script_number}
+use Rattle.ws_sweep.specs.ShortCases.{IsShortCase}
+use Rattle.ws_sweep.specs.Telling.{steps_text}
+use Rattle.wst_commands.specs.Devices.{Tells}
+use Rattle.wst_commands.specs.Faults.{LacksMemory}
+use Rattle.wst_commands.specs.declared.exit.Exit.{Exit}
+use Rattle.wst_commands.specs.declared.exit.Exit.TheVariants.{Failed}
+use Rattle.wst_sockets.specs.Meetings.{miss_line}
+use Rattle.wst_testing.specs.Outcomes.{exit_of_tests, outcome_words, tally_of, total_line}
+use Rattle.wst_testing.specs.Testing.{IsTested}
+use Rattle.wst_sockets.specs.declared.meeting.ConnectFault.{ConnectFault}
+use Rattle.wst_sockets.specs.declared.meeting.Meeting.{Meeting}
+use Rattle.wst_testing.specs.declared.outcome.Outcome.{Outcome}
+use Rattle.wst_testing.specs.declared.outcome.Outcome.TheVariants.{HeadRefused, Judged, NoConnection, NotRun}
+use Rattle.wst_testing.specs.declared.outcome.Tally.{Tally}
+use Rattle.wst_testing.specs.declared.sweeping.SweepRules.{SweepRules}
+use Rattle.wst_testing.specs.declared.testing.RunRules.{RunRules}
+use Rattle.wst_testing.specs.declared.sweeping.SweepStop.{SweepStop}
+use Rattle.wst_testing.specs.declared.sweeping.SweepStop.TheVariants as stop
+
+-- ---- one script
+
+-- a script by the places of its steps, with what is told of an end in it
+abbrev pub SweptScript : Type 0
+SweptScript = List ℕ × Outcome
+
+-- a Fail is told, and a Loose where all is told
+abbrev pub is_told_verdict : Bool → Verdict → Bool
+is_told_verdict all verdict.Pass = false
+is_told_verdict all (verdict.Loose why) = all
+is_told_verdict all (verdict.Fail why) = true
+
+abbrev pub is_told : Bool → Outcome → Bool
+is_told all (Judged told) = is_told_verdict all told.verdict
+is_told all (HeadRefused fault) = true
+is_told all (NoConnection why) = true
+is_told all NotRun = true
+
+-- its line: what is told of the tested end, and the steps
+abbrev pub told_line : Role → SweptScript → List ℕ
+told_line tested script =
+    concat (outcome_words script.1 ∷ codes ": " ∷ steps_text tested script.0 ∷ codes "\n" ∷ [])
+
+abbrev pub script_line : SweepRules → SweptScript → List ℕ
+script_line rules script = if is_told rules.all script.1 then told_line rules.tested script else []
+
+-- what is told on the fault output before it runs
+abbrev pub script_notes : Bool → Role → List ℕ → List (List ℕ)
+script_notes false tested places = []
+script_notes true tested places = (steps_text tested places ++ codes "\n") ∷ []
+
+-- why there is no connection to the tested end, where there is none
+abbrev pub missed_by : Outcome → Option ConnectFault
+missed_by (Judged told) = None
+missed_by (HeadRefused fault) = None
+missed_by (NoConnection why) = Some why
+missed_by NotRun = None
+
+-- how its case is run: why a verdict is told isn't asked for
+abbrev pub case_rules : SweepRules → RunRules
+case_rules rules =
+    record { tested = rules.tested; key = rules.key; explains = false; progress = false; is_limited = false }
+
+-- this is told of one of the ends that meet cases so, in the script's case
+abbrev pub IsSwept : (Case → Meeting → Type 0) → SweepRules → SweptScript → Type 0
+IsSwept Meets rules script = (case : Case)
+    × IsShortCase rules.tested (key_for (other_role rules.tested) rules.key) script.0 case
+    × IsTested Meets (case_rules rules) case script.1
+
+-- ---- scripts
+
+-- these are scripts one after the other in their order, from the one of this number on, each with what is told of an
+-- end of its own, to which there was a connection
+abbrev pub AreSwept : (Case → Meeting → Type 0) → SweepRules → ℕ → List SweptScript → Type 0
+AreSwept Meets rules number [] = ⊤
+AreSwept Meets rules number (script ∷ scripts) = ArePlaces script.0 × (script_number script.0 ≡ number)
+    × (missed_by script.1 ≡ None) × IsSwept Meets rules script × AreSwept Meets rules (number + 1) scripts
+
+abbrev pub outcomes_of : List SweptScript → List Outcome
+outcomes_of scripts = map (λ script. script.1) scripts
+
+abbrev pub sweep_lines : SweepRules → List SweptScript → List ℕ
+sweep_lines rules scripts = flat_map (script_line rules) scripts
+
+-- the line of the total
+abbrev pub sweep_total : ℕ → Tally → List ℕ
+sweep_total count tally = decimal count ++ (codes " scripts: " ++ total_line tally)
+
+-- the total of these
+abbrev pub total_of_scripts : List SweptScript → List ℕ
+total_of_scripts scripts = sweep_total (length scripts) (tally_of (outcomes_of scripts))
+
+-- ---- a run
+
+-- All scripts of at most so many steps were run; their lines and the total were written, and the exit tells whether one
+-- is a Fail.
+pub record SweepsAll (Meets : Case → Meeting → Type 0) (rules : SweepRules) (exit : Exit) (output : Device)
+    : Type 0 where
+  pub scripts : List SweptScript
+  pub in_order : AreSwept Meets rules 0 scripts
+  pub all : length scripts ≡ count_of_scripts rules.steps
+  pub written : HasWritten (sweep_lines rules scripts ++ total_of_scripts scripts) output
+  pub works : output.failed ≡ false
+  pub is_exit : exit ≡ exit_of_tests (tally_of (outcomes_of scripts))
+
+-- the next script could be this one, and this is told of an end in it
+abbrev pub IsNextSwept : (Case → Meeting → Type 0) → SweepRules → List SweptScript → SweptScript → Type 0
+IsNextSwept Meets rules scripts next =
+    ArePlaces next.0 × (script_number next.0 ≡ length scripts) × IsSwept Meets rules next
+
+-- this is to be written next: the line of the next script, or the total where all were run
+abbrev pub IsNextText : (Case → Meeting → Type 0) → SweepRules → List SweptScript → List ℕ → Type 0
+IsNextText Meets rules scripts text =
+    ((next : SweptScript) × IsNextSwept Meets rules scripts next × (text ≡ script_line rules next))
+    ⊎ ((length scripts ≡ count_of_scripts rules.steps) × (text ≡ total_of_scripts scripts))
+
+-- why a run stopped behind these scripts
+abbrev pub StopsBehind : (Case → Meeting → Type 0) → SweepRules → List SweptScript → SweepStop → Device → Type 0
+StopsBehind Meets rules scripts stop.Device output = (text : List ℕ) × IsNextText Meets rules scripts text
+    × (output.failed ≡ true) × HasBegun (sweep_lines rules scripts ++ text) output
+StopsBehind Meets rules scripts (stop.NoConnection why) output =
+    ((places : List ℕ) × IsNextSwept Meets rules scripts (places, NoConnection why))
+    × HasWritten (sweep_lines rules scripts) output
+StopsBehind Meets rules scripts stop.NoMemory output = HasWritten (sweep_lines rules scripts) output
+
+-- The first scripts were run, and their lines were written; the next line, or the total, could not be written, or to
+-- the next end there is no connection, or memory ran out.
+pub record StopsSweep (Meets : Case → Meeting → Type 0) (rules : SweepRules) (why : SweepStop) (output : Device)
+    : Type 0 where
+  pub scripts : List SweptScript
+  pub in_order : AreSwept Meets rules 0 scripts
+  pub stops : StopsBehind Meets rules scripts why output
+
+-- how a run of every short script ended, over ends that meet cases so
+abbrev pub SweepsScripts : (Case → Meeting → Type 0) → SweepRules → Result Exit SweepStop → Device → Type 0
+SweepsScripts Meets rules ended output =
+    MatchResult ended (λ exit. SweepsAll Meets rules exit output) (λ why. StopsSweep Meets rules why output)
+
+-- ---- what is told on the fault output, and the exit
+
+abbrev pub TellsSweepEnd : Result Exit SweepStop → Exit → Device → Type 0
+TellsSweepEnd (Ok ended) exit faults = (exit ≡ ended) × IsUntouched faults
+TellsSweepEnd (Err stop.Device) exit faults = (exit ≡ Failed) × IsUntouched faults
+TellsSweepEnd (Err (stop.NoConnection why)) exit faults = (exit ≡ Failed) × Tells (miss_line why) faults
+TellsSweepEnd (Err stop.NoMemory) exit faults = LacksMemory exit faults
+
+-- ---- parts of a run: a reader may skip what follows
+
+-- a text was written, or a write failed, or memory ran out for it
+abbrev pub WritesText : List ℕ → Result (Unit {0}) SweepStop → Device → Type 0
+WritesText text (Ok _) output = HasWritten text output × (output.failed ≡ false)
+WritesText text (Err stop.Device) output = HasBegun text output × (output.failed ≡ true)
+WritesText text (Err (stop.NoConnection why)) output = ⊥
+WritesText text (Err stop.NoMemory) output = IsUntouched output
+
+-- the outcome is told on, where there is a connection; or why there is none
+abbrev pub IsConnected : Outcome → Result Outcome SweepStop → Type 0
+IsConnected outcome (Ok told) = (told ≡ outcome) × (missed_by told ≡ None)
+IsConnected outcome (Err stop.Device) = ⊥
+IsConnected outcome (Err (stop.NoConnection why)) = outcome ≡ NoConnection why
+IsConnected outcome (Err stop.NoMemory) = ⊥
+
+-- the script was run, and its line was written; or why not
+abbrev pub StopsAtScript : (Case → Meeting → Type 0) → SweepRules → List ℕ → SweepStop → Device → Type 0
+StopsAtScript Meets rules places stop.Device output = (outcome : Outcome) × IsSwept Meets rules (places, outcome)
+    × HasBegun (script_line rules (places, outcome)) output × (output.failed ≡ true)
+StopsAtScript Meets rules places (stop.NoConnection why) output =
+    IsSwept Meets rules (places, NoConnection why) × IsUntouched output
+StopsAtScript Meets rules places stop.NoMemory output = IsUntouched output
+
+abbrev pub SweepsScript : (Case → Meeting → Type 0) → SweepRules → List ℕ → Result Outcome SweepStop → Device → Type 0
+SweepsScript Meets rules places ended output = MatchResult ended
+    (λ outcome. (missed_by outcome ≡ None) × IsSwept Meets rules (places, outcome)
+    × HasWritten (script_line rules (places, outcome)) output × (output.failed ≡ false))
+    (λ why. StopsAtScript Meets rules places why output)
+
+-- the first so many scripts were run and counted, and their lines written
+pub record HasSwept (Meets : Case → Meeting → Type 0) (rules : SweepRules) (count : ℕ) (tally : Tally)
+    (output : Device) : Type 0 where
+  pub scripts : List SweptScript
+  pub in_order : AreSwept Meets rules 0 scripts
+  pub many : length scripts ≡ count
+  pub counted : tally ≡ tally_of (outcomes_of scripts)
+  pub written : HasWritten (sweep_lines rules scripts) output
+
+abbrev pub CountsScripts : (Case → Meeting → Type 0) → SweepRules → Result Tally SweepStop → Device → Type 0
+CountsScripts Meets rules ended output = MatchResult ended
+    (λ tally. HasSwept Meets rules (count_of_scripts rules.steps) tally output × (output.failed ≡ false))
+    (λ why. StopsSweep Meets rules why output)

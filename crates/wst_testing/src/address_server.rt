@@ -1,0 +1,142 @@
+//! A server at an address of a network: each case is run over a connection of its own.
+
+ghost use Rattle.std.specs.Prelude.{◌≡◌, IfOk};
+ghost use Rattle.ws_scripts.specs.Scripts.{CanBeRun};
+ghost use Rattle.ws_connection.specs.Observing.{HearsProbe, IsHearing};
+ghost use Rattle.wst_sockets.specs.Meetings.{probe_of};
+ghost use Rattle.ws_connection.specs.UpgradeRequests.{CanBeAsked, request_value};
+ghost use Rattle.wst_testing.specs.Servers.{IsProbedSo, MeetsAtAddress, asked_by};
+
+use crate::case_server::CaseServer;
+use crate::run_plans::RunPlan;
+use std::alloc::Global;
+use std::cell::Cell;
+use std::io::{ErrorKind, Read, Write};
+use std::marker::Model;
+use std::net::{Net, OpenStream};
+use ws_base::NoMemory;
+use ws_connection::{Asked, Connection, Observer, Probe, Silent, UpgradeRequest, probe};
+use ws_suite::Case;
+use ws_targets::Target;
+use wst_commands::TimeLimit;
+use wst_sockets::{ConnectFault, Meeting, Noted, Side, connect, connect_fault, shared};
+
+/// How much is read of a server at an address in one case, and how long it is waited for.
+#[derive(Clone, Copy)]
+pub struct Bounds {
+    /// At most so many bytes are read behind the head of its answer.
+    pub budget: u64,
+    /// A connection, and each byte, is waited for so long.
+    pub timeout: TimeLimit,
+}
+
+/// A server that is met over a network, at an address. Contracts see what it is asked for, and the budget.
+#[derive(Drop)]
+pub struct AddressServer<'a, N> {
+    net: &'a N,
+    address: &'a str,
+    request: UpgradeRequest<'a>,
+    bounds: Bounds,
+}
+
+impl<'a, N> Model for AddressServer<'a, N> {
+    ghost use Rattle.ws_connection.specs.UpgradeRequests.{CanBeAsked, request_value};
+    ghost use Rattle.wst_testing.specs.Servers.{AddressValue};
+
+    ghost Value = { AddressValue };
+
+    ghost view = { λ server. record { request = request_value server.request; budget = server.bounds.budget } };
+
+    ghost invariant = { λ server. CanBeAsked (request_value server.request) };
+}
+
+impl<'a, N> AddressServer<'a, N> {
+    /// The server at a target, as a plan asks for it.
+    pub fn new(net: &'a N, target: &'a Target, plan: &'a RunPlan<'_>) -> AddressServer<'a, N>
+        ensures { result ≡ asked_by plan.now target.now }
+    {
+        AddressServer {
+            net,
+            address: target.address(),
+            request: UpgradeRequest {
+                host: target.host().as_bytes(),
+                path: target.path(),
+                protocols: plan.protocols.as_slice(),
+                headers: plan.headers.as_slice(),
+            },
+            bounds: Bounds {
+                budget: plan.budget,
+                timeout: plan.timeout,
+            },
+        }
+    }
+}
+
+impl<N: Net> CaseServer for AddressServer<'_, N> {
+    ghost meets = { λ server key case meeting. MeetsAtAddress server key case meeting };
+
+    fn run(&self, alloc: Global, case: &Case, key: [u8; 4]) -> Result<Meeting, NoMemory> {
+        self.run_told(alloc, case, key, &mut Silent)
+    }
+
+    fn run_told<O: Observer>(
+        &self,
+        alloc: Global,
+        case: &Case,
+        key: [u8; 4],
+        observer: &mut O,
+    ) -> Result<Meeting, O::Fault> {
+        match connect(self.net, self.address, self.bounds.timeout) {
+            Ok(stream) => {
+                let asked = Asked {
+                    request: self.request,
+                    key,
+                    has_timeouts: self.bounds.timeout.is_limited(),
+                };
+                meet_over(alloc, case, &asked, stream, self.bounds, observer)
+            }
+            Err(why) => Ok(Meeting::NoConnection(why)),
+        }
+    }
+}
+
+/// Runs a case over a connection, and tells why its answer was not whole, if so.
+fn meet_over<S: Read + Write + OpenStream + Drop, O: Observer>(
+    alloc: Global,
+    case: &Case,
+    asked: &Asked<'_>,
+    stream: S,
+    bounds: Bounds,
+    observer: &mut O,
+) -> Result<Meeting, O::Fault>
+    requires runs { CanBeRun case.now }
+    requires request { CanBeAsked (request_value asked.now.request) }
+    requires hearing { IsHearing O.heard observer.old }
+    ensures probed { IfOk result (λ meeting. IsProbedSo
+        (record { request = request_value asked.now.request; budget = bounds.budget }) asked.now.key case.now
+        (probe_of meeting)) }
+    ensures told { IfOk result (λ meeting.
+        HearsProbe O.heard O.heard_all observer.old observer.new (probe_of meeting)) }
+    ensures borrow { O.borrow observer.new ≡ O.borrow observer.old }
+{
+    let stream = shared(stream, bounds.timeout);
+    let failure = Cell::new(None);
+    let (reader, writer) = (
+        Noted::of(Side::of(&stream), &failure),
+        Noted::of(Side::of(&stream), &failure),
+    );
+    let mut connection = Connection::new(reader, writer, bounds.budget);
+    match probe(alloc, case, asked, &mut connection, observer)? {
+        Probe::Ran(transcript) => Ok(Meeting::Ran(transcript)),
+        Probe::Refused(refusal) => Ok(Meeting::Refused(refusal)),
+        Probe::NoConnection => Ok(Meeting::NoConnection(fault_of(failure.get()))),
+    }
+}
+
+/// Why an answer was not whole, where a call has failed so first. Where none has, the stream has ended in it.
+fn fault_of(failure: Option<ErrorKind>) -> ConnectFault {
+    match failure {
+        Some(kind) => connect_fault(kind),
+        None => ConnectFault::ClosedBeforeAnswer,
+    }
+}

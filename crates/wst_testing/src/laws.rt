@@ -1,0 +1,29 @@
+//! Laws over the definitions, each the contract of a function that does nothing.
+
+ghost use Rattle.std.specs.Prelude.{◌≡◌, Bool, None, true};
+ghost use Rattle.ws_scripts.specs.declared.script.Case.{Case};
+ghost use Rattle.wst_testing.specs.Outcomes.{is_fail, is_pass};
+ghost use Rattle.wst_testing.specs.Reporting.{fails_in};
+ghost use Rattle.wst_testing.specs.Servers.{MeetsInMemory};
+ghost use Rattle.wst_testing.specs.Sweeps.{IsSwept, SweptScript};
+ghost use Rattle.wst_testing.specs.declared.case_server.MemoryPeer.TheVariants.{Own};
+ghost use Rattle.wst_testing.specs.declared.outcome.Outcome.{Outcome};
+ghost use Rattle.wst_testing.specs.declared.sweeping.SweepRules.{SweepRules};
+
+use ws_suite::laws::one_verdict;
+
+/// Whatever a short script sends, what is told of our echo in it, be it a server or a client, is Pass: the judge is fair,
+/// and gives one verdict.
+pub fn our_echo_passes_every_script()
+    ensures { (rules : SweepRules) (script : SweptScript) →
+        IsSwept (MeetsInMemory (record { peer = Own; role = rules.tested }) rules.key) rules script →
+        is_pass script.1 ≡ true }
+{
+    one_verdict();
+}
+
+/// Where no earlier run is known, a run is said to have failed by the cases that are a Fail, of which no connection is one.
+pub fn a_run_fails_by_its_fails()
+    ensures { (is_junit : Bool) (test : Case × Outcome) →
+        fails_in (record { is_junit = is_junit; known = None }) test ≡ is_fail test.1 }
+{}

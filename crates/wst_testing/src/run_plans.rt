@@ -1,0 +1,278 @@
+//! What the options that commands share ask for: over which end scripts are run, and how. One place judges them.
+
+ghost use Rattle.std.specs.Prelude.{◌≡◌, ◌≢◌, ◌↔◌, IfOk, IsTrue, List, MatchOption, MatchResult, ℕ, codes};
+ghost use Rattle.ws_frame.specs.Devices.{watched};
+ghost use Rattle.wst_commands.specs.Devices.{Tells};
+ghost use Rattle.ws_connection.specs.RequestHeaders.{headers_in};
+ghost use Rattle.wst_testing.specs.RunPlans.{HasHeaders, header_words};
+ghost use Rattle.wst_testing.specs.RunPlans.{CanConnect, IsEndOf, IsRunPlan, CanNotRun, RefusesTarget, TellsRefusal};
+ghost use Rattle.wst_testing.specs.RunPlans.{bad_target, tested_role};
+ghost use Rattle.ws_wire.specs.declared.role.Role.{Role};
+ghost use Rattle.ws_wire.specs.declared.role.Role.TheVariants.{Client, Server};
+ghost use Rattle.wst_commands.specs.declared.exit.Exit.TheVariants.{WrongWords};
+ghost use Rattle.wst_testing.specs.declared.run_plans.TestedEnd.TheVariants.{Memory};
+
+use crate::case_server::{MemoryEnd, MemoryPeer};
+use std::alloc::Global;
+use std::io::Write;
+use ws_base::NoMemory;
+use ws_connection::{Protocols, RequestHeaders, headers_of, protocols_of};
+use ws_formats::read_key;
+use ws_frame::Watched;
+use ws_targets::{Target, TargetFault, asks_for_tls, is_address, read_target};
+use ws_wire::Role;
+use wst_commands::{Exit, NoCases, TimeLimit, tell, tell_no_cases, timeout_given};
+use wst_words::RunOptions;
+
+/// The end that scripts are run over.
+#[derive(Drop)]
+pub enum TestedEnd<'a> {
+    /// It stands in memory.
+    Memory(MemoryEnd),
+    /// A server that is met there.
+    Server(Target),
+    /// Clients that come to this address.
+    Clients(&'a str),
+}
+
+impl TestedEnd<'_> {
+    /// Its role.
+    pub fn role(&self) -> Role
+        ensures { result ≡ tested_role self.now }
+    {
+        match self {
+            TestedEnd::Memory(end) => end.role,
+            TestedEnd::Server(_) => Role::Server,
+            TestedEnd::Clients(_) => Role::Client,
+        }
+    }
+}
+
+/// Over which end scripts are run, and how.
+#[derive(Drop)]
+pub struct RunPlan<'a> {
+    /// The masking key of the client's frames that have none of their own.
+    pub key: [u8; 4],
+    pub tested: TestedEnd<'a>,
+    /// How long an end that is not in memory is waited for.
+    pub timeout: TimeLimit,
+    /// At most so many bytes are read of such an end in one script behind its head.
+    pub budget: u64,
+    /// The subprotocols that are offered to a server, or of which one is chosen for a client.
+    pub protocols: Protocols<'a>,
+    /// The headers that the request to a server has behind its own.
+    pub headers: RequestHeaders<'a>,
+}
+
+/// Why nothing is run: the first of these that applies.
+#[derive(Clone, Copy)]
+pub enum Refusal<'a> {
+    /// The names that are given can't be offered as subprotocols.
+    BadProtocols,
+    /// A word is no header that can be added to a request, or there are too many.
+    BadHeader,
+    /// The seconds are no limit of time.
+    BadTimeout,
+    /// The key is not eight lower-case hexadecimal digits.
+    BadKey,
+    /// The target names no server, or no connection can be made at the address that is given for it.
+    BadAddress,
+    /// The target names no server, and begins as a URL whose connection is encrypted.
+    EncryptedTarget,
+    /// A capture is asked for beside an earlier run or a document.
+    CaptureInReport,
+    /// A capture is asked for, and not exactly one case is given.
+    NotOneCase,
+    /// A word stands for no case, or memory ran out.
+    NoCases(NoCases<'a>),
+}
+
+impl<'a> From<NoCases<'a>> for Refusal<'a> {
+    ghost use Rattle.wst_testing.specs.declared.run_plans.Refusal.TheVariants as refusal;
+
+    ghost from_gives = { λ why given. given ≡ refusal.NoCases why };
+
+    fn from(why: NoCases<'a>) -> Self {
+        Refusal::NoCases(why)
+    }
+}
+
+impl From<NoMemory> for Refusal<'_> {
+    ghost use Rattle.wst_commands.specs.declared.given_cases.NoCases.TheVariants as why;
+    ghost use Rattle.wst_testing.specs.declared.run_plans.Refusal.TheVariants as refusal;
+
+    ghost from_gives = { λ _ given. given ≡ refusal.NoCases why.NoMemory };
+
+    fn from(_refused: NoMemory) -> Self {
+        Refusal::NoCases(NoCases::NoMemory)
+    }
+}
+
+/// What the options ask for, or the first reason against it.
+pub fn plan_run<'a>(alloc: Global, options: &RunOptions<'a>) -> Result<RunPlan<'a>, Refusal<'a>>
+    ensures { MatchResult result (IsRunPlan options.now) (CanNotRun options.now) }
+{
+    let Some(protocols) = protocols_of(alloc, options.protocols)? else {
+        return Err(Refusal::BadProtocols);
+    };
+    let Some(headers) = headers_given(alloc, options)? else {
+        return Err(Refusal::BadHeader);
+    };
+    let Some(timeout) = timeout_given(options.timeout) else {
+        return Err(Refusal::BadTimeout);
+    };
+    let Some(key) = read_key(options.key.as_bytes()) else {
+        return Err(Refusal::BadKey);
+    };
+    let named = end_named(alloc, options.role, options.target)?;
+    if !can_connect(options.connect) {
+        return Err(Refusal::BadAddress);
+    }
+    let tested = connected(alloc, named, options.connect)?;
+    Ok(RunPlan {
+        key,
+        tested,
+        timeout,
+        budget: options.budget,
+        protocols,
+        headers,
+    })
+}
+
+/// The headers of the words. `None` where a request can't have them.
+fn headers_given<'a>(
+    alloc: Global,
+    options: &RunOptions<'a>,
+) -> Result<Option<RequestHeaders<'a>>, NoMemory>
+    ensures { IfOk result (λ found. MatchOption found (¬ (HasHeaders options.now))
+        (λ headers. (headers ≡ headers_in (header_words options.now)) × HasHeaders options.now)) }
+{
+    let found = headers_of(alloc, options.headers.as_slice())?;
+    Ok(found)
+}
+
+/// The end of this role that a word names.
+fn end_named<'a>(alloc: Global, role: Role, word: &'a str) -> Result<TestedEnd<'a>, Refusal<'a>>
+    ensures { MatchResult result (IsEndOf role word.now None) (RefusesTarget role word.now) }
+{
+    match word {
+        "own" => Ok(in_memory(MemoryPeer::Own, role)),
+        "tung" => Ok(in_memory(MemoryPeer::Tung, role)),
+        _ => end_at(alloc, role, word),
+    }
+}
+
+/// The end of this role at an address.
+fn end_at<'a>(alloc: Global, role: Role, word: &'a str) -> Result<TestedEnd<'a>, Refusal<'a>>
+    requires own { word.now ≢ codes "own" }
+    requires tung { word.now ≢ codes "tung" }
+    ensures { MatchResult result (IsEndOf role word.now None) (RefusesTarget role word.now) }
+{
+    match role {
+        Role::Server => server_at(alloc, word),
+        Role::Client => clients_at(word),
+    }
+}
+
+/// This one in memory.
+fn in_memory<'a>(peer: MemoryPeer, role: Role) -> TestedEnd<'a>
+    ensures { result ≡ Memory (record { peer = peer; role = role }) }
+{
+    TestedEnd::Memory(MemoryEnd { peer, role })
+}
+
+/// The server at a target.
+fn server_at<'a>(alloc: Global, word: &'a str) -> Result<TestedEnd<'a>, Refusal<'a>>
+    requires own { word.now ≢ codes "own" }
+    requires tung { word.now ≢ codes "tung" }
+    ensures { MatchResult result (IsEndOf Server word.now None) (RefusesTarget Server word.now) }
+{
+    match read_target(alloc, word) {
+        Ok(target) => Ok(TestedEnd::Server(target)),
+        Err(TargetFault::NoMemory) => Err(Refusal::NoCases(NoCases::NoMemory)),
+        Err(TargetFault::Bad) => Err(bad_target(word)),
+    }
+}
+
+/// The clients that come to an address. A URL is none.
+fn clients_at<'a>(word: &'a str) -> Result<TestedEnd<'a>, Refusal<'a>>
+    requires own { word.now ≢ codes "own" }
+    requires tung { word.now ≢ codes "tung" }
+    ensures { MatchResult result (IsEndOf Client word.now None) (RefusesTarget Client word.now) }
+{
+    if word.contains("://") {
+        Err(bad_target(word))
+    } else {
+        Ok(TestedEnd::Clients(word))
+    }
+}
+
+/// What is told of a word that names no end.
+fn bad_target<'a>(word: &str) -> Refusal<'a>
+    ensures { result ≡ bad_target word.now }
+{
+    if asks_for_tls(word) {
+        Refusal::EncryptedTarget
+    } else {
+        Refusal::BadAddress
+    }
+}
+
+/// Whether a connection can be made at the address that is given, if one is.
+fn can_connect(connect: Option<&str>) -> bool
+    ensures { IsTrue result ↔ CanConnect connect.entry }
+{
+    match connect {
+        Some(address) => is_address(address.as_bytes()),
+        None => true,
+    }
+}
+
+/// The end, where a server is met at the address that is given, if one is.
+fn connected<'a>(
+    alloc: Global,
+    end: TestedEnd<'a>,
+    connect: Option<&str>,
+) -> Result<TestedEnd<'a>, NoMemory>
+    ensures { IfOk result (λ at. (role : Role) (word : List ℕ) → IsEndOf role word None end.entry →
+        IsEndOf role word connect.entry at) }
+{
+    match (end, connect) {
+        (TestedEnd::Server(target), Some(address)) => {
+            let target = target.connected_at(alloc, address)?;
+            Ok(TestedEnd::Server(target))
+        }
+        (end, _) => Ok(end),
+    }
+}
+
+/// Tells a refusal in its lines, where the fault output takes them, and answers the exit that it stands for.
+pub fn tell_refusal<F: Write>(alloc: Global, refusal: Refusal<'_>, faults: &mut Watched<F>) -> Exit
+    ensures { TellsRefusal refusal.entry result (watched F.contents faults.old faults.new) }
+{
+    match refusal {
+        Refusal::BadProtocols => tell_wrong(b"bad protocol list\n", faults),
+        Refusal::BadHeader => tell_wrong(b"bad header\n", faults),
+        Refusal::BadTimeout => tell_wrong(b"bad timeout\n", faults),
+        Refusal::BadKey => tell_wrong(b"bad key\n", faults),
+        Refusal::BadAddress => tell_wrong(b"bad address\n", faults),
+        Refusal::EncryptedTarget => tell_wrong(
+            b"bad address\nwss is not spoken: put a TLS client before it, see --connect\n",
+            faults,
+        ),
+        Refusal::CaptureInReport => {
+            tell_wrong(b"--capture does not go with --known or --junit\n", faults)
+        }
+        Refusal::NotOneCase => tell_wrong(b"--capture takes one case\n", faults),
+        Refusal::NoCases(why) => tell_no_cases(alloc, why, faults),
+    }
+}
+
+/// Tells what is wrong with the words.
+fn tell_wrong<F: Write>(text: &[u8], faults: &mut Watched<F>) -> Exit
+    ensures exit { result ≡ WrongWords }
+    ensures told { Tells text.now (watched F.contents faults.old faults.new) }
+{
+    tell(text, faults);
+    Exit::WrongWords
+}

@@ -1,0 +1,263 @@
+//! Cases run over new ends: each is judged, and its line is written, before the next one runs.
+
+ghost use Rattle.std.specs.Prelude.{◌≡◌, ◌+◌, ◌<◌, ◌^◌, List, ℕ, IfOk, MatchResult, OnErr, OnOk, false, if◌then◌else◌, string_bytes};
+ghost use Rattle.std.specs.List.{All};
+ghost use Rattle.ws_frame.specs.Devices.{watched};
+ghost use Rattle.ws_frame.specs.Watching.{has_failed};
+ghost use Rattle.ws_scripts.specs.Captures2.{written_capture2};
+ghost use Rattle.ws_scripts.specs.Scripts.{CanBeRun};
+ghost use Rattle.wst_commands.specs.Devices.{Delivers, StaysFailed};
+ghost use Rattle.wst_testing.specs.Notes.{TellsEach, miss_notes, progress_notes};
+ghost use Rattle.wst_testing.specs.Outcomes.{is_missed, max_missed, told_refusal};
+ghost use Rattle.wst_testing.specs.Testing.{IsTested, RunsCapture, RunsCases, WritesCapture, run_capture, test_line};
+ghost use Rattle.wst_commands.specs.declared.fault.Fault.TheVariants as variant;
+
+use crate::case_server::CaseServer;
+use crate::outcome::{Below, Outcome};
+use crate::reporting::{report_case, tell_end};
+use crate::score::Score;
+use std::alloc::Global;
+use std::io::Write;
+use ws_base::NoMemory;
+use ws_connection::HeadRefusal;
+use ws_frame::Watched;
+use ws_peer::tester_key;
+use ws_reports::Report;
+use ws_suite::{Capture, Case, Transcript, judge_end, write_capture2};
+use ws_upgrade::HeadFault;
+use ws_wire::Role;
+use wst_commands::{Exit, Fault, deliver, exit_of, judgement_of, tell};
+use wst_sockets::Meeting;
+
+/// How cases are run.
+#[derive(Clone, Copy)]
+pub struct RunRules {
+    /// The role of the tested end.
+    pub tested: Role,
+    /// The masking key of the client's frames.
+    pub key: [u8; 4],
+    /// Below a verdict other than Pass it is told why.
+    pub explains: bool,
+    /// The name of each case is told before it runs.
+    pub progress: bool,
+    /// Tested ends are waited for in time: a case without a connection doesn't end the run then, but the third in a row.
+    pub is_limited: bool,
+}
+
+/// Runs the cases in their order, each over a new end, and writes what the report has of each as soon as it is judged,
+/// and of the total last. What can't be written ends the run, and so does, after it is told, an end to which there is no
+/// connection, or the third in a row. Why there is none is told to `faults`, and the name of a case where that is asked
+/// for.
+pub fn test_cases<S: CaseServer, W: Write, F: Write>(
+    alloc: Global,
+    server: &S,
+    rules: RunRules,
+    report: &Report,
+    cases: &[Case],
+    writer: &mut Watched<W>,
+    faults: &mut Watched<F>,
+) -> Result<Exit, Fault>
+    requires works { has_failed writer.old ≡ false }
+    requires can_be_run { All CanBeRun cases.now }
+    ensures runs { RunsCases (S.meets server.now rules.key) rules report.now cases.now result
+        (watched W.contents writer.old writer.new) (watched F.contents faults.old faults.new) }
+    ensures still { StaysFailed faults.old faults.new }
+{
+    let mut score = Score::new();
+    let mut missed = 0;
+    for case in cases {
+        tell_progress(alloc, rules.progress, case, faults)?;
+        let outcome = outcome_of(alloc, server, case, rules)?;
+        let reported = report_case(alloc, report, case, &outcome)?;
+        let told = deliver(Exit::Done, reported.text.as_bytes(), writer);
+        tell_miss(&outcome, faults);
+        if writer.failed() {
+            return Ok(told);
+        }
+        missed = missed_after(missed, &outcome);
+        if missed >= max_missed(rules.is_limited) {
+            return Ok(Exit::Failed);
+        }
+        score = score.with(&outcome, reported.is_failed);
+    }
+    tell_end(alloc, report, score, writer)
+}
+
+/// After so many cases in a row without a connection a run ends.
+fn max_missed(is_limited: bool) -> u32
+    ensures { result ≡ max_missed is_limited }
+{
+    if is_limited { 3 } else { 1 }
+}
+
+/// How many cases in a row were without a connection, where there were so many before this outcome.
+fn missed_after(missed: u32, outcome: &Outcome) -> u32
+    requires { missed + 1 < 2 ^ 32 }
+    ensures { result ≡ (if is_missed outcome.now then 1 + missed else 0) }
+{
+    match outcome {
+        Outcome::NoConnection(_) => missed + 1,
+        Outcome::Judged(_) | Outcome::HeadRefused(_) | Outcome::NotRun => 0,
+    }
+}
+
+/// Tells the name of a case that is run next, where that is asked for.
+pub fn tell_progress<F: Write>(
+    alloc: Global,
+    progress: bool,
+    case: &Case,
+    faults: &mut Watched<F>,
+) -> Result<(), NoMemory>
+    ensures told { OnOk result (TellsEach (progress_notes progress case.now)
+        (watched F.contents faults.old faults.new)) }
+    ensures kept { OnErr result (faults.new ≡ faults.old) }
+    ensures still { StaysFailed faults.old faults.new }
+{
+    if !progress {
+        return Ok(());
+    }
+    let line = format!(in alloc; "{}\n", case.id)?;
+    tell(line.as_bytes(), faults);
+    Ok(())
+}
+
+/// Tells why there is no connection to the tested end of a case, where there is none.
+fn tell_miss<F: Write>(outcome: &Outcome, faults: &mut Watched<F>)
+    ensures told { TellsEach (miss_notes outcome.now) (watched F.contents faults.old faults.new) }
+    ensures still { StaysFailed faults.old faults.new }
+{
+    match outcome {
+        Outcome::NoConnection(why) => tell(why.line(), faults),
+        Outcome::Judged(_) | Outcome::HeadRefused(_) | Outcome::NotRun => {}
+    }
+}
+
+/// What is told of a new end in a case.
+pub(crate) fn outcome_of<S: CaseServer>(
+    alloc: Global,
+    server: &S,
+    case: &Case,
+    rules: RunRules,
+) -> Result<Outcome, NoMemory>
+    requires { CanBeRun case.now }
+    ensures { IfOk result (λ outcome. IsTested (S.meets server.now rules.key) rules case.now outcome) }
+{
+    match server.run(alloc, case, rules.key)? {
+        Meeting::Ran(transcript) => {
+            let told = judgement_of(alloc, rules.explains, rules.tested, &transcript)?;
+            Ok(Outcome::Judged(told))
+        }
+        Meeting::Refused(refusal) => {
+            let told = told_refusal(rules.explains, refusal);
+            Ok(Outcome::HeadRefused(told))
+        }
+        Meeting::NoConnection(why) => Ok(Outcome::NoConnection(why)),
+    }
+}
+
+/// What is told of a refusal: its status where that is why, and where it is told why.
+fn told_refusal(explains: bool, refusal: HeadRefusal) -> HeadRefusal
+    ensures { result ≡ told_refusal explains refusal }
+{
+    let is_told = explains && matches!(refusal.fault, HeadFault::Status);
+    HeadRefusal {
+        fault: refusal.fault,
+        status: if is_told { refusal.status } else { None },
+    }
+}
+
+/// Writes the line of a case, and what stands below it, and answers this exit, or that of a failure.
+pub fn tell_case<W: Write>(
+    alloc: Global,
+    case: &Case,
+    outcome: &Outcome,
+    done: Exit,
+    writer: &mut Watched<W>,
+) -> Result<Exit, Fault>
+    requires { has_failed writer.old ≡ false }
+    ensures { MatchResult result
+        (λ exit. Delivers done (test_line (case.now, outcome.now)) exit (watched W.contents writer.old writer.new))
+        (λ fault. (fault ≡ variant.NoMemory) × (writer.new ≡ writer.old)) }
+{
+    let lines = case_line(alloc, case, outcome)?;
+    Ok(deliver(done, lines.as_bytes(), writer))
+}
+
+/// The line of a case, and what stands below it.
+pub(crate) fn case_line(alloc: Global, case: &Case, outcome: &Outcome) -> Result<String, NoMemory>
+    ensures { IfOk result (λ lines. string_bytes lines ≡ test_line (case.now, outcome.now)) }
+{
+    let below = Below(outcome);
+    let lines = format!(in alloc; "{} {outcome}\n{below}", case.id)?;
+    Ok(lines)
+}
+
+/// Runs a case over a new end, and writes the capture of it in format 2. Where there is none, it writes the line of
+/// the case. What is told to `faults` is told as by `test_cases`.
+pub fn capture_case<S: CaseServer, W: Write, F: Write>(
+    alloc: Global,
+    server: &S,
+    rules: RunRules,
+    case: &Case,
+    writer: &mut Watched<W>,
+    faults: &mut Watched<F>,
+) -> Result<Exit, Fault>
+    requires works { has_failed writer.old ≡ false }
+    requires can_be_run { CanBeRun case.now }
+    ensures runs { RunsCapture (S.meets server.now rules.key) rules case.now result
+        (watched W.contents writer.old writer.new) (watched F.contents faults.old faults.new) }
+    ensures still { StaysFailed faults.old faults.new }
+{
+    tell_progress(alloc, rules.progress, case, faults)?;
+    match server.run(alloc, case, rules.key)? {
+        Meeting::Ran(transcript) => tell_capture(alloc, rules, transcript, writer),
+        Meeting::Refused(refusal) => {
+            let outcome = Outcome::HeadRefused(HeadRefusal {
+                fault: refusal.fault,
+                status: None,
+            });
+            tell_case(alloc, case, &outcome, Exit::Damaged, writer)
+        }
+        Meeting::NoConnection(why) => {
+            let outcome = Outcome::NoConnection(why);
+            let told = tell_case(alloc, case, &outcome, Exit::Failed, writer)?;
+            tell_miss(&outcome, faults);
+            Ok(told)
+        }
+    }
+}
+
+/// Writes the capture of a run. The exit is that of the verdict on the tested end by its transcript.
+pub fn tell_capture<W: Write>(
+    alloc: Global,
+    rules: RunRules,
+    transcript: Transcript,
+    writer: &mut Watched<W>,
+) -> Result<Exit, Fault>
+    requires { has_failed writer.old ≡ false }
+    ensures { MatchResult result
+        (λ exit. WritesCapture rules.tested (run_capture rules.tested rules.key transcript) exit
+        (watched W.contents writer.old writer.new))
+        (λ fault. (fault ≡ variant.NoMemory) × (writer.new ≡ writer.old)) }
+{
+    let verdict = judge_end(alloc, rules.tested, &transcript)?;
+    let text = capture_text(alloc, rules.tested, rules.key, transcript)?;
+    Ok(deliver(exit_of(verdict), text.as_slice(), writer))
+}
+
+/// The capture of a run that tests an end of this role, in format 2.
+pub fn capture_text(
+    alloc: Global,
+    tested: Role,
+    key: [u8; 4],
+    transcript: Transcript,
+) -> Result<Vec<u8>, NoMemory>
+    ensures { IfOk result (λ text. text.items ≡ written_capture2 (run_capture tested key transcript)) }
+{
+    let capture = Capture {
+        key: tester_key(tested, key),
+        transcript,
+    };
+    let text = write_capture2(alloc, &capture)?;
+    Ok(text)
+}

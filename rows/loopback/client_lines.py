@@ -1,0 +1,394 @@
+"""What `wst test --role client`, `wst send --role client` and `wst sweep --role client` write of clients, which are raw
+sockets here, what they send them, and how they end."""
+
+import socket
+import subprocess
+
+from server import SECONDS, Client, Running, run, start
+from sweep_lines import FORTY
+from wire import BAD_REQUEST, NAMES_CHAT, OFFERING, OTHER_VERSION, REQUEST, RESPONSE
+
+# A text and a close frame as a server sends them, and as a client does under a key of zeros (section 5.2).
+CLOSE = bytes.fromhex("880203e8")
+CLOSE_BACK = bytes.fromhex("88820000000003e8")
+EMPTY_TEXT = b"\x81\x00"
+EMPTY_BACK = b"\x81\x80\x00\x00\x00\x00"
+CAPTURE = """wst-capture 2
+key -
+turn
+> 8100
+< 818000000000
+turn
+> 880203e8
+< 88820000000003e8
+end tester
+"""
+
+
+def text(words):
+    """A text frame of a server."""
+    assert len(words) < 126
+    return b"\x81" + bytes([len(words)]) + words.encode()
+
+
+def request_for(path):
+    return REQUEST.replace(b"/chat", path.encode())
+
+
+class Listening(Running):
+    """A run that listens for clients at a port that the system chooses. The line that tells it comes first: on the
+    output of `test`, on the fault output where that says so."""
+
+    def __init__(self, command, *words, told="output", stdin=subprocess.DEVNULL, text=None):
+        self.process = start(command, "--role=client", *words, stdin=subprocess.PIPE if text else stdin)
+        if text:
+            self.process.stdin.write(text)
+            self.process.stdin.close()
+            self.process.stdin = None
+        line = self.line() if told == "output" else self.process.stderr.readline().decode().rstrip("\n")
+        front = "listening on 127.0.0.1:"
+        assert line.startswith(front), line
+        self.port = int(line.removeprefix(front))
+        assert self.port != 0
+
+    def client(self, path="/"):
+        """A connection that has asked for a path, and got the response."""
+        client = Client(socket.create_connection(("127.0.0.1", self.port), SECONDS))
+        client.send(request_for(path))
+        assert client.get(len(RESPONSE)) == RESPONSE
+        return client
+
+    def asks(self, *bytes_sent):
+        """What a client gets that sends this and waits for the end."""
+        client = Client(socket.create_connection(("127.0.0.1", self.port), SECONDS))
+        client.send(*bytes_sent)
+        return client.rest()
+
+    def is_told(self, path, words=None):
+        """A connection for a path is told this, and a close in the same turn."""
+        client = self.client(path)
+        wanted = (b"" if words is None else text(words)) + CLOSE
+        got = client.get(len(wanted))
+        assert got == wanted, got
+        client.send(CLOSE_BACK)
+        assert client.rest() == b""
+        client.close()
+
+    def ends(self, *lines, status=0, faults=b""):
+        got = list(iter(self.line, ""))
+        assert got == list(lines), got
+        assert self.process.wait(SECONDS) == status, self.process.returncode
+        told = self.process.stderr.read()
+        assert told == faults, told
+
+
+ADDRESS = "127.0.0.1:0"
+
+
+def right_client(run, path="/"):
+    """A client that does right in the case 1.1.1, by turns."""
+    client = run.client(path)
+    assert client.get(len(EMPTY_TEXT)) == EMPTY_TEXT
+    client.send(EMPTY_BACK)
+    assert client.get(len(CLOSE)) == CLOSE
+    client.send(CLOSE_BACK)
+    assert client.rest() == b""
+    client.close()
+
+
+def a_walk_over_the_cases():
+    """As the test clients of libraries do: how many cases, each of them, how it stands, and the reports."""
+    run = Listening("test", ADDRESS, "1.1.1", "2.1")
+    run.is_told("/getCaseCount", "2")
+    run.is_told("/getCaseStatus?case=1&agent=a", '{"behavior":"UNIMPLEMENTED"}')
+    run.is_told("/getCaseInfo?case=1", '{"id":"1.1.1","description":"2 turns"}')
+    right_client(run, "/runCase?case=1&agent=a")
+    assert run.line() == "1.1.1 PASS"
+    run.is_told("/getCaseStatus?case=1&agent=a", '{"behavior":"OK"}')
+    client = run.client("/runCase?agent=a&case=2")
+    client.send(EMPTY_BACK)
+    client.close()
+    assert run.line() == "2.1 FAIL Messages"
+    run.is_told("/getCaseStatus?case=2", '{"behavior":"FAILED"}')
+    run.is_told("/updateReports?agent=a")
+    run.ends("1 pass, 0 loose, 1 fail", status=1)
+
+
+def a_client_that_runs_no_case():
+    run = Listening("test", ADDRESS, "1.1.1", "1.1.2")
+    run.is_told("/updateReports")
+    run.ends("1.1.1 FAIL NotRun", "1.1.2 FAIL NotRun", "0 pass, 0 loose, 2 fail", status=1)
+
+
+def cases_that_are_named_wrongly():
+    run = Listening("test", ADDRESS, "1.1.1")
+    for query in ("", "?case=0", "?case=2", "?case=01", "?case=", "?case=1&case=1", "?Case=1", "?case=1?"):
+        for path in ("/runCase", "/getCaseInfo", "/getCaseStatus"):
+            run.is_told(path + query)
+    run.is_told("/updateReports")
+    run.ends("1.1.1 FAIL NotRun", "0 pass, 0 loose, 1 fail", status=1)
+
+
+def any_other_path_is_the_next_case():
+    run = Listening("test", ADDRESS, "1.1.1", "1.1.1")
+    right_client(run, "/")
+    assert run.line() == "1.1.1 PASS"
+    right_client(run, "/chat?x=1")
+    run.ends("1.1.1 PASS", "2 pass, 0 loose, 0 fail")
+
+
+def a_case_that_is_run_twice():
+    run = Listening("test", ADDRESS, "1.1.1")
+    right_client(run, "/runCase?case=1")
+    assert run.line() == "1.1.1 PASS"
+    client = run.client("/runCase?case=1")
+    client.close()
+    assert run.line() == "1.1.1 FAIL Messages"
+    run.is_told("/getCaseStatus?case=1", '{"behavior":"FAILED"}')
+    run.is_told("/updateReports")
+    run.ends("1 pass, 0 loose, 1 fail", status=1)
+
+
+def requests_that_are_refused():
+    run = Listening("test", ADDRESS, "1.1.1")
+    assert run.asks(REQUEST.replace(b"GET", b"PUT")) == BAD_REQUEST
+    assert run.asks(REQUEST.replace(b": 13", b": 8")) == OTHER_VERSION
+    right_client(run)
+    run.ends("1.1.1 PASS", "1 pass, 0 loose, 0 fail", faults=b"refused Method\nrefused WsVersion\n")
+
+
+def streams_that_end_inside_the_head():
+    run = Listening("test", ADDRESS, "1.1.1")
+    for sent in (b"", REQUEST[:1], REQUEST[:-1]):
+        client = Client(socket.create_connection(("127.0.0.1", run.port), SECONDS))
+        client.send(sent)
+        client.half_close()
+        assert client.rest() == b""
+        client.close()
+    right_client(run)
+    run.ends("1.1.1 PASS", "1 pass, 0 loose, 0 fail")
+
+
+def a_client_that_forgets_the_mask():
+    run = Listening("test", "--explain", ADDRESS, "1.1.1")
+    client = run.client()
+    assert client.get(len(EMPTY_TEXT)) == EMPTY_TEXT
+    client.send(EMPTY_TEXT)
+    assert client.rest() == b""
+    run.ends(
+        "1.1.1 FAIL NotFrames",
+        "  due 1 text -",
+        "  got 1 failed MaskWrong",
+        "  end tester 1",
+        "  rule A client sends whole frames by the rules of RFC 6455 section 5, masked, with text in UTF-8 (section 8.1), "
+        "and nothing behind its close frame (ours)",
+        "0 pass, 0 loose, 1 fail",
+        status=1,
+    )
+
+
+def a_client_that_closes_early():
+    run = Listening("test", ADDRESS, "1.1.1")
+    client = run.client()
+    client.send(CLOSE_BACK)
+    assert client.rest() in (b"", EMPTY_TEXT)
+    line = run.line()
+    assert line.startswith("1.1.1 FAIL "), line
+    run.ends("0 pass, 0 loose, 1 fail", status=1)
+
+
+def a_client_that_is_silent():
+    run = Listening("test", "--timeout=1", ADDRESS, "1.1.1", "1.1.1")
+    client = run.client()
+    assert client.get(len(EMPTY_TEXT + CLOSE)) == EMPTY_TEXT + CLOSE
+    assert client.rest() == b""
+    client.close()
+    assert run.line() == "1.1.1 FAIL Messages"
+    waits = Client(socket.create_connection(("127.0.0.1", run.port), SECONDS))
+    waits.send(REQUEST[:-1])
+    assert waits.rest() == b""
+    right_client(run)
+    run.ends("1.1.1 PASS", "1 pass, 0 loose, 1 fail", status=1)
+
+
+def a_client_that_resets():
+    run = Listening("test", ADDRESS, "1.1.1")
+    client = run.client()
+    assert client.get(len(EMPTY_TEXT)) == EMPTY_TEXT
+    client.reset()
+    line = run.line()
+    assert line == "1.1.1 FAIL Messages", line
+    run.ends("0 pass, 0 loose, 1 fail", status=1)
+
+
+def names_that_are_known():
+    run = Listening("test", "--protocols=chat", ADDRESS, "1.1.1")
+    client = Client(socket.create_connection(("127.0.0.1", run.port), SECONDS))
+    client.send(OFFERING)
+    assert client.get(len(NAMES_CHAT)) == NAMES_CHAT
+    assert client.get(len(EMPTY_TEXT)) == EMPTY_TEXT
+    client.send(EMPTY_BACK)
+    assert client.get(len(CLOSE)) == CLOSE
+    client.send(CLOSE_BACK)
+    run.ends("1.1.1 PASS", "1 pass, 0 loose, 0 fail")
+
+
+def a_capture_of_a_client():
+    run = Listening("test", "--capture", ADDRESS, "1.1.1", told="faults")
+    run.is_told("/getCaseCount", "1")
+    right_client(run, "/runCase?case=1")
+    run.ends(*CAPTURE.splitlines())
+
+
+def a_capture_of_a_client_that_runs_no_case():
+    run = Listening("test", "--capture", ADDRESS, "1.1.1", told="faults")
+    run.is_told("/updateReports")
+    run.ends("1.1.1 FAIL NotRun", status=1)
+
+
+def progress():
+    run = Listening("test", "--progress", ADDRESS, "1.1.1")
+    right_client(run)
+    run.ends("1.1.1 PASS", "1 pass, 0 loose, 0 fail", faults=b"1.1.1\n")
+
+
+def a_script_that_is_sent():
+    for path in ("/", "/getCaseCount", "/runCase?case=7"):
+        run = Listening("send", ADDRESS, told="faults", text=b'text "Hello"\nclose=1000\n')
+        assert run.asks(REQUEST.replace(b"GET", b"PUT")) == BAD_REQUEST
+        client = run.client(path)
+        assert client.get(len(text("Hello") + CLOSE)) == text("Hello") + CLOSE
+        client.send(bytes.fromhex("818537fa213d7f9f4d5158"), CLOSE_BACK)
+        assert client.rest() == b""
+        run.ends(
+            "turn 1",
+            "> 0 text fin=1 rsv=0 key=- len=5 short 48656c6c6f",
+            "> 7 close fin=1 rsv=0 key=- len=2 short 03e8",
+            "< 0 text fin=1 rsv=0 key=37fa213d len=5 short 48656c6c6f",
+            "< 11 close fin=1 rsv=0 key=00000000 len=2 short 03e8",
+            "end tester",
+            faults=b"refused Method\n",
+        )
+
+
+def a_sweep_of_a_client():
+    run = Listening("sweep", "--steps=0", "--progress", ADDRESS)
+    run.is_told("/getCaseCount", "1")
+    run.is_told("/getCaseInfo?case=1", '{"id":"1","description":"1 turns"}')
+    run.is_told("/runCase?case=1")
+    run.is_told("/getCaseStatus?case=1", '{"behavior":"OK"}')
+    run.is_told("/updateReports")
+    run.ends("1 scripts: 1 pass, 0 loose, 0 fail", faults=b"-\n")
+
+
+def a_sweep_of_which_little_is_run():
+    run = Listening("sweep", "--steps=1", ADDRESS)
+    run.is_told("/getCaseCount", "28")
+    run.is_told("/getCaseInfo?case=28", '{"id":"28","description":"1 turns"}')
+    run.is_told("/")
+    client = run.client()
+    client.half_close()
+    assert client.get(1) == b"\x81"
+    client.close()
+    assert run.line() == 'FAIL Messages: text "a"'
+    run.is_told("/updateReports")
+    steps = [*FORTY.splitlines()[2:27], 'text key=00000000 "a"']
+    missing = [f"FAIL NotRun: {step}" for step in steps]
+    run.ends(*missing, "28 scripts: 1 pass, 0 loose, 27 fail", status=1)
+
+
+def known_lines_of_clients():
+    """Beside an earlier run, whose lines come in: those of `test`, with the line that tells the address."""
+    known = b"listening on 127.0.0.1:9001\n1.1.1 PASS\n1.1.2 FAIL NotRun\n1.1.3 LOOSE LateEnd\n2 pass, 0 loose, 1 fail\n"
+    run = Listening("test", "--known", ADDRESS, "1.1.1", "1.1.2", "1.1.3", "2.2", text=known)
+    right_client(run, "/runCase?case=1")
+    assert run.line() == "1.1.1 PASS"
+    client = run.client("/runCase?case=3")
+    client.close()
+    assert run.line() == "1.1.3 FAIL Messages (was LOOSE LateEnd)"
+    run.is_told("/updateReports")
+    run.ends("1.1.2 FAIL NotRun", "2.2 FAIL NotRun (new)", "1 pass, 0 loose, 3 fail", status=1)
+
+
+def known_fails_of_clients():
+    run = Listening("test", "--known", ADDRESS, "1.1.1", "1.1.2", text=b"1.1.1 LOOSE Early\n1.1.2 FAIL NotRun\n")
+    right_client(run, "/runCase?case=1")
+    assert run.line() == "1.1.1 PASS (was LOOSE Early)"
+    run.is_told("/updateReports")
+    run.ends("1.1.2 FAIL NotRun", "1 pass, 0 loose, 1 fail")
+
+
+def a_list_that_is_none():
+    process = start("test", "--known", "--role=client", ADDRESS, stdin=subprocess.PIPE)
+    told = process.communicate(b"1.1.1 PASSED\n", timeout=SECONDS)
+    assert (process.returncode, *told) == (1, b"", b"line 1: not a verdict\n"), told
+
+
+DOCUMENT = """<?xml version="1.0" encoding="UTF-8"?>
+<testsuites><testsuite name="wst 127.0.0.1:0">
+<testcase classname="wst" name="1.1.1"/>
+<testcase classname="wst" name="1.1.2"><failure message="FAIL NotRun">
+</failure></testcase>
+</testsuite></testsuites>
+"""
+
+
+def a_document_of_clients():
+    run = Listening("test", "--junit", ADDRESS, "1.1.1", "1.1.2", told="faults")
+    right_client(run, "/runCase?case=1")
+    run.is_told("/getCaseStatus?case=1", '{"behavior":"OK"}')
+    run.is_told("/updateReports")
+    run.ends(*DOCUMENT.splitlines(), status=1)
+
+
+def a_document_beside_an_earlier_run():
+    run = Listening("test", "--junit", "--known", ADDRESS, "1.1.1", "1.1.2", told="faults", text=b"1.1.2 FAIL NotRun\n")
+    right_client(run, "/runCase?case=1")
+    run.is_told("/updateReports")
+    run.ends(
+        '<?xml version="1.0" encoding="UTF-8"?>',
+        '<testsuites><testsuite name="wst 127.0.0.1:0">',
+        '<testcase classname="wst" name="1.1.1"><failure message="PASS (new)">',
+        "</failure></testcase>",
+        '<testcase classname="wst" name="1.1.2"><system-out>FAIL NotRun',
+        "</system-out></testcase>",
+        "</testsuite></testsuites>",
+        status=1,
+    )
+
+
+def no_listener():
+    with socket.create_server(("127.0.0.1", 0)) as taken:
+        address = f"127.0.0.1:{taken.getsockname()[1]}"
+        for words in (["test", address], ["test", "--capture", address, "1.1.1"], ["sweep", address]):
+            assert run(words[0], "--role=client", *words[1:]) == (3, b"", b"not listening: address in use\n")
+    assert run("test", "--role=client", "127.0.0.1", "1.1.1") == (3, b"", b"not listening: no such host\n")
+    assert run("test", "--role=client", "ws://127.0.0.1:1", "1.1.1") == (2, b"", b"bad address\n")
+
+
+TESTS = [
+    a_walk_over_the_cases,
+    a_client_that_runs_no_case,
+    cases_that_are_named_wrongly,
+    any_other_path_is_the_next_case,
+    a_case_that_is_run_twice,
+    requests_that_are_refused,
+    streams_that_end_inside_the_head,
+    a_client_that_forgets_the_mask,
+    a_client_that_closes_early,
+    a_client_that_is_silent,
+    a_client_that_resets,
+    names_that_are_known,
+    a_capture_of_a_client,
+    a_capture_of_a_client_that_runs_no_case,
+    progress,
+    a_script_that_is_sent,
+    a_sweep_of_a_client,
+    a_sweep_of_which_little_is_run,
+    known_lines_of_clients,
+    known_fails_of_clients,
+    a_list_that_is_none,
+    a_document_of_clients,
+    a_document_beside_an_earlier_run,
+    no_listener,
+]

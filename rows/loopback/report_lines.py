@@ -1,0 +1,273 @@
+"""What `wst test --known` and `wst test --junit` write of servers at an address that pass, break a rule, refuse the
+request or go away; and JUnit documents as Python's reader of XML reads them."""
+
+import socket
+import subprocess
+from threading import Thread
+from xml.etree import ElementTree
+
+from server import SECONDS, Client, Tested, free_port, start
+from target_lines import FORBIDDEN, asked
+from test_lines import passes
+from wire import CLOSE_BACK, EMPTY_BACK, EMPTY_TEXT, MASKED_CLOSE, RESPONSE
+
+EMPTY_BINARY = b"\x82\x00"
+OTHER_CODE = b"\x88\x02\x03\xe9"
+
+# What a server answers to the two turns of the case 1.1.1, by the verdict that is due.
+ANSWERS = {
+    "PASS": (EMPTY_BACK, CLOSE_BACK),
+    "LOOSE OtherCode": (EMPTY_BACK, OTHER_CODE),
+    "FAIL Messages": (EMPTY_BINARY, CLOSE_BACK),
+}
+
+BELOW_FAIL = """  due 1 text -
+  due 2 close 1000
+  got 1 binary -
+  got 2 close 1000
+  end peer 2
+  rule Each message is sent back, in order, of the same kind and payload (RFC 6455 sections 5.4 and 5.6; ours); after \
+a fault the last may be missing
+"""
+BELOW_LOOSE = """  due 1 text -
+  due 2 close 1000
+  got 1 text -
+  got 2 close 1001
+  end peer 2
+  rule A close frame typically has the code of the one that it answers (RFC 6455 section 5.5.1), and one after a fault \
+the code of that fault (section 7.4.1)
+"""
+
+
+def serve(listener, request, verdicts):
+    """Serves a connection for each of these verdicts on the case 1.1.1, and then no more."""
+    for verdict in verdicts:
+        client = Client(listener.accept()[0])
+        with client.stream:
+            if verdict == "no connection":
+                continue
+            assert client.get(len(request)) == request
+            if verdict == "FAIL Head Status":
+                client.send(FORBIDDEN)
+                continue
+            client.send(RESPONSE)
+            for sent, back in zip((EMPTY_TEXT, MASKED_CLOSE), ANSWERS[verdict]):
+                assert client.get(len(sent)) == sent
+                client.send(back)
+    listener.close()
+
+
+def test(words, verdicts, known=None, host=None, behind=""):
+    """The status, the output and the fault output of `wst test` of the case 1.1.1 for each of these verdicts, at a
+    server that is due them, and the target that it is: a URL, or this host, wherever the connection is made."""
+    with socket.create_server(("127.0.0.1", 0)) as listener:
+        listener.settimeout(SECONDS)
+        address = f"127.0.0.1:{listener.getsockname()[1]}"
+        url = f"ws://{address}/{behind}" if host is None else host
+        request = asked(b"/" + behind.encode(), (host or address).encode())
+        thread = Thread(target=serve, args=[listener, request, verdicts])
+        thread.start()
+        words = [*words, "--connect", address, url, *("1.1.1" for _ in verdicts)]
+        process = start("test", *words, stdin=subprocess.PIPE)
+        output, faults = process.communicate(None if known is None else known.encode(), timeout=SECONDS)
+        thread.join()
+    return process.returncode, output.decode(), faults.decode(), url
+
+
+def told(known, verdict, line, status):
+    """Beside this verdict that is known of it, the case has this line, and the run this status."""
+    total = f"{int(verdict == 'PASS')} pass, {int('LOOSE' in verdict)} loose, {int('FAIL' in verdict)} fail\n"
+    got = test(["--known"], [verdict], f"1.1.1 {known}\n")[:3]
+    assert got == (status, f"1.1.1 {line}\n{total}", ""), (known, verdict, got)
+
+
+def a_fail_that_is_known_comes_again():
+    for verdict in ("FAIL Messages", "FAIL Head Status"):
+        told(verdict, verdict, verdict, 0)
+
+
+def a_fail_that_is_not_the_known_one():
+    told("PASS", "FAIL Messages", "FAIL Messages (was PASS)", 1)
+    told("FAIL End", "FAIL Messages", "FAIL Messages (was FAIL End)", 1)
+    told("FAIL Head Accept", "FAIL Head Status", "FAIL Head Status (was FAIL Head Accept)", 1)
+    told("LOOSE OtherCode", "FAIL Messages", "FAIL Messages (was LOOSE OtherCode)", 1)
+    told("FAIL Messages", "LOOSE OtherCode", "LOOSE OtherCode (was FAIL Messages)", 1)
+
+
+def a_loose_beside_others():
+    told("LOOSE OtherCode", "LOOSE OtherCode", "LOOSE OtherCode", 0)
+    told("LOOSE LateEnd", "LOOSE OtherCode", "LOOSE OtherCode (was LOOSE LateEnd)", 0)
+    told("PASS", "LOOSE OtherCode", "LOOSE OtherCode (was PASS)", 0)
+
+
+def what_is_explained_is_known_next():
+    """The output of a run with --explain, and of one with --known, is a list for the next."""
+    verdicts = ["FAIL Messages", "FAIL Messages"]
+    first = test(["--explain"], verdicts)
+    assert first[:3] == (1, f"1.1.1 FAIL Messages\n{BELOW_FAIL}" * 2 + "0 pass, 0 loose, 2 fail\n", ""), first
+    assert test(["--known", "--explain"], verdicts, first[1])[:2] == (0, first[1])
+    other = test(["--known"], ["PASS"], first[1])
+    assert other[:3] == (1, "1.1.1 PASS (was FAIL Messages)\n1 pass, 0 loose, 0 fail\n", ""), other
+    again = test(["--known"], ["PASS"], other[1])
+    assert again[:3] == (0, "1.1.1 PASS\n1 pass, 0 loose, 0 fail\n", ""), again
+
+
+def no_connection_that_is_known():
+    refused = "no connection: refused\n"
+    for known, words, told_of_it in (
+        ("no connection", ["--timeout", "1"], (0, "1.1.1 no connection\n0 pass, 0 loose, 1 fail\n")),
+        ("PASS", ["--timeout", "1"], (1, "1.1.1 no connection (was PASS)\n0 pass, 0 loose, 1 fail\n")),
+        ("FAIL End", ["--timeout", "1"], (1, "1.1.1 no connection (was FAIL End)\n0 pass, 0 loose, 1 fail\n")),
+        ("no connection", [], (3, "1.1.1 no connection\n")),
+    ):
+        process = start("test", "--known", *words, f"127.0.0.1:{free_port()}", "1.1.1", stdin=subprocess.PIPE)
+        output, faults = process.communicate(f"1.1.1 {known}\n".encode(), timeout=SECONDS)
+        assert (process.returncode, output.decode(), faults.decode()) == (*told_of_it, refused), (known, output)
+
+
+def a_connection_that_is_dropped_in_the_middle():
+    """With --timeout the run goes on behind it, and it is otherwise than what is known."""
+    closed = "no connection: closed before the answer\n"
+    words = ["--known", "--timeout", "5"]
+    dropped = test(words, ["PASS", "no connection", "PASS"], "1.1.1 PASS\n")
+    lines = "1.1.1 PASS\n1.1.1 no connection (was PASS)\n1.1.1 PASS\n2 pass, 0 loose, 1 fail\n"
+    assert dropped[:3] == (1, lines, closed), dropped
+    ended = test(words, ["PASS"] + ["no connection"] * 3, dropped[1])
+    lines = "1.1.1 PASS\n" + 3 * "1.1.1 no connection (was PASS)\n"
+    assert ended[:3] == (3, lines, 3 * closed), ended
+
+
+def a_damaged_list_meets_nobody():
+    with socket.create_server(("127.0.0.1", 0)) as listener:
+        listener.settimeout(0)
+        address = f"127.0.0.1:{listener.getsockname()[1]}"
+        for words in (["--known"], ["--known", "--junit"]):
+            process = start("test", *words, address, "1.1.1", stdin=subprocess.PIPE)
+            told = process.communicate(b"1.1.1 PASS\n1.1.1 FAIL\n", timeout=SECONDS)
+            assert (process.returncode, *told) == (1, b"", b"line 2: not a verdict\n"), told
+        try:
+            raise AssertionError(listener.accept())
+        except BlockingIOError:
+            pass
+
+
+def element(case):
+    """What a reader of JUnit finds of a case: its name, what kind of element is inside, its message and its text."""
+    assert case.tag == "testcase" and case.get("classname") == "wst", case
+    inside = [(part.tag, part.get("message"), part.text) for part in case]
+    return case.get("name"), *inside
+
+
+def read_document(document, target):
+    """The cases of a document about a target, whole and with nothing behind its end."""
+    assert document.startswith('<?xml version="1.0" encoding="UTF-8"?>\n'), document
+    suites = ElementTree.fromstring(document)
+    assert suites.tag == "testsuites" and len(suites) == 1, document
+    assert suites[0].tag == "testsuite" and suites[0].get("name") == f"wst {target}", document
+    return [element(case) for case in suites[0]]
+
+
+def a_document_of_each_verdict():
+    verdicts = ["PASS", "LOOSE OtherCode", "FAIL Messages", "FAIL Head Status"]
+    status, document, faults, url = test(["--junit"], verdicts)
+    assert (status, faults) == (1, ""), (status, faults)
+    assert read_document(document, url) == [
+        ("1.1.1",),
+        ("1.1.1", ("system-out", None, f"LOOSE OtherCode\n{BELOW_LOOSE}")),
+        ("1.1.1", ("failure", "FAIL Messages", f"\n{BELOW_FAIL}")),
+        ("1.1.1", ("failure", "FAIL Head Status", "\n  status 403\n")),
+    ], document
+
+
+def a_document_beside_an_earlier_run():
+    verdicts = ["PASS", "LOOSE OtherCode", "FAIL Messages"]
+    status, document, faults, url = test(["--junit", "--known"], verdicts, "1.1.1 FAIL Messages\n")
+    assert (status, faults) == (1, ""), (status, faults)
+    assert read_document(document, url) == [
+        ("1.1.1", ("failure", "PASS (was FAIL Messages)", "\n")),
+        ("1.1.1", ("failure", "LOOSE OtherCode (was FAIL Messages)", f"\n{BELOW_LOOSE}")),
+        ("1.1.1", ("system-out", None, f"FAIL Messages\n{BELOW_FAIL}")),
+    ], document
+    assert test(["--junit", "--known"], ["FAIL Messages"], "1.1.1 FAIL Messages\n")[0] == 0
+
+
+def a_target_with_marks_of_xml():
+    """A host may have all of them, and the path of a URL two."""
+    for host, behind, written in (
+        ("a&<b>\"c\"'d'&#60;]]>:9001", "", "a&amp;&lt;b&gt;&quot;c&quot;'d'&amp;#60;]]&gt;:9001"),
+        (None, "a?b=c&d='e'&lt;", "a?b=c&amp;d='e'&amp;lt;"),
+    ):
+        status, document, faults, url = test(["--junit"], ["PASS"], host=host, behind=behind)
+        assert (status, faults) == (0, ""), (status, faults)
+        assert read_document(document, url) == [("1.1.1",)], document
+        assert f"{written}\">\n" in document, document
+
+
+def a_document_whose_run_ends_early():
+    """At a server that goes away the run ends with the first case, and with three where it is waited in time."""
+    closed = "no connection: closed before the answer\n"
+    failure = ("1.1.1", ("failure", "no connection", "\n"))
+    for words, before, count in (([], ["PASS"], 1), (["--timeout", "5"], ["PASS"], 3), ([], [], 1)):
+        verdicts = before + ["no connection"] * count
+        status, document, faults, url = test(["--junit", *words], verdicts)
+        assert (status, faults) == (3, closed * count), (status, faults)
+        assert read_document(document, url) == [("1.1.1",)] * len(before) + [failure] * count, document
+
+
+def a_document_beside_an_earlier_run_that_ends_early():
+    verdicts = ["PASS", "FAIL Messages"] + ["no connection"] * 3
+    status, document, faults, url = test(["--junit", "--known", "--timeout", "5"], verdicts, "1.1.1 FAIL Messages\n")
+    assert status == 3, (status, faults)
+    missed = ("1.1.1", ("failure", "no connection (was FAIL Messages)", "\n"))
+    assert read_document(document, url) == [
+        ("1.1.1", ("failure", "PASS (was FAIL Messages)", "\n")),
+        ("1.1.1", ("system-out", None, f"FAIL Messages\n{BELOW_FAIL}")),
+        missed,
+        missed,
+        missed,
+    ], document
+
+
+def a_document_as_it_comes():
+    """Its beginning is written before a case runs, and each element before the next case does."""
+    server = Tested("--junit", "1.1.1", "1.1.1")
+    element = '<testcase classname="wst" name="1.1.1"/>'
+    assert server.line() == '<?xml version="1.0" encoding="UTF-8"?>'
+    assert server.line() == f'<testsuites><testsuite name="wst {server.address}">'
+    passes(server)
+    assert server.line() == element
+    passes(server)
+    server.ends(f"{element}\n</testsuite></testsuites>\n")
+
+
+def a_document_goes_on_behind_two_misses():
+    verdicts = ["no connection", "no connection", "PASS"]
+    status, document, faults, url = test(["--junit", "--timeout", "5"], verdicts)
+    assert status == 1, (status, faults)
+    failure = ("1.1.1", ("failure", "no connection", "\n"))
+    assert read_document(document, url) == [failure, failure, ("1.1.1",)], document
+
+
+def a_document_that_can_not_be_written():
+    with open("/dev/full", "wb") as full:
+        process = start("test", "--junit", f"127.0.0.1:{free_port()}", "1.1.1", stdout=full)
+        assert (process.wait(SECONDS), process.stderr.read()) == (3, b"")
+
+
+TESTS = [
+    a_fail_that_is_known_comes_again,
+    a_fail_that_is_not_the_known_one,
+    a_loose_beside_others,
+    what_is_explained_is_known_next,
+    no_connection_that_is_known,
+    a_connection_that_is_dropped_in_the_middle,
+    a_damaged_list_meets_nobody,
+    a_document_of_each_verdict,
+    a_document_beside_an_earlier_run,
+    a_target_with_marks_of_xml,
+    a_document_whose_run_ends_early,
+    a_document_beside_an_earlier_run_that_ends_early,
+    a_document_as_it_comes,
+    a_document_goes_on_behind_two_misses,
+    a_document_that_can_not_be_written,
+]
