@@ -7,7 +7,7 @@ import definitions
 
 # Each path by its name, with the words at which it ends, in the order of the page.
 PATHS = {
-    "session": ("Takes",),
+    "session": ("HasTaken", "reply_to", "HasSomeExchange"),
     "headline": (
         "HasDelivered",
         "IsWholeWhereClean",

@@ -1,5 +1,6 @@
 """Tests of the files that `./install` puts and removes."""
 
+import shutil
 import tempfile
 from pathlib import Path
 
@@ -25,6 +26,16 @@ def five_files_are_put(prefix):
 
 def the_program_runs_there(prefix):
     assert run(str(prefix / "bin/wst"), "test", "own", "2.5") == (0, "2.5 PASS\n1 pass, 0 loose, 0 fail\n", "")
+
+
+def it_has_one_name(_):
+    """A file of another name calls itself wst in its line of usage."""
+    with tempfile.TemporaryDirectory() as folder:
+        other = Path(folder) / "other"
+        shutil.copy(PROGRAM, other)
+        status, out, faults = run(str(other), "test")
+        assert (status, out) == (2, "") and "\nUsage: wst test " in faults, faults
+        assert "\nUsage: wst test " in run(str(other), "test", "--help")[1]
 
 
 def a_second_install_replaces(prefix):
@@ -64,6 +75,7 @@ def wrong_words_put_nothing(_):
 TESTS = [
     five_files_are_put,
     the_program_runs_there,
+    it_has_one_name,
     a_second_install_replaces,
     five_files_are_removed,
     a_prefix_that_takes_no_files_is_told,

@@ -1,16 +1,21 @@
 """What `wst test --role client`, `wst send --role client` and `wst sweep --role client` write of clients, which are raw
 sockets here, what they send them, and how they end."""
 
+import select
 import socket
 import subprocess
+import time
 
 from server import SECONDS, Client, Running, run, start
 from sweep_lines import FORTY
 from wire import BAD_REQUEST, NAMES_CHAT, OFFERING, OTHER_VERSION, REQUEST, RESPONSE
 
-# A text and a close frame as a server sends them, and as a client does under a key of zeros (section 5.2).
+# A text and a close frame as a server sends them, and as a client does under a key of zeros, and a ping of a client
+# (section 5.2).
 CLOSE = bytes.fromhex("880203e8")
 CLOSE_BACK = bytes.fromhex("88820000000003e8")
+A_BACK = bytes.fromhex("81810000000061")
+PING = bytes.fromhex("898000000000")
 EMPTY_TEXT = b"\x81\x00"
 EMPTY_BACK = b"\x81\x80\x00\x00\x00\x00"
 CAPTURE = """wst-capture 2
@@ -192,9 +197,7 @@ def a_client_that_closes_early():
     client = run.client()
     client.send(CLOSE_BACK)
     assert client.rest() in (b"", EMPTY_TEXT)
-    line = run.line()
-    assert line.startswith("1.1.1 FAIL "), line
-    run.ends("0 pass, 0 loose, 1 fail", status=1)
+    run.ends("1.1.1 FAIL Messages", "0 pass, 0 loose, 1 fail", status=1)
 
 
 def a_client_that_is_silent():
@@ -219,6 +222,105 @@ def a_client_that_resets():
     line = run.line()
     assert line == "1.1.1 FAIL Messages", line
     run.ends("0 pass, 0 loose, 1 fail", status=1)
+
+
+# The first two turns of the case 6.4.1, of which the second is no text, and the close of a client that says so (1007).
+TWO_TURNS = bytes.fromhex("010b" + "cebae1bdb9cf83cebcceb5" + "0004" + "f4908080")
+NOT_TEXT = bytes.fromhex("88820000000003ef")
+
+
+def gets_nothing_for(client, seconds):
+    return not select.select([client.stream], [], [], seconds)[0]
+
+
+def a_fault_that_is_answered_late():
+    """With --timeout the turn of the fault is waited for, in which nothing is owed: the next one isn't sent in haste."""
+    run = Listening("test", "--timeout=5", ADDRESS, "6.4.1")
+    client = run.client()
+    assert client.get(len(TWO_TURNS)) == TWO_TURNS
+    assert gets_nothing_for(client, 0.3)
+    client.send(NOT_TEXT)
+    assert client.rest() == b""
+    client.close()
+    run.ends("6.4.1 PASS", "1 pass, 0 loose, 0 fail")
+
+
+def a_fault_of_a_script_that_is_answered_late():
+    run = Listening("send", "--timeout=5", ADDRESS, told="faults", text=b'text key=00000000 -\nwait\nping -\n')
+    client = run.client()
+    masked = bytes.fromhex("818000000000")
+    assert client.get(len(masked)) == masked
+    assert gets_nothing_for(client, 0.3)
+    client.send(bytes.fromhex("88820000000003ea"))
+    assert client.rest() == b""
+    client.close()
+    run.ends(
+        "turn 1",
+        "> 0 text fin=1 rsv=0 key=00000000 len=0 short - !mask",
+        "< 0 close fin=1 rsv=0 key=00000000 len=2 short 03ea",
+        "end tester",
+    )
+
+
+def a_budget_of_a_client():
+    """A text of no bytes and a close are 14 bytes. Of one less the close isn't whole, and of 6 it isn't even sent."""
+    for budget, line, status in (("14", "PASS", 0), ("13", "FAIL Close", 1), ("6", "FAIL End", 1)):
+        run = Listening("test", f"--budget={budget}", ADDRESS, "1.1.1")
+        client = run.client()
+        assert client.get(len(EMPTY_TEXT)) == EMPTY_TEXT
+        client.send(EMPTY_BACK)
+        client.get(len(CLOSE))
+        client.send(CLOSE_BACK)
+        assert client.rest() == b""
+        client.close()
+        total = "1 pass, 0 loose, 0 fail" if status == 0 else "0 pass, 0 loose, 1 fail"
+        run.ends(f"1.1.1 {line}", total, status=status)
+
+
+def sends_on(client):
+    """What a client sends behind the end of its session is read and dropped for a while, so that it isn't reset."""
+    assert client.rest() == b""
+    for _ in range(3):
+        client.send(bytes(1000))
+        time.sleep(0.01)
+    client.close()
+
+
+def clients_that_send_on():
+    """Behind their last bytes, be the connection one of several, the last one or the only one."""
+    run = Listening("test", ADDRESS, "1.1.1", "1.1.1")
+    for _ in range(2):
+        client = run.client()
+        assert client.get(len(EMPTY_TEXT)) == EMPTY_TEXT
+        client.send(EMPTY_BACK)
+        assert client.get(len(CLOSE)) == CLOSE
+        client.send(CLOSE_BACK)
+        sends_on(client)
+        assert run.line() == "1.1.1 PASS"
+    run.ends("2 pass, 0 loose, 0 fail")
+    run = Listening("test", "--capture", ADDRESS, "1.1.1", told="faults")
+    client = run.client("/getCaseCount")
+    client.get(len(text("1") + CLOSE))
+    client.send(CLOSE_BACK)
+    sends_on(client)
+    client = run.client("/runCase?case=1")
+    assert client.get(len(EMPTY_TEXT)) == EMPTY_TEXT
+    client.send(EMPTY_BACK)
+    assert client.get(len(CLOSE)) == CLOSE
+    client.send(CLOSE_BACK)
+    sends_on(client)
+    run.ends(*CAPTURE.splitlines())
+    run = Listening("send", ADDRESS, told="faults", text=b"close=1000\n")
+    client = run.client()
+    assert client.get(len(CLOSE)) == CLOSE
+    client.send(CLOSE_BACK)
+    sends_on(client)
+    run.ends(
+        "turn 1",
+        "> 0 close fin=1 rsv=0 key=- len=2 short 03e8",
+        "< 0 close fin=1 rsv=0 key=00000000 len=2 short 03e8",
+        "end tester",
+    )
 
 
 def names_that_are_known():
@@ -271,6 +373,54 @@ def a_script_that_is_sent():
         )
 
 
+def a_long_script_that_is_sent():
+    run = Listening("send", ADDRESS, told="faults", text=500 * b'text "a"\n' + b"close=1000\n")
+    client = run.client()
+    sent = 500 * text("a") + CLOSE
+    assert client.get(len(sent)) == sent
+    client.send(500 * A_BACK, CLOSE_BACK)
+    assert client.rest() == b""
+    run.ends(
+        "turn 1",
+        *(f"> {place} text fin=1 rsv=0 key=- len=1 short 61" for place in range(0, 1500, 3)),
+        "> 1500 close fin=1 rsv=0 key=- len=2 short 03e8",
+        *(f"< {place} text fin=1 rsv=0 key=00000000 len=1 short 61" for place in range(0, 3500, 7)),
+        "< 3500 close fin=1 rsv=0 key=00000000 len=2 short 03e8",
+        "end tester",
+    )
+
+
+def a_frame_that_has_begun():
+    """A script without a close ends once what is owed has come: where a frame of the client has begun by then, with that
+    frame."""
+    run = Listening("send", ADDRESS, told="faults", text=b'text "a"\n')
+    client = run.client()
+    assert client.get(len(text("a"))) == text("a")
+    client.send(A_BACK, PING[:1])
+    told = ["turn 1", "> 0 text fin=1 rsv=0 key=- len=1 short 61", "< 0 text fin=1 rsv=0 key=00000000 len=1 short 61"]
+    assert [run.line() for _ in told] == told
+    assert run.says_nothing_for(0.2)
+    client.send(PING[1:])
+    assert client.rest() == b""
+    run.ends("< 7 ping fin=1 rsv=0 key=00000000 len=0 short -", "end tester")
+
+
+def a_frame_that_has_begun_is_judged():
+    """The same of its capture, on which a client that sends pings of its own has the verdict Pass."""
+    run = Listening("send", "--capture", ADDRESS, told="faults", text=b'text "a"\n')
+    client = run.client()
+    assert client.get(len(text("a"))) == text("a")
+    client.send(A_BACK, PING[:1])
+    assert run.says_nothing_for(0.2)
+    client.send(PING[1:])
+    assert client.rest() == b""
+    capture = ["wst-capture 2", "key -", "turn", "> 810161", "< 81810000000061898000000000", "end tester"]
+    run.ends(*capture)
+    judge = start("judge", "--role=client", stdin=subprocess.PIPE)
+    told = judge.communicate("".join(f"{line}\n" for line in capture).encode(), timeout=SECONDS)
+    assert (judge.returncode, *told) == (0, b"PASS\n", b""), told
+
+
 def a_sweep_of_a_client():
     run = Listening("sweep", "--steps=0", "--progress", ADDRESS)
     run.is_told("/getCaseCount", "1")
@@ -295,6 +445,24 @@ def a_sweep_of_which_little_is_run():
     steps = [*FORTY.splitlines()[2:27], 'text key=00000000 "a"']
     missing = [f"FAIL NotRun: {step}" for step in steps]
     run.ends(*missing, "28 scripts: 1 pass, 0 loose, 27 fail", status=1)
+
+
+def a_sweep_of_a_client_with_its_own_code():
+    """That is allowed, and so it is told with --all alone."""
+    for words, told in (([], []), (["--all"], ["LOOSE OtherCode: -"])):
+        run = Listening("sweep", "--steps=0", *words, ADDRESS)
+        client = run.client()
+        assert client.get(len(CLOSE)) == CLOSE
+        client.send(bytes.fromhex("88820000000003e9"))
+        assert client.rest() == b""
+        client.close()
+        run.ends(*told, "1 scripts: 0 pass, 1 loose, 0 fail")
+
+
+def ports_of_zeros():
+    """Each word whose port is read as 0 is told with the port that was chosen."""
+    for port in ("00", "+0"):
+        right_client(Listening("test", f"127.0.0.1:{port}", "1.1.1"))
 
 
 def known_lines_of_clients():
@@ -377,14 +545,23 @@ TESTS = [
     a_client_that_forgets_the_mask,
     a_client_that_closes_early,
     a_client_that_is_silent,
+    a_fault_that_is_answered_late,
+    a_fault_of_a_script_that_is_answered_late,
+    a_budget_of_a_client,
+    clients_that_send_on,
     a_client_that_resets,
     names_that_are_known,
     a_capture_of_a_client,
     a_capture_of_a_client_that_runs_no_case,
     progress,
     a_script_that_is_sent,
+    a_long_script_that_is_sent,
+    a_frame_that_has_begun,
+    a_frame_that_has_begun_is_judged,
     a_sweep_of_a_client,
     a_sweep_of_which_little_is_run,
+    a_sweep_of_a_client_with_its_own_code,
+    ports_of_zeros,
     known_lines_of_clients,
     known_fails_of_clients,
     a_list_that_is_none,

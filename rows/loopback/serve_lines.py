@@ -44,9 +44,10 @@ def each_address():
 
 
 def a_port_that_the_system_chooses():
-    for host in ("127.0.0.1", "localhost"):
+    for address in ("127.0.0.1:0", "localhost:0", "127.0.0.1:00", "localhost:+0", "localhost:+000"):
+        host = address.partition(":")[0]
         server = Running()
-        server.process = start("serve", f"{host}:0", "1")
+        server.process = start("serve", address, "1")
         told, _, port = server.line().rpartition(":")
         assert told == f"listening on {host}" and 0 < int(port) < 65536, (told, port)
         client = Client(connected(int(port)))

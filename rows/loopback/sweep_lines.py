@@ -2,6 +2,7 @@
 shortest script that shows it is told first."""
 
 import codecs
+import resource
 import socket
 import threading
 
@@ -251,6 +252,15 @@ def the_first_forty_scripts():
     assert len(told) == len(set(told)) == 757
 
 
+def in_two_seconds():
+    """The 757 scripts over our echo take less than two seconds: of the processor, so that a busy machine takes no more."""
+    before = resource.getrusage(resource.RUSAGE_CHILDREN)
+    assert run("sweep", "own") == (0, b"757 scripts: 757 pass, 0 loose, 0 fail\n", b"")
+    after = resource.getrusage(resource.RUSAGE_CHILDREN)
+    spent = after.ru_utime + after.ru_stime - before.ru_utime - before.ru_stime
+    assert spent < 2, spent
+
+
 class Swept(Tested):
     """`wst sweep` with these options against a socket of ours that listens."""
 
@@ -287,6 +297,7 @@ TESTS = [
     a_server_that_sends_a_pong_behind_its_close,
     a_server_that_refuses,
     the_first_forty_scripts,
+    in_two_seconds,
     told_as_it_runs,
     no_server,
 ]

@@ -60,6 +60,13 @@ class Tap(Running):
         assert self.process.stderr.read() == faults
 
 
+def end_in_turn(first, other):
+    """The one end closes, and the other once it has read to the end of what came: which of them ended first is certain."""
+    first.close()
+    assert other.rest() == b""
+    other.close()
+
+
 def at_once(*tasks):
     """Runs these at once; an error in one of them is one of the test."""
     errors = []
@@ -136,9 +143,7 @@ def frames_that_come_with_the_heads():
     server.send(RESPONSE, HELLO_BACK)
     assert client.get(len(RESPONSE + HELLO_BACK)) == RESPONSE + HELLO_BACK
     tap.tells(ANSWERED, SAID, HEARD)
-    client.close()
-    assert server.rest() == b""
-    server.close()
+    end_in_turn(client, server)
     tap.tells("end client")
     tap.ends()
 
@@ -154,8 +159,7 @@ def heads_in_pieces():
         server.send(bytes([byte]))
         assert client.get(1) == bytes([byte])
     tap.tells(ANSWERED, HEARD)
-    client.close()
-    server.close()
+    end_in_turn(client, server)
     tap.tells("end client")
     tap.ends()
 
@@ -220,8 +224,7 @@ def a_head_of_9000_bytes():
     server.send(RESPONSE, HELLO_BACK)
     assert client.get(len(RESPONSE + HELLO_BACK)) == RESPONSE + HELLO_BACK
     tap.tells(ANSWERED, HEARD)
-    client.close()
-    server.close()
+    end_in_turn(client, server)
     tap.tells("end client")
     tap.ends()
 
@@ -244,8 +247,7 @@ def what_is_no_websocket():
     client, server = tap.pair()
     noise = random.Random(38).randbytes(100000)
     at_once(lambda: client.send(noise), lambda: server.send(noise), lambda: check(client, noise), lambda: check(server, noise))
-    client.close()
-    server.close()
+    end_in_turn(client, server)
     tap.tells("end client")
     tap.ends()
 
@@ -269,8 +271,7 @@ def marks():
     tap.tells("< bad length at 9")
     server.send(HELLO_BACK)
     assert client.get(len(HELLO_BACK)) == HELLO_BACK
-    client.close()
-    server.close()
+    end_in_turn(client, server)
     tap.tells("end client")
     tap.ends()
 
@@ -295,8 +296,7 @@ def much_both_ways_with_a_slow_reader():
     for mark, size, key in (("1 > ", len(sent), "00000000"), ("1 < ", len(got), "-")):
         wanted = [f"{at * size} binary fin=1 rsv=0 key={key} len={len(block)} eight {shown}" for at in range(MUCH // len(sent))]
         assert [line[4:] for line in lines if line.startswith(mark)] == wanted, mark
-    client.close()
-    server.close()
+    end_in_turn(client, server)
     tap.tells("end client")
     tap.ends()
 
@@ -342,9 +342,7 @@ def a_hundred_connections():
         server.send(HELLO_BACK)
         assert client.get(len(HELLO_BACK)) == HELLO_BACK
         tap.tells(SAID, HEARD)
-        server.close()
-        assert client.rest() == b""
-        client.close()
+        end_in_turn(server, client)
         tap.tells("end server")
         seen.append(max_resident(tap.process.pid) if tap.number < 100 else seen[-1])
     assert seen[-1] - seen[4] <= 65536, seen
@@ -357,15 +355,13 @@ def the_next_client_waits():
     other = tap.client()
     other.send(REQUEST)
     assert tap.says_nothing_for(0.2)
-    client.close()
-    server.close()
+    end_in_turn(client, server)
     tap.tells("end client")
     tap.number += 1
     server = Client(tap.listener.accept()[0])
     assert server.get(len(REQUEST)) == REQUEST
     tap.tells(ASKED)
-    other.close()
-    server.close()
+    end_in_turn(other, server)
     tap.tells("end client")
     tap.ends()
 

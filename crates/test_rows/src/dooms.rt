@@ -6,8 +6,8 @@ use std::alloc::Global;
 use ws_session::Session;
 
 /// `doomed ROLE MESSAGE FRAME BYTES`: under limits of so many bytes of a message and of a frame, a mark for each number
-/// of the bytes, from none to all: `-` where some right frame begins so or none has begun, `d` where the frame under way
-/// is doomed, `.` where the session is over.
+/// of the bytes, from none to all: `-` where some right frame begins so or none has begun, `d` where the frame under
+/// way is doomed, `.` where the session is over.
 pub fn mark_lengths(alloc: Global, words: &[&str], out: &mut String) -> Result<(), RowFault> {
     let [role, max_message, max_frame, bytes] = words else {
         return Err(RowFault::NotARow);

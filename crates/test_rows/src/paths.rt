@@ -8,8 +8,9 @@ use ws_formats::{Hex, read_u32};
 use ws_paths::{Behavior, Purpose, Standing, count_text, info_text, script_of, status_text};
 use ws_scripts::write_script;
 
-/// `paths COUNT`, and then for each connection its path and `pass`, `loose`, `fail` or `-` for what comes of a case that
-/// it runs: what each is for, with the status that is told, whether the run ends with it, and which cases were not run.
+/// `paths COUNT`, and then for each connection its path and `pass`, `loose`, `fail` or `-` for what comes of a case
+/// that it runs: what each is for, with the status that is told, whether the run ends with it, and which cases were not
+/// run.
 pub fn tell_purposes(alloc: Global, words: &[&str], out: &mut String) -> Result<(), RowFault> {
     let [count, words @ ..] = words else {
         return Err(RowFault::NotARow);

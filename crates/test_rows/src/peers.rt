@@ -14,8 +14,8 @@ use ws_wire::Role;
 /// The key of the cases where none is given.
 const KEY: [u8; 4] = [0x37, 0xfa, 0x21, 0x3d];
 
-/// `verdict own|tung NAME`: the verdict on our echo, or on `tungstenite`, as a server in a case. `none` where no case has
-/// the name.
+/// `verdict own|tung NAME`: the verdict on our echo, or on `tungstenite`, as a server in a case. `none` where no case
+/// has the name.
 pub fn tell_verdict(alloc: Global, words: &[&str], out: &mut String) -> Result<(), RowFault> {
     tell_verdict_on(alloc, Role::Server, words, out)
 }
@@ -60,8 +60,8 @@ fn tell_verdict_on(
     Ok(())
 }
 
-/// `verdict_of ROLE SCRIPT`: the verdict on our echo in this role, to which the script that the text tells is run, or why
-/// it tells none.
+/// `verdict_of ROLE SCRIPT`: the verdict on our echo in this role, to which the script that the text tells is run, or
+/// why it tells none.
 pub fn tell_script_verdict(
     alloc: Global,
     words: &[&str],
@@ -87,9 +87,9 @@ fn own_verdict(alloc: Global, tested: Role, case: &Case, key: [u8; 4]) -> Result
     judge_end(alloc, tested, &transcript)
 }
 
-/// `verdicts CHOP KEY`: how many of the listed cases our echo passes as a server where each is cut so and masked with this key, or
-/// the first that it doesn't, and the verdict. `CHOP` is as in the table of cases. In single bytes, `O1`, the cases are
-/// run alone whose payloads have at most 1000 bytes.
+/// `verdicts CHOP KEY`: how many of the listed cases our echo passes as a server where each is cut so and masked with
+/// this key, or the first that it doesn't, and the verdict. `CHOP` is as in the table of cases. In single bytes, `O1`,
+/// the cases are run alone whose payloads have at most 1000 bytes.
 pub fn count_passes(alloc: Global, words: &[&str], out: &mut String) -> Result<(), RowFault> {
     count_passes_of(alloc, Role::Server, words, out)
 }

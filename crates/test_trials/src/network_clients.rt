@@ -14,7 +14,8 @@ use ws_frame::Failing;
 /// Two cases, for the connections of a client that asks for the next one.
 const TWO: &str = "test --role client localhost:9001 1.1.1 1.1.1";
 
-/// A client that does right in the case 1.1.1: it sends back an empty text, and then a close frame, under a key of zeros.
+/// A client that does right in the case 1.1.1: it sends back an empty text, and then a close frame, under a key of
+/// zeros.
 const CLIENT: &[u8] = b"GET / HTTP/1.1\r\nHost: server.example.com\r\nUpgrade: websocket\r\n\
     Connection: Upgrade\r\nSec-WebSocket-Key: dGhlIHNhbXBsZSBub25jZQ==\r\nSec-WebSocket-Version: 13\r\n\r\n\
     \x81\x80\0\0\0\0\x88\x82\0\0\0\0\x03\xe8";

@@ -1,5 +1,5 @@
-//! `send` over a network in memory and at our echo: each call of a device fails in turn, and what was written is a beginning
-//! of the lines of the run.
+//! `send` over a network in memory and at our echo: each call of a device fails in turn, and what was written is a
+//! beginning of the lines of the run.
 
 use crate::comparing::{same_answer, same_bytes, same_number};
 use crate::memory_net::{Book, MemoryNet};

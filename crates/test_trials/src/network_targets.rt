@@ -1,5 +1,5 @@
-//! What is asked for at targets of a network in memory: URLs, headers, an address of the connection, and a host that has two
-//! addresses.
+//! What is asked for at targets of a network in memory: URLs, headers, an address of the connection, and a host that
+//! has two addresses.
 
 use crate::comparing::{same_bytes, same_number};
 use crate::memory_net::{Book, MemoryNet};
@@ -16,8 +16,8 @@ use ws_frame::Failing;
 const LINES: &[u8] = b"\r\nUpgrade: websocket\r\nConnection: Upgrade\r\n\
     Sec-WebSocket-Key: dGhlIHNhbXBsZSBub25jZQ==\r\nSec-WebSocket-Version: 13\r\n";
 
-/// A run of these words ends with this status behind so many tries of a connection, and what is written to them begins with
-/// this request.
+/// A run of these words ends with this status behind so many tries of a connection, and what is written to them begins
+/// with this request.
 fn check(
     rt: &impl Abort,
     alloc: Global,

@@ -22,10 +22,11 @@ const LINES: &[u8] =
     b"1 < HTTP/1.1 101\n1 > GET / HTTP/1.1\n1 < 0 text fin=1 rsv=0 key=- len=5 short 48656c6c6f\n\
 1 > 0 text fin=1 rsv=0 key=37fa213d len=5 short 48656c6c6f\n";
 
-/// A writer of one byte a call, whose direction can be ended.
+/// A writer of one byte a call, whose direction can be ended, unless it refuses that.
 #[derive(Drop)]
 struct Ending {
     inner: ByteWriter,
+    refuses: bool,
     is_ended: bool,
 }
 
@@ -43,6 +44,9 @@ impl TapWriter for Ending {
     ghost is_ended = { λ writer. writer.is_ended ≡ true };
 
     fn half_close(&mut self) -> io::Result<()> {
+        if self.refuses {
+            return Err(io::Error::from(ErrorKind::Other));
+        }
         self.is_ended = true;
         Ok(())
     }
@@ -82,7 +86,8 @@ impl Wakes for NoWait {
     }
 }
 
-/// Which devices fail: the readers of both ends, the writers to them, and that of the lines.
+/// Which devices fail: the readers of both ends, the writers to them, and that of the lines; and to which ends the
+/// writers refuse to end their direction.
 #[derive(Clone, Copy)]
 struct Failures {
     client: Failing,
@@ -90,6 +95,8 @@ struct Failures {
     to_client: Failing,
     to_server: Failing,
     lines: Failing,
+    refuses_client: bool,
+    refuses_server: bool,
 }
 
 /// None does.
@@ -99,6 +106,8 @@ const NONE: Failures = Failures {
     to_client: Failing::Never,
     to_server: Failing::Never,
     lines: Failing::Never,
+    refuses_client: false,
+    refuses_server: false,
 };
 
 /// What a tap leaves.
@@ -117,11 +126,13 @@ fn side(
     bytes: &[u8],
     reads: Failing,
     writes: Failing,
+    refuses: bool,
 ) -> TapSide<ByteReader<'_>, Ending> {
     TapSide {
         reader: ByteReader::new(bytes, reads),
         writer: Ending {
             inner: ByteWriter::new(alloc, writes),
+            refuses,
             is_ended: false,
         },
     }
@@ -129,8 +140,20 @@ fn side(
 
 /// Taps the two ends.
 fn tapped(alloc: Global, failures: Failures) -> After {
-    let mut client = side(alloc, CLIENT, failures.client, failures.to_client);
-    let mut server = side(alloc, SERVER, failures.server, failures.to_server);
+    let mut client = side(
+        alloc,
+        CLIENT,
+        failures.client,
+        failures.to_client,
+        failures.refuses_client,
+    );
+    let mut server = side(
+        alloc,
+        SERVER,
+        failures.server,
+        failures.to_server,
+        failures.refuses_server,
+    );
     let mut output = Watched::new(ByteWriter::new(alloc, failures.lines));
     let ended = tap_ends(1, &mut client, &mut server, &mut NoWait {}, &mut output);
     After {
@@ -217,6 +240,35 @@ fn each_write_fails(rt: HostRuntime) {
             false,
         );
     }
+}
+
+/// The direction to the client is ended first, that to the server behind it. All that was sent has been written then.
+#[test]
+fn each_half_close_fails(rt: HostRuntime) {
+    let refuses_client = true;
+    let first = tapped(
+        rt.alloc(),
+        Failures {
+            refuses_client,
+            ..NONE
+        },
+    );
+    check_broken(&rt, 1, &first, false);
+    same_bytes(&rt, 1, first.to_client.inner.taken.as_slice(), SERVER);
+    same_answer(&rt, 1, first.to_server.is_ended, false);
+    let refuses_server = true;
+    let second = tapped(
+        rt.alloc(),
+        Failures {
+            refuses_server,
+            ..NONE
+        },
+    );
+    check_broken(&rt, 2, &second, false);
+    same_bytes(&rt, 2, second.to_server.inner.taken.as_slice(), CLIENT);
+    same_bytes(&rt, 2, second.to_client.inner.taken.as_slice(), SERVER);
+    same_answer(&rt, 2, second.to_client.is_ended, true);
+    same_bytes(&rt, 2, second.lines.as_slice(), LINES);
 }
 
 /// A write for each byte of the lines.

@@ -21,7 +21,8 @@ use Rattle.ws_calls.specs.Calls.{AreAnswered, Endpoint, IsCallAnswered, IsTakeAn
 use Rattle.ws_calls.specs.CallLines.{answer_lines}
 use Rattle.ws_calls.specs.InnerSteps.{Agrees, HasTakenPart, HasToldCall, placed_behind, told_behind}
 use Rattle.ws_calls.proofs.Placed.{places_within, same_events, same_front_events}
-use Rattle.ws_calls.proofs.Sending.{endpoint_of, status_there}
+use Rattle.ws_calls.specs.InnerSteps.{endpoint_of}
+use Rattle.ws_calls.proofs.Sending.{status_there}
 
 -- once the stream has ended the endpoint is over
 over_at_end : (sent : List Frame) (e : Option Event) → is_over (status_after sent true e) ≡ true

@@ -12,7 +12,7 @@ use Rattle.ws_calls.specs.CallLines.{answer_lines}
 use Rattle.ws_calls.specs.Calls.{AreAnswered, Endpoint, IsCallAnswered, new_exchange}
 use Rattle.ws_calls.specs.InnerSteps.{Agrees, HasPlayed, HasToldCall}
 use Rattle.ws_calls.proofs.Answering.{answered_added}
-use Rattle.ws_calls.proofs.Sending.{endpoint_of}
+use Rattle.ws_calls.specs.InnerSteps.{endpoint_of}
 
 line_tail : (b : ℕ) (line : List ℕ) → IsLine (b ∷ line) → IsLine line
 line_tail b line h k d less = h (suc k) d (omega arith)

@@ -12,11 +12,7 @@ use Rattle.ws_calls.specs.declared.calls.Call.TheVariants as asked
 use Rattle.ws_calls.specs.declared.report.CallAnswer.{CallAnswer}
 use Rattle.ws_calls.specs.declared.report.CallAnswer.TheVariants.{Sent, Refused}
 use Rattle.ws_calls.specs.Calls.{Endpoint, IsStatusAfter, IsSendAnswered, after_sending}
-use Rattle.ws_calls.specs.InnerSteps.{Agrees, HasAnsweredCall, HasAnsweredSend, IsOutcome}
-
--- a session as an endpoint that replies so
-abbrev pub endpoint_of : (Event → List Frame) → SessionValue → Endpoint
-endpoint_of reply v = record { role = v.role; limits = v.limits; reply = reply }
+use Rattle.ws_calls.specs.InnerSteps.{Agrees, HasAnsweredCall, HasAnsweredSend, IsOutcome, endpoint_of}
 
 -- the status of what a session has exchanged
 pub status_there : (reply : Event → List Frame) (exchange : Exchange) (taken : ℕ) (v : SessionValue) → Agrees exchange taken v → IsStatusAfter (endpoint_of reply v) exchange v.status

@@ -20,6 +20,10 @@ use Rattle.ws_calls.specs.CallLines.{answer_lines, event_line}
 use Rattle.ws_calls.specs.Calls.{Endpoint, AreAnswered, IsSendAnswered, IsCallAnswered, new_exchange}
 use Rattle.ws_calls.specs.Script.{IsCallLine, IsEchoCallLine}
 
+-- what is asked of an end of this value, which owes such frames for an event
+abbrev pub endpoint_of : (Event → List Frame) → SessionValue → Endpoint
+endpoint_of reply session = record { role = session.role; limits = session.limits; reply = reply }
+
 -- the session has exchanged this, and so many bytes of it are counted as taken
 pub record Agrees (exchange : Exchange) (taken : ℕ) (session : SessionValue) : Type 0 where
   pub exchanged : HasExchanged session exchange.sent exchange.taken exchange.ended
@@ -80,8 +84,8 @@ pub record IsHeld (session : SessionValue) (held : ℕ) : Type 0 where
   pub count : held ≡ length (open_payload session.opened) + length session.partial_frame
   pub over : is_over session.status ≡ true → held ≡ 0
 
--- The calls of the lines before the rest of a text were made, at an endpoint that was new, and told in these lines. Each
--- line tells a value, which is the call that `call_of` says.
+-- The calls of the lines before the rest of a text were made, at an endpoint that was new, and told in these lines.
+-- Each line tells a value, which is the call that `call_of` says.
 pub record HasPlayed {T : Type 0} (IsLineOf : T → List ℕ → Type 0) (call_of : T → Call) (endpoint : Endpoint)
     (text rest : List ℕ) (taken : ℕ) (session : SessionValue) (lines : List ℕ) : Type 0 where
   pub calls : List T
@@ -93,4 +97,5 @@ pub record HasPlayed {T : Type 0} (IsLineOf : T → List ℕ → Type 0) (call_o
   pub told : lines ≡ flat_map answer_lines answers
   -- what the rest tells comes behind these calls, and what the text tells goes on in the rest
   pub before : (later : List T) → HasLineForEach IsLineOf later rest → HasLineForEach IsLineOf (calls ++ later) text
-  pub goes_on : (all : List T) → HasLineForEach IsLineOf all text → (later : List T) × HasLineForEach IsLineOf later rest
+  pub goes_on : (all : List T) → HasLineForEach IsLineOf all text →
+      (later : List T) × HasLineForEach IsLineOf later rest

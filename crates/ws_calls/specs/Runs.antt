@@ -1,4 +1,5 @@
--- A run over a script: it has a line for each call, the calls are made one after the other, and what they answer is told.
+-- A run over a script: it has a line for each call, the calls are made one after the other, and what they answer is
+-- told.
 use Rattle.std.specs.Prelude.{◌≡◌, ℕ, List}
 use Rattle.ws_wire.specs.declared.role.Role.{Role}
 use Rattle.ws_session.specs.Limits.{LimitsValue}

@@ -14,11 +14,11 @@ ghost use Rattle.ws_calls.specs.InnerSteps.{Agrees, HasTakenPart, HasToldCall, t
 ghost use Rattle.ws_calls.specs.Runs.{TellsEcho};
 ghost use Rattle.ws_calls.specs.Script.{AreEchoCallLines, IsEchoCallLine, as_call};
 
+use crate::calling::Caller;
 use crate::calls::EchoCall;
 use crate::echo_script::echo_call_damage;
 use crate::report::CallAnswer;
 use crate::report_lines::{tell_answer, tell_events, tell_last};
-use crate::running::AT_ONCE;
 use std::alloc::Global;
 use ws_base::{LineFault, NoMemory, Payload, Sequence, TextFault};
 use ws_formats::{Line, cut_line};
@@ -27,8 +27,8 @@ use ws_session::{Echo, Limits};
 use ws_wire::Role;
 
 /// Makes the calls of a script, one after the other, at a new echo, and tells what came of each, as `run_calls` does at
-/// a session; each line is `take HEX KEY` or `end`. An echo also sends each message back in one frame, and tells nothing
-/// of the bytes that it keeps.
+/// a session; each line is `take HEX KEY` or `end`. An echo also sends each message back in one frame, and tells
+/// nothing of the bytes that it keeps.
 pub fn run_echo_calls(
     alloc: Global,
     role: Role,
@@ -38,8 +38,8 @@ pub fn run_echo_calls(
     ensures { MatchResult result (λ lines. TellsEcho role limits text.now (string_bytes lines))
         (λ fault. Damages AreEchoCallLines fault text.now) }
 {
-    let mut caller = EchoCaller {
-        echo: Echo::new(alloc, limits, role),
+    let mut caller = Caller {
+        called: Echo::new(alloc, limits, role),
         taken: 0,
         lines: String::new(alloc),
     };
@@ -60,21 +60,13 @@ pub fn run_echo_calls(
     }
 }
 
-/// An echo, how many bytes it has taken, and the lines that tell what came of its calls.
-#[derive(Drop)]
-struct EchoCaller {
-    echo: Echo,
-    taken: u64,
-    lines: String,
-}
-
-impl EchoCaller {
+impl Caller<Echo> {
     /// Makes the call of a line, and tells what came of it.
     fn next_line(&mut self, alloc: Global, line: &[u8]) -> Result<(), LineFault>
-        ensures made { (exchange : Exchange) → Agrees exchange self.old.taken self.old.echo →
+        ensures made { (exchange : Exchange) → Agrees exchange self.old.taken self.old.called →
             OnOk result ((call : EchoCall) × IsEchoCallLine call line.now
-            × HasToldCall (echo_of self.old.echo.role self.old.echo.limits) exchange (as_call call)
-            (string_bytes self.old.lines) self.new.taken self.new.echo (string_bytes self.new.lines)) }
+            × HasToldCall (echo_of self.old.called.role self.old.called.limits) exchange (as_call call)
+            (string_bytes self.old.lines) self.new.taken self.new.called (string_bytes self.new.lines)) }
         ensures damaged { IfErr result (λ fault. fault ≡ Damaged → (call : EchoCall) → IsEchoCallLine call line.now
             → ⊥) }
     {
@@ -87,95 +79,26 @@ impl EchoCaller {
 
     /// One call, and the lines that tell what came of it.
     fn call(&mut self, alloc: Global, call: &EchoCall) -> Result<(), NoMemory>
-        ensures { (exchange : Exchange) → Agrees exchange self.old.taken self.old.echo →
-            OnOk result (HasToldCall (echo_of self.old.echo.role self.old.echo.limits) exchange (as_call call.now)
-            (string_bytes self.old.lines) self.new.taken self.new.echo (string_bytes self.new.lines)) }
+        ensures { (exchange : Exchange) → Agrees exchange self.old.taken self.old.called →
+            OnOk result (HasToldCall (echo_of self.old.called.role self.old.called.limits) exchange (as_call call.now)
+            (string_bytes self.old.lines) self.new.taken self.new.called (string_bytes self.new.lines)) }
     {
         match call {
             EchoCall::Take { piece, key } => self.take(alloc, piece, *key),
             EchoCall::End => {
-                self.echo.end();
+                self.called.end();
                 tell_answer(alloc, &CallAnswer::Ended, &mut self.lines)?;
                 Ok(())
             }
         }
     }
 
-    /// A piece is taken whole, unless the echo is over.
-    fn take(&mut self, alloc: Global, piece: &Payload, key: [u8; 4]) -> Result<(), NoMemory>
-        ensures { (exchange : Exchange) → Agrees exchange self.old.taken self.old.echo →
-            OnOk result (HasToldCall (echo_of self.old.echo.role self.old.echo.limits) exchange
-            (Take piece.now key) (string_bytes self.old.lines) self.new.taken self.new.echo
-            (string_bytes self.new.lines)) }
-    {
-        let mut put = Vec::new(alloc);
-        if !self.echo.status().is_over() {
-            self.take_parts(alloc, piece.as_slice(), key, &mut put)?;
-        }
-        // Its events are told.
-        let answer = CallAnswer::Taken {
-            events: Sequence::new(alloc),
-            len: piece.len() as u64,
-            put: Payload::from_vec(put),
-        };
-        tell_answer(alloc, &answer, &mut self.lines)?;
-        Ok(())
-    }
-
-    /// Takes a piece part by part, and tells its events: those of a part are told before more bytes are taken.
-    fn take_parts(
-        &mut self,
-        alloc: Global,
-        piece: &[u8],
-        key: [u8; 4],
-        put: &mut Vec<u8>,
-    ) -> Result<(), NoMemory>
-        ensures { OnOk result ((told : List PlacedEvent)
-            × HasTakenPart echo_reply_to self.old.echo self.new.echo piece.now key put.old.items put.new.items told
-            × (self.new.taken ≡ self.old.taken + length piece.now)
-            × (string_bytes self.new.lines ≡ string_bytes self.old.lines ++ told_behind self.old.taken told)) }
-    {
-        one_list_of_events();
-        replies_go_on();
-        let mut rest = piece;
-        while !rest.is_empty() {
-            let (part, after) = rest.split_at(rest.len().min(AT_ONCE));
-            self.take_part(alloc, part, key, put)?;
-            rest = after;
-        }
-        Ok(())
-    }
-
-    /// Takes a part of a piece, and tells its events.
-    fn take_part(
-        &mut self,
-        alloc: Global,
-        part: &[u8],
-        key: [u8; 4],
-        put: &mut Vec<u8>,
-    ) -> Result<(), NoMemory>
-        ensures { OnOk result ((told : List PlacedEvent)
-            × HasTakenPart echo_reply_to self.old.echo self.new.echo part.now key put.old.items put.new.items told
-            × (self.new.taken ≡ self.old.taken + length part.now)
-            × (string_bytes self.new.lines ≡ string_bytes self.old.lines ++ told_behind self.old.taken told)) }
-    {
-        let mut events = Vec::new(alloc);
-        self.echo.take_all(part, key, put, &mut events)?;
-        // There is no room for a greater number, as there is none for so many bytes.
-        let Some(taken) = self.taken.checked_add(part.len() as u64) else {
-            return Err(NoMemory);
-        };
-        tell_events(alloc, self.taken, events.as_slice(), &mut self.lines)?;
-        self.taken = taken;
-        Ok(())
-    }
-
     /// All lines: those of the calls, and then the status.
     fn end(self, alloc: Global) -> Result<String, NoMemory>
         ensures { IfOk result (λ lines.
-            string_bytes lines ≡ string_bytes self.lines ++ last_lines None self.echo.status) }
+            string_bytes lines ≡ string_bytes self.lines ++ last_lines None self.called.status) }
     {
-        let status = self.echo.status();
+        let status = self.called.status();
         let mut lines = self.lines;
         tell_last(alloc, None, status, &mut lines)?;
         Ok(lines)

@@ -1,10 +1,11 @@
 //! One WebSocket endpoint at work (RFC 6455 sections 5 to 7): a script of calls, what each call answers, and the lines
 //! that tell it.
 //!
-//! The layers above use the contract of `run_calls`, for a session, and that of `run_echo_calls`, for an echo: the lines
-//! tell what each call of the script answers by the frames sent and the bytes taken so far.
+//! The layers above use the contract of `run_calls`, for a session, and that of `run_echo_calls`, for an echo: the
+//! lines tell what each call of the script answers by the frames sent and the bytes taken so far.
 #![tactic(auto)]
 
+mod calling;
 mod calls;
 mod echo_running;
 mod echo_script;

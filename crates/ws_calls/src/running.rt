@@ -16,6 +16,7 @@ ghost use Rattle.ws_calls.specs.InnerSteps.{told_behind};
 ghost use Rattle.ws_calls.specs.Runs.{TellsSession};
 ghost use Rattle.ws_calls.specs.Script.{AreCallLines, IsCallLine};
 
+use crate::calling::Caller;
 use crate::calls::Call;
 use crate::report::CallAnswer;
 use crate::report_lines::{tell_answer, tell_events, tell_last};
@@ -27,15 +28,12 @@ use ws_session::laws::{one_list_of_events, replies_go_on};
 use ws_session::{Limits, Outgoing, SendFault, Session};
 use ws_wire::Role;
 
-/// How many bytes of a piece are taken at once: so few that the room for their events doesn't count.
-pub(crate) const AT_ONCE: usize = 4096;
-
 /// Makes the calls of a script, one after the other, at a new session, and tells what came of each (RFC 6455 sections 5
-/// to 7), then the bytes kept and the status. The script has a line for each call, which ends with LF, and its words are
-/// parted by one space: `begin text|binary fin|part HEX KEY`, `more fin|part HEX KEY`, `ping HEX KEY`, `pong HEX KEY`,
-/// `close CODE|none HEX KEY`, `take HEX KEY` or `end`. A piece is taken whole, and each of its events has its place in
-/// all bytes taken since the start. Nothing is kept of a line once its call is told. `NoMemory` where a growth was
-/// refused, also of a send: then the run stops.
+/// to 7), then the bytes kept and the status. The script has a line for each call, which ends with LF, and its words
+/// are parted by one space: `begin text|binary fin|part HEX KEY`, `more fin|part HEX KEY`, `ping HEX KEY`,
+/// `pong HEX KEY`, `close CODE|none HEX KEY`, `take HEX KEY` or `end`. A piece is taken whole, and each of its events
+/// has its place in all bytes taken since the start. Nothing is kept of a line once its call is told. `NoMemory` where
+/// a growth was refused, also of a send: then the run stops.
 pub fn run_calls(
     alloc: Global,
     role: Role,
@@ -46,7 +44,7 @@ pub fn run_calls(
         (λ fault. Damages AreCallLines fault text.now) }
 {
     let mut caller = Caller {
-        session: Session::new(alloc, role, limits),
+        called: Session::new(alloc, role, limits),
         taken: 0,
         lines: String::new(alloc),
     };
@@ -67,21 +65,13 @@ pub fn run_calls(
     }
 }
 
-/// A session, how many bytes it has taken, and the lines that tell what came of its calls.
-#[derive(Drop)]
-struct Caller {
-    session: Session,
-    taken: u64,
-    lines: String,
-}
-
-impl Caller {
+impl Caller<Session> {
     /// Makes the call of a line, and tells what came of it.
     fn next_line(&mut self, alloc: Global, line: &[u8]) -> Result<(), LineFault>
-        ensures made { (exchange : Exchange) → Agrees exchange self.old.taken self.old.session →
+        ensures made { (exchange : Exchange) → Agrees exchange self.old.taken self.old.called →
             OnOk result ((call : Call) × IsCallLine call line.now
-            × HasToldCall (session_of self.old.session.role self.old.session.limits) exchange call
-            (string_bytes self.old.lines) self.new.taken self.new.session (string_bytes self.new.lines)) }
+            × HasToldCall (session_of self.old.called.role self.old.called.limits) exchange call
+            (string_bytes self.old.lines) self.new.taken self.new.called (string_bytes self.new.lines)) }
         ensures damaged { IfErr result (λ fault. fault ≡ Damaged → (call : Call) → IsCallLine call line.now → ⊥) }
     {
         let call = Call::read(alloc, line)?;
@@ -93,9 +83,9 @@ impl Caller {
 
     /// One call, and the lines that tell what came of it.
     fn call(&mut self, alloc: Global, call: &Call) -> Result<(), NoMemory>
-        ensures { (exchange : Exchange) → Agrees exchange self.old.taken self.old.session →
-            OnOk result (HasToldCall (session_of self.old.session.role self.old.session.limits) exchange call.now
-            (string_bytes self.old.lines) self.new.taken self.new.session (string_bytes self.new.lines)) }
+        ensures { (exchange : Exchange) → Agrees exchange self.old.taken self.old.called →
+            OnOk result (HasToldCall (session_of self.old.called.role self.old.called.limits) exchange call.now
+            (string_bytes self.old.lines) self.new.taken self.new.called (string_bytes self.new.lines)) }
     {
         match call {
             Call::Send(send) => {
@@ -105,7 +95,7 @@ impl Caller {
             }
             Call::Take { piece, key } => self.take(alloc, piece, *key),
             Call::End => {
-                self.session.end();
+                self.called.end();
                 tell_answer(alloc, &CallAnswer::Ended, &mut self.lines)?;
                 Ok(())
             }
@@ -119,93 +109,24 @@ impl Caller {
         frame: &Outgoing<'_>,
         key: [u8; 4],
     ) -> Result<CallAnswer, NoMemory>
-        ensures answered { (exchange : Exchange) → Agrees exchange self.old.taken self.old.session →
-            IfOk result (λ answer. HasAnsweredSend (session_of self.old.session.role self.old.session.limits) exchange
-            (send_of frame.now) key answer self.new.taken self.new.session) }
+        ensures answered { (exchange : Exchange) → Agrees exchange self.old.taken self.old.called →
+            IfOk result (λ answer. HasAnsweredSend (session_of self.old.called.role self.old.called.limits) exchange
+            (send_of frame.now) key answer self.new.taken self.new.called) }
         ensures lines { self.new.lines ≡ self.old.lines }
     {
         let mut put = Vec::new(alloc);
-        let sent = self.session.send(frame, key, &mut put);
+        let sent = self.called.send(frame, key, &mut put);
         let answer = send_answer(sent, put)?;
         Ok(answer)
     }
 
-    /// A piece is taken whole, unless the session is over.
-    fn take(&mut self, alloc: Global, piece: &Payload, key: [u8; 4]) -> Result<(), NoMemory>
-        ensures { (exchange : Exchange) → Agrees exchange self.old.taken self.old.session →
-            OnOk result (HasToldCall (session_of self.old.session.role self.old.session.limits) exchange
-            (Take piece.now key) (string_bytes self.old.lines) self.new.taken self.new.session
-            (string_bytes self.new.lines)) }
-    {
-        let mut put = Vec::new(alloc);
-        if !self.session.status().is_over() {
-            self.take_parts(alloc, piece.as_slice(), key, &mut put)?;
-        }
-        // Its events are told.
-        let answer = CallAnswer::Taken {
-            events: Sequence::new(alloc),
-            len: piece.len() as u64,
-            put: Payload::from_vec(put),
-        };
-        tell_answer(alloc, &answer, &mut self.lines)?;
-        Ok(())
-    }
-
-    /// Takes a piece part by part, and tells its events: those of a part are told before more bytes are taken.
-    fn take_parts(
-        &mut self,
-        alloc: Global,
-        piece: &[u8],
-        key: [u8; 4],
-        put: &mut Vec<u8>,
-    ) -> Result<(), NoMemory>
-        ensures { OnOk result ((told : List PlacedEvent)
-            × HasTakenPart reply_to self.old.session self.new.session piece.now key put.old.items put.new.items told
-            × (self.new.taken ≡ self.old.taken + length piece.now)
-            × (string_bytes self.new.lines ≡ string_bytes self.old.lines ++ told_behind self.old.taken told)) }
-    {
-        one_list_of_events();
-        replies_go_on();
-        let mut rest = piece;
-        while !rest.is_empty() {
-            let (part, after) = rest.split_at(rest.len().min(AT_ONCE));
-            self.take_part(alloc, part, key, put)?;
-            rest = after;
-        }
-        Ok(())
-    }
-
-    /// Takes a part of a piece, and tells its events.
-    fn take_part(
-        &mut self,
-        alloc: Global,
-        part: &[u8],
-        key: [u8; 4],
-        put: &mut Vec<u8>,
-    ) -> Result<(), NoMemory>
-        ensures { OnOk result ((told : List PlacedEvent)
-            × HasTakenPart reply_to self.old.session self.new.session part.now key put.old.items put.new.items told
-            × (self.new.taken ≡ self.old.taken + length part.now)
-            × (string_bytes self.new.lines ≡ string_bytes self.old.lines ++ told_behind self.old.taken told)) }
-    {
-        let mut events = Vec::new(alloc);
-        self.session.take_all(part, key, put, &mut events)?;
-        // There is no room for a greater number, as there is none for so many bytes.
-        let Some(taken) = self.taken.checked_add(part.len() as u64) else {
-            return Err(NoMemory);
-        };
-        tell_events(alloc, self.taken, events.as_slice(), &mut self.lines)?;
-        self.taken = taken;
-        Ok(())
-    }
-
     /// All lines: those of the calls, and then the bytes kept and the status.
     fn end(self, alloc: Global) -> Result<String, NoMemory>
-        ensures { IfOk result (λ lines. (held : ℕ) × IsHeld self.session held
-            × (string_bytes lines ≡ string_bytes self.lines ++ last_lines (Some held) self.session.status)) }
+        ensures { IfOk result (λ lines. (held : ℕ) × IsHeld self.called held
+            × (string_bytes lines ≡ string_bytes self.lines ++ last_lines (Some held) self.called.status)) }
     {
-        let held = self.session.held() as u64;
-        let status = self.session.status();
+        let held = self.called.held() as u64;
+        let status = self.called.status();
         let mut lines = self.lines;
         tell_last(alloc, Some(held), status, &mut lines)?;
         Ok(lines)

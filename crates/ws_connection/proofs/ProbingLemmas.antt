@@ -32,7 +32,7 @@ use Rattle.ws_connection.specs.declared.probing.turn.TurnStop.{TurnStop}
 use Rattle.ws_connection.specs.declared.probing.turn.TurnStop.TheVariants.{IsThere, Final, Waited, End, Failed, Budget}
 use Rattle.ws_connection.specs.Probing.{AreWaitedFor, EndsScript, EndsTurn, HasAllCome, HasGotFirst, HasSentOf, MayFollow, Records, all_got, all_sent, max_piece}
 use Rattle.ws_connection.specs.InnerProbeTurns.{GoesOnOrEnds, IsGotAtStop, IsReadStop, IsStopBefore, IsTurnStop, ReadsPiece, ReadsTurn, RunsTurn, SendsTurn, StopsBefore, end_of_turn}
-use Rattle.ws_connection.specs.InnerProbeTurns.{AnswersBehind, HasSeen, RunValue, SeesRun, SeesTurn, stop_at, then_turn}
+use Rattle.ws_connection.specs.InnerProbeTurns.{AnswersBehind, HasSeen, IsWholeBy, RunValue, SeesRun, SeesTurn, stop_at, then_turn}
 use Rattle.ws_connection.specs.Connections.{IsNewConnection, MayWrite, ReadsHeadOver, brings, takes_part}
 use Rattle.ws_connection.specs.Probing.{AnswersProbe, probe_nonce}
 use Rattle.ws_connection.specs.ReadingHeads.{ReadsHead}
@@ -521,6 +521,11 @@ sees_after tested stop read_stop got next turns seen after x y z w e h before sa
     stopped : IsReadStop (Some stop) r.piece w
     stopped = subst (λ (o : Option TurnStop). IsReadStop o r.piece w) e r.stops
 
+-- and not because what is due has come
+pub whole_after : (tested : Role) (stop : TurnStop) (read_stop : Option TurnStop) (got next : List ℕ) (seen after : RunValue) (z w : ConnectionValue) → read_stop ≡ Some stop → ReadsPiece read_stop got next seen after (between z w) → stop ≡ IsThere
+    → IsWholeBy tested after
+whole_after tested stop read_stop got next seen after z w e r there = absurd (subst (λ (o : Option TurnStop). IsReadStop o r.piece w) (e ∙ ap (λ (t : TurnStop). Some t) there) r.stops)
+
 -- the script goes on where what is due has come, or a read has waited in vain
 goes_on_by : (failed ended more : Bool) (stop : TurnStop) → end_of_turn failed ended more stop ≡ None → (stop ≡ IsThere) ⊎ (stop ≡ Waited)
 goes_on_by failed ended true IsThere e = inl refl
@@ -549,11 +554,11 @@ sees_run tested failed ended more stop end past sent got turn seen x y z is s g 
 
 -- in the last turn to a client that has nothing to end for all has come
 pub all_come : (tested : Role) (past : List Turn) (sent before got : List ℕ) (turn : Turn) (after_sent seen : RunValue) (stop : TurnStop) (y z : ConnectionValue) (over : Bool) → (tested ≡ Client) × (over ≡ false) → over ≡ is_over after_sent.tested.status
-    → HasSeen tested (then_turn past sent before) after_sent → SeesTurn tested stop (then_turn past sent got) seen (between y z) → stop ≡ IsThere → turn.sent ≡ sent → turn.got ≡ got → (tested ≡ Client) × HasAllCome tested (past ++ turn ∷ [])
-all_come tested past sent before got turn after_sent seen stop y z over (client, on) is shown sees there s g =
+    → HasSeen tested (then_turn past sent before) after_sent → SeesTurn tested stop (then_turn past sent got) seen (between y z) → IsWholeBy tested seen → stop ≡ IsThere → turn.sent ≡ sent → turn.got ≡ got → (tested ≡ Client) × HasAllCome tested (past ++ turn ∷ [])
+all_come tested past sent before got turn after_sent seen stop y z over (client, on) is shown sees whole there s g =
     let turns : then_turn past sent got ≡ past ++ turn ∷ [] = ap₂ (λ (a b : List ℕ). then_turn past a b) (sym s) (sym g) in
     let goes = subst (λ (l : List ℕ). Stands tested Going l) (same_sent past sent before got) (sends_on tested (then_turn past sent before) after_sent shown (sym is ∙ on)) in
-    (client, subst (λ (l : List Turn). HasAllCome tested l) turns (sees.due there, goes))
+    (client, subst (λ (l : List Turn). HasAllCome tested l) turns (sees.due there, whole (then_turn past sent got) sees.shown, goes))
 
 -- the first turn has begun, and has got what came with the head
 pub first_seen : (tested : Role) (done : List Turn) (bytes first : List ℕ) (seen : RunValue) → done ≡ [] → bytes ≡ first → HasSeen tested (turn_with_got new_turn bytes ∷ []) seen → HasSeen tested (then_turn done [] first) seen

@@ -11,7 +11,7 @@ use Rattle.ws_scripts.specs.declared.transcript.Ended.TheVariants.{Tester, Peer,
 use Rattle.ws_scripts.specs.declared.transcript.Turn.{Turn}
 use Rattle.ws_connection.specs.ConnectionValues.{ConnectionRun, ConnectionValue}
 use Rattle.ws_suite.specs.declared.evidence.keeping.ReplyTally.{ReplyTally}
-use Rattle.ws_suite.specs.Growing.{AreTurnsAnswered, GrowingValue, HasGrown, IsTallyOf, turn_with_got}
+use Rattle.ws_suite.specs.Growing.{AreTurnsAnswered, EndInsideFrame, GrowingValue, HasGrown, IsTallyOf, turn_with_got}
 use Rattle.ws_connection.specs.Connections.{IsReady, ReadsBytes, WritesBytes, is_open, waited_in_vain}
 use Rattle.ws_connection.specs.Standings.{HalfCloses, HasHeard, MayGoOn, Stands, half_closes, is_final}
 use Rattle.ws_connection.specs.Probing.{max_piece, EndsAtOnce, EndsTurn, HasEnded}
@@ -36,6 +36,10 @@ RunValue = GrowingValue ReplyTally
 -- it has grown with just these turns of a connection to an end of this role
 abbrev pub HasSeen : Role → List Turn → RunValue → Type 0
 HasSeen tested turns seen = HasGrown IsTallyOf tested turns seen
+
+-- the turns that it has grown with have got whole frames
+abbrev pub IsWholeBy : Role → RunValue → Type 0
+IsWholeBy tested seen = (turns : List Turn) → HasSeen tested turns seen → ¬ (EndInsideFrame tested turns)
 
 -- these turns, and then one that has sent and got these bytes
 abbrev pub then_turn : List Turn → List ℕ → List ℕ → List Turn

@@ -16,7 +16,7 @@ use Rattle.ws_scripts.specs.declared.transcript.Turn.{Turn}
 use Rattle.ws_scripts.specs.declared.transcript.Transcript.{Transcript}
 use Rattle.ws_scripts.specs.Scripts.{turns_of, turn_bytes}
 use Rattle.ws_suite.specs.Evidence.{other_role, sent_turns, got_turns}
-use Rattle.ws_suite.specs.Growing.{AreTurnsAnswered}
+use Rattle.ws_suite.specs.Growing.{AreTurnsAnswered, EndInsideFrame}
 use Rattle.ws_peer.specs.Runs.{with_finish}
 use Rattle.ws_connection.specs.ConnectionValues.{ConnectionRun, ConnectionValue}
 use Rattle.ws_connection.specs.Connections.{ReadsBytes, WritesBytes, HasWorked, input_of, output_of}
@@ -89,10 +89,11 @@ abbrev pub WaitsInVain : Role → Type 0 → List ℕ → List ℕ → List ℕ 
 WaitsInVain tested is_last bytes sent got connection = (sent ≡ bytes) × HasWorked connection
     × (connection.input.state ≡ Waited) × MayGoOn tested got × (is_last ⊎ HalfCloses tested got)
 
--- Of these turns what is due has come, and what they sent has neither a close nor a fault, so that nothing else is waited
--- for.
+-- Of these turns what is due has come, what they got doesn't end inside a frame, and what they sent has neither a close
+-- nor a fault, so that nothing else is waited for.
 abbrev pub HasAllCome : Role → List Turn → Type 0
-HasAllCome tested turns = AreTurnsAnswered tested turns × Stands tested Going (all_sent turns)
+HasAllCome tested turns = AreTurnsAnswered tested turns × (¬ (EndInsideFrame tested turns))
+    × Stands tested Going (all_sent turns)
 
 -- the last turn to a client, which has nothing to end for: all of its bytes were sent, and all has come
 abbrev pub EndsAnswered : Role → Type 0 → Type 0 → List ℕ → List ℕ → List ℕ → ConnectionValue → Type 0

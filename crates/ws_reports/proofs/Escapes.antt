@@ -1,12 +1,28 @@
--- What is escaped has no tag and no quotation mark in it.
+-- What is escaped has no tag and no quotation mark in it, and nothing but ASCII characters of XML.
 use Rattle.std.proofs.Common.{◌≡◌, ◌≢◌, ℕ, ◌==◌, Bool, true, false, not, ◌&&◌, IsTrue, List, [], ◌∷◌, codes, flat_map, refl, arith, All, if◌then◌else◌}
 use Rattle.std.proofs.lemmas.Bool.Decides.{nat_tests}
 use Rattle.std.proofs.lemmas.List.Elements.{All-append, All-from_recursion, All-nil, All-weaker}
 use Rattle.ws_reports.specs.Escaping.{IsInText, content_byte, escaped, is_plain, quoted, quoted_byte}
 
 -- no tag, no quotation mark, and where that is asked for no line feed
+abbrev ends_nothing : Bool → ℕ → Bool
+ends_nothing one_line byte = not (byte == 60) && (not (byte == 34) && not (one_line && (byte == 10)))
+
+-- and a character
 abbrev is_safe : Bool → ℕ → Bool
-is_safe one_line byte = not (byte == 60) && (not (byte == 34) && not (one_line && (byte == 10)))
+is_safe one_line byte = is_plain byte && ends_nothing one_line byte
+
+both : (a b : Bool) → IsTrue a → IsTrue b → IsTrue (a && b)
+both true b h k = k
+both false b h k = absurd cc
+
+first_of : (a b : Bool) → IsTrue (a && b) → IsTrue a
+first_of true b h = refl
+first_of false b h = absurd cc
+
+second_of : (a b : Bool) → IsTrue (a && b) → IsTrue b
+second_of true b h = h
+second_of false b h = absurd cc
 
 abbrev Safe : Bool → List ℕ → Type 0
 Safe one_line bytes = All (λ byte. IsTrue (is_safe one_line byte)) bytes
@@ -17,7 +33,7 @@ either one_line true xs ys f g = f refl
 either one_line false xs ys f g = g refl
 
 single : (byte : ℕ) → (byte == 60) ≡ false → (byte == 34) ≡ false → (one_line : Bool)
-    → (one_line ≡ true → (byte == 10) ≡ false) → IsTrue (is_safe one_line byte)
+    → (one_line ≡ true → (byte == 10) ≡ false) → IsTrue (ends_nothing one_line byte)
 single byte tag mark false line = grind (arith, nat_tests)
 single byte tag mark true line = let feed = line refl in grind (arith, nat_tests)
 
@@ -62,7 +78,8 @@ content_safe o byte line =
     either o (byte == 9) _ _ (λ _. tab o) (λ _.
     either o (byte == 13) _ _ (λ _. return o) (λ _.
     either o (is_plain byte) _ _
-    (λ _. All-from_recursion (λ byte. IsTrue (is_safe o byte)) (byte ∷ []) (single byte tag mark o line, tt))
+    (λ plain. All-from_recursion (λ byte. IsTrue (is_safe o byte)) (byte ∷ [])
+    (both (is_plain byte) (ends_nothing o byte) plain (single byte tag mark o line), tt))
     (λ _. replaced o)))))))
 
 quoted_safe : (byte : ℕ) → Safe true (quoted_byte byte)
@@ -73,7 +90,7 @@ all_safe o f each [] = All-nil (λ byte. IsTrue (is_safe o byte))
 all_safe o f each (byte ∷ bytes) =
     All-append (λ byte. IsTrue (is_safe o byte)) (f byte) (flat_map f bytes) (each byte) (all_safe o f each bytes)
 
-in_text : (o : Bool) (byte : ℕ) → IsTrue (is_safe o byte) → IsInText byte
+in_text : (o : Bool) (byte : ℕ) → IsTrue (ends_nothing o byte) → IsInText byte
 in_text true byte h = (λ e. absurd (tag e), λ e. absurd (mark e))
   where
     tag : byte ≡ 60 → ⊥
@@ -89,20 +106,35 @@ in_text false byte h = (λ e. absurd (tag e), λ e. absurd (mark e))
     mark : byte ≡ 34 → ⊥
     mark e = grind (arith, nat_tests)
 
-no_feed : (byte : ℕ) → IsTrue (is_safe true byte) → byte ≢ 10
+no_feed : (byte : ℕ) → IsTrue (ends_nothing true byte) → byte ≢ 10
 no_feed byte h e = grind (arith, nat_tests)
 
 pub escaped_in_text : (bytes : List ℕ) → All IsInText (escaped bytes)
 escaped_in_text bytes =
-    All-weaker (λ byte. IsTrue (is_safe false byte)) IsInText (λ byte. in_text false byte) (escaped bytes)
+    All-weaker (λ byte. IsTrue (is_safe false byte)) IsInText (λ byte h. in_text false byte (second_of (is_plain byte) (ends_nothing false byte) h))
+    (escaped bytes)
     (all_safe false content_byte (λ byte. content_safe false byte (λ wrong. absurd cc)) bytes)
 
 pub quoted_in_text : (bytes : List ℕ) → All IsInText (quoted bytes)
 quoted_in_text bytes =
-    All-weaker (λ byte. IsTrue (is_safe true byte)) IsInText (λ byte. in_text true byte) (quoted bytes)
+    All-weaker (λ byte. IsTrue (is_safe true byte)) IsInText (λ byte h. in_text true byte (second_of (is_plain byte) (ends_nothing true byte) h))
+    (quoted bytes)
     (all_safe true quoted_byte quoted_safe bytes)
 
 pub quoted_one_line : (bytes : List ℕ) → All (λ byte. byte ≢ 10) (quoted bytes)
 quoted_one_line bytes =
-    All-weaker (λ byte. IsTrue (is_safe true byte)) (λ byte. byte ≢ 10) (λ byte. no_feed byte) (quoted bytes)
+    All-weaker (λ byte. IsTrue (is_safe true byte)) (λ byte. byte ≢ 10)
+    (λ byte h. no_feed byte (second_of (is_plain byte) (ends_nothing true byte) h)) (quoted bytes)
+    (all_safe true quoted_byte quoted_safe bytes)
+
+pub escaped_characters : (bytes : List ℕ) → All (λ byte. IsTrue (is_plain byte)) (escaped bytes)
+escaped_characters bytes =
+    All-weaker (λ byte. IsTrue (is_safe false byte)) (λ byte. IsTrue (is_plain byte))
+    (λ byte h. first_of (is_plain byte) (ends_nothing false byte) h) (escaped bytes)
+    (all_safe false content_byte (λ byte. content_safe false byte (λ wrong. absurd cc)) bytes)
+
+pub quoted_characters : (bytes : List ℕ) → All (λ byte. IsTrue (is_plain byte)) (quoted bytes)
+quoted_characters bytes =
+    All-weaker (λ byte. IsTrue (is_safe true byte)) (λ byte. IsTrue (is_plain byte))
+    (λ byte h. first_of (is_plain byte) (ends_nothing true byte) h) (quoted bytes)
     (all_safe true quoted_byte quoted_safe bytes)

@@ -147,13 +147,14 @@ pub client_room_told : (answered : Answered) (source : Source) (len count : ℕ)
     → TellsFrames Told answered source len lines sent shown → HasRoomFor count lines
 client_room_told NotYet source len count lines sent shown going small t = absurd t
 client_room_told (After early false) source len count lines sent shown going small t = absurd t
-client_room_told (After early true) source len count lines sent shown going small (waited, kept, later, aw, ik, s, is) = (
-  drop len sent.bytes,
-  waited ++ later,
-  shown_open sent.ended lines (drop len sent.bytes) (waited ++ later) going
-      s,
-  omega (arith, small, length-drop len sent.bytes),
-)
+client_room_told (After early true) source len count lines sent shown going small
+    (waited, kept, later, aw, ik, s, is) = (
+      drop len sent.bytes,
+      waited ++ later,
+      shown_open sent.ended lines (drop len sent.bytes) (waited ++ later) going
+          s,
+      omega (arith, small, length-drop len sent.bytes),
+    )
 
 -- the request and its line stay, whatever comes behind it
 pub client_line : (number : ℕ) (sent : Sent) (text more piece shown next : List ℕ) (head : Head)
@@ -305,7 +306,8 @@ client_switches (client.Frames lines) kept number NotYet sent text
         kept.text,
         has,
         ap (λ (t : List ℕ). t ++ kept.text) is ∙ append_assoc _ shown kept.text
-            ∙ ap (λ (t : List ℕ). head_line (source_at Request number) (take head.len sent.bytes) ++ (t ++ kept.text)) none,
+            ∙ ap (λ (t : List ℕ). head_line (source_at Request number) (take head.len sent.bytes) ++ (t ++ kept.text))
+            none,
         source,
         (
           waited,

@@ -1,6 +1,6 @@
 -- Where the lines of a server stand behind each step.
-use Rattle.std.proofs.Common.{◌≡◌, ℕ, ◌+◌, ◌^◌, ◌<◌, false, List, [], ◌++◌, length, take, drop, refl, sym, ap, ◌∙◌}
-use Rattle.std.proofs.Common.{append-nil, append_assoc, inl, inr, arith, subst}
+use Rattle.std.proofs.Common.{◌≡◌, ℕ, ◌+◌, ◌^◌, ◌<◌, true, false, List, [], ◌++◌, length, take, drop, refl, sym, ap}
+use Rattle.std.proofs.Common.{◌∙◌, append-nil, append_assoc, inl, inr, arith, subst}
 use Rattle.std.proofs.lemmas.List.{length-drop}
 use Rattle.ws_frame.specs.declared.showing.StreamEnd.{StreamEnd}
 use Rattle.ws_frame.specs.declared.stream_lines.StreamLines.{StreamLines}
@@ -11,9 +11,9 @@ use Rattle.ws_tap.specs.declared.heads.Head.{Head}
 use Rattle.ws_tap.specs.declared.head_room.HeadFound.{HeadFound}
 use Rattle.ws_tap.specs.declared.server_lines.ServerStage.{ServerStage}
 use Rattle.ws_tap.specs.declared.server_lines.ServerStage.TheVariants as server
-use Rattle.ws_tap.specs.Heads.{HasHead}
+use Rattle.ws_tap.specs.Heads.{HasHead, HasNoHead}
 use Rattle.ws_tap.specs.Texts.{source_at, head_line, Sent, Switches, IsServerText}
-use Rattle.ws_tap.specs.Standing.{LooksIn, IsFoundWith, ServerStandsAt, StandsBehindResponse, UsesPiece}
+use Rattle.ws_tap.specs.Standing.{LooksIn, IsFoundWith, IsResponseLine, ServerStandsAt, StandsBehindResponse, UsesPiece}
 use Rattle.ws_tap.specs.Standing.{is_behind_response, with_bytes, with_its_end}
 use Rattle.ws_tap.proofs.HeadLemmas.{head_stays}
 use Rattle.ws_tap.proofs.Sides.{all_of, front_stays, behind_grows, behind_found, found_line, shown_open, open_shown}
@@ -60,6 +60,41 @@ server_found server.Other number at sent text piece found en none going f other 
         ∙ ap (λ n. head_line (source_at Response n) (take found.head.len (sent.bytes ++ take found.used piece))) en,
   ),
 )
+
+-- the line of a response that was found
+pub response_line : (number at : ℕ) (bytes piece : List ℕ) (found : HeadFound) → at ≡ number
+    → IsFoundWith Response at bytes piece found → IsResponseLine number (bytes ++ take found.used piece) found.line
+response_line number at bytes piece found en f = (
+  found.head,
+  f.has,
+  found_line Response at bytes piece found f ∙ append-nil _
+      ∙ ap (λ n. head_line (source_at Response n) (take found.head.len (bytes ++ take found.used piece))) en,
+)
+
+-- the line of a response stays, whatever comes behind it
+pub response_line_stays : (number : ℕ) (bytes more line : List ℕ) → IsResponseLine number bytes line
+    → IsResponseLine number (bytes ++ more) line
+response_line_stays number bytes more line (head, has, is) = (
+  head,
+  head_stays Response bytes more head has,
+  is ∙ ap (λ (t : List ℕ). head_line (source_at Response number) t) (sym (front_stays Response bytes more head has)),
+)
+
+-- nothing is told of a server without a response, and it stands before it
+pub none_without_response : (stage : ServerStage) (number : ℕ) (sent : Sent) (text : List ℕ)
+    → HasNoHead Response sent.bytes → ServerStandsAt stage number sent text
+    → (text ≡ []) × (is_behind_response stage ≡ false)
+none_without_response (server.Head room) number sent text unanswered (l, none) = (none, refl)
+none_without_response (server.Frames lines) number sent text unanswered
+    (head, shown, has, switches, is, source, on) = absurd (unanswered head has)
+none_without_response server.Other number sent text unanswered (head, has, other, is) = absurd (unanswered head has)
+
+-- with one it stands behind it
+pub behind_a_response : (stage : ServerStage) (number : ℕ) (sent : Sent) (text : List ℕ) (head : Head)
+    → HasHead Response sent.bytes head → ServerStandsAt stage number sent text → is_behind_response stage ≡ true
+behind_a_response (server.Head room) number sent text head has (l, none) = absurd (l.1 head has)
+behind_a_response (server.Frames lines) number sent text head has s = refl
+behind_a_response server.Other number sent text head has s = refl
 
 -- the stream behind the head, and room in it
 pub server_room : (lines : StreamLines) (number count : ℕ) (sent : Sent) (text : List ℕ) → sent.ended ≡ false

@@ -1,6 +1,6 @@
 -- What a tap has passed on and told, behind each step.
 use Rattle.std.proofs.Common.{◌≡◌, ℕ, ◌+◌, ◌^◌, ◌<◌, ◌≤◌, Bool, true, false, List, [], ◌∷◌, ◌++◌, length, take, drop}
-use Rattle.std.proofs.Common.{Option, refl, sym, ap, ◌∙◌, append-nil, append_assoc, arith, subst}
+use Rattle.std.proofs.Common.{Option, refl, sym, ap, ◌∙◌, append-nil, append_assoc, arith, inl, inr, subst}
 use Rattle.std.proofs.lemmas.List.{length-append, length-drop, length-take-le, take-append-drop}
 use Rattle.std.proofs.Math.Seq.{take-length}
 use Rattle.std.proofs.KnownBytes.{Appends-nil, Appends-trans, Consumes-nil, Consumes-trans}
@@ -21,14 +21,18 @@ use Rattle.ws_tap.specs.PipeValues.{PipeValue}
 use Rattle.ws_tap.specs.Piping.{HasPassed, new_pipe, next_after, with_direction_ended}
 use Rattle.ws_tap.specs.Heads.{HasHead, HasNoHead}
 use Rattle.ws_tap.specs.Texts.{Sent, Answered, NotYet, After}
-use Rattle.ws_tap.specs.Standing.{HasToldClient, HasToldServer, UsesPiece, IsAnswerOf, ServerStandsAt, after_answer}
+use Rattle.ws_tap.specs.Standing.{HasToldClient, HasToldServer, UsesPiece, IsAnswerOf, IsResponseLine, ServerStandsAt}
+use Rattle.ws_tap.specs.Standing.{TellsResponse, after_answer}
 use Rattle.ws_tap.specs.Standing.{is_behind_response, new_sent, with_bytes}
 use Rattle.ws_tap.specs.Tapping.{Part, OfClient, OfServer, all_text, client_text, server_text, sent_by, HasAnswered}
 use Rattle.ws_tap.specs.Tapping.{TapDirection, TapDevices, with_input, with_output, with_client_read}
 use Rattle.ws_tap.specs.Tapping.{with_server_read, IsReadTo, PassesOn, BothLines, HasToldBoth, HasPassedOn, HasTapped}
+use Rattle.ws_tap.specs.Tapping.{AreInOrder, IsAnsweredNext}
 use Rattle.ws_tap.specs.Tapping.{has_ended, device_bytes, new_devices, with_server_written, with_client_written}
 use Rattle.ws_tap.proofs.HeadLemmas.{head_stays}
 use Rattle.ws_tap.proofs.HeadStarts.{nothing_has_no_head}
+use Rattle.ws_tap.proofs.ClientLemmas.{client_is_text}
+use Rattle.ws_tap.proofs.ServerLemmas.{behind_a_response, none_without_response, response_line_stays}
 
 -- ---- parts
 
@@ -132,6 +136,14 @@ answered_heard (After early true) answer client server more (b, (head, has, s)) 
 answered_heard (After early false) answer client server more (b, (head, has, s)) is =
     (b, (head, head_stays Response server.bytes more head has, s))
 
+-- what it has answered by then
+pub heard_next : (answered : Answered) (answer : Answer) (client : Sent)
+    → IsAnsweredNext answered (after_answer answered client answer) client
+heard_next NotYet answer.NotYet client = inl refl
+heard_next NotYet answer.Switches client = inr (refl, (true, refl))
+heard_next NotYet answer.Refuses client = inr (refl, (false, refl))
+heard_next (After early switches) answer client = inl refl
+
 -- the server sends more behind its head
 pub answered_behind : (answered : Answered) (client server : Sent) (more : List ℕ) (head : Head)
     → HasHead Response server.bytes head → HasAnswered answered client server
@@ -141,6 +153,84 @@ answered_behind (After early true) client server more head has (b, (other, h, s)
     (b, (other, head_stays Response server.bytes more other h, s))
 answered_behind (After early false) client server more head has (b, (other, h, s)) =
     (b, (other, head_stays Response server.bytes more other h, s))
+
+-- ---- the order of the parts
+
+-- the server sends more, and more is told
+pub order_on : (number : ℕ) (answered : Answered) (server : Sent) (more : List ℕ) (parts next : List Part)
+    → AreInOrder number answered server parts → AreInOrder number answered (with_bytes server more) (parts ++ next)
+order_on number NotYet server more parts next o = tt
+order_on number (After early true) server more parts next o = record {
+  before = o.before;
+  first = o.first;
+  waited = o.waited;
+  later = o.later ++ next;
+  all = ap (λ (p : List Part). p ++ next) o.all
+      ∙ append_assoc o.before (OfServer o.first ∷ OfClient o.waited ∷ o.later) next;
+  none_of_server = o.none_of_server;
+  of_client = o.of_client;
+  is_first = response_line_stays number server.bytes more o.first o.is_first;
+  has_waited = o.has_waited;
+}
+order_on number (After early false) server more parts next o = tt
+
+-- for the same bytes of the server the order is the same
+pub order_same : (number : ℕ) (answered : Answered) (server server' : Sent) (parts : List Part)
+    → server.bytes ≡ server'.bytes → AreInOrder number answered server parts
+    → AreInOrder number answered server' parts
+order_same number NotYet server server' parts es o = tt
+order_same number (After early true) server server' parts es o = record {
+  before = o.before;
+  first = o.first;
+  waited = o.waited;
+  later = o.later;
+  all = o.all;
+  none_of_server = o.none_of_server;
+  of_client = o.of_client;
+  is_first = subst (λ (t : List ℕ). IsResponseLine number t o.first) es o.is_first;
+  has_waited = o.has_waited;
+}
+order_same number (After early false) server server' parts es o = tt
+
+-- more is told
+pub order_more : (number : ℕ) (answered : Answered) (server : Sent) (parts next : List Part)
+    → AreInOrder number answered server parts → AreInOrder number answered server (parts ++ next)
+order_more number answered server parts next o =
+    order_same number answered (with_bytes server []) server (parts ++ next) (append-nil server.bytes)
+    (order_on number answered server [] parts next o)
+
+-- the server is heard: its line, and the lines that waited, stand where it was
+pub order_heard : (number : ℕ) (answered : Answered) (answer : Answer) (lines : BothLines) (heard : ClientLines)
+    (mid : ServerLines) (client server : Sent) (parts later : List Part) (front more text : List ℕ)
+    → HasToldBoth number answered lines client server parts
+    → IsAnswerOf (with_bytes server front) answer
+    → TellsResponse (is_behind_response lines.server.stage) (is_behind_response mid.stage) number
+    (server.bytes ++ front) more
+    → HasToldServer number mid (with_bytes server front) (server_text parts ++ more)
+    → HasToldClient number heard (after_answer answered client answer) client (client_text parts ++ text)
+    → AreInOrder number (after_answer answered client answer) (with_bytes server front)
+    (parts ++ (OfServer more ∷ OfClient text ∷ later))
+order_heard number NotYet answer.NotYet lines heard mid client server parts later front more text t is line s c = tt
+order_heard number NotYet answer.Switches lines heard mid client server parts later front more text t (head, has, is)
+    line s c =
+    let (none, before) = none_without_response lines.server.stage number server (server_text parts) t.has_answered
+    t.of_server.1 in record {
+      before = parts;
+      first = more;
+      waited = text;
+      later = later;
+      all = refl;
+      none_of_server = none;
+      of_client = client_is_text lines.client.stage lines.client.release number NotYet client (client_text parts)
+          t.of_client.1;
+      is_first = line before
+          (behind_a_response mid.stage number (with_bytes server front) (server_text parts ++ more) head has s.1);
+      has_waited = client_is_text heard.stage heard.release number (After client true) client
+          (client_text parts ++ text) c.1;
+    }
+order_heard number NotYet answer.Refuses lines heard mid client server parts later front more text t is line s c = tt
+order_heard number (After early switches) answer lines heard mid client server parts later front more text t is line s
+    c = order_on number (After early switches) server front parts (OfServer more ∷ OfClient text ∷ later) t.in_order
 
 -- a server that stands behind its head has one
 head_of_stage : (at : ServerStage) (number : ℕ) (sent : Sent) (text : List ℕ) → is_behind_response at ≡ true
@@ -224,12 +314,13 @@ not_client text parts = client_text_more parts (OfServer text ∷ []) ∙ append
 -- more is told of the client
 pub told_client : (number : ℕ) (lines : BothLines) (new : ClientLines) (answered : Answered) (client server : Sent)
     (parts : List Part) (text : List ℕ)
-    → HasAnswered answered client server → HasToldClient number new answered client (client_text parts ++ text)
+    → AreInOrder number answered server parts → HasAnswered answered client server
+    → HasToldClient number new answered client (client_text parts ++ text)
     → HasToldServer number lines.server server (server_text parts)
-    → HasToldBoth number (record { client = new; server = lines.server }) client server
+    → HasToldBoth number answered (record { client = new; server = lines.server }) client server
     (parts ++ OfClient text ∷ [])
-told_client number lines new answered client server parts text h c s = record {
-  answered = answered;
+told_client number lines new answered client server parts text o h c s = record {
+  in_order = order_more number answered server parts (OfClient text ∷ []) o;
   has_answered = h;
   of_client = subst (λ (t : List ℕ). HasToldClient number new answered client t) (sym (only_client text parts)) c;
   of_server = subst (λ (t : List ℕ). HasToldServer number lines.server server t) (sym (not_server text parts)) s;
@@ -238,12 +329,13 @@ told_client number lines new answered client server parts text h c s = record {
 -- more is told of the server
 pub told_server : (number : ℕ) (lines : BothLines) (new : ServerLines) (answered : Answered) (client server : Sent)
     (parts : List Part) (text : List ℕ)
-    → HasAnswered answered client server → HasToldClient number lines.client answered client (client_text parts)
+    → AreInOrder number answered server parts → HasAnswered answered client server
+    → HasToldClient number lines.client answered client (client_text parts)
     → HasToldServer number new server (server_text parts ++ text)
-    → HasToldBoth number (record { client = lines.client; server = new }) client server
+    → HasToldBoth number answered (record { client = lines.client; server = new }) client server
     (parts ++ OfServer text ∷ [])
-told_server number lines new answered client server parts text h c s = record {
-  answered = answered;
+told_server number lines new answered client server parts text o h c s = record {
+  in_order = order_more number answered server parts (OfServer text ∷ []) o;
   has_answered = h;
   of_client = subst (λ (t : List ℕ). HasToldClient number lines.client answered client t)
       (sym (not_client text parts)) c;
@@ -253,20 +345,21 @@ told_server number lines new answered client server parts text h c s = record {
 -- ---- a tap
 
 -- bytes of the client were read, and this was told
-pub client_stands : (number : ℕ) (old : Tap) (pipe : PipeValue) (lines : ClientLines) (devices : TapDevices)
-    (left told : Option (List ℕ)) (more text : List ℕ) (t : HasTapped number old devices)
+pub client_stands : (number : ℕ) (answered : Answered) (old : Tap) (pipe : PipeValue) (lines : ClientLines)
+    (devices : TapDevices) (left told : Option (List ℕ)) (more text : List ℕ)
+    (t : HasTapped number answered old devices)
     → PassesOn pipe (with_input devices.client left) (t.passed.from_client ++ more)
-    → HasToldClient number lines t.told.answered (sent_by pipe (t.passed.from_client ++ more))
+    → HasToldClient number lines answered (sent_by pipe (t.passed.from_client ++ more))
     (client_text t.parts ++ text)
     → Appends devices.lines.new told text
-    → HasTapped number (record {
+    → HasTapped number answered (record {
       client = pipe;
       server = old.server;
       client_lines = lines;
       server_lines =
           old.server_lines;
     }) (with_client_read devices left told)
-client_stands number old pipe lines devices left told more text t p c wrote =
+client_stands number answered old pipe lines devices left told more text t p c wrote =
     let client = sent_by old.client t.passed.from_client in
     let server = sent_by old.server t.passed.from_server in
     let now = sent_by pipe (t.passed.from_client ++ more) in record {
@@ -278,9 +371,9 @@ client_stands number old pipe lines devices left told more text t p c wrote =
       };
       parts = t.parts ++ OfClient text ∷ [];
       told = told_client number (record { client = old.client_lines; server = old.server_lines }) lines
-          t.told.answered now server t.parts text
-          (answered_same t.told.answered (with_bytes client more) now server server refl refl
-          (answered_on t.told.answered client server more t.told.has_answered)) c t.told.of_server;
+          answered now server t.parts text t.told.in_order
+          (answered_same answered (with_bytes client more) now server server refl refl
+          (answered_on answered client server more t.told.has_answered)) c t.told.of_server;
       lines = subst (λ (x : List ℕ). Appends devices.lines.old told x)
           (sym (all_text_more t.parts (OfClient text ∷ []) ∙ ap (λ (x : List ℕ). all_text t.parts ++ x)
           (append-nil text)))
@@ -288,20 +381,21 @@ client_stands number old pipe lines devices left told more text t p c wrote =
     }
 
 -- bytes of the server were read, and these parts were told
-pub server_stands : (number : ℕ) (old : Tap) (pipe : PipeValue) (lines : BothLines) (devices : TapDevices)
-    (left told : Option (List ℕ)) (more : List ℕ) (next : List Part) (t : HasTapped number old devices)
+pub server_stands : (number : ℕ) (answered now : Answered) (old : Tap) (pipe : PipeValue) (lines : BothLines)
+    (devices : TapDevices) (left told : Option (List ℕ)) (more : List ℕ) (next : List Part)
+    (t : HasTapped number answered old devices)
     → PassesOn pipe (with_input devices.server left) (t.passed.from_server ++ more)
-    → HasToldBoth number lines (sent_by old.client t.passed.from_client) (sent_by pipe (t.passed.from_server ++ more))
-    (t.parts ++ next)
+    → HasToldBoth number now lines (sent_by old.client t.passed.from_client)
+    (sent_by pipe (t.passed.from_server ++ more)) (t.parts ++ next)
     → Appends devices.lines.new told (all_text next)
-    → HasTapped number (record {
+    → HasTapped number now (record {
       client = old.client;
       server = pipe;
       client_lines = lines.client;
       server_lines =
           lines.server;
     }) (with_server_read devices left told)
-server_stands number old pipe lines devices left told more next t p both wrote = record {
+server_stands number answered now old pipe lines devices left told more next t p both wrote = record {
   passed = record {
     from_client = t.passed.from_client;
     from_server = t.passed.from_server ++ more;
@@ -330,17 +424,17 @@ nothing_passes a b = record {
 
 pub new_stands : (number : ℕ) (p q : PipeValue) (client : ClientLines) (server : ServerLines) → p ≡ new_pipe
     → q ≡ new_pipe → HasToldClient number client NotYet new_sent [] → HasToldServer number server new_sent []
-    → (a b d e l : Option (List ℕ)) → HasTapped number (record
+    → (a b d e l : Option (List ℕ)) → HasTapped number NotYet (record
     { client = p; server = q; client_lines = client; server_lines = server }) (new_devices a b d e l)
 new_stands number p q client server ep eq hc hs a b d e l =
-    subst (λ (x : PipeValue). HasTapped number (record {
+    subst (λ (x : PipeValue). HasTapped number NotYet (record {
       client = x;
       server = q;
       client_lines = client;
       server_lines =
           server;
     }) (new_devices a b d e l)) (sym ep)
-    (subst (λ (x : PipeValue). HasTapped number (record {
+    (subst (λ (x : PipeValue). HasTapped number NotYet (record {
       client = new_pipe;
       server = x;
       client_lines = client;
@@ -348,7 +442,12 @@ new_stands number p q client server ep eq hc hs a b d e l =
     }) (new_devices a b d e l)) (sym eq) (record {
       passed = record { from_client = []; from_server = []; client = nothing_passes a b; server = nothing_passes d e };
       parts = [];
-      told = record { answered = NotYet; has_answered = nothing_has_no_head Response; of_client = hc; of_server = hs };
+      told = record {
+        has_answered = nothing_has_no_head Response;
+        of_client = hc;
+        of_server = hs;
+        in_order = tt;
+      };
       lines = Appends-nil l;
     }))
 
@@ -357,17 +456,18 @@ sent_same : (old pipe : PipeValue) (read : List ℕ) → has_ended old.stage ≡
     → sent_by old read ≡ sent_by pipe read
 sent_same old pipe read e = ap (λ (b : Bool). record { bytes = read; ended = b }) e
 
-pub client_pipe_stands : (number : ℕ) (old : Tap) (pipe : PipeValue) (devices : TapDevices) (held : Option (List ℕ))
-    (t : HasTapped number old devices) → has_ended old.client.stage ≡ has_ended pipe.stage
+pub client_pipe_stands : (number : ℕ) (answered : Answered) (old : Tap) (pipe : PipeValue) (devices : TapDevices)
+    (held : Option (List ℕ)) (t : HasTapped number answered old devices)
+    → has_ended old.client.stage ≡ has_ended pipe.stage
     → PassesOn pipe (with_output devices.client held) t.passed.from_client
-    → HasTapped number (record {
+    → HasTapped number answered (record {
       client = pipe;
       server = old.server;
       client_lines = old.client_lines;
       server_lines =
           old.server_lines;
     }) (with_server_written devices held)
-client_pipe_stands number old pipe devices held t same p = record {
+client_pipe_stands number answered old pipe devices held t same p = record {
   passed = record {
     from_client = t.passed.from_client;
     from_server = t.passed.from_server;
@@ -376,22 +476,24 @@ client_pipe_stands number old pipe devices held t same p = record {
         t.passed.server;
   };
   parts = t.parts;
-  told = subst (λ (s : Sent). HasToldBoth number (record { client = old.client_lines; server = old.server_lines }) s
-      (sent_by old.server t.passed.from_server) t.parts) (sent_same old.client pipe t.passed.from_client same) t.told;
+  told = subst (λ (s : Sent). HasToldBoth number answered
+      (record { client = old.client_lines; server = old.server_lines }) s (sent_by old.server t.passed.from_server)
+      t.parts) (sent_same old.client pipe t.passed.from_client same) t.told;
   lines = t.lines;
 }
 
-pub server_pipe_stands : (number : ℕ) (old : Tap) (pipe : PipeValue) (devices : TapDevices) (held : Option (List ℕ))
-    (t : HasTapped number old devices) → has_ended old.server.stage ≡ has_ended pipe.stage
+pub server_pipe_stands : (number : ℕ) (answered : Answered) (old : Tap) (pipe : PipeValue) (devices : TapDevices)
+    (held : Option (List ℕ)) (t : HasTapped number answered old devices)
+    → has_ended old.server.stage ≡ has_ended pipe.stage
     → PassesOn pipe (with_output devices.server held) t.passed.from_server
-    → HasTapped number (record {
+    → HasTapped number answered (record {
       client = old.client;
       server = pipe;
       client_lines = old.client_lines;
       server_lines =
           old.server_lines;
     }) (with_client_written devices held)
-server_pipe_stands number old pipe devices held t same p = record {
+server_pipe_stands number answered old pipe devices held t same p = record {
   passed = record {
     from_client = t.passed.from_client;
     from_server = t.passed.from_server;
@@ -399,8 +501,9 @@ server_pipe_stands number old pipe devices held t same p = record {
     server = p;
   };
   parts = t.parts;
-  told = subst (λ (s : Sent). HasToldBoth number (record { client = old.client_lines; server = old.server_lines })
-      (sent_by old.client t.passed.from_client) s t.parts) (sent_same old.server pipe t.passed.from_server same) t.told;
+  told = subst (λ (s : Sent). HasToldBoth number answered
+      (record { client = old.client_lines; server = old.server_lines }) (sent_by old.client t.passed.from_client) s
+      t.parts) (sent_same old.server pipe t.passed.from_server same) t.told;
   lines = t.lines;
 }
 
@@ -428,8 +531,8 @@ end_passes old pipe direction read next is p =
     )
 
 -- bytes were read, and the output has failed
-pub client_passes : (number : ℕ) (old : Tap) (pipe : PipeValue) (lines : ClientLines) (devices : TapDevices)
-    (left told : Option (List ℕ)) (more : List ℕ) (t : HasTapped number old devices)
+pub client_passes : (number : ℕ) (answered : Answered) (old : Tap) (pipe : PipeValue) (lines : ClientLines)
+    (devices : TapDevices) (left told : Option (List ℕ)) (more : List ℕ) (t : HasTapped number answered old devices)
     → PassesOn pipe (with_input devices.client left) (t.passed.from_client ++ more)
     → HasPassedOn (record {
       client = pipe;
@@ -437,7 +540,7 @@ pub client_passes : (number : ℕ) (old : Tap) (pipe : PipeValue) (lines : Clien
       client_lines = lines;
       server_lines = old.server_lines;
     }) (with_client_read devices left told)
-client_passes number old pipe lines devices left told more t p =
+client_passes number answered old pipe lines devices left told more t p =
     record {
       from_client = t.passed.from_client ++ more;
       from_server = t.passed.from_server;
@@ -446,8 +549,8 @@ client_passes number old pipe lines devices left told more t p =
           t.passed.server;
     }
 
-pub server_passes : (number : ℕ) (old : Tap) (pipe : PipeValue) (lines : BothLines) (devices : TapDevices)
-    (left told : Option (List ℕ)) (more : List ℕ) (t : HasTapped number old devices)
+pub server_passes : (number : ℕ) (answered : Answered) (old : Tap) (pipe : PipeValue) (lines : BothLines)
+    (devices : TapDevices) (left told : Option (List ℕ)) (more : List ℕ) (t : HasTapped number answered old devices)
     → PassesOn pipe (with_input devices.server left) (t.passed.from_server ++ more)
     → HasPassedOn (record {
       client = old.client;
@@ -456,7 +559,7 @@ pub server_passes : (number : ℕ) (old : Tap) (pipe : PipeValue) (lines : BothL
       server_lines =
           lines.server;
     }) (with_server_read devices left told)
-server_passes number old pipe lines devices left told more t p =
+server_passes number answered old pipe lines devices left told more t p =
     record {
       from_client = t.passed.from_client;
       from_server = t.passed.from_server ++ more;
@@ -488,19 +591,21 @@ server_of_sent number lines sent sent' text text' es et h =
     subst (λ (t : List ℕ). HasToldServer number lines sent' t) et
     (subst (λ (s : Sent). HasToldServer number lines s text) es h)
 
-pub told_of_sent : (number : ℕ) (lines : BothLines) (client server server' : Sent) (parts : List Part)
-    → server ≡ server' → HasToldBoth number lines client server parts → HasToldBoth number lines client server' parts
-told_of_sent number lines client server server' parts es h = subst
-    (λ (s : Sent). HasToldBoth number lines client s parts) es h
+pub told_of_sent : (number : ℕ) (answered : Answered) (lines : BothLines) (client server server' : Sent)
+    (parts : List Part) → server ≡ server' → HasToldBoth number answered lines client server parts
+    → HasToldBoth number answered lines client server' parts
+told_of_sent number answered lines client server server' parts es h = subst
+    (λ (s : Sent). HasToldBoth number answered lines client s parts) es h
 
 -- parts more
 pub told_more : (number : ℕ) (lines : BothLines) (answered : Answered) (client server : Sent) (parts next : List Part)
     → HasAnswered answered client server
     → HasToldClient number lines.client answered client (client_text parts ++ client_text next)
     → HasToldServer number lines.server server (server_text parts ++ server_text next)
-    → HasToldBoth number lines client server (parts ++ next)
-told_more number lines answered client server parts next h c s = record {
-  answered = answered;
+    → AreInOrder number answered server (parts ++ next)
+    → HasToldBoth number answered lines client server (parts ++ next)
+told_more number lines answered client server parts next h c s o = record {
+  in_order = o;
   has_answered = h;
   of_client = subst (λ (t : List ℕ). HasToldClient number lines.client answered client t)
       (sym (client_text_more parts next)) c;

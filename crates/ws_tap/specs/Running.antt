@@ -10,7 +10,8 @@ use Rattle.ws_tap.specs.declared.tap.Tap.{Tap}
 use Rattle.ws_tap.specs.declared.tapping.TapEnd.{TapEnd}
 use Rattle.ws_tap.specs.declared.tapping.TapEnd.TheVariants.{Ended, Broken}
 use Rattle.ws_tap.specs.Tapping.{DeviceBytes, TapDevices, device_bytes, with_input, with_output}
-use Rattle.ws_tap.specs.Tapping.{TapStep, HasTapped, HasPassedOn, StandsAfter, Part, all_text, client_text, server_text}
+use Rattle.ws_tap.specs.Tapping.{TapStep, HasTapped, HasPassedOn, StandsAfter, StandsAnswered, HasAnswered, Part}
+use Rattle.ws_tap.specs.Tapping.{AreInOrder, all_text, client_text, server_text, sent_by}
 use Rattle.ws_tap.specs.Texts.{Sent, Answered, IsClientText, IsServerText}
 use Rattle.ws_tap.specs.Tapping.{client_next, server_next, client_has_ended, server_has_ended}
 
@@ -42,17 +43,19 @@ with_server_passed devices left held told = record devices {
 
 -- a step of the client's direction: over its devices the tap stands again; or the output has failed
 abbrev pub PassesClient : {T : Type 0} → TapStep → DeviceBytes → DeviceBytes → Device → Result T WriteFault → Type 0
-PassesClient step reader writer output result = (number : ℕ) (devices : TapDevices)
-    → HasTapped number step.old devices → devices.client.input.new ≡ reader.old
+PassesClient step reader writer output result = (number : ℕ) (answered : Answered) (devices : TapDevices)
+    → HasTapped number answered step.old devices → devices.client.input.new ≡ reader.old
     → devices.client.output.new ≡ writer.old → devices.lines.new ≡ output.old
-    → StandsAfter number step.new (with_client_passed devices reader.new writer.new output.new) output.failed result
+    → StandsAfter number answered step.new (with_client_passed devices reader.new writer.new output.new) output.failed
+    result
 
 -- a step of the server's direction
 abbrev pub PassesServer : {T : Type 0} → TapStep → DeviceBytes → DeviceBytes → Device → Result T WriteFault → Type 0
-PassesServer step reader writer output result = (number : ℕ) (devices : TapDevices)
-    → HasTapped number step.old devices → devices.server.input.new ≡ reader.old
+PassesServer step reader writer output result = (number : ℕ) (answered : Answered) (devices : TapDevices)
+    → (t : HasTapped number answered step.old devices) → devices.server.input.new ≡ reader.old
     → devices.server.output.new ≡ writer.old → devices.lines.new ≡ output.old
-    → StandsAfter number step.new (with_server_passed devices reader.new writer.new output.new) output.failed result
+    → StandsAnswered number answered (sent_by step.old.client t.passed.from_client) step.new
+    (with_server_passed devices reader.new writer.new output.new) output.failed result
 
 -- ---- the end
 
@@ -81,7 +84,7 @@ EndsAt Broken tap = Unit {0}
 -- still.
 abbrev pub TapsEnds : ℕ → TapDevices → Bool → Result TapEnd WriteFault → Type 0
 TapsEnds number devices failed (Ok end) =
-    (failed ≡ false) × ((tap : Tap) × HasTapped number tap devices × EndsAt end tap)
+    (failed ≡ false) × ((tap : Tap) × (answered : Answered) × HasTapped number answered tap devices × EndsAt end tap)
 TapsEnds number devices failed (Err _) = (failed ≡ true) × ((tap : Tap) × HasPassedOn tap devices)
 
 -- both ends have ended their directions, where the run ended with that
@@ -90,14 +93,17 @@ HaveEnded (Ended first) client server = (client.ended ≡ true) × (server.ended
 HaveEnded Broken client server = Unit {0}
 
 -- This text tells of both ends of a connection of this number that has ended so: its parts are those of the text of the
--- client and those of the text of the server, each in their order.
+-- client and those of the text of the server. What the lines of the client waited for is what the server has answered,
+-- and they stand where it did.
 pub record IsTapText (number : ℕ) (end : TapEnd) (text : List ℕ) : Type 0 where
   pub client : Sent
   pub server : Sent
   pub answered : Answered
   pub parts : List Part
+  pub has_answered : HasAnswered answered client server
   pub of_client : IsClientText number answered client (client_text parts)
   pub of_server : IsServerText number server (server_text parts)
+  pub in_order : AreInOrder number answered server parts
   pub all : text ≡ all_text parts
   pub ended : HaveEnded end client server
 

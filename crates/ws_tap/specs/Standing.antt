@@ -114,19 +114,31 @@ abbrev pub UsesPiece : Bool → Bool → ℕ → ℕ → Type 0
 UsesPiece was_behind is_behind len used =
     (used ≤ len) × (was_behind ≡ true → used ≡ len) × (is_behind ≡ false → used ≡ len)
 
--- what came of a piece: its lines were told, for as many bytes as were used
-abbrev pub IsToldServer : ℕ → ServerLines → ServerLines → Sent → List ℕ → List ℕ → Bool
+-- this is the line that tells of the response with which a server begins that sends these bytes
+abbrev pub IsResponseLine : ℕ → List ℕ → List ℕ → Type 0
+IsResponseLine number bytes line = (head : Head) × HasHead Response bytes head
+    × (line ≡ head_line (source_at Response number) (take head.len bytes))
+
+-- where the response ends in a piece, its line is all that is told of the bytes that were used
+abbrev pub TellsResponse : Bool → Bool → ℕ → List ℕ → List ℕ → Type 0
+TellsResponse was_behind is_behind number bytes more =
+    was_behind ≡ false → is_behind ≡ true → IsResponseLine number bytes more
+
+-- what came of a piece: more was told, for as many bytes as were used
+abbrev pub IsToldServer : ℕ → ServerLines → ServerLines → Sent → List ℕ → List ℕ → List ℕ → Bool
     → Result ℕ WriteFault → Type 0
-IsToldServer number old new sent piece text failed (Ok used) = (failed ≡ false)
+IsToldServer number old new sent piece text more failed (Ok used) = (failed ≡ false)
     × UsesPiece (is_behind_response old.stage) (is_behind_response new.stage) (length piece) used
-    × HasToldServer number new (with_bytes sent (take used piece)) text
-IsToldServer number old new sent piece text failed (Err _) = failed ≡ true
+    × TellsResponse (is_behind_response old.stage) (is_behind_response new.stage) number
+    (sent.bytes ++ take used piece) more
+    × HasToldServer number new (with_bytes sent (take used piece)) (text ++ more)
+IsToldServer number old new sent piece text more failed (Err _) = failed ≡ true
 
 abbrev pub TellsServer : ServerLines → ServerLines → List ℕ → Device → Result ℕ WriteFault → Type 0
 TellsServer old new piece output result = (number : ℕ) (sent : Sent) (text : List ℕ)
     → HasToldServer number old sent text → sent.ended ≡ false
     → (more : List ℕ) × HasWritten more output
-    × IsToldServer number old new sent piece (text ++ more) output.failed result
+    × IsToldServer number old new sent piece text more output.failed result
 
 -- what came of the end of its direction
 abbrev pub IsEndedServer : ℕ → ServerLines → Sent → List ℕ → Bool → Result (Unit {0}) WriteFault → Type 0

@@ -1,5 +1,5 @@
 -- What a tap between a client and a server has passed on, and told (RFC 6455 sections 4 and 5.2).
-use Rattle.std.specs.Prelude.{◌≡◌, ℕ, Bool, true, false, List, [], ◌∷◌, ◌++◌, Option, Result, Ok, Err}
+use Rattle.std.specs.Prelude.{◌≡◌, ◌⊎◌, ℕ, Bool, true, false, List, [], ◌∷◌, ◌++◌, Option, Result, Ok, Err}
 use Rattle.std.specs.Io.KnownBytes.{Appends, Consumes, IsAtEnd}
 use Rattle.ws_frame.specs.declared.writing_whole.WriteFault.{WriteFault}
 use Rattle.ws_tap.specs.declared.heads.Head.{Head}
@@ -8,15 +8,16 @@ use Rattle.ws_tap.specs.declared.pipe.PipeStage.{PipeStage}
 use Rattle.ws_tap.specs.declared.pipe.PipeStage.TheVariants as stage
 use Rattle.ws_tap.specs.declared.pipe.Next.{Next}
 use Rattle.ws_tap.specs.declared.pipe.Filled.{Filled}
+use Rattle.ws_tap.specs.declared.pipe.Drained.{Drained}
 use Rattle.ws_tap.specs.declared.tap.Tap.{Tap}
 use Rattle.ws_tap.specs.declared.client_lines.ClientLines.{ClientLines}
 use Rattle.ws_tap.specs.declared.server_lines.ServerLines.{ServerLines}
 use Rattle.ws_frame.specs.Devices.{Device, HasWritten}
 use Rattle.ws_tap.specs.PipeValues.{PipeValue}
-use Rattle.ws_tap.specs.Piping.{HasPassed, next_of}
+use Rattle.ws_tap.specs.Piping.{DrainsPipe, FillsPipe, HasPassed, PipeStep, next_of}
 use Rattle.ws_tap.specs.Heads.{HasHead, HasNoHead}
-use Rattle.ws_tap.specs.Texts.{Sent, Switches, Answered, NotYet, After}
-use Rattle.ws_tap.specs.Standing.{HasToldClient, HasToldServer, IsToldSo, with_bytes}
+use Rattle.ws_tap.specs.Texts.{Sent, Switches, Answered, NotYet, After, IsClientText}
+use Rattle.ws_tap.specs.Standing.{HasToldClient, HasToldServer, IsResponseLine, IsToldSo, with_bytes}
 
 -- ---- the devices
 
@@ -132,22 +133,48 @@ HasAnswered (After early true) client server = GoesOnFrom client.bytes early.byt
 HasAnswered (After early false) client server = GoesOnFrom client.bytes early.bytes
     × ((head : Head) × HasHead Response server.bytes head × (Switches head → ⊥))
 
+-- what the server has answered behind more of its bytes: the same; or, where that was nothing, its response came now,
+-- when the client had sent this
+abbrev pub IsAnsweredNext : Answered → Answered → Sent → Type 0
+IsAnsweredNext old new client =
+    (new ≡ old) ⊎ ((old ≡ NotYet) × ((switches : Bool) × (new ≡ After client switches)))
+
+-- Where in these parts the server has answered: before the first line of the server nothing is told of it, and of the
+-- client what is told while it waits; and at once behind that line stand the lines of the client that waited.
+pub record IsAnsweredAt (number : ℕ) (early server : Sent) (parts : List Part) : Type 0 where
+  pub before : List Part
+  pub first : List ℕ
+  pub waited : List ℕ
+  pub later : List Part
+  pub all : parts ≡ before ++ (OfServer first ∷ OfClient waited ∷ later)
+  pub none_of_server : server_text before ≡ []
+  pub of_client : IsClientText number NotYet early (client_text before)
+  pub is_first : IsResponseLine number server.bytes first
+  pub has_waited : IsClientText number (After early true) early (client_text before ++ waited)
+
+-- where the server switches, the parts stand in the order in which things came
+abbrev pub AreInOrder : ℕ → Answered → Sent → List Part → Type 0
+AreInOrder number NotYet server parts = Unit {0}
+AreInOrder number (After early true) server parts = IsAnsweredAt number early server parts
+AreInOrder number (After early false) server parts = Unit {0}
+
 -- the lines that tell of both ends
 pub record BothLines : Type 0 where
   pub client : ClientLines
   pub server : ServerLines
 
--- what was told of both ends
-pub record HasToldBoth (number : ℕ) (lines : BothLines) (client server : Sent) (parts : List Part) : Type 0 where
-  pub answered : Answered
+-- what was told of both ends, where the server has answered so
+pub record HasToldBoth (number : ℕ) (answered : Answered) (lines : BothLines) (client server : Sent)
+    (parts : List Part) : Type 0 where
   pub has_answered : HasAnswered answered client server
   pub of_client : HasToldClient number lines.client answered client (client_text parts)
   pub of_server : HasToldServer number lines.server server (server_text parts)
+  pub in_order : AreInOrder number answered server parts
 
 -- something was told of both ends
 abbrev pub HasToldSome : BothLines → Type 0
-HasToldSome lines = (number : ℕ) × (client : Sent) × (server : Sent) × (parts : List Part)
-    × HasToldBoth number lines client server parts
+HasToldSome lines = (number : ℕ) × (answered : Answered) × (client : Sent) × (server : Sent) × (parts : List Part)
+    × HasToldBoth number answered lines client server parts
 
 -- both directions were passed on
 pub record HasPassedOn (tap : Tap) (devices : TapDevices) : Type 0 where
@@ -156,22 +183,24 @@ pub record HasPassedOn (tap : Tap) (devices : TapDevices) : Type 0 where
   pub client : PassesOn tap.client devices.client from_client
   pub server : PassesOn tap.server devices.server from_server
 
--- A tap stands where both directions were passed on, and all that is certain of what was read was told, and nothing
--- else.
-pub record HasTapped (number : ℕ) (tap : Tap) (devices : TapDevices) : Type 0 where
+-- A tap stands, whose server has answered so, where both directions were passed on, and all that is certain of what was
+-- read was told, and nothing else.
+pub record HasTapped (number : ℕ) (answered : Answered) (tap : Tap) (devices : TapDevices) : Type 0 where
   pub passed : HasPassedOn tap devices
   pub parts : List Part
-  pub told : HasToldBoth number (record { client = tap.client_lines; server = tap.server_lines })
+  pub told : HasToldBoth number answered (record { client = tap.client_lines; server = tap.server_lines })
       (sent_by tap.client passed.from_client) (sent_by tap.server passed.from_server) parts
   pub lines : Appends devices.lines.old devices.lines.new (all_text parts)
 
 -- ---- pieces
 
--- what was told of both ends; or the output has failed
-abbrev pub IsToldOfBoth : ℕ → BothLines → Sent → Sent → List Part → Bool → Result (Unit {0}) WriteFault → Type 0
-IsToldOfBoth number new client server parts failed (Ok _) =
-    (failed ≡ false) × HasToldBoth number new client server parts
-IsToldOfBoth number new client server parts failed (Err _) = failed ≡ true
+-- what was told of both ends, where the server had answered so before; or the output has failed
+abbrev pub IsToldOfBoth : ℕ → Answered → BothLines → Sent → Sent → List Part → Bool → Result (Unit {0}) WriteFault
+    → Type 0
+IsToldOfBoth number before new client server parts failed (Ok _) = (failed ≡ false)
+    × ((answered : Answered) × IsAnsweredNext before answered client
+    × HasToldBoth number answered new client server parts)
+IsToldOfBoth number before new client server parts failed (Err _) = failed ≡ true
 
 -- more bytes of the client are told
 abbrev pub TellsClientPiece : ClientLines → ClientLines → List ℕ → Device → Result (Unit {0}) WriteFault → Type 0
@@ -182,10 +211,10 @@ TellsClientPiece old new piece output result = (number : ℕ) (answered : Answer
 
 -- more bytes of the server are told, and what waited for them
 abbrev pub TellsServerPiece : BothLines → BothLines → List ℕ → Device → Result (Unit {0}) WriteFault → Type 0
-TellsServerPiece old new piece output result = (number : ℕ) (client server : Sent) (parts : List Part)
-    → HasToldBoth number old client server parts → server.ended ≡ false
+TellsServerPiece old new piece output result = (number : ℕ) (answered : Answered) (client server : Sent)
+    (parts : List Part) → HasToldBoth number answered old client server parts → server.ended ≡ false
     → (more : List Part) × HasWritten (all_text more) output
-    × IsToldOfBoth number new client (with_bytes server piece) (parts ++ more) output.failed result
+    × IsToldOfBoth number answered new client (with_bytes server piece) (parts ++ more) output.failed result
 
 -- ---- steps
 
@@ -211,40 +240,63 @@ server_has_ended tap = has_ended tap.server.stage
 -- over devices of which nothing was read, and to which nothing was written, a tap stands that is new
 abbrev pub IsNewTap : ℕ → Tap → Type 0
 IsNewTap number tap = (from_client to_server from_server to_client lines : Option (List ℕ))
-    → HasTapped number tap (new_devices from_client to_server from_server to_client lines)
+    → HasTapped number NotYet tap (new_devices from_client to_server from_server to_client lines)
 
 -- there are devices over which it stands
 abbrev pub StandsSomehow : Tap → Type 0
-StandsSomehow tap = (number : ℕ) × (devices : TapDevices) × HasTapped number tap devices
+StandsSomehow tap =
+    (number : ℕ) × (answered : Answered) × (devices : TapDevices) × HasTapped number answered tap devices
 
 -- over the same devices it stands again
 abbrev pub Goes : TapStep → Type 0
-Goes step = (number : ℕ) (devices : TapDevices) → HasTapped number step.old devices
-    → HasTapped number step.new devices
+Goes step = (number : ℕ) (answered : Answered) (devices : TapDevices) → HasTapped number answered step.old devices
+    → HasTapped number answered step.new devices
 
 -- it stands again; or the output has failed, and all was passed on still
-abbrev pub StandsAfter : {T : Type 0} → ℕ → Tap → TapDevices → Bool → Result T WriteFault → Type 0
-StandsAfter number tap devices failed (Ok _) = (failed ≡ false) × HasTapped number tap devices
-StandsAfter number tap devices failed (Err _) = (failed ≡ true) × HasPassedOn tap devices
+abbrev pub StandsAfter : {T : Type 0} → ℕ → Answered → Tap → TapDevices → Bool → Result T WriteFault → Type 0
+StandsAfter number answered tap devices failed (Ok _) = (failed ≡ false) × HasTapped number answered tap devices
+StandsAfter number answered tap devices failed (Err _) = (failed ≡ true) × HasPassedOn tap devices
+
+-- so it is where the server may have answered: then when the client had sent this
+abbrev pub StandsAnswered : {T : Type 0} → ℕ → Answered → Sent → Tap → TapDevices → Bool → Result T WriteFault
+    → Type 0
+StandsAnswered number before client tap devices failed (Ok _) = (failed ≡ false)
+    × ((answered : Answered) × IsAnsweredNext before answered client × HasTapped number answered tap devices)
+StandsAnswered number before client tap devices failed (Err _) = (failed ≡ true) × HasPassedOn tap devices
 
 -- bytes were read from the client, and told
 abbrev pub ReadsClient : TapStep → DeviceBytes → Device → Result Filled WriteFault → Type 0
-ReadsClient step reader output result = (number : ℕ) (devices : TapDevices) → HasTapped number step.old devices
+ReadsClient step reader output result = (number : ℕ) (answered : Answered) (devices : TapDevices)
+    → HasTapped number answered step.old devices
     → devices.client.input.new ≡ reader.old → devices.lines.new ≡ output.old
-    → StandsAfter number step.new (with_client_read devices reader.new output.new) output.failed result
+    → StandsAfter number answered step.new (with_client_read devices reader.new output.new) output.failed result
 
 -- bytes were read from the server, and told
 abbrev pub ReadsServer : TapStep → DeviceBytes → Device → Result Filled WriteFault → Type 0
-ReadsServer step reader output result = (number : ℕ) (devices : TapDevices) → HasTapped number step.old devices
+ReadsServer step reader output result = (number : ℕ) (answered : Answered) (devices : TapDevices)
+    → (t : HasTapped number answered step.old devices)
     → devices.server.input.new ≡ reader.old → devices.lines.new ≡ output.old
-    → StandsAfter number step.new (with_server_read devices reader.new output.new) output.failed result
+    → StandsAnswered number answered (sent_by step.old.client t.passed.from_client) step.new
+    (with_server_read devices reader.new output.new) output.failed result
 
 -- bytes of the client were written to the server
 abbrev pub WritesServer : TapStep → DeviceBytes → Type 0
-WritesServer step writer = (number : ℕ) (devices : TapDevices) → HasTapped number step.old devices
-    → devices.client.output.new ≡ writer.old → HasTapped number step.new (with_server_written devices writer.new)
+WritesServer step writer = (number : ℕ) (answered : Answered) (devices : TapDevices)
+    → HasTapped number answered step.old devices → devices.client.output.new ≡ writer.old
+    → HasTapped number answered step.new (with_server_written devices writer.new)
 
 -- bytes of the server were written to the client
 abbrev pub WritesClient : TapStep → DeviceBytes → Type 0
-WritesClient step writer = (number : ℕ) (devices : TapDevices) → HasTapped number step.old devices
-    → devices.server.output.new ≡ writer.old → HasTapped number step.new (with_client_written devices writer.new)
+WritesClient step writer = (number : ℕ) (answered : Answered) (devices : TapDevices)
+    → HasTapped number answered step.old devices → devices.server.output.new ≡ writer.old
+    → HasTapped number answered step.new (with_client_written devices writer.new)
+
+-- what a read of a direction answered is what it did: bytes came and are held, or the end, or nothing; where the output
+-- has failed, nothing is said of it
+abbrev pub AnswersRead : PipeStep → DeviceBytes → Result Filled WriteFault → Type 0
+AnswersRead step reader (Ok filled) = FillsPipe step reader.old reader.new filled
+AnswersRead step reader (Err _) = Unit {0}
+
+-- and so of a write: bytes were taken and are not held any more, or none
+abbrev pub AnswersWrite : PipeStep → DeviceBytes → Drained → Type 0
+AnswersWrite step writer drained = DrainsPipe step writer.old writer.new drained

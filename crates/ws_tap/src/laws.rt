@@ -3,8 +3,8 @@
 ghost use Rattle.std.specs.Prelude.{◌≡◌, ◌+◌, ◌≤◌, ℕ, List, length};
 ghost use Rattle.std.specs.Io.KnownBytes.{IsAtEnd};
 ghost use Rattle.ws_tap.specs.Texts.{Sent, Answered, IsServerText, IsClientText};
-ghost use Rattle.ws_tap.specs.Tapping.{HasTapped, TapDevices, client_next, client_text, sent_by, server_next};
-ghost use Rattle.ws_tap.specs.Tapping.{server_text};
+ghost use Rattle.ws_tap.specs.Tapping.{AreInOrder, HasAnswered, HasTapped, TapDevices, client_next, client_text};
+ghost use Rattle.ws_tap.specs.Tapping.{sent_by, server_next, server_text};
 ghost use Rattle.ws_tap.specs.declared.tap.Tap.{Tap};
 ghost use Rattle.ws_tap.specs.Standing.{HasToldServer, HasToldClient};
 ghost use Rattle.ws_tap.specs.PipeValues.{PipeValue};
@@ -39,21 +39,24 @@ pub fn all_is_written()
         → next_of pipe ≡ Nothing → written ≡ read }
 {}
 
-/// What a tap has told are the texts of its two ends, for all that was read of them.
+/// What a tap has told are the texts of its two ends, for all that was read of them and for what the server has
+/// answered, and they stand in the order in which things came.
 pub fn a_tap_tells_both_ends()
-    ensures { (number : ℕ) (tap : Tap) (devices : TapDevices) (t : HasTapped number tap devices)
-        → ((answered : Answered)
-        × IsClientText number answered (sent_by tap.client t.passed.from_client) (client_text t.parts))
-        × IsServerText number (sent_by tap.server t.passed.from_server) (server_text t.parts) }
+    ensures { (number : ℕ) (answered : Answered) (tap : Tap) (devices : TapDevices)
+        → (t : HasTapped number answered tap devices)
+        → HasAnswered answered (sent_by tap.client t.passed.from_client) (sent_by tap.server t.passed.from_server)
+        × IsClientText number answered (sent_by tap.client t.passed.from_client) (client_text t.parts)
+        × IsServerText number (sent_by tap.server t.passed.from_server) (server_text t.parts)
+        × AreInOrder number answered (sent_by tap.server t.passed.from_server) t.parts }
 {}
 
 /// Where nothing is left to be done for a direction of a tap, its reader has nothing left, and all that was read is
 /// written.
 pub fn a_tap_passes_all_on()
-    ensures client { (number : ℕ) (tap : Tap) (devices : TapDevices) (t : HasTapped number tap devices)
-        → client_next tap ≡ Nothing
+    ensures client { (number : ℕ) (answered : Answered) (tap : Tap) (devices : TapDevices)
+        → (t : HasTapped number answered tap devices) → client_next tap ≡ Nothing
         → (t.passed.client.written ≡ t.passed.from_client) × IsAtEnd devices.client.input.new }
-    ensures server { (number : ℕ) (tap : Tap) (devices : TapDevices) (t : HasTapped number tap devices)
-        → server_next tap ≡ Nothing
+    ensures server { (number : ℕ) (answered : Answered) (tap : Tap) (devices : TapDevices)
+        → (t : HasTapped number answered tap devices) → server_next tap ≡ Nothing
         → (t.passed.server.written ≡ t.passed.from_server) × IsAtEnd devices.server.input.new }
 {}

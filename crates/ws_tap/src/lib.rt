@@ -2,8 +2,8 @@
 //! each head (RFC 6455 section 4), and each frame behind it as `show` has it (section 5.2).
 //!
 //! The layer above uses the contract of `tap_ends`: over the readers and writers of both ends their directions are
-//! passed on, and what was read is told, until both have ended. It runs a `Tap`, which joins `Pipe`, which passes on, with
-//! `ClientLines` and `ServerLines`, which tell.
+//! passed on, and what was read is told, until both have ended. It runs a `Tap`, which joins `Pipe`, which passes on,
+//! with `ClientLines` and `ServerLines`, which tell.
 #![tactic(auto)]
 
 mod client_lines;

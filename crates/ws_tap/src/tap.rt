@@ -5,6 +5,7 @@ ghost use Rattle.ws_frame.specs.Watching.{has_failed, inner_of};
 ghost use Rattle.ws_frame.specs.Devices.{watched};
 ghost use Rattle.ws_tap.specs.Tapping.{IsNewTap, StandsSomehow, client_next, server_next};
 ghost use Rattle.ws_tap.specs.Tapping.{ReadsClient, ReadsServer, WritesClient, WritesServer, Goes, device_bytes};
+ghost use Rattle.ws_tap.specs.Tapping.{AnswersRead, AnswersWrite};
 ghost use Rattle.ws_tap.specs.Tapping.{client_has_ended, server_has_ended};
 ghost use Rattle.ws_tap.specs.declared.pipe.Next.TheVariants as next;
 
@@ -82,6 +83,8 @@ impl Tap {
         ensures reads { ReadsClient (record { old = self.old; new = self.new })
             (device_bytes (R.remaining reader.old) (R.remaining reader.new))
             (watched W.contents output.old output.new) result }
+        ensures answers { AnswersRead (record { old = self.old.client; new = self.new.client })
+            (device_bytes (R.remaining reader.old) (R.remaining reader.new)) result }
         ensures going { client_next self.new ≢ next.Nothing }
         ensures other { server_next self.new ≡ server_next self.old }
     {
@@ -107,6 +110,8 @@ impl Tap {
         ensures reads { ReadsServer (record { old = self.old; new = self.new })
             (device_bytes (R.remaining reader.old) (R.remaining reader.new))
             (watched W.contents output.old output.new) result }
+        ensures answers { AnswersRead (record { old = self.old.server; new = self.new.server })
+            (device_bytes (R.remaining reader.old) (R.remaining reader.new)) result }
         ensures going { server_next self.new ≢ next.Nothing }
         ensures other { client_next self.new ≡ client_next self.old }
     {
@@ -131,6 +136,8 @@ impl Tap {
         requires stands { StandsSomehow self.old }
         ensures writes { WritesServer (record { old = self.old; new = self.new })
             (device_bytes (W.contents writer.old) (W.contents writer.new)) }
+        ensures answers { AnswersWrite (record { old = self.old.client; new = self.new.client })
+            (device_bytes (W.contents writer.old) (W.contents writer.new)) result }
         ensures going { client_next self.new ≢ next.Nothing }
         ensures other { server_next self.new ≡ server_next self.old }
     {
@@ -143,6 +150,8 @@ impl Tap {
         requires stands { StandsSomehow self.old }
         ensures writes { WritesClient (record { old = self.old; new = self.new })
             (device_bytes (W.contents writer.old) (W.contents writer.new)) }
+        ensures answers { AnswersWrite (record { old = self.old.server; new = self.new.server })
+            (device_bytes (W.contents writer.old) (W.contents writer.new)) result }
         ensures going { server_next self.new ≢ next.Nothing }
         ensures other { client_next self.new ≡ client_next self.old }
     {

@@ -69,9 +69,10 @@ abbrev pub LacksPassing : (StandingValue → Visit → Type 0) → VisitRules �
 LacksPassing Visits rules faults =
     (next : List (List ℕ)) × AreSomeNotes rules next × HavePassed Visits rules next faults
 
--- How a run for a capture of this case ended: with a connection, with which the capture or the line was written; or none
--- can be taken any more. Where memory ran out nothing was written.
-abbrev pub CapturesClient : (StandingValue → Visit → Type 0) → VisitRules → Case → Result Exit Fault → Device → Device → Type 0
+-- How a run for a capture of this case ended: with a connection, with which the capture or the line was written; or
+-- none can be taken any more. Where memory ran out nothing was written.
+abbrev pub CapturesClient : (StandingValue → Visit → Type 0) → VisitRules → Case → Result Exit Fault → Device →
+    Device → Type 0
 CapturesClient Visits rules case (Ok exit) output faults =
     ((last : Visit) × EndsWithVisit Visits rules last faults × WritesLast case last exit output)
     ⊎ ((exit ≡ Failed) × HavePassed Visits rules [] faults × IsUntouched output)
@@ -88,6 +89,7 @@ IsLast (Told purpose) = ⊤
 IsLast (Ran purpose transcript) = ⊤
 
 -- the connection with which a run ends, if one came
-abbrev pub EndsPassing : {X : Type 0} → (StandingValue → Visit → Type 0) → VisitRules → Option (Visit × X) → Device → Type 0
+abbrev pub EndsPassing : {X : Type 0} → (StandingValue → Visit → Type 0) → VisitRules → Option (Visit × X) → Device →
+    Type 0
 EndsPassing Visits rules None faults = HavePassed Visits rules [] faults
 EndsPassing Visits rules (Some last) faults = EndsWithVisit Visits rules last.0 faults

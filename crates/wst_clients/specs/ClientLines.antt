@@ -1,5 +1,5 @@
--- How cases that clients under test were run in are told of: what is written of each, and of the total, and what a run of
--- them comes to.
+-- How cases that clients under test were run in are told of: what is written of each, and of the total, and what a run
+-- of them comes to.
 use Rattle.std.specs.Prelude.{ℕ, Bool, ◌||◌, if◌then◌else◌, List, [], ◌∷◌, codes, flat_map, string_bytes}
 use Rattle.std.specs.Fmt.{decimal}
 use Rattle.std.specs.List.{concat, list_any}

@@ -19,7 +19,8 @@ use Rattle.wst_clients.specs.declared.scripting.Scripted.TheVariants.{Lost, Ran,
 -- ---- one connection
 
 -- The request was accepted, whatever it asks for, and the script run behind it.
-pub record IsScripted (known : List (List ℕ)) (case : Case) (transcript : Transcript) (run : ConnectionRun) : Type 0 where
+pub record IsScripted (known : List (List ℕ)) (case : Case) (transcript : Transcript) (run : ConnectionRun)
+    : Type 0 where
   pub behind : ConnectionValue
   pub request : AcceptedRequest
   pub accepted : Admits known (admission.Accepted request) (record { old = run.old; new = behind })

@@ -1,5 +1,5 @@
--- Clients under test, one after the other: what is written of them, a line for each case that was run, one for each that
--- none has asked for, and the total; and what is told on the fault output.
+-- Clients under test, one after the other: what is written of them, a line for each case that was run, one for each
+-- that none has asked for, and the total; and what is told on the fault output.
 use Rattle.std.specs.Prelude.{◌≡◌, ℕ, ◌<◌, ◌^◌, ◌⊎◌, ⊤, Bool, true, false, List, [], ◌∷◌, ◌++◌, Option, Result, Ok}
 use Rattle.std.specs.Prelude.{Err, length}
 use Rattle.ws_frame.specs.Devices.{Device, HasBegun, HasWritten, IsUntouched}
@@ -33,7 +33,8 @@ abbrev pub HaveCome : (StandingValue → VisitOutcome → Type 0) → VisitRules
 HaveCome Comes rules visits standing = AreVisits Comes rules (none_run (length rules.cases.now)) visits standing
 
 -- They came, and then one that ends the run.
-pub record HaveAllCome (Comes : StandingValue → VisitOutcome → Type 0) (rules : VisitRules) (visits : List VisitOutcome) (standing : StandingValue) : Type 0 where
+pub record HaveAllCome (Comes : StandingValue → VisitOutcome → Type 0) (rules : VisitRules)
+    (visits : List VisitOutcome) (standing : StandingValue) : Type 0 where
   pub before : List VisitOutcome
   pub earlier : StandingValue
   pub have_come : HaveCome Comes rules before earlier
@@ -50,7 +51,8 @@ HasToldVisits rules visits output =
 
 -- Connections came, none of which ends the run, and their lines were written; these texts were told behind their own on
 -- the fault output.
-pub record HasVisited (Comes : StandingValue → VisitOutcome → Type 0) (rules : VisitRules) (next : List (List ℕ)) (output faults : Device)
+pub record HasVisited (Comes : StandingValue → VisitOutcome → Type 0) (rules : VisitRules) (next : List (List ℕ))
+    (output faults : Device)
     : Type 0 where
   pub visits : List VisitOutcome
   pub standing : StandingValue
@@ -59,7 +61,8 @@ pub record HasVisited (Comes : StandingValue → VisitOutcome → Type 0) (rules
   pub noted : TellsEach (notes_of_visits rules visits ++ next) faults
 
 -- the line of the last of them could not be written
-pub record StopsAtVisit (Comes : StandingValue → VisitOutcome → Type 0) (rules : VisitRules) (output faults : Device) : Type 0 where
+pub record StopsAtVisit (Comes : StandingValue → VisitOutcome → Type 0) (rules : VisitRules)
+    (output faults : Device) : Type 0 where
   pub visits : List VisitOutcome
   pub standing : StandingValue
   pub have_come : HaveCome Comes rules visits standing
@@ -75,7 +78,8 @@ StopsVisiting Comes rules output faults =
     HasVisited Comes rules [] output faults ⊎ StopsAtVisit Comes rules output faults
 
 -- One of them ends the run.
-pub record EndsVisits (Comes : StandingValue → VisitOutcome → Type 0) (rules : VisitRules) (standing : StandingValue) (score : Score)
+pub record EndsVisits (Comes : StandingValue → VisitOutcome → Type 0) (rules : VisitRules) (standing : StandingValue)
+    (score : Score)
     (output faults : Device) : Type 0 where
   pub visits : List VisitOutcome
   pub have_all : HaveAllCome Comes rules visits standing
@@ -89,7 +93,8 @@ LacksMemoryVisiting Comes rules output faults =
     (next : List (List ℕ)) × AreSomeNotes rules next × HasVisited Comes rules next output faults
 
 -- how the taking of connections ended
-abbrev pub RunsVisits : (StandingValue → VisitOutcome → Type 0) → VisitRules → Result VisitsEnd Fault → Device → Device → Type 0
+abbrev pub RunsVisits : (StandingValue → VisitOutcome → Type 0) → VisitRules → Result VisitsEnd Fault → Device →
+    Device → Type 0
 RunsVisits Comes rules (Ok (Ended standing score)) output faults = EndsVisits Comes rules standing score output faults
 RunsVisits Comes rules (Ok Stopped) output faults = StopsVisiting Comes rules output faults
 RunsVisits Comes rules (Err fault) output faults = (fault ≡ NoMemory) × LacksMemoryVisiting Comes rules output faults
@@ -98,7 +103,8 @@ RunsVisits Comes rules (Err fault) output faults = (fault ≡ NoMemory) × Lacks
 
 -- One of the connections ends the run. The lines of the cases that were run were written, then those of the cases that
 -- no client has asked for, and the total of all; or a write failed at last.
-pub record TestsAll (Comes : StandingValue → VisitOutcome → Type 0) (rules : VisitRules) (exit : Exit) (output faults : Device) : Type 0 where
+pub record TestsAll (Comes : StandingValue → VisitOutcome → Type 0) (rules : VisitRules) (exit : Exit)
+    (output faults : Device) : Type 0 where
   pub visits : List VisitOutcome
   pub standing : StandingValue
   pub have_all : HaveAllCome Comes rules visits standing
@@ -110,7 +116,8 @@ pub record TestsAll (Comes : StandingValue → VisitOutcome → Type 0) (rules :
   pub noted : TellsEach (notes_of_visits rules visits) faults
 
 -- how a run over clients ended
-abbrev pub TestsClients : (StandingValue → VisitOutcome → Type 0) → VisitRules → Result Exit Fault → Device → Device → Type 0
+abbrev pub TestsClients : (StandingValue → VisitOutcome → Type 0) → VisitRules → Result Exit Fault → Device →
+    Device → Type 0
 TestsClients Comes rules (Ok exit) output faults = TestsAll Comes rules exit output faults
     ⊎ ((exit ≡ Failed) × StopsVisiting Comes rules output faults)
 TestsClients Comes rules (Err fault) output faults = (fault ≡ NoMemory)
@@ -119,8 +126,8 @@ TestsClients Comes rules (Err fault) output faults = (fault ≡ NoMemory)
 
 -- ---- a document
 
--- What a report has before all cases was written, the clients were tested, and where that ended early, what it has behind
--- all cases was written too, if the output works.
+-- What a report has before all cases was written, the clients were tested, and where that ended early, what it has
+-- behind all cases was written too, if the output works.
 pub record ReportsClients (Comes : StandingValue → VisitOutcome → Type 0) (rules : VisitRules) (target : List ℕ)
     (report : ReportValue) (ended : Result Exit Fault) (output faults : Device) : Type 0 where
   pub begun : Option (List ℕ)

@@ -1,6 +1,7 @@
 -- One connection of a client under test: its request is answered, and the script of what it asks for is run over it
 -- (RFC 6455 sections 4.2 and 5 to 7).
-use Rattle.std.specs.Prelude.{◌≡◌, ℕ, ◌-◌, ◌⊎◌, ⊤, Bool, List, [], ◌∷◌, ◌++◌, Option, Some, None, String, length, map, slice_get}
+use Rattle.std.specs.Prelude.{◌≡◌, ℕ, ◌-◌, ◌⊎◌, ⊤, Bool, List, [], ◌∷◌, ◌++◌, Option, Some, None, String, length, map}
+use Rattle.std.specs.Prelude.{slice_get}
 use Rattle.std.specs.Prelude.{codes, string_bytes}
 use Rattle.std.specs.List.{All}
 use Rattle.std.specs.declared.alloc.Global.{Global}

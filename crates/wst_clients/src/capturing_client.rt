@@ -25,8 +25,8 @@ use ws_wire::{NO_KEY, Role};
 use wst_commands::{Exit, Fault};
 use wst_testing::{Outcome, RunRules, tell_capture, tell_case};
 
-/// Takes connections, one after the other, until one runs the case, whose capture is written, or one ends the run, where
-/// the line of a case is written that was not run. The one case of the rules is this one.
+/// Takes connections, one after the other, until one runs the case, whose capture is written, or one ends the run,
+/// where the line of a case is written that was not run. The one case of the rules is this one.
 pub fn capture_client<C: TestedClients, W: Write, F: Write>(
     alloc: Global,
     clients: &C,
@@ -53,8 +53,8 @@ pub fn capture_client<C: TestedClients, W: Write, F: Write>(
     }
 }
 
-/// Takes connections, one after the other, until one ends the run, and answers what came of it. `None` where none can be
-/// taken any more.
+/// Takes connections, one after the other, until one ends the run, and answers what came of it. `None` where none can
+/// be taken any more.
 fn last_visit<C: TestedClients, F: Write>(
     alloc: Global,
     clients: &C,

@@ -21,8 +21,8 @@ use ws_reports::Report;
 use wst_commands::{Exit, Fault, deliver};
 use wst_testing::close_report;
 
-/// Tests clients as `test_clients` does, between what the report has before and behind all cases. What it has behind them
-/// is written also where the run ends early, if the output works.
+/// Tests clients as `test_clients` does, between what the report has before and behind all cases. What it has behind
+/// them is written also where the run ends early, if the output works.
 pub fn document_clients<C: TestedClients, W: Write, F: Write>(
     alloc: Global,
     clients: &C,

@@ -1,5 +1,5 @@
-//! Clients under test: which case each connection runs, what comes of it, and what is told of all of them, one after the
-//! other. No rule of the protocol stands here.
+//! Clients under test: which case each connection runs, what comes of it, and what is told of all of them, one after
+//! the other. No rule of the protocol stands here.
 //!
 //! The layer above uses `test_clients` and `document_clients`, which run the cases over the clients that come and tell
 //! them; `capture_client`, the capture of one case; `script_client`, the run of one script over the first client;

@@ -22,8 +22,8 @@ use ws_connection::Observer;
 use ws_frame::Watched;
 use ws_suite::{Case, Transcript};
 
-/// Takes connections, one after the other, until the request of one is accepted, and runs a script over it. `None` where
-/// none can be taken any more. A request that is refused is told to `faults`.
+/// Takes connections, one after the other, until the request of one is accepted, and runs a script over it. `None`
+/// where none can be taken any more. A request that is refused is told to `faults`.
 pub fn script_client<C: TestedClients, O: Observer, F: Write>(
     alloc: Global,
     clients: &C,

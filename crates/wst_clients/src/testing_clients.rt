@@ -43,8 +43,8 @@ pub enum VisitsEnd {
 }
 
 /// Takes connections, one after the other, until one ends the run. Writes a line for each case that was run as it ends,
-/// then one for each case that was not run, and the total last. A line that can't be written ends the run, and so does a
-/// listener that takes no connection any more.
+/// then one for each case that was not run, and the total last. A line that can't be written ends the run, and so does
+/// a listener that takes no connection any more.
 pub fn test_clients<C: TestedClients, W: Write, F: Write>(
     alloc: Global,
     clients: &C,

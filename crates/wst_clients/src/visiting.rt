@@ -72,8 +72,8 @@ pub enum Visit {
 }
 
 /// Answers the request of a connection, and runs the script of what its path asks for: that of a case, or the one that
-/// tells a text, if there is one, and closes. A request that is refused is told to `faults`, and so is the name of a case
-/// before it runs, where that is asked for.
+/// tells a text, if there is one, and closes. A request that is refused is told to `faults`, and so is the name of a
+/// case before it runs, where that is asked for.
 pub fn visit_client<R: Read, W: EndsDirection, F: Write>(
     alloc: Global,
     rules: &VisitRules<'_>,

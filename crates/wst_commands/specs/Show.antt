@@ -65,8 +65,8 @@ ShowsStream from budget ended input output = (end : ShowEnd) × Shows from budge
 
 -- ---- a capture
 
--- The text of lines of the transcript was written; or a write failed, and a beginning of it was written. Of a transcript
--- with a place that 64 bits can't tell nothing is written, and it is told as want of memory.
+-- The text of lines of the transcript was written; or a write failed, and a beginning of it was written. Of a
+-- transcript with a place that 64 bits can't tell nothing is written, and it is told as want of memory.
 abbrev pub TellsLines : Role → Transcript → Result Exit Fault → Device → Type 0
 TellsLines tested transcript ended output =
     ((ended ≡ Ok Done) × (output.failed ≡ false) × HasWrittenLines tested transcript output)

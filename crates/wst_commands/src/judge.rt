@@ -16,8 +16,8 @@ use ws_frame::Watched;
 use ws_suite::{CaptureFault, Transcript, Verdict, read_capture2};
 use wst_words::JudgeOptions;
 
-/// Judges the capture that the reader gives, in either format, and writes the verdict, and below it why it is told where
-/// that is asked for.
+/// Judges the capture that the reader gives, in either format, and writes the verdict, and below it why it is told
+/// where that is asked for.
 pub fn run_judge<R: Read, W: Write>(
     alloc: Global,
     options: JudgeOptions,

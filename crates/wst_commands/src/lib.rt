@@ -5,9 +5,9 @@
 //! The layer above uses a call for each command, each with one clause, what a run of that command is (`RunsShow` and
 //! its like): `run_show`, `run_moves` (of `pair`), `run_head`, `run_session`, `run_judge`, `run_convert`, `run_cases`;
 //! `cases_of`, `ids_for` and `is_glob`, which say for which cases words stand; `end_run`, `tell_fault` and
-//! `tell_no_cases`, which tell a fault; `read_whole`, which reads an input to its end; `deliver` and `tell`, which write
-//! a text; `limits_given`, `timeout_given`, `judgement_of`, the verdict on a transcript and the lines below it; `exit_of`
-//! and `Exit::status`.
+//! `tell_no_cases`, which tell a fault; `read_whole`, which reads an input to its end; `deliver` and `tell`, which
+//! write a text; `limits_given`, `timeout_given`, `judgement_of`, the verdict on a transcript and the lines below it;
+//! `exit_of` and `Exit::status`.
 #![tactic(auto)]
 
 mod cases;

@@ -149,8 +149,8 @@ fn answer<W: Write>(
     }
 }
 
-/// Writes the lines of a transcript. One with a place that 64 bits can't tell, which no memory holds, is told as want of
-/// it.
+/// Writes the lines of a transcript. One with a place that 64 bits can't tell, which no memory holds, is told as want
+/// of it.
 fn tell_lines<W: Write>(
     tested: Role,
     transcript: &Transcript,

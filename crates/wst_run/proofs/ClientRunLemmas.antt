@@ -34,4 +34,5 @@ sends_captured plan rules case transcript exit output faults are sent captures (
       (transcript, sent, subst (λ (b : Bool). WritesClientRun b transcript output) (sym captures) (written, works)),
     )
 sends_captured plan rules case transcript exit output faults are sent captures (inr (is, fails, begun)) =
-    subst (λ (e : Exit). SendsScript plan case (Ok e) output faults) (sym is) tt
+    subst (λ (e : Exit). SendsScript plan case (Ok e) output faults) (sym is)
+    (inl (fails, λ asked. (rules, are, (transcript, sent, begun))))

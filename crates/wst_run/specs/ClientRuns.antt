@@ -1,5 +1,5 @@
 -- Clients under test that come to an address of a network.
-use Rattle.std.specs.Prelude.{◌≡◌, ◌⊎◌, ℕ, ⊤, Bool, true, false, List, [], ◌∷◌, Option, Some, Result, Ok, Err}
+use Rattle.std.specs.Prelude.{◌≡◌, ◌⊎◌, ℕ, Bool, true, false, List, [], ◌∷◌, Option, None, Some, Result, Ok, Err}
 use Rattle.ws_base.specs.declared.text_fault.TextFault.{TextFault}
 use Rattle.ws_base.specs.declared.text_fault.TextFault.TheVariants as text_fault
 use Rattle.ws_formats.specs.Lines.{Damages}
@@ -11,13 +11,14 @@ use Rattle.ws_scripts.specs.ScriptTexts.{IsScriptText, IsTextOfScript}
 use Rattle.ws_scripts.specs.declared.script.Case.{Case}
 use Rattle.ws_scripts.specs.declared.transcript.Transcript.{Transcript}
 use Rattle.wst_commands.specs.Faults.{Ends}
-use Rattle.wst_commands.specs.ReadingWhole.{ReadsAll}
+use Rattle.wst_commands.specs.ReadingWhole.{ReadsAll, StopsReading, stopped}
 use Rattle.wst_commands.specs.TimeLimits.{is_limited}
 use Rattle.wst_commands.specs.declared.exit.Exit.{Exit}
 use Rattle.wst_commands.specs.declared.exit.Exit.TheVariants.{Done, Failed}
 use Rattle.wst_commands.specs.declared.fault.Fault.{Fault}
 use Rattle.wst_commands.specs.declared.fault.Fault.TheVariants.{NoMemory, NotAStep, NotListening}
 use Rattle.wst_commands.specs.declared.fault.ListenFault.{ListenFault}
+use Rattle.wst_commands.specs.declared.reading_whole.ReadStop.{ReadStop}
 use Rattle.wst_clients.specs.ClientCaptures.{CapturesClient, client_capture}
 use Rattle.wst_clients.specs.ClientSends.{IsScriptedSo, ScriptsClient, protocols_known}
 use Rattle.wst_clients.specs.ClientTests.{DocumentsClients, TestsClients}
@@ -137,15 +138,28 @@ WritesClientRun false transcript output = HasWrittenRun Client transcript output
 WritesClientRun true transcript output =
     HasWritten (written_capture2 (client_capture transcript)) output × (output.failed ≡ false)
 
--- The script was run over a connection, and that was written; or a write failed, no connection can be taken any more or
--- memory ran out.
+-- a write failed: of a capture, where one is asked for, a beginning was written; of lines it is not said what was
+abbrev pub BreaksClientRun : SendPlan → Case → Device → Device → Type 0
+BreaksClientRun plan case output faults = (output.failed ≡ true) × ((plan.capture ≡ true) → (rules : ScriptRules)
+    × AreScriptRulesOf plan rules × ((transcript : Transcript)
+    × ScriptsClient (IsScriptedSo rules) case (Some transcript) faults
+    × HasBegun (written_capture2 (client_capture transcript)) output))
+
+-- the script was run over no connection that came, which were told of so, and nothing was written
+abbrev pub SendsToNone : SendPlan → Case → Device → Device → Type 0
+SendsToNone plan case output faults = (rules : ScriptRules) × AreScriptRulesOf plan rules
+    × ScriptsClient (IsScriptedSo rules) case None faults × IsUntouched output
+
+-- The script was run over a connection, and that was written; or a write failed, or no connection can be taken any more;
+-- or memory ran out, and nothing was written of a capture.
 abbrev pub SendsScript : SendPlan → Case → Result Exit Fault → Device → Device → Type 0
 SendsScript plan case (Ok Done) output faults = (rules : ScriptRules) × AreScriptRulesOf plan rules
     × ((transcript : Transcript) × ScriptsClient (IsScriptedSo rules) case (Some transcript) faults
     × WritesClientRun plan.capture transcript output)
-SendsScript plan case (Ok Failed) output faults = ⊤
+SendsScript plan case (Ok Failed) output faults =
+    BreaksClientRun plan case output faults ⊎ SendsToNone plan case output faults
 SendsScript plan case (Ok other) output faults = ⊥
-SendsScript plan case (Err fault) output faults = fault ≡ NoMemory
+SendsScript plan case (Err fault) output faults = (fault ≡ NoMemory) × ((plan.capture ≡ true) → IsUntouched output)
 
 -- It is told at which address is listened, and the script is sent; or nothing can be listened at, or memory ran out.
 abbrev pub SendsAt : List ℕ → SendPlan → Case → Result Exit Fault → Device → Device → Type 0
@@ -170,7 +184,7 @@ SendsTextAt address plan text ended output faults =
 abbrev pub SendsInputAt : List ℕ → SendPlan → Result Exit Fault → Device → Device → Device → Type 0
 SendsInputAt address plan ended input output faults =
     ((text : List ℕ) × ReadsAll text input × SendsTextAt address plan text ended output faults)
-    ⊎ (((ended ≡ Ok Failed) ⊎ (ended ≡ Err NoMemory)) × IsUntouched output × IsUntouched faults)
+    ⊎ ((why : ReadStop) × StopsReading why input × (ended ≡ stopped why) × IsUntouched output × IsUntouched faults)
 
 -- and how that ended is told behind what was told before
 abbrev pub SendsToClientAt : List ℕ → SendPlan → Exit → Device → Device → Device → Type 0

@@ -1,10 +1,10 @@
 -- A run of `send`: the script that comes in is run over the end that the words name, and what went over the
 -- connection is written; or it is told why it is not run.
-use Rattle.std.specs.Prelude.{◌≡◌, ◌⊎◌, ⊤, ℕ, true, false, List, ◌++◌, Result, Ok, Err, MatchResult, codes}
+use Rattle.std.specs.Prelude.{◌≡◌, ◌⊎◌, ℕ, true, false, List, ◌++◌, Result, Ok, Err, MatchResult, codes}
 use Rattle.ws_base.specs.declared.text_fault.TextFault.{TextFault}
 use Rattle.ws_base.specs.declared.text_fault.TextFault.TheVariants as text_fault
 use Rattle.ws_formats.specs.Lines.{Damages}
-use Rattle.ws_frame.specs.Devices.{Device, HasWritten, IsUntouched}
+use Rattle.ws_frame.specs.Devices.{Device, HasBegun, HasWritten, IsUntouched}
 use Rattle.ws_scripts.specs.Captures2.{written_capture2}
 use Rattle.ws_scripts.specs.ScriptTexts.{IsScriptText, IsTextOfScript}
 use Rattle.ws_scripts.specs.declared.script.Case.{Case}
@@ -53,20 +53,25 @@ WritesRun plan transcript output =
     × HasWritten (written_capture2 (run_capture (tested_role plan.run.tested) plan.run.key transcript)) output
     × (output.failed ≡ false))
 
--- why a script was not run to its end, over one of the ends that meet cases so: where there is no connection, or its
--- answer is refused, nothing was written
-abbrev pub StopsSending : (Case → Meeting → Type 0) → Case → SendStop → Device → Type 0
-StopsSending Meets case stop.Device output = ⊤
-StopsSending Meets case (stop.NotAStep line) output = ⊥
-StopsSending Meets case (stop.Refused refusal) output = Meets case (Refused refusal) × IsUntouched output
-StopsSending Meets case (stop.NoConnection why) output = Meets case (NoConnection why) × IsUntouched output
-StopsSending Meets case stop.NoMemory output = ⊤
+-- a beginning of the capture of a run was written, where one is asked for; of lines it is not said what was written
+abbrev pub HasBegunRun : (Case → Meeting → Type 0) → SendPlan → Case → Device → Type 0
+HasBegunRun Meets plan case output = (plan.capture ≡ true) → (transcript : Transcript) × Meets case (Ran transcript)
+    × HasBegun (written_capture2 (run_capture (tested_role plan.run.tested) plan.run.key transcript)) output
+
+-- Why a script was not run to its end, over one of the ends that meet cases so: the output has failed; or memory ran out,
+-- and nothing was written of a capture; or there is no connection, or its answer is refused, and nothing was written.
+abbrev pub StopsSending : (Case → Meeting → Type 0) → SendPlan → Case → SendStop → Device → Type 0
+StopsSending Meets plan case stop.Device output = (output.failed ≡ true) × HasBegunRun Meets plan case output
+StopsSending Meets plan case (stop.NotAStep line) output = ⊥
+StopsSending Meets plan case (stop.Refused refusal) output = Meets case (Refused refusal) × IsUntouched output
+StopsSending Meets plan case (stop.NoConnection why) output = Meets case (NoConnection why) × IsUntouched output
+StopsSending Meets plan case stop.NoMemory output = (plan.capture ≡ true) → IsUntouched output
 
 -- the script was run over one of the ends that meet cases so, and that was written; or why not
 abbrev pub SendsCase : (Case → Meeting → Type 0) → SendPlan → Case → Result (Unit {0}) SendStop → Device → Type 0
 SendsCase Meets plan case ended output = MatchResult ended
     (λ _. (transcript : Transcript) × Meets case (Ran transcript) × WritesRun plan transcript output)
-    (λ why. StopsSending Meets case why output)
+    (λ why. StopsSending Meets plan case why output)
 
 -- what stops a text that is no script
 abbrev pub script_stop : TextFault → SendStop

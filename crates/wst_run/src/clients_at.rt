@@ -375,8 +375,8 @@ fn show_script<N: Net, W: Write, F: Write>(
     match script_client(alloc, clients, &rules, case, &mut lines, faults) {
         Ok(Some(_)) => Ok(Exit::Done),
         Ok(None) => Ok(Exit::Failed),
-        Err(LineStop::Output) => Ok(Exit::Failed),
-        Err(LineStop::NoMemory) => Err(Fault::NoMemory),
+        Err(LineStop::Output) if writer.failed() => Ok(Exit::Failed),
+        Err(LineStop::Output | LineStop::NoMemory) => Err(Fault::NoMemory),
     }
 }
 

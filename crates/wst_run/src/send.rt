@@ -190,7 +190,8 @@ fn send_captured<S: CaseServer, W: Write>(
     }
 }
 
-/// Runs a script, and writes the lines of the run as it goes on.
+/// Runs a script, and writes the lines of the run as it goes on. No more of them are written where the output has failed
+/// or memory runs out.
 fn send_shown<S: CaseServer, W: Write>(
     alloc: Global,
     server: &S,
@@ -209,8 +210,8 @@ fn send_shown<S: CaseServer, W: Write>(
         Ok(Meeting::Ran(_)) => Ok(()),
         Ok(Meeting::Refused(refusal)) => Err(SendStop::Refused(refusal)),
         Ok(Meeting::NoConnection(why)) => Err(SendStop::NoConnection(why)),
-        Err(LineStop::Output) => Err(SendStop::Device),
-        Err(LineStop::NoMemory) => Err(SendStop::NoMemory),
+        Err(LineStop::Output) if writer.failed() => Err(SendStop::Device),
+        Err(LineStop::Output | LineStop::NoMemory) => Err(SendStop::NoMemory),
     }
 }
 

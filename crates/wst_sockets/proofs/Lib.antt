@@ -1,3 +1,4 @@
 pub mod WrittenLemmas
 pub mod ServeLemmas
 pub mod TapLemmas
+mod PortLemmas

@@ -4,3 +4,4 @@ pub mod Listening
 pub mod Lingering
 pub mod Serve
 pub mod Tapping
+pub mod Examples

@@ -1,8 +1,9 @@
 //! An address of a network that is listened at, and the clients that come to it.
 
-ghost use Rattle.std.specs.Prelude.{◌≡◌, ◌↔◌, MatchResult, true};
-ghost use Rattle.wst_sockets.specs.Listening.{CanNotTell, IsClientNumber, IsOfOneClient, IsToldFor, is_client_kind};
-ghost use Rattle.wst_sockets.specs.Listening.{listen_fault_at, lookup_fault_at};
+ghost use Rattle.std.specs.Prelude.{◌≡◌, ◌↔◌, IsTrue, MatchOption, MatchResult, true};
+ghost use Rattle.wst_sockets.specs.Listening.{AreZeros, CanNotTell, CutsAtPort, IsAtPort0, IsClientNumber};
+ghost use Rattle.wst_sockets.specs.Listening.{IsOfOneClient, IsToldFor, IsWithPort, LacksPort0, SpellsPort0};
+ghost use Rattle.wst_sockets.specs.Listening.{is_client_kind, listen_fault_at, lookup_fault_at};
 
 use std::alloc::Global;
 use std::io;
@@ -36,19 +37,75 @@ pub fn told_address<L: OpenListener>(
 ) -> Result<Vec<u8>, Fault>
     ensures { MatchResult result (λ told. IsToldFor address.now told.items) CanNotTell }
 {
-    let bytes = address.as_bytes();
-    let mut told = Vec::new(alloc);
-    if !bytes.ends_with(b":0") {
-        told.extend_from_slice(bytes)?;
-        return Ok(told);
+    match host_at_port_0(address) {
+        Some(host) => told_with_port(alloc, listener, host),
+        None => told_as_given(alloc, address),
     }
+}
+
+/// An address whose port is not 0.
+fn told_as_given(alloc: Global, address: &str) -> Result<Vec<u8>, Fault>
+    ensures { MatchResult result (λ told. told.items ≡ address.now) CanNotTell }
+{
+    let mut told = Vec::new(alloc);
+    told.extend_from_slice(address.as_bytes())?;
+    Ok(told)
+}
+
+/// A host with the port that the system chose.
+fn told_with_port<L: OpenListener>(
+    alloc: Global,
+    listener: &L,
+    host: &[u8],
+) -> Result<Vec<u8>, Fault>
+    ensures { MatchResult result (λ told. IsWithPort host.now told.items) CanNotTell }
+{
     let Ok(local) = listener.local_addr() else {
         return Err(Fault::NotListening(ListenFault::Failed));
     };
-    let port = format!(in alloc; "{}", local.port())?;
-    told.extend_from_slice(&bytes[..bytes.len() - 1])?;
+    let port = format!(in alloc; ":{}", local.port())?;
+    let mut told = Vec::new(alloc);
+    told.extend_from_slice(host)?;
     told.extend_from_slice(port.as_bytes())?;
     Ok(told)
+}
+
+/// The host of an address whose port is 0, however many zeros spell it: for it the system chooses a port.
+fn host_at_port_0(address: &str) -> Option<&[u8]>
+    ensures { MatchOption result (LacksPort0 address.now) (λ host. IsAtPort0 address.now host.now) }
+{
+    let (host, word) = cut_at_port(address.as_bytes())?;
+    if spells_port_0(word) {
+        Some(host)
+    } else {
+        None
+    }
+}
+
+/// What stands before the last colon, and what behind it. `None` where there is none.
+fn cut_at_port(bytes: &[u8]) -> Option<(&[u8], &[u8])>
+    ensures { CutsAtPort bytes.now result }
+{
+    let at = bytes.iter().rposition(|byte| *byte == b':')?;
+    Some((&bytes[..at], &bytes[at + 1..]))
+}
+
+/// Whether a port is read as 0. The standard library reads a plus before its digits, and any number of zeros.
+fn spells_port_0(word: &[u8]) -> bool
+    ensures { IsTrue result ↔ SpellsPort0 word.now }
+{
+    if word.first() == Some(&b'+') {
+        are_zeros(&word[1..])
+    } else {
+        are_zeros(word)
+    }
+}
+
+/// Whether there are zeros, and nothing else.
+fn are_zeros(word: &[u8]) -> bool
+    ensures { IsTrue result ↔ AreZeros word.now }
+{
+    !word.is_empty() && word.iter().all(|byte| *byte == b'0')
 }
 
 /// Why nothing can be listened at, where the look-up of the address fails so.

@@ -54,8 +54,8 @@ IsTargetBy word None target = IsTargetText word target
 IsTargetBy word (Some address) target =
     (asked : TargetValue) × IsTargetText word asked × (target ≡ connected_at address.now asked)
 
--- The word names this end of this role: one in memory, which has no connection; a server at a target; or the clients that
--- come to an address, which is no URL.
+-- The word names this end of this role: one in memory, which has no connection; a server at a target; or the clients
+-- that come to an address, which is no URL.
 abbrev pub IsEndOf : Role → List ℕ → Option (Bor (List ℕ)) → TestedEnd → Type 0
 IsEndOf tested word connect (Memory end) = (end.role ≡ tested) × (word ≡ memory_word end.peer)
 IsEndOf tested word connect (Server target) =
@@ -118,8 +118,8 @@ abbrev pub HasAllButEnd : RunOptions → Type 0
 HasAllButEnd options = HasOffers options × HasHeaders options × HasTimeout options.timeout × HasKey options
 
 -- The first of these that applies: the names that are given can't be offered; the headers can't be added; the seconds
--- are no limit of time; the key is none; the target names no end of the role, or no connection can be made at the address that
--- is given for it. Memory may run out at any of them.
+-- are no limit of time; the key is none; the target names no end of the role, or no connection can be made at the
+-- address that is given for it. Memory may run out at any of them.
 abbrev pub CanNotRun : RunOptions → Refusal → Type 0
 CanNotRun options refusal.BadProtocols = ¬ (HasOffers options)
 CanNotRun options refusal.BadHeader = HasOffers options × ¬ (HasHeaders options)

@@ -25,8 +25,8 @@ use Rattle.ws_connection.specs.UpgradeRequests.{RequestValue}
 use Rattle.ws_targets.specs.Targets.{TargetValue}
 use Rattle.wst_testing.specs.declared.run_plans.RunPlan.{RunPlan}
 
--- The transcript is that of a run of the script's pieces in some talk with a peer of this role, of which nothing else is
--- known. The client masks with this key, be it the tester or the peer.
+-- The transcript is that of a run of the script's pieces in some talk with a peer of this role, of which nothing else
+-- is known. The client masks with this key, be it the tester or the peer.
 pub record IsPeerRun (tested : Role) (key : List ℕ) (case : Case) (transcript : Transcript) : Type 0 where
   pub turns : List (List (List ℕ))
   pub are_turns : AreTurns case (key_for (other_role tested) key) turns

@@ -67,9 +67,10 @@ test_line test =
 
 -- ---- a run
 
--- All cases were tested, each behind fewer in a row without a connection than end a run, and what the report has of them
--- and of the total was written; or a write failed at last.
-pub record TellsAll (Meets : Case → Meeting → Type 0) (rules : RunRules) (report : ReportValue) (cases : List Case) (notes : List (List ℕ))
+-- All cases were tested, each behind fewer in a row without a connection than end a run, and what the report has of
+-- them and of the total was written; or a write failed at last.
+pub record TellsAll (Meets : Case → Meeting → Type 0) (rules : RunRules) (report : ReportValue) (cases : List Case)
+    (notes : List (List ℕ))
     (exit : Exit) (output : Device) : Type 0 where
   pub tests : List (Case × Outcome)
   pub are_tested : AreTested Meets rules cases tests
@@ -80,7 +81,8 @@ pub record TellsAll (Meets : Case → Meeting → Type 0) (rules : RunRules) (re
       (report_texts report tests ++ end_text report (total_line (score_of report tests).tally)) exit output
 
 -- the first n cases were tested so, and a line of theirs could not be written: a beginning of their lines was
-pub record StopsAtLine (Meets : Case → Meeting → Type 0) (rules : RunRules) (report : ReportValue) (cases : List Case) (notes : List (List ℕ))
+pub record StopsAtLine (Meets : Case → Meeting → Type 0) (rules : RunRules) (report : ReportValue)
+    (cases : List Case) (notes : List (List ℕ))
     (exit : Exit) (output : Device) : Type 0 where
   pub n : ℕ
   pub tests : List (Case × Outcome)
@@ -92,7 +94,8 @@ pub record StopsAtLine (Meets : Case → Meeting → Type 0) (rules : RunRules) 
 
 -- The first n cases were tested so, and with the last of them as many in a row are without a connection as end a run:
 -- their lines were written, and no total.
-pub record StopsAtConnection (Meets : Case → Meeting → Type 0) (rules : RunRules) (report : ReportValue) (cases : List Case)
+pub record StopsAtConnection (Meets : Case → Meeting → Type 0) (rules : RunRules) (report : ReportValue)
+    (cases : List Case)
     (notes : List (List ℕ)) (exit : Exit) (output : Device) : Type 0 where
   pub n : ℕ
   pub tests : List (Case × Outcome)
@@ -109,7 +112,8 @@ IsNextNote rules cases n next = (next ≡ []) ⊎ ((case : Case) × (take (n + 1
     × (next ≡ progress_notes rules.progress case))
 
 -- the first n cases were tested so and their lines written, and then memory ran out
-pub record LacksMemoryAfter (Meets : Case → Meeting → Type 0) (rules : RunRules) (report : ReportValue) (cases : List Case)
+pub record LacksMemoryAfter (Meets : Case → Meeting → Type 0) (rules : RunRules) (report : ReportValue)
+    (cases : List Case)
     (notes : List (List ℕ)) (output : Device) : Type 0 where
   pub n : ℕ
   pub tests : List (Case × Outcome)

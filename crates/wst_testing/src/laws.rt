@@ -12,8 +12,8 @@ ghost use Rattle.wst_testing.specs.declared.sweeping.SweepRules.{SweepRules};
 
 use ws_suite::laws::one_verdict;
 
-/// Whatever a short script sends, what is told of our echo in it, be it a server or a client, is Pass: the judge is fair,
-/// and gives one verdict.
+/// Whatever a short script sends, what is told of our echo in it, be it a server or a client, is Pass: the judge is
+/// fair, and gives one verdict.
 pub fn our_echo_passes_every_script()
     ensures { (rules : SweepRules) (script : SweptScript) →
         IsSwept (MeetsInMemory (record { peer = Own; role = rules.tested }) rules.key) rules script →
@@ -22,7 +22,8 @@ pub fn our_echo_passes_every_script()
     one_verdict();
 }
 
-/// Where no earlier run is known, a run is said to have failed by the cases that are a Fail, of which no connection is one.
+/// Where no earlier run is known, a run is said to have failed by the cases that are a Fail, of which no connection is
+/// one.
 pub fn a_run_fails_by_its_fails()
     ensures { (is_junit : Bool) (test : Case × Outcome) →
         fails_in (record { is_junit = is_junit; known = None }) test ≡ is_fail test.1 }

@@ -1,10 +1,11 @@
-//! Scripts that are run over one end, and what is told of each: the end that words name, the outcome of a case, its line,
-//! the report of a run, and its total. No rule of the protocol stands here.
+//! Scripts that are run over one end, and what is told of each: the end that words name, the outcome of a case, its
+//! line, the report of a run, and its total. No rule of the protocol stands here.
 //!
-//! The layers above use `plan_run` and `tell_refusal`, which say which end the words name or why none; `CaseServer` with
-//! `MemoryEnd` and `AddressServer`, the ends over which a case is run; `test_cases`, `capture_case` and `sweep_scripts`,
-//! runs of cases; `Outcome`, `Tally` and `Score`, what came of them; `report_case` and `close_report`, what a report has
-//! of them; `LineWriter`, which tells a run turn by turn; `known_given`, the deviations that are known of an end.
+//! The layers above use `plan_run` and `tell_refusal`, which say which end the words name or why none; `CaseServer`
+//! with `MemoryEnd` and `AddressServer`, the ends over which a case is run; `test_cases`, `capture_case` and
+//! `sweep_scripts`, runs of cases; `Outcome`, `Tally` and `Score`, what came of them; `report_case` and `close_report`,
+//! what a report has of them; `LineWriter`, which tells a run turn by turn; `known_given`, the deviations that are
+//! known of an end.
 #![tactic(auto)]
 
 mod address_server;

@@ -17,8 +17,8 @@ use wst_sockets::ConnectFault;
 pub enum Outcome {
     /// Whether it kept the rules, and why that is told.
     Judged(Judgement),
-    /// Its answer to the request for an upgrade is to be refused, which counts as a Fail. Its status is there where that
-    /// is to be told.
+    /// Its answer to the request for an upgrade is to be refused, which counts as a Fail. Its status is there where
+    /// that is to be told.
     HeadRefused(HeadRefusal),
     /// There is no connection to it, which counts as a Fail where a run goes on.
     NoConnection(ConnectFault),

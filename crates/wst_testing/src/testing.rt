@@ -40,14 +40,15 @@ pub struct RunRules {
     pub explains: bool,
     /// The name of each case is told before it runs.
     pub progress: bool,
-    /// Tested ends are waited for in time: a case without a connection doesn't end the run then, but the third in a row.
+    /// Tested ends are waited for in time: a case without a connection doesn't end the run then, but the third in a
+    /// row.
     pub is_limited: bool,
 }
 
 /// Runs the cases in their order, each over a new end, and writes what the report has of each as soon as it is judged,
-/// and of the total last. What can't be written ends the run, and so does, after it is told, an end to which there is no
-/// connection, or the third in a row. Why there is none is told to `faults`, and the name of a case where that is asked
-/// for.
+/// and of the total last. What can't be written ends the run, and so does, after it is told, an end to which there is
+/// no connection, or the third in a row. Why there is none is told to `faults`, and the name of a case where that is
+/// asked for.
 pub fn test_cases<S: CaseServer, W: Write, F: Write>(
     alloc: Global,
     server: &S,

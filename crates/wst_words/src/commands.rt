@@ -124,7 +124,8 @@ pub(crate) fn wst_command<'a>(alloc: Global) -> Result<Command<'a>, AllocError>
     ensures { IfOk result (λ command. (places : Places) × (app_of command ≡ wst_app places)) }
 {
     let ends = ValueParser::from(["client", "server"].as_slice());
-    let wst = Command::new(alloc, "wst")
+    let named = Command::new(alloc, "wst").bin_name("wst")?;
+    let wst = named
         .version(VERSION)
         .about("Tests WebSocket endpoints frame by frame (RFC 6455)")
         .after_help(AFTER_HELP)

@@ -9,8 +9,8 @@ ghost use Rattle.ws_suite.specs.Growing.{AreTurnsAnswered};
 ghost use Rattle.ws_connection.specs.Observing.{HasHeardGot, HearsTurns, IsHearing, KeepsUp};
 ghost use Rattle.ws_connection.specs.Probing.{HasAllCome, all_got};
 ghost use Rattle.ws_connection.specs.Standings.{MayGoOn, standing_by};
-ghost use Rattle.ws_connection.specs.InnerProbeTurns.{HasSeen, ReadsPiece, ReadsTurn, RunsTurn, SeesRun};
-ghost use Rattle.ws_connection.specs.InnerProbeTurns.{SeesTurn, SendsTurn, StopsBefore, end_of_turn, stop_at};
+ghost use Rattle.ws_connection.specs.InnerProbeTurns.{HasSeen, IsWholeBy, ReadsPiece, ReadsTurn, RunsTurn};
+ghost use Rattle.ws_connection.specs.InnerProbeTurns.{SeesRun, SeesTurn, SendsTurn, StopsBefore, end_of_turn, stop_at};
 ghost use Rattle.ws_connection.specs.InnerProbeTurns.{reads_on, then_turn};
 ghost use Rattle.ws_connection.specs.declared.probing.turn.TurnStop.TheVariants.{IsThere};
 
@@ -60,9 +60,10 @@ impl TurnPlan<'_> {
 
 /// Sends the pieces of a turn and reads what comes for it: in the last one, as after a failed write, to the end of the
 /// stream, and in others, as in the last one to a client that has nothing to end for, until what is owed has come or a
-/// read has waited in vain. `before` came before it. Once what was got from a server has a close, it ends its own
-/// direction and reads on to the end; once it has a close from a client, or a fault, no more is read. Answers the turn, and how the script ended, if it did. The observer is told of the turn once it was sent, and of
-/// what it has got as it comes.
+/// read has waited in vain; a frame that has begun by the end of that last one is read to its end. `before` came before
+/// it. Once what was got from a server has a close, it ends its own direction and reads on to the end; once it has a
+/// close from a client, or a fault, no more is read. Answers the turn, and how the script ended, if it did. The observer
+/// is told of the turn once it was sent, and of what it has got as it comes.
 pub fn run_turn<R: Read, W: EndsDirection, O: Observer>(
     alloc: Global,
     plan: TurnPlan<'_>,
@@ -92,7 +93,15 @@ pub fn run_turn<R: Read, W: EndsDirection, O: Observer>(
     observer.turn_sent(sent.as_slice())?;
     observer.got(before.as_slice())?;
     let mut got = before;
-    let stop = read_turn(plan.tested, connection, waits, evidence, &mut got, observer)?;
+    let stop = read_turn(
+        plan.tested,
+        connection,
+        waits,
+        plan.more,
+        evidence,
+        &mut got,
+        observer,
+    )?;
     let turn = Turn {
         sent: Payload::from_vec(sent),
         got: Payload::from_vec(got),
@@ -161,11 +170,13 @@ fn end_of_turn<R: Read, W: EndsDirection>(
 }
 
 /// Reads what comes in a turn, and puts it behind what was got: where it `waits`, as after a failed write or a close
-/// that was got from a server, to the end of the stream, and else until what is owed has come.
+/// that was got from a server, to the end of the stream, and else until what is owed has come; where there is no turn
+/// after it, to the end of the frame that has begun by then.
 fn read_turn<R: Read, W: EndsDirection, O: Observer>(
     tested: Role,
     connection: &mut Connection<R, W>,
     waits: bool,
+    more: bool,
     evidence: &mut RunEvidence,
     got: &mut Vec<u8>,
     observer: &mut O,
@@ -180,13 +191,14 @@ fn read_turn<R: Read, W: EndsDirection, O: Observer>(
         (record { old = connection.old; new = connection.new })
         × SeesTurn tested stop (then_turn past sent got.new.items) evidence.new
         (record { old = connection.old; new = connection.new })) }
+    ensures whole { IfOk result (λ stop. stop ≡ IsThere → more ≡ false → IsWholeBy tested evidence.new) }
     ensures told { IfOk result (λ stop. KeepsUp O.heard observer.old observer.new got.old.items got.new.items) }
     ensures borrow { O.borrow observer.new ≡ O.borrow observer.old }
 {
     one_list_of_events();
     let mut room = [0; READ_SIZE];
     'reads: loop {
-        match stop_before(tested, connection, waits, evidence) {
+        match stop_before(tested, connection, waits, more, evidence) {
             Some(stop) => return Ok(stop),
             None => {}
         }
@@ -198,17 +210,20 @@ fn read_turn<R: Read, W: EndsDirection, O: Observer>(
 }
 
 /// Why nothing is read here, or `None` where a read is to follow. Where what was got from a server has a close, its own
-/// direction is ended.
+/// direction is ended. A frame that has begun is waited for where no turn is to follow, since none would bring the rest
+/// of it.
 fn stop_before<R: Read, W: EndsDirection>(
     tested: Role,
     connection: &mut Connection<R, W>,
     waits: bool,
+    more: bool,
     evidence: &RunEvidence,
 ) -> Option<TurnStop>
     ensures stops { StopsBefore tested result waits (standing_by evidence.now.tester.status)
         (record { old = connection.old; new = connection.new }) }
     ensures due { result ≡ Some IsThere → (turns : List Turn) → HasSeen tested turns evidence.now →
         AreTurnsAnswered tested turns }
+    ensures whole { result ≡ Some IsThere → more ≡ false → IsWholeBy tested evidence.now }
 {
     let standing = standing_of(evidence);
     if is_final(tested, standing) {
@@ -221,7 +236,7 @@ fn stop_before<R: Read, W: EndsDirection>(
         return Some(TurnStop::Budget);
     }
     let may_go = standing == Standing::Going && !waits && !connection.has_write_failed();
-    if may_go && evidence.is_answered() {
+    if may_go && evidence.is_answered() && (more || !evidence.ends_inside_frame()) {
         return Some(TurnStop::IsThere);
     }
     None

@@ -6,8 +6,8 @@ ghost use Rattle.ws_wire.specs.declared.role.Role.{Role};
 ghost use Rattle.ws_scripts.specs.declared.transcript.Turn.{Turn};
 ghost use Rattle.ws_session.specs.Exchange.{is_over};
 ghost use Rattle.ws_suite.specs.Evidence.{IsEvidenceOf, other_role};
-ghost use Rattle.ws_suite.specs.Growing.{AreAll, AreTurnsAnswered, HasGrown, IsTallyOf, is_clean, is_failed};
-ghost use Rattle.ws_suite.specs.Growing.{new_turn, turn_with_got, turn_with_sent};
+ghost use Rattle.ws_suite.specs.Growing.{AreAll, AreTurnsAnswered, EndInsideFrame, HasGrown, IsTallyOf};
+ghost use Rattle.ws_suite.specs.Growing.{is_clean, is_failed, new_turn, turn_with_got, turn_with_sent};
 
 use crate::evidence::collecting::{Collected, Taken, Way, nothing_taken, take_piece};
 use crate::evidence::keeping::{AllReplies, KeepsReplies, ReplyTally};
@@ -134,6 +134,15 @@ impl GrowingEvidence<ReplyTally> {
             .collected
             .replies
             .answers(&self.sent.collected.replies)
+    }
+
+    /// Whether what was got ends inside a frame: bytes came behind the last that said something.
+    pub fn ends_inside_frame(&self) -> bool
+        ensures { (tested : Role) (turns : List Turn) → HasGrown IsTallyOf tested turns self.now →
+            IsTrue result ↔ EndInsideFrame tested turns }
+    {
+        session_laws();
+        self.got.collected.has_rest
     }
 }
 

@@ -17,15 +17,15 @@ loop-line-preserved c =
     let after = c.next_line.new.self in
     let t = c.in-Ok.ensures.made h.after h.agrees in
     let endpoint = echo_of c.args.role c.args.limits in
-    let same : endpoint ≡ echo_of caller.echo.role caller.echo.limits = sym (ap₂ (λ (r : Role) (m : LimitsValue). echo_of r m) h.same.0 h.same.1) in
-    next_played IsEchoCallLine as_call echo_reply_to endpoint c.args.text.now c.loop-line.rest.now c.in-Some.line.now c.in-Some.after.now caller.taken after.taken caller.echo after.echo (string_bytes caller.lines) (string_bytes after.lines)
+    let same : endpoint ≡ echo_of caller.called.role caller.called.limits = sym (ap₂ (λ (r : Role) (m : LimitsValue). echo_of r m) h.same.0 h.same.1) in
+    next_played IsEchoCallLine as_call echo_reply_to endpoint c.args.text.now c.loop-line.rest.now c.in-Some.line.now c.in-Some.after.now caller.taken after.taken caller.called after.called (string_bytes caller.lines) (string_bytes after.lines)
     c.in-Some.ensures.0 c.in-Some.ensures.1 h t.0 t.1 same t.2
 
 pub echo_call_damage-requires : goal.echo_call_damage-requires
 echo_call_damage-requires c =
     let h = c.loop-line.invariant in
     let caller = c.loop-line.caller in
-    never_read IsEchoCallLine as_call echo_reply_to (echo_of c.args.role c.args.limits) c.args.text.now c.loop-line.rest.now c.in-Some.line.now c.in-Some.after.now caller.taken caller.echo (string_bytes caller.lines)
+    never_read IsEchoCallLine as_call echo_reply_to (echo_of c.args.role c.args.limits) c.args.text.now c.loop-line.rest.now c.in-Some.line.now c.in-Some.after.now caller.taken caller.called (string_bytes caller.lines)
     c.in-Some.ensures.0 c.in-Some.ensures.1 h (c.in-Err-Damaged.ensures.damaged c.in-Err-Damaged.field-0-is)
 
 pub echo_call_damage-requires-then-not-is_empty : goal.echo_call_damage-requires-then-not-is_empty
@@ -34,7 +34,7 @@ echo_call_damage-requires-then-not-is_empty c =
     let caller = c.loop-line.caller in
     let rest = c.loop-line.rest.now in
     let some : 0 < length rest = search rules in
-    never_ended IsEchoCallLine as_call echo_reply_to (echo_of c.args.role c.args.limits) c.args.text.now rest caller.taken caller.echo (string_bytes caller.lines)
+    never_ended IsEchoCallLine as_call echo_reply_to (echo_of c.args.role c.args.limits) c.args.text.now rest caller.taken caller.called (string_bytes caller.lines)
     c.in_default.ensures (λ none. omega (arith, some, ap (λ (l : List ℕ). length l) none)) h
 
 pub returns-in-Ok-end : goal.returns-in-Ok-end
@@ -44,4 +44,4 @@ returns-in-Ok-end c =
     let rest = c.loop-line.rest.now in
     let short : length rest ≤ 0 = search rules in
     let e = c.in-Ok-end.ensures in
-    echo_told c.args.role c.args.limits c.args.text.now rest caller.taken caller.echo (string_bytes caller.lines) (string_bytes c.in-Ok-end.lines) h (no_bytes rest short) e
+    echo_told c.args.role c.args.limits c.args.text.now rest caller.taken caller.called (string_bytes caller.lines) (string_bytes c.in-Ok-end.lines) h (no_bytes rest short) e

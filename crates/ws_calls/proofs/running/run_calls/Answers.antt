@@ -18,15 +18,15 @@ loop-line-preserved c =
     let after = c.next_line.new.self in
     let t = c.in-Ok.ensures.made h.after h.agrees in
     let endpoint = session_of c.args.role c.args.limits in
-    let same : endpoint ≡ session_of caller.session.role caller.session.limits = sym (ap₂ (λ (r : Role) (m : LimitsValue). session_of r m) h.same.0 h.same.1) in
-    next_played IsCallLine (λ (x : Call). x) reply_to endpoint c.args.text.now c.loop-line.rest.now c.in-Some.line.now c.in-Some.after.now caller.taken after.taken caller.session after.session (string_bytes caller.lines) (string_bytes after.lines)
+    let same : endpoint ≡ session_of caller.called.role caller.called.limits = sym (ap₂ (λ (r : Role) (m : LimitsValue). session_of r m) h.same.0 h.same.1) in
+    next_played IsCallLine (λ (x : Call). x) reply_to endpoint c.args.text.now c.loop-line.rest.now c.in-Some.line.now c.in-Some.after.now caller.taken after.taken caller.called after.called (string_bytes caller.lines) (string_bytes after.lines)
     c.in-Some.ensures.0 c.in-Some.ensures.1 h t.0 t.1 same t.2
 
 pub call_damage-requires : goal.call_damage-requires
 call_damage-requires c =
     let h = c.loop-line.invariant in
     let caller = c.loop-line.caller in
-    never_read IsCallLine (λ (x : Call). x) reply_to (session_of c.args.role c.args.limits) c.args.text.now c.loop-line.rest.now c.in-Some.line.now c.in-Some.after.now caller.taken caller.session (string_bytes caller.lines)
+    never_read IsCallLine (λ (x : Call). x) reply_to (session_of c.args.role c.args.limits) c.args.text.now c.loop-line.rest.now c.in-Some.line.now c.in-Some.after.now caller.taken caller.called (string_bytes caller.lines)
     c.in-Some.ensures.0 c.in-Some.ensures.1 h (c.in-Err-Damaged.ensures.damaged c.in-Err-Damaged.field-0-is)
 
 pub call_damage-requires-then-not-is_empty : goal.call_damage-requires-then-not-is_empty
@@ -35,7 +35,7 @@ call_damage-requires-then-not-is_empty c =
     let caller = c.loop-line.caller in
     let rest = c.loop-line.rest.now in
     let some : 0 < length rest = search rules in
-    never_ended IsCallLine (λ (x : Call). x) reply_to (session_of c.args.role c.args.limits) c.args.text.now rest caller.taken caller.session (string_bytes caller.lines)
+    never_ended IsCallLine (λ (x : Call). x) reply_to (session_of c.args.role c.args.limits) c.args.text.now rest caller.taken caller.called (string_bytes caller.lines)
     c.in_default.ensures (λ none. omega (arith, some, ap (λ (l : List ℕ). length l) none)) h
 
 pub returns-in-Ok-end : goal.returns-in-Ok-end
@@ -45,4 +45,4 @@ returns-in-Ok-end c =
     let rest = c.loop-line.rest.now in
     let short : length rest ≤ 0 = search rules in
     let e = c.in-Ok-end.ensures in
-    session_told c.args.role c.args.limits c.args.text.now rest caller.taken caller.session (string_bytes caller.lines) (string_bytes c.in-Ok-end.lines) e.0 h (no_bytes rest short) e.1 e.2
+    session_told c.args.role c.args.limits c.args.text.now rest caller.taken caller.called (string_bytes caller.lines) (string_bytes c.in-Ok-end.lines) e.0 h (no_bytes rest short) e.1 e.2

@@ -1,6 +1,7 @@
 -- The lines of the run were written through the writer that was lent for them.
-use Rattle.std.proofs.Common.{◌≡◌, ◌∙◌, [], Bool, ap, false, rules, subst, sym}
-use Rattle.ws_frame.specs.Devices.{watched}
+use Rattle.std.proofs.Common.{◌≡◌, ◌∙◌, [], Bool, ap, inr, rules, subst, sym}
+use Rattle.std.proofs.KnownBytes.{Keeps-refl}
+use Rattle.ws_frame.specs.Devices.{IsUntouched, watched}
 use Rattle.ws_frame.specs.Watching.{has_failed, inner_of}
 use Rattle.ws_wire.specs.declared.role.Role.{Role}
 use Rattle.wst_run.specs.ClientRuns.{WritesClientRun}
@@ -40,4 +41,20 @@ returns-in-Ok-Some-clause-sends g c =
         rw c.in-Ok-Some.field-0-is at c.in-Ok-Some.ensures.scripts,
         subst (λ (b : Bool). WritesClientRun b c.in-Ok-Some.field-0-0 output) (sym c.requires.shows) as_asked,
       ),
+    )
+
+pub returns-in-Ok-None-clause-sends : goal.returns-in-Ok-None-clause-sends
+returns-in-Ok-None-clause-sends g c =
+    let writer = c.args.writer.now in
+    let kept : c.script_client.new.observer ≡ c.new-lines.result =
+    rw c.in-Ok-None.field-0-is at c.in-Ok-None.ensures.told in
+    let left : c.script_client.new.observer.writer.now ≡ c.writer-1.given.0 = search rules in
+    let back : writer ≡ c.writer-1.given.0 =
+    sym c.new-lines.ensures.writer ∙ (sym (ap (λ o. o.writer.now) kept) ∙ left) in
+    inr (
+      c.script_rules-rules.result,
+      c.script_rules-rules.ensures.rules,
+      rw c.in-Ok-None.field-0-is at c.in-Ok-None.ensures.scripts,
+      subst (λ w. IsUntouched (watched g.W.Write.contents writer w)) back
+          (Keeps-refl (g.W.Write.contents (inner_of writer))),
     )

@@ -17,8 +17,10 @@ returns c =
     let two : map (λ s. s.now) c.as_slice.result.now ≡ codes "client" ∷ codes "server" ∷ [] = search rules in
     let places = places_of c.as_slice.result.ref_ptr c.as_slice.result.now two in
     let ends : c.from-ends.result ≡ end_parser places.0 = c.from-ends.ensures ∙ ap (λ n. Names n) places.1 in
+    let called : app_of c.in_ok-named.named ≡ new_app (codes "wst") =
+    ap app_of_fields c.in_ok-named.ensures.0 ∙ c.new.ensures.app in
     let named : app_of c.version.result ≡ versioned = ap app_of_fields c.version.ensures
-    ∙ ap (λ (a : App). on_top (λ s. record s { has_version = true }) a) c.new.ensures.app in
+    ∙ ap (λ (a : App). on_top (λ s. record s { has_version = true }) a) called in
     let texts : app_of c.after_help.result ≡ versioned =
     ap app_of_fields c.after_help.ensures ∙ ap app_of_fields c.about.ensures ∙ named in
     let required : app_of c.subcommand_required-wst.result ≡ bare_app =

@@ -1,5 +1,5 @@
 -- What was read in a turn, piece by piece, until no more is.
-use Rattle.std.proofs.Common.{◌≡◌, ◌∙◌, List, Option, refl, rules, subst}
+use Rattle.std.proofs.Common.{◌≡◌, ◌∙◌, List, Option, ap, refl, rules, subst}
 use Rattle.std.specs.Prelude.{None, Some}
 use Rattle.ws_scripts.specs.declared.transcript.Turn.{Turn}
 use Rattle.ws_suite.specs.Growing.{AreTurnsAnswered}
@@ -8,7 +8,7 @@ use Rattle.ws_connection.specs.Standings.{standing_by}
 use Rattle.ws_connection.specs.InnerProbeTurns.{HasSeen, StopsBefore}
 use Rattle.ws_connection.specs.declared.probing.turn.TurnStop.{TurnStop}
 use Rattle.ws_connection.specs.declared.probing.turn.TurnStop.TheVariants.{IsThere}
-use Rattle.ws_connection.proofs.ProbingLemmas.{between, heard_in_turn, more_read, nothing_read, seen_more, sees_after, sees_before, still_open, stopped_at_read, stopped_before, waited_on}
+use Rattle.ws_connection.proofs.ProbingLemmas.{between, heard_in_turn, more_read, nothing_read, seen_more, sees_after, sees_before, still_open, stopped_at_read, stopped_before, waited_on, whole_after}
 use Rattle.ws_connection.proofs.ObservingLemmas.{keeps_on}
 use Rattle.ws_connection.proofs.probing.turn.read_turn.Goals as goal
 
@@ -48,6 +48,16 @@ returns-in-Some-2-clause-reads g c = λ past sent seen none.
       sees_after c.args.tested c.in-Some-2.stop c.in_ok-stop.field-0 c.reads.got.items c.read_piece.new.got.items _ c.reads.evidence c.read_piece.new.evidence c.args.connection.now c.reads.connection c.stop_before.new.connection
           c.read_piece.new.connection is after c.reads.invariant.2 stops.input piece,
     )
+
+pub returns-in-Some-clause-whole : goal.returns-in-Some-clause-whole
+returns-in-Some-clause-whole g c = λ there last.
+    let is : c.stop_before.result ≡ Some c.in-Some.stop = search rules in
+    c.stop_before.ensures.whole (is ∙ ap (λ (t : TurnStop). Some t) there) last
+
+pub returns-in-Some-2-clause-whole : goal.returns-in-Some-2-clause-whole
+returns-in-Some-2-clause-whole g c = λ there last.
+    let is : c.in_ok-stop.field-0 ≡ Some c.in-Some-2.stop = search rules in
+    whole_after c.args.tested c.in-Some-2.stop c.in_ok-stop.field-0 c.reads.got.items c.read_piece.new.got.items c.reads.evidence c.read_piece.new.evidence c.stop_before.new.connection c.read_piece.new.connection is c.in_ok-stop.ensures.reads there
 
 pub reads-preserved : goal.reads-preserved
 reads-preserved g c =

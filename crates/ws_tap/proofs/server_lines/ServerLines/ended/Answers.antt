@@ -29,7 +29,8 @@ returns-in_ok-end-in-Frames g c = record {
 pub returns-in-Other : goal.returns-in-Other
 returns-in-Other g c = record {
   told = λ number sent text told going.
-      let (head, has, other, is) = server_at c.args.self.now.stage server.Other number sent text c.in-Other.is told.1 in (
+      let (head, has, other, is) = server_at c.args.self.now.stage server.Other number sent text c.in-Other.is
+      told.1 in (
         [],
         Appends-nil _,
         (

@@ -6,7 +6,8 @@ use Rattle.ws_tap.specs.declared.server_lines.ServerStage.{ServerStage}
 use Rattle.ws_tap.specs.declared.server_lines.ServerStage.TheVariants as server
 use Rattle.ws_tap.specs.Standing.{UsesPiece, is_behind_response, with_bytes}
 use Rattle.ws_tap.proofs.Sides.{all_used, shown_open, looked_in, looked_found}
-use Rattle.ws_tap.proofs.ServerLemmas.{server_at, server_no_head, server_found, server_more, server_other}
+use Rattle.ws_tap.proofs.ServerLemmas.{response_line, server_at, server_no_head, server_found, server_more}
+use Rattle.ws_tap.proofs.ServerLemmas.{server_other}
 use Rattle.ws_tap.proofs.server_lines.ServerLines.sent.Goals as goal
 
 pub take-requires : goal.take-requires
@@ -27,6 +28,7 @@ returns-in_default g c = record {
         (
           c.requires.writer_works,
           all_used (is_behind_response self.stage) false piece,
+          (λ was is. absurd cc),
           (told.0, server_no_head c.take.new.self number sent text piece l stands.1),
         ),
       );
@@ -52,6 +54,7 @@ returns-in_ok-write_whole-in-Head g c = record {
         (
           c.in_ok-write_whole-in-Head.ensures.failed ∙ ap (λ (b : Bool). b || false) c.requires.writer_works,
           subst (λ (b : Bool). UsesPiece b (is_behind_response now) (length piece) head.used) was found.0,
+          (λ before behind. response_line number self.number sent.bytes piece head told.0 l),
           (told.0, found.1),
         ),
       );
@@ -71,6 +74,8 @@ returns-in_ok-take-in-Frames g c = record {
         (
           works,
           all_used (is_behind_response self.stage) true piece,
+          (λ was is. absurd (let e : true ≡ false = sym (ap (λ (s : ServerStage). is_behind_response s) c.in-Frames.is)
+              ∙ was in cc)),
           (
             told.0,
             server_more c.in-Frames.lines c.take-in-Frames.new.self number sent text more piece head shown has
@@ -91,6 +96,7 @@ returns-in-Other g c = record {
         (
           c.requires.writer_works,
           all_used (is_behind_response self.stage) (is_behind_response self.stage) piece,
+          (λ was is. absurd (let e : true ≡ false = sym is ∙ was in cc)),
           (
             told.0,
             server_at server.Other self.stage number (with_bytes sent (take (length piece) piece)) (text ++ [])

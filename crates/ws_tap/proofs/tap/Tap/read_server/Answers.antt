@@ -1,6 +1,6 @@
 -- What was read of the server is held, and told.
 use Rattle.std.proofs.Common.{◌≡◌, ◌∙◌, ◌+◌, ◌^◌, ◌<◌, ◌++◌, ◌∷◌, [], true, List, ℕ, Option, length, refl, sym, ap}
-use Rattle.std.proofs.Common.{subst, arith, append-nil}
+use Rattle.std.proofs.Common.{subst, arith, append-nil, inl}
 use Rattle.std.proofs.lemmas.List.{length-append}
 use Rattle.std.proofs.lemmas.Result.{err_from_is_err_and}
 use Rattle.std.proofs.KnownBytes.{Appends-nil}
@@ -9,14 +9,14 @@ use Rattle.ws_frame.specs.Watching.{inner_of}
 use Rattle.ws_tap.specs.declared.pipe.PipeStage.{PipeStage}
 use Rattle.ws_tap.specs.Tapping.{BothLines, OfServer, IsReadTo, all_text, has_ended, sent_by, server_text}
 use Rattle.ws_tap.specs.Standing.{with_bytes, with_its_end}
-use Rattle.ws_tap.proofs.TapLemmas.{answered_same, is_open, read_passes, sent_is, server_of_sent, server_passes}
-use Rattle.ws_tap.proofs.TapLemmas.{server_stands, told_of_sent, told_server}
+use Rattle.ws_tap.proofs.TapLemmas.{answered_same, is_open, order_same, read_passes, sent_is, server_of_sent}
+use Rattle.ws_tap.proofs.TapLemmas.{server_passes, server_stands, told_of_sent, told_server}
 use Rattle.ws_tap.proofs.tap.Tap.read_server.Goals as goal
 
 pub tell_server-requires-clause-room : goal.tell_server-requires-clause-room
 tell_server-requires-clause-room g c =
     let self = c.args.self.now in
-    let (number, devices, t) = c.requires.stands in
+    let (number, answered, devices, t) = c.requires.stands in
     let read = t.passed.from_server in
     let (more, consumes, (some, piece, stage, small), passes) = c.in-Came.ensures in
     let p = passes read t.passed.server.written t.passed.server.has_passed in
@@ -27,11 +27,17 @@ tell_server-requires-clause-room g c =
 pub tell_server-requires-clause-stands : goal.tell_server-requires-clause-stands
 tell_server-requires-clause-stands g c =
     let self = c.args.self.now in
-    let (number, devices, t) = c.requires.stands in
-    (number, sent_by self.client t.passed.from_client, sent_by self.server t.passed.from_server, t.parts, t.told)
+    let (number, answered, devices, t) = c.requires.stands in (
+      number,
+      answered,
+      sent_by self.client t.passed.from_client,
+      sent_by self.server t.passed.from_server,
+      t.parts,
+      t.told,
+    )
 
 pub returns-in_err-tell_server-in-Came-clause-reads : goal.returns-in_err-tell_server-in-Came-clause-reads
-returns-in_err-tell_server-in-Came-clause-reads g c = λ number devices t er eo.
+returns-in_err-tell_server-in-Came-clause-reads g c = λ number answered devices t er eo.
     let self = c.args.self.now in
     let read = t.passed.from_server in
     let pipe = c.fill-filled.new.self in
@@ -42,12 +48,13 @@ returns-in_err-tell_server-in-Came-clause-reads g c = λ number devices t er eo.
     let p = read_passes self.server pipe devices.server read more left taken passes
     (subst (λ (s : PipeStage). IsReadTo s left) (sym stage) tt) t.passed.server in
     let going = is_open self.server c.requires.next in
-    let (next, wrote, failed) = c.in_err-tell_server-in-Came.ensures number (sent_by self.client t.passed.from_client)
+    let (next, wrote, failed) = c.in_err-tell_server-in-Came.ensures number answered
+    (sent_by self.client t.passed.from_client)
     (sent_by self.server read) t.parts t.told going in
     let e = err_from_is_err_and c.from_residual.result c.from_residual.ensures.1 in
     rw e.1 (
       failed,
-      server_passes number self pipe (record {
+      server_passes number answered self pipe (record {
         client = c.tell_server.new.client;
         server =
             c.tell_server.new.lines;
@@ -55,7 +62,7 @@ returns-in_err-tell_server-in-Came-clause-reads g c = λ number devices t er eo.
     )
 
 pub returns-in_err-ended-in-AtEnd-clause-reads : goal.returns-in_err-ended-in-AtEnd-clause-reads
-returns-in_err-ended-in-AtEnd-clause-reads g c = λ number devices t er eo.
+returns-in_err-ended-in-AtEnd-clause-reads g c = λ number answered devices t er eo.
     let self = c.args.self.now in
     let read = t.passed.from_server in
     let pipe = c.fill-filled.new.self in
@@ -72,7 +79,7 @@ returns-in_err-ended-in-AtEnd-clause-reads g c = λ number devices t er eo.
     c.from_residual-in_err-ended-in-AtEnd.ensures.1 in
     rw e.1 (
       failed,
-      server_passes number self pipe (record {
+      server_passes number answered self pipe (record {
         client = c.args.self.now.client_lines;
         server =
             c.ended.new.self;
@@ -80,7 +87,7 @@ returns-in_err-ended-in-AtEnd-clause-reads g c = λ number devices t er eo.
     )
 
 pub returns-in_ok-tell_server-in-Came-clause-reads : goal.returns-in_ok-tell_server-in-Came-clause-reads
-returns-in_ok-tell_server-in-Came-clause-reads g c = λ number devices t er eo.
+returns-in_ok-tell_server-in-Came-clause-reads g c = λ number answered devices t er eo.
     let self = c.args.self.now in
     let read = t.passed.from_server in
     let pipe = c.fill-filled.new.self in
@@ -96,18 +103,22 @@ returns-in_ok-tell_server-in-Came-clause-reads g c = λ number devices t er eo.
     (ap (λ (t : List ℕ). read ++ t) (c.piece.ensures ∙ piece)) (going
     ∙ sym (ap (λ (s : PipeStage). has_ended s) stage)) in
     let lines : BothLines = record { client = c.tell_server.new.client; server = c.tell_server.new.lines } in
-    let (next, wrote, (works, after)) = c.in_ok-tell_server-in-Came.ensures number
+    let (next, wrote, (works, (now, heard, after))) = c.in_ok-tell_server-in-Came.ensures number answered
     (sent_by self.client t.passed.from_client) (sent_by self.server read) t.parts t.told going in
-    let told = told_of_sent number lines (sent_by self.client t.passed.from_client)
+    let told = told_of_sent number now lines (sent_by self.client t.passed.from_client)
     (with_bytes (sent_by self.server read) c.piece.result.now) (sent_by pipe (read ++ more)) (t.parts ++ next)
     sent after in (
       works,
-      server_stands number self pipe lines devices left held more next t p told
-          (subst (λ (o : Option (List ℕ)). Appends o held (all_text next)) (sym eo) wrote),
+      (
+        now,
+        heard,
+        server_stands number answered now self pipe lines devices left held more next t p told
+            (subst (λ (o : Option (List ℕ)). Appends o held (all_text next)) (sym eo) wrote),
+      ),
     )
 
 pub returns-in_ok-ended-in-AtEnd-clause-reads : goal.returns-in_ok-ended-in-AtEnd-clause-reads
-returns-in_ok-ended-in-AtEnd-clause-reads g c = λ number devices t er eo.
+returns-in_ok-ended-in-AtEnd-clause-reads g c = λ number answered devices t er eo.
     let self = c.args.self.now in
     let read = t.passed.from_server in
     let pipe = c.fill-filled.new.self in
@@ -129,17 +140,22 @@ returns-in_ok-ended-in-AtEnd-clause-reads g c = λ number devices t er eo.
     let of_server = server_of_sent number c.ended.new.self (with_its_end (sent_by self.server read)) server
     (server_text t.parts ++ last) (server_text t.parts ++ last) sent refl after in
     let told = told_server number (record { client = self.client_lines; server = self.server_lines }) c.ended.new.self
-    t.told.answered client server t.parts last
-    (answered_same t.told.answered client client (sent_by self.server read) server refl same t.told.has_answered)
+    answered client server t.parts last
+    (order_same number answered (sent_by self.server read) server t.parts same t.told.in_order)
+    (answered_same answered client client (sent_by self.server read) server refl same t.told.has_answered)
     t.told.of_client of_server in (
       works,
-      server_stands number self pipe lines devices left held more (OfServer last ∷ []) t p told
-          (subst (λ (x : List ℕ). Appends devices.lines.new held x) (sym (append-nil last))
-          (subst (λ (o : Option (List ℕ)). Appends o held last) (sym eo) wrote)),
+      (
+        answered,
+        inl refl,
+        server_stands number answered answered self pipe lines devices left held more (OfServer last ∷ []) t p told
+            (subst (λ (x : List ℕ). Appends devices.lines.new held x) (sym (append-nil last))
+            (subst (λ (o : Option (List ℕ)). Appends o held last) (sym eo) wrote)),
+      ),
     )
 
 pub returns-in-Waits-clause-reads : goal.returns-in-Waits-clause-reads
-returns-in-Waits-clause-reads g c = λ number devices t er eo.
+returns-in-Waits-clause-reads g c = λ number answered devices t er eo.
     let self = c.args.self.now in
     let read = t.passed.from_server in
     let pipe = c.fill-filled.new.self in
@@ -159,16 +175,21 @@ returns-in-Waits-clause-reads g c = λ number devices t er eo.
     let lines : BothLines = record { client = self.client_lines; server = self.server_lines } in
     let of_server = server_of_sent number self.server_lines (sent_by self.server read) server (server_text t.parts)
     (server_text t.parts ++ []) sent (sym (append-nil (server_text t.parts))) t.told.of_server in
-    let told = told_server number lines self.server_lines t.told.answered client server t.parts []
-    (answered_same t.told.answered client client (sent_by self.server read) server refl same t.told.has_answered)
+    let told = told_server number lines self.server_lines answered client server t.parts []
+    (order_same number answered (sent_by self.server read) server t.parts same t.told.in_order)
+    (answered_same answered client client (sent_by self.server read) server refl same t.told.has_answered)
     t.told.of_client of_server in (
       c.requires.output_works,
-      server_stands number self pipe lines devices left held more (OfServer [] ∷ []) t p told
-          (subst (λ (o : Option (List ℕ)). Appends o held []) (sym eo) (Appends-nil held)),
+      (
+        answered,
+        inl refl,
+        server_stands number answered answered self pipe lines devices left held more (OfServer [] ∷ []) t p told
+            (subst (λ (o : Option (List ℕ)). Appends o held []) (sym eo) (Appends-nil held)),
+      ),
     )
 
 pub returns-in-Failed-clause-reads : goal.returns-in-Failed-clause-reads
-returns-in-Failed-clause-reads g c = λ number devices t er eo.
+returns-in-Failed-clause-reads g c = λ number answered devices t er eo.
     let self = c.args.self.now in
     let read = t.passed.from_server in
     let pipe = c.fill-filled.new.self in
@@ -188,10 +209,15 @@ returns-in-Failed-clause-reads g c = λ number devices t er eo.
     let lines : BothLines = record { client = self.client_lines; server = self.server_lines } in
     let of_server = server_of_sent number self.server_lines (sent_by self.server read) server (server_text t.parts)
     (server_text t.parts ++ []) sent (sym (append-nil (server_text t.parts))) t.told.of_server in
-    let told = told_server number lines self.server_lines t.told.answered client server t.parts []
-    (answered_same t.told.answered client client (sent_by self.server read) server refl same t.told.has_answered)
+    let told = told_server number lines self.server_lines answered client server t.parts []
+    (order_same number answered (sent_by self.server read) server t.parts same t.told.in_order)
+    (answered_same answered client client (sent_by self.server read) server refl same t.told.has_answered)
     t.told.of_client of_server in (
       c.requires.output_works,
-      server_stands number self pipe lines devices left held more (OfServer [] ∷ []) t p told
-          (subst (λ (o : Option (List ℕ)). Appends o held []) (sym eo) (Appends-nil held)),
+      (
+        answered,
+        inl refl,
+        server_stands number answered answered self pipe lines devices left held more (OfServer [] ∷ []) t p told
+            (subst (λ (o : Option (List ℕ)). Appends o held []) (sym eo) (Appends-nil held)),
+      ),
     )

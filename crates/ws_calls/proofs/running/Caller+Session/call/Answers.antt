@@ -1,0 +1,21 @@
+use Rattle.std.proofs.Common.{refl, sym, subst, true, string_bytes}
+use Rattle.ws_session.specs.Replies.{reply_to}
+use Rattle.ws_calls.specs.declared.calls.Call.{Call}
+use Rattle.ws_calls.specs.declared.report.CallAnswer.TheVariants.{Ended}
+use Rattle.ws_calls.specs.InnerSteps.{HasToldCall}
+use Rattle.ws_calls.specs.InnerSteps.{endpoint_of}
+use Rattle.ws_calls.proofs.running.Caller+Session.call.Goals as goal
+
+pub returns-in_ok-tell_answer-in-End : goal.returns-in_ok-tell_answer-in-End
+returns-in_ok-tell_answer-in-End c = λ exchange is.
+    subst (λ (call : Call). HasToldCall (endpoint_of reply_to c.args.self.now.called) exchange call (string_bytes c.args.self.now.lines) c.args.self.now.taken c.end.new.self (string_bytes c.tell_answer-in-End.new.lines)) (sym c.in-End.is)
+    (record {
+      answer = Ended;
+      answered = record {
+        after = record exchange { ended = true };
+        answered = (refl, refl);
+        agrees = record { exchanged = c.end.ensures.exchanged exchange.sent exchange.taken exchange.ended is.exchanged; count = is.count };
+        same = (c.end.ensures.role, c.end.ensures.limits);
+      };
+      told = c.in_ok-tell_answer-in-End.ensures;
+    })

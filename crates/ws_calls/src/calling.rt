@@ -1,0 +1,174 @@
+//! An end that a script makes calls of, and the call that a session and an echo answer alike: a piece is taken.
+
+ghost use Rattle.std.specs.Prelude.{◌≡◌, ◌+◌, ◌++◌, List, length, OnOk, string_bytes};
+ghost use Rattle.ws_wire.specs.Frame.{Frame};
+ghost use Rattle.ws_session.specs.Exchange.{Exchange, SessionValue};
+ghost use Rattle.ws_session.specs.Taking.{HasTakenAll};
+ghost use Rattle.ws_session.specs.Replies.{echo_reply_to, reply_to};
+ghost use Rattle.ws_session.specs.declared.event.Event.{Event};
+ghost use Rattle.ws_session.specs.declared.event.PlacedEvent.{PlacedEvent};
+ghost use Rattle.ws_calls.specs.declared.calls.Call.TheVariants.{Take};
+ghost use Rattle.ws_calls.specs.InnerSteps.{Agrees, HasTakenPart, HasToldCall, endpoint_of, told_behind};
+
+use crate::report::CallAnswer;
+use crate::report_lines::{tell_answer, tell_events};
+use std::alloc::Global;
+use ws_base::{NoMemory, Payload, Sequence};
+use ws_session::laws::{one_list_of_events, replies_go_on};
+use ws_session::{Echo, PlacedEvent, Session, Status};
+
+/// How many bytes of a piece are taken at once: so few that the room for their events doesn't count.
+const AT_ONCE: usize = 4096;
+
+/// An end that a script makes calls of: a session, or an echo.
+pub(crate) trait Scripted: Drop {
+    /// It, as a session.
+    ghost value: { Self → SessionValue };
+
+    /// The frames that it owes for an event.
+    ghost reply: { Event → List Frame };
+
+    /// Whether it is over, and how.
+    fn status_now(&self) -> Status
+        ensures { result ≡ (value self.now).status };
+
+    /// Takes a whole piece, puts the frames owed at the end of `out`, and appends the events.
+    fn take_whole(
+        &mut self,
+        piece: &[u8],
+        key: [u8; 4],
+        out: &mut Vec<u8>,
+        events: &mut Vec<PlacedEvent>,
+    ) -> Result<(), NoMemory>
+        ensures { OnOk result (HasTakenAll reply (value self.old) (value self.new)
+            (record { piece = piece.now; key = key; before = out.old.items; after = out.new.items })
+            events.old.items events.new.items) };
+}
+
+impl Scripted for Session {
+    ghost value = { λ session. session };
+
+    ghost reply = { reply_to };
+
+    fn status_now(&self) -> Status {
+        self.status()
+    }
+
+    fn take_whole(
+        &mut self,
+        piece: &[u8],
+        key: [u8; 4],
+        out: &mut Vec<u8>,
+        events: &mut Vec<PlacedEvent>,
+    ) -> Result<(), NoMemory> {
+        self.take_all(piece, key, out, events)?;
+        Ok(())
+    }
+}
+
+impl Scripted for Echo {
+    ghost value = { λ echo. echo };
+
+    ghost reply = { echo_reply_to };
+
+    fn status_now(&self) -> Status {
+        self.status()
+    }
+
+    fn take_whole(
+        &mut self,
+        piece: &[u8],
+        key: [u8; 4],
+        out: &mut Vec<u8>,
+        events: &mut Vec<PlacedEvent>,
+    ) -> Result<(), NoMemory> {
+        self.take_all(piece, key, out, events)?;
+        Ok(())
+    }
+}
+
+/// An end that is called, how many bytes it has taken, and the lines that tell what came of its calls.
+#[derive(Drop)]
+pub(crate) struct Caller<E> {
+    pub(crate) called: E,
+    pub(crate) taken: u64,
+    pub(crate) lines: String,
+}
+
+impl<E: Scripted> Caller<E> {
+    /// A piece is taken whole, unless the end is over.
+    pub(crate) fn take(
+        &mut self,
+        alloc: Global,
+        piece: &Payload,
+        key: [u8; 4],
+    ) -> Result<(), NoMemory>
+        ensures { (exchange : Exchange) → Agrees exchange self.old.taken (E.value self.old.called) →
+            OnOk result (HasToldCall (endpoint_of E.reply (E.value self.old.called)) exchange
+            (Take piece.now key) (string_bytes self.old.lines) self.new.taken (E.value self.new.called)
+            (string_bytes self.new.lines)) }
+    {
+        let mut put = Vec::new(alloc);
+        if !self.called.status_now().is_over() {
+            self.take_parts(alloc, piece.as_slice(), key, &mut put)?;
+        }
+        // Its events are told.
+        let answer = CallAnswer::Taken {
+            events: Sequence::new(alloc),
+            len: piece.len() as u64,
+            put: Payload::from_vec(put),
+        };
+        tell_answer(alloc, &answer, &mut self.lines)?;
+        Ok(())
+    }
+
+    /// Takes a piece part by part, and tells its events: those of a part are told before more bytes are taken.
+    fn take_parts(
+        &mut self,
+        alloc: Global,
+        piece: &[u8],
+        key: [u8; 4],
+        put: &mut Vec<u8>,
+    ) -> Result<(), NoMemory>
+        ensures { OnOk result ((told : List PlacedEvent)
+            × HasTakenPart E.reply (E.value self.old.called) (E.value self.new.called) piece.now key
+            put.old.items put.new.items told
+            × (self.new.taken ≡ self.old.taken + length piece.now)
+            × (string_bytes self.new.lines ≡ string_bytes self.old.lines ++ told_behind self.old.taken told)) }
+    {
+        one_list_of_events();
+        replies_go_on();
+        let mut rest = piece;
+        while !rest.is_empty() {
+            let (part, after) = rest.split_at(rest.len().min(AT_ONCE));
+            self.take_part(alloc, part, key, put)?;
+            rest = after;
+        }
+        Ok(())
+    }
+
+    /// Takes a part of a piece, and tells its events.
+    fn take_part(
+        &mut self,
+        alloc: Global,
+        part: &[u8],
+        key: [u8; 4],
+        put: &mut Vec<u8>,
+    ) -> Result<(), NoMemory>
+        ensures { OnOk result ((told : List PlacedEvent)
+            × HasTakenPart E.reply (E.value self.old.called) (E.value self.new.called) part.now key
+            put.old.items put.new.items told
+            × (self.new.taken ≡ self.old.taken + length part.now)
+            × (string_bytes self.new.lines ≡ string_bytes self.old.lines ++ told_behind self.old.taken told)) }
+    {
+        let mut events = Vec::new(alloc);
+        self.called.take_whole(part, key, put, &mut events)?;
+        // There is no room for a greater number, as there is none for so many bytes.
+        let Some(taken) = self.taken.checked_add(part.len() as u64) else {
+            return Err(NoMemory);
+        };
+        tell_events(alloc, self.taken, events.as_slice(), &mut self.lines)?;
+        self.taken = taken;
+        Ok(())
+    }
+}
