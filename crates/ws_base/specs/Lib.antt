@@ -1,3 +1,4 @@
 pub mod FaultWords
 pub mod Bytes
 pub mod Finding
+pub mod InnerKept

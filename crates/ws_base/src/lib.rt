@@ -1,13 +1,15 @@
-//! What every layer shares: want of memory, a list that contracts see as a list, and what is wrong with a text of
-//! lines.
+//! What every layer shares: want of memory, lists that contracts see as lists, on the heap or kept in place, and what
+//! is wrong with a text of lines.
 //!
-//! The layers above use the contract of `Sequence`.
+//! The layers above use the contracts of `Sequence` and of `ShortBytes`.
 #![tactic(auto)]
 
 mod memory;
 mod sequence;
+mod short_bytes;
 mod text_fault;
 
 pub use memory::NoMemory;
 pub use sequence::{Payload, Sequence};
+pub use short_bytes::ShortBytes;
 pub use text_fault::{LineFault, TextFault};

@@ -1,3 +1,4 @@
+-- The lemmas behind a connection: what is read for its head, served, written, recorded, observed and admitted.
 pub mod HeadLemmas
 pub mod ServingLemmas
 pub mod ConnectionLemmas

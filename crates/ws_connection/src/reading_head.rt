@@ -8,7 +8,7 @@ ghost use Rattle.ws_connection.specs.ReadingHeads.{ReadsHead, ReadsMore};
 
 use std::io;
 use std::io::Read;
-use std::marker::Model;
+use ws_base::ShortBytes;
 use ws_frame::Watched;
 use ws_upgrade::MAX_HEAD;
 
@@ -16,55 +16,7 @@ use ws_upgrade::MAX_HEAD;
 const HEAD_READ_SIZE: usize = 1024;
 
 /// Room for the bytes that are read for a head, at most 8192, kept in place.
-#[derive(Drop)]
-pub struct HeadRoom {
-    bytes: [u8; MAX_HEAD],
-    len: usize,
-}
-
-impl Model for HeadRoom {
-    ghost use Rattle.std.specs.Prelude.{List, ℕ, take, ◌≤◌};
-    ghost use Rattle.ws_upgrade.specs.Reading.{max_head};
-
-    ghost Value = { List ℕ };
-
-    ghost view = { λ room. take room.len room.bytes };
-
-    ghost invariant = { λ room. room.len ≤ max_head };
-}
-
-impl HeadRoom {
-    /// Room in which no byte is kept.
-    pub fn new() -> HeadRoom
-        ensures { result ≡ [] }
-    {
-        HeadRoom {
-            bytes: [0; MAX_HEAD],
-            len: 0,
-        }
-    }
-
-    /// The bytes that were read.
-    pub fn as_slice(&self) -> &[u8]
-        ensures bytes { result.now ≡ self.now }
-        ensures bound { length result.now ≤ max_head }
-    {
-        &self.bytes[..self.len]
-    }
-
-    /// Reads once, at most 1024 bytes, and keeps them after the others. Answers how many they are.
-    fn read_more<R: Read>(&mut self, reader: &mut Watched<R>) -> io::Result<usize>
-        requires { length self.old < max_head }
-        ensures bytes { ReadsMore self.old self.new result (watched R.remaining reader.old reader.new) }
-        ensures bound { length self.new ≤ max_head }
-        ensures failed { has_failed reader.new ≡ (has_failed reader.old || is_err result) }
-    {
-        let end = self.len + HEAD_READ_SIZE.min(MAX_HEAD - self.len);
-        let count = reader.read(&mut self.bytes[self.len..end])?;
-        self.len += count;
-        Ok(count)
-    }
-}
+pub type HeadRoom = ShortBytes<MAX_HEAD>;
 
 /// What decides the heads of requests, or of responses.
 pub trait HeadDecider {
@@ -108,15 +60,38 @@ pub fn read_head<R: Read, D: HeadDecider>(
     ensures { ReadsHead (D.needs decider.now) (D.decides decider.now) result room.new
         (watched R.remaining reader.old reader.new) }
 {
-    *room = HeadRoom::new();
+    forget(room);
     loop {
         if let Some(decision) = decider.decide(room.as_slice()) {
             return HeadEnd::Decided(decision);
         }
-        match room.read_more(reader) {
+        match read_more(room, reader) {
             Ok(0) => return HeadEnd::Cut,
             Ok(_) => {}
             Err(_) => return HeadEnd::ReadFault,
         }
     }
+}
+
+/// Lets go of what the room kept before.
+fn forget(room: &mut HeadRoom)
+    ensures { room.new ≡ [] }
+{
+    if room.len() > 0 {
+        *room = HeadRoom::new();
+    }
+}
+
+/// Reads once, at most 1024 bytes, and keeps them after the others. Answers how many they are.
+fn read_more<R: Read>(room: &mut HeadRoom, reader: &mut Watched<R>) -> io::Result<usize>
+    requires { length room.old < max_head }
+    ensures bytes { ReadsMore room.old room.new result (watched R.remaining reader.old reader.new) }
+    ensures bound { length room.new ≤ max_head }
+    ensures failed { has_failed reader.new ≡ (has_failed reader.old || is_err result) }
+{
+    let mut piece = [0; HEAD_READ_SIZE];
+    let most = HEAD_READ_SIZE.min(MAX_HEAD - room.len());
+    let count = reader.read(&mut piece[..most])?;
+    room.push(&piece[..count]);
+    Ok(count)
 }

@@ -1,3 +1,4 @@
+-- The lemmas behind the lines of a stream that comes piece by piece or byte by byte, to the end of a run.
 pub mod Written
 pub mod TestDeviceLemmas
 pub mod Fronts

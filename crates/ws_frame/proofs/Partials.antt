@@ -1,9 +1,7 @@
 -- What is kept of a frame that is not whole, and what more bytes make of it.
 use Rattle.std.proofs.Common.{◌≡◌, ℕ, zero, suc, ◌+◌, ◌-◌, ◌^◌, ◌<◌, ◌≤◌, List, [], ◌∷◌, ◌++◌, length, take, drop, Option, Some, None, min, refl, sym, ap, ◌∙◌, append_assoc, append-nil, zero-add, arith, inl, inr, subst}
 use Rattle.std.proofs.lemmas.Bool.{cases_lt}
-use Rattle.std.proofs.lemmas.Slice.{take-put_mid}
-use borrow.Rule.Slice.PartMut.{put_mid}
-use Rattle.std.proofs.lemmas.List.{take_min, length-append, length-take, length-take-le, take-append-drop, take_at, drop_at, take_all, take-append-le, get_or_append_left, get_or-append_right}
+use Rattle.std.proofs.lemmas.List.{length-append, length-take, take-append-drop, take_at, drop_at, take_all, take-append-le, get_or_append_left, get_or-append_right}
 use Rattle.std.proofs.Math.Seq.{take-append-add}
 use Rattle.ws_wire.specs.Header.{HeaderFields, IsHeaderOf, AreBytes, header_bytes}
 use Rattle.ws_wire.specs.Masking.{masked_payload}
@@ -42,18 +40,6 @@ first_of_more : (n : ℕ) (xs ys : List ℕ) → take n (take n xs ++ ys) ≡ ta
 first_of_more zero xs ys = refl
 first_of_more (suc n) [] ys = refl
 first_of_more (suc n) (x ∷ xs) ys = ap (λ (t : List ℕ). x ∷ t) (first_of_more n xs ys)
-
--- what is pushed behind some of the first sixteen bytes
-pub first_pushed : (len k m : ℕ) (bytes copied old more : List ℕ) → take len bytes ≡ old → length bytes ≡ 16 → len ≤ 16 → m ≡ min (16 - len) (length more) → copied ≡ take m more
-    → take (len + m) (put_mid len k bytes copied) ≡ take 16 (old ++ more)
-first_pushed len k m bytes copied old more front size bound count copy =
-    let few : m ≤ length more = omega arith in
-    let old_len : length old ≡ len = sym (ap (λ (t : List ℕ). length t) front) ∙ length-take-le len bytes (omega arith) in
-    let copied_len : length copied ≡ m = ap (λ (t : List ℕ). length t) copy ∙ length-take-le m more few in
-    let room : length old + (16 - len) ≡ 16 = omega arith in
-    take-put_mid len k bytes copied (len + m) (omega arith) (omega arith)
-    ∙ ap (λ (t : List ℕ). t ++ copied) front ∙ ap (λ (t : List ℕ). old ++ t) (copy ∙ ap (λ n. take n more) count ∙ take_min (16 - len) more)
-    ∙ sym (take-append-add old more (16 - len)) ∙ ap (λ n. take n (old ++ more)) room
 
 -- ---- what is kept is no frame
 

@@ -3,6 +3,7 @@
 ghost use Rattle.std.specs.Prelude.{◌≡◌, ◌≤◌, [], ◌++◌, length, take};
 ghost use Rattle.ws_wire.specs.Masking.{masked};
 
+use arrayvec::ArrayVec;
 use std::marker::Model;
 use ws_wire::mask;
 
@@ -12,18 +13,15 @@ pub(crate) const SHOWN: usize = 16;
 /// The first bytes of some, at most sixteen: contracts see the list of them.
 #[derive(Drop)]
 pub(crate) struct FirstBytes {
-    bytes: [u8; SHOWN],
-    len: usize,
+    bytes: ArrayVec<u8, SHOWN>,
 }
 
 impl Model for FirstBytes {
-    ghost use Rattle.std.specs.Prelude.{List, ℕ, take, ◌≤◌};
+    ghost use Rattle.std.specs.Prelude.{List, ℕ};
 
     ghost Value = { List ℕ };
 
-    ghost view = { λ first. take first.len first.bytes };
-
-    ghost invariant = { λ first. first.len ≤ 16 };
+    ghost view = { λ first. first.bytes.items };
 }
 
 impl FirstBytes {
@@ -32,8 +30,7 @@ impl FirstBytes {
         ensures { result ≡ [] }
     {
         FirstBytes {
-            bytes: [0; SHOWN],
-            len: 0,
+            bytes: ArrayVec::new(),
         }
     }
 
@@ -42,22 +39,22 @@ impl FirstBytes {
         ensures bytes { result.now ≡ self.now }
         ensures bound { length result.now ≤ 16 }
     {
-        &self.bytes[..self.len]
+        self.bytes.as_slice()
     }
 
     /// More bytes come: the first sixteen of all are kept.
     pub(crate) fn push(&mut self, more: &[u8])
         ensures { self.new ≡ take 16 (self.old ++ more.now) }
     {
-        let end = self.len + (SHOWN - self.len).min(more.len());
-        self.bytes[self.len..end].copy_from_slice(&more[..end - self.len]);
-        self.len = end;
+        let room = self.bytes.remaining_capacity();
+        let fitting = &more[..room.min(more.len())];
+        self.bytes.try_extend_from_slice(fitting).unwrap();
     }
 
     /// Unmasks them, where they are the first of a payload under this key.
     pub(crate) fn unmask(&mut self, key: [u8; 4])
         ensures { self.new ≡ masked key 0 self.old }
     {
-        mask(key, 0, &mut self.bytes[..self.len]);
+        mask(key, 0, self.bytes.as_mut_slice());
     }
 }

@@ -1,3 +1,4 @@
+-- The lemmas behind the lines of a transcript: each call tells its turn, and a transcript has one text.
 mod Directions
 mod Texts
 mod Tellings

@@ -1,3 +1,4 @@
+-- The lemmas behind two ends of a link: moves are answered in one way, and what is claimed of both ends follows.
 mod PassedUp
 mod MoveWords
 mod OnePlay

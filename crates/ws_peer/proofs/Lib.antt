@@ -1,3 +1,4 @@
+-- The lemmas behind a run over a peer: an echo's replies, read by read, and the talk and the transcript that it has.
 pub mod Echoing
 pub mod Driven
 pub mod Talking

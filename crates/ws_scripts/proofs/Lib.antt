@@ -1,3 +1,4 @@
+-- The lemmas behind scripts and captures: a text is read in one way, writing gives one, and a script can be run.
 mod TurnLemmas
 mod CaseNaming
 mod CaptureWords

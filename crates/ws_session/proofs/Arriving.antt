@@ -1,5 +1,5 @@
 -- More bytes of a payload, after those that came before.
-use Rattle.std.proofs.Common.{◌≡◌, ℕ, ◌+◌, ◌-◌, ◌<◌, ◌≤◌, true, List, ◌++◌, length, take, drop, Option, Some, None, refl, sym, ap, ◌∙◌, arith, inl, inr, subst}
+use Rattle.std.proofs.Common.{◌≡◌, ℕ, ◌+◌, ◌-◌, ◌<◌, ◌≤◌, true, Bool, List, ◌++◌, length, take, drop, Option, Some, None, refl, sym, ap, ◌∙◌, arith, inl, inr, subst}
 use Rattle.std.specs.Prelude.{min}
 use Rattle.std.proofs.lemmas.Bool.{cases_lt, lt-leb}
 use Rattle.std.proofs.lemmas.List.{length-append, take-append-drop, length-take-le, length-drop, drop-take, drop-drop, drop-append-le, take_all}
@@ -10,18 +10,18 @@ use Rattle.ws_text.specs.Stream.{HasReadText, BreaksTextAt}
 use Rattle.ws_session.specs.declared.message.Kind.{Kind}
 use Rattle.ws_session.specs.declared.message.Message.{Message}
 use Rattle.ws_session.specs.declared.reason.Reason.TheVariants.{NotText, TextCut}
-use Rattle.ws_session.specs.declared.receiver.under_way.UnderWay.{UnderWay}
 use Rattle.ws_session.specs.declared.receiver.under_way.UnderWay.TheVariants as under_way
 use Rattle.ws_session.specs.declared.receiver.frame_check.FrameCheck.{FrameCheck}
 use Rattle.ws_session.specs.declared.receiver.frame_check.FrameCheck.TheVariants as check
 use Rattle.ws_session.specs.declared.receiver.frame_check.Content.{Content}
+use Rattle.ws_session.specs.declared.receiver.frame_check.Content.TheVariants as content
 use Rattle.ws_session.specs.Messages.{kind_of}
 use Rattle.ws_session.specs.Validity.{OfText}
 use Rattle.ws_session.specs.Faults.{open_payload, IsOfText, IsControl}
 use Rattle.ws_session.specs.InnerChecking.{IsFirstInPayload, frame_with}
 use Rattle.ws_session.specs.InnerNextFrame.{message_with}
 use Rattle.ws_session.specs.InnerMasked.{masked_from}
-use Rattle.ws_session.specs.InnerReceiving.{AssemblyValue, HasKept, IsJoined, frame_payload, first_bytes, arrived_payload, kind_with, IsContentOf, IsNextOf, IsPayloadCheck, IsWithoutFault, IsTextFault, IsTextRead, IsWholeControl}
+use Rattle.ws_session.specs.InnerReceiving.{AssemblyValue, HasKept, IsJoined, frame_payload, first_bytes, arrived_payload, kind_with, IsContentOf, IsPayloadCheck, IsTextFault, IsTextRead, IsWholeControl}
 use Rattle.ws_session.proofs.MaskedParts.{length-masked_from}
 use Rattle.ws_session.proofs.Assembled.{first_is}
 use Rattle.ws_session.proofs.Payloads.{none_of_text, none_of_binary, text_is_cut, text_breaks, text_if, kind_is_text}
@@ -136,45 +136,35 @@ kept_text : (o : Option Message) (h : HeaderFields) (text : Option (List ℕ)) (
 kept_text None h text payload opcode begins read = text_if (kind_of h.opcode) (HasReadText text payload) (λ e. read (inl (kind_is_text h.opcode e)))
 kept_text (Some m) h text payload opcode begins read = text_if m.kind (HasReadText text payload) (λ e. read (inr (elim (cases_lt h.opcode 1) [ inl zero_only ↦ omega arith | inr one ↦ let no_open = begins one in absurd cc ], e)))
 
-pub payload_without_fault : (a : AssemblyValue) (h : HeaderFields) (came start here : ℕ) (text : Option (List ℕ)) → h.opcode ≤ 2 → (1 ≤ h.opcode → a.opened ≡ None) → length (frame_payload a) ≡ came + here → length (frame_payload a) ≤ h.len → IsJoined a → IsTextRead h a text → (j : FrameCheck)
-    → IsWithoutFault a h (came + here) (start + here) text j → IsPayloadCheck h came start a (frame_payload a) j
-unfolding make_message
-payload_without_fault a h came start here text opcode begins len within joined read (check.Need next same) w =
-    let total : length (open_payload a.opened) + length (frame_payload a) ≡ length a.payload = sym (length-append (open_payload a.opened) (frame_payload a)) ∙ ap (λ (l : List ℕ). length l) joined in
-    let has : HasKept a (came + here) = omega (arith, total, len) in (
-      omega (arith, w.0, len),
-      read.1,
-      subst (λ (n : UnderWay). IsNextOf a h (frame_payload a) n same) (sym w.1) (refl, sym len, refl, opcode, has, λ of. subst (λ (t : Option (List ℕ)). HasReadText t a.payload) (sym w.2) (read.0 of)),
-    )
-payload_without_fault a h came start here text opcode begins len within joined read (check.Whole end x) w = (
-  omega (arith, w.0, len, within),
-  omega (arith, w.1, len),
-  read.1,
-  subst (λ (y : Content). IsContentOf a (frame_with h (frame_payload a)) y) (sym w.2)
-      (lt-leb 8 h.opcode (omega arith), refl, kept_with a.opened h (frame_payload a) a.payload joined, kept_text a.opened h text a.payload opcode begins read.0),
-)
-payload_without_fault a h came start here text opcode begins len within joined read (check.Fault reason place) w = absurd w
+-- the payload so far, in which nothing is wrong
+module _ (a : AssemblyValue) (h : HeaderFields) (came start here : ℕ) (text : Option (List ℕ)) (opcode : h.opcode ≤ 2)
+    (begins : 1 ≤ h.opcode → a.opened ≡ None) (len : length (frame_payload a) ≡ came + here) (joined : IsJoined a)
+    (read : IsTextRead h a text) where
+  pub data_goes_on : came + here < h.len
+      → IsPayloadCheck h came start a (frame_payload a) (check.Need (under_way.Data h (came + here)) text)
+  data_goes_on short =
+      let total : length (open_payload a.opened) + length (frame_payload a) ≡ length a.payload =
+      sym (length-append (open_payload a.opened) (frame_payload a)) ∙ ap (λ (l : List ℕ). length l) joined in
+      let has : HasKept a (came + here) = omega (arith, total, len) in
+      (omega (arith, short, len), read.1, (refl, sym len, refl, opcode, has, read.0))
 
--- a piece that doesn't end the payload is put in whole
-module _ (a b : AssemblyValue) (h : HeaderFields) (came : ℕ) (piece : List ℕ) (kept : HasKept a came) (inside : came + length piece < h.len) (opened : b.opened ≡ a.opened) (put : b.payload ≡ first_bytes a came ++ masked_from h.key came piece) where
-  le : came ≤ h.len
-  le = omega (arith, inside)
-
-  is_here : length piece ≡ min (h.len - came) (length piece)
-  is_here = omega (arith, inside)
-
-  put_all : b.payload ≡ first_bytes a came ++ masked_from h.key came (take (length piece) piece)
-  put_all = put ∙ ap (λ (l : List ℕ). first_bytes a came ++ masked_from h.key came l) (sym (take_all (length piece) piece (omega arith)))
-
-  pub inside_arrived : frame_payload b ≡ arrived_payload h (take came (frame_payload a)) piece
-  inside_arrived = put_arrived a b h came (length piece) piece kept le is_here opened put_all
-
-  pub inside_within : length (frame_payload b) ≤ h.len
-  inside_within = put_within a b h came (length piece) piece kept le is_here opened put_all
-
-  pub inside_checked : (text : Option (List ℕ)) → h.opcode ≤ 2 → (1 ≤ h.opcode → b.opened ≡ None) → IsJoined b → IsTextRead h b text → IsPayloadCheck h came 0 b (frame_payload b) (check.Need (under_way.Data h (came + length piece)) text)
-  inside_checked text opcode begins joined read =
-      payload_without_fault b h came 0 (length piece) text opcode begins (put_len a b h came (length piece) piece kept le is_here opened put_all) inside_within joined read (check.Need (under_way.Data h (came + length piece)) text) (inside, refl, refl)
+  pub data_is_whole : (fin : Bool) (kind : Kind) → fin ≡ h.fin → kind ≡ kind_with a.opened (kind_of h.opcode)
+      → came + here ≡ h.len
+      → IsPayloadCheck h came start a (frame_payload a) (check.Whole (start + here) (content.Data fin kind text))
+  unfolding make_message
+  data_is_whole fin kind fins kinds whole =
+      let is : content.Data fin kind text ≡ content.Data h.fin (kind_with a.opened (kind_of h.opcode)) text =
+      ap (λ (f : Bool). content.Data f kind text) fins ∙ ap (λ (k : Kind). content.Data h.fin k text) kinds in (
+        omega (arith, whole, len),
+        omega (arith, len),
+        read.1,
+        subst (λ (y : Content). IsContentOf a (frame_with h (frame_payload a)) y) (sym is) (
+          lt-leb 8 h.opcode (omega arith),
+          refl,
+          kept_with a.opened h (frame_payload a) a.payload joined,
+          kept_text a.opened h text a.payload opcode begins read.0,
+        ),
+      )
 
 -- ---- the payload of a control frame
 

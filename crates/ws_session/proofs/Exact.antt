@@ -1,5 +1,5 @@
 -- No payload is kept but that of the open message and of the frame under way, and at most that of one message.
-use Rattle.std.proofs.Common.{◌≡◌, ℕ, ◌+◌, ◌≤◌, List, [], ◌++◌, length, take, Option, sym, ap, ◌∙◌, arith, inl, inr, subst, refl}
+use Rattle.std.proofs.Common.{◌≡◌, ℕ, ◌+◌, ◌≤◌, List, length, take, Option, Some, None, sym, ap, ◌∙◌, arith, inl, inr, subst, refl}
 use Rattle.std.proofs.lemmas.Bool.{cases_lt}
 use Rattle.std.proofs.lemmas.List.{length-take-le, length-drop, take-take}
 use Rattle.ws_wire.specs.declared.role.Role.{Role}
@@ -9,6 +9,8 @@ use Rattle.ws_session.specs.declared.message.Message.{Message}
 use Rattle.ws_session.specs.declared.reason.Reason.TheVariants.{TooBig}
 use Rattle.ws_session.specs.declared.receiver.under_way.UnderWay.{UnderWay}
 use Rattle.ws_session.specs.declared.receiver.under_way.UnderWay.TheVariants as under_way
+use Rattle.ws_session.specs.declared.receiver.frame_check.PieceCheck.{PieceCheck}
+use Rattle.ws_session.specs.declared.receiver.frame_check.PieceCheck.TheVariants as piece_check
 use Rattle.ws_session.specs.declared.receiver.frame_check.Content.{Content}
 use Rattle.ws_session.specs.declared.receiver.frame_check.Content.TheVariants as content
 use Rattle.ws_session.specs.declared.receiver.frame_check.FrameCheck.{FrameCheck}
@@ -18,8 +20,8 @@ use Rattle.ws_session.specs.Faults.{open_payload, IsControl}
 use Rattle.ws_session.specs.InnerAssembly.{HasReadOpen}
 use Rattle.ws_session.specs.InnerChecking.{NoneAtHeader}
 use Rattle.ws_session.specs.InnerNextFrame.{IsPartOfFrame}
-use Rattle.ws_session.specs.InnerReceiving.{AssemblyValue, frame_payload, first_bytes, HasKept, IsJoined, partial_of, came_of, IsExactly, IsUnderWay, IsPayloadCheck, IsFrameCheck, with_text, IsExactCheck, IsExactContent}
-use Rattle.ws_session.specs.InnerReceiver.{ReceiverValue, receiver_of, IsReceiving, IsExact, IsExactFor}
+use Rattle.ws_session.specs.InnerReceiving.{AssemblyValue, first_bytes, HasKept, IsJoined, partial_of, came_of, IsExactly, IsUnderWay, IsPayloadCheck, IsDataCheck, IsFrameCheck, with_text, IsExactCheck, IsExactContent, IsExactPiece}
+use Rattle.ws_session.specs.InnerReceiver.{ReceiverValue, receiver_of, IsReceiving, IsSoundReceiver, IsExact, IsExactFor}
 use Rattle.ws_session.proofs.Pieces.{kept_first, same_partial, still_data, still_header}
 
 -- ---- at most the payload of one message
@@ -33,22 +35,17 @@ room_data role limits a h came u b size = let k = u.kept in omega (arith, size, 
 
 -- ---- what the check leaves
 
-exact_next : (h : HeaderFields) (came start : ℕ) (a : AssemblyValue) (next : UnderWay) (text : Option (List ℕ)) → HasKept a came → h.opcode ≤ 2 → IsPayloadCheck h came start a (frame_payload a) (check.Need next text) → IsExactly a next
-exact_next h came start a (under_way.Header bytes) text has le c = absurd (c.2)
-exact_next h came start a (under_way.Data same n) text has le c = let k = c.2 in omega (arith, k.1, has, length-drop (length (open_payload a.opened)) a.payload)
-exact_next h came start a (under_way.Control same bytes) text has le c = let k = c.2 in let control = k.2 in absurd (omega (arith, control.0, le))
-
-exact_content : (h : HeaderFields) (came start used : ℕ) (a : AssemblyValue) (x : Content) → h.opcode ≤ 2 → IsPayloadCheck h came start a (frame_payload a) (check.Whole used x) → IsExactContent a x
-exact_content h came start used a (content.Data fin kind text) le c = tt
-exact_content h came start used a (content.Ping payload) le c = let k = c.3 in absurd (omega (arith, k.0, le))
-exact_content h came start used a (content.Pong payload) le c = let k = c.3 in absurd (omega (arith, k.0, le))
-exact_content h came start used a (content.Close close) le c = tt
-
 -- of a data frame
-pub exact_data : (h : HeaderFields) (came start : ℕ) (a : AssemblyValue) (j : FrameCheck) → HasKept a came → h.opcode ≤ 2 → IsPayloadCheck h came start a (frame_payload a) j → IsExactCheck a j
-exact_data h came start a (check.Need next text) has le c = exact_next h came start a next text has le c
-exact_data h came start a (check.Whole used x) has le c = exact_content h came start used a x le c
-exact_data h came start a (check.Fault reason used) has le c = tt
+pub exact_data : (h : HeaderFields) (came start more : ℕ) (a b : AssemblyValue) → HasKept b came
+    → IsDataCheck h came start more a b None → length b.payload ≡ length (open_payload b.opened) + (came + more)
+exact_data h came start more a b has c =
+    let k = c.2 in omega (arith, k.1, has, length-drop (length (open_payload b.opened)) b.payload)
+
+pub exact_told : (h : HeaderFields) (came start more : ℕ) (a b : AssemblyValue) (next : UnderWay) (y : PieceCheck)
+    → IsDataCheck h came start more a b (Some y) → IsExactPiece b next (Some y)
+exact_told h came start more a b next (piece_check.Whole used fin kind text) c = tt
+exact_told h came start more a b next (piece_check.Control same place) c = absurd c
+exact_told h came start more a b next (piece_check.Fault reason used) c = tt
 
 control_next : (h : HeaderFields) (came start : ℕ) (a : AssemblyValue) (payload : List ℕ) (next : UnderWay) (text : Option (List ℕ)) → length a.payload ≡ length (open_payload a.opened) → IsControl h → IsPayloadCheck h came start a payload (check.Need next text) → IsExactly a next
 control_next h came start a payload (under_way.Header bytes) text all control c = absurd (c.2)
@@ -73,6 +70,22 @@ exact_for role limits a f (content.Data fin kind text) is = tt
 exact_for role limits a f (content.Ping payload) is = is
 exact_for role limits a f (content.Pong payload) is = is
 exact_for role limits a f (content.Close close) is = tt
+
+-- where nothing that shows has changed the receiving side is as sound as before
+pub shown_sound : (role : Role) (limits : LimitsValue) (a b : AssemblyValue) (f g : UnderWay)
+    → IsSoundReceiver (receiver_of role limits a f) → b.opened ≡ a.opened → partial_of b g ≡ partial_of a f
+    → length b.payload ≤ limits.max_message → IsSoundReceiver (receiver_of role limits b g)
+shown_sound role limits a b f g sound opened shown room =
+    let size : length (open_payload b.opened) ≡ length (open_payload a.opened) = ap (λ (o : Option Message). length (open_payload o)) opened in
+    let all : length (partial_of b g) ≡ length (partial_of a f) = ap (λ (l : List ℕ). length l) shown in
+    record {
+      part = subst (λ (l : List ℕ). IsPartOfFrame role limits b.opened l) (sym shown)
+          (subst (λ (o : Option Message). IsPartOfFrame role limits o (partial_of a f)) (sym opened) sound.part);
+      limit = sound.limit;
+      size = omega (arith, size, sound.size);
+      held = omega (arith, size, all, sound.held);
+      room = room;
+    }
 
 -- ---- what is cut off
 

@@ -1,3 +1,4 @@
+-- The lemmas behind a session: from the bytes of a frame to faults and events, to replies and sends, to the laws.
 pub mod ByteLists
 pub mod Calls
 pub mod Faults
@@ -23,12 +24,12 @@ pub mod HeaderEnds
 pub mod LeastLengths
 pub mod LeastHeaders
 pub mod Pieces
-pub mod WentOn
 pub mod Kept
 pub mod Exact
 pub mod Receipts
 pub mod Wants
 pub mod Owed
+pub mod ReceivedCalls
 pub mod SessionParts
 pub mod Over
 pub mod DoomedSessions

@@ -1,8 +1,7 @@
 -- A payload that is unmasked part by part.
-use Rattle.std.proofs.Common.{◌≡◌, ℕ, ◌+◌, ◌-◌, ◌%◌, ◌≤◌, List, [], ◌∷◌, ◌++◌, length, take, replicate, Option, Some, None, refl, sym, ap, ◌∙◌, arith}
+use Rattle.std.proofs.Common.{◌≡◌, ℕ, ◌+◌, ◌-◌, ◌%◌, ◌≤◌, List, [], ◌∷◌, ◌++◌, length, take, Option, Some, None, refl, sym, ap, ◌∙◌, arith}
 use Rattle.std.specs.Prelude.{bit_xor, slice_index}
-use Rattle.std.proofs.Math.Seq.{take-append-add, take-append_seam}
-use Rattle.std.proofs.lemmas.List.{length-append, length-replicate}
+use Rattle.std.proofs.Math.Seq.{take-append-add}
 use Rattle.ws_wire.specs.Header.{HeaderFields}
 use Rattle.ws_wire.specs.Masking.{masked, masked_payload}
 use Rattle.ws_wire.proofs.Masks.{masked-append, masked_payload_twice, length-masked, length-masked_payload}
@@ -41,15 +40,3 @@ arrived_is h kept rest le =
     ∙ masked_after h.key (masked_payload h.key kept) (take (h.len - length kept) rest)
     ∙ ap (λ (l : List ℕ). l ++ masked_from h.key (length (masked_payload h.key kept)) (take (h.len - length kept) rest)) (masked_payload_twice h.key kept)
     ∙ ap (λ n. kept ++ masked_from h.key n (take (h.len - length kept) rest)) size
-
--- ---- bytes in place, with zeros after them
-
-pub padded_front : (payload all : List ℕ) (n : ℕ) → length payload ≡ n → all ≡ payload ++ replicate (125 - length payload) 0 → take n all ≡ payload
-padded_front payload all n size is = ap (λ k. take k all) (sym size) ∙ ap (λ (l : List ℕ). take (length payload) l) is ∙ take-append_seam payload (replicate (125 - length payload) 0)
-
-pub padded_is : (payload all : List ℕ) (n : ℕ) → length payload ≡ n → n ≤ 125 → all ≡ payload ++ replicate (125 - length payload) 0 → (n ≤ 125) × (length all ≡ 125) × (take n all ++ replicate (125 - n) 0 ≡ all)
-padded_is payload all n size le is = (
-  le,
-  ap (λ (l : List ℕ). length l) is ∙ length-append payload (replicate (125 - length payload) 0) ∙ ap (λ k. length payload + k) (length-replicate (125 - length payload) 0) ∙ omega (arith, size, le),
-  ap (λ (l : List ℕ). l ++ replicate (125 - n) 0) (padded_front payload all n size is) ∙ ap (λ k. payload ++ replicate (125 - k) 0) (sym size) ∙ sym is,
-)

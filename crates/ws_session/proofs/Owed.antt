@@ -1,6 +1,6 @@
 -- When a call that takes bytes may want memory for an answer.
 use Rattle.std.proofs.Common.{◌≡◌, ◌≢◌, ℕ, ◌+◌, ◌⊎◌, true, false, Bool, if◌then◌else◌, List, [], ◌∷◌, ◌++◌, length, take, drop, Option, Some, None, refl, sym, ap, ◌∙◌, arith, inl, inr, subst}
-use Rattle.std.specs.Prelude.{option_to_list, Result, Ok, Err}
+use Rattle.std.specs.Prelude.{option_to_list, Result, Ok}
 use Rattle.std.proofs.lemmas.Bool.{cases_lt}
 use Rattle.std.proofs.lemmas.List.{length-append}
 use Rattle.std.proofs.Math.Seq.{drop-append_seam}
@@ -24,7 +24,7 @@ use Rattle.ws_session.specs.Taking.{Takes}
 use Rattle.ws_session.specs.Memory.{WouldTake, HoldsData, WantsMemory, WantsMemoryToTell}
 use Rattle.ws_session.specs.InnerNextFrame.{IsFirstFaultOfNext}
 use Rattle.ws_session.specs.InnerInvariant.{CanAnswer, reply_by}
-use Rattle.ws_session.specs.InnerReceiving.{AssemblyValue, IsWholeFrame, IsFrameCheck, next_in}
+use Rattle.ws_session.specs.InnerReceiving.{AssemblyValue, IsWholeFrame, next_in}
 use Rattle.ws_session.specs.InnerReplying.{bytes_put}
 use Rattle.ws_session.specs.InnerReceiver.{ReceiverValue, receiver_of, session_with, status_by, event_of_kept, opened_by, HasReceived, IsOwed}
 use Rattle.ws_session.proofs.Calls.{exchange_of, call_of}
@@ -75,7 +75,7 @@ module _ (r : Replying) (old : ReceiverValue) (sending : Option SendingValue) (e
 
   -- such a side as it would be afterwards
   after_of : AssemblyValue → UnderWay → Content → ReceiverValue
-  after_of a f x = record { role = old.role; limits = old.limits; opened = opened_by (receiver_of old.role old.limits a f) x; partial_frame = []; assembled = []; came = 0; text = None }
+  after_of a f x = record { role = old.role; limits = old.limits; opened = opened_by (receiver_of old.role old.limits a f) x; partial_frame = []; assembled = []; came = 0; text = None; frame = f }
 
   pub tells_frame : (a : AssemblyValue) (f : UnderWay) (used : ℕ) (x : Content) → a.opened ≡ old.opened → IsWholeFrame old.role old.limits a (old.partial_frame ++ piece) (length old.partial_frame + used) x
       → (t : Taken) → WouldTake (session_with old sending r.status) exchange piece t → t.event ≡ Some (event_of_kept (receiver_of old.role old.limits a f) x)
@@ -92,7 +92,7 @@ module _ (r : Replying) (old : ReceiverValue) (sending : Option SendingValue) (e
   wants_frame a f used x opened w owed t would = inr (owed_by t (event_of_kept (receiver_of old.role old.limits a f) x) (tells_frame a f used x opened w t would) owed)
 
   nothing_after : ReceiverValue
-  nothing_after = record { role = old.role; limits = old.limits; opened = None; partial_frame = []; assembled = []; came = 0; text = None }
+  nothing_after = record { role = old.role; limits = old.limits; opened = None; partial_frame = []; assembled = []; came = 0; text = None; frame = old.frame }
 
   pub tells_fault : (a : AssemblyValue) (f : UnderWay) (used : ℕ) (reason : Reason) → a.opened ≡ old.opened → AreBytes (old.partial_frame ++ piece) → IsFirstFaultOfNext old.role old.limits a.opened (old.partial_frame ++ piece) (length old.partial_frame + used) reason
       → (t : Taken) → WouldTake (session_with old sending r.status) exchange piece t → t.event ≡ Some (event.Failed reason)
@@ -137,11 +137,6 @@ module _ (old : ReceiverValue) (sending : Option SendingValue) (status : Status)
   pub fault_tells : (a : AssemblyValue) (f : UnderWay) (used : ℕ) (reason : Reason) → a.opened ≡ old.opened → AreBytes (old.partial_frame ++ piece) → IsFirstFaultOfNext old.role old.limits a.opened (old.partial_frame ++ piece) (length old.partial_frame + used) reason → WantsMemoryToTell (session_with old sending status) piece
   unfolding plain
   fault_tells a f used reason opened are first exchange unended h t would = inr (some_is_not t.event (event.Failed reason) (tells_fault plain old sending exchange piece tt refl going h bytes a f used reason opened are first t would))
-
-  pub check_tells : (a : AssemblyValue) (f : UnderWay) (j : FrameCheck) (x : Option Content) → a.opened ≡ old.opened → AreBytes (old.partial_frame ++ piece) → IsFrameCheck old.role old.limits a (length old.partial_frame) (old.partial_frame ++ piece) j → next_in j ≡ Err x → WantsMemoryToTell (session_with old sending status) piece
-  check_tells a f (check.Need next text) x opened are is none = absurd cc
-  check_tells a f (check.Whole used held) x opened are is none = frame_tells a f used held opened is
-  check_tells a f (check.Fault reason used) x opened are is none = fault_tells a f used reason opened are is
 
 ok_same : (x y : UnderWay × Option (List ℕ)) (r : Result (UnderWay × Option (List ℕ)) (Option Content)) → r ≡ Ok x → r ≡ Ok y → x ≡ y
 ok_same x y r e f = cc

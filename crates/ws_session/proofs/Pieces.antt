@@ -1,5 +1,5 @@
 -- A piece after the frame that is under way.
-use Rattle.std.proofs.Common.{◌≡◌, ℕ, ◌+◌, ◌-◌, ◌<◌, ◌≤◌, List, [], ◌++◌, length, take, drop, Option, None, refl, sym, ap, ◌∙◌, arith, inl, inr, subst}
+use Rattle.std.proofs.Common.{◌≡◌, ℕ, ◌+◌, ◌-◌, ◌<◌, ◌≤◌, List, [], ◌++◌, length, take, drop, Option, Some, None, refl, sym, ap, ◌∙◌, arith, inl, inr, subst}
 use Rattle.std.proofs.lemmas.Bool.{cases_lt}
 use Rattle.std.proofs.lemmas.List.{length-append, length-take-le, length-drop, drop-take, append-nil, take_all}
 use Rattle.ws_wire.specs.declared.role.Role.{Role}
@@ -10,14 +10,18 @@ use Rattle.ws_text.specs.Stream.{HasReadText}
 use Rattle.ws_session.specs.declared.message.Message.{Message}
 use Rattle.ws_session.specs.declared.reason.Reason.{Reason}
 use Rattle.ws_session.specs.declared.reason.Reason.TheVariants.{Opcode, ControlLong, MessageOpen}
+use Rattle.ws_session.specs.declared.receiver.under_way.UnderWay.{UnderWay}
 use Rattle.ws_session.specs.declared.receiver.under_way.UnderWay.TheVariants as under_way
+use Rattle.ws_session.specs.declared.receiver.frame_check.Content.TheVariants as content
+use Rattle.ws_session.specs.declared.receiver.frame_check.PieceCheck.{PieceCheck}
+use Rattle.ws_session.specs.declared.receiver.frame_check.PieceCheck.TheVariants as piece_check
 use Rattle.ws_session.specs.declared.receiver.frame_check.FrameCheck.{FrameCheck}
 use Rattle.ws_session.specs.declared.receiver.frame_check.FrameCheck.TheVariants as check
 use Rattle.ws_session.specs.Limits.{LimitsValue}
 use Rattle.ws_session.specs.Faults.{IsControl, IsOfText, open_payload}
 use Rattle.ws_session.specs.InnerAssembly.{HasReadOpen}
 use Rattle.ws_session.specs.InnerChecking.{NoneAtHeader, IsFirstAtHeader}
-use Rattle.ws_session.specs.InnerReceiving.{AssemblyValue, with_text, frame_payload, first_bytes, HasKept, IsJoined, arrived_payload, partial_of, IsUnderWay, HasNewData, IsPayloadCheck, IsFrameCheck}
+use Rattle.ws_session.specs.InnerReceiving.{AssemblyValue, with_text, frame_payload, first_bytes, HasKept, IsJoined, arrived_payload, control_payload_of, partial_of, IsExactly, IsUnderWay, HasNewData, IsPayloadCheck, IsDataCheck, IsFrameCheck, IsControlAt, IsPieceCheck, ShowsTheSame}
 use Rattle.ws_session.proofs.Frames.{none_or_some, one_or_two, at_header, part_of_header, room_for_header}
 use Rattle.ws_session.proofs.Payloads.{read_open}
 use Rattle.ws_session.proofs.Assembled.{first_is}
@@ -125,6 +129,103 @@ module _ (role : Role) (limits : LimitsValue) (a b : AssemblyValue) (h : HeaderF
 
   pub first_of_control : (j : FrameCheck) → HasReadOpen b.opened b.text → IsPayloadCheck h 0 used b (arrived_payload h [] rest) j → IsFrameCheck role limits b (length kept) (kept ++ piece) j
   first_of_control j reads c = first_checked role limits b h kept piece rest (arrived_payload h [] rest) used begins are none_b joined behind refl (λ control. reads) j c
+
+-- the payload of a control frame, from where the piece has it
+pub control_checked : (role : Role) (limits : LimitsValue) (a : AssemblyValue) (f : UnderWay) (piece rest : List ℕ)
+    (h : HeaderFields) (start : ℕ) (j : FrameCheck) → IsUnderWay role limits a f → AreBytes (partial_of a f ++ piece)
+    → IsControlAt role limits a f piece h start → rest ≡ drop start piece
+    → IsPayloadCheck h (length (control_payload_of f)) start a (arrived_payload h (control_payload_of f) rest) j
+    → IsFrameCheck role limits a (length (partial_of a f)) (partial_of a f ++ piece) j
+control_checked role limits a (under_way.Header kept) piece rest h start j u are at behind c =
+    let k = u.kept in
+    first_of_control role limits a a h kept piece rest start at.behind are at.none refl u.joined behind j k.1 c
+control_checked role limits a (under_way.Data same came) piece rest h start j u are at behind c = absurd at.behind
+control_checked role limits a (under_way.Control same payload) piece rest h start j u are at behind c =
+    let is = at.behind in
+    let all : rest ≡ piece = behind ∙ ap (λ n. drop n piece) is.1 in
+    let first = subst (λ n. IsPayloadCheck h (length payload) n a (arrived_payload h payload rest) j) is.1 c in
+    let second =
+    subst (λ (l : List ℕ). IsPayloadCheck h (length payload) 0 a (arrived_payload h payload l) j) all first in
+    piece_of_control role limits a same payload piece j u are
+    (subst (λ (x : HeaderFields). IsPayloadCheck x (length payload) 0 a (arrived_payload x payload piece) j) (sym is.0)
+    second)
+
+-- so it is of what the check of the piece left as it was
+pub control_is : (role : Role) (limits : LimitsValue) (a b : AssemblyValue) (f g : UnderWay) (piece rest came : List ℕ)
+    (h : HeaderFields) (start : ℕ) (j : FrameCheck) → IsUnderWay role limits a f → AreBytes (partial_of a f ++ piece)
+    → IsPieceCheck role limits a f b g piece (Some (piece_check.Control h start)) → rest ≡ drop start piece
+    → came ≡ control_payload_of g → IsPayloadCheck h (length came) start b (arrived_payload h came rest) j
+    → IsFrameCheck role limits b (length (partial_of a f)) (partial_of a f ++ piece) j
+control_is role limits a b f g piece rest came h start j u are is behind came_is c =
+    let first = subst (λ (l : List ℕ). IsPayloadCheck h (length l) start b (arrived_payload h l rest) j)
+    (came_is ∙ ap (λ (x : UnderWay). control_payload_of x) is.1) c in
+    let second = subst (λ (x : AssemblyValue). IsPayloadCheck h (length (control_payload_of f)) start x
+    (arrived_payload h (control_payload_of f) rest) j) is.0 first in
+    subst (λ (x : AssemblyValue). IsFrameCheck role limits x (length (partial_of a f)) (partial_of a f ++ piece) j)
+    (sym is.0) (control_checked role limits a f piece rest h start j u are is.2 behind second)
+
+-- where something is told nothing that shows has changed
+pub told_shows : (role : Role) (limits : LimitsValue) (a b : AssemblyValue) (f g : UnderWay) (piece : List ℕ)
+    (y : PieceCheck) → IsPieceCheck role limits a f b g piece (Some y) → ShowsTheSame a f b g
+told_shows role limits a b f g piece (piece_check.Whole used fin kind text) is = is.0
+told_shows role limits a b f g piece (piece_check.Control h start) is =
+    (is.1, ap (λ (x : AssemblyValue). partial_of x g) is.0 ∙ ap (λ (x : UnderWay). partial_of a x) is.1)
+told_shows role limits a b f g piece (piece_check.Fault reason used) is = is.0
+
+-- none of its payload is kept beside the open message
+pub control_exact : (role : Role) (limits : LimitsValue) (a : AssemblyValue) (f : UnderWay) (piece : List ℕ)
+    (h : HeaderFields) (start : ℕ) → IsControlAt role limits a f piece h start → IsExactly a f
+    → length a.payload ≡ length (open_payload a.opened)
+control_exact role limits a (under_way.Header kept) piece h start at exact = omega (arith, exact)
+control_exact role limits a (under_way.Data same came) piece h start at exact = absurd at.behind
+control_exact role limits a (under_way.Control same payload) piece h start at exact = omega (arith, exact)
+
+-- what is told of a data frame, behind a part of its payload and behind a header that the piece completes
+module _ (role : Role) (limits : LimitsValue) (a b : AssemblyValue) (h : HeaderFields) where
+  pub told_inside : (came : ℕ) (piece : List ℕ) (y : PieceCheck) → IsUnderWay role limits a (under_way.Data h came)
+      → AreBytes (partial_of a (under_way.Data h came) ++ piece) → b.opened ≡ a.opened → IsJoined b
+      → first_bytes b came ≡ first_bytes a came
+      → frame_payload b ≡ arrived_payload h (take came (frame_payload a)) piece
+      → IsDataCheck h came 0 (length piece) a b (Some y)
+      → IsPieceCheck role limits a (under_way.Data h came) b (under_way.Data h came) piece (Some y)
+  told_inside came piece (piece_check.Whole used fin kind text) u are opened joined first arrived c = (
+    (refl, same_partial role limits a h came u b opened first),
+    piece_of_data role limits a h came u b piece (check.Whole used (content.Data fin kind text)) are opened joined
+        arrived c.1,
+  )
+  told_inside came piece (piece_check.Control same place) u are opened joined first arrived c = absurd c
+  told_inside came piece (piece_check.Fault reason used) u are opened joined first arrived c = (
+    (refl, same_partial role limits a h came u b opened first),
+    piece_of_data role limits a h came u b piece (check.Fault reason used) are opened joined arrived c.1,
+  )
+
+  pub told_first : (kept piece rest : List ℕ) (used : ℕ) (y : PieceCheck)
+      → Begins h (length kept + used) (kept ++ piece) → AreBytes (kept ++ piece)
+      → NoneAtHeader role limits a.opened h → b.opened ≡ a.opened → IsJoined b → rest ≡ drop used piece → h.opcode ≤ 2
+      → frame_payload b ≡ arrived_payload h (take 0 (frame_payload a)) rest
+      → IsDataCheck h 0 used (length rest) a b (Some y)
+      → IsPieceCheck role limits a (under_way.Header kept) b (under_way.Header kept) piece (Some y)
+  told_first kept piece rest used (piece_check.Whole end fin kind text) begins are none opened joined behind opcode
+      arrived c = (
+        (refl, refl),
+        first_of_data role limits a b h kept piece rest used begins are none opened joined behind
+            (check.Whole end (content.Data fin kind text)) opcode arrived c.1,
+      )
+  told_first kept piece rest used (piece_check.Control same place) begins are none opened joined behind opcode arrived
+      c = absurd c
+  told_first kept piece rest used (piece_check.Fault reason end) begins are none opened joined behind opcode arrived
+      c = (
+        (refl, refl),
+        first_of_data role limits a b h kept piece rest used begins are none opened joined behind (check.Fault reason end)
+            opcode arrived c.1,
+      )
+
+-- the stream stays where it is
+pub told_text : (a b : AssemblyValue) (h : HeaderFields) (came start more : ℕ) (y : PieceCheck)
+    → IsDataCheck h came start more a b (Some y) → b.text ≡ a.text
+told_text a b h came start more (piece_check.Whole used fin kind text) c = c.0
+told_text a b h came start more (piece_check.Control same place) c = absurd c
+told_text a b h came start more (piece_check.Fault reason used) c = c.0
 
 -- ---- new bytes of a data frame's payload
 

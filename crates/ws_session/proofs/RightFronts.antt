@@ -33,14 +33,14 @@ use Rattle.ws_session.proofs.RightCloses.{none_of_close, close_of_right}
 -- ---- whole headers
 
 -- a right frame that begins with a header and some of its payload
-pub record GoesOn (role : Role) (limits : LimitsValue) (opened : Option Message) (h : HeaderFields) (came : List ℕ) :
+pub record FrameGoesOn (role : Role) (limits : LimitsValue) (opened : Option Message) (h : HeaderFields) (came : List ℕ) :
     Type 0 where
   pub rest : List ℕ
   pub right : IsRightFrame role limits opened h (came ++ rest)
 
 pub right_front : (role : Role) (limits : LimitsValue) (opened : Option Message) (h : HeaderFields) (came : List ℕ)
     → IsHeader h → length came ≤ h.len → CanBeRight role limits opened (header_bytes h ++ masked_payload h.key came)
-    → GoesOn role limits opened h came
+    → FrameGoesOn role limits opened h came
 right_front role limits opened h came is le can =
     let s = same_header can.header h (masked_payload can.header.key can.payload)
     (masked_payload h.key came ++ can.later) can.right.is_header is

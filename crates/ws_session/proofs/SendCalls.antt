@@ -1,12 +1,12 @@
 -- Sends: from what is kept of the open message to what the frames say, and to what a session shows.
-use Rattle.std.proofs.Common.{◌≡◌, ◌≢◌, ℕ, ◌/◌, ◌%◌, ◌<◌, ◌≤◌, Bool, true, false, cond, List, [], ◌∷◌, ◌++◌, length, Option, Some, None, ◌⊎◌, Result, Ok, Err, inl, inr, refl, sym, ap, ◌∙◌, arith, subst}
+use Rattle.std.proofs.Common.{◌≡◌, ◌≢◌, ℕ, ◌≤◌, Bool, true, false, cond, List, [], ◌∷◌, ◌++◌, length, Option, Some, None, ◌⊎◌, Result, Ok, Err, inl, inr, refl, sym, ap, ◌∙◌, arith, subst}
 use Rattle.std.specs.Prelude.{IsErrAnd, IfErr}
 use Rattle.ws_wire.specs.declared.role.Role.{Role}
 use Rattle.ws_wire.specs.Frame.{Frame, FitsTheLayout, frame_bytes}
-use Rattle.ws_text.specs.Close.{CloseValue, close_payload}
 use Rattle.ws_session.specs.declared.message.Kind.{Kind}
 use Rattle.ws_session.specs.declared.message.Kind.TheVariants.{Text, Binary}
 use Rattle.ws_session.specs.declared.message.Message.{Message}
+use Rattle.ws_session.specs.declared.outgoing.Outgoing.{Outgoing}
 use Rattle.ws_session.specs.declared.send_fault.SendFault.{SendFault}
 use Rattle.ws_session.specs.declared.send_fault.SendFault.TheVariants.{Over, Busy, NothingOpen, NotText, TooLong, BadCode, NoMemory}
 use Rattle.ws_session.specs.declared.status.Status.{Status}
@@ -15,8 +15,9 @@ use Rattle.ws_session.specs.Limits.{LimitsValue}
 use Rattle.ws_session.specs.Messages.{opcode_of, is_close, open_message_of}
 use Rattle.ws_session.specs.Events.{IsFaultOf}
 use Rattle.ws_session.specs.Replies.{has_close, under_key}
-use Rattle.ws_session.specs.Exchange.{SendingValue, SessionValue, HasExchanged, IsSendingOf, is_over, last_event, status_before_close, status_of}
-use Rattle.ws_session.specs.Sends.{Send, Begin, More, Ping, Pong, Close, frame_of, IsWrongWith, IsWrong, number_of_fault, IsRefusal, Sends}
+use Rattle.ws_session.specs.Exchange.{SessionValue, HasExchanged, IsSendingOf, is_over, last_event, status_before_close, status_of}
+use Rattle.ws_session.specs.Sends.{Send, Begin, More, Ping, Pong, Close, frame_of, send_of, IsWrongWith, IsWrong}
+use Rattle.ws_session.specs.Sends.{number_of_fault, IsRefusal, IsRefusedBy, Sends, HasSent}
 use Rattle.ws_session.specs.InnerSending.{IsFineWith, IsFirstWrongWith, IsSentWith}
 use Rattle.ws_session.proofs.Calls.{exchange_of}
 use Rattle.ws_session.proofs.OpenMessage.{open_snoc}
@@ -160,33 +161,12 @@ module _ (old : SessionValue) (sent : List Frame) (s : List ℕ) (ended : Bool) 
 
 -- ---- a call: the session by its fields, and as it is shown
 
-pub first_refusal : (v w : SessionValue) (sent : List Frame) (s : List ℕ) (ended : Bool) (send : Send) (fault : SendFault) → v ≡ w → HasExchanged w sent s ended → w.status ≡ status.Open
-    → ((opened : Option Message) → IsSendingOf opened v.sending → IsFirstWrongWith opened send fault) → IsRefusal sent w.status send fault
-first_refusal v w sent s ended send fault same h e wrong =
-    wrong_refusal w sent s ended h send fault e (wrong (open_message_of sent) (subst (λ (x : SessionValue). IsSendingOf (open_message_of sent) x.sending) (sym same) h.sending))
-
 -- the fact of the error that is answered
-pub of_error : {T E : Type 0} (P : E → Type 0) (e : E) (r : Result T E) → IsErrAnd r (λ x. x ≡ e) → P e → IfErr r P
+of_error : {T E : Type 0} (P : E → Type 0) (e : E) (r : Result T E) → IsErrAnd r (λ x. x ≡ e) → P e → IfErr r P
 of_error P e (Ok v) h p = tt
 of_error P e (Err x) h p = subst P (sym h) p
 
-pub last_refusal : (v w : SessionValue) (sent : List Frame) (s : List ℕ) (ended : Bool) (send : Send) (after : Option SendingValue) (fault : SendFault) → v ≡ w → HasExchanged w sent s ended → w.status ≡ status.Open
-    → ((opened : Option Message) → IsSendingOf opened v.sending → IsSentWith opened send after) → fault ≡ NoMemory → IsRefusal sent w.status send fault
-last_refusal v w sent s ended send after fault same h e fine is =
-    let with = fine (open_message_of sent) (subst (λ (x : SessionValue). IsSendingOf (open_message_of sent) x.sending) (sym same) h.sending) in
-    memory_refusal w sent s ended h send fault e with.fine is
-
-pub data_sent : (v w new : SessionValue) (sent : List Frame) (s : List ℕ) (ended : Bool) (send : Send) (frame : Frame) (key before after : List ℕ) → v ≡ w → HasExchanged w sent s ended → w.status ≡ status.Open
-    → ((opened : Option Message) → IsSendingOf opened v.sending → IsSentWith opened send new.sending) → frame ≡ frame_of send → status_sent send ≡ status.Open
-    → (after ≡ before ++ frame_bytes (under_key w.role key frame)) × FitsTheLayout (under_key w.role key frame)
-    → new.role ≡ v.role → new.limits ≡ v.limits → new.opened ≡ v.opened → new.partial_frame ≡ v.partial_frame → new.status ≡ v.status → Sends w new (exchange_of sent s ended) send key before after
-data_sent v w new sent s ended send frame key before after same h e fine is stays put role limits opened rest status =
-    let with = fine (open_message_of sent) (subst (λ (x : SessionValue). IsSendingOf (open_message_of sent) x.sending) (sym same) h.sending) in
-    let put_here = subst (λ (f : Frame). (after ≡ before ++ frame_bytes (under_key w.role key f)) × FitsTheLayout (under_key w.role key f)) is put in
-    send_done w sent s ended h new send key before after e with put_here.1 put_here.0 (role ∙ ap (λ (x : SessionValue). x.role) same) (limits ∙ ap (λ (x : SessionValue). x.limits) same)
-    (opened ∙ ap (λ (x : SessionValue). x.opened) same) (rest ∙ ap (λ (x : SessionValue). x.partial_frame) same) (status ∙ ap (λ (x : SessionValue). x.status) same ∙ e ∙ sym stays)
-
-ping_fine : (opened : Option Message) (payload : List ℕ) → length payload ≤ 125 → IsFineWith opened (Ping payload)
+pub ping_fine : (opened : Option Message) (payload : List ℕ) → length payload ≤ 125 → IsFineWith opened (Ping payload)
 ping_fine opened payload short Over a = a
 ping_fine opened payload short Busy a = a
 ping_fine opened payload short NothingOpen a = a
@@ -195,7 +175,7 @@ ping_fine opened payload short TooLong a = omega (arith, a, short)
 ping_fine opened payload short BadCode a = a
 ping_fine opened payload short NoMemory a = a
 
-pong_fine : (opened : Option Message) (payload : List ℕ) → length payload ≤ 125 → IsFineWith opened (Pong payload)
+pub pong_fine : (opened : Option Message) (payload : List ℕ) → length payload ≤ 125 → IsFineWith opened (Pong payload)
 pong_fine opened payload short Over a = a
 pong_fine opened payload short Busy a = a
 pong_fine opened payload short NothingOpen a = a
@@ -204,44 +184,60 @@ pong_fine opened payload short TooLong a = omega (arith, a, short)
 pong_fine opened payload short BadCode a = a
 pong_fine opened payload short NoMemory a = a
 
-pub ping_sent : (w : SessionValue) (sent : List Frame) (s : List ℕ) (ended : Bool) (payload key before after : List ℕ) → HasExchanged w sent s ended → w.status ≡ status.Open → length payload ≤ 125
-    → (after ≡ before ++ frame_bytes (under_key w.role key (frame_of (Ping payload)))) × FitsTheLayout (under_key w.role key (frame_of (Ping payload))) → Sends w w (exchange_of sent s ended) (Ping payload) key before after
-ping_sent w sent s ended payload key before after h e short put =
-    send_done w sent s ended h w (Ping payload) key before after e (record { fine = ping_fine (open_message_of sent) payload short; sending = h.sending }) put.1 put.0 refl refl refl refl e
-
-pub pong_sent : (w : SessionValue) (sent : List Frame) (s : List ℕ) (ended : Bool) (payload key before after : List ℕ) → HasExchanged w sent s ended → w.status ≡ status.Open → length payload ≤ 125
-    → (after ≡ before ++ frame_bytes (under_key w.role key (frame_of (Pong payload)))) × FitsTheLayout (under_key w.role key (frame_of (Pong payload))) → Sends w w (exchange_of sent s ended) (Pong payload) key before after
-pong_sent w sent s ended payload key before after h e short put =
-    send_done w sent s ended h w (Pong payload) key before after e (record { fine = pong_fine (open_message_of sent) payload short; sending = h.sending }) put.1 put.0 refl refl refl refl e
-
-pub close_sent : (v w new : SessionValue) (sent : List Frame) (s : List ℕ) (ended : Bool) (given : Option CloseValue) (frame : Frame) (key before after : List ℕ) → v ≡ w → HasExchanged w sent s ended → w.status ≡ status.Open
-    → ((opened : Option Message) → IsFineWith opened (Close given)) → frame ≡ frame_of (Close given)
-    → (after ≡ before ++ frame_bytes (under_key w.role key frame)) × FitsTheLayout (under_key w.role key frame)
-    → new.role ≡ v.role → new.limits ≡ v.limits → new.opened ≡ v.opened → new.partial_frame ≡ v.partial_frame → new.sending ≡ v.sending → new.status ≡ status.Closing → Sends w new (exchange_of sent s ended) (Close given) key before after
-close_sent v w new sent s ended given frame key before after same h e fine is put role limits opened rest sending status =
-    let put_here = subst (λ (f : Frame). (after ≡ before ++ frame_bytes (under_key w.role key f)) × FitsTheLayout (under_key w.role key f)) is put in
-    let kept : new.sending ≡ w.sending = sending ∙ ap (λ (x : SessionValue). x.sending) same in
-    send_done w sent s ended h new (Close given) key before after e (record { fine = fine (open_message_of sent); sending = subst (λ (o : Option SendingValue). IsSendingOf (open_message_of sent) o) (sym kept) h.sending })
-    put_here.1 put_here.0 (role ∙ ap (λ (x : SessionValue). x.role) same) (limits ∙ ap (λ (x : SessionValue). x.limits) same) (opened ∙ ap (λ (x : SessionValue). x.opened) same) (rest ∙ ap (λ (x : SessionValue). x.partial_frame) same) status
-
-pub empty_close_fine : (opened : Option Message) → IsFineWith opened (Close None)
-empty_close_fine opened Over a = a
-empty_close_fine opened Busy a = a
-empty_close_fine opened NothingOpen a = a
-empty_close_fine opened NotText a = a
-empty_close_fine opened TooLong a = a
-empty_close_fine opened BadCode a = a
-empty_close_fine opened NoMemory a = a
-
--- the code's two bytes, and the reason
-pub close_bytes : (code : ℕ) (reason two text payload all : List ℕ) → code < 65536 → two ≡ (code / 256 % 256) ∷ (code % 256) ∷ [] → text ≡ reason → payload ≡ two ++ text → all ≡ payload → all ≡ close_payload (Some (record { code = code; reason = reason }))
-close_bytes code reason two text payload all small a b d e =
-    let high : code / 256 % 256 ≡ code / 256 = omega arith in
-    e ∙ d ∙ ap (λ (l : List ℕ). l ++ text) a ∙ ap (λ (l : List ℕ). (code / 256 % 256) ∷ (code % 256) ∷ l) b ∙ ap (λ n. n ∷ (code % 256) ∷ reason) high
-
 make_frame : Bool → ℕ → List ℕ → Frame
 make_frame fin opcode payload = record { fin = fin; rsv = 0; opcode = opcode; payload = payload }
 
-pub begin_frame : (kind : Kind) (payload : List ℕ) (fin : Bool) (opcode : ℕ) → opcode ≡ opcode_of kind → (let frame : Frame = record { fin = fin; rsv = 0; opcode = opcode; payload = payload } in frame ≡ frame_of (Begin kind payload fin))
+pub begin_frame : (kind : Kind) (payload : List ℕ) (fin : Bool) (opcode : ℕ) → opcode ≡ opcode_of kind
+    → (let frame : Frame = record { fin = fin; rsv = 0; opcode = opcode; payload = payload }
+    in frame ≡ frame_of (Begin kind payload fin))
 unfolding make_frame
 begin_frame kind payload fin opcode e = ap (λ n. make_frame fin n payload) e
+
+-- `v` is the session by its fields and `w` as it is shown; it is open, and `frame` asks for this send
+module _ (v w : SessionValue) (same : v ≡ w) (e : w.status ≡ status.Open) (frame : Outgoing) (send : Send)
+    (is : send_of frame ≡ send) where
+  -- what is kept is of the message that is open
+  kept_of : (sent : List Frame) (s : List ℕ) (ended : Bool) → HasExchanged w sent s ended
+      → IsSendingOf (open_message_of sent) v.sending
+  kept_of sent s ended h =
+      subst (λ (x : SessionValue). IsSendingOf (open_message_of sent) x.sending) (sym same) h.sending
+
+  -- the send itself is refused
+  pub first_refusal : {T : Type 0} (fault : SendFault) (r : Result T SendFault) → IsErrAnd r (λ x. x ≡ fault)
+      → ((opened : Option Message) → IsSendingOf opened v.sending → IsFirstWrongWith opened send fault)
+      → IfErr r (IsRefusedBy w (send_of frame))
+  first_refusal fault r err wrong =
+      let refusal : IsRefusedBy w send fault = λ exchange h.
+      wrong_refusal w exchange.sent exchange.taken exchange.ended h send fault e
+      (wrong (open_message_of exchange.sent) (kept_of exchange.sent exchange.taken exchange.ended h)) in
+      of_error (IsRefusedBy w (send_of frame)) fault r err
+      (subst (λ (x : Send). IsRefusedBy w x fault) (sym is) refusal)
+
+  -- nothing is wrong with it, and memory was refused
+  pub last_refusal : {T : Type 0} (fault : SendFault) (r : Result T SendFault) → IsErrAnd r (λ x. x ≡ fault)
+      → ((opened : Option Message) → IsSendingOf opened v.sending → IsFineWith opened send) → fault ≡ NoMemory
+      → IfErr r (IsRefusedBy w (send_of frame))
+  last_refusal fault r err fine memory =
+      let refusal : IsRefusedBy w send fault = λ exchange h.
+      memory_refusal w exchange.sent exchange.taken exchange.ended h send fault e
+      (fine (open_message_of exchange.sent) (kept_of exchange.sent exchange.taken exchange.ended h)) memory in
+      of_error (IsRefusedBy w (send_of frame)) fault r err
+      (subst (λ (x : Send). IsRefusedBy w x fault) (sym is) refusal)
+
+  -- its frame is put, and what is kept of the open message and the status are as they are to be
+  pub frame_sent : (new : SessionValue) (f : Frame) (key before after : List ℕ)
+      → ((opened : Option Message) → IsSendingOf opened v.sending → IsSentWith opened send new.sending)
+      → f ≡ frame_of send
+      → (after ≡ before ++ frame_bytes (under_key w.role key f)) × FitsTheLayout (under_key w.role key f)
+      → new.role ≡ v.role → new.limits ≡ v.limits → new.opened ≡ v.opened → new.partial_frame ≡ v.partial_frame
+      → new.status ≡ status_sent send → HasSent w new (send_of frame) key before after
+  frame_sent new f key before after with f_is put role limits opened rest status =
+      let put_here = subst (λ (f : Frame). (after ≡ before ++ frame_bytes (under_key w.role key f))
+      × FitsTheLayout (under_key w.role key f)) f_is put in
+      let done : HasSent w new send key before after = λ exchange h.
+      send_done w exchange.sent exchange.taken exchange.ended h new send key before after e
+      (with (open_message_of exchange.sent) (kept_of exchange.sent exchange.taken exchange.ended h))
+      put_here.1 put_here.0 (role ∙ ap (λ (x : SessionValue). x.role) same)
+      (limits ∙ ap (λ (x : SessionValue). x.limits) same) (opened ∙ ap (λ (x : SessionValue). x.opened) same)
+      (rest ∙ ap (λ (x : SessionValue). x.partial_frame) same) status in
+      subst (λ (x : Send). HasSent w new x key before after) (sym is) done

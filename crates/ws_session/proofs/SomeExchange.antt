@@ -1,6 +1,6 @@
 -- A session that agrees with some exchange does so after each call.
 use Rattle.std.proofs.Common.{◌≡◌, ℕ, Bool, true, false, List, [], ◌∷◌, ◌++◌, take, Option, Some, None, refl, sym, ap, ◌∙◌, subst}
-use Rattle.std.specs.Prelude.{option_to_list}
+use Rattle.std.specs.Prelude.{option_to_list, Result, Ok, Err, IfOk, IsOkAnd, OnErr}
 use Rattle.ws_wire.specs.Frame.{Frame}
 use Rattle.ws_session.specs.declared.event.Event.{Event}
 use Rattle.ws_session.specs.declared.event.Event.TheVariants as event
@@ -9,7 +9,7 @@ use Rattle.ws_session.specs.declared.status.Status.{Status}
 use Rattle.ws_session.specs.declared.status.Status.TheVariants as status
 use Rattle.ws_session.specs.Replies.{replies_by}
 use Rattle.ws_session.specs.Exchange.{SessionValue, HasExchanged, HasSomeExchange, is_over, last_event, status_after}
-use Rattle.ws_session.specs.Taking.{TakeCall, HasTaken}
+use Rattle.ws_session.specs.Taking.{TakeCall, HasTaken, TakesNothing}
 use Rattle.ws_session.specs.Sends.{Send, HasSent, frame_of}
 use Rattle.ws_session.proofs.Calls.{exchange_of}
 use Rattle.ws_session.proofs.Over.{ended_is_over}
@@ -35,6 +35,14 @@ module _ (old new : SessionValue) where
 
   pub after_take : (reply : Event → List Frame) (call : TakeCall) (taken : Taken) → HasSomeExchange old → HasTaken reply old new call taken → (is_over old.status ≡ true → new ≡ old) → HasSomeExchange new
   after_take reply call taken some takes over = taken_by_end reply call taken some.0.sent some.0.taken some.0.ended some.1 takes over
+
+  -- whatever the call answers
+  pub after_takes : {E : Type 0} (r : Result Taken E) (reply : Event → List Frame) (call : TakeCall) (put : Type 0)
+      → HasSomeExchange old → IfOk r (HasTaken reply old new call)
+      → (is_over old.status ≡ true → IsOkAnd r (TakesNothing old new call)) → OnErr r ((new ≡ old) × put)
+      → HasSomeExchange new
+  after_takes (Ok taken) reply call put some takes over kept = after_take reply call taken some takes (λ o. let nothing = over o in nothing.unchanged)
+  after_takes (Err refused) reply call put some takes over kept = unchanged kept.0 some
 
   pub after_send : (send : Send) (key before after : List ℕ) → HasSomeExchange old → HasSent old new send key before after → HasSomeExchange new
   after_send send key before after some sends =

@@ -9,13 +9,13 @@ use Rattle.ws_session.specs.Events.{through_close, ending_before}
 use Rattle.ws_session.specs.InnerNextFrame.{AreSent, BeginsNoFrame}
 
 -- a stream's frames are the first of those of a longer one
-pub record GoesOn (xs ys : List KeyedFrame) (a b : List ℕ) : Type 0 where
+pub record FrameGoesOn (xs ys : List KeyedFrame) (a b : List ℕ) : Type 0 where
   pub later : List KeyedFrame
   pub sent : AreSent later
   pub frames : ys ≡ xs ++ later
   pub bytes : a ≡ stream_bytes later ++ b
 
-pub goes_on : (xs ys : List KeyedFrame) (a b : List ℕ) → AreSent xs → AreSent ys → BeginsNoFrame b → stream_bytes xs ++ a ≡ stream_bytes ys ++ b → GoesOn xs ys a b
+pub goes_on : (xs ys : List KeyedFrame) (a b : List ℕ) → AreSent xs → AreSent ys → BeginsNoFrame b → stream_bytes xs ++ a ≡ stream_bytes ys ++ b → FrameGoesOn xs ys a b
 goes_on [] ys a b cx cy nb e = record { later = ys; sent = cy; frames = refl; bytes = e }
 goes_on (x ∷ xs) [] a b cx cy nb e = absurd (nb x (stream_bytes xs ++ a) cx.0 (sym e ∙ append_assoc (frame_bytes x) (stream_bytes xs) a))
 goes_on (x ∷ xs) (y ∷ ys) a b cx cy nb e =

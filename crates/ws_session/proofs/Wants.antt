@@ -1,6 +1,6 @@
 -- When a call that takes bytes may want memory.
 use Rattle.std.proofs.Common.{◌≡◌, ℕ, ◌+◌, ◌-◌, ◌<◌, ◌≤◌, false, List, [], ◌∷◌, ◌++◌, length, take, drop, Option, Some, None, refl, sym, ap, ◌∙◌, append_assoc, arith, inl, inr, subst}
-use Rattle.std.specs.Prelude.{option_to_list, Result, Ok, Err, OnErr}
+use Rattle.std.specs.Prelude.{option_to_list, Result, Ok, Err, IfOk, OnErr}
 use Rattle.std.proofs.lemmas.Bool.{cases_lt}
 use Rattle.std.proofs.lemmas.List.{length-append, append-nil, take-append-drop, length-take, length-take-le, length-drop, take-take, take_all, drop_all}
 use Rattle.std.proofs.Math.Seq.{take-append-add}
@@ -31,6 +31,22 @@ use Rattle.ws_session.proofs.Statuses.{IsGoingOn, is_going_on}
 pub on_err : {T E : Type 0} (r : Result T E) (P : Type 0) → P → OnErr r P
 on_err (Ok x) P p = tt
 on_err (Err e) P p = p
+
+-- what follows for each answer follows for the call
+pub ok_so : {T E : Type 0} (r : Result T E) (P Q R : T → Type 0) → ((x : T) → P x → Q x → R x) → IfOk r P → IfOk r Q
+    → IfOk r R
+ok_so (Ok x) P Q R follows p q = follows x p q
+ok_so (Err e) P Q R follows p q = tt
+
+pub ok_is : {T E : Type 0} (r : Result T E) (x : T) (P : T → Type 0) → r ≡ Ok x → IfOk r P → P x
+ok_is r x P is p = subst (λ y. IfOk y P) is p
+
+pub is_ok : {T E : Type 0} (r : Result T E) (x : T) (P : T → Type 0) → r ≡ Ok x → P x → IfOk r P
+is_ok r x P is p = subst (λ y. IfOk y P) (sym is) p
+
+pub err_so : {T E : Type 0} (r : Result T E) (P Q : Type 0) → (P → Q) → OnErr r P → OnErr r Q
+err_so (Ok x) P Q follows p = tt
+err_so (Err e) P Q follows p = follows p
 
 -- ---- a data frame of whose payload nothing has come
 

@@ -8,6 +8,7 @@ use Rattle.ws_session.specs.declared.message.Kind.{Kind}
 use Rattle.ws_session.specs.declared.message.Message.{Message}
 use Rattle.ws_session.specs.declared.event.Event.{Event}
 use Rattle.ws_session.specs.declared.event.Event.TheVariants as event
+use Rattle.ws_session.specs.declared.event.Taken.{Taken}
 use Rattle.ws_session.specs.declared.status.Status.{Status}
 use Rattle.ws_session.specs.declared.replying.Replying.{Replying}
 use Rattle.ws_session.specs.declared.receiver.under_way.UnderWay.{UnderWay}
@@ -24,7 +25,7 @@ use Rattle.ws_session.specs.InnerReceiving.{AssemblyValue, partial_of, came_of, 
 use Rattle.ws_session.specs.InnerReplying.{bytes_put}
 
 -- what contracts see: the open message, the bytes of the frame under way as they came, all payload bytes that are kept,
--- how many of its payload are of the frame under way, and the stream that reads them
+-- how many of its payload are of the frame under way, the stream that reads them, and what is kept of that frame
 pub record ReceiverValue : Type 0 where
   pub role : Role
   pub limits : LimitsValue
@@ -33,6 +34,7 @@ pub record ReceiverValue : Type 0 where
   pub assembled : List ℕ
   pub came : ℕ
   pub text : Option (List ℕ)
+  pub frame : UnderWay
 
 abbrev pub receiver_of : Role → LimitsValue → AssemblyValue → UnderWay → ReceiverValue
 receiver_of role limits a frame = record {
@@ -43,7 +45,12 @@ receiver_of role limits a frame = record {
   assembled = a.payload;
   came = came_of frame;
   text = a.text;
+  frame = frame;
 }
+
+-- its assembly
+abbrev pub assembly_of : ReceiverValue → AssemblyValue
+assembly_of v = record { opened = v.opened; payload = v.assembled; text = v.text }
 
 -- what is shown is a part of one frame and a message within the limits, and what is kept has at most the bytes of one
 -- message
@@ -77,12 +84,6 @@ length_so_far (under_way.Control header payload) = length (header_bytes header) 
 abbrev pub HasRoom : UnderWay → Type 0
 HasRoom frame = length_so_far frame < 2 ^ 64
 
--- so many more bytes of its payload have come, where it is a data frame
-abbrev pub after_more : UnderWay → ℕ → UnderWay
-after_more (under_way.Header bytes) more = under_way.Header bytes
-after_more (under_way.Data header came) more = under_way.Data header (came + more)
-after_more (under_way.Control header payload) more = under_way.Control header payload
-
 -- ---- a session with this receiving side
 
 abbrev pub session_with : ReceiverValue → Option SendingValue → Status → SessionValue
@@ -100,6 +101,10 @@ session_with v sending status = record {
 abbrev pub status_by : Status → Option Event → Status
 status_by status None = status
 status_by status (Some e) = status_with status e
+
+-- so many bytes were taken, and this event is told of them
+abbrev pub telling : ℕ → Event → Taken
+telling used e = record { used = used; event = Some e }
 
 -- ---- a whole frame
 

@@ -1,6 +1,6 @@
 -- Inside the crate: the frame under way as it is kept, and what the check of more bytes of it answers, for contracts of
 -- private functions. A reader may skip this file.
-use Rattle.std.specs.Prelude.{◌≡◌, ℕ, ◌+◌, ◌-◌, ◌≤◌, ◌<◌, true, false, List, ◌++◌, length, take, drop, Option}
+use Rattle.std.specs.Prelude.{◌≡◌, ℕ, ◌+◌, ◌-◌, ◌≤◌, ◌<◌, true, false, List, [], ◌++◌, length, take, drop, Option}
 use Rattle.std.specs.Prelude.{Some, None, Result, Ok, Err}
 use Rattle.ws_wire.specs.declared.role.Role.{Role}
 use Rattle.ws_wire.specs.Header.{HeaderFields, IsHeader, AreBytes, header_bytes}
@@ -17,8 +17,10 @@ use Rattle.ws_session.specs.declared.receiver.frame_check.Content.{Content}
 use Rattle.ws_session.specs.declared.receiver.frame_check.Content.TheVariants as content
 use Rattle.ws_session.specs.declared.receiver.frame_check.FrameCheck.{FrameCheck}
 use Rattle.ws_session.specs.declared.receiver.frame_check.FrameCheck.TheVariants as check
+use Rattle.ws_session.specs.declared.receiver.frame_check.PieceCheck.{PieceCheck}
+use Rattle.ws_session.specs.declared.receiver.frame_check.PieceCheck.TheVariants as piece_check
 use Rattle.ws_session.specs.Limits.{LimitsValue}
-use Rattle.ws_session.specs.Messages.{is_control, kind_of}
+use Rattle.ws_session.specs.Messages.{is_control}
 use Rattle.ws_session.specs.Faults.{IsControl, IsOfText, open_payload}
 use Rattle.ws_session.specs.Events.{close_in}
 use Rattle.ws_session.specs.InnerMasked.{masked_from}
@@ -77,6 +79,12 @@ abbrev pub came_of : UnderWay → ℕ
 came_of (under_way.Header bytes) = 0
 came_of (under_way.Data header came) = came
 came_of (under_way.Control header payload) = 0
+
+-- its payload so far, where it is a control frame
+abbrev pub control_payload_of : UnderWay → List ℕ
+control_payload_of (under_way.Header bytes) = []
+control_payload_of (under_way.Data header came) = []
+control_payload_of (under_way.Control header payload) = payload
 
 -- nothing is kept but the open message and these
 abbrev pub IsExactly : AssemblyValue → UnderWay → Type 0
@@ -174,13 +182,16 @@ IsTextRead header a text = (IsOfText a.opened header → HasReadText text a.payl
 abbrev pub IsTextFault : HeaderFields → ℕ → AssemblyValue → Reason → ℕ → Type 0
 IsTextFault header came a reason count = IsFirstInPayload a.opened header (frame_payload a) (came + count) reason
 
--- what the payload makes of the frame where nothing is wrong: so many bytes of it have come
-abbrev pub IsWithoutFault : AssemblyValue → HeaderFields → ℕ → ℕ → Option (List ℕ) → FrameCheck → Type 0
-IsWithoutFault a header came used text (check.Need next same) = (came < header.len)
-    × (next ≡ under_way.Data header came) × (same ≡ text)
-IsWithoutFault a header came used text (check.Whole end x) = (header.len ≤ came) × (end ≡ used)
-    × (x ≡ content.Data header.fin (kind_with a.opened (kind_of header.opcode)) text)
-IsWithoutFault a header came used text (check.Fault reason place) = ⊥
+-- The same of a data frame, of which `came` bytes were kept before and the payload that is there ends with the `more`
+-- bytes after the first `start` of the piece: where it isn't whole the stream goes on with it, else it stays
+abbrev pub IsDataCheck : HeaderFields → ℕ → ℕ → ℕ → AssemblyValue → AssemblyValue → Option PieceCheck → Type 0
+IsDataCheck header came start more a b None =
+    IsPayloadCheck header came start b (frame_payload b) (check.Need (under_way.Data header (came + more)) b.text)
+IsDataCheck header came start more a b (Some (piece_check.Whole used fin kind text)) = (b.text ≡ a.text)
+    × IsPayloadCheck header came start b (frame_payload b) (check.Whole used (content.Data fin kind text))
+IsDataCheck header came start more a b (Some (piece_check.Control same place)) = ⊥
+IsDataCheck header came start more a b (Some (piece_check.Fault reason used)) = (b.text ≡ a.text)
+    × IsPayloadCheck header came start b (frame_payload b) (check.Fault reason used)
 
 -- what a whole payload makes of a control frame
 abbrev pub IsWholeControl : HeaderFields → ℕ → List ℕ → AssemblyValue → FrameCheck → Type 0
@@ -236,3 +247,47 @@ IsFrameCheck role limits a kept bytes (check.Whole used content) =
     IsWholeFrame role limits a bytes (kept + used) content
 IsFrameCheck role limits a kept bytes (check.Fault reason used) =
     IsFirstFaultOfNext role limits a.opened bytes (kept + used) reason
+
+-- ---- the piece
+
+-- after so many bytes of the piece its payload begins or goes on
+abbrev pub IsBehindHeader : UnderWay → List ℕ → HeaderFields → ℕ → Type 0
+IsBehindHeader (under_way.Header kept) piece header start = Begins header (length kept + start) (kept ++ piece)
+IsBehindHeader (under_way.Data same came) piece header start = ⊥
+IsBehindHeader (under_way.Control same payload) piece header start = (same ≡ header) × (start ≡ 0)
+
+-- what the piece has after its first bytes is for the payload of a control frame whose header breaks no rule
+pub record IsControlAt (role : Role) (limits : LimitsValue) (a : AssemblyValue) (frame : UnderWay) (piece : List ℕ)
+    (header : HeaderFields) (start : ℕ) : Type 0 where
+  pub within : start ≤ length piece
+  pub behind : IsBehindHeader frame piece header start
+  pub none : NoneAtHeader role limits a.opened header
+  pub control : IsControl header
+  pub came : length (control_payload_of frame) ≤ header.len
+
+-- what shows of the frame under way is as it was
+abbrev pub ShowsTheSame : AssemblyValue → UnderWay → AssemblyValue → UnderWay → Type 0
+ShowsTheSame a frame b next = (next ≡ frame) × (partial_of b next ≡ partial_of a frame)
+
+-- What a piece makes of the frame under way: it goes on with the whole piece and is under way next; or it is whole, or
+-- its first fault is told, or the rest of the piece is for the payload of a control frame, and then nothing that shows
+-- has changed
+abbrev pub IsPieceCheck : Role → LimitsValue → AssemblyValue → UnderWay → AssemblyValue → UnderWay → List ℕ
+    → Option PieceCheck → Type 0
+IsPieceCheck role limits a frame b next piece None =
+    IsFrameCheck role limits b (length (partial_of a frame)) (partial_of a frame ++ piece) (check.Need next b.text)
+IsPieceCheck role limits a frame b next piece (Some (piece_check.Whole used fin kind text)) =
+    ShowsTheSame a frame b next × IsFrameCheck role limits b (length (partial_of a frame)) (partial_of a frame ++ piece)
+    (check.Whole used (content.Data fin kind text))
+IsPieceCheck role limits a frame b next piece (Some (piece_check.Control header start)) =
+    (b ≡ a) × (next ≡ frame) × IsControlAt role limits a frame piece header start
+IsPieceCheck role limits a frame b next piece (Some (piece_check.Fault reason used)) =
+    ShowsTheSame a frame b next × IsFrameCheck role limits b (length (partial_of a frame)) (partial_of a frame ++ piece)
+    (check.Fault reason used)
+
+-- where the frame isn't whole and nothing is wrong no more is kept than the open message and what is under way next
+abbrev pub IsExactPiece : AssemblyValue → UnderWay → Option PieceCheck → Type 0
+IsExactPiece b next None = IsExactly b next
+IsExactPiece b next (Some (piece_check.Whole used fin kind text)) = Unit {0}
+IsExactPiece b next (Some (piece_check.Control header start)) = IsExactly b next
+IsExactPiece b next (Some (piece_check.Fault reason used)) = Unit {0}

@@ -21,6 +21,7 @@ pub mod InnerMasked
 pub mod InnerReceiving
 pub mod InnerReplying
 pub mod InnerReceiver
+pub mod InnerTaking
 pub mod InnerInvariant
 pub mod InnerStanding
 pub mod InnerSending

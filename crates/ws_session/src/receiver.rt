@@ -3,19 +3,18 @@
 //! `take` checks a piece first. Then it puts what is owed, and last it changes what is shown: so want of memory leaves
 //! all as it was.
 
-ghost use Rattle.std.specs.Prelude.{◌≡◌, ◌+◌, ◌≤◌, ◌<◌, [], length, Option, None, true, false, IfOk, OnErr};
+ghost use Rattle.std.specs.Prelude.{◌≡◌, ◌+◌, ◌≤◌, [], length, None, true, false, IfOk, OnErr};
 ghost use Rattle.ws_session.specs.Limits.{most_beside};
 ghost use Rattle.ws_session.specs.Faults.{open_payload};
-ghost use Rattle.ws_session.specs.Exchange.{SendingValue, is_over};
-ghost use Rattle.ws_session.specs.Taking.{HasTaken};
-ghost use Rattle.ws_session.specs.Memory.{WantsMemory};
-ghost use Rattle.ws_session.specs.InnerInvariant.{CanAnswer, reply_by};
-ghost use Rattle.ws_session.specs.InnerReceiver.{IsSoundReceiver, IsExact, session_with, status_by};
+ghost use Rattle.ws_session.specs.declared.replying.Replying.{Replying};
+ghost use Rattle.ws_session.specs.Exchange.{is_over};
+ghost use Rattle.ws_session.specs.InnerReceiver.{IsSoundReceiver, IsExact, IsOwed, status_by};
+ghost use Rattle.ws_session.specs.InnerTaking.{Receives, WantsRoom};
 
 mod assembly;
 mod checking;
 mod control_frame;
-mod data_frame;
+mod control_taking;
 mod data_payload;
 mod doomed;
 mod frame_check;
@@ -23,19 +22,19 @@ mod frame_end;
 mod header_end;
 mod header_kind;
 mod header_rules;
-mod inside;
 mod least_header;
 mod quiet;
 mod under_way;
 
-use crate::control_payload::Small;
 use crate::event::Taken;
 use crate::limits::Limits;
 use crate::receiver::assembly::Assembly;
 use crate::receiver::checking::check_piece;
-use crate::receiver::frame_check::FrameCheck;
+use crate::receiver::frame_check::PieceCheck;
 use crate::receiver::under_way::{UnderWay, nothing};
 use crate::replying::Replying;
+use crate::session::Answering;
+use crate::status::Status;
 use std::alloc::Global;
 use std::marker::Model;
 use ws_base::NoMemory;
@@ -108,7 +107,7 @@ impl Receiver {
         ensures exact { IsExact self.new }
     {
         self.assembly.clear();
-        self.frame = nothing();
+        self.frame.end();
     }
 
     /// Cuts off what a call that wasn't carried out put into the assembly: nothing is kept but the open message and the
@@ -127,110 +126,58 @@ impl Receiver {
     }
 
     /// Takes bytes from the front of a piece, up to the end of one frame or to a fault, and puts what is owed for that
-    /// at the end of `out`. `NoMemory` leaves all as it was.
+    /// at the end of `out`. `NoMemory` leaves all that shows as it was.
     pub(crate) fn take(
         &mut self,
-        replying: &Replying,
+        status: &Status,
+        answering: Answering,
         piece: &[u8],
+        key: [u8; 4],
         out: &mut Vec<u8>,
     ) -> Result<Taken, NoMemory>
-        requires role { replying.now.role ≡ self.old.role }
-        requires going { is_over replying.now.status ≡ false }
         requires exact { IsExact self.old }
-        ensures taken { (sending : Option SendingValue) → CanAnswer replying.now.answering sending
-            → IfOk result (λ taken. HasTaken (reply_by replying.now.answering)
-            (session_with self.old sending replying.now.status)
-            (session_with self.new sending (status_by replying.now.status taken.event))
-            (record { piece = piece.now; key = replying.now.key; before = out.old.items; after = out.new.items })
-            taken) }
-
-        // At least one byte is used where there is one.
-        ensures used { IfOk result (λ taken. (0 < length piece.now → 0 < taken.used)
-            × (taken.used ≤ length piece.now)) }
+        ensures takes { let replying : Replying
+            = record { role = self.old.role; status = status.now; answering = answering; key = key }
+            in IfOk result (Receives replying self.old self.new piece.now out.old.items out.new.items) }
         ensures sound { IsSoundReceiver self.new }
         ensures exact { IfOk result (λ taken. IsExact self.new) }
         ensures role { self.new.role ≡ self.old.role }
         ensures limits { self.new.limits ≡ self.old.limits }
-        ensures over { IfOk result (λ taken. is_over (status_by replying.now.status taken.event) ≡ true →
-            (self.new.opened ≡ None) × (self.new.partial_frame ≡ [])) }
+        ensures over { IfOk result (λ taken. is_over status.now ≡ false → is_over (status_by status.now taken.event) ≡ true
+            → (self.new.opened ≡ None) × (self.new.partial_frame ≡ [])) }
         ensures kept { OnErr result ((self.new.opened ≡ self.old.opened)
             × (self.new.partial_frame ≡ self.old.partial_frame) × (out.new.items ≡ out.old.items)) }
         ensures came { OnErr result (self.new.came ≡ self.old.came) }
-        ensures memory { (sending : Option SendingValue) → CanAnswer replying.now.answering sending
-            → OnErr result (WantsMemory (reply_by replying.now.answering)
-            (session_with self.old sending replying.now.status) piece.now) }
-    {
-        if let Some(taken) = self.take_data_frame(replying, piece, out)? {
-            return Ok(taken);
-        }
-        self.cut();
-        let taken = self.take_checked(replying, piece, out)?;
-        Ok(taken)
-    }
 
-    /// The same on the common way, whatever the piece holds.
-    fn take_checked(
-        &mut self,
-        replying: &Replying,
-        piece: &[u8],
-        out: &mut Vec<u8>,
-    ) -> Result<Taken, NoMemory>
-        requires role { replying.now.role ≡ self.old.role }
-        requires going { is_over replying.now.status ≡ false }
-        requires exact { IsExact self.old }
-        ensures taken { (sending : Option SendingValue) → CanAnswer replying.now.answering sending
-            → IfOk result (λ taken. HasTaken (reply_by replying.now.answering)
-            (session_with self.old sending replying.now.status)
-            (session_with self.new sending (status_by replying.now.status taken.event))
-            (record { piece = piece.now; key = replying.now.key; before = out.old.items; after = out.new.items })
-            taken) }
-
-        // At least one byte is used where there is one.
-        ensures used { IfOk result (λ taken. (0 < length piece.now → 0 < taken.used)
-            × (taken.used ≤ length piece.now)) }
-        ensures sound { IsSoundReceiver self.new }
-        ensures exact { IfOk result (λ taken. IsExact self.new) }
-        ensures role { self.new.role ≡ self.old.role }
-        ensures limits { self.new.limits ≡ self.old.limits }
-        ensures over { IfOk result (λ taken. is_over (status_by replying.now.status taken.event) ≡ true →
-            (self.new.opened ≡ None) × (self.new.partial_frame ≡ [])) }
-        ensures kept { OnErr result ((self.new.opened ≡ self.old.opened)
-            × (self.new.partial_frame ≡ self.old.partial_frame) × (out.new.items ≡ out.old.items)) }
-        ensures came { OnErr result (self.new.came ≡ self.old.came) }
-        ensures memory { (sending : Option SendingValue) → CanAnswer replying.now.answering sending
-            → OnErr result (WantsMemory (reply_by replying.now.answering)
-            (session_with self.old sending replying.now.status) piece.now) }
+        // Want of memory: a byte of the piece is of the payload of a data frame, or an answer is owed.
+        ensures wants { let replying : Replying
+            = record { role = self.old.role; status = status.now; answering = answering; key = key }
+            in OnErr result (WantsRoom (IsOwed replying) self.old piece.now) }
     {
-        let check = check_piece(
-            self.role,
-            self.limits,
-            &mut self.assembly,
-            &self.frame,
-            piece,
-        )?;
+        let (assembly, frame) = (&mut self.assembly, &mut self.frame);
+        let Some(check) = check_piece(self.role, &self.limits, assembly, frame, piece)? else {
+            return Ok(Taken {
+                used: piece.len(),
+                event: None,
+            });
+        };
+        let replying = Replying {
+            role: self.role,
+            status: *status,
+            answering,
+            key,
+        };
         match check {
-            FrameCheck::Need { next, text } => {
-                self.assembly.go_on(text);
-                self.frame = next;
-                Ok(Taken {
-                    used: piece.len(),
-                    event: None,
-                })
+            PieceCheck::Whole {
+                used,
+                fin,
+                kind,
+                text,
+            } => self.on_data(used, fin, kind, text, &replying, out),
+            PieceCheck::Control { header, start } => {
+                self.take_control(&header, start, piece, &replying, out)
             }
-            FrameCheck::Whole { used, content } => {
-                let event = self.on_content(content, replying, out)?;
-                Ok(Taken {
-                    used,
-                    event: Some(event),
-                })
-            }
-            FrameCheck::Fault { reason, used } => {
-                let event = self.on_fault(reason, replying, out)?;
-                Ok(Taken {
-                    used,
-                    event: Some(event),
-                })
-            }
+            PieceCheck::Fault { reason, used } => self.on_fault(used, reason, &replying, out),
         }
     }
 }

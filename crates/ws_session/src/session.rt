@@ -150,8 +150,7 @@ impl Session {
         // Memory is wanted where the bytes that would be used hold payload of a data frame, or an answer is owed.
         ensures memory { OnErr result (WantsMemory reply_to self.old piece.now) }
     {
-        let taken = self.take_by(Answering::Plain, piece, key, out)?;
-        Ok(taken)
+        self.take_by(Answering::Plain, piece, key, out)
     }
 
     /// Takes bytes as `take` does, and where it is echoing sends each message back.
@@ -175,7 +174,6 @@ impl Session {
         ensures kept { OnErr result ((self.new ≡ self.old) × (out.new.items ≡ out.old.items)) }
         ensures memory { OnErr result (WantsMemory (reply_by answering) self.old piece.now) }
     {
-        let taken = self.state.take_by(answering, piece, key, out)?;
-        Ok(taken)
+        self.state.take_by(answering, piece, key, out)
     }
 }

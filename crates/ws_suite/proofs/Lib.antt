@@ -1,3 +1,4 @@
+-- The lemmas behind verdicts: a transcript's evidence, the replies in it, its one verdict, and that an echo passes.
 mod EvidenceLemmas
 mod TurnsCollected
 mod JudgeLemmas

@@ -1,3 +1,4 @@
+-- The lemmas behind a sweep: the numbers of short scripts follow their order, and each of these scripts can be run.
 pub mod Numbers
 pub mod OrderLaws
 pub mod Sending

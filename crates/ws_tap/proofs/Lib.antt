@@ -1,4 +1,4 @@
-pub mod Rooms
+-- The lemmas behind a tap: what it passes on, the heads it finds, the lines of both ends, and what a run has told.
 pub mod FirstLines
 pub mod Passing
 pub mod HeadLemmas

@@ -9,7 +9,7 @@ ghost use Rattle.ws_tap.specs.Texts.{NotYet};
 ghost use Rattle.ws_tap.specs.Standing.{HasToldClient, HasRoomAtClient, CanEndClient, TellsClient, EndsClient};
 ghost use Rattle.ws_tap.specs.Standing.{HearsAnswer, KeepsLines, new_sent};
 
-use crate::head_room::HeadRoom;
+use crate::head_room::{HeadRoom, look_for_head};
 use crate::heads::HeadKind;
 use crate::kept_lines::KeptLines;
 use crate::server_lines::Answer;
@@ -71,7 +71,7 @@ impl ClientLines {
     {
         match &mut self.stage {
             ClientStage::Head(room) => {
-                let Some(found) = room.take(HeadKind::Request, self.number, piece) else {
+                let Some(found) = look_for_head(room, HeadKind::Request, self.number, piece) else {
                     return Ok(piece.len());
                 };
                 self.stage = ClientStage::Frames(StreamLines::new(Source {

@@ -7,7 +7,7 @@ ghost use Rattle.ws_frame.specs.Devices.{watched};
 ghost use Rattle.ws_tap.specs.Standing.{HasToldServer, HasRoomAtServer, CanEndServer, TellsServer, EndsServer};
 ghost use Rattle.ws_tap.specs.Standing.{StandsBehindResponse, Answers, new_sent};
 
-use crate::head_room::HeadRoom;
+use crate::head_room::{HeadRoom, look_for_head};
 use crate::heads::HeadKind;
 use std::io::Write;
 use ws_frame::{Mark, Role, Source, StreamLines, Watched, WriteFault, write_whole};
@@ -68,7 +68,7 @@ impl ServerLines {
     {
         match &mut self.stage {
             ServerStage::Head(room) => {
-                let Some(found) = room.take(HeadKind::Response, self.number, piece) else {
+                let Some(found) = look_for_head(room, HeadKind::Response, self.number, piece) else {
                     return Ok(piece.len());
                 };
                 self.stage = stage_behind(self.number, found.head.status);

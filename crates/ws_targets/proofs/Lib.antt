@@ -1,2 +1,3 @@
+-- The lemmas behind targets: an authority is cut in one way, and a word names one target.
 mod Cuts
 mod Reading

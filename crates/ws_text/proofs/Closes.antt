@@ -1,27 +1,15 @@
--- Close payloads, and a close kept in place.
-use Rattle.std.proofs.Common.{◌≡◌, ℕ, ◌+◌, ◌-◌, ◌*◌, ◌/◌, ◌%◌, ◌<◌, ◌≤◌, List, [], ◌∷◌, ◌++◌, length, take, drop, replicate, get_or, refl, sym, ap, ◌∙◌, arith, inl, inr, subst, Option, None, Some, Result, Ok, Err}
+-- Close payloads.
+use Rattle.std.proofs.Common.{◌≡◌, ℕ, ◌+◌, ◌-◌, ◌*◌, ◌/◌, ◌%◌, ◌<◌, ◌≤◌, List, [], ◌∷◌, length, take, drop, get_or, refl, sym, ap, ◌∙◌, arith, inl, inr, subst, Option, None, Some, Result, Ok, Err}
 use Rattle.std.specs.Prelude.{IsOk, MatchResult}
 use Rattle.std.proofs.lemmas.Bool.{cases_lt}
-use Rattle.std.proofs.lemmas.List.{length-append, length-replicate, take_at, take_rest}
+use Rattle.std.proofs.lemmas.List.{take_rest}
 use Rattle.ws_text.specs.Text.{IsText}
-use Rattle.ws_text.specs.Close.{CloseValue, CodeAllowed, CodeMayBegin, CanBeSaid, close_payload, IsClosePayload, HoldsCode}
-use Rattle.ws_text.specs.InnerKept.{IsPadded}
+use Rattle.ws_text.specs.Close.{CloseValue, CodeMayBegin, close_payload, IsClosePayload, HoldsCode}
 
 -- where the only error says that U fails, U leaves none
 pub is_ok_of : {T E U : Type 0} (r : Result T E) (P : T → Type 0) (Q : E → Type 0) → MatchResult r P (λ e. (¬ U) × Q e) → U → IsOk r
 is_ok_of (Ok x) P Q h u = refl
 is_ok_of (Err e) P Q h u = absurd (h.0 u)
-
--- ---- kept in place
-
-pub kept : (code : ℕ) (reason bytes : List ℕ) → CodeAllowed code → length reason ≤ 123 → IsText reason → bytes ≡ reason ++ replicate (123 - length reason) 0
-    → CanBeSaid (record { code = code; reason = take (length reason) bytes }) × IsPadded bytes (length reason)
-kept code reason bytes allowed short text e =
-    let front : take (length reason) bytes ≡ reason = ap (λ (l : List ℕ). take (length reason) l) e ∙ take_at reason (replicate (123 - length reason) 0) (length reason) refl in
-    let size : length bytes ≡ 123 = omega (arith, ap length e, length-append reason (replicate (123 - length reason) 0), length-replicate {A = ℕ} (123 - length reason) 0) in (
-      record { code = allowed; reason = subst (λ (l : List ℕ). IsText l) (sym front) text; short = subst (λ (l : List ℕ). length l ≤ 123) (sym front) short },
-      record { within = omega arith; size = size; zeros = ap (λ (l : List ℕ). l ++ replicate (123 - length reason) 0) front ∙ sym e },
-    )
 
 -- ---- a payload of two bytes and more
 

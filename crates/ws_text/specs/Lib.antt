@@ -3,5 +3,4 @@ pub mod Stream
 pub mod Close
 pub mod Words
 pub mod Examples
-pub mod InnerKept
 pub mod InnerStep

@@ -1,6 +1,6 @@
 //! Close codes and close payloads (RFC 6455 sections 5.5.1 and 7.4).
 
-ghost use Rattle.std.specs.Prelude.{◌≡◌, ◌↔◌, ◌-◌, ◌≤◌, ℕ, ◌++◌, length, replicate, Option, IsTrue, Ok, Some, IsErrOf};
+ghost use Rattle.std.specs.Prelude.{◌≡◌, ◌↔◌, ◌≤◌, length, Option, IsTrue, Ok, Some, IsErrOf};
 ghost use Rattle.ws_text.specs.Close.{CloseValue, CodeAllowed, CodeMayBegin, IsClosePayload, HasBadCode, HasBadReason};
 ghost use Rattle.ws_text.specs.Words.{close_fault_name};
 ghost use Rattle.ws_text.specs.declared.closing.TheConstants.{MAX_CONTROL_PAYLOAD, MAX_REASON};
@@ -9,6 +9,7 @@ ghost use Rattle.ws_text.specs.declared.closing.CloseFault.TheVariants.{OneByte,
 use std::error::Error;
 use std::fmt;
 use std::marker::Model;
+use ws_base::ShortBytes;
 
 /// The most payload bytes of a control frame (section 5.5).
 pub const MAX_CONTROL_PAYLOAD: usize = 125;
@@ -38,27 +39,19 @@ pub fn code_may_begin(high: u8) -> bool
 #[derive(Clone, Copy)]
 pub struct Close {
     code: u16,
-    bytes: [u8; MAX_REASON],
-    len: usize,
+    reason: ShortBytes<MAX_REASON>,
 }
 
 impl Model for Close {
-    ghost use Rattle.std.specs.Prelude.{◌-◌, ◌++◌, length, take, replicate};
     ghost use Rattle.ws_text.specs.Close.{CloseValue, CanBeSaid};
-    ghost use Rattle.ws_text.specs.InnerKept.{IsPadded};
 
     ghost Value = { CloseValue };
 
-    ghost view = { λ c. record { code = c.code; reason = take c.len c.bytes } };
+    ghost view = { λ c. record { code = c.code; reason = c.reason } };
 
-    ghost invariant = { λ c. CanBeSaid (record { code = c.code; reason = take c.len c.bytes })
-        × IsPadded c.bytes c.len };
+    ghost invariant = { λ c. CanBeSaid (record { code = c.code; reason = c.reason }) };
 
-    ghost inverse = { λ v. record {
-      code = v.code;
-      bytes = v.reason ++ replicate (123 - length v.reason) 0;
-      len = length v.reason;
-    } };
+    ghost inverse = { λ v. record { code = v.code; reason = v.reason } };
 }
 
 impl Close {
@@ -73,7 +66,7 @@ impl Close {
     pub fn reason(&self) -> &str
         ensures { result.now ≡ self.now.reason }
     {
-        std::str::from_utf8(&self.bytes[..self.len]).unwrap()
+        std::str::from_utf8(self.reason.as_slice()).unwrap()
     }
 
     /// A close of these two, kept in place.
@@ -83,8 +76,7 @@ impl Close {
     {
         Close {
             code,
-            bytes: padded(reason.as_bytes()),
-            len: reason.len(),
+            reason: ShortBytes::of(reason.as_bytes()),
         }
     }
 }
@@ -145,15 +137,4 @@ impl ClosePayload {
             }
         }
     }
-}
-
-/// The bytes of a reason, and zeros after them.
-fn padded(reason: &[u8]) -> [u8; MAX_REASON]
-    requires { length reason.now ≤ MAX_REASON }
-    ensures { result ≡ reason.now ++ replicate (MAX_REASON - length reason.now) 0 }
-{
-    let mut bytes = [0; MAX_REASON];
-    let (front, _) = bytes.split_at_mut(reason.len());
-    front.copy_from_slice(reason);
-    bytes
 }

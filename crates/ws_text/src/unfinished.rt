@@ -89,8 +89,6 @@ impl Unfinished {
     }
 
     /// Takes a piece: what is unfinished after it, or the place of the byte with which no text goes on.
-    /// A cut character is joined byte by byte, and so is one that the piece cuts; `simdutf8` checks
-    /// what lies between, unless all is a short piece of ASCII.
     pub(crate) fn push(self, piece: &[u8]) -> Result<Unfinished, usize>
         requires { IsUnfinished (kept_bytes self) }
         ensures unfinished { IfOk result (λ new. IsUnfinished (kept_bytes new)) }
@@ -101,6 +99,19 @@ impl Unfinished {
         if self.is_nothing() && is_short_ascii(piece) {
             return Ok(Unfinished::Nothing);
         }
+        self.push_any(piece)
+    }
+
+    /// The same of any piece: a cut character is joined byte by byte, and so is one that the piece cuts; `simdutf8`
+    /// checks what lies between. It stands apart, so that a short piece of ASCII doesn't pay for it.
+    #[inline(never)]
+    fn push_any(self, piece: &[u8]) -> Result<Unfinished, usize>
+        requires { IsUnfinished (kept_bytes self) }
+        ensures unfinished { IfOk result (λ new. IsUnfinished (kept_bytes new)) }
+        ensures text { (text : List ℕ) → HasUnfinished text (kept_bytes self) →
+            MatchResult result (λ new. HasUnfinished (text ++ piece.now) (kept_bytes new))
+            (BreaksTextAt text piece.now) }
+    {
         let (unfinished, used) = self.complete(piece)?;
         let rest = &piece[used..];
         let whole = valid_prefix(rest);

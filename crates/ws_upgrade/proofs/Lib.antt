@@ -1,3 +1,4 @@
+-- The lemmas behind the opening handshake: the check of a head, keys, lines, the members of headers, and subprotocols.
 pub mod HeadCheck
 pub mod Keys
 pub mod Lines

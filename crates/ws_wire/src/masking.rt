@@ -3,7 +3,7 @@
 ghost use Rattle.std.specs.Prelude.{◌≡◌, ◌≤◌, ℕ, List, length};
 ghost use Rattle.ws_wire.specs.Masking.{masked, IsMasked, AreKeyLanes};
 
-use std::simd::{u8x4, u8x32};
+use std::simd::{u8x4, u8x16, u8x32};
 
 /// The key of an endpoint that masks nothing: a server puts its frames without one (section 5.1), whatever key it is
 /// given.
@@ -13,12 +13,16 @@ pub const NO_KEY: [u8; KEY] = [0; KEY];
 /// the same phase.
 const LANES: usize = 32;
 
+/// The same of what is less than those.
+const HALF: usize = 16;
+
 /// The bytes of a key.
 const KEY: usize = 4;
 
 /// Masks or unmasks a part of a payload in place: the two are one. `phase` is the place of its
 /// first byte in the payload, modulo 4, so a payload may be masked in parts. `mask_plainly` says the
-/// same in a line.
+/// same in a line. It isn't made a part of its callers, where the compiler finds worse instructions for the key's lanes.
+#[inline(never)]
 pub fn mask(key: [u8; 4], phase: usize, bytes: &mut [u8])
     requires { phase ≤ 3 }
     ensures rule { IsMasked key phase bytes.old bytes.new }
@@ -45,8 +49,24 @@ pub fn mask_plainly(key: [u8; 4], phase: usize, bytes: &mut [u8])
     }
 }
 
-/// The same, a key's bytes at once, and what is less than those one byte after the other.
+/// The same by half as many lanes, of which less than two vectors are left as a rule.
 fn mask_rest(key: [u8; 4], phase: usize, turned: u8x4, bytes: &mut [u8])
+    requires phase { phase ≤ 3 }
+    requires len { length turned ≡ 4 }
+    requires turned { AreKeyLanes key phase turned }
+    ensures { bytes.new ≡ masked key phase bytes.old }
+{
+    let lanes = half_key_lanes(turned);
+    let mut at = 0;
+    while bytes.len() - at >= HALF {
+        mask_half_lanes(lanes, &mut bytes[at..at + HALF]);
+        at += HALF;
+    }
+    mask_words(key, phase, turned, &mut bytes[at..]);
+}
+
+/// The same, a key's bytes at once, and what is less than those one byte after the other.
+fn mask_words(key: [u8; 4], phase: usize, turned: u8x4, bytes: &mut [u8])
     requires phase { phase ≤ 3 }
     requires len { length turned ≡ 4 }
     requires turned { AreKeyLanes key phase turned }
@@ -98,6 +118,25 @@ fn key_lanes(turned: u8x4) -> u8x32
         0, 1, 2, 3, 0, 1, 2, 3, 0, 1, 2, 3, 0, 1, 2, 3, 0, 1, 2, 3, 0, 1, 2, 3, 0, 1, 2, 3, 0, 1,
         2, 3,
     ])
+}
+
+/// The bytes of a turned key over half a vector.
+fn half_key_lanes(turned: u8x4) -> u8x16
+    requires { length turned ≡ 4 }
+    ensures len { length result ≡ 16 }
+    ensures lanes { (key : List ℕ) (phase : ℕ) → AreKeyLanes key phase turned → AreKeyLanes key phase result }
+{
+    turned.swizzle([0, 1, 2, 3, 0, 1, 2, 3, 0, 1, 2, 3, 0, 1, 2, 3])
+}
+
+/// Masks as many bytes as half a vector has.
+fn mask_half_lanes(lanes: u8x16, bytes: &mut [u8])
+    requires lanes { length lanes ≡ 16 }
+    requires bytes { length bytes.old ≡ 16 }
+    ensures { (key : List ℕ) (phase : ℕ) → AreKeyLanes key phase lanes → bytes.new ≡ masked key phase bytes.old }
+{
+    let masked = u8x16::from_slice(bytes) ^ lanes;
+    masked.copy_to_slice(bytes);
 }
 
 /// Masks as many bytes as a vector has.

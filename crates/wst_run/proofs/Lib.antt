@@ -1,3 +1,4 @@
+-- The lemmas behind runs: what plans, runs over clients and sweeps tell, and the status that a run ends with.
 pub mod PlanLemmas
 pub mod RunLemmas
 pub mod ClientRunLemmas

@@ -1,3 +1,4 @@
+-- The lemmas behind tests: the lines and notes of cases, plans, reports and sweeps, and what an observer is told.
 pub mod NoteLemmas
 pub mod TestLemmas
 pub mod PlanLemmas

@@ -126,14 +126,15 @@ impl Assembly {
         self.payload.truncate(self.before + came);
     }
 
-    /// Keeps of the frame under way the first bytes that came, and puts these after them, unmasked.
+    /// Puts bytes of the frame under way, unmasked, after those of it that came, which are all that is kept.
+    #[inline(always)]
     pub(crate) fn add(
         &mut self,
         came: usize,
         key: Option<[u8; 4]>,
         bytes: &[u8],
     ) -> Result<(), NoMemory>
-        requires { HasKept self.old came }
+        requires { length self.old.payload ≡ length (open_payload self.old.opened) + came }
         ensures opened { self.new.opened ≡ self.old.opened }
         ensures text { self.new.text ≡ self.old.text }
         ensures added { OnOk result (self.new.payload ≡ first_bytes self.old came ++ masked_from key came bytes.now) }
@@ -142,7 +143,6 @@ impl Assembly {
         ensures joined { IsJoined self.new }
         ensures size { length self.new.payload ≤ length (open_payload self.old.opened) + came + length bytes.now }
     {
-        self.payload.truncate(self.before + came);
         append_masked(&mut self.payload, came % 4, key, bytes)?;
         Ok(())
     }
@@ -197,6 +197,7 @@ impl Assembly {
 
 /// Puts a part of a payload after other bytes, unmasked. `phase` is the place of its first byte in the payload,
 /// modulo 4.
+#[inline(always)]
 fn append_masked(
     kept: &mut Vec<u8>,
     phase: usize,

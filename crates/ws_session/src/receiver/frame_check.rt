@@ -8,6 +8,7 @@ use crate::message::Kind;
 use crate::reason::Reason;
 use crate::receiver::under_way::UnderWay;
 use ws_text::{Close, Utf8Stream};
+use ws_wire::Header;
 
 /// What a whole frame holds.
 #[derive(Drop)]
@@ -24,7 +25,31 @@ pub(crate) enum Content {
     Close(Option<Close>),
 }
 
-/// What the piece makes of the frame under way.
+/// What the piece makes of the frame under way, where it doesn't just go on: told in a few words, since the payload of a
+/// control frame isn't looked at yet.
+#[derive(Clone, Copy)]
+pub(super) enum PieceCheck {
+    /// A data frame is whole with the first `used` bytes of the piece, and nothing is wrong with it: FIN, and the kind
+    /// of its message, whose payload with this frame stands in the assembly, read by the stream where it is text.
+    Whole {
+        used: usize,
+        fin: bool,
+        kind: Kind,
+        text: Utf8Stream,
+    },
+    /// What the piece has after its first `start` bytes is for the payload of a control frame.
+    Control {
+        header: Header,
+        start: usize,
+    },
+    /// The first fault is told at the last of the first `used` bytes of the piece.
+    Fault {
+        reason: Reason,
+        used: usize,
+    },
+}
+
+/// What the piece makes of the frame under way, where that is told with the payload of a control frame.
 #[derive(Drop)]
 pub(crate) enum FrameCheck {
     /// The frame isn't whole with the piece, and nothing is wrong with it: what has come of it then, and the stream
@@ -47,16 +72,4 @@ impl FrameCheck {
             FrameCheck::Fault { .. } => Err(None),
         }
     }
-}
-
-/// A whole data frame in which nothing is wrong. Its payload stands in the assembly, read by the stream where it is
-/// text.
-#[derive(Drop)]
-pub(super) struct DataFrame {
-    /// How many bytes of the piece it ends with.
-    pub(super) used: usize,
-    pub(super) fin: bool,
-    /// The kind of its message.
-    pub(super) kind: Kind,
-    pub(super) text: Utf8Stream,
 }

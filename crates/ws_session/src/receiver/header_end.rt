@@ -31,6 +31,7 @@ pub(super) fn complete_header(kept: &Small, piece: &[u8]) -> Option<HeaderEnd>
 }
 
 /// The same, where the header has begun in earlier pieces: byte by byte.
+#[inline(never)]
 fn complete_by_byte(kept: &Small, piece: &[u8]) -> Option<HeaderEnd>
     requires none { BeginsNoHeader kept.now }
     requires bytes { AreBytes kept.now }

@@ -1,9 +1,10 @@
 //! The frame that has begun to come and isn't whole (RFC 6455 section 5.2).
 
-ghost use Rattle.std.specs.Prelude.{◌≡◌, ◌+◌, ◌^◌, ◌≤◌, ◌<◌, length};
+ghost use Rattle.std.specs.Prelude.{◌≡◌, ◌^◌, ◌≤◌, ◌<◌, length, false};
+ghost use Rattle.ws_session.specs.declared.receiver.under_way.UnderWay.TheVariants.{Data};
 ghost use Rattle.ws_wire.specs.Header.{header_bytes};
-ghost use Rattle.ws_session.specs.InnerReceiving.{came_of};
-ghost use Rattle.ws_session.specs.InnerReceiver.{NotBegun, HasRoom, length_so_far, after_more};
+ghost use Rattle.ws_session.specs.InnerReceiving.{came_of, control_payload_of};
+ghost use Rattle.ws_session.specs.InnerReceiver.{NotBegun, HasRoom, length_so_far};
 
 use crate::control_payload::Small;
 use ws_wire::{Form, Header};
@@ -28,13 +29,51 @@ pub(super) fn nothing() -> UnderWay
 }
 
 impl UnderWay {
-    /// So many more bytes have come of a data frame's payload.
-    pub(super) fn go_on(&mut self, more: usize)
-        requires { length_so_far self.old + more < 2 ^ 64 }
-        ensures { self.new ≡ after_more self.old more }
+    /// It is over: of the next frame no byte has come. Most came in one piece, and nothing is kept of them.
+    pub(super) fn end(&mut self)
+        ensures { self.new ≡ NotBegun }
     {
-        if let UnderWay::Data { came, .. } = self {
-            *came += more;
+        if self.has_begun() {
+            self.clear();
+        }
+    }
+
+    /// Forgets what is kept. It writes all the room that a control frame has, so it stands apart.
+    #[inline(never)]
+    fn clear(&mut self)
+        ensures { self.new ≡ NotBegun }
+    {
+        *self = nothing();
+    }
+
+    /// So much of the payload of a data frame has come.
+    #[inline(never)]
+    pub(super) fn begin_data(&mut self, header: &Header, came: usize)
+        ensures { self.new ≡ Data header.now came }
+    {
+        *self = UnderWay::Data {
+            header: *header,
+            came,
+        };
+    }
+
+    /// Whether a byte of it has come.
+    fn has_begun(&self) -> bool
+        ensures { result ≡ false → self.now ≡ NotBegun }
+    {
+        match self {
+            UnderWay::Header(bytes) => !bytes.as_slice().is_empty(),
+            UnderWay::Data { .. } | UnderWay::Control { .. } => true,
+        }
+    }
+
+    /// The payload of a control frame so far.
+    pub(super) fn control_payload(&self) -> Small
+        ensures { result ≡ control_payload_of self.now }
+    {
+        match self {
+            UnderWay::Control { payload, .. } => *payload,
+            UnderWay::Header(_) | UnderWay::Data { .. } => Small::of(&[]),
         }
     }
 

@@ -11,14 +11,13 @@ ghost use Rattle.ws_session.specs.Exchange.{is_over};
 ghost use Rattle.ws_session.specs.Taking.{HasTaken, TakesNothing};
 ghost use Rattle.ws_session.specs.Memory.{WantsMemory, WantsMemoryToTell};
 ghost use Rattle.ws_session.specs.InnerInvariant.{CanAnswer, reply_by};
-ghost use Rattle.ws_session.specs.InnerReceiver.{status_by};
+ghost use Rattle.ws_session.specs.InnerNextFrame.{status_with};
 
 mod sends;
 
 use crate::event::{Event, Taken};
 use crate::limits::Limits;
 use crate::receiver::Receiver;
-use crate::replying::Replying;
 use crate::sending::Sending;
 use crate::session::Answering;
 use crate::status::Status;
@@ -28,7 +27,8 @@ use ws_base::NoMemory;
 use ws_wire::Role;
 
 /// What a session keeps: its receiving side, its sending side, and how it stands. Contracts see it as they see the
-/// session.
+/// session. It is a type of its own since each of its calls changes one part after the other: what holds between them is
+/// told of the parts, and a session is one of which some exchange stands, which no part alone can show.
 #[derive(Drop)]
 pub(super) struct State {
     receiver: Receiver,
@@ -129,35 +129,16 @@ impl State {
                 event: None,
             });
         }
-        match self.receiver.take_inside(piece) {
-            Err(refused) => {
-                self.receiver.cut();
-                return Err(refused);
-            }
-            Ok(true) => {
-                return Ok(Taken {
-                    used: piece.len(),
-                    event: None,
-                });
-            }
-            Ok(false) => self.receiver.cut(),
-        }
-        let replying = Replying {
-            role: self.receiver.role(),
-            status: self.status,
-            answering,
-            key,
-        };
-        match self.receiver.take(&replying, piece, out) {
-            Err(refused) => {
-                self.receiver.cut();
-                Err(refused)
-            }
+        let taken = self.receiver.take(&self.status, answering, piece, key, out);
+        match &taken {
             Ok(taken) => {
-                self.status = status_after(self.status, &taken.event);
-                Ok(taken)
+                if let Some(event) = &taken.event {
+                    self.status = status_after(self.status, event);
+                }
             }
+            Err(_) => self.receiver.cut(),
         }
+        taken
     }
 }
 
@@ -187,14 +168,14 @@ impl State {
     }
 }
 
-/// The status of a session that isn't over after an event, if there is one.
-fn status_after(status: Status, event: &Option<Event>) -> Status
-    ensures { result ≡ status_by status event.now }
+/// The status of a session that isn't over after an event.
+fn status_after(status: Status, event: &Event) -> Status
+    ensures { result ≡ status_with status event.now }
 {
     match event {
-        Some(Event::Failed(reason)) => Status::Failed(*reason),
-        Some(Event::Close(None)) => Status::Clean(None),
-        Some(Event::Close(Some(close))) => Status::Clean(Some(close.code())),
-        Some(Event::Part | Event::Message(_) | Event::Ping(_) | Event::Pong(_)) | None => status,
+        Event::Failed(reason) => Status::Failed(*reason),
+        Event::Close(None) => Status::Clean(None),
+        Event::Close(Some(close)) => Status::Clean(Some(close.code())),
+        Event::Part | Event::Message(_) | Event::Ping(_) | Event::Pong(_) => status,
     }
 }

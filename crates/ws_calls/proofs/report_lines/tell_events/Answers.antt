@@ -1,3 +1,4 @@
+-- Once the loop has passed all events of the piece, the lines of all of them are told.
 use Rattle.std.proofs.Common.{◌∙◌, ◌++◌, List, ap, arith, string_bytes}
 use Rattle.std.proofs.lemmas.List.{take_all}
 use Rattle.ws_session.specs.declared.event.PlacedEvent.{PlacedEvent}

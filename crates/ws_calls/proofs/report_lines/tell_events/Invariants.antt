@@ -1,3 +1,4 @@
+-- Event after event: the lines of the events so far stand behind those that were there.
 use Rattle.std.proofs.Common.{◌≡◌, ◌++◌, take, string_bytes}
 use Rattle.ws_calls.specs.InnerSteps.{told_behind}
 use Rattle.ws_calls.proofs.report_lines.tell_events.Given as goal

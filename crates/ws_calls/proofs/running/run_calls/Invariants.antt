@@ -1,3 +1,4 @@
+-- Line after line: the calls before the rest were made at the session and told, and the rest grows shorter.
 use Rattle.std.proofs.Common.{length, string_bytes}
 use Rattle.ws_calls.specs.declared.calls.Call.{Call}
 use Rattle.ws_calls.specs.Calls.{session_of}

@@ -1,3 +1,4 @@
+-- Words of whose call or send a part can't be read tell no call.
 use Rattle.ws_sends.specs.KeyedSends.{AreSendWords}
 use Rattle.ws_calls.specs.Script.{IsEchoCallOf}
 use Rattle.ws_calls.proofs.CallWords.{echo_told, fields_in, name_in, send_told}

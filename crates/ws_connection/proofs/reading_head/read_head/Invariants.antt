@@ -1,3 +1,4 @@
+-- Read after read: what was read is in the room, and without its last piece it leaves the head undecided.
 use Rattle.std.proofs.Common.{◌≡◌, ◌≤◌, length, false, ◌-◌}
 use Rattle.std.specs.Io.KnownBytes.{Consumes}
 use Rattle.ws_frame.specs.Watching.{has_failed, inner_of}

@@ -1,3 +1,4 @@
+-- An accepted connection: the response is written, and then an echo answers what came with the head and what follows.
 use Rattle.std.proofs.Common.{refl}
 use Rattle.ws_frame.specs.Devices.{watched}
 use Rattle.ws_connection.proofs.ServingLemmas.{after_response, answered_by, at_connection}

@@ -1,3 +1,4 @@
+-- A connection whose request is decided is served as that decision asks, over all that was read and written.
 use Rattle.std.proofs.Common.{List, ℕ, map, refl, sym, subst}
 use Rattle.std.specs.Borrow.{Bor}
 use Rattle.ws_frame.specs.Devices.{watched}

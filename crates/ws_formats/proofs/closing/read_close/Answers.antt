@@ -1,3 +1,4 @@
+-- Where the code is `none` and the reason isn't a dash, the words tell neither a close nor the want of one.
 use Rattle.std.proofs.Common.{rules, arith, ◌≡◌, ◌≢◌, codes, ap, List, ℕ, Some, None, slice_index}
 use Rattle.ws_formats.specs.Words.{AreCloseWords}
 use Rattle.ws_formats.proofs.NumberWords.{number_front}

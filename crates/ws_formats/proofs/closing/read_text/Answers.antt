@@ -1,3 +1,4 @@
+-- A word that spells bytes which aren't UTF-8 spells no text.
 use Rattle.std.proofs.Common.{◌≡◌, ◌∙◌, sym, subst, string_bytes}
 use Rattle.std.proofs.Math.Logic.{∥∥₁_elim}
 use Rattle.std.proofs.lemmas.Bool.{false≢true}

@@ -1,3 +1,4 @@
+-- An empty word spells no list of bytes, nor does one, no dash, of which a pair of digits can't be read.
 use Rattle.std.proofs.Common.{rules, arith, ◌≢◌, ◌<◌, codes, length, List, ℕ}
 use Rattle.std.proofs.lemmas.Bool.Decides.{nat_tests}
 use Rattle.ws_formats.specs.Reading.{ArePairs}

@@ -1,3 +1,4 @@
+-- A word of eight digits spells a masking key of four bytes; one of another length, or with a wrong pair, spells none.
 use Rattle.std.proofs.Common.{arith, slice_index, ℕ}
 use Rattle.ws_formats.specs.Reading.{IsPair}
 use Rattle.ws_formats.proofs.HexWords.{four_pairs, key_length, key_pair}

@@ -1,3 +1,4 @@
+-- The bytes read of a word's pairs are those that it spells; with a wrong pair or a single digit it spells none.
 use Rattle.std.proofs.Common.{rules, ◌≤◌, ◌<◌, ◌≡◌, ◌∙◌, ◌++◌, ◌∷◌, [], sym, ap, subst, length, ℕ, List, Bool, false, ◌==◌, slice_index, take, drop, ◌-◌}
 use Rattle.std.proofs.lemmas.List.{append-nil, nil_from_length}
 use Rattle.ws_formats.specs.Words.{hex}

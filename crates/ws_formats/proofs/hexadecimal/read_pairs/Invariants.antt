@@ -1,3 +1,4 @@
+-- Pair after pair: the bytes so far are spelled in front of the rest, which grows shorter.
 use Rattle.std.proofs.Common.{◌≡◌, ◌++◌, List, ℕ, length}
 use Rattle.ws_formats.specs.Words.{hex}
 use Rattle.ws_base.specs.Bytes.{AreBytes}

@@ -1,3 +1,4 @@
+-- A line is its words joined by one space, and words without a space are those of the line that they make.
 use Rattle.std.proofs.lemmas.List.Splits.{join_with_byte-slice_split}
 use Rattle.ws_formats.proofs.LineWords.{split_joined}
 use Rattle.ws_formats.proofs.laws.a_line_is_its_words.Goals as goal

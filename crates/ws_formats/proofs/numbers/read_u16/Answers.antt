@@ -1,3 +1,4 @@
+-- A number of 32 bits that doesn't fit 16 bits is no number of 16 bits, since a word tells one number.
 use Rattle.std.proofs.Common.{arith, ◌≡◌}
 use Rattle.ws_formats.proofs.NumberWords.{number_one}
 use Rattle.ws_formats.proofs.numbers.read_u16.Goals as goal

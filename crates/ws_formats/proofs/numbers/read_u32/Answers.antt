@@ -1,3 +1,4 @@
+-- A number is read of decimal digits alone: none behind a plus sign or a leading zero, and none above 32 bits.
 use Rattle.std.proofs.Common.{rules, ℕ, arith, ◌≡◌, ◌∙◌}
 use Rattle.std.proofs.lemmas.Fmt.{parse-decimal}
 use Rattle.ws_formats.specs.Reading.{BeginsOddly}

@@ -1,3 +1,4 @@
+-- A stream that has ended has one list of lines, and one end.
 use Rattle.ws_frame.proofs.Fronts.{lines_are_one}
 use Rattle.ws_frame.proofs.laws.one_list_of_lines.Goals as goal
 

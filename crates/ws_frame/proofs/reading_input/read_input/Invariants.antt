@@ -1,3 +1,4 @@
+-- Read after read: all that was read is kept, and with what is left it makes up the budget.
 use Rattle.std.proofs.Common.{length, ◌+◌, ◌-◌, ◌^◌, ◌≡◌, false}
 use Rattle.std.specs.Option.{unwrap_or}
 use Rattle.std.specs.Io.KnownBytes.{Consumes}

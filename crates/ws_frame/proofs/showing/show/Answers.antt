@@ -1,3 +1,4 @@
+-- However a run of `show` ends, it has written the lines of what it read, or a beginning of them where a write failed.
 use Rattle.std.proofs.Common.{rules, arith, ◌≡◌, ◌∙◌, ◌<◌, ◌++◌, Bool, length, take, ap, subst}
 use Rattle.std.specs.Prelude.{◌||◌, false}
 use Rattle.std.proofs.KnownBytes.{Appends-trans, Consumes-kept, Consumes-trans}

@@ -1,3 +1,4 @@
+-- Read after read: the lines of all that was read are written, none waits, and the budget isn't passed.
 use Rattle.std.proofs.Common.{◌≡◌, ◌≤◌, ◌-◌, false, List, [], ℕ}
 use Rattle.std.specs.Io.KnownBytes.{Appends, Consumes}
 use Rattle.ws_frame.specs.Lines.{plain}

@@ -1,3 +1,4 @@
+-- Where the waiting lines can't be written, a beginning of them was, and the new line is still due behind the rest.
 use Rattle.std.proofs.Common.{◌++◌, ◌∙◌, List, ℕ, ap, append_assoc}
 use Rattle.std.proofs.lemmas.Result.{err_from_is_err_and}
 use Rattle.ws_wire.specs.Masking.{masked_payload}

@@ -1,3 +1,4 @@
+-- Write after write a longer front of the bytes is written, and a front of them is left where a write fails.
 use Rattle.std.proofs.Common.{rules, ◌+◌, sym, take, drop, take-append-drop}
 use Rattle.std.proofs.KnownBytes.{Appends-kept}
 use Rattle.ws_frame.proofs.Written.{wrote_more, rest_length}

@@ -1,3 +1,4 @@
+-- Write after write: the front of the bytes is written, and no write has failed.
 use Rattle.std.proofs.Common.{length, ◌-◌, ◌≡◌, ◌≤◌, take}
 use Rattle.std.specs.Io.KnownBytes.{Appends}
 use Rattle.ws_frame.specs.Watching.{has_failed, inner_of}

@@ -1,3 +1,4 @@
+-- A transcript has one text of lines.
 use Rattle.ws_lines.proofs.Alone.{text_is_one}
 use Rattle.ws_lines.proofs.laws.one_text_of_turn_lines.Goals as goal
 

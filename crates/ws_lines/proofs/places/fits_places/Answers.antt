@@ -1,3 +1,4 @@
+-- The places of both directions fit exactly where no sum of the turns' bytes passes 64 bits.
 use Rattle.std.proofs.Common.{arith, ◌∙◌, ◌<◌, ◌^◌, List, length, take_all, ap, sym, subst}
 use Rattle.std.specs.List.{flat_map}
 use Rattle.ws_scripts.specs.declared.transcript.Turn.{Turn}

@@ -1,3 +1,4 @@
+-- Turn after turn the lines of the transcript are written; where a write fails, a beginning of all of them was written.
 use Rattle.std.proofs.Common.{arith, ◌∙◌, ◌^◌, ◌<◌, ◌≡◌, ◌++◌, ◌∷◌, [], List, ℕ, length, take, length-take, take_all, sym, ap, subst, append-nil}
 use Rattle.std.proofs.lemmas.Result.{err_from_is_err_and}
 use Rattle.std.specs.List.{flat_map}

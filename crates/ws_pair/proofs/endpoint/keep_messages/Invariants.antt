@@ -1,3 +1,4 @@
+-- Event after event: the messages kept so far and those of the events that are left are those of all events.
 use Rattle.std.proofs.Common.{◌≡◌, ◌++◌}
 use Rattle.ws_session.specs.Events.{messages_in}
 use Rattle.ws_session.specs.Taking.{events_in}

@@ -1,3 +1,4 @@
+-- The laws on which the proofs about a link rest hold of each session: they are laws of the layer below.
 use Rattle.ws_session.specs.Replies.{reply_to}
 use Rattle.ws_pair.proofs.lemmas.session_laws.Goals as goal
 

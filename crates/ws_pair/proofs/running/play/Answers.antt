@@ -1,3 +1,4 @@
+-- A move at the client or at the server is answered as the link asks, and the two ends stand joined as before.
 use Rattle.std.proofs.Common.{sym, ◌∙◌}
 use Rattle.ws_pair.proofs.Joined.{client_moves, server_moves, acts_at_client, acts_at_server}
 use Rattle.ws_pair.proofs.running.play.Goals as goal

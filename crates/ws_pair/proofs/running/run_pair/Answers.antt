@@ -1,3 +1,4 @@
+-- The moves are played one after the other, and so all that is claimed of the two ends of a run holds of its report.
 use Rattle.std.proofs.Common.{◌≡◌, ◌+◌, ◌++◌, List, [], ◌∷◌, ap, sym, ◌∙◌, subst, arith, take}
 use Rattle.std.proofs.lemmas.List.{take_all, take_more}
 use Rattle.ws_pair.specs.declared.moves.Move.{Move}

@@ -1,3 +1,4 @@
+-- Move after move: the moves so far lead, with their answers, to a link whose two ends are these endpoints.
 use Rattle.std.proofs.Common.{take}
 use Rattle.ws_pair.specs.Link.{Link, new_link}
 use Rattle.ws_pair.specs.Moves.{Plays}

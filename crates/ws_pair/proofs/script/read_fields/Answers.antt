@@ -1,3 +1,4 @@
+-- Words of whose send or arrival a part can't be read tell no move.
 use Rattle.std.proofs.Common.{◌∙◌, ap, map}
 use Rattle.ws_sends.specs.KeyedSends.{AreSendWords}
 use Rattle.ws_pair.specs.Script.{move_name_word}

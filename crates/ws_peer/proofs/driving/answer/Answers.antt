@@ -1,3 +1,4 @@
+-- A piece fed to an echo: its replies are written, or a beginning of them, or none where memory ran out in the piece.
 use Rattle.std.proofs.Common.{rules, List, ℕ, ◌++◌, sym, refl, subst, take, drop, take-append-drop}
 use Rattle.std.proofs.KnownBytes.{Appends-nil}
 use Rattle.ws_peer.specs.InnerSteps.{IsEchoOfCall}

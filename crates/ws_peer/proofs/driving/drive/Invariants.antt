@@ -1,3 +1,4 @@
+-- Read after read: no device has failed, all that was read was answered, and the budget that is left shrinks.
 use Rattle.std.proofs.Common.{◌≡◌, false}
 use Rattle.ws_frame.specs.Watching.{has_failed, inner_of}
 use Rattle.ws_peer.proofs.Driven.{HasDriven, call_of_drive}

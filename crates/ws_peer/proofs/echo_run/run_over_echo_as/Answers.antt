@@ -1,3 +1,4 @@
+-- A script run over an echo is a run of that echo, and the verdict on it is Pass.
 use Rattle.std.proofs.Common.{[], ℕ, List, Option, subst}
 use Rattle.ws_scripts.specs.Scripts.{AreTurns}
 use Rattle.ws_peer.specs.EchoRuns.{echo_end}

@@ -1,3 +1,4 @@
+-- The transcript of an echo's run is an echo's transcript, whose verdict is Pass.
 use Rattle.ws_peer.proofs.EchoTranscripts.{echo_transcript}
 use Rattle.ws_peer.proofs.laws.an_echos_run_passes.Goals as goal
 

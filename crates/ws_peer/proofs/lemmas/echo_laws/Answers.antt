@@ -1,3 +1,4 @@
+-- The laws on which the proofs about an echo's run rest hold: they are laws of the layer below.
 use Rattle.std.proofs.Common.{[]}
 use Rattle.ws_session.specs.Replies.{echo_reply_to}
 use Rattle.ws_session.specs.Sends.{most_limits}

@@ -1,3 +1,4 @@
+-- What a peer puts when it is finished counts to the last turn: the bytes got in it end with these.
 use Rattle.std.proofs.Common.{◌≡◌, ℕ, List, ◌∷◌, [], ◌++◌, ◌∙◌, ap, rules, sym}
 use Rattle.ws_scripts.specs.declared.transcript.Turn.{Turn}
 use Rattle.ws_peer.specs.Runs.{with_finish}

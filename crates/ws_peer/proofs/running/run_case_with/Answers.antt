@@ -1,3 +1,4 @@
+-- Turn after turn the script is run until the peer ends or is finished, and the transcript is the record of that talk.
 use Rattle.std.proofs.Common.{◌≡◌, ℕ, ◌+◌, List, ◌∷◌, [], ◌++◌, ◌∙◌, ap, arith, drop, refl, rules, take, take_all, take-append-drop, sym, subst, append_assoc}
 use Rattle.std.proofs.lemmas.List.{take_more}
 use Rattle.ws_peer.specs.declared.peer.Going.TheVariants.{More, Ended}

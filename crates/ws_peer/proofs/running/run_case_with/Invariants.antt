@@ -1,3 +1,4 @@
+-- Turn after turn: the turns so far were run and recorded, and the peer goes on.
 use Rattle.std.proofs.Common.{take}
 use Rattle.ws_peer.proofs.RunLemmas.{HasRunTurns}
 use Rattle.ws_peer.proofs.running.run_case_with.Given as goal

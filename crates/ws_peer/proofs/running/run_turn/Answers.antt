@@ -1,3 +1,4 @@
+-- Piece after piece the turn is fed, until the peer ends in one of them or goes on after all.
 use Rattle.std.proofs.Common.{◌≡◌, ℕ, ◌+◌, List, ◌∷◌, [], ◌++◌, ◌∙◌, ap, drop, rules, take, take-append-drop, sym, subst}
 use Rattle.std.proofs.lemmas.List.{take_more}
 use Rattle.ws_peer.specs.declared.peer.Going.TheVariants.{More, Ended}

@@ -1,3 +1,4 @@
+-- Piece after piece: the pieces so far were fed, what was sent and got is recorded, and the peer goes on.
 use Rattle.std.proofs.Common.{take}
 use Rattle.ws_peer.proofs.RunLemmas.{HasFedPieces}
 use Rattle.ws_peer.proofs.running.run_turn.Given as goal

@@ -1,3 +1,4 @@
+-- Step after step: the bytes so far are those of the steps so far.
 use Rattle.std.proofs.Common.{◌≡◌, take}
 use Rattle.ws_scripts.specs.Scripts.{turn_bytes}
 use Rattle.ws_scripts.proofs.cutting.bytes_of.Given as goal

@@ -1,3 +1,4 @@
+-- A script's turns are the steps up to its first wait and the turns behind it; where it has none it is one turn.
 use Rattle.std.proofs.Common.{◌∙◌, ◌+◌, ◌∷◌, List, ap, sym, subst, take, drop, arith}
 use Rattle.std.proofs.lemmas.List.{take_all, take_rest}
 use Rattle.std.specs.List.{AllByRecursion}

@@ -1,3 +1,4 @@
+-- Step after step: no step so far is a wait, and what is left grows shorter.
 use Rattle.std.proofs.Common.{◌-◌, ◌≤◌, length, take}
 use Rattle.std.specs.List.{AllByRecursion}
 use Rattle.ws_scripts.specs.Scripts.{IsAct}

@@ -1,3 +1,4 @@
+-- One piece more is cut from the rest: only the last piece has fewer than `n` bytes, and none is empty.
 use Rattle.std.proofs.Common.{◌≡◌, ◌++◌, ◌<◌, ◌≤◌, ◌∷◌, [], rules, length}
 use Rattle.ws_scripts.proofs.TurnLemmas.{octets_step}
 use Rattle.ws_scripts.proofs.cutting.octets.Goals as goal

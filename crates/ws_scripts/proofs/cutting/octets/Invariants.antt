@@ -1,3 +1,4 @@
+-- Piece after piece: the pieces so far and the rest are the bytes, and while a rest is left each piece has `n` bytes.
 use Rattle.std.proofs.Common.{◌≡◌, ◌<◌, ◌++◌, List, ℕ, length}
 use Rattle.std.specs.List.{AllByRecursion, concat}
 use Rattle.ws_scripts.specs.Scripts.{AreOctets, has_bytes}

@@ -1,3 +1,4 @@
+-- Once all steps were passed, the pieces are those of a script that is cut frame by frame.
 use Rattle.std.proofs.Common.{◌∙◌, List, ap, map, arith}
 use Rattle.std.proofs.lemmas.List.{take_all}
 use Rattle.ws_scripts.specs.Scripts.{step_bytes, without_empty}

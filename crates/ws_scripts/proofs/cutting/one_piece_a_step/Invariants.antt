@@ -1,3 +1,4 @@
+-- Step after step: the pieces so far are the bytes of the steps so far, without the empty ones.
 use Rattle.std.proofs.Common.{◌≡◌, map, take}
 use Rattle.ws_scripts.specs.Scripts.{step_bytes, without_empty}
 use Rattle.ws_scripts.proofs.cutting.one_piece_a_step.Given as goal

@@ -1,3 +1,4 @@
+-- Turn after turn is cut from the front of the script, and in the end each turn of it has its pieces.
 use Rattle.std.proofs.Common.{◌≡◌, ◌≤◌, ◌++◌, ◌∷◌, [], List, rules, length, ap}
 use Rattle.ws_scripts.specs.declared.script.Step.{Step}
 use Rattle.ws_scripts.specs.Scripts.{ArePieces, turns_of}

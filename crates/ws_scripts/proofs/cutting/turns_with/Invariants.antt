@@ -1,3 +1,4 @@
+-- Turn after turn: pieces of the turns that are left, put behind those so far, are the pieces of the whole script.
 use Rattle.std.proofs.Common.{◌++◌, List, ℕ, length}
 use Rattle.std.specs.List.{AllZip}
 use Rattle.ws_scripts.specs.Scripts.{ArePieces, FitHeaders, turns_of}

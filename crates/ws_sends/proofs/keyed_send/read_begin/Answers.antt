@@ -1,3 +1,4 @@
+-- Words of which the fourth spells no key, and is no dash, tell no begin of a message.
 use Rattle.std.proofs.Common.{◌≡◌, ◌∷◌, [], List, ℕ, zero, suc, ap, map, refl, subst, sym, ◌∙◌, slice_index_or}
 use Rattle.std.specs.Borrow.{Bor}
 use Rattle.ws_sends.specs.declared.keyed_send.KeyedSend.{KeyedSend}

@@ -1,3 +1,4 @@
+-- Pieces fed one after the other to a new session give the events, the replies and the status of the joined bytes.
 use Rattle.std.proofs.Common.{◌∙◌, ◌++◌, List, [], ℕ, ap, sym, subst, arith, take, Vec, Global}
 use Rattle.std.proofs.lemmas.List.{take_all}
 use Rattle.ws_session.specs.declared.event.PlacedEvent.{PlacedEvent}

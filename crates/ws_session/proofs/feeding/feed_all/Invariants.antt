@@ -1,3 +1,4 @@
+-- Piece after piece: the session stands as one that was fed the pieces so far, however they are cut.
 use Rattle.std.proofs.Common.{take}
 use Rattle.ws_session.specs.Exchange.{joined_pieces}
 use Rattle.ws_session.specs.Taking.{events_in}

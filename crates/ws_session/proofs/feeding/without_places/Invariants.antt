@@ -1,3 +1,4 @@
+-- Event after event: the list has the events so far without their places.
 use Rattle.std.proofs.Common.{◌≡◌}
 use Rattle.ws_session.specs.Taking.{events_in}
 use Rattle.ws_session.proofs.feeding.without_places.Given as goal

@@ -1,3 +1,4 @@
+-- Frames that are sent later change neither which frames the first bytes hold nor the size fault in them.
 use Rattle.ws_session.proofs.Within.{later_frames_beyond, later_header_beyond}
 use Rattle.ws_session.proofs.laws.appended_frames_are_not_within.Goals as goal
 

@@ -1,3 +1,4 @@
+-- What an echo owes, sent behind valid frames that leave no message open, leaves them valid and leaves none open.
 use Rattle.ws_session.proofs.EchoReplied.{echo_stays_valid, nothing_open_after}
 use Rattle.ws_session.proofs.laws.echo_replies_stay_valid.Goals as goal
 

@@ -1,3 +1,4 @@
+-- A session whose stream has ended is over.
 use Rattle.ws_session.proofs.Over.{ended_is_over}
 use Rattle.ws_session.proofs.laws.ended_streams_are_over.Goals as goal
 

@@ -1,3 +1,4 @@
+-- Every stream of bytes has a first fault or none, and events.
 use Rattle.ws_session.proofs.FirstFault.{some_first_fault, some_events}
 use Rattle.ws_session.proofs.laws.every_stream_has_events.Goals as goal
 

@@ -1,3 +1,4 @@
+-- Frames under fitting keys, none behind a close, have a fault, and fail a session, exactly where they aren't valid.
 use Rattle.ws_session.proofs.ValidStreams.{valid_has_none, invalid_has_one, failed_exactly}
 use Rattle.ws_session.proofs.laws.faults_are_of_invalid_frames.Goals as goal
 

@@ -1,3 +1,4 @@
+-- The frames within the first bytes are a front of all frames that fits them and the limits, and no longer front does.
 use Rattle.ws_session.proofs.Longest.{is_within, is_longest}
 use Rattle.ws_session.proofs.laws.longest_front_within.Goals as goal
 

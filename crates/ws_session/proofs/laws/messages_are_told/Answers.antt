@@ -1,3 +1,4 @@
+-- The messages among the events of some frames are those that the frames finish.
 use Rattle.ws_session.proofs.FinishedMessages.{messages_told}
 use Rattle.ws_session.proofs.laws.messages_are_told.Goals as goal
 

@@ -1,3 +1,4 @@
+-- A stream has one list of events.
 use Rattle.ws_session.proofs.EventsGoOn.{one_events}
 use Rattle.ws_session.proofs.laws.one_list_of_events.Goals as goal
 

@@ -1,3 +1,4 @@
+-- What a session owes for what comes, sent behind valid frames, leaves them valid.
 use Rattle.ws_session.proofs.Replied.{stays_valid}
 use Rattle.ws_session.proofs.laws.replies_stay_valid.Goals as goal
 

@@ -1,3 +1,4 @@
+-- Behind a close or a fault a stream has no event.
 use Rattle.ws_session.proofs.EndIsLast.{close_ends, fault_ends}
 use Rattle.ws_session.proofs.laws.the_end_comes_last.Goals as goal
 

@@ -1,3 +1,4 @@
+-- One more payload of a text: it is refused where the message gets too long, else it ends the text or leaves it open.
 use Rattle.ws_session.proofs.TextSends.{read_behind, too_long, ended, left_open}
 use Rattle.ws_session.proofs.sending.after_text.Goals as goal
 

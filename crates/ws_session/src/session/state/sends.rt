@@ -1,20 +1,17 @@
 //! What is sent, as a session keeps it (RFC 6455 sections 5.4, 5.5 and 7.1).
 
-ghost use Rattle.std.specs.Prelude.{◌≡◌, ◌≢◌, ◌≤◌, ◌<◌, length, Option, IfErr, OnOk, OnErr, MatchResult, Some};
-ghost use Rattle.std.specs.Prelude.{◌++◌};
+ghost use Rattle.std.specs.Prelude.{◌≡◌, ◌≢◌, ◌≤◌, ◌<◌, ◌++◌, length, Option, IfOk, IfErr, OnOk, OnErr, MatchResult};
 ghost use Rattle.ws_wire.specs.Frame.{Frame, FitsTheLayout, frame_bytes};
-ghost use Rattle.ws_text.specs.Close.{CloseValue};
+ghost use Rattle.ws_text.specs.Close.{close_payload};
 ghost use Rattle.ws_session.specs.declared.limits.TheConstants.{MAX_MESSAGE};
 ghost use Rattle.ws_session.specs.declared.send_fault.SendFault.TheVariants as SendFault;
 ghost use Rattle.ws_session.specs.declared.status.Status.TheVariants as Status;
-ghost use Rattle.ws_session.specs.Sends.{Begin, More, Ping, Pong, Close, close_given, send_of};
-ghost use Rattle.ws_session.specs.Sends.{IsRefusedBy, HasSent, HasTextReason};
+ghost use Rattle.ws_session.specs.Sends.{Close, close_given, send_of, IsRefusedBy, HasSent, HasTextReason};
 ghost use Rattle.ws_session.specs.InnerSending.{IsFineWith, IsFirstWrongWith};
 ghost use Rattle.ws_session.specs.Replies.{under_key};
 ghost use Rattle.ws_session.specs.declared.message.Message.{Message};
 
 use crate::control_payload::Small;
-use crate::message::Kind;
 use crate::opcode::{CLOSE, CONTINUATION, PING, PONG};
 use crate::outgoing::Outgoing;
 use crate::replying::put_frame;
@@ -36,101 +33,32 @@ impl State {
         ensures kept { OnErr result ((self.new ≡ self.old) × (out.new.items ≡ out.old.items)) }
         ensures text { OnOk result (HasTextReason (send_of frame.now)) }
     {
+        self.may_send()?;
         match frame {
-            Outgoing::Begin { kind, payload, fin } => self.begin(*kind, payload, *fin, key, out)?,
-            Outgoing::More { payload, fin } => self.more(payload, *fin, key, out)?,
-            Outgoing::Ping(payload) => self.ping(payload, key, out)?,
-            Outgoing::Pong(payload) => self.pong(payload, key, out)?,
-            Outgoing::Close(given) => self.close(*given, key, out)?,
-        }
-        Ok(())
-    }
-
-    fn begin(
-        &mut self,
-        kind: Kind,
-        payload: &[u8],
-        fin: bool,
-        key: [u8; 4],
-        out: &mut Vec<u8>,
-    ) -> Result<(), SendFault>
-        ensures sent { OnOk result (HasSent self.old self.new
-            (Begin kind payload.now fin) key out.old.items out.new.items) }
-        ensures refused { IfErr result (IsRefusedBy self.old (Begin kind payload.now fin)) }
-        ensures kept { OnErr result ((self.new ≡ self.old) × (out.new.items ≡ out.old.items)) }
-    {
-        self.may_send()?;
-        let sending = self.sending.after_first(kind, payload, fin)?;
-        self.put(fin, kind.opcode(), payload, key, out)?;
-        self.sending = sending;
-        Ok(())
-    }
-
-    fn more(
-        &mut self,
-        payload: &[u8],
-        fin: bool,
-        key: [u8; 4],
-        out: &mut Vec<u8>,
-    ) -> Result<(), SendFault>
-        ensures sent { OnOk result (HasSent self.old self.new (More payload.now fin) key out.old.items out.new.items) }
-        ensures refused { IfErr result (IsRefusedBy self.old (More payload.now fin)) }
-        ensures kept { OnErr result ((self.new ≡ self.old) × (out.new.items ≡ out.old.items)) }
-    {
-        self.may_send()?;
-        let sending = self.sending.after_next(payload, fin)?;
-        self.put(fin, CONTINUATION, payload, key, out)?;
-        self.sending = sending;
-        Ok(())
-    }
-
-    fn ping(&mut self, payload: &[u8], key: [u8; 4], out: &mut Vec<u8>) -> Result<(), SendFault>
-        ensures sent { OnOk result (HasSent self.old self.new (Ping payload.now) key out.old.items out.new.items) }
-        ensures refused { IfErr result (IsRefusedBy self.old (Ping payload.now)) }
-        ensures kept { OnErr result ((self.new ≡ self.old) × (out.new.items ≡ out.old.items)) }
-    {
-        self.may_send()?;
-        fits_control(payload)?;
-        self.put(true, PING, payload, key, out)?;
-        Ok(())
-    }
-
-    fn pong(&mut self, payload: &[u8], key: [u8; 4], out: &mut Vec<u8>) -> Result<(), SendFault>
-        ensures sent { OnOk result (HasSent self.old self.new (Pong payload.now) key out.old.items out.new.items) }
-        ensures refused { IfErr result (IsRefusedBy self.old (Pong payload.now)) }
-        ensures kept { OnErr result ((self.new ≡ self.old) × (out.new.items ≡ out.old.items)) }
-    {
-        self.may_send()?;
-        fits_control(payload)?;
-        self.put(true, PONG, payload, key, out)?;
-        Ok(())
-    }
-
-    fn close(
-        &mut self,
-        given: Option<(u16, &str)>,
-        key: [u8; 4],
-        out: &mut Vec<u8>,
-    ) -> Result<(), SendFault>
-        ensures sent { OnOk result (HasSent self.old self.new
-            (Close (close_given given.entry)) key out.old.items out.new.items) }
-        ensures refused { IfErr result (IsRefusedBy self.old (Close (close_given given.entry))) }
-        ensures kept { OnErr result ((self.new ≡ self.old) × (out.new.items ≡ out.old.items)) }
-
-        // A `str` holds a text.
-        ensures text { OnOk result (HasTextReason (Close (close_given given.entry))) }
-    {
-        self.may_send()?;
-        match given {
-            None => self.put(true, CLOSE, &[], key, out)?,
-            Some((code, reason)) => {
-                fits_close(code, reason)?;
-                str_is_text(reason);
-                let payload = Small::joined(&code.to_be_bytes(), reason.as_bytes());
+            Outgoing::Begin { kind, payload, fin } => {
+                let sending = self.sending.after_first(*kind, payload, *fin)?;
+                self.put(*fin, kind.opcode(), payload, key, out)?;
+                self.sending = sending;
+            }
+            Outgoing::More { payload, fin } => {
+                let sending = self.sending.after_next(payload, *fin)?;
+                self.put(*fin, CONTINUATION, payload, key, out)?;
+                self.sending = sending;
+            }
+            Outgoing::Ping(payload) => {
+                fits_control(payload)?;
+                self.put(true, PING, payload, key, out)?;
+            }
+            Outgoing::Pong(payload) => {
+                fits_control(payload)?;
+                self.put(true, PONG, payload, key, out)?;
+            }
+            Outgoing::Close(given) => {
+                let payload = payload_of_close(*given)?;
                 self.put(true, CLOSE, payload.as_slice(), key, out)?;
+                self.status = Status::Closing;
             }
         }
-        self.status = Status::Closing;
         Ok(())
     }
 
@@ -179,18 +107,25 @@ fn fits_control(payload: &[u8]) -> Result<(), SendFault>
     Ok(())
 }
 
-/// Whether a close frame may say this.
-fn fits_close(code: u16, reason: &str) -> Result<(), SendFault>
-    ensures { let close : CloseValue = record { code = code; reason = reason.now }
-        in (opened : Option Message) →
-        MatchResult result (λ done. IsFineWith opened (Close (Some close)) × (length reason.now ≤ 123)
-        × (code < 65536)) (λ fault. IsFirstWrongWith opened (Close (Some close)) fault) }
+/// The payload of a close frame, or why it isn't sent.
+fn payload_of_close(given: Option<(u16, &str)>) -> Result<Small, SendFault>
+    ensures checked { (opened : Option Message) → MatchResult result
+        (λ payload. IsFineWith opened (Close (close_given given.entry)))
+        (λ fault. IsFirstWrongWith opened (Close (close_given given.entry)) fault) }
+    ensures payload { IfOk result (λ payload. payload ≡ close_payload (close_given given.entry)) }
+
+    // A `str` holds a text.
+    ensures text { OnOk result (HasTextReason (Close (close_given given.entry))) }
 {
+    let Some((code, reason)) = given else {
+        return Ok(Small::of(&[]));
+    };
     if reason.len() > MAX_REASON {
         return Err(SendFault::TooLong);
     }
     if !code_allowed(code) {
         return Err(SendFault::BadCode);
     }
-    Ok(())
+    str_is_text(reason);
+    Ok(Small::joined(&code.to_be_bytes(), reason.as_bytes()))
 }

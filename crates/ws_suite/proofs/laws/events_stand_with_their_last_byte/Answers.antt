@@ -1,3 +1,4 @@
+-- An event stands in the turn that holds its last byte.
 use Rattle.ws_suite.proofs.LastBytes.{stands_with_last_byte}
 use Rattle.ws_suite.proofs.laws.events_stand_with_their_last_byte.Goals as goal
 

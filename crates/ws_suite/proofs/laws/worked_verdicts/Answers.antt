@@ -1,3 +1,4 @@
+-- Five worked verdicts on a ping: answered, cut off, answered too early, unanswered, and the latest alone answered.
 use Rattle.ws_suite.proofs.WorkedVerdicts.{answered_ping, before_its_ping, ended_by_peer, latest_answered, no_answer}
 use Rattle.ws_suite.proofs.laws.worked_verdicts.Goals as goal
 

@@ -1,3 +1,4 @@
+-- The laws on which the proofs about an echo's transcript rest hold: they are laws of the layers below.
 use Rattle.std.proofs.Common.{◌≢◌, [], refl, arith, lit≤}
 use Rattle.ws_wire.specs.declared.role.Role.{Role}
 use Rattle.ws_wire.specs.declared.role.Role.TheVariants.{Client, Server}

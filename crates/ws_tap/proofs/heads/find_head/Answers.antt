@@ -1,3 +1,4 @@
+-- A head is found as a request or as a response, by which of them is looked for.
 use Rattle.std.proofs.Common.{sym, subst}
 use Rattle.std.specs.Prelude.{MatchOption}
 use Rattle.ws_tap.specs.declared.heads.HeadKind.{HeadKind}

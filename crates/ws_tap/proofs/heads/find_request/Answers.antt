@@ -1,3 +1,4 @@
+-- What the parser takes as a whole request is the head there; where it wants more or refuses, there is none.
 use Rattle.std.proofs.Common.{rules, arith, List, ℕ, [], drop, sym, refl, subst, append-nil}
 use Rattle.std.proofs.lemmas.List.{take_all}
 use Rattle.httparse.specs.Grammar.{ReadsRequest, HasNoRequest}

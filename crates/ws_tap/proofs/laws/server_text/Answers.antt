@@ -1,3 +1,4 @@
+-- What is told of a server is its text, for all that it has sent.
 use Rattle.ws_tap.proofs.ServerLemmas.{server_is_text}
 use Rattle.ws_tap.proofs.laws.server_text.Goals as goal
 

@@ -1,3 +1,4 @@
+-- Bytes end in a port exactly where a number of 16 bits stands behind their last colon, and something before it.
 use Rattle.std.proofs.Common.{rules, ◌≡◌, ℕ, ◌≤◌, length, List, All, subst, sym, arith}
 use Rattle.ws_targets.specs.Places.{IsCutAtLastColon}
 use Rattle.ws_targets.specs.Reading.{EndsSoInPort}

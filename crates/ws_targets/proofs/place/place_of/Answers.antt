@@ -1,3 +1,4 @@
+-- An authority is cut at its last colon: it names a host alone, or with a port, or no place where the port is none.
 use Rattle.std.proofs.Common.{rules, ◌≡◌, ℕ, ◌≤◌, length, All, IsTrue, inl, inr, refl, sym, arith}
 use Rattle.ws_formats.specs.Words.{IsNumberWord}
 use Rattle.ws_targets.specs.Places.{IsCutAtLastColon, closing_bracket, has_byte}

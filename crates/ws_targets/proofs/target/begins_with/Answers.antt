@@ -1,3 +1,4 @@
+-- Bytes begin with a word, in any case of letters, where their front of its length is that word.
 use Rattle.std.proofs.Common.{◌≡◌, ◌∙◌, ap, take, length, ℕ, rules, sym}
 use Rattle.std.proofs.lemmas.List.{take_min}
 use Rattle.ws_targets.proofs.target.begins_with.Goals as goal

@@ -1,3 +1,4 @@
+-- An authority goes up to the first byte that ends one, or to the end, and the rest is what is asked for.
 use Rattle.std.proofs.Common.{rules, ◌∙◌, ap, sym, ℕ, take, drop}
 use Rattle.std.proofs.lemmas.List.{drop_all, take_all}
 use Rattle.std.specs.List.{position_or_len}

@@ -1,3 +1,4 @@
+-- A host is ASCII, so bytes that are no UTF-8 are no host.
 use Rattle.std.proofs.lemmas.Str.{IsUtf8-from_ascii}
 use Rattle.ws_targets.proofs.Reading.{host_is_ascii}
 use Rattle.ws_targets.proofs.target.host_text.Goals as goal

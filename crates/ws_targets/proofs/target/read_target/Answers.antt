@@ -1,3 +1,4 @@
+-- A word with `://` is read as a URL, another one as a host and a port, and one that is neither names no target.
 use Rattle.std.proofs.Common.{rules, MatchResult, codes, subst, List, ℕ}
 use Rattle.std.specs.Str.Iter.{HasSubslice}
 use Rattle.std.proofs.lemmas.Str.Pattern.{contains_text}

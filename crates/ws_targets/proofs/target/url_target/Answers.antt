@@ -1,3 +1,4 @@
+-- A URL is read part by part: its scheme, place, host and what is asked for; the first wrong part refuses it.
 use Rattle.std.proofs.Common.{rules, ◌≡◌, ◌∙◌, ap, List, ℕ, drop}
 use Rattle.ws_targets.specs.Targets.{authority_of, resource_of}
 use Rattle.ws_targets.proofs.Reading.{url_lacks_host, url_lacks_place, url_lacks_scheme, url_read}

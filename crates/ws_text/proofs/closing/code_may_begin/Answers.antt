@@ -1,3 +1,4 @@
+-- The higher byte 3, and each of 11 to 19, begins some code that may be sent.
 use Rattle.std.proofs.Common.{refl, arith}
 use Rattle.ws_text.proofs.Closes.{three_begins, eleven_begin}
 use Rattle.ws_text.proofs.closing.code_may_begin.Goals as goal

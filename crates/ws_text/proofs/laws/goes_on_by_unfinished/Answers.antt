@@ -1,3 +1,4 @@
+-- How a text may go on depends on its unfinished character alone.
 use Rattle.ws_text.proofs.Texts.{begins_by_unfinished, text_by_unfinished, unfinished_by_unfinished}
 use Rattle.ws_text.proofs.laws.goes_on_by_unfinished.Goals as goal
 

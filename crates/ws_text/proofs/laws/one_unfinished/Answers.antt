@@ -1,3 +1,4 @@
+-- Exactly what begins a text has an unfinished last character; it has one, of at most three bytes.
 use Rattle.ws_text.proofs.Texts.{some_unfinished, same_unfinished, begins_of_unfinished, unfinished_length}
 use Rattle.ws_text.proofs.laws.one_unfinished.Goals as goal
 

@@ -1,3 +1,4 @@
+-- A first byte is a character of its own up to 127, begins a longer one from 194 to 244, and begins none else.
 use Rattle.std.proofs.Common.{refl, arith, inl, inr}
 use Rattle.ws_text.proofs.Characters.{character_1, not_first}
 use Rattle.ws_text.proofs.UnfinishedCharacters.{one_unfinished}

@@ -1,3 +1,4 @@
+-- A second byte begins a character with the first exactly where it is in the range that the first allows.
 use Rattle.std.proofs.Common.{arith}
 use Rattle.std.proofs.lemmas.Bool.Decides.{nat_tests}
 use Rattle.ws_text.proofs.unfinished.may_be_second.Goals as goal

@@ -1,3 +1,4 @@
+-- The range of the second byte after each first byte: narrower after E0, ED, F0 and F4, and 80 to BF after the others.
 use Rattle.std.proofs.Common.{arith}
 use Rattle.ws_text.proofs.UnfinishedCharacters.{second_range}
 use Rattle.ws_text.proofs.unfinished.second_bytes.Goals as goal

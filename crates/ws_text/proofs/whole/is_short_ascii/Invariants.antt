@@ -1,3 +1,4 @@
+-- Vector after vector: the bytes up to `at` are ASCII, and fewer are left.
 use Rattle.std.proofs.Common.{◌-◌, ◌≤◌, length, take}
 use Rattle.std.specs.Str.{IsAscii}
 use Rattle.ws_text.proofs.whole.is_short_ascii.Given as goal

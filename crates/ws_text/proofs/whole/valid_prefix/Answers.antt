@@ -1,3 +1,4 @@
+-- The front that is answered is a text: all before a last character that may be unfinished, or as far as it is valid.
 use Rattle.std.proofs.Common.{◌≡◌, ◌≤◌, ℕ, ◌∙◌, List, take, length, arith, sym, ap, subst}
 use Rattle.std.proofs.lemmas.List.{length-take-le, take-take}
 use Rattle.ws_text.specs.Text.{IsText}

@@ -1,3 +1,4 @@
+-- A key of the wrong length, or that isn't the base64 of 16 bytes, is no handshake key; another one spells its nonce.
 use Rattle.std.proofs.Common.{rules, ◌≡◌, length, take, sym, ap, ◌∙◌, subst, Ok}
 use Rattle.base64.specs.GeneralPurpose.{IsBytes, decode_of}
 use Rattle.base64.specs.Engines.{standard}

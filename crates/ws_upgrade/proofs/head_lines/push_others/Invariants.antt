@@ -1,3 +1,4 @@
+-- Name after name: the names so far are written, each behind a comma.
 use Rattle.std.proofs.Common.{◌≡◌, ◌++◌, map, take, codes}
 use Rattle.std.specs.List.{flat_map}
 use Rattle.ws_upgrade.proofs.head_lines.push_others.Given as goal

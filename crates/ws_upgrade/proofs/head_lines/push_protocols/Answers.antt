@@ -1,3 +1,4 @@
+-- The line of subprotocols has its header's name, the first of them, and the others behind commas.
 use Rattle.std.proofs.Common.{rules, ◌≡◌, ◌++◌, ◌∷◌, sym, subst, List, ℕ, Bor, map, codes}
 use Rattle.std.specs.List.{flat_map}
 use Rattle.ws_upgrade.specs.Texts.{line_end, lines_bytes, protocol_lines}

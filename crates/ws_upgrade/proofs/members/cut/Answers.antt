@@ -1,3 +1,4 @@
+-- The members of a value are what stands before its first comma, if there is anything, and the members of what follows.
 use Rattle.std.proofs.Common.{rules, ◌+◌}
 use Rattle.std.proofs.lemmas.List.{take_rest}
 use Rattle.ws_upgrade.proofs.MemberLemmas.{members_in-at, members_in-no_comma}

@@ -1,3 +1,4 @@
+-- A value of which nothing is left has no members.
 use Rattle.std.proofs.Common.{rules, ap, ◌∙◌, ◌≡◌, []}
 use Rattle.std.proofs.lemmas.List.{nil_from_length}
 use Rattle.ws_upgrade.specs.Members.{members_in}

@@ -1,3 +1,4 @@
+-- Member after member: those passed so far were empty, so the members of the value are those of the rest.
 use Rattle.std.proofs.Common.{◌≡◌, length}
 use Rattle.ws_upgrade.specs.Members.{members_in}
 use Rattle.ws_upgrade.proofs.members.first_member.Given as goal

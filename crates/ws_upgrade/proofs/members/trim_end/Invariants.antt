@@ -1,3 +1,4 @@
+-- Byte after byte from the end: only spaces and tabs were left out so far.
 use Rattle.std.proofs.Common.{◌≡◌, length, reverse}
 use Rattle.httparse.specs.Grammar.{skip_ows}
 use Rattle.ws_upgrade.proofs.members.trim_end.Given as goal

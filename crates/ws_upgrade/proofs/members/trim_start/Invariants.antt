@@ -1,3 +1,4 @@
+-- Byte after byte from the start: only spaces and tabs were left out so far.
 use Rattle.std.proofs.Common.{◌≡◌, length}
 use Rattle.httparse.specs.Grammar.{skip_ows}
 use Rattle.ws_upgrade.proofs.members.trim_start.Given as goal

@@ -1,3 +1,4 @@
+-- A name that is first found at its own place differs from those before it; one found earlier stands twice.
 use Rattle.std.proofs.Common.{rules, ◌≡◌, ◌∙◌, sym, List, ℕ, Bor, Some, map}
 use Rattle.ws_upgrade.proofs.ProtocolLemmas.{AreDistinctBelow-more, first_elsewhere, first_place, place_or_none, text_at}
 use Rattle.ws_upgrade.proofs.protocols.are_distinct.Goals as goal

@@ -1,3 +1,4 @@
+-- Name after name: no two of the names so far are equal.
 use Rattle.std.proofs.Common.{map}
 use Rattle.ws_upgrade.proofs.ProtocolLemmas.{AreDistinctBelow}
 use Rattle.ws_upgrade.proofs.protocols.are_distinct.Given as goal

@@ -1,3 +1,4 @@
+-- Names can be offered exactly where they are few, each is a right name, and no two are equal.
 use Rattle.std.proofs.Common.{rules, List, ℕ, Bor, ◌≤◌, length, map, IsTrue}
 use Rattle.std.proofs.Math.ListN.{length-map}
 use Rattle.std.proofs.lemmas.List.Elements.{All-map}

@@ -1,3 +1,4 @@
+-- A request is refused for the fault that is found in its parts, as they stand in its grammar.
 use Rattle.std.proofs.Common.{◌≡◌, subst}
 use Rattle.ws_upgrade.specs.Heads.{RequestParts, request_parts, IsRequestRefusal}
 use Rattle.ws_upgrade.proofs.requests.answer.Goals as goal

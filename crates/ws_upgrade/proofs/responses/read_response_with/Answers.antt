@@ -1,3 +1,4 @@
+-- What the parser finds at the front is answered as a response there, and where it finds none more bytes may make one.
 use Rattle.std.proofs.Common.{rules, arith, inr, map}
 use Rattle.httparse.specs.Spans.{IsResponseOf}
 use Rattle.httparse.specs.Grammar.{HasNoResponse, MayBecomeResponse}

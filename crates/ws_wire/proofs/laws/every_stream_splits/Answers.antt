@@ -1,3 +1,4 @@
+-- Every list of bytes splits into frames and a rest, be the frames as they are sent or with headers in any form.
 use Rattle.ws_wire.specs.Frame.{FitsTheLayout, frame_bytes, IsWireFrame, wire_bytes}
 use Rattle.ws_wire.proofs.Frames.{frame_told, wire_told}
 use Rattle.ws_wire.proofs.Splits.{some_split}

@@ -1,3 +1,4 @@
+-- Bytes are masked by the rule on each byte exactly where they are the masked list.
 use Rattle.ws_wire.proofs.Masks.{masked_is_rule, rule_is_masked}
 use Rattle.std.proofs.Common.{subst, sym, List, ℕ}
 use Rattle.ws_wire.specs.Masking.{IsMasked}

@@ -1,3 +1,4 @@
+-- A stream splits into frames and a rest in one way, be the frames as they are sent or with headers in any form.
 use Rattle.ws_wire.specs.Frame.{FitsTheLayout, frame_bytes, IsWireFrame, wire_bytes}
 use Rattle.ws_wire.proofs.Frames.{none_begins, wire_none_begins}
 use Rattle.ws_wire.proofs.Splits.{split_is_one}

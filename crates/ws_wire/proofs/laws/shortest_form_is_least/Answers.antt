@@ -1,3 +1,4 @@
+-- The shortest form of a length holds it, no shorter form does, and no other form is the shortest.
 use Rattle.ws_wire.proofs.Frames.{shortest_is_least, shortest_is_one}
 use Rattle.ws_wire.proofs.laws.shortest_form_is_least.Goals as goal
 

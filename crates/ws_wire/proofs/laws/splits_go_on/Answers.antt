@@ -1,3 +1,4 @@
+-- With more bytes a stream splits into the frames before and those of the old rest and the new bytes.
 use Rattle.ws_wire.specs.Frame.{FitsTheLayout, frame_bytes, IsWireFrame, wire_bytes}
 use Rattle.ws_wire.proofs.Splits.{split_goes_on}
 use Rattle.ws_wire.proofs.laws.splits_go_on.Goals as goal

@@ -1,3 +1,4 @@
+-- A turned key, eight times over, fills the lanes of a vector as masking asks.
 use Rattle.std.proofs.Common.{◌∙◌, arith}
 use Rattle.ws_wire.proofs.Masks.{eight_times, four_again}
 use Rattle.ws_wire.proofs.masking.key_lanes.Goals as goal

@@ -1,3 +1,4 @@
+-- Vector after vector and then the rest, all bytes are masked, by the list and by the rule on each byte.
 use Rattle.std.proofs.Common.{◌∙◌, List, ℕ, sym, subst, arith}
 use Rattle.ws_wire.specs.Masking.{IsMasked}
 use Rattle.ws_wire.proofs.Masks.{masked_is_rule, lanes_more, lanes_done}

@@ -1,3 +1,4 @@
+-- Vector after vector: the bytes so far are masked, and the rest begins at the same phase.
 use Rattle.std.proofs.Common.{◌≡◌, ◌++◌, ◌-◌, ◌≤◌, length, take, drop}
 use Rattle.ws_wire.specs.Masking.{masked}
 use Rattle.ws_wire.proofs.masking.mask.Given as goal

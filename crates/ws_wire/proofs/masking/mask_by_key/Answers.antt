@@ -1,3 +1,4 @@
+-- Four bytes xored with the lanes of a turned key are masked.
 use Rattle.ws_wire.proofs.Masks.{stored_lanes}
 use Rattle.ws_wire.proofs.masking.mask_by_key.Goals as goal
 

@@ -1,3 +1,4 @@
+-- A vector's bytes xored with the lanes of a key are masked.
 use Rattle.ws_wire.proofs.Masks.{stored_lanes}
 use Rattle.ws_wire.proofs.masking.mask_lanes.Goals as goal
 

@@ -1,3 +1,4 @@
+-- Once the loop has passed all bytes, each is masked by the rule.
 use Rattle.std.proofs.Common.{◌≡◌, List, ℕ, sym, subst, arith}
 use Rattle.ws_wire.specs.Masking.{masked, IsMasked}
 use Rattle.ws_wire.proofs.Masks.{masked_is_rule, masked_done}

@@ -1,3 +1,4 @@
+-- Byte after byte: the bytes so far are masked, and the phase moves with them.
 use Rattle.std.proofs.Common.{◌≡◌, ◌+◌, ◌++◌, take, drop}
 use Rattle.ws_wire.specs.Masking.{masked}
 use Rattle.ws_wire.proofs.masking.mask_plainly.Given as goal

@@ -1,3 +1,4 @@
+-- Four bytes after four bytes: the bytes so far are masked, and the rest begins at the same phase.
 use Rattle.std.proofs.Common.{◌≡◌, ◌++◌, ◌-◌, ◌≤◌, length, take, drop}
 use Rattle.ws_wire.specs.Masking.{masked}
 use Rattle.ws_wire.proofs.masking.mask_rest.Given as goal

@@ -1,3 +1,4 @@
+-- A key turned to a phase has in each lane the key byte of that place.
 use Rattle.std.proofs.Common.{refl}
 use Rattle.ws_wire.proofs.Masks.{once}
 use Rattle.ws_wire.proofs.masking.turned_key.Goals as goal

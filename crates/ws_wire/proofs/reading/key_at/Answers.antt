@@ -1,3 +1,4 @@
+-- Where MASK is set and fewer than four bytes follow, the key is cut.
 use Rattle.ws_wire.proofs.HeaderLengths.{key_cut}
 use Rattle.ws_wire.proofs.reading.key_at.Goals as goal
 

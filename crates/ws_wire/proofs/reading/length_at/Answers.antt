@@ -1,3 +1,4 @@
+-- The two or eight bytes behind 126 or 127 are read as the length that they spell.
 use Rattle.std.proofs.Common.{◌≡◌, ◌%◌, arith, get_or, ◌∙◌}
 use Rattle.ws_wire.proofs.Headers.{two_read, eight_read}
 use Rattle.ws_wire.proofs.reading.length_at.Goals as goal

@@ -1,3 +1,4 @@
+-- Case after case: the lines are those of the cases so far.
 use Rattle.std.proofs.Common.{◌≡◌, flat_map, string_bytes, take}
 use Rattle.wst_commands.specs.Cases.{case_line}
 use Rattle.wst_commands.proofs.cases.lines_of.Given as goal

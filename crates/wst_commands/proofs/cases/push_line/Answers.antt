@@ -1,3 +1,4 @@
+-- The line of a case that is added has its name, and how many turns its script has.
 use Rattle.std.proofs.Common.{rules, ◌≡◌, ◌∙◌, ◌++◌, ap, [], ◌∷◌, length, string_bytes, ℕ, List, Some}
 use Rattle.std.specs.Fmt.{decimal}
 use Rattle.ws_scripts.specs.Scripts.{turns_of}

@@ -1,3 +1,4 @@
+-- What is delivered of a capture is what format 2 is written as.
 use Rattle.std.proofs.Common.{rules, ◌≡◌, refl}
 use Rattle.ws_frame.specs.Devices.{watched}
 use Rattle.ws_scripts.specs.Captures2.{written_capture2}

@@ -1,3 +1,4 @@
+-- The lines below a verdict Loose or Fail are those that explain it.
 use Rattle.std.proofs.Common.{string_bytes}
 use Rattle.wst_commands.proofs.Explained.{fail_explained, loose_explained}
 use Rattle.wst_commands.proofs.explaining.lines_below.Goals as goal

@@ -1,3 +1,4 @@
+-- Word after word the cases that it stands for are added, and a word that stands for none is the one that is lacking.
 use Rattle.std.proofs.Common.{Bool, true, ℕ, List, [], ◌+◌, drop, map, string_bytes, subst, take, slice_index_or}
 use Rattle.std.specs.Borrow.{Bor}
 use Rattle.std.specs.declared.alloc.Global.{Global}

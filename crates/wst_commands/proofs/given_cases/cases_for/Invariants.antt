@@ -1,3 +1,4 @@
+-- Word after word: the cases are those that the words so far stand for.
 use Rattle.std.proofs.Common.{map, string_bytes, take}
 use Rattle.wst_commands.specs.GivenCases.{AreCasesBy, names_of}
 use Rattle.wst_commands.proofs.given_cases.cases_for.Given as goal

@@ -1,3 +1,4 @@
+-- Name after name: the ids are the names so far that are meant.
 use Rattle.std.proofs.Common.{◌≡◌, filter, map, string_bytes, take}
 use Rattle.wst_commands.specs.GivenCases.{is_meant, names_of}
 use Rattle.wst_commands.proofs.given_cases.names_meant.Given as goal

@@ -1,3 +1,4 @@
+-- The case that is found by its name has this name, can be run, and stands at the end.
 use Rattle.std.proofs.Common.{rules, ◌≡◌, [], ◌∷◌, ◌++◌, string_bytes}
 use Rattle.ws_scripts.specs.Scripts.{CanBeRun}
 use Rattle.wst_commands.proofs.given_cases.push_case.Goals as goal

@@ -1,3 +1,4 @@
+-- The case of the next id stands behind those of the ids before it.
 use Rattle.std.proofs.Common.{Bool, ℕ, List, [], slice_index_or, subst}
 use Rattle.std.specs.Borrow.{Bor}
 use Rattle.wst_commands.specs.GivenCases.{GrowsByCase}

@@ -1,3 +1,4 @@
+-- Id after id: the cases of the ids so far stand at the end.
 use Rattle.std.proofs.Common.{◌≡◌, ◌++◌, List, take}
 use Rattle.ws_scripts.specs.declared.script.Case.{Case}
 use Rattle.wst_commands.specs.GivenCases.{AreCasesOf, names_of}

@@ -1,3 +1,4 @@
+-- The line that is told says that there is no case of this name.
 use Rattle.std.proofs.Common.{◌≡◌, ◌∙◌, inl, refl, subst, List, ℕ}
 use Rattle.ws_frame.specs.Devices.{watched}
 use Rattle.wst_commands.specs.Devices.{Tells}

@@ -1,3 +1,4 @@
+-- An input that was read whole is judged as the capture that its text is.
 use Rattle.std.proofs.Common.{ℕ, List, inl, subst}
 use Rattle.ws_frame.specs.Devices.{watched}
 use Rattle.wst_commands.specs.Judge.{AnswersCapture}

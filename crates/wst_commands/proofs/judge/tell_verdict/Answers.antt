@@ -1,3 +1,4 @@
+-- What is delivered is the verdict's line with the explanation below it, and the exit is that of the verdict.
 use Rattle.std.proofs.Common.{rules, ◌≡◌, ◌++◌, string_bytes}
 use Rattle.ws_frame.specs.Devices.{watched}
 use Rattle.wst_commands.specs.Judge.{exit_of, verdict_line}

@@ -1,3 +1,4 @@
+-- What is delivered are the lines of the report on the moves.
 use Rattle.std.proofs.Common.{◌∙◌, refl}
 use Rattle.ws_frame.specs.Devices.{watched}
 use Rattle.ws_pair.specs.ReportLines.{report_lines}

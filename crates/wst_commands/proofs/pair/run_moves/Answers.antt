@@ -1,3 +1,4 @@
+-- An input that was read whole is played as the script that its text is, under the limits that the options give.
 use Rattle.std.proofs.Common.{inl, subst}
 use Rattle.ws_frame.specs.Devices.{watched}
 use Rattle.ws_session.specs.Limits.{LimitsValue}

@@ -1,3 +1,4 @@
+-- What is delivered is the line of the case, with what stands below it.
 use Rattle.std.proofs.Common.{rules, ◌≡◌, refl}
 use Rattle.ws_frame.specs.Devices.{watched}
 use Rattle.wst_testing.specs.Testing.{test_line}

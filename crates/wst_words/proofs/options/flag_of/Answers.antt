@@ -1,3 +1,4 @@
+-- The flag is what the option's one text gives, and none where it gives none.
 use Rattle.clap.proofs.WalkLemmas.{one_text-rows}
 use Rattle.clap.specs.Words.{found_of, rows_of}
 use Rattle.wst_words.proofs.WordLemmas.{flag_given}

@@ -1,3 +1,4 @@
+-- The number is the one of 64 bits that the option's one text gives, and none where it gives none.
 use Rattle.std.proofs.Common.{List, ℕ, Result}
 use Rattle.std.specs.Str.Parse.{ExplainsUnsignedError, HasUnsignedDigitsIfOk, ParsesUnsigned}
 use Rattle.std.specs.declared.num.ParseIntError.{ParseIntError}

@@ -1,3 +1,4 @@
+-- A command one of whose options has no value asks for nothing: `show`, `pair`, `session`, `serve`, `judge` and `tap`.
 use Rattle.std.proofs.Common.{rules, ◌≡◌, List, Option, Some, codes}
 use Rattle.clap.specs.Words.{Row, Text, found_of, rows_of}
 use Rattle.wst_words.specs.Words.{CommandAsks, CommandAsksNothing}

@@ -1,3 +1,4 @@
+-- A part that was taken whole is counted by its bytes, and its events are told at their places in all bytes taken.
 use Rattle.std.proofs.Common.{◌≡◌, ◌∙◌, ◌+◌, ◌++◌, List, ap, length, rules, string_bytes, subst}
 use Rattle.ws_session.specs.Taking.{HasTakenAll, TakeCall}
 use Rattle.ws_session.specs.declared.event.PlacedEvent.{PlacedEvent}

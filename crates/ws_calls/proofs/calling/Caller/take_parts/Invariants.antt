@@ -1,3 +1,4 @@
+-- Part after part: what stands before the rest of the piece was taken and told, and the rest grows shorter.
 use Rattle.std.proofs.Common.{◌≡◌, ◌+◌, ◌++◌, ℕ, List, length, string_bytes}
 use Rattle.ws_session.specs.declared.event.PlacedEvent.{PlacedEvent}
 use Rattle.ws_calls.specs.InnerSteps.{HasTakenPart, told_behind}

@@ -1,3 +1,4 @@
+-- The end of the input, called at an echo, is answered as such, ends the exchange, and its line is told.
 use Rattle.std.proofs.Common.{refl, sym, subst, true, string_bytes}
 use Rattle.ws_session.specs.Replies.{echo_reply_to}
 use Rattle.ws_calls.specs.declared.calls.EchoCall.{EchoCall}

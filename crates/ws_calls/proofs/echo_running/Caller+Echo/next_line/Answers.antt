@@ -1,3 +1,4 @@
+-- A line of an echo's script that is refused as damaged tells no call.
 use Rattle.ws_calls.specs.declared.calls.EchoCall.{EchoCall}
 use Rattle.ws_calls.specs.Script.{IsEchoCallLine}
 use Rattle.ws_calls.proofs.Damages.{err_passed}

@@ -1,3 +1,4 @@
+-- A line that is only checked is right or damaged just as when its call is kept.
 use Rattle.std.proofs.Common.{rules}
 use Rattle.ws_calls.specs.declared.calls.EchoCall.{EchoCall}
 use Rattle.ws_calls.specs.Script.{IsEchoCallLine}

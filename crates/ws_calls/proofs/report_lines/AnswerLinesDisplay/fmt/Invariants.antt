@@ -1,3 +1,4 @@
+-- Event after event: the lines of the events so far are written.
 use Rattle.std.proofs.Common.{take}
 use Rattle.std.specs.Fmt.{HasWritten, IsPlainFormatter}
 use Rattle.std.specs.List.{flat_map}

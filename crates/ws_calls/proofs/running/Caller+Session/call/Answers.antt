@@ -1,3 +1,4 @@
+-- The end of the input, called at a session, is answered as such, ends the exchange, and its line is told.
 use Rattle.std.proofs.Common.{refl, sym, subst, true, string_bytes}
 use Rattle.ws_session.specs.Replies.{reply_to}
 use Rattle.ws_calls.specs.declared.calls.Call.{Call}

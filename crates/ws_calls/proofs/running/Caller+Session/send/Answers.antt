@@ -1,3 +1,4 @@
+-- A send at a session is answered as its exchange allows: sent with these bytes, or refused for the reason told.
 use Rattle.ws_session.specs.Replies.{reply_to}
 use Rattle.ws_session.specs.Sends.{send_of}
 use Rattle.ws_calls.proofs.Sending.{has_sent}

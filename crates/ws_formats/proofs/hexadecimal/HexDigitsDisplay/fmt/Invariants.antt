@@ -1,3 +1,4 @@
+-- Byte after byte: the two digits of each byte so far are written.
 use Rattle.std.proofs.Common.{take}
 use Rattle.std.specs.Fmt.{HasWritten, IsPlainFormatter}
 use Rattle.ws_formats.specs.Words.{hex}

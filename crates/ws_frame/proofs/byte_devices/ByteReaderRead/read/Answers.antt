@@ -1,3 +1,4 @@
+-- A read of this reader for tests takes what it gives from the front of what is left.
 use Rattle.std.proofs.Common.{rules, arith}
 use Rattle.ws_frame.proofs.TestDeviceLemmas.{one_given}
 use Rattle.ws_frame.proofs.byte_devices.ByteReaderRead.read.Goals as goal

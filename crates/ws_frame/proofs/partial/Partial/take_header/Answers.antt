@@ -1,3 +1,4 @@
+-- Bytes of a header: more of it is kept, or it ends in the piece and its payload begins, or its length is bad.
 use Rattle.std.proofs.Common.{arith, ◌≡◌, ◌-◌, ◌++◌, List, ℕ, ap, sym, subst, length, take}
 use Rattle.ws_wire.specs.Header.{header_bytes}
 use Rattle.ws_wire.specs.Reading.{Begins, BeginsNoHeader}

@@ -1,3 +1,4 @@
+-- Bytes taken of a payload: more of it is kept and fewer are to come, or the frame is whole and none is under way.
 use Rattle.std.proofs.Common.{arith, rules, ◌≡◌, ◌∙◌, ◌-◌, List, [], ℕ, sym, subst, length, take}
 use Rattle.std.proofs.lemmas.List.{length-take-le}
 use Rattle.ws_wire.specs.Reading.{BeginsNoHeader}

@@ -1,3 +1,4 @@
+-- One byte more: its two digits stand behind those of the bytes before it.
 use Rattle.std.proofs.Common.{arith}
 use Rattle.ws_frame.proofs.LineLemmas.{digits_more}
 use Rattle.ws_frame.proofs.room.Room.push_hex.Goals as goal

@@ -1,3 +1,4 @@
+-- Byte after byte: the digits of the bytes so far stand behind what was in the room.
 use Rattle.std.proofs.Common.{◌≡◌, ◌+◌, ◌*◌, ◌++◌, length, take}
 use Rattle.ws_frame.specs.Lines.{hex}
 use Rattle.ws_frame.proofs.room.Room.push_hex.Given as goal

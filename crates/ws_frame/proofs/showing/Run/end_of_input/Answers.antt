@@ -1,3 +1,4 @@
+-- A stream that ends while bytes of a frame are kept is cut there, and these bytes have no bad length.
 use Rattle.std.proofs.Common.{refl}
 use Rattle.ws_frame.proofs.Runs.{some_left_over}
 use Rattle.ws_frame.proofs.Partials.{kept_is_no_bad_length}

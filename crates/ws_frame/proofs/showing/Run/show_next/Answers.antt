@@ -1,3 +1,4 @@
+-- One frame at most is taken of a piece: its line waits or is written once it is whole, and a bad length stops the run.
 use Rattle.std.proofs.Common.{arith, []}
 use Rattle.std.proofs.lemmas.Result.{err_from_is_err_and}
 use Rattle.std.proofs.KnownBytes.{Appends-nil}

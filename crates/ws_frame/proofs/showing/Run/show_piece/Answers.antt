@@ -1,3 +1,4 @@
+-- Frame after frame of a piece: what was written and what waits are the lines of the frames so far.
 use Rattle.std.proofs.Common.{arith, ◌≡◌, ◌∙◌, ◌+◌, ◌-◌, ◌<◌, ◌≤◌, ◌++◌, List, [], ℕ, Option, Some, None, length, take, drop, refl, sym, ap, append-nil, append_assoc, subst}
 use Rattle.std.specs.Prelude.{IfSome}
 use Rattle.std.proofs.lemmas.List.{take_all}

@@ -1,3 +1,4 @@
+-- Frame after frame: the lines of the frames in the bytes up to `at` were written or wait.
 use Rattle.std.proofs.Common.{◌≡◌, ◌≤◌, ◌+◌, ◌-◌, ◌++◌, false, List, ℕ, length, take}
 use Rattle.std.specs.Io.KnownBytes.{Appends}
 use Rattle.ws_frame.specs.Watching.{has_failed, inner_of}

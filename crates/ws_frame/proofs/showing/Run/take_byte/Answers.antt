@@ -1,3 +1,4 @@
+-- One byte of a stream: the line of the frame that it completes waits, and a bad length leaves no line.
 use Rattle.std.proofs.Common.{ℕ, List, arith, [], ◌∷◌, ◌++◌, sym, ap, ◌∙◌}
 use Rattle.ws_wire.specs.Header.{AreBytes}
 use Rattle.ws_wire.specs.Masking.{masked_payload}

@@ -1,3 +1,4 @@
+-- At its end a stream has all its lines: the last one is written, or a beginning of it where a write fails.
 use Rattle.std.proofs.Common.{List, ℕ, [], refl, sym, append-nil, subst}
 use Rattle.std.proofs.lemmas.Result.{err_from_is_err_and}
 use Rattle.std.proofs.KnownBytes.{Appends-nil}

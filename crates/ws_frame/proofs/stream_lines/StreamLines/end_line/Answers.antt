@@ -1,3 +1,4 @@
+-- At its end a stream has all its lines: those before, and the line answered, which is none after a bad length.
 use Rattle.std.proofs.Common.{List, ℕ, ◌++◌, refl, sym, ap, ◌∙◌, append-nil, subst}
 use Rattle.ws_frame.specs.Lines.{AreLinesOf}
 use Rattle.ws_frame.specs.declared.showing.StreamEnd.TheVariants.{BadLengthAt}

@@ -1,3 +1,4 @@
+-- A new run has shown no lines for no bytes.
 use Rattle.std.proofs.Common.{false, [], refl}
 use Rattle.ws_frame.proofs.Streams.{shown_inside}
 use Rattle.ws_frame.proofs.stream_lines.StreamLines.new.Goals as goal

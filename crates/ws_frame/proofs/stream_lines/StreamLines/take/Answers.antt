@@ -1,3 +1,4 @@
+-- More bytes of a stream: the lines that they make certain are written, and none follow a bad length.
 use Rattle.std.proofs.Common.{arith, ◌++◌, List, ℕ, [], true, refl, sym, append-nil, subst}
 use Rattle.std.proofs.lemmas.Result.{err_from_is_err_and}
 use Rattle.std.proofs.KnownBytes.{Appends-nil, Appends-trans}

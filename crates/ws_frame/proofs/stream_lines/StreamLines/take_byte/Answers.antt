@@ -1,3 +1,4 @@
+-- One byte more of a stream: the line answered is what it makes certain, and none follows a bad length.
 use Rattle.std.proofs.Common.{◌++◌, ◌∷◌, [], ap, ◌∙◌, arith}
 use Rattle.ws_frame.specs.declared.showing.Run.{Run}
 use Rattle.ws_frame.specs.declared.stream_lines.StreamLines.{StreamLines}

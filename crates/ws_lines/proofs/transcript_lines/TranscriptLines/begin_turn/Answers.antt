@@ -1,3 +1,4 @@
+-- A turn that begins is told: its line, and the lines of the frames that its bytes complete, or a beginning of these.
 use Rattle.std.specs.Prelude.{◌||◌, true}
 use Rattle.std.proofs.Common.{arith, Bool, ◌∙◌, ◌+◌, ◌++◌, List, ℕ, sym, ap, subst}
 use Rattle.std.proofs.lemmas.Result.{err_from_is_err_and}

@@ -1,3 +1,4 @@
+-- A transcript that ends is told: the lines of the cuts, and how it ended; where a write fails, a beginning of these.
 use Rattle.std.specs.Prelude.{◌||◌, true, false}
 use Rattle.std.proofs.Common.{Bool, ap, ◌∙◌, ◌++◌, List, ℕ, subst}
 use Rattle.std.proofs.lemmas.Result.{err_from_is_err_and}

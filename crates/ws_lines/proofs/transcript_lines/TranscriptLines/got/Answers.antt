@@ -1,3 +1,4 @@
+-- More bytes got in a turn are told: the lines of the frames that they complete, or a beginning of these.
 use Rattle.std.proofs.Common.{◌∙◌, ◌∷◌, ◌++◌, [], append_assoc, sym}
 use Rattle.std.proofs.lemmas.Result.{err_from_is_err_and}
 use Rattle.ws_lines.specs.TurnLines.{bytes_in, lines_in, got_by_tester}

@@ -1,3 +1,4 @@
+-- A new list of lines has told no turn, for either role of the tested end.
 use Rattle.std.proofs.Common.{◌∙◌, ap}
 use Rattle.ws_wire.specs.declared.role.Role.{Role}
 use Rattle.ws_frame.specs.declared.source.Source.{Source}

@@ -1,3 +1,4 @@
+-- Whichever move is made at an end of a link, its answer and the end after it are those of the move.
 use Rattle.std.proofs.Common.{ℕ, List, ap, sym, subst}
 use Rattle.ws_session.specs.Sends as send
 use Rattle.ws_pair.specs.declared.moves.Move.{Move}

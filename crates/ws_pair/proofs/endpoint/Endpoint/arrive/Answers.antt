@@ -1,3 +1,4 @@
+-- The bytes that come are the next of those that the other end has put, and the end has then taken so many more.
 use Rattle.std.proofs.Common.{ℕ, ◌+◌, ◌-◌, ◌≤◌, List, sym, ◌∙◌, arith, subst, length, take, drop}
 use Rattle.ws_pair.specs.InnerPlaying.{IsEnd, IsNextIn, grown}
 use Rattle.ws_pair.proofs.Bytes.{slice_is_next, comes_within, comes_uncut}

@@ -1,3 +1,4 @@
+-- Part after part: what stands before the rest of the piece has come to the end, and the rest grows shorter.
 use Rattle.std.proofs.Common.{◌≡◌, ◌++◌, ◌+◌, ◌<◌, ℕ, List, length, false}
 use Rattle.ws_wire.specs.declared.role.Role.{Role}
 use Rattle.ws_wire.specs.Frame.{KeyedFrame, stream_bytes}

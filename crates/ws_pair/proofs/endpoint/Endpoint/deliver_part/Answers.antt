@@ -1,3 +1,4 @@
+-- A part that the session takes whole leaves the end as one to which so many more bytes came, with their messages.
 use Rattle.std.proofs.Common.{◌≡◌, ◌∙◌, [], List, refl, subst}
 use Rattle.ws_session.specs.declared.event.PlacedEvent.{PlacedEvent}
 use Rattle.ws_session.specs.Replies.{reply_to}

@@ -1,3 +1,4 @@
+-- A frame sent or refused at an end of a link is the move of a send there, with this answer and this end after it.
 use Rattle.std.proofs.Common.{refl}
 use Rattle.ws_session.specs.Sends.{send_of}
 use Rattle.ws_pair.proofs.Acting.{after_call, send_moved}

@@ -1,3 +1,4 @@
+-- Message after message: the lines of the messages delivered so far are written.
 use Rattle.std.proofs.Common.{take}
 use Rattle.std.specs.Fmt.{HasWritten, IsPlainFormatter}
 use Rattle.std.specs.List.{flat_map}

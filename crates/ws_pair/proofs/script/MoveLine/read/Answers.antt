@@ -1,3 +1,4 @@
+-- The move that is read of a line is the one that its words tell; where none is read they tell none.
 use Rattle.std.proofs.Common.{◌≡◌, ◌∙◌, ap, sym, subst, map, List, ℕ}
 use Rattle.std.specs.Borrow.{Bor}
 use Rattle.ws_formats.specs.Words.{words_of}

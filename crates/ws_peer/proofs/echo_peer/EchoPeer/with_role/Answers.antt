@@ -1,3 +1,4 @@
+-- A new echo as a peer has had a talk in which nothing was said, and its session has taken nothing.
 use Rattle.std.proofs.Common.{◌∙◌, false, refl}
 use Rattle.ws_peer.specs.EchoTalks.{EchoPeerValue}
 use Rattle.ws_peer.specs.EchoRuns.{echo_end}

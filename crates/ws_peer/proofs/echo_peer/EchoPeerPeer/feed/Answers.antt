@@ -1,3 +1,4 @@
+-- A piece fed to an echo is one more entry of its talk, with its replies; where memory fails, its session stays sound.
 use Rattle.std.proofs.Common.{refl, subst, sym}
 use Rattle.ws_peer.specs.EchoTalks.{EchoPeerValue, MayHaveHad}
 use Rattle.ws_peer.proofs.EchoTalkLemmas.{says_fed, taken_more}

@@ -1,3 +1,4 @@
+-- An echo that is finished puts nothing more, and its talk ends so.
 use Rattle.std.proofs.Common.{[], sym, append-nil}
 use Rattle.ws_peer.proofs.EchoTalkLemmas.{had_finished}
 use Rattle.ws_peer.proofs.echo_peer.EchoPeerPeer.finish.Goals as goal

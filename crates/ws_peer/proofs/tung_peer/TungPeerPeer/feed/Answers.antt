@@ -1,3 +1,4 @@
+-- What the other implementation puts for a piece stands behind what it put before; no more is claimed of it.
 use Rattle.ws_peer.proofs.EchoTalkLemmas.{begun_by}
 use Rattle.ws_peer.proofs.tung_peer.TungPeerPeer.feed.Goals as goal
 

@@ -1,3 +1,4 @@
+-- The other implementation puts nothing when it is finished.
 use Rattle.std.proofs.Common.{[], sym, append-nil}
 use Rattle.ws_peer.proofs.tung_peer.TungPeerPeer.finish.Goals as goal
 

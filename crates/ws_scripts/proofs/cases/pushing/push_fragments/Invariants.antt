@@ -1,3 +1,4 @@
+-- Byte after byte: if the steps before could be sent, so can they with the fragments so far.
 use Rattle.ws_scripts.specs.Scripts.{FitHeaders}
 use Rattle.ws_scripts.proofs.cases.pushing.push_fragments.Given as goal
 

@@ -1,3 +1,4 @@
+-- Act after act of the row: the steps so far can be sent.
 use Rattle.ws_scripts.specs.Scripts.{FitHeaders}
 use Rattle.ws_scripts.proofs.cases.scripting.row_steps.Given as goal
 

@@ -1,3 +1,4 @@
+-- Where an echo's call lacks memory, memory was wanted: for a data frame's payload, or for an answer that is owed.
 use Rattle.std.proofs.Common.{subst}
 use Rattle.ws_session.specs.Replies.{echo_reply_to}
 use Rattle.ws_session.specs.Exchange.{SessionValue}

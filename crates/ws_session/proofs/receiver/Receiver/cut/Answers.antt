@@ -1,3 +1,4 @@
+-- A receiving side that cuts off what a failed call put in is sound again, with the same frame under way.
 use Rattle.std.proofs.Common.{◌≡◌, ◌∙◌, ap}
 use Rattle.ws_session.specs.InnerReceiving.{first_bytes, came_of}
 use Rattle.ws_session.specs.InnerReceiver.{ReceiverValue, IsReceiving}

@@ -1,3 +1,4 @@
+-- A frame whose header is whole is doomed exactly where no right frame begins with it, be it a data or a control frame.
 use Rattle.std.proofs.Common.{◌∙◌, List, ℕ, not, sym, ap, subst}
 use Rattle.ws_session.specs.declared.receiver.under_way.UnderWay.{UnderWay}
 use Rattle.ws_session.specs.declared.receiver.under_way.UnderWay.TheVariants.{Data, Control}

@@ -1,31 +1,94 @@
-use Rattle.std.proofs.Common.{◌≡◌, ◌∙◌, List, ℕ, subst}
-use Rattle.ws_session.specs.Exchange.{SessionValue}
-use Rattle.ws_session.specs.Taking.{HasTaken}
-use Rattle.ws_session.specs.InnerInvariant.{reply_by}
-use Rattle.ws_session.specs.InnerReceiver.{session_with, status_by}
-use Rattle.ws_session.specs.Memory.{WantsMemory}
-use Rattle.ws_session.proofs.Calls.{call_of}
-use Rattle.ws_session.proofs.Exact.{kept_same}
-use Rattle.ws_session.proofs.SessionParts.{same_session}
-use Rattle.ws_session.proofs.Wants.{on_err}
+-- What a call of the receiving side takes: of each thing that the check of the piece tells.
+use Rattle.std.proofs.Common.{◌≡◌, Option, Some, None, ap, subst}
+use Rattle.ws_wire.specs.declared.role.Role.{Role}
+use Rattle.ws_session.specs.declared.event.Event.TheVariants as event
+use Rattle.ws_session.specs.declared.replying.Replying.{Replying}
+use Rattle.ws_session.specs.declared.receiver.frame_check.PieceCheck.{PieceCheck}
+use Rattle.ws_session.specs.declared.receiver.frame_check.PieceCheck.TheVariants as piece_check
+use Rattle.ws_session.specs.declared.receiver.frame_check.Content.TheVariants as content
+use Rattle.ws_session.specs.InnerReceiving.{IsPieceCheck}
+use Rattle.ws_session.specs.InnerReceiver.{ReceiverValue, IsOwed, HasReceived, receiver_of, event_of_kept, opened_by, telling}
+use Rattle.ws_session.specs.InnerTaking.{Receives, WantsRoom}
+use Rattle.ws_session.proofs.ReceivedCalls.{receives_frame, receives_fault, frame_wants, fault_wants, as_role}
+use Rattle.ws_session.proofs.Wants.{ok_so, err_so}
 use Rattle.ws_session.proofs.receiver.Receiver.take.Goals as goal
 
-pub returns-clause-taken : goal.returns-clause-taken
-returns-clause-taken c = λ sending can.
-    let r = c.args.replying.now in
-    let e = c.in_ok-taken.ensures in
-    let passed = e.passed c.in_default.is in
-    let cut = c.cut.ensures in
-    let taken = c.in_ok-taken-2.taken in
-    let same : session_with c.cut.new.self sending r.status ≡ session_with c.args.self.now sending r.status = same_session c.cut.new.self c.args.self.now sending r.status (cut.role ∙ e.role) (cut.limits ∙ e.limits) (cut.opened ∙ passed.0) (cut.partial ∙ passed.1) (kept_same c.cut.new.self c.args.self.now cut.exact c.requires.exact (cut.opened ∙ passed.0) (cut.came ∙ passed.3)) in
-    subst (λ (s : SessionValue). HasTaken (reply_by r.answering) s (session_with c.take_checked.new.self sending (status_by r.status taken.event)) (call_of c.args.piece.now r.key c.args.out.now.items c.take_checked.new.out.items) taken) same
-    (subst (λ (b : List ℕ). HasTaken (reply_by r.answering) (session_with c.cut.new.self sending r.status) (session_with c.take_checked.new.self sending (status_by r.status taken.event)) (call_of c.args.piece.now r.key b c.take_checked.new.out.items) taken) passed.2 (c.in_ok-taken-2.ensures.taken sending can))
+pub returns-in-Whole-clause-takes : goal.returns-in-Whole-clause-takes
+returns-in-Whole-clause-takes c =
+    let i = c.self.inside in
+    let v = c.args.self.now in
+    let b = c.check_piece.new.assembly in
+    let g = c.check_piece.new.frame in
+    let piece = c.args.piece.now in
+    let o : ReceiverValue = receiver_of i.role i.limits i.assembly i.frame in
+    let n : ReceiverValue = receiver_of i.role i.limits b g in
+    let r : Replying = record { role = v.role; status = c.args.status.now; answering = c.args.answering; key = c.args.key } in
+    let found : IsPieceCheck i.role i.limits i.assembly i.frame b g piece (Some c.in-Some.check) = subst (λ (x : Option PieceCheck). IsPieceCheck i.role i.limits i.assembly i.frame b g piece x) c.in-Some.is c.in_ok-check.ensures.checked in
+    let opened = c.in_ok-check.ensures.opened in
+    let used = c.in-Whole.used in
+    let x = content.Data c.in-Whole.fin c.in-Whole.kind c.in-Whole.text in
+    let told : IsPieceCheck i.role i.limits i.assembly i.frame b g piece (Some (piece_check.Whole used c.in-Whole.fin c.in-Whole.kind c.in-Whole.text)) = subst (λ (y : PieceCheck). IsPieceCheck i.role i.limits i.assembly i.frame b g piece (Some y)) c.in-Whole.is found in
+    let new = c.on_data.new.self in
+    let before = c.args.out.now.items in
+    let after = c.on_data.new.out.items in
+    let e = event_of_kept n x in
+    ok_so c.on_data.result (λ t. t ≡ telling used e) (λ t. HasReceived (as_role i.role r) n new before after e (opened_by n x)) (Receives r v new piece before after)
+    (λ t is came. receives_frame o v c.self.view_is piece b g opened r used new before after x t told.1 is (subst (λ (role : Role). HasReceived (as_role role r) n new before after e (opened_by n x)) (ap (λ (w : ReceiverValue). w.role) c.self.view_is) came))
+    c.on_data.ensures.told c.on_data.ensures.received
 
-pub returns-in_err-taken-2-clause-memory : goal.returns-in_err-taken-2-clause-memory
-returns-in_err-taken-2-clause-memory c = λ sending can.
-    let r = c.args.replying.now in
-    let e = c.in_ok-taken.ensures in
-    let passed = e.passed c.in_default.is in
-    let cut = c.cut.ensures in
-    let same : session_with c.cut.new.self sending r.status ≡ session_with c.args.self.now sending r.status = same_session c.cut.new.self c.args.self.now sending r.status (cut.role ∙ e.role) (cut.limits ∙ e.limits) (cut.opened ∙ passed.0) (cut.partial ∙ passed.1) (kept_same c.cut.new.self c.args.self.now cut.exact c.requires.exact (cut.opened ∙ passed.0) (cut.came ∙ passed.3)) in
-    on_err c.from_residual-in_err-taken-2.result _ (subst (λ (s : SessionValue). WantsMemory (reply_by r.answering) s c.args.piece.now) same (c.in_err-taken-2.ensures.memory sending can))
+pub returns-in-Whole-clause-wants : goal.returns-in-Whole-clause-wants
+returns-in-Whole-clause-wants c =
+    let i = c.self.inside in
+    let v = c.args.self.now in
+    let b = c.check_piece.new.assembly in
+    let g = c.check_piece.new.frame in
+    let piece = c.args.piece.now in
+    let o : ReceiverValue = receiver_of i.role i.limits i.assembly i.frame in
+    let n : ReceiverValue = receiver_of i.role i.limits b g in
+    let r : Replying = record { role = v.role; status = c.args.status.now; answering = c.args.answering; key = c.args.key } in
+    let found : IsPieceCheck i.role i.limits i.assembly i.frame b g piece (Some c.in-Some.check) = subst (λ (x : Option PieceCheck). IsPieceCheck i.role i.limits i.assembly i.frame b g piece x) c.in-Some.is c.in_ok-check.ensures.checked in
+    let opened = c.in_ok-check.ensures.opened in
+    let used = c.in-Whole.used in
+    let x = content.Data c.in-Whole.fin c.in-Whole.kind c.in-Whole.text in
+    let told : IsPieceCheck i.role i.limits i.assembly i.frame b g piece (Some (piece_check.Whole used c.in-Whole.fin c.in-Whole.kind c.in-Whole.text)) = subst (λ (y : PieceCheck). IsPieceCheck i.role i.limits i.assembly i.frame b g piece (Some y)) c.in-Whole.is found in
+    err_so c.on_data.result (IsOwed r (event_of_kept n x)) (WantsRoom (IsOwed r) v piece) (λ owed. frame_wants o v c.self.view_is piece b g opened (IsOwed r) used x told.1 owed) c.on_data.ensures.owed
+
+pub returns-in-Fault-clause-takes : goal.returns-in-Fault-clause-takes
+returns-in-Fault-clause-takes c =
+    let i = c.self.inside in
+    let v = c.args.self.now in
+    let b = c.check_piece.new.assembly in
+    let g = c.check_piece.new.frame in
+    let piece = c.args.piece.now in
+    let o : ReceiverValue = receiver_of i.role i.limits i.assembly i.frame in
+    let n : ReceiverValue = receiver_of i.role i.limits b g in
+    let r : Replying = record { role = v.role; status = c.args.status.now; answering = c.args.answering; key = c.args.key } in
+    let found : IsPieceCheck i.role i.limits i.assembly i.frame b g piece (Some c.in-Some.check) = subst (λ (x : Option PieceCheck). IsPieceCheck i.role i.limits i.assembly i.frame b g piece x) c.in-Some.is c.in_ok-check.ensures.checked in
+    let opened = c.in_ok-check.ensures.opened in
+    let used = c.in-Fault.used in
+    let reason = c.in-Fault.reason in
+    let told : IsPieceCheck i.role i.limits i.assembly i.frame b g piece (Some (piece_check.Fault reason used)) = subst (λ (y : PieceCheck). IsPieceCheck i.role i.limits i.assembly i.frame b g piece (Some y)) c.in-Fault.is found in
+    let new = c.on_fault.new.self in
+    let before = c.args.out.now.items in
+    let after = c.on_fault.new.out.items in
+    let e = event.Failed reason in
+    ok_so c.on_fault.result (λ t. t ≡ telling used e) (λ t. HasReceived (as_role i.role r) n new before after e None) (Receives r v new piece before after)
+    (λ t is came. receives_fault o v c.self.view_is piece b g opened r used new before after reason t c.check_piece.ensures.bytes told.1 is (subst (λ (role : Role). HasReceived (as_role role r) n new before after e None) (ap (λ (w : ReceiverValue). w.role) c.self.view_is) came))
+    c.on_fault.ensures.told c.on_fault.ensures.received
+
+pub returns-in-Fault-clause-wants : goal.returns-in-Fault-clause-wants
+returns-in-Fault-clause-wants c =
+    let i = c.self.inside in
+    let v = c.args.self.now in
+    let b = c.check_piece.new.assembly in
+    let g = c.check_piece.new.frame in
+    let piece = c.args.piece.now in
+    let o : ReceiverValue = receiver_of i.role i.limits i.assembly i.frame in
+    let n : ReceiverValue = receiver_of i.role i.limits b g in
+    let r : Replying = record { role = v.role; status = c.args.status.now; answering = c.args.answering; key = c.args.key } in
+    let found : IsPieceCheck i.role i.limits i.assembly i.frame b g piece (Some c.in-Some.check) = subst (λ (x : Option PieceCheck). IsPieceCheck i.role i.limits i.assembly i.frame b g piece x) c.in-Some.is c.in_ok-check.ensures.checked in
+    let opened = c.in_ok-check.ensures.opened in
+    let used = c.in-Fault.used in
+    let reason = c.in-Fault.reason in
+    let told : IsPieceCheck i.role i.limits i.assembly i.frame b g piece (Some (piece_check.Fault reason used)) = subst (λ (y : PieceCheck). IsPieceCheck i.role i.limits i.assembly i.frame b g piece (Some y)) c.in-Fault.is found in
+    err_so c.on_fault.result (IsOwed r (event.Failed reason)) (WantsRoom (IsOwed r) v piece) (λ owed. fault_wants o v c.self.view_is piece b g opened (IsOwed r) used reason c.check_piece.ensures.bytes told.1 owed) c.on_fault.ensures.owed

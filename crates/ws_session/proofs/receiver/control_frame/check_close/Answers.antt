@@ -1,3 +1,4 @@
+-- A whole close payload is right where it reads as a close, and else its first fault is the one that reading it tells.
 use Rattle.std.proofs.Common.{length, refl, sym, subst}
 use Rattle.ws_session.specs.declared.reason.Reason.{Reason}
 use Rattle.ws_session.specs.InnerChecking.{IsFirstInPayload}

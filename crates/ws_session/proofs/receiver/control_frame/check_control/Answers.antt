@@ -1,3 +1,4 @@
+-- The payload of a control frame is checked with what came before: kept as a part of it, or checked as the whole.
 use Rattle.std.proofs.Common.{◌≡◌, ◌∙◌, ◌-◌, ◌++◌, length, take, List, ℕ, Option, ap, arith}
 use Rattle.std.specs.Prelude.{min}
 use Rattle.ws_session.specs.InnerMasked.{masked_from}

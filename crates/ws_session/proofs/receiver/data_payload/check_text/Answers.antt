@@ -1,6 +1,7 @@
-use Rattle.std.proofs.Common.{◌≡◌, ◌∙◌, ◌+◌, ◌++◌, ◌≤◌, length, drop, List, ℕ, Option, refl, sym, ap, subst, arith}
-use Rattle.std.proofs.lemmas.List.{length-append, length-drop}
-use Rattle.ws_text.specs.Text.{IsText, BeginsText}
+-- New bytes of a text break it at a place, or cut its last character at the end of the message, or go on with it.
+use Rattle.std.proofs.Common.{◌≡◌, ◌+◌, ◌++◌, length, drop, List, ℕ, Option, refl, sym, ap, subst, arith}
+use Rattle.std.proofs.lemmas.List.{length-drop}
+use Rattle.ws_text.specs.Text.{BeginsText}
 use Rattle.ws_text.specs.Stream.{HasReadText, BreaksTextAt}
 use Rattle.ws_session.specs.Faults.{IsOfText, open_payload}
 use Rattle.ws_session.specs.InnerReceiving.{first_bytes, frame_payload}
@@ -12,8 +13,8 @@ pub returns-in-Err : goal.returns-in-Err
 returns-in-Err c =
     let a = c.args.assembly.now in
     let h = c.args.header.now in
-    let of_text : IsOfText a.opened h = c.is_of_text.ensures.0 c.if-not-is_of_text.false in
-    let read : HasReadText c.text-text.result (first_bytes a c.args.came) = subst (λ (t : Option (List ℕ)). HasReadText t (first_bytes a c.args.came)) (sym c.text-text.ensures) (c.requires.read of_text) in
+    let of_text : IsOfText a.opened h = c.requires.of_text in
+    let read : HasReadText c.text-text.result (first_bytes a c.args.came) = subst (λ (t : Option (List ℕ)). HasReadText t (first_bytes a c.args.came)) (sym c.text-text.ensures) c.requires.read in
     let breaks : BreaksTextAt (first_bytes a c.args.came) (drop c.args.came (frame_payload a)) c.in-Err.place = subst (λ (l : List ℕ). BreaksTextAt (first_bytes a c.args.came) l c.in-Err.place) c.new_bytes-bytes.ensures (c.in-Err.ensures.place (first_bytes a c.args.came) read) in
     text_broken a h c.args.came c.requires.opcode c.requires.within c.requires.kept c.requires.joined c.in-Err.place of_text breaks
 
@@ -21,8 +22,8 @@ pub returns-then-is_cut : goal.returns-then-is_cut
 returns-then-is_cut c =
     let a = c.args.assembly.now in
     let h = c.args.header.now in
-    let of_text : IsOfText a.opened h = c.is_of_text.ensures.0 c.if-not-is_of_text.false in
-    let read : HasReadText c.text-text.result (first_bytes a c.args.came) = subst (λ (t : Option (List ℕ)). HasReadText t (first_bytes a c.args.came)) (sym c.text-text.ensures) (c.requires.read of_text) in
+    let of_text : IsOfText a.opened h = c.requires.of_text in
+    let read : HasReadText c.text-text.result (first_bytes a c.args.came) = subst (λ (t : Option (List ℕ)). HasReadText t (first_bytes a c.args.came)) (sym c.text-text.ensures) c.requires.read in
     let all : HasReadText c.push.new.self (first_bytes a c.args.came ++ drop c.args.came (frame_payload a)) = subst (λ (l : List ℕ). HasReadText c.push.new.self (first_bytes a c.args.came ++ l)) c.new_bytes-bytes.ensures (c.in_default.ensures.read (first_bytes a c.args.came) read) in
     let begins : BeginsText (first_bytes a c.args.came ++ drop c.args.came (frame_payload a)) = subst (λ (l : List ℕ). BeginsText (first_bytes a c.args.came ++ l)) c.new_bytes-bytes.ensures ((c.in_default.ensures.fits (first_bytes a c.args.came) read).0 refl) in
     let is = (c.is_cut.ensures a.payload (read_all a h c.args.came c.requires.opcode c.requires.within c.requires.kept c.requires.joined c.push.new.self all)).0 c.if-is_cut.true in
@@ -34,8 +35,8 @@ pub returns : goal.returns
 returns c =
     let a = c.args.assembly.now in
     let h = c.args.header.now in
-    let of_text : IsOfText a.opened h = c.is_of_text.ensures.0 c.if-not-is_of_text.false in
-    let read : HasReadText c.text-text.result (first_bytes a c.args.came) = subst (λ (t : Option (List ℕ)). HasReadText t (first_bytes a c.args.came)) (sym c.text-text.ensures) (c.requires.read of_text) in
+    let of_text : IsOfText a.opened h = c.requires.of_text in
+    let read : HasReadText c.text-text.result (first_bytes a c.args.came) = subst (λ (t : Option (List ℕ)). HasReadText t (first_bytes a c.args.came)) (sym c.text-text.ensures) c.requires.read in
     let all : HasReadText c.push.new.self (first_bytes a c.args.came ++ drop c.args.came (frame_payload a)) = subst (λ (l : List ℕ). HasReadText c.push.new.self (first_bytes a c.args.came ++ l)) c.new_bytes-bytes.ensures (c.in_default.ensures.read (first_bytes a c.args.came) read) in
     let begins : BeginsText (first_bytes a c.args.came ++ drop c.args.came (frame_payload a)) = subst (λ (l : List ℕ). BeginsText (first_bytes a c.args.came ++ l)) c.new_bytes-bytes.ensures ((c.in_default.ensures.fits (first_bytes a c.args.came) read).0 refl) in
     let whole_read = read_all a h c.args.came c.requires.opcode c.requires.within c.requires.kept c.requires.joined c.push.new.self all in

@@ -1,3 +1,4 @@
+-- More bytes can end a close payload by room for a code, by a code's first byte, or by the end of the reason's text.
 use Rattle.std.proofs.Common.{refl, arith}
 use Rattle.std.proofs.lemmas.Bool.{leb-true, le-leb}
 use Rattle.ws_wire.specs.Header.{AreBytes}

@@ -1,3 +1,4 @@
+-- A ping or pong under way can always become right, and a close where more bytes can make a close payload of it.
 use Rattle.std.proofs.Common.{◌≡◌, ◌-◌, length, refl, sym, ap, subst}
 use Rattle.ws_session.specs.InnerDoomed.{CanEndClose}
 use Rattle.ws_session.proofs.RightFronts.{ping_can, close_can, close_ends}

@@ -1,3 +1,4 @@
+-- A data frame under way can become right exactly where its payload has room for what its text still wants at the end.
 use Rattle.std.proofs.Common.{◌≡◌, ◌-◌, ap, arith}
 use Rattle.std.proofs.lemmas.Bool.{leb-true, le-leb}
 use Rattle.ws_session.proofs.RightFronts.{data_can, data_ends}

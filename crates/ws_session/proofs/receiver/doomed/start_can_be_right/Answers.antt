@@ -1,3 +1,4 @@
+-- First bytes of a header can become right where their least header breaks no rule and leaves its text and code room.
 use Rattle.std.proofs.Common.{not, ap, arith, eq-eqb, eqb-true}
 use Rattle.ws_session.proofs.DoomedNow.{start_can, least_is_fine, half_is_open}
 use Rattle.ws_session.proofs.receiver.doomed.start_can_be_right.Goals as goal

@@ -1,3 +1,4 @@
+-- So many more bytes can end a text exactly where its unfinished character wants no more than these.
 use Rattle.std.proofs.Common.{[], arith}
 use Rattle.std.proofs.lemmas.Bool.{leb-true, le-leb}
 use Rattle.ws_session.proofs.RightPayloads.{can_end_text}

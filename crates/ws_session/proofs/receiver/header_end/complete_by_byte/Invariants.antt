@@ -1,3 +1,4 @@
+-- Byte after byte: what was kept and the bytes so far begin no whole header.
 use Rattle.std.proofs.Common.{◌≡◌, ◌++◌, take}
 use Rattle.ws_wire.specs.Reading.{BeginsNoHeader}
 use Rattle.ws_session.proofs.receiver.header_end.complete_by_byte.Given as goal

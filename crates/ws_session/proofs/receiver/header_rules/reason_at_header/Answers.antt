@@ -1,3 +1,4 @@
+-- The first reason of the list that applies at a header is its lowest, and where none of them does no reason applies.
 use Rattle.std.proofs.Common.{arith}
 use Rattle.ws_session.specs.declared.reason.Reason.{Reason}
 use Rattle.ws_session.specs.Faults.{AppliesAtHeader}

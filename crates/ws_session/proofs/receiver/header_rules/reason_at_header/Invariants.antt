@@ -1,3 +1,4 @@
+-- Reason after reason: none of those so far applies at the header.
 use Rattle.std.proofs.Common.{◌≤◌}
 use Rattle.ws_session.specs.declared.reason.Reason.{Reason}
 use Rattle.ws_session.specs.Faults.{AppliesAtHeader}

@@ -1,3 +1,4 @@
+-- The header read of the first bytes, filled up, has the least payload of all headers that begin with them.
 use Rattle.ws_session.proofs.LeastHeaders.{least_of_bytes}
 use Rattle.ws_session.proofs.receiver.least_header.least_header.Goals as goal
 

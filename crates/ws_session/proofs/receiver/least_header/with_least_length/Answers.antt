@@ -1,3 +1,4 @@
+-- First bytes and zeros, or one length byte more where all that came are zero, have their form's least length.
 use Rattle.std.proofs.Common.{ℕ, ◌-◌, ◌≤◌, length, take, drop, set, List, refl, false, sym, arith, inl, inr, subst}
 use Rattle.std.specs.Prelude.{IsTrue}
 use Rattle.std.specs.Int.{w16, w64}

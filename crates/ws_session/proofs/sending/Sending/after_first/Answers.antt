@@ -1,3 +1,4 @@
+-- The first frame of a text or of a binary message: what is kept once it is sent, or the first reason why it isn't.
 use Rattle.std.proofs.Common.{[], refl}
 use Rattle.ws_session.specs.declared.message.Kind.TheVariants.{Text, Binary}
 use Rattle.ws_session.proofs.DataSends.{begun_checked}

@@ -1,3 +1,4 @@
+-- The next frame of an open text: what is kept once it is sent, or the first reason why it isn't.
 use Rattle.std.proofs.Common.{rules, ◌≡◌, Some}
 use Rattle.ws_session.specs.declared.sending.SentSoFar.TheVariants as so_far
 use Rattle.ws_session.specs.InnerSending.{sending_of, HasReadSome}

@@ -1,3 +1,4 @@
+-- A session whose stream has ended agrees with the same exchange, ended.
 use Rattle.std.proofs.Common.{◌∙◌, ap, sym}
 use Rattle.ws_session.specs.declared.status.Status.{Status}
 use Rattle.ws_session.specs.Exchange.{is_over}

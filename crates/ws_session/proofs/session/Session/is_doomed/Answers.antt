@@ -1,3 +1,4 @@
+-- The frame under way is doomed exactly where all that the session took ends doomed.
 use Rattle.ws_session.proofs.DoomedStreams.{doomed_stream}
 use Rattle.ws_session.proofs.session.Session.is_doomed.Goals as goal
 

@@ -1,3 +1,4 @@
+-- A new session agrees with the exchange in which nothing was sent or taken.
 use Rattle.std.proofs.Common.{false, [], sym, subst}
 use Rattle.ws_session.specs.Exchange.{SessionValue, HasExchanged}
 use Rattle.ws_session.proofs.Fresh.{fresh}

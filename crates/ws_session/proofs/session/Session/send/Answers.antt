@@ -1,3 +1,4 @@
+-- A session that has sent a frame agrees with its exchange and this frame, as its state does.
 use Rattle.std.proofs.Common.{subst}
 use Rattle.ws_session.specs.Exchange.{SessionValue}
 use Rattle.ws_session.specs.Sends.{send_of, HasSent}

@@ -1,3 +1,4 @@
+-- Front after front of the piece is taken, to its end or the session's; where memory fails, that front changes nothing.
 use Rattle.std.proofs.Common.{◌≡◌, ◌-◌, ◌<◌, ◌∙◌, true, false, List, ℕ, ap, sym, refl, subst, arith, length, take, drop}
 use Rattle.std.proofs.lemmas.List.{take_rest, length-drop}
 use Rattle.ws_session.specs.declared.status.Status.{Status}

@@ -1,3 +1,4 @@
+-- Front after front: what is used so far was taken with its events and answers, and one that was over is unchanged.
 use Rattle.std.proofs.Common.{◌≡◌, ◌≤◌, ◌-◌, true, length, take}
 use Rattle.ws_session.specs.Exchange.{is_over}
 use Rattle.ws_session.specs.Taking.{HasTakenAll}

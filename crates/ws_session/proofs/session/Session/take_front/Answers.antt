@@ -1,3 +1,4 @@
+-- A front of the piece is taken with its event at its place, or quietly, without one, where there is no room for it.
 use Rattle.std.proofs.Common.{◌≡◌, ◌+◌, ◌++◌, ◌∙◌, ap, sym, subst, length, List, Option, Some, None}
 use Rattle.std.proofs.lemmas.List.{append-nil}
 use Rattle.ws_session.specs.declared.event.Event.{Event}

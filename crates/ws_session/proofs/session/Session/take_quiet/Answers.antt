@@ -1,3 +1,4 @@
+-- A piece that gives no event is taken whole, for either way of answering; where memory fails, it was wanted.
 use Rattle.std.proofs.Common.{◌≡◌, ◌∙◌, true, false, length, [], None, sym, ap, subst}
 use Rattle.ws_session.specs.declared.session.Answering.TheVariants.{Plain}
 use Rattle.ws_session.specs.Exchange.{SessionValue, is_over}

@@ -1,3 +1,4 @@
+-- The next event of the turn is collected behind those before it.
 use Rattle.std.proofs.Common.{◌≡◌, ◌∙◌, ◌++◌, ◌∷◌, [], List, ap, sym, rules, append_assoc, reverse}
 use Rattle.ws_session.specs.declared.event.Event.{Event}
 use Rattle.ws_session.specs.Taking.{events_in}

@@ -1,3 +1,4 @@
+-- Event after event: those before the ones that are left are collected, and fewer are left.
 use Rattle.std.proofs.Common.{◌≡◌, ◌++◌, List, length, reverse}
 use Rattle.ws_session.specs.declared.event.Event.{Event}
 use Rattle.ws_session.specs.Taking.{events_in}

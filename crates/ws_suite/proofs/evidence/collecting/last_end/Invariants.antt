@@ -1,3 +1,4 @@
+-- From the last event to the first: the greatest place at which an event from here on ends is known.
 use Rattle.std.proofs.Common.{◌≡◌, ◌≤◌, length, drop}
 use Rattle.ws_suite.specs.InnerCollecting.{last_end}
 use Rattle.ws_suite.proofs.evidence.collecting.last_end.Given as goal

@@ -1,3 +1,4 @@
+-- Turn after turn: the session has taken what was sent in the turns so far.
 use Rattle.std.proofs.Common.{take}
 use Rattle.std.specs.List.{concat}
 use Rattle.ws_suite.specs.Evidence.{sent_turns}

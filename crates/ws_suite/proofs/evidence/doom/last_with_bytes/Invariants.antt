@@ -1,3 +1,4 @@
+-- From the last turn to the first: nothing was sent in the turns from here on.
 use Rattle.std.proofs.Common.{◌≤◌, length}
 use Rattle.ws_suite.specs.Evidence.{sent_turns}
 use Rattle.ws_suite.specs.InnerDoom.{AreWithoutBytes}

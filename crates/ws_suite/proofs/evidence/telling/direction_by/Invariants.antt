@@ -1,3 +1,4 @@
+-- Turn after turn: the turns so far were taken, and it is known in which of them bytes first follow a close.
 use Rattle.std.proofs.Common.{map, take}
 use Rattle.ws_suite.specs.Explanation.{IsBeyondBy}
 use Rattle.ws_suite.specs.Growing.{AreAll}

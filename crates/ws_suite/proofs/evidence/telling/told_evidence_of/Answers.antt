@@ -1,3 +1,4 @@
+-- The evidence has what is due for the bytes sent and what the bytes got tell, each as the end that takes it reads it.
 use Rattle.std.proofs.Common.{List, ap, length, map, refl, subst}
 use Rattle.ws_wire.specs.declared.role.Role.{Role}
 use Rattle.ws_scripts.specs.declared.transcript.Turn.{Turn}

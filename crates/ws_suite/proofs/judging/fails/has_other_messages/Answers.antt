@@ -1,3 +1,4 @@
+-- The messages got are other ones where they don't begin those due, or are too few and no fault excuses that.
 use Rattle.std.proofs.Common.{◌≡◌, ◌∙◌, true, false, sym, rules}
 use Rattle.ws_suite.specs.InnerJudging.{without_pings}
 use Rattle.ws_suite.specs.Matching.{bare, due_messages, ends_with_fault, got_messages}

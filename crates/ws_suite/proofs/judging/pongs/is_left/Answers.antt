@@ -1,3 +1,4 @@
+-- Where the payload of a pong stands last before this place, or nowhere, no due pong from here on has it.
 use Rattle.std.proofs.Common.{◌≡◌, ◌∙◌, ℕ, List, None, Some, ap, sym, arith}
 use Rattle.std.proofs.lemmas.Bool.{leb-false}
 use Rattle.ws_suite.specs.Kept.{reply_in}

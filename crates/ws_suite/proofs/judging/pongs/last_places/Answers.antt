@@ -1,3 +1,4 @@
+-- One due pong more: the last place of its payload is its own, and the other payloads keep theirs.
 use Rattle.std.proofs.Common.{◌≡◌, ◌∙◌, ◌++◌, ◌∷◌, [], ℕ, List, Some, ap, sym, rules, append_assoc, arith}
 use Rattle.std.proofs.lemmas.List.{length-append}
 use Rattle.std.proofs.lemmas.Map.Text.{btree_map_updates_str}

@@ -1,3 +1,4 @@
+-- Pong after pong: the last places are those of the due pongs that were passed.
 use Rattle.std.proofs.Common.{◌≡◌, ◌++◌, List, length}
 use Rattle.ws_suite.specs.InnerJudging.{AreLastPlaces}
 use Rattle.ws_suite.specs.declared.evidence.InTurn.{InTurn}

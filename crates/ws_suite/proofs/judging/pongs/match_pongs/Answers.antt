@@ -1,3 +1,4 @@
+-- One pong more that was got: it is matched with the first due pong from here on that has its payload, or with none.
 use Rattle.std.proofs.Common.{◌≡◌, ◌∙◌, ◌∷◌, List, None, find, ap, sym, subst, drop, length, rules, arith}
 use Rattle.std.proofs.lemmas.List.{drop-drop, length-drop}
 use Rattle.ws_suite.specs.declared.evidence.InTurn.{InTurn}

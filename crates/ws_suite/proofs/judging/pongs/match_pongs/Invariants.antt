@@ -1,3 +1,4 @@
+-- Pong after pong: what was found so far, or else the pongs that are left, tell whether one is early or unmatched.
 use Rattle.std.proofs.Common.{◌≡◌, ◌≤◌, ◌||◌, drop, length}
 use Rattle.std.specs.List.{list_any}
 use Rattle.ws_suite.specs.Matching.{matches_of}

@@ -1,3 +1,4 @@
+-- Pair after pair: the pairs so far aren't early, so those that are left decide.
 use Rattle.std.proofs.Common.{◌≡◌, length}
 use Rattle.std.specs.List.{list_any, zip}
 use Rattle.ws_suite.specs.Verdicts.{is_before}

@@ -1,3 +1,4 @@
+-- A reply that stands next in both lists is passed in both, and what is left of them decides as before.
 use Rattle.std.proofs.Common.{◌≡◌, ◌∷◌, List, sym, subst, rules}
 use Rattle.ws_suite.specs.declared.evidence.InTurn.{InTurn}
 use Rattle.ws_suite.specs.declared.evidence.Reply.{Reply}

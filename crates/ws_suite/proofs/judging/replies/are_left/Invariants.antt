@@ -1,3 +1,4 @@
+-- Reply after reply: whether the ones are the others with some left out is decided by what is left of both.
 use Rattle.std.proofs.Common.{length}
 use Rattle.ws_suite.specs.Kept.{first_of}
 use Rattle.ws_suite.specs.Matching.{IsWithSomeLeftOut, bare}

@@ -1,3 +1,4 @@
+-- Replies of which none is left to compare are a beginning of the others.
 use Rattle.std.proofs.Common.{◌≡◌, [], List, ap, rules}
 use Rattle.ws_suite.specs.declared.evidence.InTurn.{InTurn}
 use Rattle.ws_suite.specs.declared.evidence.Reply.{Reply}

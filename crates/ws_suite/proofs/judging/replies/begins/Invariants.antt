@@ -1,3 +1,4 @@
+-- Reply after reply: whether the ones are a beginning of the others is decided by what is left of both.
 use Rattle.std.proofs.Common.{length}
 use Rattle.ws_suite.specs.Matching.{IsBeginningOf, bare}
 use Rattle.ws_suite.proofs.judging.replies.begins.Given as goal

@@ -1,3 +1,4 @@
+-- Once the server switches, the client's lines that waited are told; where none wait, an answer tells nothing.
 use Rattle.std.proofs.Common.{◌≡◌, ◌++◌, ◌||◌, Bool, false, true, List, ℕ, ap, ◌∙◌, sym, subst, [], append-nil}
 use Rattle.std.proofs.KnownBytes.{Appends-nil}
 use Rattle.ws_frame.specs.Devices.{watched, HasWritten}

@@ -1,3 +1,4 @@
+-- The lines of a new client have told nothing, of nothing sent.
 use Rattle.std.proofs.Common.{refl}
 use Rattle.ws_tap.specs.declared.heads.HeadKind.TheVariants.{Request}
 use Rattle.ws_tap.proofs.HeadStarts.{nothing_has_no_head}

@@ -15,8 +15,8 @@ use Rattle.ws_tap.proofs.ClientLemmas.{client_at, tells_at, client_no_head, clie
 use Rattle.ws_tap.proofs.ClientLemmas.{client_room_told, client_line, client_waits, client_tells, client_never}
 use Rattle.ws_tap.proofs.client_lines.ClientLines.sent.Goals as goal
 
-pub take-requires : goal.take-requires
-take-requires g c =
+pub look_for_head-requires : goal.look_for_head-requires
+look_for_head-requires g c =
     let self = c.args.self.now in
     let (number, answered, sent, text, told, going, small) = c.requires.room in (
       sent.bytes,
@@ -31,14 +31,19 @@ returns-in_default g c = record {
       let piece = c.args.piece.now in
       let stands = client_at self.stage (client.Head c.in-Head.room) self.release number answered sent text
       c.in-Head.is told.1 in
-      let l = looked_in Request self.number c.take.new.self sent.bytes piece c.take.result c.in_default.is
-      (c.take.ensures sent.bytes stands.0) in (
+      let l = looked_in Request self.number c.look_for_head.new.room sent.bytes
+      piece c.look_for_head.result c.in_default.is
+      (c.look_for_head.ensures sent.bytes stands.0) in (
         [],
         Appends-nil _,
         (
           c.requires.writer_works,
           all_used (is_behind_request self.stage) false piece,
-          (told.0, client_no_head c.take.new.self self.release number answered sent text piece l stands.1 stands.2),
+          (
+            told.0,
+            client_no_head c.look_for_head.new.room self.release number answered sent text
+                piece l stands.1 stands.2,
+          ),
         ),
       );
 }
@@ -51,8 +56,9 @@ returns-in_ok-write_whole-in-Head g c = record {
       let head = c.in-Some.found in
       let stands = client_at self.stage (client.Head c.in-Head.room) self.release number answered sent text
       c.in-Head.is told.1 in
-      let l = looked_found Request self.number c.take.new.self sent.bytes piece c.take.result head c.in-Some.is
-      (c.take.ensures sent.bytes stands.0) in
+      let l = looked_found Request self.number c.look_for_head.new.room sent.bytes
+      piece c.look_for_head.result head c.in-Some.is
+      (c.look_for_head.ensures sent.bytes stands.0) in
       let found = client_found c.new.result self.release number self.number answered sent text piece head told.0
       stands.1 going l c.new.ensures.source c.new.ensures.begun stands.2 in
       let was : false ≡ is_behind_request self.stage = ap (λ (s : ClientStage). is_behind_request s)
@@ -79,8 +85,8 @@ keep_lines-requires g c =
     client_room_waiting c.in-Awaited.kept answered (source_at Request number) head.len (length c.args.piece.now)
     c.in-Frames.lines sent shown going small here
 
-pub take-requires-in-Told-clause-room : goal.take-requires-in-Told-clause-room
-take-requires-in-Told-clause-room g c =
+pub take-requires-clause-room : goal.take-requires-clause-room
+take-requires-clause-room g c =
     let self = c.args.self.now in
     let (number, answered, sent, text, told, going, small) = c.requires.room in
     let (head, shown, has, is, source, t) = client_at self.stage (client.Frames c.in-Frames.lines) self.release number
@@ -129,12 +135,12 @@ returns-in_ok-take-in-Told g c = record {
   told = λ number answered sent text told going.
       let self = c.args.self.now in
       let piece = c.args.piece.now in
-      let out = watched g.W.Write.contents c.args.writer.now c.take-in-Told.new.writer in
+      let out = watched g.W.Write.contents c.args.writer.now c.take.new.writer in
       let (head, shown, has, is, source, t) = client_at self.stage (client.Frames c.in-Frames.lines) self.release
       number answered sent text c.in-Frames.is told.1 in
       let here = tells_at self.release Told answered (source_at Request number) head.len c.in-Frames.lines sent shown
       c.in-Told.is t in
-      let (more, (wrote, works), after) = client_tells c.in-Frames.lines c.take-in-Told.new.self answered
+      let (more, (wrote, works), after) = client_tells c.in-Frames.lines c.take.new.self answered
       (source_at Request number) sent shown piece head (λ (more : List ℕ). HasWritten more out
       × (out.failed ≡ false)) has going
       (λ bytes told t. let (more, wrote, (works, on)) = c.in_ok-take-in-Told.ensures.shown bytes told t in
@@ -152,7 +158,7 @@ returns-in_ok-take-in-Told g c = record {
               head_stays Request sent.bytes (take (length piece) piece) head has,
               client_line number sent text more piece shown (shown ++ more) head has is refl,
               c.in_ok-take-in-Told.ensures.source ∙ source,
-              tells_at Told self.release answered (source_at Request number) head.len c.take-in-Told.new.self
+              tells_at Told self.release answered (source_at Request number) head.len c.take.new.self
                   (with_bytes sent (take (length piece) piece)) (shown ++ more) (sym c.in-Told.is) after,
             ),
           ),

@@ -1,3 +1,4 @@
+-- The end of a server's direction is told as a cut inside a frame, and as nothing where it did not switch.
 use Rattle.std.proofs.Common.{[], ◌++◌, drop, append-nil, sym, ◌∙◌}
 use Rattle.std.proofs.KnownBytes.{Appends-nil}
 use Rattle.ws_tap.specs.declared.server_lines.ServerStage.TheVariants as server

@@ -1,3 +1,4 @@
+-- More bytes of a server are told: nothing before its head is whole, then the head's line, then the lines of frames.
 use Rattle.std.proofs.Common.{◌≡◌, ◌∙◌, ◌||◌, Bool, true, false, sym, ap, subst, [], ◌++◌, take, drop, length, List, ℕ}
 use Rattle.std.proofs.KnownBytes.{Appends-nil}
 use Rattle.ws_frame.specs.Devices.{watched, HasWritten}
@@ -10,8 +11,8 @@ use Rattle.ws_tap.proofs.ServerLemmas.{response_line, server_at, server_no_head,
 use Rattle.ws_tap.proofs.ServerLemmas.{server_other}
 use Rattle.ws_tap.proofs.server_lines.ServerLines.sent.Goals as goal
 
-pub take-requires : goal.take-requires
-take-requires g c =
+pub look_for_head-requires : goal.look_for_head-requires
+look_for_head-requires g c =
     let (number, sent, text, told, going, small) = c.requires.room in
     (sent.bytes, (server_at c.args.self.now.stage (server.Head c.in-Head.room) number sent text c.in-Head.is told.1).0)
 
@@ -21,15 +22,16 @@ returns-in_default g c = record {
       let self = c.args.self.now in
       let piece = c.args.piece.now in
       let stands = server_at self.stage (server.Head c.in-Head.room) number sent text c.in-Head.is told.1 in
-      let l = looked_in Response self.number c.take.new.self sent.bytes piece c.take.result c.in_default.is
-      (c.take.ensures sent.bytes stands.0) in (
+      let l = looked_in Response self.number c.look_for_head.new.room sent.bytes
+      piece c.look_for_head.result c.in_default.is
+      (c.look_for_head.ensures sent.bytes stands.0) in (
         [],
         Appends-nil _,
         (
           c.requires.writer_works,
           all_used (is_behind_response self.stage) false piece,
           (λ was is. absurd cc),
-          (told.0, server_no_head c.take.new.self number sent text piece l stands.1),
+          (told.0, server_no_head c.look_for_head.new.room number sent text piece l stands.1),
         ),
       );
 }
@@ -42,8 +44,9 @@ returns-in_ok-write_whole-in-Head g c = record {
       let now = c.stage_behind-self.result in
       let head = c.in-Some.found in
       let stands = server_at self.stage (server.Head c.in-Head.room) number sent text c.in-Head.is told.1 in
-      let l = looked_found Response self.number c.take.new.self sent.bytes piece c.take.result head c.in-Some.is
-      (c.take.ensures sent.bytes stands.0) in
+      let l = looked_found Response self.number c.look_for_head.new.room sent.bytes
+      piece c.look_for_head.result head c.in-Some.is
+      (c.look_for_head.ensures sent.bytes stands.0) in
       let found = server_found now number self.number sent text piece head told.0 stands.1 going l
       c.stage_behind-self.ensures in
       let was : false ≡ is_behind_response self.stage = ap (λ (s : ServerStage). is_behind_response s)
@@ -78,7 +81,7 @@ returns-in_ok-take-in-Frames g c = record {
               ∙ was in cc)),
           (
             told.0,
-            server_more c.in-Frames.lines c.take-in-Frames.new.self number sent text more piece head shown has
+            server_more c.in-Frames.lines c.take.new.self number sent text more piece head shown has
                 switches is source c.in_ok-take-in-Frames.ensures.source going on,
           ),
         ),

@@ -1,3 +1,4 @@
+-- A payload has a bad code where its code isn't allowed, and a bad reason, and says no close, where that is no text.
 use Rattle.std.proofs.Common.{◌≡◌, Bool, true, false, refl, arith}
 use Rattle.ws_text.proofs.Texts.{utf8_from_text}
 use Rattle.ws_text.proofs.Closes.{holds_code, says_nothing}

@@ -1,3 +1,4 @@
+-- What a stream has read is a text exactly where nothing is unfinished.
 use Rattle.ws_text.proofs.Texts.{text_without_unfinished}
 use Rattle.ws_text.proofs.Pieces.{read_of}
 use Rattle.ws_text.proofs.streaming.Utf8Stream.is_whole.Goals as goal

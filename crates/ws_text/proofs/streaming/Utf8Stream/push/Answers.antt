@@ -1,3 +1,4 @@
+-- A piece is taken exactly where the text so far and the piece begin a text.
 use Rattle.std.proofs.Common.{refl}
 use Rattle.ws_text.proofs.Texts.{begins_of_unfinished}
 use Rattle.ws_text.proofs.Pieces.{read_of, broken}

@@ -1,3 +1,4 @@
+-- A text wants as many bytes as its unfinished character does.
 use Rattle.ws_text.proofs.Pieces.{read_of}
 use Rattle.ws_text.proofs.Wanted.{wanted_by_unfinished}
 use Rattle.ws_text.proofs.streaming.Utf8Stream.wanted.Goals as goal

@@ -1,3 +1,4 @@
+-- A byte with which the text goes on leaves its unfinished character kept; another one breaks the text there.
 use Rattle.ws_text.proofs.Pieces.{piece_goes_on, piece_breaks, still_unfinished}
 use Rattle.ws_text.proofs.unfinished.Unfinished.complete.Goals as goal
 

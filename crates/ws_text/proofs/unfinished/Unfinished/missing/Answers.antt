@@ -1,3 +1,4 @@
+-- How many bytes a character lacks, by its first byte and by how many have come.
 use Rattle.std.proofs.Common.{arith}
 use Rattle.ws_text.proofs.UnfinishedCharacters.{lead_of, two_of, three_of}
 use Rattle.ws_text.proofs.Wanted.{nothing_wanted, one_of_two, two_of_three, three_of_four, one_of_three, two_of_four}

@@ -1,3 +1,4 @@
+-- The second, third or fourth byte of a character ends it or leaves it unfinished, or no character goes on so.
 use Rattle.std.proofs.Common.{◌≡◌, Bool, true, false, refl, arith, inl, inr}
 use Rattle.ws_text.proofs.Characters.{is_second, is_third, is_fourth, character_2, character_3, character_4, later_in_range, in_range_later}
 use Rattle.ws_text.proofs.UnfinishedCharacters.{lead_of, two_of, three_of, two_unfinished, three_unfinished}

@@ -1,3 +1,4 @@
+-- Byte after byte: what is kept is the unfinished character of the text with the bytes so far.
 use Rattle.std.proofs.Common.{ℕ, List, ◌++◌, take}
 use Rattle.ws_text.specs.Text.{IsUnfinished, HasUnfinished}
 use Rattle.ws_text.specs.InnerStep.{kept_bytes}

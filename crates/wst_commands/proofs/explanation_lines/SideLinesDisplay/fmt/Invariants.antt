@@ -1,3 +1,4 @@
+-- Reply after reply: the lines of the replies so far are written, and fewer are left.
 use Rattle.std.proofs.Common.{◌≡◌, ◌++◌, List, length}
 use Rattle.std.specs.Fmt.{HasWritten, IsPlainFormatter}
 use Rattle.std.specs.List.{flat_map}

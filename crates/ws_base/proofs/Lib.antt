@@ -1,0 +1,2 @@
+-- What bytes with zeros behind them are.
+mod Padded
