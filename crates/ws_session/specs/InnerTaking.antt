@@ -1,5 +1,5 @@
--- Inside the crate: what a call of the receiving side makes of a piece, told by the one frame that it takes. A reader may
--- skip this file.
+-- Inside the crate: what a call of the receiving side makes of a piece, told by the one frame that it takes. A reader
+-- may skip this file.
 use Rattle.std.specs.Prelude.{◌≡◌, ℕ, ◌+◌, ◌⊎◌, List, ◌++◌, length, Option, Some, None}
 use Rattle.ws_wire.specs.Header.{AreBytes}
 use Rattle.ws_session.specs.declared.message.Message.{Message}

@@ -143,7 +143,8 @@ impl Receiver {
         ensures exact { IfOk result (λ taken. IsExact self.new) }
         ensures role { self.new.role ≡ self.old.role }
         ensures limits { self.new.limits ≡ self.old.limits }
-        ensures over { IfOk result (λ taken. is_over status.now ≡ false → is_over (status_by status.now taken.event) ≡ true
+        ensures over { IfOk result (λ taken. is_over status.now ≡ false
+            → is_over (status_by status.now taken.event) ≡ true
             → (self.new.opened ≡ None) × (self.new.partial_frame ≡ [])) }
         ensures kept { OnErr result ((self.new.opened ≡ self.old.opened)
             × (self.new.partial_frame ≡ self.old.partial_frame) × (out.new.items ≡ out.old.items)) }

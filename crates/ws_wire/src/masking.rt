@@ -21,7 +21,8 @@ const KEY: usize = 4;
 
 /// Masks or unmasks a part of a payload in place: the two are one. `phase` is the place of its
 /// first byte in the payload, modulo 4, so a payload may be masked in parts. `mask_plainly` says the
-/// same in a line. It isn't made a part of its callers, where the compiler finds worse instructions for the key's lanes.
+/// same in a line. It isn't made a part of its callers, where the compiler finds worse instructions for
+/// the key's lanes.
 #[inline(never)]
 pub fn mask(key: [u8; 4], phase: usize, bytes: &mut [u8])
     requires { phase ≤ 3 }

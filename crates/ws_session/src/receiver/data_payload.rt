@@ -19,8 +19,9 @@ use ws_base::NoMemory;
 use ws_text::Utf8Stream;
 use ws_wire::Header;
 
-/// Puts what is there of the payload into the assembly, after the bytes that came before, and checks it: `None` where the
-/// frame goes on, which the stream has read then where it is of a text. `rest` is what the piece has after its first `start` bytes.
+/// Puts what is there of the payload into the assembly, after the bytes that came before, and checks it: `None` where
+/// the frame goes on, which the stream has read then where it is of a text. `rest` is what the piece has after its
+/// first `start` bytes.
 #[inline(always)]
 pub(super) fn check_data(
     assembly: &mut Assembly,
@@ -99,8 +100,8 @@ fn kind_of_opcode(header: &Header) -> Kind
     }
 }
 
-/// Checks the bytes that are new of a payload that belongs to a text: the stream that has read the message with them, or
-/// what is wrong and after how many of them.
+/// Checks the bytes that are new of a payload that belongs to a text: the stream that has read the message with them,
+/// or what is wrong and after how many of them.
 fn check_text(
     assembly: &Assembly,
     header: &Header,

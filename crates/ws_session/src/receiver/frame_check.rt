@@ -25,8 +25,8 @@ pub(crate) enum Content {
     Close(Option<Close>),
 }
 
-/// What the piece makes of the frame under way, where it doesn't just go on: told in a few words, since the payload of a
-/// control frame isn't looked at yet.
+/// What the piece makes of the frame under way, where it doesn't just go on: told in a few words, since the payload of
+/// a control frame isn't looked at yet.
 #[derive(Clone, Copy)]
 pub(super) enum PieceCheck {
     /// A data frame is whole with the first `used` bytes of the piece, and nothing is wrong with it: FIN, and the kind

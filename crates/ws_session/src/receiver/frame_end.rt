@@ -5,8 +5,9 @@ ghost use Rattle.std.specs.Prelude.{◌≡◌, ◌≤◌, length, if◌then◌el
 ghost use Rattle.ws_session.specs.declared.event.Event.TheVariants as Event;
 ghost use Rattle.ws_session.specs.Faults.{open_payload};
 ghost use Rattle.ws_session.specs.InnerAssembly.{IsTextOf, HasReadOpen};
-ghost use Rattle.ws_session.specs.InnerReceiver.{IsSoundReceiver, HasReceived, IsContentKept, FitsLimit, event_of_kept, opened_by};
+ghost use Rattle.ws_session.specs.InnerReceiver.{IsSoundReceiver, HasReceived, IsContentKept, FitsLimit};
 ghost use Rattle.ws_session.specs.InnerReceiver.{IsOwed, IsExact, IsExactFor, kept_message, telling};
+ghost use Rattle.ws_session.specs.InnerReceiver.{event_of_kept, opened_by};
 
 use crate::control_payload::Small;
 use crate::event::{Event, Taken};

@@ -41,7 +41,7 @@ fn complete_by_byte(kept: &Small, piece: &[u8]) -> Option<HeaderEnd>
     let mut so_far = *kept;
     for (i, byte) in piece.iter().enumerate() {
         laws::fourteen_bytes_hold_a_header();
-        so_far = Small::joined(so_far.as_slice(), &[*byte]);
+        so_far.push(&[*byte]);
         if let Some(end) = header_at(so_far.as_slice()) {
             return Some(HeaderEnd {
                 header: end.header,

@@ -1,6 +1,7 @@
 //! What a session keeps, and the calls on it: each as the session's of that name.
 
-ghost use Rattle.std.specs.Prelude.{◌≡◌, ◌↔◌, ◌+◌, ◌≤◌, ◌<◌, ℕ, List, [], length, None, true, false, IfOk, IsOkAnd, OnOk};
+ghost use Rattle.std.specs.Prelude.{◌≡◌, ◌↔◌, ◌+◌, ◌≤◌, ◌<◌, ℕ, List, [], length, None, true, false, IfOk, OnOk};
+ghost use Rattle.std.specs.Prelude.{IsOkAnd};
 ghost use Rattle.std.specs.Prelude.{OnErr, IsTrue};
 ghost use Rattle.ws_session.specs.declared.status.Status.TheVariants.{Open};
 ghost use Rattle.ws_session.specs.declared.session.Answering.{Answering};
@@ -27,8 +28,8 @@ use ws_base::NoMemory;
 use ws_wire::Role;
 
 /// What a session keeps: its receiving side, its sending side, and how it stands. Contracts see it as they see the
-/// session. It is a type of its own since each of its calls changes one part after the other: what holds between them is
-/// told of the parts, and a session is one of which some exchange stands, which no part alone can show.
+/// session. It is a type of its own since each of its calls changes one part after the other: what holds between them
+/// is told of the parts, and a session is one of which some exchange stands, which no part alone can show.
 #[derive(Drop)]
 pub(super) struct State {
     receiver: Receiver,
