@@ -4,7 +4,8 @@ from clone import PROGRAM, SOURCE
 
 TRY = ("./try",)
 TOLD = (
-    "wst: the sources are run as they stand, nothing is proved by this (a minute or two, then all it writes at once)\n"
+    "wst: compiling the sources, unproved: two or three minutes at each call, and all output comes at the end\n"
+    "wst: './wst' proves and builds them once; later calls of it start at once\n"
 )
 
 
