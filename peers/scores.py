@@ -11,7 +11,7 @@ NO_SENTENCE = "(no sentence in peers/ yet)"
 HEAD = """\
 # Scores of real peers
 
-Written by `peers/run`, with `{version}`: the {count} cases with `{timeout}` at an echo over each library as Debian \
+Written by `peers/run`, with `{version}`, {build}: the {count} cases with `{timeout}` at an echo over each library as Debian \
 packages it, over loopback, without compression, with messages of 16777216 bytes and less. \
 [peers/README.md](../peers/README.md) says how it is run, [VERDICTS.md](VERDICTS.md) what the words mean, and \
 [CASES.md](CASES.md) what a case sends. It is the measurement of one day, which no test compares.
@@ -40,10 +40,10 @@ fault. Of each sort of FAIL it is told in how many scripts it shows, and the fir
 """
 
 
-def page_of(version, order, parts, sweeps):
-    """The page. Parts are (kind, list of (peer, Score)), sweeps (peer, Sweep), the order is that of all cases."""
+def page_of(version, build, order, parts, sweeps):
+    """The page: of which version the program is, and how it was built. Parts are (kind, list of (peer, Score)), sweeps (peer, Sweep), the order is that of all cases."""
     timeout = " ".join(TIMEOUT)
-    told = HEAD.format(version=version, timeout=timeout, count=len(order))
+    told = HEAD.format(version=version, build=build, timeout=timeout, count=len(order))
     for kind, scores in parts:
         told += TABLE.format(kind=kind.capitalize())
         told += "".join(row_of(peer, score) for peer, score in scores)

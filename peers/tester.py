@@ -1,8 +1,11 @@
 """Runs of `wst test` against one peer, bounded in time and count."""
 
+import hashlib
+import shlex
 import subprocess
 import time
 from dataclasses import dataclass, field
+from pathlib import Path
 
 from peer import ROOT, START_SECONDS, Running, listening
 
@@ -57,6 +60,16 @@ def ask(*words):
     """What the program answers to words that run no case; it is built first where it isn't."""
     told = subprocess.run([LAUNCHER, *words], stdout=subprocess.PIPE, text=True, check=True, timeout=MAKE_SECONDS)
     return told.stdout
+
+
+def build():
+    """How the program was built: proved, from the sources as they stand, where its stamp says so; else nobody knows. A
+    build with checks in its code, as `./try` makes one, is many times as slow."""
+    is_built = f"root={shlex.quote(str(ROOT))}; . tools/built.sh; is_built wst"
+    known = subprocess.run(["sh", "-c", is_built], cwd=ROOT, timeout=60).returncode == 0
+    name = hashlib.sha256(Path(PROGRAM).read_bytes()).hexdigest()[:12]
+    how = "proved and built from the sources as they stood" if known else "NOT by its stamp the proved build of the sources"
+    return f"{how} (its SHA-256 begins with `{name}`)"
 
 
 def all_cases():

@@ -16,13 +16,15 @@ WORD = re.compile(r"(?<![\w.])[A-Za-z_]\w*")
 
 @dataclass(frozen=True)
 class Call:
-    """A function of a crate, with the text of each clause of its contract by its name; one without a name has ''."""
+    """A function of a crate, with the text of each clause of its contract by its name; one without a name has ''. And
+    the comment above it."""
 
     owner: str
     trait: str
     name: str
     is_public: bool
     clauses: tuple
+    comment: str = ""
 
 
 @dataclass(frozen=True)
@@ -56,7 +58,16 @@ def calls_of(source):
         elif function:
             inside = owner if function[1] else ""
             is_public = function[2] == "pub " or bool(inside and trait)
-            yield Call(inside, trait, function[3], is_public, tuple(contract(lines[at:], len(function[1]))))
+            clauses = tuple(contract(lines[at:], len(function[1])))
+            yield Call(inside, trait, function[3], is_public, clauses, comment_above(lines, at))
+
+
+def comment_above(lines, at):
+    """The comment of a function, which may have attributes below it."""
+    start = at
+    while start and lines[start - 1].lstrip().startswith(("///", "#[")):
+        start -= 1
+    return " ".join(line.strip().removeprefix("/// ") for line in lines[start:at] if line.lstrip().startswith("///"))
 
 
 def last(path):
@@ -74,11 +85,13 @@ def block_clauses(lines):
 
 
 def contract(lines, indent):
-    """The clauses of the function at the front of these lines: what stands before its body."""
-    head = []
+    """The clauses of the function at the front of these lines: what stands before its body, or before the `;` of one
+    that a trait asks for."""
+    head, opened = [], False
     for line in lines:
         head.append(line)
-        if line == " " * indent + "{" or (line.endswith((";", "{", "{}")) and not any(map(OPENED.match, head))):
+        opened = opened or OPENED.match(line) is not None
+        if line.startswith(" " * indent + "{") or line.endswith(("};",) if opened else (";", "{", "}")):
             break
     yield from clauses_in(head)
 
@@ -126,6 +139,18 @@ class Claims:
         reached = self.reached(frozenset(WORD.findall(" ".join(texts))))
         missing += [f"the definition {name} in these clauses" for name in row.definitions if name not in reached]
         return f"not there: {', '.join(missing)}" if missing else None
+
+    def claimed(self, rows):
+        """The clauses that the rows name, by their crate, the type and the name of the call."""
+        named = {}
+        for row in rows:
+            owner, clauses = "", row.clauses if len(row.clauses) > 1 else row.clauses * len(row.calls)
+            for calls, names in zip(row.calls, clauses):
+                for path in calls:
+                    owner = path.rsplit("::", 1)[0] if "::" in path else owner
+                    for call in self.found(row.crate, owner, last(path)):
+                        named.setdefault((row.crate, call.owner, call.name), set()).update(names or [""])
+        return named
 
     def found(self, crate, owner, name):
         """The public functions of this name: of the type where one is given, or else those of none."""

@@ -1,4 +1,4 @@
-"""The paths through `docs/REVIEW.md`: on which of the definitions that it quotes the words of a claim stand."""
+"""The paths through `docs/proof/REVIEW.md`: on which of the definitions that it quotes the words of a claim stand."""
 
 import re
 from dataclasses import dataclass, field

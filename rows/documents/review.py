@@ -1,4 +1,4 @@
-"""`docs/REVIEW.md`: its units, the blocks that it quotes, and the examples and words that it names."""
+"""`docs/proof/REVIEW.md`: its units, the blocks that it quotes, and the examples and words that it names."""
 
 import re
 from dataclasses import dataclass, field

@@ -68,7 +68,7 @@ def wrong_words_put_nothing(_):
     with tempfile.TemporaryDirectory() as folder:
         for words in (("a", "b"), ("",), ("--remove", "a", "b"), ("--remove", ""), ("--help",), ("a", "--remove")):
             status, out, faults = run(str(ROOT / "install"), *words, folder=folder)
-            assert (status, out) == (2, "") and faults.startswith("install: wrong words"), (words, status, out, faults)
+            assert (status, out) == (2, "") and faults.startswith("install: usage error"), (words, status, out, faults)
         assert files_below(Path(folder)) == {}
 
 

@@ -1,4 +1,4 @@
-"""Tests of the commands of `docs/MANY.md`, by the program as it was installed, against echoes of its own."""
+"""Tests of the commands for many servers in `docs/CI.md`, by the installed program, against echoes of its own."""
 
 import os
 import re
@@ -10,12 +10,13 @@ from pathlib import Path
 
 from place import ROOT, Lacking, cases, run
 
-PAGE = ROOT / "docs/MANY.md"
+PAGE = ROOT / "docs/CI.md"
+HEADING = "## Many servers, many machines\n"
 
 
 def blocks():
-    """The commands of the page: of parts, of their totals, of servers, of machines and of a matrix."""
-    return re.findall(r"(?ms)^```sh\n(.*?)^```$", PAGE.read_text())
+    """The commands of that part of the page: of parts, of their totals, of servers, of machines and of a matrix."""
+    return re.findall(r"(?ms)^```sh\n(.*?)^```$", PAGE.read_text().partition(HEADING)[2])
 
 
 def passed():
@@ -63,7 +64,7 @@ def parts_and_their_totals(prefix):
 
 def in_order():
     """The command between the others that brings cases into their order."""
-    return re.search(r"by `(grep -v [^`]*)`", PAGE.read_text())[1]
+    return re.search(r"with `(grep -v [^`]*)`", PAGE.read_text())[1]
 
 
 def a_fail_in_the_totals(prefix):

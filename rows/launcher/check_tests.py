@@ -1,10 +1,12 @@
 """Tests of the test command `check`: which programs it trusts."""
 
-from clone import PROGRAM, REFUSALS_PROGRAM, REFUSALS_SOURCE, ROWS_PROGRAM, ROWS_SOURCE, SOURCE
+from clone import DEVICES_PROGRAM, DEVICES_SOURCE, PROGRAM, REFUSALS_PROGRAM, REFUSALS_SOURCE, ROWS_PROGRAM
+from clone import ROWS_SOURCE, SOURCE
 
 CHECK = ("./check",)
 PLANTED = "#!/bin/sh\necho planted\n"
-PROGRAMS = (("wst", PROGRAM), ("test_rows", ROWS_PROGRAM), ("test_refusals", REFUSALS_PROGRAM))
+PROGRAMS = (("wst", PROGRAM), ("test_rows", ROWS_PROGRAM), ("test_devices", DEVICES_PROGRAM))
+PROGRAMS += (("test_refusals", REFUSALS_PROGRAM),)
 
 
 def last_line(text):
@@ -48,7 +50,7 @@ def rows_of_built_programs_pass(clone):
     assert clone.run("build", how=CHECK)[0] == 0
     rows_pass(clone)
     begun = sorted(note.split()[0] for note in clone.notes() if " begins " in note)
-    assert begun == ["test_refusals", "test_rows", "wst"], clone.notes()
+    assert begun == ["test_devices", "test_refusals", "test_rows", "wst"], clone.notes()
 
 
 def a_build_goes_on_from_what_checks_left(clone):
@@ -56,13 +58,13 @@ def a_build_goes_on_from_what_checks_left(clone):
     (clone.top / "crates/test_rows/out/incremental").mkdir(parents=True)
     assert clone.run("build", how=CHECK)[0] == 0
     rows_pass(clone)
-    built = [f"{clone.top}/crates/{name}: run" for name in ("wst", "test_rows", "test_refusals")]
+    built = [f"{clone.top}/crates/{name}: run" for name in ("wst", "test_rows", "test_devices", "test_refusals")]
     assert clone.notes() == [f"{built[0]} -- --help", *built[1:]], clone.notes()
 
 
 def rows_of_older_sources_fail(clone):
     clone.add_check()
-    for path in (SOURCE, ROWS_SOURCE, "crates/low/src/a.rt", "crates.txt"):
+    for path in (SOURCE, ROWS_SOURCE, DEVICES_SOURCE, "crates/low/src/a.rt", "crates.txt"):
         clone.run("build", how=CHECK)
         rows_pass(clone)
         clone.write(path, "second\n")
@@ -71,7 +73,7 @@ def rows_of_older_sources_fail(clone):
 
 def rows_of_another_program_fail(clone):
     clone.add_check()
-    for name, program in (("wst", PROGRAM), ("test_rows", ROWS_PROGRAM)):
+    for name, program in (("wst", PROGRAM), ("test_rows", ROWS_PROGRAM), ("test_devices", DEVICES_PROGRAM)):
         clone.run("build", how=CHECK)
         clone.program(program, PLANTED)
         rows_fail(clone, name)
@@ -89,7 +91,7 @@ def refusals_need_their_own_program(clone):
 
 def a_build_that_fails_is_not_marked(clone):
     clone.add_check()
-    for source, name in ((SOURCE, "wst"), (ROWS_SOURCE, "wst"), (REFUSALS_SOURCE, "wst")):
+    for source, name in ((SOURCE, "wst"), (ROWS_SOURCE, "wst"), (DEVICES_SOURCE, "wst"), (REFUSALS_SOURCE, "wst")):
         for word in ("broken", "changing"):
             clone.write(source, f"{word}\n")
             assert clone.run("build", how=CHECK)[0] != 0, (source, word)
@@ -116,7 +118,8 @@ def what_stood_before_is_removed(clone):
 
 def what_no_run_built_is_not_trusted(clone):
     clone.add_check()
-    for source, name in ((SOURCE, "wst"), (ROWS_SOURCE, "test_rows"), (REFUSALS_SOURCE, "test_refusals")):
+    sources = (SOURCE, ROWS_SOURCE, DEVICES_SOURCE, REFUSALS_SOURCE)
+    for source, (name, _) in zip(sources, PROGRAMS):
         clone.write(source, "lazy\n")
         plant(clone)
         status, out, faults = clone.run(how=CHECK)

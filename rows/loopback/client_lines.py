@@ -56,16 +56,20 @@ class Listening(Running):
         self.port = int(line.removeprefix(front))
         assert self.port != 0
 
+    def connected(self):
+        """A connection that has asked for nothing yet."""
+        return Client(socket.create_connection(("127.0.0.1", self.port), SECONDS))
+
     def client(self, path="/"):
         """A connection that has asked for a path, and got the response."""
-        client = Client(socket.create_connection(("127.0.0.1", self.port), SECONDS))
+        client = self.connected()
         client.send(request_for(path))
         assert client.get(len(RESPONSE)) == RESPONSE
         return client
 
     def asks(self, *bytes_sent):
         """What a client gets that sends this and waits for the end."""
-        client = Client(socket.create_connection(("127.0.0.1", self.port), SECONDS))
+        client = self.connected()
         client.send(*bytes_sent)
         return client.rest()
 
@@ -534,6 +538,28 @@ def no_listener():
     assert run("test", "--role=client", "ws://127.0.0.1:1", "1.1.1") == (2, b"", b"bad address\n")
 
 
+# Words that are the host of no request: with a blank, without a byte, longer than 255 bytes, not of ASCII, with a control
+# character; and words that are nearly the name of an end in memory.
+NO_HOSTS = ("a b", "", "a" * 251 + ":9001", "h\u00f6st:9001", "a\t:9001", "own ", " own", "tung ", "127.0.0.1:0 ")
+
+
+def no_host_to_listen_at():
+    """It is told in its place in the order: behind the key, before the IDs are looked at, and before a script is read.
+    The longest host is one, of which nothing is known."""
+    bad, ids = (2, b"", b"bad address\n"), (["1.1.1"], ["9.9.9"], ["--capture"])
+    for address in NO_HOSTS:
+        for words in (["test", address, *more] for more in ids):
+            assert run(*words, "--role=client") == bad, words
+        for words in (["send", address], ["send", "--capture", address], ["sweep", address], ["sweep", "--steps=0", address]):
+            assert run(*words, "--role=client") == bad, words
+        assert run("test", "--role=client", "--key=x", address) == (2, b"", b"bad key\n"), address
+        assert run("sweep", "--role=client", "--steps=5", address) == (2, b"", b"--steps takes 0 to 4\n"), address
+    longest = "a" * 250 + ":9001"
+    assert run("sweep", "--role=client", "--steps=0", longest) == (3, b"", b"not listening: no such host\n")
+    told = b"bad address\nwss is not spoken: put a TLS client before it, see --connect\n"
+    assert run("test", "--role=client", "wss: b", "1.1.1") == (2, b"", told)
+
+
 TESTS = [
     a_walk_over_the_cases,
     a_client_that_runs_no_case,
@@ -568,4 +594,5 @@ TESTS = [
     a_document_of_clients,
     a_document_beside_an_earlier_run,
     no_listener,
+    no_host_to_listen_at,
 ]

@@ -1,4 +1,5 @@
-"""The shims of programs that are started with them: one refuses a request for memory, one counts what is asked for."""
+"""The shims of programs that are started with them: one refuses a request for memory, one counts what is asked for, and
+one interrupts reads and writes."""
 
 import os
 import subprocess
@@ -33,11 +34,22 @@ def build_shim(folder, name):
 def refusing(shim, place, run):
     """Runs a program whose request with this number is refused, none for 0: what `run` gives, which starts it with
     these options and waits for its end, and whether a request was refused."""
+    result, notes = noting(shim, {"REFUSE": str(place)}, "REFUSE_NOTE", run)
+    return result, notes != b""
+
+
+def interrupting(shim, run):
+    """Runs a program whose reads and writes are interrupted: what `run` gives, and of which kind some were, r or w."""
+    return noting(shim, {}, "INTERRUPT_NOTE", run)
+
+
+def noting(shim, settings, note_name, run):
+    """What `run` gives of a program with a shim and its settings, and what the shim has noted."""
     noted, note = os.pipe()
-    env = {"PATH": os.environ["PATH"], "LD_PRELOAD": shim, "REFUSE": str(place), "REFUSE_NOTE": str(note)}
+    env = {"PATH": os.environ["PATH"], "LD_PRELOAD": shim, note_name: str(note), **settings}
     with os.fdopen(noted, "rb") as notes:
         try:
             result = run(env=env, pass_fds=[note])
         finally:
             os.close(note)
-        return result, notes.read() != b""
+        return result, notes.read()

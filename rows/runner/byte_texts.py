@@ -5,6 +5,7 @@
     16*2a   3*(8a 00)       what follows, so many times
     changed(X, "a", "b")    X with each "a" in it replaced by "b"
     counted(3, 0, 2, "# ")  the last of these three times, with 0, 2, 4 in the place of each #
+    first(2, X)             the first two bytes of X; behind(2, X) those behind them
     @head.txt               the bytes of a file beside the file of rows
     REQUEST                 a name that a line 'define: REQUEST ..' gave above
 """
@@ -12,8 +13,8 @@
 import re
 
 TOKEN = re.compile(
-    r"""\s*(?:(?P<text>"(?:[^"\\]|\\.)*")|(?P<times>[0-9]+)\*|(?P<call>changed|counted)\(|(?P<mark>[(),])"""
-    r"""|@(?P<file>[^\s(),]+)|(?P<name>[A-Z][A-Z_]*)|(?P<pairs>(?:[0-9a-f]{2})+))"""
+    r"""\s*(?:(?P<text>"(?:[^"\\]|\\.)*")|(?P<times>[0-9]+)\*|(?P<call>changed|counted|first|behind)\("""
+    r"""|(?P<mark>[(),])|@(?P<file>[^\s(),]+)|(?P<name>[A-Z][A-Z_]*)|(?P<pairs>(?:[0-9a-f]{2})+))"""
 )
 COUNT = re.compile(r"\s*([0-9]+)\s*,")
 ESCAPE = re.compile(r"""\\(?:x(?P<hex>[0-9a-f]{2})|(?P<one>.))""")
@@ -69,7 +70,7 @@ class Reader:
         if kind == "file":
             return (self.folder / found["file"]).read_bytes()
         if kind == "call":
-            return self.read_changed() if found["call"] == "changed" else self.read_counted()
+            return self.read_call(found["call"])
         if kind == "name" and found["name"] in self.names:
             return self.names[found["name"]]
         if found["mark"] == "(":
@@ -77,6 +78,20 @@ class Reader:
             self.expect(")")
             return value
         raise BadBytes(f"not bytes: {found[0].strip()}")
+
+    def read_call(self, name):
+        if name in ("first", "behind"):
+            return self.read_part_of(name)
+        return self.read_changed() if name == "changed" else self.read_counted()
+
+    def read_part_of(self, name):
+        """The first bytes of the last in parentheses, or those behind them: how many, and the bytes."""
+        size = self.read_count()
+        whole = self.read_all()
+        self.expect(")")
+        if size > len(whole):
+            raise BadBytes(f"no {size} bytes stand in {whole!r}")
+        return whole[:size] if name == "first" else whole[size:]
 
     def read_changed(self):
         """The bytes in parentheses, the first with each second in it replaced by the third."""

@@ -1,30 +1,36 @@
-"""Rows of calls, answered by the program `test_rows`: all those of a file in one run."""
+"""Rows of calls, answered by the program `test_rows` or `test_devices`, all those of a file in one run, or by the
+command `wst session`."""
 
 import re
 import resource
 import shlex
 import subprocess
 from dataclasses import dataclass
+from itertools import product
 
 from runner.results import LONG, Failure
 from runner.row_files import BadFile
+from runner.session_calls import answer_to, is_played
 
 QUOTED = r'"(?:[^"\\]|\\.)*"'
 BYTES = re.compile(rf'\[((?:{QUOTED}|[^\]"])*)\]|({QUOTED})')
 STREAM = re.compile(rf'\{{((?:{QUOTED}|[^}}"|])*)(?:\|([0-9 ]+))?\}}')
 FRONTS = re.compile(rf'<(?! )((?:{QUOTED}|[^>"])*)>')
+EACH = re.compile(r"([A-Z]+) (?:(\S+) to (\S+)|(.+))$")
+PLACE = re.compile(r"\((#?[A-Z_]+(?:[+-](?:[0-9]+|#?[A-Z_]+))*)\)")
+TERM = re.compile(r"([+-]?)(#?[A-Z_]+|[0-9]+)")
 SECONDS = 120
 
 
 @dataclass
 class Call:
-    """A row: its lines for `test_rows`, one for each cut, and the answer that each of them wants; and the KiB of memory
-    that the program may have for it, where that is said."""
+    """A row: its lines for the program, one for each cut and for each value of its `each`, and the answer that each of
+    them wants; and the KiB of memory that the program may have for it, where that is said."""
 
     where: str
     name: str
     lines: list
-    wanted: str
+    wanted: list
     memory: int = None
 
 
@@ -38,9 +44,49 @@ def calls_of(entry):
 
 
 def call_of(entry, number, text):
-    call, wanted = parted(entry, number, text)
-    lines, memory = cuts_of(entry, call), memory_of(entry)
-    return Call(f"{entry.file}:{number}", f"{entry.name}: {call}", lines, in_hex(entry, wanted), memory)
+    lines, answers = [], []
+    for values in values_of(entry):
+        call, wanted = parted(entry, number, filled(entry, text, values))
+        cuts = cuts_of(entry, call)
+        lines, answers = lines + cuts, answers + [in_hex(entry, wanted)] * len(cuts)
+    call, _ = parted(entry, number, text)
+    return Call(f"{entry.file}:{number}", f"{entry.name}: {call}", lines, answers, memory_of(entry))
+
+
+def values_of(entry):
+    """What the names of the keys `each` stand for: each of the values of one with each of those of the others."""
+    names, ranges = [], []
+    for _, part in entry.values.get("each", []):
+        found = EACH.match(part)
+        if not found:
+            raise BadFile(f"{entry.file}:{entry.line}: behind each: stands a name, and 'N to M' or words: {part}")
+        names.append(found[1])
+        if found[4]:
+            ranges.append(found[4].split())
+        else:
+            first, last = (int(filled(entry, place, {})) for place in (found[2], found[3]))
+            if first > last:
+                raise BadFile(f"{entry.file}:{entry.line}: nothing from {first} to {last}")
+            ranges.append(range(first, last + 1))
+    return [dict(zip(names, values)) for values in product(*ranges)]
+
+
+def filled(entry, text, values):
+    """The text with each `(N)`, `(N+1)` or `(N+#NAME)` whose names stand for values, or with `#` for how many bytes a
+    name has, replaced by its value."""
+
+    def value(found):
+        terms = TERM.findall(found[1])
+        if any(term[0] not in "#0123456789" and term not in values for _, term in terms):
+            return found[0]
+        if len(terms) == 1 and terms[0][1] in values:
+            return str(values[terms[0][1]])
+        return str(sum((-1 if sign == "-" else 1) * number(term) for sign, term in terms))
+
+    def number(term):
+        return len(entry.bytes_of(term[1:])) if term[0] == "#" else int(values.get(term, term))
+
+    return PLACE.sub(value, text)
 
 
 def memory_of(entry):
@@ -58,7 +104,7 @@ def session_of(entry):
     calls = [parted(entry, number, text) for number, text in entry.lines[1:]]
     line = " ; ".join([f"session {entry.lines[0][1][4:]}", *(in_hex(entry, call) for call, _ in calls)])
     wanted = " ; ".join(in_hex(entry, answer) for _, answer in calls)
-    return Call(f"{entry.file}:{entry.line}", entry.name, [line], wanted)
+    return Call(f"{entry.file}:{entry.line}", entry.name, [line], [wanted])
 
 
 def parted(entry, number, text):
@@ -109,22 +155,29 @@ def word(value):
     return value.hex() or "-"
 
 
-def run_calls(program, calls):
-    """The failures of these rows."""
+def run_calls(program, command, calls):
+    """The failures of these rows over the program, and over the command for those that it plays."""
     failures = []
     for memory in dict.fromkeys(call.memory for call in calls):
-        failures += run_within(program, [call for call in calls if call.memory == memory], memory)
+        within = [call for call in calls if call.memory == memory]
+        failures += run_within(program, [call for call in within if not is_played(call.lines[0])], memory)
+        failures += run_within(command, [call for call in within if is_played(call.lines[0])], memory)
     return failures
 
 
 def run_within(program, calls, memory):
-    """The failures of these rows, in one run that may have so many KiB of memory, as much as there is for None."""
-    answers = answers_to(program, [line for call in calls for line in call.lines], memory)
+    """The failures of these rows, in one run that may have so many KiB of memory, as much as there is for None; in a
+    run for each where the command plays them."""
+    lines = [line for call in calls for line in call.lines]
+    if lines and is_played(lines[0]):
+        answers = [answer_to(program, line, limited(memory)) for line in lines]
+    else:
+        answers = answers_to(program, lines, memory)
     failures, at = [], 0
     for call in calls:
         got = answers[at : at + len(call.lines)]
         at += len(call.lines)
-        bad = next((i for i, answer in enumerate(got) if answer != call.wanted), None)
+        bad = next((i for i, answer in enumerate(got) if answer != call.wanted[i]), None)
         if bad is not None:
             failures.append(failure(program, call, bad, got[bad]))
     return failures
@@ -133,7 +186,8 @@ def run_within(program, calls, memory):
 def failure(program, call, number, answer):
     line = call.lines[number]
     words = f"printf '%s\\n' {shlex.quote(line)}" if len(line) < LONG else f"rows/run --input {call.where}/{number}"
-    return Failure(call.where, call.name, f"{words} | {program}", [("answer", call.wanted, answer)])
+    program = f"{program} session" if is_played(line) else program
+    return Failure(call.where, call.name, f"{words} | {program}", [("answer", call.wanted[number], answer)])
 
 
 def answers_to(program, lines, memory):

@@ -32,6 +32,6 @@ def calls_of_line(file, number, line, program):
     where, name = f"{file}:{number}", found[1]
     text = subprocess.run([program, "cases", name], stdout=subprocess.PIPE, timeout=SECONDS).stdout
     return [
-        Call(where, f"case {name}", [f"case {name.encode().hex()}"], line),
-        Call(where, f"{program} cases {name}", [f"script {text.hex() or '-'}"], found[2] + (found[3] or "")),
+        Call(where, f"case {name}", [f"case {name.encode().hex()}"], [line]),
+        Call(where, f"{program} cases {name}", [f"script {text.hex() or '-'}"], [found[2] + (found[3] or "")]),
     ]

@@ -8,7 +8,7 @@ from runner.byte_texts import BadBytes, read_bytes
 
 HEADINGS = ("row", "calls", "session")
 VALUES = ("words", "input", "cuts", "output", "columns", "faults", "status", "stdin", "stdout", "stderr")
-OF_CALLS = ("memory",)
+OF_CALLS = ("memory", "each")
 KEY = re.compile(r"([a-z]+):(?: (.*))?$")
 DEFINITION = re.compile(r"([A-Z][A-Z_]*) (.*)$")
 

@@ -1,32 +1,13 @@
 //! Rows of whole streams, given to an echo in pieces. An answer is the events, each with the number of bytes that
 //! were taken by then, what was put, the status, and the status after the stream's end.
 
-use crate::printing::{put_event, put_placed};
+use crate::printing::put_event;
 use crate::row_fault::RowFault;
 use crate::words::{bytes_of, limits_of, role_of, session_key_of};
 use std::alloc::Global;
 use std::fmt::Write;
 use ws_formats::Hex;
 use ws_session::Echo;
-
-/// `echo_all ROLE LIMIT KEY PIECE ..`, by one call for each piece.
-pub fn take_pieces(alloc: Global, words: &[&str], out: &mut String) -> Result<(), RowFault> {
-    let [role, limit, key, pieces @ ..] = words else {
-        return Err(RowFault::NotARow);
-    };
-    let key = session_key_of(key)?;
-    let mut echo = Echo::new(alloc, limits_of(limit)?, role_of(role)?);
-    let mut put = Vec::new(alloc);
-    let mut before: usize = 0;
-    for word in pieces {
-        let piece = bytes_of(alloc, word)?;
-        let mut events = Vec::new(alloc);
-        echo.take_all(piece.as_slice(), key, &mut put, &mut events)?;
-        put_placed(out, before, &events)?;
-        before = before.saturating_add(piece.len());
-    }
-    put_end(out, &mut echo, put.as_slice())
-}
 
 /// `echo ROLE LIMIT KEY PIECE ..`, by calls that each take up to the end of one frame.
 pub fn take_frames(alloc: Global, words: &[&str], out: &mut String) -> Result<(), RowFault> {

@@ -15,7 +15,6 @@ mod printing;
 mod protocols;
 mod row_fault;
 mod scripts;
-mod sessions;
 mod streams;
 mod sweeps;
 mod takes;
@@ -70,11 +69,8 @@ fn answer_of_sessions(
     match call {
         "limits" => streams::make_limits(words, out),
         "feed_all" => streams::feed(alloc, words, out),
-        "take_all" => streams::take_pieces(alloc, words, out),
         "take" => takes::take_frames(alloc, words, out),
         "echo" => echoes::take_frames(alloc, words, out),
-        "echo_all" => echoes::take_pieces(alloc, words, out),
-        "session" => sessions::play(alloc, words, out),
         "doomed" => dooms::mark_lengths(alloc, words, out),
         "tap" => taps::tap_moves(alloc, words, out),
         "tap_orders" => taps::tap_orders(alloc, words, out),

@@ -3,7 +3,7 @@
 use crate::row_fault::RowFault;
 use std::fmt::Write;
 use ws_formats::Hex;
-use ws_session::{Event, PlacedEvent};
+use ws_session::Event;
 
 /// An event of a session.
 pub fn put_event(out: &mut String, event: &Event) -> Result<(), RowFault> {
@@ -27,17 +27,6 @@ pub fn put_event(out: &mut String, event: &Event) -> Result<(), RowFault> {
             )?
         }
         Event::Failed(reason) => write!(out, "failed {reason}")?,
-    }
-    Ok(())
-}
-
-/// The events of a piece, each with the number of bytes that were taken by then, of which `before` came in earlier
-/// pieces.
-pub fn put_placed(out: &mut String, before: usize, events: &[PlacedEvent]) -> Result<(), RowFault> {
-    for placed in events {
-        write!(out, "{} ", before.saturating_add(placed.end))?;
-        put_event(out, &placed.event)?;
-        out.push_str(", ")?;
     }
     Ok(())
 }

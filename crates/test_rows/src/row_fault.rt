@@ -3,7 +3,6 @@
 use std::alloc::{AllocError, AllocFailed};
 use std::fmt;
 use ws_base::{LineFault, NoMemory};
-use ws_session::TakeStop;
 
 /// Why a row has no answer.
 #[derive(Clone, Copy)]
@@ -29,12 +28,6 @@ impl From<LineFault> for RowFault {
             LineFault::Damaged => RowFault::NotARow,
             LineFault::NoMemory => RowFault::NoMemory,
         }
-    }
-}
-
-impl From<TakeStop> for RowFault {
-    fn from(_stop: TakeStop) -> RowFault {
-        RowFault::NoMemory
     }
 }
 

@@ -4,7 +4,7 @@ use crate::row_fault::RowFault;
 use std::alloc::Global;
 use ws_base::Payload;
 use ws_formats::{read_fin, read_hex, read_key, read_key_or_dash, read_u16, read_u32};
-use ws_session::{Kind, Limits};
+use ws_session::Limits;
 use ws_wire::Role;
 
 /// A number of at most 64 bits.
@@ -51,11 +51,6 @@ pub fn role_of(word: &str) -> Result<Role, RowFault> {
         "server" => Ok(Role::Server),
         _ => Err(RowFault::NotARow),
     }
-}
-
-/// `text` or `binary`.
-pub fn kind_of(word: &str) -> Result<Kind, RowFault> {
-    Kind::from_word(word.as_bytes()).ok_or(RowFault::NotARow)
 }
 
 /// Whether FIN is set: `fin` or `part`.

@@ -1,6 +1,7 @@
 //! The calls of a script at a session, one after the other.
 
-ghost use Rattle.std.specs.Prelude.{◌≡◌, ℕ, ◌+◌, ◌++◌, List, length, Some, IfErr, IfOk, MatchResult, OnOk, string_bytes};
+ghost use Rattle.std.specs.Prelude.{◌≡◌, ℕ, ◌+◌, ◌++◌, List, length, Some, IfErr, IfOk, MatchResult, OnOk};
+ghost use Rattle.std.specs.Prelude.{string_bytes};
 ghost use Rattle.ws_base.specs.declared.text_fault.LineFault.TheVariants.{Damaged};
 ghost use Rattle.ws_formats.specs.Lines.{Damages};
 ghost use Rattle.ws_session.specs.declared.event.PlacedEvent.{PlacedEvent};

@@ -18,8 +18,8 @@ use Rattle.ws_connection.specs.declared.admitting.Admission.TheVariants as admis
 
 -- ---- what was read
 
--- These bytes were read for the head by an endpoint that knows these subprotocols: they begin with a head of this length
--- that asks for this upgrade.
+-- These bytes were read for the head by an endpoint that knows these subprotocols: they begin with a head of this
+-- length that asks for this upgrade.
 pub record ReadsUpgrade (known : List (List ℕ)) (head : List ℕ) (upgrade : Upgrade) (used : ℕ) : Type 0 where
   pub asks : IsAnswer known head (read.Got upgrade used)
   pub is_head : ReadsRequest known head (Accepted upgrade.accept upgrade.protocol used)

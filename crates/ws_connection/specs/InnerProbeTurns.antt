@@ -1,6 +1,6 @@
 -- Inside the crate: one turn of a script that is run against a tested end. A reader may skip this file.
-use Rattle.std.specs.Prelude.{◌≡◌, ℕ, ◌+◌, ◌<◌, ◌≤◌, ◌↔◌, ◌⊎◌, ◌||◌, ◌&&◌, not, Bool, true, false, ⊤, List, [], ◌∷◌, ◌++◌, length}
-use Rattle.std.specs.Prelude.{Option, None, Some}
+use Rattle.std.specs.Prelude.{◌≡◌, ℕ, ◌+◌, ◌<◌, ◌≤◌, ◌↔◌, ◌⊎◌, ◌||◌, ◌&&◌, not, Bool, true, false, ⊤, List, [], ◌∷◌}
+use Rattle.std.specs.Prelude.{◌++◌, length, Option, None, Some}
 use Rattle.std.specs.Io.KnownBytes.{Keeps}
 use Rattle.ws_wire.specs.declared.role.Role.{Role}
 use Rattle.ws_wire.specs.declared.role.Role.TheVariants.{Client, Server}
@@ -14,8 +14,7 @@ use Rattle.ws_suite.specs.declared.evidence.keeping.ReplyTally.{ReplyTally}
 use Rattle.ws_suite.specs.Growing.{AreTurnsAnswered, EndInsideFrame, GrowingValue, HasGrown, IsTallyOf, turn_with_got}
 use Rattle.ws_connection.specs.Connections.{IsReady, ReadsBytes, WritesBytes, is_open, waited_in_vain}
 use Rattle.ws_connection.specs.Standings.{HalfCloses, HasHeard, MayGoOn, Stands, half_closes, is_final}
-use Rattle.ws_connection.specs.Probing.{max_piece, EndsAtOnce, EndsTurn, HasEnded}
-use Rattle.ws_connection.specs.Probing.{HasSentOf}
+use Rattle.ws_connection.specs.Probing.{max_piece, EndsAtOnce, EndsTurn, HasEnded, HasSentOf}
 use Rattle.ws_connection.specs.Probing.{RefusesResponse, RunsScript, StopsInResponse}
 use Rattle.ws_connection.specs.declared.probe_end.Probe.{Probe}
 use Rattle.ws_connection.specs.declared.probe_end.Probe.TheVariants.{Ran, Refused, NoConnection}
@@ -141,7 +140,8 @@ pub record ReadsTurn (tested : Role) (waits : Bool) (stop : TurnStop) (past old_
 
 -- What is shown where no more is read: where that is because what is due has come, it has; and whether some read has
 -- waited in vain is known.
-pub record SeesTurn (tested : Role) (stop : TurnStop) (turns : List Turn) (seen : RunValue) (run : ConnectionRun) : Type 0 where
+pub record SeesTurn (tested : Role) (stop : TurnStop) (turns : List Turn) (seen : RunValue) (run : ConnectionRun)
+    : Type 0 where
   pub shown : HasSeen tested turns seen
   pub due : stop ≡ IsThere → AreTurnsAnswered tested turns
   pub waited_before : run.old.input.waited ≡ true → run.new.input.waited ≡ true
@@ -196,7 +196,8 @@ pub record RunsTurn (tested : Role) (bytes past before : List ℕ) (more : Bool)
   pub ends : GoesOnOrEnds tested end bytes more has_come turn.sent (past ++ turn.got) run.new
 
 -- What is shown after a turn: where the script goes on, what is due has come, or some read has waited in vain.
-pub record SeesRun (tested : Role) (end : Option Ended) (turns : List Turn) (seen : RunValue) (run : ConnectionRun) : Type 0 where
+pub record SeesRun (tested : Role) (end : Option Ended) (turns : List Turn) (seen : RunValue) (run : ConnectionRun)
+    : Type 0 where
   pub shown : HasSeen tested turns seen
   pub follows : end ≡ None → AreTurnsAnswered tested turns ⊎ (run.new.input.waited ≡ true)
   pub waited_before : run.old.input.waited ≡ true → run.new.input.waited ≡ true

@@ -50,8 +50,8 @@ bytes_by_turn case key = map (turn_bytes key) (turns_of case.steps)
 abbrev pub max_piece : ℕ
 max_piece = 4096
 
--- what was got ends the run, by a fault or, from a client, by a close, and nothing was read behind that but what came in
--- one piece with it
+-- what was got ends the run, by a fault or, from a client, by a close, and nothing was read behind that but what came
+-- in one piece with it
 pub record EndsAtOnce (tested : Role) (got : List ℕ) : Type 0 where
   pub final : EndsRun tested got
   pub before : List ℕ
@@ -146,8 +146,8 @@ pub record EndsInTurn (tested : Role) (turns : List (List ℕ)) (first : List �
       (all_got transcript.turns) connection
   pub half_closed : (connection.output.ended ≡ true) ↔ HalfCloses tested (all_got transcript.turns)
 
--- The script has no turns, or what came with the head ends the run: the tester ended it, nothing was sent, and what came
--- with the head is a turn, if it is anything.
+-- The script has no turns, or what came with the head ends the run: the tester ended it, nothing was sent, and what
+-- came with the head is a turn, if it is anything.
 pub record EndsWithoutTurns (tested : Role) (turns : List (List ℕ)) (first : List ℕ) (transcript : Transcript)
     (connection : ConnectionValue) : Type 0 where
   pub none : (turns ≡ []) ⊎ EndsRun tested first
@@ -160,8 +160,8 @@ abbrev pub EndsScript : Role → List (List ℕ) → List ℕ → Transcript →
 EndsScript tested turns first transcript connection =
     EndsWithoutTurns tested turns first transcript connection ⊎ EndsInTurn tested turns first transcript connection
 
--- A script was run over a connection to an end of this role, whose turns have these bytes, and of which the first has got
--- `first`: just what the turns sent was written, and just what they got besides was read, no more than the budget.
+-- A script was run over a connection to an end of this role, whose turns have these bytes, and of which the first has
+-- got `first`: just what the turns sent was written, and just what they got besides was read, no more than the budget.
 pub record Records (tested : Role) (turns : List (List ℕ)) (first : List ℕ) (transcript : Transcript)
     (run : ConnectionRun) : Type 0 where
   pub read : List ℕ

@@ -1,5 +1,5 @@
--- How what one end sent stands, at the other one, which takes the largest messages, and what a run makes of it (RFC 6455
--- sections 5 and 7.1).
+-- How what one end sent stands, at the other one, which takes the largest messages, and what a run makes of it (RFC
+-- 6455 sections 5 and 7.1).
 use Rattle.std.specs.Prelude.{◌≡◌, ℕ, Bool, true, false, List, Option, Some}
 use Rattle.ws_wire.specs.declared.role.Role.{Role}
 use Rattle.ws_wire.specs.declared.role.Role.TheVariants.{Client, Server}
@@ -21,8 +21,8 @@ standing_at (Some (event.Close close)) = Closed
 standing_at (Some (event.Failed reason)) = Faulty
 standing_at _ = Going
 
--- The bytes stand so: their last event, of those that an end of this role tells of them, is a close, or a fault, or they
--- have neither.
+-- The bytes stand so: their last event, of those that an end of this role tells of them, is a close, or a fault, or
+-- they have neither.
 pub record Stands (reader : Role) (standing : Standing) (bytes : List ℕ) : Type 0 where
   pub events : List Event
   pub are_events : HasEvents reader most_limits bytes events

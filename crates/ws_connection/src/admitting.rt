@@ -1,5 +1,5 @@
-//! The opening handshake of a server that goes on over the connection itself (RFC 6455 section 4.2): the request is read
-//! and answered, and what it asks for is handed back.
+//! The opening handshake of a server that goes on over the connection itself (RFC 6455 section 4.2): the request is
+//! read and answered, and what it asks for is handed back.
 
 ghost use Rattle.std.specs.Prelude.{◌≡◌, IfOk, map};
 ghost use Rattle.ws_upgrade.specs.Protocols.{AreOffers};
@@ -35,9 +35,9 @@ pub enum Admission {
     Lost,
 }
 
-/// Reads the head of a request, at most 8192 bytes, and writes the response, or the refusal. The response names the first
-/// subprotocol that the request offers and that is known. Neither the head nor what came with it counts for the budget
-/// of the connection.
+/// Reads the head of a request, at most 8192 bytes, and writes the response, or the refusal. The response names the
+/// first subprotocol that the request offers and that is known. Neither the head nor what came with it counts for the
+/// budget of the connection.
 pub fn admit<R: Read, W: EndsDirection>(
     alloc: Global,
     known: &[&[u8]],

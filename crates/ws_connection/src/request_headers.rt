@@ -10,8 +10,8 @@ use std::marker::Model;
 use ws_base::NoMemory;
 use ws_upgrade::{AddedHeader, are_added_headers};
 
-/// Headers that can be added to a request, in the order in which they were given. Contracts see of each its name and its
-/// value.
+/// Headers that can be added to a request, in the order in which they were given. Contracts see of each its name and
+/// its value.
 #[derive(Drop)]
 pub struct RequestHeaders<'a> {
     headers: Vec<AddedHeader<'a>>,
@@ -39,8 +39,8 @@ impl<'a> RequestHeaders<'a> {
     }
 }
 
-/// The headers of these words. Each is parted at its first colon, behind which a space stands. `None` where one is not so,
-/// or they can't be added to a request.
+/// The headers of these words. Each is parted at its first colon, behind which a space stands. `None` where one is not
+/// so, or they can't be added to a request.
 pub fn headers_of<'a>(
     alloc: Global,
     words: &[&'a str],

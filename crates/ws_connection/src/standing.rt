@@ -30,8 +30,8 @@ pub(crate) fn standing_of(evidence: &RunEvidence) -> Standing
     Standing::Going
 }
 
-/// Whether a run ends where what was got from the tested end stands so: by a fault; and by a close of a client, since the
-/// server ends the connection (RFC 6455 section 7.1.1).
+/// Whether a run ends where what was got from the tested end stands so: by a fault; and by a close of a client, since
+/// the server ends the connection (RFC 6455 section 7.1.1).
 pub(crate) fn is_final(tested: Role, standing: Standing) -> bool
     ensures { result ≡ is_final tested standing }
 {

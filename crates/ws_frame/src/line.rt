@@ -1,18 +1,24 @@
 //! The line that tells of one frame (RFC 6455 section 5.2).
 
-ghost use Rattle.std.specs.Prelude.{◌≡◌, ◌≤◌, ◌+◌, ◌++◌, length};
-ghost use Rattle.ws_formats.specs.Words.{opcode_word, bit_word};
-ghost use Rattle.ws_frame.specs.Lines.{key_word, data_word, mask_mark, form_mark};
+ghost use Rattle.std.specs.Prelude.{◌≡◌, ◌<◌, ◌≤◌, ◌+◌, ◌++◌, length};
+ghost use Rattle.ws_formats.specs.Words.{opcode_word};
+ghost use Rattle.ws_frame.specs.Lines.{key_word, data_word};
 ghost use Rattle.ws_frame.specs.Lines.{line_with};
-ghost use Rattle.ws_frame.specs.InnerPrinting.{bits_words, layout_words};
+ghost use Rattle.ws_frame.specs.InnerPrinting.{place_words, bits_words, layout_words, end_words};
 
 use crate::first_bytes::SHOWN;
 use crate::room::Room;
 use crate::source::Source;
-use ws_wire::{Header, Opcode, Role};
+use ws_wire::{Form, Header, Opcode, Role};
 
 /// No line has more bytes than this.
 pub(crate) const MAX_LINE: usize = 200;
+
+/// Where FIN stands in the words of the bits.
+const FIN: usize = 5;
+
+/// Where the reserved bits do.
+const RSV: usize = 11;
 
 /// Puts the line of a frame that begins at `offset` into the room, ended by LF. `first` are the first bytes of the
 /// payload, unmasked: as many as there are, at most `SHOWN`.
@@ -23,42 +29,53 @@ pub(crate) fn push_line(room: &mut Room, source: Source, offset: u64, header: &H
     ensures len { length room.new ≤ length room.old + 200 }
 {
     source.mark.push_to(room);
-    push_bits(room, offset, header);
+    push_place(room, offset, header);
     push_layout(room, header);
     push_data(room, header.payload_len(), first);
-    room.push(mask_mark_of(source.from, header).as_bytes());
-    room.push(form_mark_of(header).as_bytes());
-    room.push(b"\n");
+    push_marks(room, source.from, header);
 }
 
 /// Puts where a frame begins, and what its first byte says.
-fn push_bits(room: &mut Room, offset: u64, header: &Header)
+fn push_place(room: &mut Room, offset: u64, header: &Header)
     requires { length room.old + 80 ≤ 65536 }
-    ensures pushed { room.new ≡ room.old ++ bits_words offset header.now }
+    ensures pushed { room.new ≡ room.old ++ place_words offset header.now }
     ensures len { length room.new ≤ length room.old + 80 }
 {
     room.push_decimal(offset);
     room.push(b" ");
     push_kind(room, header.opcode());
-    room.push(b" fin=");
-    room.push(bit_of(header.fin()).as_bytes());
-    room.push(b" rsv=");
-    room.push_decimal(u64::from(header.rsv()));
+    push_bits(room, header.fin(), header.rsv());
+}
+
+/// Puts FIN and the reserved bits, and the word before the key, in one copy.
+fn push_bits(room: &mut Room, fin: bool, rsv: u8)
+    requires bits { rsv < 8 }
+    requires room { length room.old + 17 ≤ 65536 }
+    ensures pushed { room.new ≡ room.old ++ bits_words fin rsv }
+    ensures len { length room.new ≡ length room.old + 17 }
+{
+    let mut words = *b" fin=0 rsv=0 key=";
+    if fin {
+        words[FIN] = b'1';
+    }
+    words[RSV] = b'0' + rsv;
+    room.push(&words);
 }
 
 /// Puts the masking key, and the payload length with its form.
 fn push_layout(room: &mut Room, header: &Header)
-    requires { length room.old + 50 ≤ 65536 }
+    requires { length room.old + 45 ≤ 65536 }
     ensures pushed { room.new ≡ room.old ++ layout_words header.now }
-    ensures len { length room.new ≤ length room.old + 50 }
+    ensures len { length room.new ≤ length room.old + 45 }
 {
-    room.push(b" key=");
     push_key(room, header.key());
     room.push(b" len=");
     room.push_decimal(header.payload_len());
-    room.push(b" ");
-    room.push(header.form().word().as_bytes());
-    room.push(b" ");
+    match header.form() {
+        Form::Short => room.push(b" short "),
+        Form::Two => room.push(b" two "),
+        Form::Eight => room.push(b" eight "),
+    }
 }
 
 /// Puts the name of an opcode.
@@ -110,35 +127,19 @@ fn push_data(room: &mut Room, len: u64, first: &[u8])
     }
 }
 
-/// A bit as a digit.
-fn bit_of(bit: bool) -> &'static str
-    ensures word { result.now ≡ bit_word bit }
-    ensures short { length result.now ≤ 1 }
-{
-    if bit { "1" } else { "0" }
-}
-
-/// What a line adds where the frame is masked and should not be, or the other way round.
-fn mask_mark_of(from: Role, header: &Header) -> &'static str
-    ensures mark { result.now ≡ mask_mark from header.now.key }
-    ensures short { length result.now ≤ 6 }
+/// Puts what the line adds where the frame is masked and should not be, or the other way round, and where the header's
+/// form is longer than needed, and ends it.
+fn push_marks(room: &mut Room, from: Role, header: &Header)
+    requires { length room.old + 13 ≤ 65536 }
+    ensures pushed { room.new ≡ room.old ++ end_words from header.now }
+    ensures len { length room.new ≤ length room.old + 13 }
 {
     match (from, header.key()) {
-        (Role::Client, None) => " !mask",
-        (Role::Client, Some(_)) => "",
-        (Role::Server, None) => "",
-        (Role::Server, Some(_)) => " !mask",
+        (Role::Client, None) | (Role::Server, Some(_)) => room.push(b" !mask"),
+        (Role::Client, Some(_)) | (Role::Server, None) => {}
     }
-}
-
-/// What a line adds where the header's form is longer than needed.
-fn form_mark_of(header: &Header) -> &'static str
-    ensures mark { result.now ≡ form_mark header.now.form header.now.len }
-    ensures short { length result.now ≤ 6 }
-{
     if header.is_longer_than_needed() {
-        " !form"
-    } else {
-        ""
+        room.push(b" !form");
     }
+    room.push(b"\n");
 }

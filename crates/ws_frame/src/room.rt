@@ -10,6 +10,9 @@ use std::marker::Model;
 /// How many bytes a room holds.
 pub(crate) const ROOM: usize = 65536;
 
+/// How many bytes are put as digits at once, at most.
+const FEW: usize = 16;
+
 /// Bytes in a fixed room: contracts see the list of them.
 #[derive(Drop)]
 pub(crate) struct Room {
@@ -81,15 +84,19 @@ impl Room {
         self.push(digits.format(number).as_bytes());
     }
 
-    /// Puts the digits of bytes behind them, two a byte.
+    /// Puts the digits of a few bytes behind them, two a byte.
     pub(crate) fn push_hex(&mut self, bytes: &[u8])
-        requires { length self.old + 2 * length bytes.now ≤ 65536 }
+        requires few { length bytes.now ≤ 16 }
+        requires room { length self.old + 2 * length bytes.now ≤ 65536 }
         ensures pushed { self.new ≡ self.old ++ hex bytes.now }
         ensures len { length self.new ≡ length self.old + 2 * length bytes.now }
     {
-        for byte in bytes {
-            self.push(&[digit_of(byte / 16), digit_of(byte % 16)]);
+        let mut digits = [0; 2 * FEW];
+        'bytes: for i in 0..bytes.len() {
+            digits[2 * i] = digit_of(bytes[i] / 16);
+            digits[2 * i + 1] = digit_of(bytes[i] % 16);
         }
+        self.push(&digits[..2 * bytes.len()]);
     }
 }
 

@@ -76,8 +76,8 @@ impl StreamLines {
         Ok(())
     }
 
-    /// One more byte comes: the line that it makes certain, and no bytes where it makes none. So a caller can keep lines
-    /// back that `take` would write.
+    /// One more byte comes: the line that it makes certain, and no bytes where it makes none. So a caller can keep
+    /// lines back that `take` would write.
     pub fn take_byte(&mut self, byte: u8) -> OneLine
         requires room { HasRoomFor 1 self.old }
         ensures source { source_of self.new ≡ source_of self.old }

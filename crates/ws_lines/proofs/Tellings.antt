@@ -1,5 +1,5 @@
 -- What each call makes of the turns that were told.
-use Rattle.std.proofs.Common.{◌≡◌, ℕ, zero, suc, ◌+◌, List, [], ◌∷◌, ◌++◌, length, Option, refl, sym, ap, ◌∙◌, append_assoc, append-nil, arith, subst}
+use Rattle.std.proofs.Common.{◌≡◌, ℕ, zero, suc, ◌+◌, ◌^◌, ◌<◌, List, [], ◌∷◌, ◌++◌, length, Option, refl, sym, ap, ◌∙◌, append_assoc, append-nil, arith, subst}
 use Rattle.std.specs.Io.KnownBytes.{Appends}
 use Rattle.std.proofs.KnownBytes.{Appends-trans}
 use Rattle.ws_wire.specs.declared.role.Role.{Role}
@@ -14,7 +14,7 @@ use Rattle.ws_scripts.specs.declared.transcript.Turn.{Turn}
 use Rattle.ws_scripts.specs.declared.transcript.Ended.{Ended}
 use Rattle.ws_lines.specs.declared.transcript_lines.TranscriptLines.{TranscriptLines}
 use Rattle.ws_lines.specs.TurnLines.{TurnLines, Direction, StandInTheirTurns, AreTurnLines, HasTurnLines, IsCutLine, bytes_in, lines_in, sent_by_tester, got_by_tester, turn_line, turns_text, end_line}
-use Rattle.ws_lines.specs.Telling.{IsToldIn, HasToldTurns, BeginsTurns, begun_turn, with_got}
+use Rattle.ws_lines.specs.Telling.{IsToldIn, HasRoomForGot, HasToldTurns, BeginsTurns, begun_turn, with_got}
 use Rattle.ws_lines.proofs.Directions.{some_last, length-one-more, stand_more, stand_front, certain_of, turn_told, shown_nothing, certain_again, more_told, certain_turn}
 use Rattle.ws_lines.proofs.Texts.{text_of_begun, text_of_got}
 
@@ -106,6 +106,13 @@ begins_got tested old turns turn written piece next front behind h certain e =
       more = behind;
       begins = text_of_got s.front s.last.sent s.last.got next ∙ ap (λ (t : List ℕ). t ++ next) (sym (h.all ∙ ap (λ (l : List TurnLines). turns_text 1 l) s.parts)) ∙ e;
     }
+
+-- where no turn has begun, none was told, and as many bytes can be got as there is room for
+pub first_room : (count : ℕ) (old : TranscriptLines) → old.turns ≡ 0 → HasRoomForGot count old
+    → (tested : Role) × (written : List ℕ) × HasToldTurns tested old [] written × (count < 2 ^ 64)
+first_room count old none (tested, [], written, h, room) =
+    let fits : 0 + count < 2 ^ 64 = room in (tested, written, h, omega (arith, fits))
+first_room count old none (tested, turn ∷ turns, written, h, room) = absurd (omega (arith, none, h.count))
 
 -- ---- the end
 

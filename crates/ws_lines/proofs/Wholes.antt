@@ -21,7 +21,7 @@ use Rattle.ws_scripts.specs.declared.transcript.Ended.{Ended}
 use Rattle.ws_scripts.specs.declared.transcript.Transcript.{Transcript}
 use Rattle.ws_scripts.specs.Captures.{AreOfBytes}
 use Rattle.ws_lines.specs.TurnLines.{TurnLines, Direction, StandInTheirTurns, AreTurnLines, HasTurnLines, bytes_in, lines_in, sent_by_tester, got_by_tester, turns_text, end_line}
-use Rattle.ws_lines.specs.Telling.{BeginsTurns, HasToldTurns, begun_turn, with_got}
+use Rattle.ws_lines.specs.Telling.{BeginsTurns, HasToldTurns, begun_turn, got_first, with_got}
 use Rattle.ws_lines.proofs.Directions.{some_last, length-one-more, certain_so_far, stand_more, stand_front, certain_again, bytes_of_turns, some_more, certain_turn}
 use Rattle.ws_lines.proofs.Texts.{text-one-more, turn_text, text_of_got}
 
@@ -143,6 +143,18 @@ begun_before_got tested turns after turn ended front b all one more =
     let s = got_goes_on tested turns turn b.lines b.are_lines all one in
     begun_so_far tested (turns ++ turn ∷ []) after ended front (record { lines = s.lines; are_lines = s.are; more = b.more ++ s.more; begins = s.goes_on ∙ ap (λ (l : List ℕ). l ++ s.more) b.begins ∙ append_assoc front b.more s.more })
     (all-append AreOfBytes turns (turn ∷ []) all (one, tt)) more
+
+-- what begins the first turn, before anything is got, begins it with that
+pub begins_first : (tested : Role) (piece front : List ℕ) → AreBytes piece
+    → BeginsTurns tested (begun_turn [] ∷ []) front → BeginsTurns tested (got_first piece ∷ []) front
+begins_first tested piece front are b =
+    let s = got_goes_on tested [] (got_first piece) b.lines b.are_lines tt (λ i. omega arith, are) in
+    record {
+      lines = s.lines;
+      are_lines = s.are;
+      more = b.more ++ s.more;
+      begins = s.goes_on ∙ ap (λ (l : List ℕ). l ++ s.more) b.begins ∙ append_assoc front b.more s.more;
+    }
 
 -- ---- every transcript
 

@@ -13,7 +13,8 @@ use Rattle.ws_frame.specs.Lines.{AreCertainLines}
 use Rattle.ws_frame.proofs.Fronts.{no_bad_without_header}
 use Rattle.ws_scripts.specs.declared.transcript.Turn.{Turn}
 use Rattle.ws_scripts.specs.declared.transcript.Ended.TheVariants.{Broken}
-use Rattle.ws_lines.specs.TurnLines.{TurnLines, StandInTheirTurns, HasTurnLines, sent_by_tester, got_by_tester, turns_text}
+use Rattle.ws_lines.specs.TurnLines.{TurnLines, StandInTheirTurns, HasTurnLines, sent_by_tester, got_by_tester}
+use Rattle.ws_lines.specs.TurnLines.{turns_text}
 
 -- what is computed at numbers that are written out
 unfoldable on_numbers : ⊤
@@ -27,7 +28,8 @@ abbrev lines_of : List ℕ → List ℕ → TurnLines
 lines_of sent got = record { sent = sent; got = got }
 
 -- each turn has its line, and in it what was sent stands before what was got
-pub text_of_three_turns : turns_text 1 (lines_of (codes "> a\n") (codes "< b\n") ∷ lines_of [] [] ∷ lines_of [] (codes "< c\n") ∷ [])
+pub text_of_three_turns : turns_text 1
+    (lines_of (codes "> a\n") (codes "< b\n") ∷ lines_of [] [] ∷ lines_of [] (codes "< c\n") ∷ [])
     ≡ codes "turn 1\n> a\n< b\nturn 2\nturn 3\n< c\n"
 unfolding on_numbers
 text_of_three_turns = refl

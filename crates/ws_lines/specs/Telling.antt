@@ -12,8 +12,7 @@ use Rattle.ws_scripts.specs.Captures.{AreOfBytes}
 use Rattle.ws_lines.specs.declared.transcript_lines.TranscriptLines.{TranscriptLines}
 use Rattle.ws_frame.specs.declared.stream_lines.StreamLines.{StreamLines}
 use Rattle.ws_lines.specs.TurnLines.{TurnLines, Direction, StandInTheirTurns, AreTurnLines, HasTurnLines}
-use Rattle.ws_lines.specs.TurnLines.{bytes_in, lines_in}
-use Rattle.ws_lines.specs.TurnLines.{sent_by_tester, got_by_tester, turns_text}
+use Rattle.ws_lines.specs.TurnLines.{bytes_in, lines_in, sent_by_tester, got_by_tester, turns_text}
 
 -- a direction's lines in these turns stand in their turns, and its stream has shown them
 pub record IsToldIn (direction : Direction) (stream : StreamLines) (turns : List Turn) (lines : List TurnLines)
@@ -76,6 +75,15 @@ TellsGot old new piece output result = (tested : Role) (turns : List Turn) (turn
     → HasToldTurns tested old (turns ++ turn ∷ []) written → (more : List ℕ) × HasWritten more output
     × AreTold tested new (turns ++ with_got turn piece ∷ []) (written ++ more) output.failed result
 
+-- where no turn has begun, the first begins, in which nothing is sent
+abbrev pub got_first : List ℕ → Turn
+got_first piece = with_got (begun_turn []) piece
+
+abbrev pub TellsFirstGot : TranscriptLines → TranscriptLines → List ℕ → Device → Result (Unit {0}) WriteFault → Type 0
+TellsFirstGot old new piece output result = (tested : Role) (written : List ℕ)
+    → HasToldTurns tested old [] written → (more : List ℕ) × HasWritten more output
+    × AreTold tested new (got_first piece ∷ []) (written ++ more) output.failed result
+
 -- the transcript has ended so: what is left of its lines was written; or a beginning of that
 pub record TellsRest (tested : Role) (transcript : Transcript) (written : List ℕ) (output : Device)
     (result : Result (Unit {0}) WriteFault) : Type 0 where
@@ -90,7 +98,8 @@ TellsEnd told ended output result = (tested : Role) (turns : List Turn) (written
 
 -- the text of lines of the transcript was written
 abbrev pub HasWrittenLines : Role → Transcript → Device → Type 0
-HasWrittenLines tested transcript output = (text : List ℕ) × HasTurnLines tested transcript text × HasWritten text output
+HasWrittenLines tested transcript output =
+    (text : List ℕ) × HasTurnLines tested transcript text × HasWritten text output
 
 -- a beginning of the text of lines was written: a transcript holds bytes
 abbrev pub HasBegunLines : Role → Transcript → Device → Type 0

@@ -6,7 +6,7 @@ ghost use Rattle.ws_frame.specs.Devices.{watched};
 ghost use Rattle.ws_wire.specs.declared.role.Role.{Role};
 ghost use Rattle.ws_lines.specs.TurnLines.{end_line, tester_of};
 ghost use Rattle.ws_lines.specs.Telling.{HasToldTurns, HasRoomForTurn, HasRoomForGot, CanEndLines};
-ghost use Rattle.ws_lines.specs.Telling.{TellsTurn, TellsGot, TellsEnd};
+ghost use Rattle.ws_lines.specs.Telling.{TellsTurn, TellsGot, TellsFirstGot, TellsEnd};
 
 use crate::line_bytes::LineBytes;
 use std::io::Write;
@@ -59,9 +59,28 @@ impl TranscriptLines {
         Ok(())
     }
 
-    /// More bytes are got in the turn: writes the lines of the frames that they complete. At an error a beginning of
-    /// these was written.
+    /// More bytes are got in the turn: writes the lines of the frames that they complete. Where no turn has begun, one
+    /// begins first, in which nothing is sent. At an error a beginning of these was written.
     pub fn got<W: Write>(&mut self, writer: &mut Watched<W>, piece: &[u8]) -> Result<(), WriteFault>
+        requires writer_works { has_failed writer.old ≡ false }
+        requires room { HasRoomForGot (length piece.now) self.old }
+        ensures told { TellsGot self.old self.new piece.now (watched W.contents writer.old writer.new) result }
+        ensures first { TellsFirstGot self.old self.new piece.now (watched W.contents writer.old writer.new) result }
+    {
+        if self.turns == 0 {
+            self.begin_turn(writer, &[])?;
+            self.got_in_turn(writer, piece)
+        } else {
+            self.got_in_turn(writer, piece)
+        }
+    }
+
+    /// More bytes are got in a turn that has begun.
+    fn got_in_turn<W: Write>(
+        &mut self,
+        writer: &mut Watched<W>,
+        piece: &[u8],
+    ) -> Result<(), WriteFault>
         requires writer_works { has_failed writer.old ≡ false }
         requires room { HasRoomForGot (length piece.now) self.old }
         ensures told { TellsGot self.old self.new piece.now (watched W.contents writer.old writer.new) result }

@@ -34,8 +34,8 @@ pub record PeerEnd : Type 0 where
   pub role : Role
   pub key : List ℕ
 
--- one call of a peer: it appends some bytes, and each talk that the peer may have had as some end, followed by the entry
--- of the call, is one that it may have had afterwards as the same end
+-- one call of a peer: it appends some bytes, and each talk that the peer may have had as some end, followed by the
+-- entry of the call, is one that it may have had afterwards as the same end
 pub record Says {P : Type 0} (agrees : P → PeerEnd → List Entry → Type 0) (old new : P) (entry : List ℕ → Entry)
     (before after : List ℕ) : Type 0 where
   pub appended : List ℕ

@@ -29,8 +29,8 @@ pub enum DriveEnd {
     NoMemory,
 }
 
-/// The room for the replies to a read and for what it tells. It is kept for the next read: given back, it would often be
-/// the top of the heap, which the system would take and have to bring again.
+/// The room for the replies to a read and for what it tells. It is kept for the next read: given back, it would often
+/// be the top of the heap, which the system would take and have to bring again.
 #[derive(Drop)]
 struct Rooms {
     replies: Vec<u8>,
@@ -119,8 +119,8 @@ pub fn drive<R: Read, W: Write>(
     DriveEnd::Done(echo.status())
 }
 
-/// Feeds a piece to an echo, and writes what it replies. Nothing of it is written where memory ran out. Its messages are
-/// dropped before it is written.
+/// Feeds a piece to an echo, and writes what it replies. Nothing of it is written where memory ran out. Its messages
+/// are dropped before it is written.
 fn answer<W: Write>(
     rooms: &mut Rooms,
     piece: &[u8],

@@ -18,9 +18,9 @@ use ws_base::NoMemory;
 use ws_suite::{Case, Transcript};
 use ws_wire::Role;
 
-/// Runs a script over a new echo that is a server, its frames masked with `key`: `run_over_echo_as` of the role `Server`.
-/// Whatever the script sends, lawful or not, the verdict of the transcript is Pass: where `judge` has the memory that it
-/// asks for, it answers so.
+/// Runs a script over a new echo that is a server, its frames masked with `key`: `run_over_echo_as` of the role
+/// `Server`. Whatever the script sends, lawful or not, the verdict of the transcript is Pass: where `judge` has the
+/// memory that it asks for, it answers so.
 pub fn run_over_echo(alloc: Global, case: &Case, key: [u8; 4]) -> Result<Transcript, NoMemory>
     requires { CanBeRun case.now }
     ensures run { IfOk result (λ transcript. IsEchoRun Server case.now key transcript) }

@@ -13,9 +13,9 @@ ghost use Rattle.ws_peer.specs.Runs.{IsRunOf};
 use crate::lemmas::echo_laws;
 use ws_suite::laws::an_echos_transcript_passes;
 
-/// Whatever was fed, lawful or not, in whatever pieces and turns: the transcript of a run whose talk is an echo's, be it
-/// a server or a client that masks with some key, has the verdict Pass. `run_case_with` says of each peer which talk it
-/// had.
+/// Whatever was fed, lawful or not, in whatever pieces and turns: the transcript of a run whose talk is an echo's, be
+/// it a server or a client that masks with some key, has the verdict Pass. `run_case_with` says of each peer which talk
+/// it had.
 pub fn an_echos_run_passes()
     ensures { (tested : PeerEnd) (turns : List (List (List ℕ))) (talk : List Entry) (transcript : Transcript) →
         IsRunOf turns talk transcript → IsEchoTalk tested talk → IsMaskingKey (key_for tested.role tested.key) →

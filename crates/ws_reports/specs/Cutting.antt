@@ -1,5 +1,6 @@
 -- Inside the crate: where bytes are cut. A reader may skip it.
-use Rattle.std.specs.Prelude.{◌≡◌, ◌≢◌, ◌⊎◌, ℕ, ◌≤◌, length, All, List, [], ◌∷◌, ◌++◌, Option, MatchOption, codes, string_bytes}
+use Rattle.std.specs.Prelude.{◌≡◌, ◌≢◌, ◌⊎◌, ℕ, ◌≤◌, length, All, List, [], ◌∷◌, ◌++◌, Option, MatchOption, codes}
+use Rattle.std.specs.Prelude.{string_bytes}
 use Rattle.std.specs.Borrow.{Bor}
 use Rattle.ws_reports.specs.KnownLines.{HasCount, IsCaseLine, IsRemark}
 use Rattle.ws_reports.specs.Verdicts.{IsVerdict}

@@ -59,7 +59,8 @@ fn is_total(line: &[u8]) -> bool
 
 /// What stands behind the first two counts of a total.
 fn behind_passes(line: &[u8]) -> Option<&[u8]>
-    ensures { MatchOption result ((rest : List ℕ) → CountsPasses rest line.now → ⊥) (λ rest. CountsPasses rest.now line.now) }
+    ensures { MatchOption result ((rest : List ℕ) → CountsPasses rest line.now → ⊥)
+        (λ rest. CountsPasses rest.now line.now) }
 {
     let Some(behind_pass) = behind_count(line, b"pass, ") else {
         return None;

@@ -38,18 +38,23 @@ ended_code Peer = 1
 ended_code Broken = 2
 
 abbrev pub case_eq : Case → Case → Bool
-case_eq = eq_of_both (on (λ (c : Case). string_bytes c.id) bytes_eq) (eq_of_both (on (λ (c : Case). c.steps) (pointwise step_eq)) (on (λ (c : Case). chop_code c.chop) bytes_eq))
+case_eq = eq_of_both (on (λ (c : Case). string_bytes c.id) bytes_eq)
+    (eq_of_both (on (λ (c : Case). c.steps) (pointwise step_eq)) (on (λ (c : Case). chop_code c.chop) bytes_eq))
 
 abbrev pub transcript_eq : Transcript → Transcript → Bool
-transcript_eq = eq_of_both (on (λ (t : Transcript). t.turns) (pointwise turn_eq)) (on (λ (t : Transcript). ended_code t.ended) nat_eq)
+transcript_eq = eq_of_both (on (λ (t : Transcript). t.turns) (pointwise turn_eq))
+    (on (λ (t : Transcript). ended_code t.ended) nat_eq)
 
 -- each is an equality
 pub case_eq_equiv : IsEquivalence case_eq
 case_eq_equiv =
     and_equiv (on_equiv (λ (c : Case). string_bytes c.id) nat_list_eq_equiv)
-    (and_equiv (on_equiv (λ (c : Case). c.steps) (lists_equiv (on_equiv step_code nat_list_eq_equiv))) (on_equiv (λ (c : Case). chop_code c.chop) nat_list_eq_equiv))
+    (and_equiv (on_equiv (λ (c : Case). c.steps) (lists_equiv (on_equiv step_code nat_list_eq_equiv)))
+    (on_equiv (λ (c : Case). chop_code c.chop) nat_list_eq_equiv))
 
 pub transcript_eq_equiv : IsEquivalence transcript_eq
 transcript_eq_equiv =
-    and_equiv (on_equiv (λ (t : Transcript). t.turns) (lists_equiv (and_equiv (on_equiv (λ (turn : Turn). turn.sent) nat_list_eq_equiv) (on_equiv (λ (turn : Turn). turn.got) nat_list_eq_equiv))))
+    and_equiv (on_equiv (λ (t : Transcript). t.turns)
+    (lists_equiv (and_equiv (on_equiv (λ (turn : Turn). turn.sent) nat_list_eq_equiv)
+    (on_equiv (λ (turn : Turn). turn.got) nat_list_eq_equiv))))
     (on_equiv (λ (t : Transcript). ended_code t.ended) nat_eq_equiv)

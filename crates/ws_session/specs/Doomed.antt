@@ -1,5 +1,6 @@
--- What can still become a right frame, and what is doomed: whatever bytes complete it, it is at fault. RFC 6455 sections
--- 5.1 to 5.5, 7.4 and 8.1. An endpoint that sees so may fail the connection before the place of the fault has come.
+-- What can still become a right frame, and what is doomed: whatever bytes complete it, it is at fault. RFC 6455
+-- sections 5.1 to 5.5, 7.4 and 8.1. An endpoint that sees so may fail the connection before the place of the fault has
+-- come.
 use Rattle.std.specs.Prelude.{◌≡◌, ◌≢◌, ℕ, ◌≤◌, List, [], ◌++◌, length, take, Option}
 use Rattle.std.specs.List.{AllByRecursion}
 use Rattle.ws_wire.specs.declared.role.Role.{Role}
@@ -39,8 +40,8 @@ pub record IsDoomed (role : Role) (limits : LimitsValue) (opened : Option Messag
 
 -- ---- a stream
 
--- The bytes are these frames and the rest, a part of one more frame: (1) none of the frames is a close; (2) no fault has
--- come; (3) the rest is doomed after the message that the frames leave open
+-- The bytes are these frames and the rest, a part of one more frame: (1) none of the frames is a close; (2) no fault
+-- has come; (3) the rest is doomed after the message that the frames leave open
 pub record EndsDoomed (role : Role) (limits : LimitsValue) (bytes : List ℕ) (frames : List KeyedFrame) (rest : List ℕ)
     : Type 0 where
   pub split : SplitsInto bytes frames rest

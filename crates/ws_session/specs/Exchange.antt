@@ -59,8 +59,8 @@ pub record SendingValue : Type 0 where
   pub size : ℕ
   pub unfinished : List ℕ
 
--- a session as contracts see it: the open message that it takes and the bytes of the unfinished frame after it, how many
--- payload bytes it keeps in all, the open message that it sends, and its status
+-- a session as contracts see it: the open message that it takes and the bytes of the unfinished frame after it, how
+-- many payload bytes it keeps in all, the open message that it sends, and its status
 pub record SessionValue : Type 0 where
   pub role : Role
   pub limits : LimitsValue

@@ -1,5 +1,5 @@
--- Inside the crate: of the headers that begin with the bytes that came, the one that breaks a rule only where each does,
--- for contracts of private functions. A reader may skip this file.
+-- Inside the crate: of the headers that begin with the bytes that came, the one that breaks a rule only where each
+-- does, for contracts of private functions. A reader may skip this file.
 use Rattle.std.specs.Prelude.{◌≡◌, ℕ, ◌+◌, ◌≤◌, ◌%◌, List, ◌++◌, length, take, drop, slice_index, Option}
 use Rattle.std.specs.Int.{Width, w16, w64, from_be_bytes}
 use Rattle.ws_wire.specs.declared.role.Role.{Role}

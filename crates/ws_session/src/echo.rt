@@ -1,7 +1,7 @@
 //! An endpoint that sends each message back (RFC 6455 section 5.6).
 
-ghost use Rattle.std.specs.Prelude.{◌≡◌, ◌≤◌, ◌<◌, ℕ, List, [], length, drop, None, Bool, true, false, IsOk, IfOk, IfErr};
-ghost use Rattle.std.specs.Prelude.{IsOkAnd, OnErr};
+ghost use Rattle.std.specs.Prelude.{◌≡◌, ◌≤◌, ◌<◌, ℕ, List, [], length, drop, None, Bool, true, false, IsOk, IfOk};
+ghost use Rattle.std.specs.Prelude.{IfErr, IsOkAnd, OnErr};
 ghost use Rattle.ws_wire.specs.Frame.{Frame};
 ghost use Rattle.ws_session.specs.declared.status.Status.TheVariants.{Lost};
 ghost use Rattle.ws_session.specs.Replies.{echo_reply_to};

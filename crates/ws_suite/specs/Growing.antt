@@ -45,8 +45,8 @@ pub record AreTurnsAnswered (tested : Role) (turns : List Turn) : Type 0 where
   pub is_evidence : IsEvidenceOf tested (record { turns = turns; ended = Tester }) evidence
   pub answered : IsAnswered evidence
 
--- What these turns have got ends inside a frame, by what they show: bytes stand behind its last event, as the verdict on
--- frames asks for it.
+-- What these turns have got ends inside a frame, by what they show: bytes stand behind its last event, as the verdict
+-- on frames asks for it.
 pub record EndInsideFrame (tested : Role) (turns : List Turn) : Type 0 where
   pub evidence : Evidence
   pub is_evidence : IsEvidenceOf tested (record { turns = turns; ended = Tester }) evidence

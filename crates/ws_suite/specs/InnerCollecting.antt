@@ -1,5 +1,6 @@
 -- Inside the crate: how the evidence of a direction is collected, piece by piece. A reader may skip this file.
-use Rattle.std.specs.Prelude.{◌≡◌, ℕ, ◌≤◌, max, false, List, [], ◌∷◌, ◌++◌, length, map, take, flat_map, Bool, if◌then◌else◌, Option, None, Some}
+use Rattle.std.specs.Prelude.{◌≡◌, ℕ, ◌≤◌, max, false, List, [], ◌∷◌, ◌++◌, length, map, take, flat_map, Bool}
+use Rattle.std.specs.Prelude.{if◌then◌else◌, Option, None, Some}
 use Rattle.std.specs.List.{AllByRecursion, last_or}
 use Rattle.ws_wire.specs.declared.role.Role.{Role}
 use Rattle.ws_wire.specs.Frame.{KeyedFrame, FitsTheLayout, stream_bytes}

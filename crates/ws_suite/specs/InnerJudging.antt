@@ -52,7 +52,8 @@ pub record AreFindingsOf (x : Evidence) (found : Findings) : Type 0 where
 -- each of these pongs stands at no later place than the one that is known as the last of its payload
 abbrev pub AreLastPlaces : List (InTurn Reply) → BTreeMap (Bor (List ℕ)) ℕ → Type 0
 AreLastPlaces due places = (place : ℕ) (pong : InTurn Reply) → slice_get due place ≡ Some pong
-    → (last : ℕ) × (get_by (λ (k : Bor (List ℕ)). slice_cmp nat_cmp (payload_of pong.what) k.now) places ≡ Some last) × (place ≤ last)
+    → (last : ℕ) × (get_by (λ (k : Bor (List ℕ)). slice_cmp nat_cmp (payload_of pong.what) k.now) places ≡ Some last)
+    × (place ≤ last)
 
 -- the lowest Fail that applies, or there is none
 abbrev pub IsFirstFail : Role → Evidence → Option FailWhy → Type 0

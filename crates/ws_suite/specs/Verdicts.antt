@@ -119,8 +119,8 @@ abbrev pub IsCloseInTurn : Option (InTurn Ending) → ℕ → Type 0
 IsCloseInTurn None turn = ⊥
 IsCloseInTurn (Some got) turn = (is_close_ending got.what ≡ true) × (got.turn ≡ turn)
 
--- Loose 4 (sections 7.1.1 and 7.1.7): the close or the fault that was sent stands in a turn before the last, and what is
--- tested is a server, or a client of which no close was got in that turn.
+-- Loose 4 (sections 7.1.1 and 7.1.7): the close or the fault that was sent stands in a turn before the last, and what
+-- is tested is a server, or a client of which no close was got in that turn.
 abbrev pub EndsLate : Role → Evidence → Type 0
 EndsLate tested x = (due : InTurn Ending) × (x.due.ending ≡ Some due) × (due.turn + 1 < x.turns)
     × ((tested ≡ Server) ⊎ ¬ (IsCloseInTurn x.got.ending due.turn))

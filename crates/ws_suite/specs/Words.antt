@@ -32,24 +32,52 @@ verdict_words (Fail why) = codes "FAIL " ++ fail_name why
 
 -- the rule that was broken, where the tested end has this role
 abbrev pub fail_rule : Role → FailWhy → List ℕ
-fail_rule Server fail.NotFrames = codes "A server sends whole frames by the rules of RFC 6455 section 5, unmasked, with text in UTF-8 (section 8.1), and nothing behind its close frame (ours)"
-fail_rule Client fail.NotFrames = codes "A client sends whole frames by the rules of RFC 6455 section 5, masked, with text in UTF-8 (section 8.1), and nothing behind its close frame (ours)"
-fail_rule tested fail.Early = codes "A pong, a close frame or an echo answers what was sent before it (ours; RFC 6455 sections 5.5.3 and 7.3 allow a pong, and a server a close, unasked)"
-fail_rule tested fail.Messages = codes "Each message is sent back, in order, of the same kind and payload (RFC 6455 sections 5.4 and 5.6; ours); after a fault the last may be missing"
-fail_rule tested fail.Pongs = codes "A pong has the payload of a ping (RFC 6455 section 5.5.3) that no other pong answers (ours), and the last ping is answered (section 5.5.2)"
-fail_rule tested fail.Close = codes "A close frame is answered by a close frame (RFC 6455 section 5.5.1), and none is sent without a close or a fault before it (ours)"
-fail_rule Server fail.End = codes "A server ends the connection after a close frame or a fault (RFC 6455 sections 5.5.1 and 7.1.7; of some faults ours), and not without one (ours)"
-fail_rule Client fail.End = codes "A client sends a close frame or ends the connection after a close frame or a fault (RFC 6455 sections 5.5.1 and 7.1.7), and does not end it without one (ours)"
+fail_rule Server fail.NotFrames =
+    codes "A server sends whole frames by the rules of RFC 6455 section 5, unmasked, with text in UTF-8 "
+    ++ codes "(section 8.1), and nothing behind its close frame (ours)"
+fail_rule Client fail.NotFrames =
+    codes "A client sends whole frames by the rules of RFC 6455 section 5, masked, with text in UTF-8 "
+    ++ codes "(section 8.1), and nothing behind its close frame (ours)"
+fail_rule tested fail.Early =
+    codes "A pong, a close frame or an echo answers what was sent before it (ours; RFC 6455 sections "
+    ++ codes "5.5.3 and 7.3 allow a pong, and a server a close, unasked)"
+fail_rule tested fail.Messages =
+    codes "Each message is sent back, in order, of the same kind and payload (RFC 6455 sections 5.4 and "
+    ++ codes "5.6; ours); after a fault the last may be missing"
+fail_rule tested fail.Pongs =
+    codes "A pong has the payload of a ping (RFC 6455 section 5.5.3) that no other pong answers (ours), "
+    ++ codes "and the last ping is answered (section 5.5.2)"
+fail_rule tested fail.Close =
+    codes "A close frame is answered by a close frame (RFC 6455 section 5.5.1), and none is sent without "
+    ++ codes "a close or a fault before it (ours)"
+fail_rule Server fail.End =
+    codes "A server ends the connection after a close frame or a fault (RFC 6455 sections 5.5.1 and "
+    ++ codes "7.1.7; of some faults ours), and not without one (ours)"
+fail_rule Client fail.End =
+    codes "A client sends a close frame or ends the connection after a close frame or a fault (RFC 6455 "
+    ++ codes "sections 5.5.1 and 7.1.7), and does not end it without one (ours)"
 
 -- the rule that asks or allows otherwise
 abbrev pub loose_rule : Role → LooseWhy → List ℕ
 loose_rule tested loose.PongsSkipped = codes "Of several pings only the last needs an answer (RFC 6455 section 5.5.3)"
-loose_rule tested loose.PongElsewhere = codes "A pong is sent as soon as is practical (RFC 6455 section 5.5.2): an echo that is fed turn by turn sends it in its place (ours)"
-loose_rule tested loose.OtherCode = codes "A close frame typically has the code of the one that it answers (RFC 6455 section 5.5.1), and one after a fault the code of that fault (section 7.4.1)"
-loose_rule Server loose.LateEnd = codes "A server ends the connection at once after a close frame or a fault (RFC 6455 sections 5.5.1 and 7.1.1)"
-loose_rule Client loose.LateEnd = codes "A client sends its close frame in the turn of the close frame or the fault that it got (RFC 6455 section 5.5.1; the turn is ours)"
-loose_rule tested loose.EchoShort = codes "An end that fails the connection may drop what it has read (RFC 6455 section 7.1.7); an echo that is fed turn by turn answers it (ours)"
-loose_rule tested loose.BrokenEnd = codes "A connection is closed cleanly where that can be done (RFC 6455 section 7.1.1): a read or a write failed"
+loose_rule tested loose.PongElsewhere =
+    codes "A pong is sent as soon as is practical (RFC 6455 section 5.5.2): an echo that is fed turn by "
+    ++ codes "turn sends it in its place (ours)"
+loose_rule tested loose.OtherCode =
+    codes "A close frame typically has the code of the one that it answers (RFC 6455 section 5.5.1), and "
+    ++ codes "one after a fault the code of that fault (section 7.4.1)"
+loose_rule Server loose.LateEnd =
+    codes "A server ends the connection at once after a close frame or a fault (RFC 6455 sections 5.5.1 "
+    ++ codes "and 7.1.1)"
+loose_rule Client loose.LateEnd =
+    codes "A client sends its close frame in the turn of the close frame or the fault that it got (RFC "
+    ++ codes "6455 section 5.5.1; the turn is ours)"
+loose_rule tested loose.EchoShort =
+    codes "An end that fails the connection may drop what it has read (RFC 6455 section 7.1.7); an echo "
+    ++ codes "that is fed turn by turn answers it (ours)"
+loose_rule tested loose.BrokenEnd =
+    codes "A connection is closed cleanly where that can be done (RFC 6455 section 7.1.1): a read or a "
+    ++ codes "write failed"
 
 -- no rule is behind a Pass
 abbrev pub rule_words : Role → Verdict → Option (List ℕ)

@@ -15,8 +15,8 @@ use ws_wire::Role;
 #[derive(Drop)]
 pub struct Explanation {
     pub verdict: Verdict,
-    /// What was owed for what was sent, each reply with the turn of its cause, and the close or the fault that was sent,
-    /// as it counts.
+    /// What was owed for what was sent, each reply with the turn of its cause, and the close or the fault that was
+    /// sent, as it counts.
     pub due: Direction,
     /// What came: messages, pings and pongs, and the close or the fault.
     pub got: Direction,

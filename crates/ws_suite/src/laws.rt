@@ -58,8 +58,8 @@ pub fn worked_verdicts()
     frame_laws();
 }
 
-/// Worked examples of what has come for a ping: its pong in its turn answers it; none doesn't, nor does one that comes in
-/// the turn before; and of two pings one pong answers the latter.
+/// Worked examples of what has come for a ping: its pong in its turn answers it; none doesn't, nor does one that comes
+/// in the turn before; and of two pings one pong answers the latter.
 pub fn worked_answers()
     ensures answered { AreTurnsAnswered Server (in_one_turn ping_sent pong_got Tester).turns }
     ensures silent { ¬ (AreTurnsAnswered Server (in_one_turn ping_sent [] Tester).turns) }

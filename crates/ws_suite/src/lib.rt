@@ -3,8 +3,8 @@
 //!
 //! The layers above use the contract of `judge`, for a tested server, or of `judge_end`, for a tested end of either
 //! role: it gives the one verdict that the definition has for a transcript. `explain` tells what was owed and what came
-//! with it, and `rule` the rule behind it. A run that goes on uses `RunEvidence`: it tells by what went over a connection
-//! so far whether what is due has come.
+//! with it, and `rule` the rule behind it. A run that goes on uses `RunEvidence`: it tells by what went over a
+//! connection so far whether what is due has come.
 #![tactic(auto)]
 
 mod evidence;

@@ -1,5 +1,6 @@
 -- The host and the port that the authority of a URL names (RFC 3986 section 3.2, RFC 6455 section 3).
-use Rattle.std.specs.Prelude.{◌≡◌, ◌≢◌, ℕ, ◌≤◌, ◌⊎◌, ◌==◌, Bool, IsTrue, List, ◌∷◌, ◌++◌, length, codes, All, Option, MatchOption}
+use Rattle.std.specs.Prelude.{◌≡◌, ◌≢◌, ℕ, ◌≤◌, ◌⊎◌, ◌==◌, Bool, IsTrue, List, ◌∷◌, ◌++◌, length, codes, All, Option}
+use Rattle.std.specs.Prelude.{MatchOption}
 use Rattle.std.specs.List.{list_any}
 use Rattle.std.specs.Borrow.{Bor}
 use Rattle.ws_formats.specs.Words.{IsNumberWord}
@@ -43,7 +44,8 @@ abbrev pub IsPlace : List ℕ → List ℕ → List ℕ → Type 0
 IsPlace authority host address =
     (NamesNoPort authority × (host ≡ authority) × (address ≡ authority ++ codes ":80"))
     ⊎ (EndsInPort authority host 80 × (address ≡ authority))
-    ⊎ ((name : List ℕ) × (port : ℕ) × EndsInPort authority name port × (port ≢ 80) × (host ≡ authority) × (address ≡ authority))
+    ⊎ ((name : List ℕ) × (port : ℕ) × EndsInPort authority name port × (port ≢ 80) × (host ≡ authority)
+    × (address ≡ authority))
 
 -- an address that a connection is made to, and whose host can be asked for
 abbrev pub IsAddress : List ℕ → Type 0

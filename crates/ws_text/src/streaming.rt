@@ -1,6 +1,7 @@
 //! Text that comes in pieces (RFC 6455 section 8.1).
 
-ghost use Rattle.std.specs.Prelude.{◌≡◌, ◌≤◌, ◌↔◌, ℕ, List, [], ◌++◌, IsTrue, Bool, false, IsOk, OnOk, OnErr, IfErr, Err};
+ghost use Rattle.std.specs.Prelude.{◌≡◌, ◌≤◌, ◌↔◌, ℕ, List, [], ◌++◌, IsTrue, Bool, false, IsOk, OnOk, OnErr, IfErr};
+ghost use Rattle.std.specs.Prelude.{Err};
 ghost use Rattle.ws_text.specs.Text.{IsText, BeginsText};
 ghost use Rattle.ws_text.specs.Stream.{HasReadText, HasFailed, BreaksTextAt, IsWanted};
 

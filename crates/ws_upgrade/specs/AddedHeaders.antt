@@ -1,5 +1,5 @@
--- The headers that a request can have beside its own. Which they are is our choice: a name is a token (RFC 9110 sections
--- 5.1 and 5.6.2), and a value is what can be read back (section 5.5).
+-- The headers that a request can have beside its own. Which they are is our choice: a name is a token (RFC 9110
+-- sections 5.1 and 5.6.2), and a value is what can be read back (section 5.5).
 use Rattle.std.specs.Prelude.{◌≡◌, ℕ, ◌≤◌, List, [], ◌∷◌, length, take, codes, Bool, ◌||◌, All, IsTrue}
 use Rattle.std.specs.Str.{str_eq_ignore_ascii_case}
 use Rattle.httparse.specs.Grammar.{trim_ows}

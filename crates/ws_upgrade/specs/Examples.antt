@@ -9,7 +9,8 @@ use Rattle.ws_upgrade.specs.Members.{HeaderPairs, members_in, members_of, has_me
 use Rattle.ws_upgrade.specs.Heads.{RequestParts, IsRequestRefusal, IsResponseRefusal}
 use Rattle.ws_upgrade.specs.Protocols.{protocols_in, AreOffers, IsChoice, NamesOffered}
 use Rattle.ws_upgrade.specs.AddedHeaders.{is_kept_name}
-use Rattle.ws_upgrade.specs.Texts.{request_text, request_text_for, request_bytes, response_text, response_bytes, refusal_bytes}
+use Rattle.ws_upgrade.specs.Texts.{request_text, request_text_for, request_bytes, response_text, response_bytes}
+use Rattle.ws_upgrade.specs.Texts.{refusal_bytes}
 use Rattle.ws_upgrade.specs.declared.faults.HeadFault.TheVariants.{Head, Method, Host, Connection, Status, WsVersion}
 
 -- ---- the key and its accept value

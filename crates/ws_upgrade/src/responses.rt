@@ -5,7 +5,8 @@ ghost use Rattle.httparse.specs.Grammar.{ResponseHead};
 ghost use Rattle.httparse.specs.Spans.{IsResponseAt, IsResponseWithin};
 ghost use Rattle.ws_upgrade.specs.Heads.{ResponseParts, IsResponseRefusal};
 ghost use Rattle.ws_upgrade.specs.Reading.{ChecksHead, OpensResponse, response_heads, response_read};
-ghost use Rattle.ws_upgrade.specs.Reading.{HasStatusCode, IsResponseRead, ChecksEachResponse, HoldsResponse, LacksStatusCode};
+ghost use Rattle.ws_upgrade.specs.Reading.{HasStatusCode, IsResponseRead, ChecksEachResponse, HoldsResponse};
+ghost use Rattle.ws_upgrade.specs.Reading.{LacksStatusCode};
 
 use crate::accepting::{accept_of, key_text};
 use crate::faults::HeadFault;

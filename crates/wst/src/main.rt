@@ -2,16 +2,21 @@
 //! the exit status.
 #![tactic(auto)]
 
+mod descriptors;
+
+use descriptors::open_the_closed;
 use std::io::ErrorKind;
 use std::process::ExitCode;
 use std::{env, io};
 use ws_frame::Watched;
 use wst_run::{run, words_are_no_text};
+use wst_sockets::Resumed;
 
 fn main(rt: HostRuntime) -> ExitCode {
-    let mut input = Watched::new(rt.stdin());
-    let mut output = Watched::new(rt.stdout());
-    let mut faults = Watched::new(rt.stderr());
+    let _held = open_the_closed(&rt);
+    let mut input = Watched::new(Resumed::of(rt.stdin()));
+    let mut output = Watched::new(Resumed::of(rt.stdout()));
+    let mut faults = Watched::new(Resumed::of(rt.stderr()));
     let alloc = rt.alloc();
     let exit = match arguments(&rt) {
         Ok(words) => run(

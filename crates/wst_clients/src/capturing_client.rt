@@ -8,7 +8,8 @@ ghost use Rattle.ws_scripts.specs.Scripts.{CanBeRun};
 ghost use Rattle.ws_wire.specs.declared.role.Role.TheVariants.{Client};
 ghost use Rattle.ws_upgrade.specs.Protocols.{AreOffers};
 ghost use Rattle.wst_commands.specs.Devices.{StaysFailed};
-ghost use Rattle.wst_clients.specs.ClientCaptures.{CapturesClient, EndsPassing, IsLast, LacksPassing, WritesLast, ends_capture};
+ghost use Rattle.wst_clients.specs.ClientCaptures.{CapturesClient, EndsPassing, IsLast, LacksPassing, WritesLast};
+ghost use Rattle.wst_clients.specs.ClientCaptures.{ends_capture};
 ghost use Rattle.wst_clients.specs.Visits.{known_by};
 ghost use Rattle.wst_commands.specs.declared.fault.Fault.TheVariants as variant;
 

@@ -1,7 +1,8 @@
 //! One connection of a client under test: its request is answered, and the script of what it asks for is run over it
 //! (RFC 6455 sections 4.2 and 5 to 7).
 
-ghost use Rattle.std.specs.Prelude.{◌≡◌, ◌-◌, ◌≤◌, slice_get, IfOk, MatchOption, OnErr, OnOk, [], ◌∷◌, length, string_bytes, Some, None};
+ghost use Rattle.std.specs.Prelude.{◌≡◌, ◌-◌, ◌≤◌, slice_get, IfOk, MatchOption, OnErr, OnOk, [], ◌∷◌, length};
+ghost use Rattle.std.specs.Prelude.{string_bytes, Some, None};
 ghost use Rattle.std.specs.List.{All};
 ghost use Rattle.ws_frame.specs.Devices.{watched};
 ghost use Rattle.ws_connection.specs.Connections.{IsNewConnection, IsReady};

@@ -22,6 +22,7 @@ const ANY_KEY: [u8; 4] = [0; 4];
 
 /// Writes the case that the word names as text, or a line for each case that it stands for: its name, and how many
 /// turns it has.
+#[inline(never)]
 pub fn run_cases<W: Write, F: Write>(
     alloc: Global,
     options: CasesOptions<'_>,

@@ -16,6 +16,7 @@ use ws_frame::Watched;
 use ws_suite::{Capture, read_capture2, write_capture2};
 
 /// Writes the capture that the reader gives, in either format, in format 2.
+#[inline(never)]
 pub fn run_convert<R: Read, W: Write>(
     alloc: Global,
     reader: &mut Watched<R>,

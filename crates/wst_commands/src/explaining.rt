@@ -2,8 +2,8 @@
 
 ghost use Rattle.std.specs.Prelude.{◌≡◌, IfOk, string_bytes};
 ghost use Rattle.ws_suite.specs.Explanation.{IsExplanationOf};
-ghost use Rattle.wst_commands.specs.Explaining.{IsCutIn, IsExplained, IsExplanationText, IsJudgementOf, IsLastGot, is_cut};
-ghost use Rattle.wst_commands.specs.Explaining.{last_after};
+ghost use Rattle.wst_commands.specs.Explaining.{IsCutIn, IsExplained, IsExplanationText, IsJudgementOf, IsLastGot};
+ghost use Rattle.wst_commands.specs.Explaining.{is_cut, last_after};
 
 use crate::explanation_lines::ExplanationLines;
 use std::alloc::Global;

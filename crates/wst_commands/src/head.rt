@@ -18,6 +18,7 @@ use wst_words::HeadOptions;
 
 /// Reads the head of a request, and writes the response or the refusal. What follows the head is ignored. Where the
 /// names that are given can't be offered, nothing is read.
+#[inline(never)]
 pub fn run_head<R: Read, W: Write>(
     alloc: Global,
     options: HeadOptions<'_>,

@@ -18,6 +18,7 @@ use wst_words::JudgeOptions;
 
 /// Judges the capture that the reader gives, in either format, and writes the verdict, and below it why it is told
 /// where that is asked for.
+#[inline(never)]
 pub fn run_judge<R: Read, W: Write>(
     alloc: Global,
     options: JudgeOptions,

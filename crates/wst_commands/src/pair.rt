@@ -25,6 +25,7 @@ use ws_session::Limits;
 use wst_words::PairOptions;
 
 /// Plays the moves of the script that the reader gives, and writes the report.
+#[inline(never)]
 pub fn run_moves<R: Read, W: Write>(
     alloc: Global,
     options: PairOptions,

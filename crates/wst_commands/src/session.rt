@@ -19,6 +19,7 @@ use ws_session::Limits;
 use wst_words::SessionOptions;
 
 /// Makes the calls of the script that the reader gives at one endpoint, and writes what it answers.
+#[inline(never)]
 pub fn run_session<R: Read, W: Write>(
     alloc: Global,
     options: SessionOptions,

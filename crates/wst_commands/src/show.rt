@@ -31,6 +31,7 @@ pub(crate) enum ShowPlan {
 }
 
 /// Shows the frames that the reader gives: those of a stream as they come, or those of a capture turn by turn.
+#[inline(never)]
 pub fn run_show<R: Read, W: Write>(
     alloc: Global,
     options: ShowOptions,
@@ -87,6 +88,7 @@ fn budget_of(budget: Option<u64>) -> u64
 }
 
 /// Shows a stream that this end sent.
+#[inline(never)]
 fn show_stream<R: Read, W: Write>(
     from: Role,
     budget: u64,
@@ -115,6 +117,7 @@ fn exit_of(end: ShowEnd) -> Result<Exit, Fault>
 }
 
 /// Shows a capture whose tested end has this role.
+#[inline(never)]
 fn show_capture<R: Read, W: Write>(
     alloc: Global,
     tested: Role,

@@ -110,7 +110,8 @@ DocumentsOrNone address plan report rules ended output faults =
 abbrev pub TestsToldAt : List ℕ → TestPlan → ReportValue → Result Exit Fault → Device → Device → Type 0
 TestsToldAt address plan report ended output faults = (rules : VisitRules) × AreRulesOf plan report rules
     × (((plan.capture ≡ true) × CapturesOrNone address plan rules ended output faults)
-    ⊎ ((plan.capture ≡ false) × (((report.is_junit ≡ true) × DocumentsOrNone address plan report rules ended output faults)
+    ⊎ ((plan.capture ≡ false)
+    × (((report.is_junit ≡ true) × DocumentsOrNone address plan report rules ended output faults)
     ⊎ ((report.is_junit ≡ false) × TestsBehind address rules ended output faults))))
 
 -- what is told of the address is told, and then clients are tested; or nothing is
@@ -150,8 +151,8 @@ abbrev pub SendsToNone : SendPlan → Case → Device → Device → Type 0
 SendsToNone plan case output faults = (rules : ScriptRules) × AreScriptRulesOf plan rules
     × ScriptsClient (IsScriptedSo rules) case None faults × IsUntouched output
 
--- The script was run over a connection, and that was written; or a write failed, or no connection can be taken any more;
--- or memory ran out, and nothing was written of a capture.
+-- The script was run over a connection, and that was written; or a write failed, or no connection can be taken any
+-- more; or memory ran out, and nothing was written of a capture.
 abbrev pub SendsScript : SendPlan → Case → Result Exit Fault → Device → Device → Type 0
 SendsScript plan case (Ok Done) output faults = (rules : ScriptRules) × AreScriptRulesOf plan rules
     × ((transcript : Transcript) × ScriptsClient (IsScriptedSo rules) case (Some transcript) faults

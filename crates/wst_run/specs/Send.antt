@@ -58,8 +58,9 @@ abbrev pub HasBegunRun : (Case → Meeting → Type 0) → SendPlan → Case →
 HasBegunRun Meets plan case output = (plan.capture ≡ true) → (transcript : Transcript) × Meets case (Ran transcript)
     × HasBegun (written_capture2 (run_capture (tested_role plan.run.tested) plan.run.key transcript)) output
 
--- Why a script was not run to its end, over one of the ends that meet cases so: the output has failed; or memory ran out,
--- and nothing was written of a capture; or there is no connection, or its answer is refused, and nothing was written.
+-- Why a script was not run to its end, over one of the ends that meet cases so: the output has failed; or memory ran
+-- out, and nothing was written of a capture; or there is no connection, or its answer is refused, and nothing was
+-- written.
 abbrev pub StopsSending : (Case → Meeting → Type 0) → SendPlan → Case → SendStop → Device → Type 0
 StopsSending Meets plan case stop.Device output = (output.failed ≡ true) × HasBegunRun Meets plan case output
 StopsSending Meets plan case (stop.NotAStep line) output = ⊥

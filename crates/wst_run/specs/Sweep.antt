@@ -36,8 +36,8 @@ pub record IsSweepPlan (options : SweepOptions) (plan : SweepPlan) : Type 0 wher
   pub all : plan.all ≡ options.all
   pub progress : plan.progress ≡ options.progress
 
--- The first of these that applies: no script has so many steps; the shared words can't be run. Memory may run out at any
--- of the latter.
+-- The first of these that applies: no script has so many steps; the shared words can't be run. Memory may run out at
+-- any of the latter.
 abbrev pub RefusesSweep : SweepOptions → SweepRefusal → Type 0
 RefusesSweep options TooManySteps = HasTooManySteps options.steps
 RefusesSweep options (Other why) = (options.steps ≤ max_steps) × CanNotRun options.run why

@@ -1,7 +1,6 @@
 -- A run of `test`: the cases that the words ask for are run over ends in memory, over the server at an address, or over
 -- clients that come to one; or it is told why nothing is run.
-use Rattle.std.specs.Prelude.{◌≡◌, ◌⊎◌, ⊤, ℕ, Bool, true, false, not, ◌||◌, ◌&&◌, List, [], ◌∷◌, Option, Result}
-use Rattle.std.specs.Prelude.{length}
+use Rattle.std.specs.Prelude.{◌≡◌, ◌⊎◌, ⊤, ℕ, Bool, true, false, not, ◌||◌, ◌&&◌, List, [], ◌∷◌, Option, Result, length}
 use Rattle.std.specs.List.{All}
 use Rattle.ws_frame.specs.Devices.{Device, HasWritten, IsUntouched}
 use Rattle.ws_reports.specs.Reports.{ReportValue, start_text}
@@ -114,12 +113,14 @@ pub record ReportsCases (Meets : Case → Meeting → Type 0) (plan : TestPlan) 
   pub closes : ClosesReport report ended failed (record output { old = behind })
 
 -- the cases of a plan were run and told as the report asks, or none was
-abbrev pub ReportsPlan : (Case → Meeting → Type 0) → TestPlan → ReportValue → Result Exit Fault → Device → Device → Type 0
+abbrev pub ReportsPlan : (Case → Meeting → Type 0) → TestPlan → ReportValue → Result Exit Fault → Device → Device
+    → Type 0
 ReportsPlan Meets plan report ended output faults = ReportsCases Meets plan report ended output faults
     ⊎ (StopsAtStart plan.target.now report ended output × IsUntouched faults)
 
 -- the capture of the one case is written, or the outcomes of the cases, over ends that meet cases so
-abbrev pub CarriesOut : (Case → Meeting → Type 0) → TestPlan → ReportValue → Result Exit Fault → Device → Device → Type 0
+abbrev pub CarriesOut : (Case → Meeting → Type 0) → TestPlan → ReportValue → Result Exit Fault → Device → Device
+    → Type 0
 CarriesOut Meets plan report ended output faults =
     ((case : Case) × (plan.capture ≡ true) × (plan.cases.items ≡ case ∷ [])
     × RunsCapture Meets (rules_of plan) case ended output faults)
@@ -153,8 +154,8 @@ RunsPlanAsked options plan exit input output faults =
     × RunsPlanOver plan.run.tested plan report exit output faults)
     ⊎ ((why : KnownStop) × StopsKnowing options.known why input × IsUntouched output × TellsKnownStop why exit faults)
 
--- A run of `test`: what the words ask for is run, over the end that they name, and how that ended is told; or nothing is
--- run, and it is told why.
+-- A run of `test`: what the words ask for is run, over the end that they name, and how that ended is told; or nothing
+-- is run, and it is told why.
 abbrev pub RunsTest : TestOptions → Exit → Device → Device → Device → Type 0
 RunsTest options exit input output faults =
     ((plan : TestPlan) × IsPlan options plan × RunsPlanAsked options plan exit input output faults)

@@ -9,7 +9,8 @@ ghost use Rattle.ws_upgrade.specs.Protocols.{AreOffers};
 ghost use Rattle.wst_commands.specs.Devices.{StaysFailed};
 ghost use Rattle.wst_run.specs.ClientRuns.{AreRulesOf, AreScriptRulesOf, CapturesOrNone, DocumentsOrNone};
 ghost use Rattle.wst_run.specs.ClientRuns.{SendsAt, SendsInputAt, SendsScript};
-ghost use Rattle.wst_run.specs.ClientRuns.{SendsTextAt, SendsToClientAt, TestsAt, TestsBehind, TestsClientsAt, TestsToldAt};
+ghost use Rattle.wst_run.specs.ClientRuns.{SendsTextAt, SendsToClientAt, TestsAt, TestsBehind, TestsClientsAt};
+ghost use Rattle.wst_run.specs.ClientRuns.{TestsToldAt};
 ghost use Rattle.wst_clients.specs.ClientSends.{protocols_known};
 ghost use Rattle.wst_testing.specs.Notes.{TellsEach};
 ghost use Rattle.wst_sockets.specs.Serve.{listening_line};
@@ -207,7 +208,8 @@ pub(crate) fn note_listening<F: Write>(
     address: &[u8],
     faults: &mut Watched<F>,
 ) -> Result<(), NoMemory>
-    ensures told { OnOk result (TellsEach (listening_line address.now ∷ []) (watched F.contents faults.old faults.new)) }
+    ensures told { OnOk result
+        (TellsEach (listening_line address.now ∷ []) (watched F.contents faults.old faults.new)) }
     ensures kept { OnErr result (faults.new ≡ faults.old) }
     ensures still { StaysFailed faults.old faults.new }
 {
@@ -355,6 +357,7 @@ fn capture_script<N: Net, W: Write, F: Write>(
 }
 
 /// Sends a script to a client, and writes the lines of the run as it goes on.
+#[inline(never)]
 fn show_script<N: Net, W: Write, F: Write>(
     alloc: Global,
     clients: &ListenerClients<'_, N, N::Listener>,

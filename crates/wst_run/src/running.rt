@@ -96,6 +96,7 @@ fn run_task<N: Net, R: Read, W: Write, F: Write>(
 }
 
 /// Serves what the words ask for, or tells why there is nothing to serve.
+#[inline(never)]
 fn serve_as_asked<N: Net, W: Write, F: Write>(
     alloc: Global,
     options: &ServeOptions<'_>,
@@ -115,6 +116,7 @@ fn serve_as_asked<N: Net, W: Write, F: Write>(
 
 /// Runs the cases that the words ask for over the server that they name, or tells on the fault output why nothing is
 /// run.
+#[inline(never)]
 fn run_test<N: Net, R: Read, W: Write, F: Write>(
     alloc: Global,
     options: &TestOptions<'_>,
@@ -160,6 +162,7 @@ fn run_planned<N: Net, R: Read, W: Write, F: Write>(
 }
 
 /// Runs the script that comes in over the server that the words name, or tells on the fault output why it is not run.
+#[inline(never)]
 fn run_send<N: Net, R: Read, W: Write, F: Write>(
     alloc: Global,
     options: &SendOptions<'_>,
@@ -181,6 +184,7 @@ fn run_send<N: Net, R: Read, W: Write, F: Write>(
 
 /// Runs the short scripts that the words ask for over the server that they name, or tells on the fault output why none
 /// is run.
+#[inline(never)]
 fn run_sweep<N: Net, W: Write, F: Write>(
     alloc: Global,
     options: &SweepOptions<'_>,

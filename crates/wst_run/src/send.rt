@@ -190,8 +190,9 @@ fn send_captured<S: CaseServer, W: Write>(
     }
 }
 
-/// Runs a script, and writes the lines of the run as it goes on. No more of them are written where the output has failed
-/// or memory runs out.
+/// Runs a script, and writes the lines of the run as it goes on. No more of them are written where the output has
+/// failed or memory runs out.
+#[inline(never)]
 fn send_shown<S: CaseServer, W: Write>(
     alloc: Global,
     server: &S,

@@ -16,6 +16,7 @@ use wst_testing::{Refusal, tell_refusal};
 use wst_words::TapOptions;
 
 /// Taps what the words ask for, or tells that an address is none.
+#[inline(never)]
 pub(crate) fn run_tap<N: Net, W: Write, F: Write>(
     alloc: Global,
     options: &TapOptions<'_>,

@@ -106,8 +106,8 @@ fn carry_out<S: CaseServer, W: Write, F: Write>(
     }
 }
 
-/// Runs the cases of a plan as `test_cases` does, between what the report has before and behind them. What it has behind
-/// them is written also where the run ends early, if the output works.
+/// Runs the cases of a plan as `test_cases` does, between what the report has before and behind them. What it has
+/// behind them is written also where the run ends early, if the output works.
 fn report_cases<S: CaseServer, W: Write, F: Write>(
     alloc: Global,
     server: &S,

@@ -1,3 +1,4 @@
+pub mod Resuming
 pub mod Meetings
 pub mod Connecting
 pub mod Listening

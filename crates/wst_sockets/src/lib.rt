@@ -2,9 +2,10 @@
 //! other. No rule of the protocol stands here.
 //!
 //! The layers above use `connect`, which answers a stream or why there is none (`ConnectFault`); `shared`, `Side` and
-//! `Noted`, a stream as a reader and a writer; `listen`, `told_address` and `tell_listening`, an address that is listened
-//! at and the line that tells it; `plan_serve` and `run_serve`, the command `serve`; `tap_pairs`, connections between
-//! clients and a server, which are told frame by frame; `Clients`, what is known of those that are served.
+//! `Noted`, a stream as a reader and a writer; `listen`, `told_address` and `tell_listening`, an address that is
+//! listened at and the line that tells it; `plan_serve` and `run_serve`, the command `serve`; `tap_pairs`, connections
+//! between clients and a server, which are told frame by frame; `Clients`, what is known of those that are served;
+//! `Resumed`, a device whose calls are made again where a signal interrupted them, as those of a `Side` are.
 #![tactic(auto)]
 
 mod clients;
@@ -12,6 +13,7 @@ mod connecting;
 mod lingering;
 mod listening;
 mod meeting;
+mod resuming;
 mod serve;
 mod serving_clients;
 mod stream;
@@ -23,6 +25,7 @@ pub use clients::{Clients, ListenerClients};
 pub use connecting::{connect, connect_fault};
 pub use listening::{listen, told_address};
 pub use meeting::{ConnectFault, Meeting};
+pub use resuming::Resumed;
 pub use serve::{ServePlan, plan_serve, run_serve};
 pub use serving_clients::{listening_line, serve_clients, tell_listening};
 pub use stream::{Noted, Side, shared};

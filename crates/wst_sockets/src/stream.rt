@@ -1,5 +1,11 @@
 //! A stream of a network, as a reader and a writer.
 
+ghost use Rattle.std.specs.Prelude.{None};
+ghost use Rattle.std.specs.Io.{ReadsAtMost, WritesAtMost};
+ghost use Rattle.std.specs.Io.KnownBytes.{Keeps, ReadConsumes, WriteAppends};
+ghost use Rattle.wst_sockets.specs.Resuming.{IsUninterrupted};
+
+use crate::resuming::{flush_resumed, read_resumed, write_resumed};
 use std::cell::{Cell, RefCell};
 use std::io;
 use std::io::{ErrorKind, Read, Write};
@@ -22,7 +28,8 @@ pub(crate) fn half_closed<S: OpenStream>(stream: S) -> S {
     stream
 }
 
-/// One side of a stream: its reader, or its writer. No contract of a stream says which bytes pass.
+/// One side of a stream: its reader, or its writer. No contract of a stream says which bytes pass. A call that a signal
+/// interrupts is made again.
 #[derive(Drop)]
 pub struct Side<'a, S> {
     stream: &'a RefCell<S>,
@@ -36,25 +43,36 @@ impl<'a, S> Side<'a, S> {
 }
 
 impl<S: Read> Read for Side<'_, S> {
-    fn read(&mut self, buf: &mut [u8]) -> io::Result<usize> {
+    fn read(&mut self, buf: &mut [u8]) -> io::Result<usize>
+        ensures bound { ReadsAtMost result buf.new }
+        ensures bytes { ReadConsumes None None result buf.new }
+        ensures uninterrupted { IsUninterrupted result }
+    {
         match self.stream.try_borrow_mut() {
-            Ok(mut stream) => stream.read(buf),
+            Ok(mut stream) => read_resumed(&mut *stream, buf),
             Err(_) => Err(io::Error::from(ErrorKind::Other)),
         }
     }
 }
 
 impl<S: Write> Write for Side<'_, S> {
-    fn write(&mut self, buf: &[u8]) -> io::Result<usize> {
+    fn write(&mut self, buf: &[u8]) -> io::Result<usize>
+        ensures bound { WritesAtMost result buf.now }
+        ensures bytes { WriteAppends None None result buf.now }
+        ensures uninterrupted { IsUninterrupted result }
+    {
         match self.stream.try_borrow_mut() {
-            Ok(mut stream) => stream.write(buf),
+            Ok(mut stream) => write_resumed(&mut *stream, buf),
             Err(_) => Err(io::Error::from(ErrorKind::Other)),
         }
     }
 
-    fn flush(&mut self) -> io::Result<()> {
+    fn flush(&mut self) -> io::Result<()>
+        ensures bytes { Keeps None None }
+        ensures uninterrupted { IsUninterrupted result }
+    {
         match self.stream.try_borrow_mut() {
-            Ok(mut stream) => stream.flush(),
+            Ok(mut stream) => flush_resumed(&mut *stream),
             Err(_) => Err(io::Error::from(ErrorKind::Other)),
         }
     }
@@ -69,8 +87,8 @@ impl<S: Write + OpenStream> EndsDirection for Side<'_, S> {
     }
 }
 
-/// A reader or a writer that notes of which kind the first error was that a call through it answered, or through another
-/// that notes it in the same place.
+/// A reader or a writer that notes of which kind the first error was that a call through it answered, or through
+/// another that notes it in the same place.
 #[derive(Drop)]
 pub struct Noted<'a, T> {
     inner: T,

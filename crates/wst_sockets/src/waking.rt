@@ -11,8 +11,8 @@ use ws_tap::Wakes;
 /// Room for the events of one wait: one for each socket.
 const EVENTS: usize = 2;
 
-/// Waits for the sockets of a tapped connection. It is told of each change once: a wait goes on from where the last read
-/// or write of a socket could not.
+/// Waits for the sockets of a tapped connection. It is told of each change once: a wait goes on from where the last
+/// read or write of a socket could not.
 #[derive(Drop)]
 pub struct SocketWaker {
     poll: Poll,

@@ -1,10 +1,11 @@
 -- The end that a word names.
 use Rattle.std.proofs.Common.{◌≡◌, ℕ, Bool, true, false, List}
-use Rattle.std.proofs.Common.{refl, sym, subst, if◌then◌else◌}
+use Rattle.std.proofs.Common.{refl, sym, subst, if◌then◌else◌, not, IsTrue}
 use Rattle.ws_wire.specs.declared.role.Role.{Role}
 use Rattle.ws_wire.specs.declared.role.Role.TheVariants as role
 use Rattle.ws_targets.specs.Targets.{TargetValue, IsTargetText, begins_with_wss}
-use Rattle.wst_testing.specs.RunPlans.{IsNoMemoryWord, IsUrl, NamesEnd, RefusesTarget, bad_target, memory_word}
+use Rattle.ws_upgrade.specs.Texts.{IsHost}
+use Rattle.wst_testing.specs.RunPlans.{IsClientsAddress, IsNoMemoryWord, IsUrl, NamesEnd, RefusesTarget, bad_target, memory_word}
 use Rattle.wst_testing.specs.declared.case_server.MemoryPeer.{MemoryPeer}
 use Rattle.wst_testing.specs.declared.case_server.MemoryPeer.TheVariants.{Own, Tung}
 use Rattle.wst_testing.specs.declared.run_plans.Refusal.{Refusal}
@@ -38,12 +39,20 @@ pub target_refused : (word : List ℕ) (why : Refusal) → IsNoMemoryWord word
     → RefusesTarget role.Server word why
 target_refused word why none lacks is = refused_so role.Server word why (no_server word none lacks) is
 
-no_clients : (word : List ℕ) → IsNoMemoryWord word → IsUrl word → ¬ (NamesEnd role.Client word)
-no_clients word none url (Memory end, asks) = no_memory_word end.peer word none asks.1
-no_clients word none url (Server target, asks) = absurd (cc)
-no_clients word none url (Clients address, asks) = asks.2 url
+no_clients : (word : List ℕ) → IsNoMemoryWord word → ¬ (IsClientsAddress word) → ¬ (NamesEnd role.Client word)
+no_clients word none lacks (Memory end, asks) = no_memory_word end.peer word none asks.1
+no_clients word none lacks (Server target, asks) = absurd (cc)
+no_clients word none lacks (Clients address, asks) = lacks asks.2
 
--- to a URL no clients come
-pub url_refused : (word : List ℕ) (why : Refusal) → IsNoMemoryWord word → IsUrl word → why ≡ bad_target word
-    → RefusesTarget role.Client word why
-url_refused word why none url is = refused_so role.Client word why (no_clients word none url) is
+-- to a word that is no host, or is a URL, no clients come
+pub address_refused : (word : List ℕ) (why : Refusal) → IsNoMemoryWord word → ¬ (IsClientsAddress word)
+    → why ≡ bad_target word → RefusesTarget role.Client word why
+address_refused word why none lacks is = refused_so role.Client word why (no_clients word none lacks) is
+
+-- to a host clients come where it is no URL
+pub host_without_url : (is_url : Bool) (word : List ℕ) → IsHost word → (IsTrue is_url → IsUrl word)
+    → (IsUrl word → IsTrue is_url)
+    → (IsTrue (not is_url) → IsClientsAddress word) × (IsClientsAddress word → IsTrue (not is_url))
+host_without_url true word host holds found = ((λ plain. absurd cc), λ both. absurd (both.1 (holds refl)))
+host_without_url false word host holds found =
+    ((λ plain. (host, λ url. let wrong = found url in absurd cc)), λ both. refl)

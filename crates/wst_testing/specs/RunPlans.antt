@@ -12,6 +12,7 @@ use Rattle.ws_frame.specs.Devices.{Device}
 use Rattle.ws_targets.specs.Places.{IsAddress}
 use Rattle.ws_targets.specs.Targets.{IsTargetText, TargetValue, begins_with_wss, connected_at}
 use Rattle.ws_upgrade.specs.Protocols.{AreOffers}
+use Rattle.ws_upgrade.specs.Texts.{IsHost}
 use Rattle.wst_words.specs.declared.run_options.RunOptions.{RunOptions}
 use Rattle.wst_commands.specs.Devices.{Tells}
 use Rattle.wst_commands.specs.GivenCases.{TellsNoCases}
@@ -54,14 +55,18 @@ IsTargetBy word None target = IsTargetText word target
 IsTargetBy word (Some address) target =
     (asked : TargetValue) × IsTargetText word asked × (target ≡ connected_at address.now asked)
 
+-- clients can come to the word: it is the host of a request, and no URL
+abbrev pub IsClientsAddress : List ℕ → Type 0
+IsClientsAddress word = IsHost word × ¬ (IsUrl word)
+
 -- The word names this end of this role: one in memory, which has no connection; a server at a target; or the clients
--- that come to an address, which is no URL.
+-- that come to an address.
 abbrev pub IsEndOf : Role → List ℕ → Option (Bor (List ℕ)) → TestedEnd → Type 0
 IsEndOf tested word connect (Memory end) = (end.role ≡ tested) × (word ≡ memory_word end.peer)
 IsEndOf tested word connect (Server target) =
     (tested ≡ role.Server) × IsNoMemoryWord word × IsTargetBy word connect target
 IsEndOf tested word connect (Clients address) =
-    (tested ≡ role.Client) × IsNoMemoryWord word × ¬ (IsUrl word) × (address.now ≡ word)
+    (tested ≡ role.Client) × IsNoMemoryWord word × IsClientsAddress word × (address.now ≡ word)
 
 abbrev pub NamesEnd : Role → List ℕ → Type 0
 NamesEnd tested word = (end : TestedEnd) × IsEndOf tested word None end

@@ -130,7 +130,8 @@ pub record LacksMemoryAfter (Meets : Case → Meeting → Type 0) (rules : RunRu
 abbrev pub TestsCases : (Case → Meeting → Type 0) → RunRules → ReportValue → List Case → List (List ℕ)
     → Result Exit Fault → Device → Type 0
 TestsCases Meets rules report cases notes ended output = MatchResult ended
-    (λ exit. TellsAll Meets rules report cases notes exit output ⊎ StopsAtLine Meets rules report cases notes exit output
+    (λ exit. TellsAll Meets rules report cases notes exit output
+    ⊎ StopsAtLine Meets rules report cases notes exit output
     ⊎ StopsAtConnection Meets rules report cases notes exit output)
     (λ fault. (fault ≡ NoMemory) × LacksMemoryAfter Meets rules report cases notes output)
 

@@ -1,8 +1,8 @@
 //! What is told of a tested end in a case, and how often each was told.
 
 ghost use Rattle.std.specs.Prelude.{◌≡◌, ◌+◌, ◌<◌, ◌^◌, IfOk, string_bytes};
-ghost use Rattle.wst_testing.specs.Outcomes.{below_line, exit_of_tests, no_tally, outcome_words, tally_with, tally_with_verdict};
-ghost use Rattle.wst_testing.specs.Outcomes.{total_line};
+ghost use Rattle.wst_testing.specs.Outcomes.{below_line, exit_of_tests, no_tally, outcome_words, tally_with};
+ghost use Rattle.wst_testing.specs.Outcomes.{tally_with_verdict, total_line};
 
 use std::alloc::Global;
 use std::fmt;

@@ -5,8 +5,8 @@ ghost use Rattle.ws_frame.specs.Devices.{watched};
 ghost use Rattle.wst_commands.specs.Devices.{Tells};
 ghost use Rattle.ws_connection.specs.RequestHeaders.{headers_in};
 ghost use Rattle.wst_testing.specs.RunPlans.{HasHeaders, header_words};
-ghost use Rattle.wst_testing.specs.RunPlans.{CanConnect, IsEndOf, IsRunPlan, CanNotRun, RefusesTarget, TellsRefusal};
-ghost use Rattle.wst_testing.specs.RunPlans.{bad_target, tested_role};
+ghost use Rattle.wst_testing.specs.RunPlans.{CanConnect, IsClientsAddress, IsEndOf, IsRunPlan, CanNotRun};
+ghost use Rattle.wst_testing.specs.RunPlans.{RefusesTarget, TellsRefusal, bad_target, tested_role};
 ghost use Rattle.ws_wire.specs.declared.role.Role.{Role};
 ghost use Rattle.ws_wire.specs.declared.role.Role.TheVariants.{Client, Server};
 ghost use Rattle.wst_commands.specs.declared.exit.Exit.TheVariants.{WrongWords};
@@ -20,6 +20,7 @@ use ws_connection::{Protocols, RequestHeaders, headers_of, protocols_of};
 use ws_formats::read_key;
 use ws_frame::Watched;
 use ws_targets::{Target, TargetFault, asks_for_tls, is_address, read_target};
+use ws_upgrade::is_host;
 use ws_wire::Role;
 use wst_commands::{Exit, NoCases, TimeLimit, tell, tell_no_cases, timeout_given};
 use wst_words::RunOptions;
@@ -194,17 +195,24 @@ fn server_at<'a>(alloc: Global, word: &'a str) -> Result<TestedEnd<'a>, Refusal<
     }
 }
 
-/// The clients that come to an address. A URL is none.
+/// The clients that come to an address.
 fn clients_at<'a>(word: &'a str) -> Result<TestedEnd<'a>, Refusal<'a>>
     requires own { word.now ≢ codes "own" }
     requires tung { word.now ≢ codes "tung" }
     ensures { MatchResult result (IsEndOf Client word.now None) (RefusesTarget Client word.now) }
 {
-    if word.contains("://") {
-        Err(bad_target(word))
-    } else {
+    if is_clients_address(word) {
         Ok(TestedEnd::Clients(word))
+    } else {
+        Err(bad_target(word))
     }
+}
+
+/// Whether clients can come to a word: it is the host of a request, and no URL.
+fn is_clients_address(word: &str) -> bool
+    ensures { IsTrue result ↔ IsClientsAddress word.now }
+{
+    is_host(word.as_bytes()) && !word.contains("://")
 }
 
 /// What is told of a word that names no end.

@@ -279,7 +279,8 @@ test_roles places = refl
 -- such words can fail for want of memory alone
 pub asking_words_are_taken : (places : Places)
     → map (takes (wst_app places)) (plain_words ∷ client_words ∷ head_words ∷ protocol_words ∷ no_protocol_words
-    ∷ session_words ∷ echo_words ∷ judge_words ∷ convert_words ∷ cases_words ∷ some_cases_words ∷ test_words ∷ serve_words ∷ waiting_words
-    ∷ client_test_words ∷ known_words ∷ []) ≡ true ∷ true ∷ true ∷ true ∷ true ∷ true ∷ true ∷ true ∷ true ∷ true ∷ true ∷ true ∷ true ∷ true ∷ true ∷ true ∷ []
+    ∷ session_words ∷ echo_words ∷ judge_words ∷ convert_words ∷ cases_words ∷ some_cases_words ∷ test_words
+    ∷ serve_words ∷ waiting_words ∷ client_test_words ∷ known_words ∷ [])
+    ≡ true ∷ true ∷ true ∷ true ∷ true ∷ true ∷ true ∷ true ∷ true ∷ true ∷ true ∷ true ∷ true ∷ true ∷ true ∷ true ∷ []
 unfolding on_words
 asking_words_are_taken places = refl

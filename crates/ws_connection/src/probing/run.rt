@@ -27,11 +27,11 @@ pub struct ScriptRun {
     pub has_timeouts: bool,
 }
 
-/// Runs a script over a connection whose handshake is done, and records what went over it. `first` came with the head of
-/// the tested end. It is as `probe` runs one against a server. Against a client no turn goes on once what was got has a
-/// close, as once it has a fault: the tester ends the run, and nothing more is read; and where what is sent has neither
-/// a close nor a fault, the last turn ends once what is owed has come, since a client has nothing to end for then. Pings
-/// of the tested end aren't answered.
+/// Runs a script over a connection whose handshake is done, and records what went over it. `first` came with the head
+/// of the tested end. It is as `probe` runs one against a server. Against a client no turn goes on once what was got
+/// has a close, as once it has a fault: the tester ends the run, and nothing more is read; and where what is sent has
+/// neither a close nor a fault, the last turn ends once what is owed has come, since a client has nothing to end for
+/// then. Pings of the tested end aren't answered.
 ///
 /// The observer is told of the run as it goes on, and last of how it ended.
 pub fn run_script<R: Read, W: EndsDirection, O: Observer>(
@@ -45,7 +45,8 @@ pub fn run_script<R: Read, W: EndsDirection, O: Observer>(
     requires ready { IsReady connection.old }
     requires can { CanBeRun case.now }
     requires hearing { IsHearing O.heard observer.old }
-    ensures runs { IfOk result (λ transcript. Records plan.tested (bytes_by_turn case.now plan.key) first.items transcript
+    ensures runs { IfOk result (λ transcript.
+        Records plan.tested (bytes_by_turn case.now plan.key) first.items transcript
         (record { old = connection.old; new = connection.new })) }
     ensures told { IfOk result (λ transcript.
         HearsProbe O.heard O.heard_all observer.old observer.new (Ran transcript)) }

@@ -62,8 +62,8 @@ impl TurnPlan<'_> {
 /// stream, and in others, as in the last one to a client that has nothing to end for, until what is owed has come or a
 /// read has waited in vain; a frame that has begun by the end of that last one is read to its end. `before` came before
 /// it. Once what was got from a server has a close, it ends its own direction and reads on to the end; once it has a
-/// close from a client, or a fault, no more is read. Answers the turn, and how the script ended, if it did. The observer
-/// is told of the turn once it was sent, and of what it has got as it comes.
+/// close from a client, or a fault, no more is read. Answers the turn, and how the script ended, if it did. The
+/// observer is told of the turn once it was sent, and of what it has got as it comes.
 pub fn run_turn<R: Read, W: EndsDirection, O: Observer>(
     alloc: Global,
     plan: TurnPlan<'_>,

@@ -1,7 +1,7 @@
 //! A piece that is taken whole, whatever number of frames it holds (RFC 6455 section 5.4).
 
-ghost use Rattle.std.specs.Prelude.{◌≡◌, ◌+◌, ◌^◌, ◌≤◌, ◌<◌, ℕ, List, length, drop, None, true, false, IsOk, IfOk, IfErr};
-ghost use Rattle.std.specs.Prelude.{OnOk, OnErr};
+ghost use Rattle.std.specs.Prelude.{◌≡◌, ◌+◌, ◌^◌, ◌≤◌, ◌<◌, ℕ, List, length, drop, None, true, false, IsOk, IfOk};
+ghost use Rattle.std.specs.Prelude.{IfErr, OnOk, OnErr};
 ghost use Rattle.ws_session.specs.declared.session.Answering.{Answering};
 ghost use Rattle.ws_session.specs.Replies.{reply_to};
 ghost use Rattle.ws_session.specs.Exchange.{is_over};
@@ -72,8 +72,8 @@ impl Session {
     }
 
     /// Takes the front of what is left of a piece, of which so many bytes were taken before, as much as one call takes:
-    /// how much that is. Where there is no room for an event, only what gives none is taken. `NoMemory` leaves all as it
-    /// was.
+    /// how much that is. Where there is no room for an event, only what gives none is taken. `NoMemory` leaves all as
+    /// it was.
     fn take_front(
         &mut self,
         answering: Answering,

@@ -69,8 +69,8 @@ fn most() -> Limits
 /// How many bytes of a piece are taken at once: so few that the room for their events doesn't count.
 pub(super) const AT_ONCE: usize = 4096;
 
-/// Takes a piece of the turn with this number, which is the last, and collects what it says. The events of some bytes are
-/// collected before more bytes are taken.
+/// Takes a piece of the turn with this number, which is the last, and collects what it says. The events of some bytes
+/// are collected before more bytes are taken.
 pub(super) fn take_piece<K: KeepsReplies>(
     alloc: Global,
     way: Way,

@@ -1,11 +1,11 @@
--- Byte after byte: the digits of the bytes so far stand behind what was in the room.
-use Rattle.std.proofs.Common.{◌≡◌, ◌+◌, ◌*◌, ◌++◌, length, take}
+-- Byte after byte: the digits of the bytes so far stand at the front.
+use Rattle.std.proofs.Common.{◌≡◌, ◌*◌, length, take}
 use Rattle.ws_frame.specs.Lines.{hex}
 use Rattle.ws_frame.proofs.room.Room.push_hex.Given as goal
 
--- the digits of the bytes so far stand behind what was there
-abbrev pub invariant-loop-byte : goal.invariant-loop-byte
-invariant-loop-byte l = record {
-  pushed : l.self ≡ l.initial.self ++ hex (take l.byte-index l.bytes);
-  len : length l.self ≡ length l.initial.self + 2 * l.byte-index;
+-- the digits of the bytes so far stand at the front
+abbrev pub invariant-bytes : goal.invariant-bytes
+invariant-bytes l = record {
+  len : length l.digits ≡ 32;
+  front : take (2 * l.i) l.digits ≡ hex (take l.i l.bytes);
 }
