@@ -43,9 +43,12 @@ returns-in_ok-begin_turn g c = record {
   told = λ tested turns turn written h. absurd (omega (arith, c.if-self-eq0.true, h.count, length-one-more turns turn));
   first = λ tested written h.
       let (more, appends, (works, after)) = c.in_ok-begin_turn.ensures.told tested [] written h in
-      let (next, appended, told) = c.got_in_turn.ensures.told tested [] (begun_turn []) (written ++ more) after in
-      (more ++ next, Appends-trans _ _ _ _ _ appends appended, subst (λ (t : List ℕ). AreTold tested c.got_in_turn.new.self (got_first c.args.piece.now ∷ []) t
-          (has_failed c.got_in_turn.new.writer) c.got_in_turn.result) (append_assoc written more next) told);
+      let (next, appended, told) = c.got_in_turn.ensures.told tested [] (begun_turn []) (written ++ more) after in (
+        more ++ next,
+        Appends-trans _ _ _ _ _ appends appended,
+        subst (λ (t : List ℕ). AreTold tested c.got_in_turn.new.self (got_first c.args.piece.now ∷ []) t
+            (has_failed c.got_in_turn.new.writer) c.got_in_turn.result) (append_assoc written more next) told,
+      );
 }
 
 pub returns-else-self-eq0 : goal.returns-else-self-eq0
