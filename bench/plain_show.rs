@@ -1,4 +1,4 @@
-//! A plain `show` of what a client sent, over Rust's standard library, for `bench/run` to measure beside `wst show`:
+//! A plain `show` of what a client sent, over Rust's standard library, for `bench/peers` to measure beside `wst show`:
 //! the same lines for a stream of whole frames, which it holds in memory.
 //!
 //!     plain_show <STREAM

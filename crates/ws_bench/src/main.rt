@@ -1,5 +1,5 @@
 //! `ws_bench`: a server that takes a stream of frames and counts its messages, to be measured from outside by
-//! `bench/run`. No crate of the product uses it, and it looks at no clock.
+//! `bench/peers`. No crate of the product uses it, and it looks at no clock.
 //!
 //!     ws_bench SIZE                      takes the standard input, in pieces of at most SIZE bytes
 //!     ws_bench SIZE --peer tungstenite   the same by the crate `tungstenite`
