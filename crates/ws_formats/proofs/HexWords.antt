@@ -1,9 +1,7 @@
 -- Bytes and the pairs of hexadecimal digits that spell them.
-use Rattle.std.proofs.Common.{◌≡◌, ◌≢◌, ◌∙◌, ℕ, zero, suc, ◌+◌, ◌*◌, ◌-◌, ◌/◌, ◌%◌, ◌<◌, ◌≤◌, false, List, [], ◌∷◌, ◌++◌, length, ap, ap₂, sym, refl, arith, codes, append_assoc, if◌then◌else◌, nat_lt, slice_index, take, drop}
+use Rattle.std.proofs.Common.{◌≡◌, ◌≢◌, ◌∙◌, ℕ, zero, suc, ◌+◌, ◌*◌, ◌-◌, ◌/◌, ◌%◌, ◌<◌, ◌≤◌, false, List, [], ◌∷◌, ◌++◌, length, ap, ap₂, sym, refl, arith, codes, if◌then◌else◌, nat_lt, slice_index}
 use Rattle.std.proofs.Math.Nat.{div-eq_of_lt, mod-eq_of_lt, div-add-mod}
 use Rattle.std.proofs.lemmas.Bool.Decides.{nat_tests}
-use Rattle.std.proofs.lemmas.Grind.{flat_map-append}
-use Rattle.std.proofs.lemmas.List.{take_all}
 use Rattle.std.specs.Fmt.{digits, digit_glyph}
 use Rattle.ws_formats.specs.Words.{IsHexWord, IsKeyWord, hex}
 use Rattle.ws_base.specs.Bytes.{AreBytes}
@@ -55,29 +53,6 @@ pub are_bytes_cons : (byte : ℕ) (bytes : List ℕ) → byte < 256 → AreBytes
 are_bytes_cons byte bytes small all zero = small
 are_bytes_cons byte bytes small all (suc i) = all i
 
--- what spells a text with two characters in front spells a byte by them
-pub first_pair : (bytes : List ℕ) (high low : ℕ) (after : List ℕ) → ArePairs bytes (high ∷ low ∷ after)
-    → (byte : ℕ) × IsPair byte high low × ((more : List ℕ) × ArePairs more after)
-first_pair [] high low after h = absurd (omega (arith, ap (λ (l : List ℕ). length l) h.1))
-first_pair (byte ∷ more) high low after h =
-    let same : high ∷ low ∷ after ≡ high_of byte ∷ low_of byte ∷ hex more = h.1 ∙ hex_cons byte more (h.0 0) in (
-      byte,
-      (h.0 0, ap (λ (l : List ℕ). slice_index l 0) same, ap (λ (l : List ℕ). slice_index l 1) same),
-      (more, (are_bytes_tail byte more h.0, cc)),
-    )
-
--- a spelled text with less than two characters is empty
-pub no_single : (bytes word : List ℕ) → ArePairs bytes word → length word < 2 → word ≡ []
-no_single [] word h short = h.1
-no_single (byte ∷ more) word h short = absurd (omega (arith, ap (λ (l : List ℕ). length l) (h.1 ∙ hex_cons byte more (h.0 0))))
-
--- one more pair
-pub pair_added : (bytes : List ℕ) (byte high low : ℕ) (after : List ℕ) → IsPair byte high low
-    → hex bytes ++ (high ∷ low ∷ after) ≡ hex (bytes ++ byte ∷ []) ++ after
-pair_added bytes byte high low after h =
-    let one : hex (byte ∷ []) ≡ high ∷ low ∷ [] = hex_cons byte [] h.0 ∙ cc in
-    sym (ap (λ (l : List ℕ). l ++ after) (flat_map-append _ bytes (byte ∷ [])) ∙ append_assoc (hex bytes) (hex (byte ∷ [])) after ∙ ap (λ (l : List ℕ). hex bytes ++ (l ++ after)) one)
-
 -- the text tells the bytes
 pub same_bytes : (xs ys : List ℕ) → AreBytes xs → AreBytes ys → hex xs ≡ hex ys → xs ≡ ys
 same_bytes [] [] a b e = refl
@@ -116,16 +91,6 @@ hex_one (x ∷ xs) [] word a b = absurd (pairs_no_dash (x ∷ xs) a.0 (sym a.1 �
 hex_one (x ∷ xs) (y ∷ ys) word a b = same_bytes (x ∷ xs) (y ∷ ys) a.0 b.0 (sym a.1 ∙ b.1)
 
 -- ---- places
-
--- a list of at least two begins with its first two
-pub two_front : (l : List ℕ) → 2 ≤ length l → l ≡ slice_index l 0 ∷ slice_index l 1 ∷ take (length l - 2) (drop 2 l)
-two_front [] long = absurd (omega arith)
-two_front (x ∷ []) long = absurd (omega arith)
-two_front (x ∷ y ∷ l) long = ap (λ (k : List ℕ). x ∷ y ∷ k) (sym (take_all (length (x ∷ y ∷ l) - 2) l (omega arith)))
-
-pub are_bytes_push : (bytes : List ℕ) (byte : ℕ) → AreBytes bytes → byte < 256 → AreBytes (bytes ++ byte ∷ [])
-are_bytes_push [] byte all small = are_bytes_cons byte [] small all
-are_bytes_push (x ∷ bytes) byte all small = are_bytes_cons x (bytes ++ byte ∷ []) (all 0) (are_bytes_push bytes byte (are_bytes_tail x bytes all) small)
 
 -- the place of the pair of a byte
 abbrev pub twice : ℕ → ℕ

@@ -36,6 +36,14 @@ TellFurther {T = T} IsLineOf old values lines = (new : List T) × (values ≡ ol
 abbrev pub IsPair : ℕ → ℕ → ℕ → Type 0
 IsPair byte high low = (byte < 256) × (high ≡ digit_glyph false (byte / 16)) × (low ≡ digit_glyph false (byte % 16))
 
+-- a lower-case hexadecimal digit
+abbrev pub IsDigit : ℕ → Type 0
+IsDigit digit = (value : ℕ) × (value < 16) × (digit_glyph false value ≡ digit)
+
+-- each of these is one
+abbrev pub AreDigits : List ℕ → Type 0
+AreDigits word = (i : ℕ) → i < length word → IsDigit (slice_index word i)
+
 -- pairs of digits spell the bytes
 abbrev pub ArePairs : List ℕ → List ℕ → Type 0
 ArePairs bytes word = AreBytes bytes × (word ≡ hex bytes)

@@ -1,9 +1,9 @@
 //! Bytes and masking keys in lower-case hexadecimal, two digits a byte.
 
-ghost use Rattle.std.specs.Prelude.{◌≡◌, ◌≤◌, ◌<◌, Some, false, length};
+ghost use Rattle.std.specs.Prelude.{◌≡◌, ◌↔◌, ◌*◌, ◌≤◌, ◌<◌, IsTrue, Some, false, length};
 ghost use Rattle.std.specs.Fmt.{WritesOnOk, digit_glyph};
 ghost use Rattle.ws_formats.specs.Words.{IsHexWord, IsKeyOrDash, IsKeyWord, hex, hex_word};
-ghost use Rattle.ws_formats.specs.Reading.{ArePairs, IsPair, Reads};
+ghost use Rattle.ws_formats.specs.Reading.{AreDigits, ArePairs, IsDigit, IsPair, Reads};
 ghost use Rattle.ws_base.specs.Finding.{Finds};
 
 use std::alloc::Global;
@@ -96,21 +96,78 @@ pub fn read_hex(alloc: Global, word: &[u8]) -> Result<Payload, LineFault>
 fn read_pairs(alloc: Global, word: &[u8]) -> Result<Payload, LineFault>
     ensures { Reads result (λ bytes. ArePairs bytes word.now) }
 {
-    let mut bytes = Vec::new(alloc);
-    let mut rest = word;
-    while let [high, low, after @ ..] = rest {
-        let Some(byte) = read_pair(*high, *low) else {
-            return Err(LineFault::Damaged);
-        };
-        if bytes.push(byte).is_err() {
-            return Err(LineFault::NoMemory);
-        }
-        rest = after;
+    // A word that spells nothing is refused before memory is taken.
+    if word.len() % 2 == 1 || !are_digits(word) {
+        return Err(LineFault::Damaged);
     }
-    if rest.is_empty() {
-        Ok(Payload::from_vec(bytes))
+    let Ok(mut bytes) = vec![in alloc; 0u8; word.len() / 2] else {
+        return Err(LineFault::NoMemory);
+    };
+    put_pairs(word, bytes.as_mut_slice());
+    Ok(Payload::from_vec(bytes))
+}
+
+/// Whether all of these are lower-case hexadecimal digits.
+fn are_digits(word: &[u8]) -> bool
+    ensures { IsTrue result ↔ AreDigits word.now }
+{
+    let mut at = 0;
+    while at < word.len() {
+        let end = at + (word.len() - at).min(BLOCK);
+        if !is_block_of_digits(&word[at..end]) {
+            return false;
+        }
+        at = end;
+    }
+    true
+}
+
+/// The same for a few. It goes to their end, and its tests don't branch, so that the loop goes by vectors.
+fn is_block_of_digits(word: &[u8]) -> bool
+    ensures { IsTrue result ↔ AreDigits word.now }
+{
+    let mut wrong: u8 = 0;
+    for byte in word {
+        wrong = wrong.max(wrong_digit(*byte));
+    }
+    wrong == 0
+}
+
+/// Zero where this is a lower-case hexadecimal digit, and one else.
+fn wrong_digit(byte: u8) -> u8
+    ensures { (result ≡ 0) ↔ IsDigit byte }
+{
+    if is_digit(byte) { 0 } else { 1 }
+}
+
+/// Whether this is a lower-case hexadecimal digit.
+fn is_digit(byte: u8) -> bool
+    ensures { IsTrue result ↔ IsDigit byte }
+{
+    ((b'0' <= byte) & (byte <= b'9')) | ((b'a' <= byte) & (byte <= b'f'))
+}
+
+/// Puts the bytes that pairs of digits spell into room of their number.
+fn put_pairs(word: &[u8], bytes: &mut [u8])
+    requires digits { AreDigits word.now }
+    requires room { length word.now ≡ 2 * length bytes.old }
+    ensures { ArePairs bytes.new word.now }
+{
+    'bytes: for i in 0..bytes.len() {
+        bytes[i] = value_of(word[2 * i]) * 16 + value_of(word[2 * i + 1]);
+    }
+}
+
+/// The value of a lower-case hexadecimal digit.
+fn value_of(digit: u8) -> u8
+    requires { IsDigit digit }
+    ensures small { result < 16 }
+    ensures value { digit_glyph false result ≡ digit }
+{
+    if digit < b'a' {
+        digit - b'0'
     } else {
-        Err(LineFault::Damaged)
+        digit - b'a' + 10
     }
 }
 
