@@ -1,11 +1,11 @@
 -- What the readers of words and lines answer, and inside the crate their steps. A reader may skip all but the first
 -- three.
-use Rattle.std.specs.Prelude.{◌≡◌, ℕ, ◌/◌, ◌%◌, ◌<◌, ◌⊎◌, false, List, ◌∷◌, ◌++◌, length, slice_index, Option}
+use Rattle.std.specs.Prelude.{◌≡◌, ◌≢◌, All, ℕ, ◌/◌, ◌%◌, ◌<◌, ◌⊎◌, false, List, ◌∷◌, ◌++◌, length, slice_index, Option}
 use Rattle.std.specs.Prelude.{Some, None, Result, Ok, Err}
 use Rattle.std.specs.List.{AllZip}
 use Rattle.std.specs.Fmt.{digit_glyph}
 use Rattle.std.specs.Borrow.{Bor}
-use Rattle.ws_formats.specs.Words.{hex}
+use Rattle.ws_formats.specs.Words.{hex, space}
 use Rattle.ws_base.specs.Bytes.{AreBytes}
 use Rattle.ws_formats.specs.Lines.{line_feed, IsLine}
 use Rattle.ws_base.specs.declared.text_fault.LineFault.{LineFault}
@@ -56,3 +56,12 @@ BeginsOddly word = (slice_index word 0 ≡ 43) ⊎ ((slice_index word 0 ≡ 48) 
 abbrev pub CutsLine : List ℕ → Option (Bor (List ℕ) × Bor (List ℕ)) → Type 0
 CutsLine text None = IsLine text
 CutsLine text (Some parts) = (text ≡ parts.0.now ++ line_feed ∷ parts.1.now) × IsLine parts.0.now
+
+-- a word, without a space
+abbrev pub IsWord : List ℕ → Type 0
+IsWord word = All (λ byte. byte ≢ space) word
+
+-- the first word of a line, and what stands behind its space; without a space there is none
+abbrev pub CutsFirstWord : List ℕ → Option (Bor (List ℕ) × Bor (List ℕ)) → Type 0
+CutsFirstWord line None = IsWord line
+CutsFirstWord line (Some parts) = (line ≡ parts.0.now ++ space ∷ parts.1.now) × IsWord parts.0.now

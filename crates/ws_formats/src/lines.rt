@@ -5,6 +5,7 @@ ghost use Rattle.ws_formats.specs.Lines.{CanBeTold, Damages, HasLineForEach, IsT
 ghost use Rattle.ws_formats.specs.Reading.{CutsLine, Reads, TakesLine, TellFurther};
 ghost use Rattle.ws_base.specs.Finding.{Finds};
 
+use memchr::memchr;
 use std::alloc::Global;
 use ws_base::{LineFault, Sequence, TextFault};
 
@@ -119,6 +120,6 @@ pub fn read_by_lines<P: PartialText>(
 pub fn cut_line(text: &[u8]) -> Option<(&[u8], &[u8])>
     ensures { CutsLine text.now result }
 {
-    let at = text.iter().position(|byte| *byte == b'\n')?;
+    let at = memchr(b'\n', text)?;
     Some((&text[..at], &text[at + 1..]))
 }
