@@ -9,6 +9,9 @@ ghost use Rattle.ws_text.specs.InnerStep.{kept_bytes, BeginsCharacter, GoesOn};
 
 use crate::whole::{is_short_ascii, valid_prefix};
 
+/// The most bytes of a piece that is read byte by byte: to do so takes less than to look for its whole characters.
+const FEW: usize = 3;
+
 /// The first bytes of a character that is not all there, or none.
 #[derive(Clone, Copy)]
 pub(crate) enum Unfinished {
@@ -99,11 +102,14 @@ impl Unfinished {
         if self.is_nothing() && is_short_ascii(piece) {
             return Ok(Unfinished::Nothing);
         }
+        if piece.len() <= FEW {
+            return self.push_bytes(piece);
+        }
         self.push_any(piece)
     }
 
     /// The same of any piece: a cut character is joined byte by byte, and so is one that the piece cuts; `simdutf8`
-    /// checks what lies between. It stands apart, so that a short piece of ASCII doesn't pay for it.
+    /// checks what lies between. It stands apart, so that a short piece doesn't pay for it.
     #[inline(never)]
     fn push_any(self, piece: &[u8]) -> Result<Unfinished, usize>
         requires { IsUnfinished (kept_bytes self) }

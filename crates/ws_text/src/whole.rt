@@ -1,13 +1,20 @@
 //! How much of a piece is whole characters: the bulk of it, checked by `simdutf8`.
 
-ghost use Rattle.std.specs.Prelude.{◌≤◌, IsTrue, length, take};
+ghost use Rattle.std.specs.Prelude.{◌≤◌, ◌<◌, IsTrue, length, take};
 ghost use Rattle.std.specs.Str.{IsAscii};
 ghost use Rattle.ws_text.specs.Text.{IsText};
 
+use std::simd::Simd;
 use std::simd::prelude::*;
 
 /// How many bytes are looked at at once.
 const LANES: usize = 64;
+
+/// The same of what is less than those.
+const FEWER_LANES: usize = 16;
+
+/// The same of what is less than these.
+const LEAST_LANES: usize = 8;
 
 /// The most bytes of a short piece. A longer one `simdutf8` looks at by vectors of its own.
 const SHORT: usize = 256;
@@ -37,27 +44,43 @@ fn last_start(bytes: &[u8]) -> usize
     }
 }
 
-/// Whether it is a short piece, of at least one vector, and ASCII, as many a text is: told without what `simdutf8`
-/// sets up for any text. The last vector begins before the others end.
+/// Whether it is a short piece and ASCII, as many a text is: told without what `simdutf8` sets up for any text. The
+/// widest vectors that it has bytes for look at it, and less than the narrowest is looked at byte by byte.
 pub(crate) fn is_short_ascii(bytes: &[u8]) -> bool
     ensures { IsTrue result → IsAscii bytes.now }
 {
-    if bytes.len() < LANES || bytes.len() > SHORT {
-        return false;
+    if bytes.len() < LEAST_LANES {
+        return bytes.is_ascii();
     }
+    if bytes.len() < FEWER_LANES {
+        return is_ascii_by::<LEAST_LANES>(bytes);
+    }
+    if bytes.len() < LANES {
+        return is_ascii_by::<FEWER_LANES>(bytes);
+    }
+    bytes.len() <= SHORT && is_ascii_by::<LANES>(bytes)
+}
+
+/// The same by vectors, of which the last begins before the others end.
+fn is_ascii_by<const N: usize>(bytes: &[u8]) -> bool
+    requires lanes { (0 < N) × (N ≤ 64) }
+    requires enough { N ≤ length bytes.now }
+    ensures { IsTrue result → IsAscii bytes.now }
+{
     let mut at = 0;
-    while bytes.len() - at > LANES {
-        if !is_ascii(u8x64::from_slice(&bytes[at..])) {
+    while bytes.len() - at > N {
+        if !is_ascii(Simd::<u8, N>::from_slice(&bytes[at..])) {
             return false;
         }
-        at += LANES;
+        at += N;
     }
-    is_ascii(u8x64::from_slice(&bytes[bytes.len() - LANES..]))
+    is_ascii(Simd::<u8, N>::from_slice(&bytes[bytes.len() - N..]))
 }
 
 /// Whether no byte of the vector has its top bit set.
-fn is_ascii(block: u8x64) -> bool
-    ensures { IsTrue result → IsAscii block }
+fn is_ascii<const N: usize>(block: Simd<u8, N>) -> bool
+    requires { N ≤ 64 }
+    ensures { IsTrue result → IsAscii block.entry }
 {
-    block.simd_ge(u8x64::splat(0x80)).to_bitmask() == 0
+    block.simd_ge(Simd::splat(0x80)).to_bitmask() == 0
 }

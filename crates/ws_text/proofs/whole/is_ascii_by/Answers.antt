@@ -4,7 +4,7 @@ use Rattle.std.proofs.lemmas.Bool.{cases_lt}
 use Rattle.std.proofs.lemmas.List.{get_or-take, get_or-drop, length-drop, take_all}
 use Rattle.std.proofs.lemmas.Str.{IsAscii-append}
 use Rattle.std.specs.Str.{IsAscii}
-use Rattle.ws_text.proofs.whole.is_short_ascii.Goals as goal
+use Rattle.ws_text.proofs.whole.is_ascii_by.Goals as goal
 
 covered : (l : List ℕ) (at from : ℕ) → from ≤ at → IsAscii (take at l) → IsAscii (drop from l) → IsAscii l
 covered l at from le first last = λ i.
@@ -17,10 +17,11 @@ covered l at from le first last = λ i.
         subst (λ (k : ℕ). get_or l k 0 < 128) same low
 
 pub loop-at-preserved : goal.loop-at-preserved
-loop-at-preserved c = (omega arith, subst IsAscii (sym (take-add c.loop-at.at 64 c.args.bytes.now)) (IsAscii-append _ _ c.loop-at.invariant.1 (c.is_ascii.ensures c.if-not-is_ascii.false)))
+loop-at-preserved g c = (omega arith, subst IsAscii (sym (take-add c.loop-at.at g.row.N c.args.bytes.now)) (IsAscii-append _ _ c.loop-at.invariant.1 (c.is_ascii.ensures c.if-not-is_ascii.false)))
 
 pub returns : goal.returns
-returns c = λ yes.
+returns g c = λ yes.
     let l = c.args.bytes.now in
-    let last : IsAscii (drop (length l - 64) l) = subst IsAscii (take_all 64 (drop (length l - 64) l) (omega (arith, length-drop (length l - 64) l))) (c.is_ascii-2.ensures yes) in
-    covered l c.loop-at.at (length l - 64) (omega arith) c.loop-at.invariant.1 last
+    let n = g.row.N in
+    let last : IsAscii (drop (length l - n) l) = subst IsAscii (take_all n (drop (length l - n) l) (omega (arith, length-drop (length l - n) l))) (c.is_ascii-2.ensures yes) in
+    covered l c.loop-at.at (length l - n) (omega arith) c.loop-at.invariant.1 last
