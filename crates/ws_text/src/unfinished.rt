@@ -102,14 +102,11 @@ impl Unfinished {
         if self.is_nothing() && is_short_ascii(piece) {
             return Ok(Unfinished::Nothing);
         }
-        if piece.len() <= FEW {
-            return self.push_bytes(piece);
-        }
         self.push_any(piece)
     }
 
     /// The same of any piece: a cut character is joined byte by byte, and so is one that the piece cuts; `simdutf8`
-    /// checks what lies between. It stands apart, so that a short piece doesn't pay for it.
+    /// checks what lies between. It stands apart, so that a short piece of ASCII doesn't pay for it.
     #[inline(never)]
     fn push_any(self, piece: &[u8]) -> Result<Unfinished, usize>
         requires { IsUnfinished (kept_bytes self) }
@@ -118,6 +115,9 @@ impl Unfinished {
             MatchResult result (λ new. HasUnfinished (text ++ piece.now) (kept_bytes new))
             (BreaksTextAt text piece.now) }
     {
+        if piece.len() <= FEW {
+            return self.push_bytes(piece);
+        }
         let (unfinished, used) = self.complete(piece)?;
         let rest = &piece[used..];
         let whole = valid_prefix(rest);

@@ -44,9 +44,20 @@ fn last_start(bytes: &[u8]) -> usize
     }
 }
 
-/// Whether it is a short piece and ASCII, as many a text is: told without what `simdutf8` sets up for any text. The
-/// widest vectors that it has bytes for look at it, and less than the narrowest is looked at byte by byte.
+/// Whether it is a short piece and ASCII, as many a text is: told without what `simdutf8` sets up for any text.
 pub(crate) fn is_short_ascii(bytes: &[u8]) -> bool
+    ensures { IsTrue result → IsAscii bytes.now }
+{
+    if bytes.len() < LANES {
+        return are_few_ascii(bytes);
+    }
+    bytes.len() <= SHORT && is_ascii_by::<LANES>(bytes)
+}
+
+/// The same of less than a vector, by narrower ones, and of less than these byte by byte. It stands apart, so that what
+/// is made a part of the callers stays small.
+#[inline(never)]
+fn are_few_ascii(bytes: &[u8]) -> bool
     ensures { IsTrue result → IsAscii bytes.now }
 {
     if bytes.len() < LEAST_LANES {
@@ -55,10 +66,7 @@ pub(crate) fn is_short_ascii(bytes: &[u8]) -> bool
     if bytes.len() < FEWER_LANES {
         return is_ascii_by::<LEAST_LANES>(bytes);
     }
-    if bytes.len() < LANES {
-        return is_ascii_by::<FEWER_LANES>(bytes);
-    }
-    bytes.len() <= SHORT && is_ascii_by::<LANES>(bytes)
+    is_ascii_by::<FEWER_LANES>(bytes)
 }
 
 /// The same by vectors, of which the last begins before the others end.
