@@ -25,7 +25,21 @@ pub(crate) fn valid_prefix(bytes: &[u8]) -> usize
     ensures text { IsText (take result bytes.now) }
 {
     let front = &bytes[..last_start(bytes)];
+    if front.len() < LANES {
+        return few_valid(front);
+    }
     match simdutf8::compat::from_utf8(front) {
+        Ok(text) => text.len(),
+        Err(error) => error.valid_up_to(),
+    }
+}
+
+/// The same of less than a vector, which `simdutf8` leaves to `std` after some steps of its own.
+fn few_valid(bytes: &[u8]) -> usize
+    ensures within { result ≤ length bytes.now }
+    ensures text { IsText (take result bytes.now) }
+{
+    match std::str::from_utf8(bytes) {
         Ok(text) => text.len(),
         Err(error) => error.valid_up_to(),
     }

@@ -15,3 +15,8 @@ returns-in-Err-clause-text c =
     let valid = c.in-Err.ensures.cases.1 in
     let front : c.valid_up_to.result ≤ c.last_start.result = omega (arith, valid.short, length-take-le c.last_start.result c.args.bytes.now c.last_start.ensures) in
     subst (λ (l : List ℕ). IsText l) (take-take c.valid_up_to.result c.last_start.result c.args.bytes.now front) (subst (λ n. IsText (take n (take c.last_start.result c.args.bytes.now))) (sym c.valid_up_to.ensures) (text_from_utf8 _ valid.front))
+
+pub returns-then-front-lt-LANES-clause-text : goal.returns-then-front-lt-LANES-clause-text
+returns-then-front-lt-LANES-clause-text c =
+    let front : c.few_valid.result ≤ c.last_start.result = omega (arith, c.few_valid.ensures.within, length-take-le c.last_start.result c.args.bytes.now c.last_start.ensures) in
+    subst (λ (l : List ℕ). IsText l) (take-take c.few_valid.result c.last_start.result c.args.bytes.now front) c.few_valid.ensures.text
