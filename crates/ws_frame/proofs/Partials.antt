@@ -1,8 +1,8 @@
 -- What is kept of a frame that is not whole, and what more bytes make of it.
 use Rattle.std.proofs.Common.{◌≡◌, ℕ, zero, suc, ◌+◌, ◌-◌, ◌^◌, ◌<◌, ◌≤◌, List, [], ◌∷◌, ◌++◌, length, take, drop, Option, Some, None, min, refl, sym, ap, ◌∙◌, append_assoc, append-nil, zero-add, arith, inl, inr, subst}
 use Rattle.std.proofs.lemmas.Bool.{cases_lt}
-use Rattle.std.proofs.lemmas.List.{length-append, length-take, take-append-drop, take_at, drop_at, take_all, take-append-le, get_or_append_left, get_or-append_right}
-use Rattle.std.proofs.Math.Seq.{take-append-add}
+use Rattle.std.proofs.lemmas.List.{length-append, length-take, length-take-le, length-drop, take-append-drop, take_at, drop_at, take_all, take-append-le, get_or_append_left, get_or-append_right}
+use Rattle.std.proofs.Math.Seq.{take-append-add, take-add}
 use Rattle.ws_wire.specs.Header.{HeaderFields, IsHeaderOf, AreBytes, header_bytes}
 use Rattle.ws_wire.specs.Masking.{masked_payload}
 use Rattle.ws_wire.specs.Frame.{IsWireFrame, wire_bytes}
@@ -12,7 +12,7 @@ use Rattle.ws_frame.specs.declared.partial.Partial.{Partial}
 use Rattle.ws_frame.specs.declared.partial.Taken.{Taken}
 use Rattle.ws_frame.specs.declared.partial.Taken.TheVariants.{Part, Whole, BadLength}
 use Rattle.ws_frame.specs.InnerShowing.{IsPartOfPayload, IsKeptAs, IsWhole, UsesSome, IsTaken, BeginsPayload}
-use Rattle.ws_wire.proofs.Numbers.{front_bytes}
+use Rattle.ws_wire.proofs.Numbers.{front_bytes, AreBytes-drop}
 use Rattle.ws_wire.proofs.Headers.{too_short_for_header}
 use Rattle.ws_wire.proofs.HeaderSize.{short_without_header}
 use Rattle.ws_wire.proofs.Masks.{masked_payload_twice, length-masked_payload, masked_payload_bytes}
@@ -192,3 +192,65 @@ payload_ends rest more first new (Some g) h to_come k e are also kept count =
 pub some_to_come : (rest first : List ℕ) (header : Option HeaderFields) (h : HeaderFields) (to_come : ℕ) → IsKeptAs rest header first to_come → header ≡ Some h → 0 < to_come
 some_to_come rest first None h to_come k e = absurd cc
 some_to_come rest first (Some g) h to_come k e = k.some
+
+-- ---- a frame from its first byte on
+
+-- nothing is kept
+nothing_before : (rest first : List ℕ) (header : Option HeaderFields) (to_come : ℕ) → IsKeptAs rest header first to_come → header ≡ None → first ≡ [] → rest ≡ []
+nothing_before rest first None to_come (same, _) e none = same ∙ none
+nothing_before rest first (Some h) to_come k e none = absurd cc
+
+pub nothing_kept : (rest first : List ℕ) (header : Option HeaderFields) (to_come : ℕ) → IsKeptAs rest header first to_come → header ≡ None → first ≡ [] → IsKeptAs [] header first to_come
+nothing_kept rest first header to_come k e none = subst (λ (t : List ℕ). IsKeptAs t header first to_come) (nothing_before rest first header to_come k e none) k
+
+-- less than a header is all that came
+pub front_of_header : (rest piece first new : List ℕ) (header : Option HeaderFields) (to_come : ℕ) → IsKeptAs rest header first to_come → header ≡ None → first ≡ [] → new ≡ take 16 (take (length piece) piece)
+    → AreBytes piece → BeginsNoHeader piece → IsKeptAs (rest ++ take (length piece) piece) header new to_come
+front_of_header rest piece first new None to_come (same, _) e none kept are no_header =
+    let short : length piece < 14 = short_without_header piece are no_header in
+    let all : take (length piece) piece ≡ piece = take_all (length piece) piece (omega arith) in
+    let is : new ≡ piece = kept ∙ ap (λ (t : List ℕ). take 16 t) all ∙ take_all 16 piece (omega arith) in
+    (ap (λ (t : List ℕ). rest ++ t) all ∙ ap (λ (t : List ℕ). t ++ piece) (same ∙ none) ∙ sym is, subst (λ (t : List ℕ). BeginsNoHeader t) (sym is) no_header)
+front_of_header rest piece first new (Some h) to_come k e none kept are no_header = absurd cc
+
+pub bad_length_of_piece : (rest piece first : List ℕ) (header : Option HeaderFields) (to_come : ℕ) → IsKeptAs rest header first to_come → header ≡ None → first ≡ [] → BeginsBadLength piece → BeginsBadLength (rest ++ piece)
+bad_length_of_piece rest piece first header to_come k e none bad =
+    subst (λ (t : List ℕ). BeginsBadLength (t ++ piece)) (sym (nothing_before rest first header to_come k e none)) bad
+
+-- a header that is whole takes some bytes
+pub header_takes_some : (piece : List ℕ) (h : HeaderFields) (used : ℕ) → Begins h used piece → 0 < used
+header_takes_some piece h used b = omega (arith, ap (λ (t : List ℕ). length t) b.front.layout, length-take used piece)
+
+pub header_of_piece : (rest piece first : List ℕ) (header : Option HeaderFields) (to_come : ℕ) (h : HeaderFields) (used : ℕ) → IsKeptAs rest header first to_come → header ≡ None → first ≡ [] → Begins h used piece
+    → rest ++ take used piece ≡ header_bytes h
+header_of_piece rest piece first header to_come h used k e none b =
+    ap (λ (t : List ℕ). t ++ take used piece) (nothing_before rest first header to_come k e none) ∙ b.front.layout
+
+-- the piece has all bytes of the frame
+whole_at_front : (piece first : List ℕ) (h : HeaderFields) (used len : ℕ) → Begins h used piece → h.len < 2 ^ 63 → AreBytes piece → len ≡ h.len → used + len ≤ length piece → first ≡ take 16 (take len (drop used piece))
+    → IsWhole (take (used + len) piece) h first
+whole_at_front piece first h used len b small are same within is =
+    let payload = take len (drop used piece) in
+    let are_payload : AreBytes payload = front_bytes len (drop used piece) (AreBytes-drop used piece are) in
+    let back : masked_payload h.key (masked_payload h.key payload) ≡ payload = masked_payload_twice h.key payload in
+    let count : length payload ≡ len = length-take-le len (drop used piece) (omega (arith, length-drop used piece, within)) in
+    record {
+      frame = record { header = h; payload = masked_payload h.key payload };
+      is_wire = record {
+        header = b.front.fields;
+        payload = masked_payload_bytes h.key payload b.front.fields.key are_payload;
+        len = length-masked_payload h.key payload ∙ count ∙ same;
+        small = small;
+      };
+      header_is = refl;
+      bytes_are = take-add used len piece ∙ ap (λ (t : List ℕ). t ++ payload) b.front.layout ∙ ap (λ (t : List ℕ). header_bytes h ++ t) (sym back);
+      first_are = is ∙ ap (λ (t : List ℕ). take 16 t) (sym back);
+    }
+
+pub whole_of_piece : (rest piece first shown : List ℕ) (header : Option HeaderFields) (to_come : ℕ) (h : HeaderFields) (used len : ℕ) → IsKeptAs rest header first to_come → header ≡ None → first ≡ [] → Begins h used piece
+    → h.len < 2 ^ 63 → AreBytes piece → len ≡ h.len → used + len ≤ length piece → shown ≡ take 16 (take len (take (length piece - used) (drop used piece)))
+    → IsWhole (rest ++ take (used + len) piece) h shown
+whole_of_piece rest piece first shown header to_come h used len k e none b small are same within is =
+    let behind : take len (take (length piece - used) (drop used piece)) ≡ take len (drop used piece) = take-take len (length piece - used) (drop used piece) (omega (arith, within)) in
+    subst (λ (t : List ℕ). IsWhole (t ++ take (used + len) piece) h shown) (sym (nothing_before rest first header to_come k e none))
+    (whole_at_front piece shown h used len b small are same within (is ∙ ap (λ (t : List ℕ). take 16 t) behind))

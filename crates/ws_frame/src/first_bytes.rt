@@ -1,11 +1,10 @@
 //! The first bytes of a header or of a payload, kept in place.
 
 ghost use Rattle.std.specs.Prelude.{◌≡◌, ◌≤◌, [], ◌++◌, length, take};
-ghost use Rattle.ws_wire.specs.Masking.{masked};
+ghost use Rattle.ws_wire.specs.Masking.{masked, AreKeyLanes};
 
-use arrayvec::ArrayVec;
 use std::marker::Model;
-use ws_wire::mask;
+use std::simd::{u8x4, u8x16};
 
 /// How many bytes of a payload a line shows at most. A header has fewer.
 pub(crate) const SHOWN: usize = 16;
@@ -13,15 +12,18 @@ pub(crate) const SHOWN: usize = 16;
 /// The first bytes of some, at most sixteen: contracts see the list of them.
 #[derive(Drop)]
 pub(crate) struct FirstBytes {
-    bytes: ArrayVec<u8, SHOWN>,
+    bytes: [u8; SHOWN],
+    len: usize,
 }
 
 impl Model for FirstBytes {
-    ghost use Rattle.std.specs.Prelude.{List, ℕ};
+    ghost use Rattle.std.specs.Prelude.{List, ℕ, take, ◌≤◌};
 
     ghost Value = { List ℕ };
 
-    ghost view = { λ first. first.bytes.items };
+    ghost view = { λ first. take first.len first.bytes };
+
+    ghost invariant = { λ first. first.len ≤ 16 };
 }
 
 impl FirstBytes {
@@ -30,8 +32,34 @@ impl FirstBytes {
         ensures { result ≡ [] }
     {
         FirstBytes {
-            bytes: ArrayVec::new(),
+            bytes: [0; SHOWN],
+            len: 0,
         }
+    }
+
+    /// The first of so many bytes at the front of some. Sixteen are copied where there are as many, whatever the count,
+    /// since a copy of a size that is known takes no call.
+    #[inline(always)]
+    pub(crate) fn of_front(bytes: &[u8], count: usize) -> FirstBytes
+        requires { count ≤ length bytes.now }
+        ensures { result ≡ take 16 (take count bytes.now) }
+    {
+        let mut first = FirstBytes::new();
+        if bytes.len() >= SHOWN {
+            first.bytes.copy_from_slice(&bytes[..SHOWN]);
+            first.len = count.min(SHOWN);
+            return first;
+        }
+        first.push(&bytes[..count]);
+        first
+    }
+
+    /// How many there are.
+    pub(crate) fn len(&self) -> usize
+        ensures count { result ≡ length self.now }
+        ensures bound { result ≤ 16 }
+    {
+        self.len
     }
 
     /// The bytes as a slice.
@@ -39,22 +67,41 @@ impl FirstBytes {
         ensures bytes { result.now ≡ self.now }
         ensures bound { length result.now ≤ 16 }
     {
-        self.bytes.as_slice()
+        &self.bytes[..self.len]
+    }
+
+    /// The bytes, and behind them any others up to sixteen.
+    pub(crate) fn block(&self) -> &[u8; SHOWN]
+        ensures { take (length self.now) result.now ≡ self.now }
+    {
+        &self.bytes
     }
 
     /// More bytes come: the first sixteen of all are kept.
     pub(crate) fn push(&mut self, more: &[u8])
         ensures { self.new ≡ take 16 (self.old ++ more.now) }
     {
-        let room = self.bytes.remaining_capacity();
-        let fitting = &more[..room.min(more.len())];
-        self.bytes.try_extend_from_slice(fitting).unwrap();
+        let count = more.len().min(SHOWN - self.len);
+        let end = self.len + count;
+        self.bytes[self.len..end].copy_from_slice(&more[..count]);
+        self.len = end;
     }
 
-    /// Unmasks them, where they are the first of a payload under this key.
+    /// Unmasks them, where they are the first of a payload under this key. All sixteen places are unmasked at once.
+    #[inline(always)]
     pub(crate) fn unmask(&mut self, key: [u8; 4])
         ensures { self.new ≡ masked key 0 self.old }
     {
-        mask(key, 0, self.bytes.as_mut_slice());
+        let masked = u8x16::from_array(self.bytes) ^ sixteen_lanes(key);
+        self.bytes = masked.to_array();
     }
+}
+
+/// The bytes of a key over a vector.
+#[inline(always)]
+fn sixteen_lanes(key: [u8; 4]) -> u8x16
+    ensures len { length result ≡ 16 }
+    ensures lanes { AreKeyLanes key 0 result }
+{
+    u8x4::from_array(key).swizzle([0, 1, 2, 3, 0, 1, 2, 3, 0, 1, 2, 3, 0, 1, 2, 3])
 }

@@ -6,7 +6,7 @@ ghost use Rattle.ws_frame.specs.Lines.{key_word, data_word};
 ghost use Rattle.ws_frame.specs.Lines.{line_with};
 ghost use Rattle.ws_frame.specs.InnerPrinting.{place_words, bits_words, layout_words, end_words};
 
-use crate::first_bytes::SHOWN;
+use crate::first_bytes::{FirstBytes, SHOWN};
 use crate::room::Room;
 use crate::source::Source;
 use ws_wire::{Form, Header, Opcode, Role};
@@ -22,9 +22,14 @@ const RSV: usize = 11;
 
 /// Puts the line of a frame that begins at `offset` into the room, ended by LF. `first` are the first bytes of the
 /// payload, unmasked: as many as there are, at most `SHOWN`.
-pub(crate) fn push_line(room: &mut Room, source: Source, offset: u64, header: &Header, first: &[u8])
+pub(crate) fn push_line(
+    room: &mut Room,
+    source: Source,
+    offset: u64,
+    header: &Header,
+    first: &FirstBytes,
+)
     requires room { length room.old + 200 ≤ 65536 }
-    requires few { length first.now ≤ 16 }
     ensures pushed { room.new ≡ room.old ++ line_with source offset header.now first.now }
     ensures len { length room.new ≤ length room.old + 200 }
 {
@@ -100,20 +105,23 @@ fn push_kind(room: &mut Room, opcode: u8)
 
 /// Puts a masking key in hexadecimal, or a dash.
 fn push_key(room: &mut Room, key: Option<[u8; 4]>)
-    requires { length room.old + 8 ≤ 65536 }
+    requires { length room.old + 32 ≤ 65536 }
     ensures pushed { room.new ≡ room.old ++ key_word key }
     ensures len { length room.new ≤ length room.old + 8 }
 {
     match key {
         None => room.push(b"-"),
-        Some(key) => room.push_hex(&key),
+        Some(key) => {
+            let mut block = [0; SHOWN];
+            block[..key.len()].copy_from_slice(&key);
+            room.push_hex(&block, key.len());
+        }
     }
 }
 
 /// Puts the first bytes of a payload of some length.
-fn push_data(room: &mut Room, len: u64, first: &[u8])
+fn push_data(room: &mut Room, len: u64, first: &FirstBytes)
     requires room { length room.old + 34 ≤ 65536 }
-    requires few { length first.now ≤ 16 }
     ensures pushed { room.new ≡ room.old ++ data_word len first.now }
     ensures len { length room.new ≤ length room.old + 34 }
 {
@@ -121,7 +129,7 @@ fn push_data(room: &mut Room, len: u64, first: &[u8])
         room.push(b"-");
         return;
     }
-    room.push_hex(first);
+    room.push_hex(first.block(), first.len());
     if len > SHOWN as u64 {
         room.push(b"..");
     }

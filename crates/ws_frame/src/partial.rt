@@ -49,7 +49,7 @@ impl Partial {
     pub(crate) fn is_empty(&self) -> bool
         ensures { (rest : List ℕ) → IsPartialFrame rest self.now → (IsTrue result ↔ (rest ≡ [])) }
     {
-        self.header.is_none() && self.first.as_slice().is_empty()
+        self.header.is_none() && self.first.len() == 0
     }
 
     /// Takes at most the rest of one frame: of a header, or of a payload, which is skipped.
@@ -60,8 +60,45 @@ impl Partial {
         ensures taken { TakesPart self.old self.new piece.now result }
     {
         match self.header {
-            None => self.take_header(piece),
+            None => {
+                if self.first.len() == 0 {
+                    self.take_frame(piece)
+                } else {
+                    self.take_header(piece)
+                }
+            }
             Some(header) => self.take_payload(header, piece),
+        }
+    }
+
+    /// Takes a frame from its first byte on: the whole of it where the piece has all its bytes, as most pieces do.
+    #[inline(always)]
+    fn take_frame(&mut self, piece: &[u8]) -> Taken
+        requires header { self.old.header ≡ None }
+        requires first { self.old.first ≡ [] }
+        requires under_way { KeepsPartialFrame self.old }
+        requires some { 0 < length piece.now }
+        ensures used { UsesSome piece.now result }
+        ensures taken { TakesPart self.old self.new piece.now result }
+    {
+        match read_header(piece) {
+            HeaderRead::Need => {
+                self.first = FirstBytes::of_front(piece, piece.len());
+                Taken::Part(piece.len())
+            }
+            HeaderRead::BadLength { .. } => Taken::BadLength,
+            HeaderRead::Got { header, used } => {
+                let payload = &piece[used..];
+                if header.payload_len() > payload.len() as u64 {
+                    return self.begin_payload(header, used);
+                }
+                let len = header.payload_len() as usize;
+                Taken::Whole {
+                    header,
+                    first: FirstBytes::of_front(payload, len),
+                    used: used + len,
+                }
+            }
         }
     }
 

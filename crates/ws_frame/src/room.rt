@@ -1,10 +1,10 @@
 //! A fixed room for lines that wait to be written.
 
-ghost use Rattle.std.specs.Prelude.{◌≡◌, ◌≤◌, ◌<◌, ◌+◌, ◌*◌, [], ◌++◌, length, false, decimal};
+ghost use Rattle.std.specs.Prelude.{◌≡◌, ◌≤◌, ◌<◌, ◌+◌, ◌*◌, [], ◌++◌, length, take, false, decimal};
 ghost use Rattle.std.specs.Fmt.{digit_glyph};
 ghost use Rattle.ws_frame.specs.Lines.{hex};
 
-use itoa::Buffer;
+use itoa::write_digits;
 use std::marker::Model;
 
 /// How many bytes a room holds.
@@ -12,6 +12,9 @@ pub(crate) const ROOM: usize = 65536;
 
 /// How many bytes are put as digits at once, at most.
 const FEW: usize = 16;
+
+/// No number has more decimal digits than this.
+const DECIMAL: usize = 20;
 
 /// Bytes in a fixed room: contracts see the list of them.
 #[derive(Drop)]
@@ -63,7 +66,8 @@ impl Room {
         self.len = 0;
     }
 
-    /// Puts bytes behind those that stand in it.
+    /// Puts bytes behind those that stand in it. It is made a part of its callers, where the size of a word is known.
+    #[inline(always)]
     pub(crate) fn push(&mut self, bytes: &[u8])
         requires { length self.old + length bytes.now ≤ 65536 }
         ensures pushed { self.new ≡ self.old ++ bytes.now }
@@ -74,33 +78,51 @@ impl Room {
         self.len = end;
     }
 
+    /// Puts the front of a block behind them. The whole block is copied, since its size is known to the compiler where
+    /// that of the front isn't; what follows is put over the rest of it.
+    #[inline(always)]
+    fn push_front(&mut self, block: &[u8], len: usize)
+        requires front { len ≤ length block.now }
+        requires room { length self.old + length block.now ≤ 65536 }
+        ensures pushed { self.new ≡ self.old ++ take len block.now }
+        ensures len { length self.new ≡ length self.old + len }
+    {
+        let end = self.len + block.len();
+        self.bytes[self.len..end].copy_from_slice(block);
+        self.len += len;
+    }
+
     /// Puts a number behind them, in decimal digits.
     pub(crate) fn push_decimal(&mut self, number: u64)
         requires { length self.old + 20 ≤ 65536 }
         ensures pushed { self.new ≡ self.old ++ decimal number }
         ensures len { length self.new ≤ length self.old + 20 }
     {
-        let mut digits = Buffer::new();
-        self.push(digits.format(number).as_bytes());
+        let mut digits = [0; 2 * DECIMAL];
+        let start = write_digits(number, &mut digits, DECIMAL);
+        self.push_front(&digits[start..start + DECIMAL], DECIMAL - start);
     }
 
-    /// Puts the digits of a few bytes behind them, two a byte.
-    pub(crate) fn push_hex(&mut self, bytes: &[u8])
-        requires few { length bytes.now ≤ 16 }
-        requires room { length self.old + 2 * length bytes.now ≤ 65536 }
-        ensures pushed { self.new ≡ self.old ++ hex bytes.now }
-        ensures len { length self.new ≡ length self.old + 2 * length bytes.now }
+    /// Puts the digits of the first of a few bytes behind them, two a byte. The digits of all are made, in vectors.
+    #[inline(always)]
+    pub(crate) fn push_hex(&mut self, bytes: &[u8], count: usize)
+        requires whole { length bytes.now ≡ 16 }
+        requires few { count ≤ 16 }
+        requires room { length self.old + 32 ≤ 65536 }
+        ensures pushed { self.new ≡ self.old ++ hex (take count bytes.now) }
+        ensures len { length self.new ≡ length self.old + 2 * count }
     {
         let mut digits = [0; 2 * FEW];
-        'bytes: for i in 0..bytes.len() {
+        'bytes: for i in 0..FEW {
             digits[2 * i] = digit_of(bytes[i] / 16);
             digits[2 * i + 1] = digit_of(bytes[i] % 16);
         }
-        self.push(&digits[..2 * bytes.len()]);
+        self.push_front(&digits, 2 * count);
     }
 }
 
 /// The digit of half a byte.
+#[inline(always)]
 fn digit_of(half: u8) -> u8
     requires { half < 16 }
     ensures { result ≡ digit_glyph false half }

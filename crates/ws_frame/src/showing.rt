@@ -238,13 +238,7 @@ impl Run {
                 used,
             } => {
                 let shown = unmasked(header.key(), first);
-                push_line(
-                    &mut self.lines,
-                    self.source,
-                    self.offset,
-                    &header,
-                    shown.as_slice(),
-                );
+                push_line(&mut self.lines, self.source, self.offset, &header, &shown);
                 let place = self.taken + used as u64;
                 self.taken = place;
                 self.offset = place;

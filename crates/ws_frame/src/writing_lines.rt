@@ -32,7 +32,7 @@ pub(crate) fn put_line<W: Write>(
 {
     make_room(lines, writer)?;
     let shown = unmasked(header.key(), first);
-    push_line(lines, source, offset, &header, shown.as_slice());
+    push_line(lines, source, offset, &header, &shown);
     Ok(())
 }
 

@@ -25,7 +25,7 @@ returns-in-Whole-clause-shown c = λ taken written t.
     let self = c.args.self.now in
     let are : AreBytes (c.args.byte ∷ []) = one_byte c.args.byte (omega (arith, c.ranges.byte.fits)) in
     let (whole, kept) = c.in-Whole.ensures.taken t.so_far.rest (rest_are_bytes self.source taken self.offset self.partial _ t.so_far) t.so_far.is_kept in
-    let shown = c.as_slice.ensures.bytes ∙ c.unmasked-shown.ensures ∙ ap (λ k. masked_payload k c.in-Whole.first) c.key.ensures.value in
+    let shown = c.unmasked-shown.ensures ∙ ap (λ k. masked_payload k c.in-Whole.first) c.key.ensures.value in
     let due = sym (c.push_line.ensures.pushed ∙ ap (λ (t : List ℕ). self.lines ++ line_with self.source self.offset c.in-Whole.header t) shown) in
     let next = frame_of_byte self.source taken written self.lines c.push_line.new.room c.args.byte self.taken self.offset c.in-Whole.used self.partial c.take.new.self c.in-Whole.header c.in-Whole.first t.count t.so_far are
     c.in-Whole.ensures.used.0 c.in-Whole.ensures.used.1 whole kept due in
