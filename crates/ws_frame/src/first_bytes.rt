@@ -92,9 +92,19 @@ impl FirstBytes {
     pub(crate) fn unmask(&mut self, key: [u8; 4])
         ensures { self.new ≡ masked key 0 self.old }
     {
-        let masked = u8x16::from_array(self.bytes) ^ sixteen_lanes(key);
-        self.bytes = masked.to_array();
+        mask_sixteen(key, &mut self.bytes);
     }
+}
+
+/// Masks as many bytes as a vector has.
+#[inline(always)]
+fn mask_sixteen(key: [u8; 4], bytes: &mut [u8])
+    requires { length bytes.old ≡ 16 }
+    ensures masked { bytes.new ≡ masked key 0 bytes.old }
+    ensures len { length bytes.new ≡ 16 }
+{
+    let masked = u8x16::from_slice(bytes) ^ sixteen_lanes(key);
+    masked.copy_to_slice(bytes);
 }
 
 /// The bytes of a key over a vector.
@@ -103,5 +113,5 @@ fn sixteen_lanes(key: [u8; 4]) -> u8x16
     ensures len { length result ≡ 16 }
     ensures lanes { AreKeyLanes key 0 result }
 {
-    u8x4::from_array(key).swizzle([0, 1, 2, 3, 0, 1, 2, 3, 0, 1, 2, 3, 0, 1, 2, 3])
+    u8x4::from_slice(&key).swizzle([0, 1, 2, 3, 0, 1, 2, 3, 0, 1, 2, 3, 0, 1, 2, 3])
 }

@@ -105,17 +105,13 @@ fn push_kind(room: &mut Room, opcode: u8)
 
 /// Puts a masking key in hexadecimal, or a dash.
 fn push_key(room: &mut Room, key: Option<[u8; 4]>)
-    requires { length room.old + 32 ≤ 65536 }
+    requires { length room.old + 8 ≤ 65536 }
     ensures pushed { room.new ≡ room.old ++ key_word key }
     ensures len { length room.new ≤ length room.old + 8 }
 {
     match key {
         None => room.push(b"-"),
-        Some(key) => {
-            let mut block = [0; SHOWN];
-            block[..key.len()].copy_from_slice(&key);
-            room.push_hex(&block, key.len());
-        }
+        Some(key) => room.push_key(&key),
     }
 }
 

@@ -23,6 +23,7 @@ pub enum Mark {
 
 impl Mark {
     /// Puts the mark behind what stands in the room.
+    #[inline]
     pub(crate) fn push_to(self, room: &mut Room)
         requires { length room.old + 23 ≤ 65536 }
         ensures pushed { room.new ≡ room.old ++ mark_word self }
