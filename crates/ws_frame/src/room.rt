@@ -133,7 +133,8 @@ impl Room {
         self.push_front(&digits, 2 * count);
     }
 
-    /// Puts the digits of a masking key behind them, two a byte. So few are found sooner in a table than made in vectors.
+    /// Puts the digits of a masking key behind them, two a byte. So few are sooner found in a table than made in
+    /// vectors.
     #[inline(always)]
     pub(crate) fn push_key(&mut self, key: &[u8])
         requires whole { length key.now ≡ 4 }
