@@ -1,8 +1,8 @@
 -- The evidence of a direction, one turn or one piece more at a time.
-use Rattle.std.proofs.Common.{◌≡◌, ◌≢◌, ◌∙◌, ℕ, suc, ◌+◌, ◌-◌, ◌<◌, ◌≤◌, nat_le, Bool, true, false, if◌then◌else◌, List, [], ◌∷◌, ◌++◌, length, take, drop, reverse, flat_map, Option, Some, ap, sym, refl, subst, arith, append_assoc, append-nil}
+use Rattle.std.proofs.Common.{◌≡◌, ◌≢◌, ◌∙◌, ℕ, suc, ◌+◌, ◌-◌, ◌<◌, ◌≤◌, nat_le, Bool, true, false, if◌then◌else◌, List, [], ◌∷◌, ◌++◌, length, take, drop, flat_map, Option, Some, ap, sym, refl, subst, arith, append_assoc, append-nil}
 use Rattle.std.proofs.lemmas.Bool.Decides.{nat_tests}
 use Rattle.std.proofs.lemmas.Grind.{flat_map-append}
-use Rattle.std.proofs.lemmas.List.{length-append, map-append, reverse-append, take-append-drop, take-append-le, take_all}
+use Rattle.std.proofs.lemmas.List.{length-append, map-append, take-append-drop, take-append-le, take_all}
 use Rattle.std.proofs.Math.Seq.{take-append-add}
 use Rattle.std.specs.List.{concat, last_or}
 use Rattle.ws_wire.specs.declared.role.Role.{Role}
@@ -207,9 +207,3 @@ no_rest_is_there laws role before bytes events told some ends has places rest = 
     pick : (b : Bool) → nat_le (length before) rest.n ≡ b → ⊥
     pick true e = inside (grind (arith, nat_tests))
     pick false e = outside (grind (arith, nat_tests))
-
--- ---- events taken off the end of a reversed list
-
-pub popped_first : (later left : List PlacedEvent) (placed : PlacedEvent) → later ≡ left ++ placed ∷ [] → events_in (reverse later) ≡ placed.event ∷ events_in (reverse left)
-popped_first later left placed e =
-    ap (λ (l : List PlacedEvent). events_in (reverse l)) e ∙ ap (λ (l : List PlacedEvent). events_in l) (reverse-append left (placed ∷ []))

@@ -141,9 +141,7 @@ fn collect_events<K: KeepsReplies>(
 ) -> Result<(), NoMemory>
     ensures { OnOk result (AreCollected K.keeps way number (events_in events.items) collected.old collected.new) }
 {
-    let mut later = events;
-    later.reverse();
-    while let Some(placed) = later.pop() {
+    for placed in events {
         collect_event(way, number, placed.event, collected)?;
     }
     Ok(())
