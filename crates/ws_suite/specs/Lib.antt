@@ -13,3 +13,4 @@ pub mod InnerDoom
 pub mod InnerEchoReplyLaws
 pub mod InnerJudging
 pub mod InnerChosen
+pub mod InnerInStep

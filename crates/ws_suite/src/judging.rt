@@ -3,6 +3,7 @@
 mod chosen;
 mod fails;
 mod findings;
+mod in_step;
 mod looses;
 mod pongs;
 mod replies;

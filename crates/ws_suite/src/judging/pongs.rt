@@ -13,6 +13,8 @@ ghost use Rattle.ws_suite.specs.Verdicts.{is_before_match, is_unmatched};
 
 use crate::evidence::{Kept, is_same};
 use crate::judging::chosen::Chosen;
+use crate::judging::in_step::match_in_step;
+use crate::judging::replies::is_any;
 use std::alloc::Global;
 use std::collections::BTreeMap;
 use ws_base::NoMemory;
@@ -26,13 +28,34 @@ pub(super) struct Matched {
     pub is_unmatched: bool,
 }
 
-/// Matches the pongs from the front. Only a pong that has a match goes over those that are due, up to its match: so
-/// each due pong is passed once.
+/// Matches the pongs from the front: those that come in step, and then the others, if there are any.
 pub(super) fn match_pongs(
     alloc: Global,
     due: Chosen<'_>,
     got: Chosen<'_>,
 ) -> Result<Matched, NoMemory>
+    ensures early { IfOk result (λ matched.
+        matched.is_early ≡ list_any is_before_match (matches_of due.entry got.entry)) }
+    ensures unmatched { IfOk result (λ matched.
+        matched.is_unmatched ≡ list_any is_unmatched (matches_of due.entry got.entry)) }
+{
+    let passed = match_in_step(due, got);
+    if !is_any(passed.got.again()) {
+        return Ok(Matched {
+            is_early: passed.is_early,
+            is_unmatched: false,
+        });
+    }
+    let others = match_others(alloc, passed.due, passed.got)?;
+    Ok(Matched {
+        is_early: either(passed.is_early, others.is_early),
+        is_unmatched: others.is_unmatched,
+    })
+}
+
+/// Matches the pongs from the front. Only a pong that has a match goes over those that are due, up to its match: so
+/// each due pong is passed once.
+fn match_others(alloc: Global, due: Chosen<'_>, got: Chosen<'_>) -> Result<Matched, NoMemory>
     ensures early { IfOk result (λ matched.
         matched.is_early ≡ list_any is_before_match (matches_of due.entry got.entry)) }
     ensures unmatched { IfOk result (λ matched.
@@ -89,7 +112,7 @@ fn is_left<'a>(pong: &Kept<'a>, places: &LastPlaces<'a>, next: usize) -> bool
 }
 
 /// Whether one of the two holds.
-fn either(one: bool, other: bool) -> bool
+pub(super) fn either(one: bool, other: bool) -> bool
     ensures { result ≡ (one || other) }
 {
     one || other

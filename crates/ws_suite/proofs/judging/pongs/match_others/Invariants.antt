@@ -3,7 +3,7 @@ use Rattle.std.proofs.Common.{◌≡◌, ◌≤◌, ◌||◌, drop, length}
 use Rattle.std.specs.List.{list_any}
 use Rattle.ws_suite.specs.Matching.{matches_of}
 use Rattle.ws_suite.specs.Verdicts.{is_before_match, is_unmatched}
-use Rattle.ws_suite.proofs.judging.pongs.match_pongs.Given as goal
+use Rattle.ws_suite.proofs.judging.pongs.match_others.Given as goal
 
 -- what is known so far, or what is left, decides
 abbrev pub invariant-loop-next : goal.invariant-loop-next
