@@ -1,7 +1,7 @@
 -- Steps cut into turns, and bytes into pieces.
 use Rattle.std.proofs.Common.{◌≡◌, ◌∙◌, ℕ, zero, suc, ◌<◌, ◌≤◌, true, false, List, [], ◌∷◌, ◌++◌, length, take, drop, map, ap, sym, refl, subst, arith, append_assoc, append-nil, Option}
 use Rattle.std.proofs.lemmas.List.{take-append-drop}
-use Rattle.std.specs.List.{AllByRecursion, AllZip, concat, onto_first}
+use Rattle.std.specs.List.{AllByRecursion, AllZip, concat, flat_map, onto_first}
 use Rattle.ws_scripts.specs.declared.script.Step.{Step}
 use Rattle.ws_scripts.specs.declared.script.Step.TheVariants.{Frame, Raw, Wait}
 use Rattle.ws_scripts.specs.declared.script.Chop.TheVariants.{PerFrame, Whole}
@@ -35,6 +35,20 @@ last_turn (Raw bytes ∷ next ∷ acts) h some = ap (λ (l : List (List Step)). 
 pub cut_turns : (steps : List Step) (at : ℕ) (rest : List Step) → AllByRecursion IsAct (take at steps) → drop at steps ≡ Wait ∷ rest → turns_of steps ≡ take at steps ∷ turns_of rest
 cut_turns steps at rest h e =
     ap (λ (l : List Step). turns_of l) (sym (take-append-drop at steps) ∙ ap (λ (l : List Step). take at steps ++ l) e) ∙ turns_at_wait (take at steps) rest h
+
+-- the bytes of the turns one after the other are those of the steps: a Wait has none
+first_longer : (key : Option (List ℕ)) (step : Step) (turns : List (List Step)) → flat_map (turn_bytes key) (onto_first step turns) ≡ step_bytes key step ++ flat_map (turn_bytes key) turns
+first_longer key step [] = append-nil (step_bytes key step ++ [])
+first_longer key step (turn ∷ turns) = append_assoc (step_bytes key step) (turn_bytes key turn) (flat_map (turn_bytes key) turns)
+
+pub bytes_of_turns : (key : Option (List ℕ)) (steps : List Step) → turn_bytes key steps ≡ flat_map (turn_bytes key) (turns_of steps)
+bytes_of_turns key [] = refl
+bytes_of_turns key (Frame fin rsv opcode payload ∷ steps) =
+    let step = Frame fin rsv opcode payload in
+    ap (λ (l : List ℕ). step_bytes key step ++ l) (bytes_of_turns key steps) ∙ sym (first_longer key step (turns_of steps))
+bytes_of_turns key (Raw bytes ∷ steps) =
+    ap (λ (l : List ℕ). bytes ++ l) (bytes_of_turns key steps) ∙ sym (first_longer key (Raw bytes) (turns_of steps))
+bytes_of_turns key (Wait ∷ steps) = bytes_of_turns key steps
 
 -- ---- places side by side
 

@@ -1,6 +1,6 @@
 //! A script as what goes over the wire: turns, and the pieces of each (RFC 6455 section 5.2).
 
-ghost use Rattle.std.specs.Prelude.{◌≡◌, ◌+◌, ◌<◌, ◌≤◌, ◌++◌, [], ◌∷◌, IfOk, OnOk, length, take, drop};
+ghost use Rattle.std.specs.Prelude.{◌≡◌, ◌+◌, ◌<◌, ◌≤◌, ◌++◌, [], ◌∷◌, IfOk, OnOk, length, take, drop, flat_map};
 ghost use Rattle.std.specs.List.{AllByRecursion};
 ghost use Rattle.ws_scripts.specs.Scripts.{ArePieces, AreTurns, CanBeRun, CutsOff, FitHeaders, FitsAHeader};
 ghost use Rattle.ws_scripts.specs.Scripts.{IsAct, is_wait, step_bytes, turn_bytes, turns_of, without_empty};
@@ -45,6 +45,16 @@ pub fn turns_with(
         rest = after;
     }
     Ok(Sequence::from_vec(turns))
+}
+
+/// What is sent for steps in all, their frames masked with `key`, or plain where there is none: the bytes of their
+/// turns, one after the other.
+pub fn bytes_with(alloc: Global, steps: &[Step], key: Option<[u8; 4]>) -> Result<Vec<u8>, NoMemory>
+    requires { FitHeaders steps.now }
+    ensures { IfOk result (λ bytes. bytes.items ≡ flat_map (turn_bytes key) (turns_of steps.now)) }
+{
+    let sent = bytes_of(alloc, key, steps)?;
+    Ok(sent)
 }
 
 /// The steps up to the first `Wait`, and those after it.

@@ -18,7 +18,7 @@ pub use capture::{
     Capture, CaptureFault, read_capture, read_capture2, write_capture, write_capture2,
 };
 pub use cases::{case, ids};
-pub use cutting::{turns, turns_with};
+pub use cutting::{bytes_with, turns, turns_with};
 pub use script::{Case, Chop, Step};
 pub use script_text::{read_script, write_script};
 pub use transcript::{Ended, Transcript, Turn};

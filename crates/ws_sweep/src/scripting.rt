@@ -1,12 +1,9 @@
 //! The case of a short script.
 
-ghost use Rattle.std.specs.Prelude.{◌≡◌, ◌↔◌, ◌++◌, ◌∷◌, [], IfOk, IsTrue, List, OnOk};
-ghost use Rattle.std.specs.List.{concat};
-ghost use Rattle.ws_wire.specs.declared.role.Role.{Role};
+ghost use Rattle.std.specs.Prelude.{◌≡◌, ◌↔◌, ◌++◌, ◌∷◌, [], IfOk, IsTrue};
+ghost use Rattle.ws_session.specs.Sends.{most_limits};
 ghost use Rattle.ws_scripts.specs.declared.script.Chop.TheVariants.{Whole};
-ghost use Rattle.ws_scripts.specs.declared.transcript.Turn.{Turn};
 ghost use Rattle.ws_scripts.specs.Scripts.{CanBeRun, FitHeaders};
-ghost use Rattle.ws_suite.specs.Growing.{HasGrown, IsTallyOf, turn_with_sent};
 ghost use Rattle.ws_sweep.specs.Order.{ArePlaces};
 ghost use Rattle.ws_sweep.specs.ShortCases.{HasEnd, IsShortCase, bytes_sent, close_step, short_steps};
 
@@ -14,9 +11,11 @@ use crate::alphabet::{Sends, letter_at, step_of};
 use crate::lemmas::event_laws;
 use crate::short_script::ShortScript;
 use std::alloc::Global;
-use ws_base::{NoMemory, Payload, Sequence};
-use ws_suite::{Case, Chop, RunEvidence, Step, turns_with};
-use ws_wire::Role;
+use ws_base::{NoMemory, Sequence};
+use ws_scripts::bytes_with;
+use ws_session::{Limits, MAX_MESSAGE, Session};
+use ws_suite::{Case, Chop, Step};
+use ws_wire::{NO_KEY, Role};
 
 /// The name of a case that has none.
 const NO_NAME: &str = "-";
@@ -87,28 +86,35 @@ fn with_close(alloc: Global, case: Case) -> Result<Case, NoMemory>
     })
 }
 
-/// Whether what a case sends to an end of this role holds a close or a fault, as a run over a connection asks it.
+/// Whether what a case sends to an end of this role holds a close or a fault.
 fn has_end(alloc: Global, tested: Role, key: Option<[u8; 4]>, case: &Case) -> Result<bool, NoMemory>
     requires { CanBeRun case.now }
     ensures { IfOk result (λ ends. IsTrue ends ↔ HasEnd tested (bytes_sent case.now.steps key)) }
 {
-    event_laws();
-    let turns = turns_with(alloc, case, key)?;
-    let mut evidence: RunEvidence = RunEvidence::new(alloc, tested);
-    evidence.begin_turn();
-    for pieces in turns.as_slice() {
-        send(pieces.as_slice(), &mut evidence)?;
-    }
-    Ok(evidence.has_sent_end())
+    let bytes = bytes_with(alloc, case.steps.as_slice(), key)?;
+    let ends = is_over_after(alloc, tested, &bytes)?;
+    Ok(ends)
 }
 
-/// The pieces were sent.
-fn send(pieces: &[Payload], evidence: &mut RunEvidence) -> Result<(), NoMemory>
-    ensures { (tested : Role) (turn : Turn) → HasGrown IsTallyOf tested (turn ∷ []) evidence.old →
-        OnOk result (HasGrown IsTallyOf tested (turn_with_sent turn (concat pieces.now) ∷ []) evidence.new) }
+/// Whether a session of this role that has taken these bytes is over, as it is by a close or a fault alone. What it
+/// tells of them before that isn't asked.
+fn is_over_after(alloc: Global, tested: Role, bytes: &[u8]) -> Result<bool, NoMemory>
+    ensures { IfOk result (λ ends. IsTrue ends ↔ HasEnd tested bytes.now) }
 {
-    for piece in pieces {
-        evidence.on_sent(piece.as_slice())?;
+    event_laws();
+    let mut session = Session::new(alloc, tested, most());
+    let mut out = Vec::new(alloc);
+    let mut events = Vec::new(alloc);
+    session.take_all(bytes, NO_KEY, &mut out, &mut events)?;
+    Ok(session.status().is_over())
+}
+
+/// The largest limits.
+fn most() -> Limits
+    ensures { result ≡ most_limits }
+{
+    match Limits::new(MAX_MESSAGE) {
+        Some(limits) => limits,
+        None => unreachable!(),
     }
-    Ok(())
 }
