@@ -3,8 +3,7 @@
 use crate::chance::Chance;
 use crate::frames::{Frames, Mix, Part};
 use crate::pool::Writing;
-use anyhow::Result;
-use std::alloc::Global;
+use std::alloc::{AllocError, Global};
 
 /// What a tester sent: masked, as digits.
 const SENT: Writing = Writing {
@@ -44,7 +43,7 @@ pub fn capture(
     (format, echo): (Format, Echo),
     size: usize,
     chance: &mut Chance,
-) -> Result<Vec<u8>> {
+) -> Result<Vec<u8>, AllocError> {
     let mut text = begun(alloc, frames, format)?;
     let (mut sent, mut got) = (Vec::new(alloc), Vec::new(alloc));
     for _ in 0..size {
@@ -68,7 +67,7 @@ fn put_exchange(
     sent: &mut Vec<u8>,
     got: &mut Vec<u8>,
     chance: &mut Chance,
-) -> Result<()> {
+) -> Result<(), AllocError> {
     let count = if chance.below(20) == 0 {
         1 + chance.below(MANY)
     } else {
@@ -91,7 +90,7 @@ pub fn late_pongs(
     frames: &Frames,
     count: usize,
     chance: &mut Chance,
-) -> Result<Vec<u8>> {
+) -> Result<Vec<u8>, AllocError> {
     let mut text = begun(alloc, frames, Format::Two)?;
     let mut late: Vec<Part> = Vec::new(alloc);
     let mut left = count;
@@ -123,7 +122,7 @@ pub fn late_pongs(
 }
 
 /// The first lines of a capture.
-fn begun(alloc: Global, frames: &Frames, format: Format) -> Result<Vec<u8>> {
+fn begun(alloc: Global, frames: &Frames, format: Format) -> Result<Vec<u8>, AllocError> {
     let mut text = Vec::new(alloc);
     match format {
         Format::One => text.extend_from_slice(b"wst-capture 1\n")?,
@@ -137,7 +136,7 @@ fn begun(alloc: Global, frames: &Frames, format: Format) -> Result<Vec<u8>> {
 }
 
 /// Puts the lines of a turn.
-fn put_turn(format: Format, sent: &[u8], got: &[u8], text: &mut Vec<u8>) -> Result<()> {
+fn put_turn(format: Format, sent: &[u8], got: &[u8], text: &mut Vec<u8>) -> Result<(), AllocError> {
     if let Format::Two = format {
         text.extend_from_slice(b"turn\n")?;
     }
@@ -146,7 +145,7 @@ fn put_turn(format: Format, sent: &[u8], got: &[u8], text: &mut Vec<u8>) -> Resu
 }
 
 /// Puts a line of digits, if there are any.
-fn put_line(front: &[u8], digits: &[u8], text: &mut Vec<u8>) -> Result<()> {
+fn put_line(front: &[u8], digits: &[u8], text: &mut Vec<u8>) -> Result<(), AllocError> {
     if digits.is_empty() {
         return Ok(());
     }
@@ -157,7 +156,12 @@ fn put_line(front: &[u8], digits: &[u8], text: &mut Vec<u8>) -> Result<()> {
 }
 
 /// Puts a turn with a close frame and its answer, and the end.
-fn end(alloc: Global, frames: &Frames, format: Format, text: &mut Vec<u8>) -> Result<()> {
+fn end(
+    alloc: Global,
+    frames: &Frames,
+    format: Format,
+    text: &mut Vec<u8>,
+) -> Result<(), AllocError> {
     let (mut sent, mut got) = (Vec::new(alloc), Vec::new(alloc));
     frames.put_close(SENT, &mut sent)?;
     frames.put_close(GOT, &mut got)?;

@@ -43,14 +43,11 @@ impl Digest {
 
     /// Takes bytes where no word is under way.
     fn add_words(&mut self, bytes: &[u8]) {
-        for chunk in bytes.chunks(8) {
-            match chunk {
-                [a, b, c, d, e, f, g, h] => {
-                    self.add_word(u64::from_be_bytes([*a, *b, *c, *d, *e, *f, *g, *h]));
-                }
-                _ => self.add_bytes(chunk),
-            }
+        let (words, rest) = bytes.as_chunks::<8>();
+        for word in words {
+            self.add_word(u64::from_be_bytes(*word));
         }
+        self.add_bytes(rest);
     }
 
     /// Takes bytes one by one.

@@ -4,7 +4,7 @@ use crate::chance::Chance;
 use crate::digest::Digest;
 use crate::frames::{Frames, Mix};
 use crate::pool::Writing;
-use anyhow::{Context, Result, bail};
+use anyhow::{Context, Result};
 use std::alloc::Global;
 use std::fmt::Write;
 use ws_session::{Event, Limits, Session};
@@ -21,6 +21,9 @@ const BLOCK: usize = 65_536;
 
 /// The largest message that is taken.
 const LIMIT: u32 = 1_048_576;
+
+/// What is told where the server stops before the stream's end.
+const STOPPED: &str = "the server has no memory, or the stream breaks a rule";
 
 /// How many bytes a piece has.
 #[derive(Clone, Copy)]
@@ -64,11 +67,15 @@ pub fn serve(
             frames.put_cut(&frames.part(mix, chance), STREAM, chance, &mut block)?;
         }
         left = left.saturating_sub(block.len());
-        server.take_block(block.as_slice(), pieces, chance, &mut digest)?;
+        server
+            .take_block(block.as_slice(), pieces, chance, &mut digest)
+            .context(STOPPED)?;
     }
     block.clear();
     frames.put_close(STREAM, &mut block)?;
-    server.take_block(block.as_slice(), pieces, chance, &mut digest)?;
+    server
+        .take_block(block.as_slice(), pieces, chance, &mut digest)
+        .context(STOPPED)?;
     write!(results, " {} {digest}", server.session.status())?;
     Ok(())
 }
@@ -82,14 +89,14 @@ struct Server {
 }
 
 impl Server {
-    /// Takes a block in pieces.
+    /// Takes a block in pieces; nothing where memory ran out or the stream breaks a rule.
     fn take_block(
         &mut self,
         block: &[u8],
         pieces: Pieces,
         chance: &mut Chance,
         digest: &mut Digest,
-    ) -> Result<()> {
+    ) -> Option<()> {
         let mut rest = block;
         for _ in 0..block.len() {
             if rest.is_empty() {
@@ -104,30 +111,32 @@ impl Server {
             self.take_piece(piece, digest)?;
             rest = after;
         }
-        Ok(())
+        Some(())
     }
 
     /// Takes a whole piece. What it has the server write goes to the digest.
-    fn take_piece(&mut self, piece: &[u8], digest: &mut Digest) -> Result<()> {
+    fn take_piece(&mut self, piece: &[u8], digest: &mut Digest) -> Option<()> {
         let mut rest = piece;
         // A call uses at least one byte where there is one.
         for _ in 0..piece.len() {
             if rest.is_empty() {
                 break;
             }
-            let taken = self.session.take(rest, NO_KEY, &mut self.replies)?;
+            let taken = self.session.take(rest, NO_KEY, &mut self.replies).ok()?;
             rest = &rest[taken.used..];
-            if let Some(event) = taken.event {
+            if let Some(event) = &taken.event {
                 self.on_event(event, digest)?;
             }
         }
-        digest.add(self.replies.as_slice());
-        self.replies.clear();
-        Ok(())
+        if !self.replies.is_empty() {
+            digest.add(self.replies.as_slice());
+            self.replies.clear();
+        }
+        Some(())
     }
 
-    /// Takes an event out, and answers each eighth message.
-    fn on_event(&mut self, event: Event, digest: &mut Digest) -> Result<()> {
+    /// Takes what an event holds, and answers each eighth message.
+    fn on_event(&mut self, event: &Event, digest: &mut Digest) -> Option<()> {
         match event {
             Event::Message(message) => {
                 digest.add(message.payload.as_slice());
@@ -135,14 +144,15 @@ impl Server {
                 if self.messages % 8 == 0 {
                     let (kind, payload) = (message.kind, message.payload.as_slice());
                     self.session
-                        .begin(kind, payload, true, NO_KEY, &mut self.replies)?;
+                        .begin(kind, payload, true, NO_KEY, &mut self.replies)
+                        .ok()?;
                 }
             }
             Event::Ping(payload) | Event::Pong(payload) => digest.add(payload.as_slice()),
             Event::Part => digest.add(b"part"),
             Event::Close(_) => digest.add(b"close"),
-            Event::Failed(reason) => bail!("the stream breaks a rule: {reason}"),
+            Event::Failed(_) => return None,
         }
-        Ok(())
+        Some(())
     }
 }

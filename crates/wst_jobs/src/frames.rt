@@ -2,8 +2,7 @@
 
 use crate::chance::Chance;
 use crate::pool::{Fill, Pool, Writing, push_digits};
-use anyhow::Result;
-use std::alloc::Global;
+use std::alloc::{AllocError, Global};
 
 const CONTINUATION: u8 = 0x00;
 
@@ -57,7 +56,7 @@ pub enum Mix {
 
 impl Frames {
     /// Frames with texts of these letters.
-    pub fn new(alloc: Global, letters: Fill, chance: &mut Chance) -> Result<Frames> {
+    pub fn new(alloc: Global, letters: Fill, chance: &mut Chance) -> Result<Frames, AllocError> {
         let key = chance.key();
         Ok(Frames {
             key,
@@ -131,7 +130,7 @@ impl Frames {
     }
 
     /// Puts the frame of a part.
-    pub fn put(&self, part: &Part, writing: Writing, out: &mut Vec<u8>) -> Result<()> {
+    pub fn put(&self, part: &Part, writing: Writing, out: &mut Vec<u8>) -> Result<(), AllocError> {
         self.put_header(part.first, part.len, writing, out)?;
         let pool = if part.is_text {
             &self.text
@@ -148,7 +147,7 @@ impl Frames {
         writing: Writing,
         chance: &mut Chance,
         out: &mut Vec<u8>,
-    ) -> Result<Option<Part>> {
+    ) -> Result<Option<Part>, AllocError> {
         let is_control = part.first & 0x0f >= CLOSE;
         if is_control || part.len < 24 || chance.below(10) > 0 {
             self.put(part, writing, out)?;
@@ -174,7 +173,12 @@ impl Frames {
     }
 
     /// Puts what an echo answers to a part: a pong to a ping, nothing to a pong, and else the same message.
-    pub fn put_answer(&self, part: &Part, writing: Writing, out: &mut Vec<u8>) -> Result<()> {
+    pub fn put_answer(
+        &self,
+        part: &Part,
+        writing: Writing,
+        out: &mut Vec<u8>,
+    ) -> Result<(), AllocError> {
         if part.first == FIN | PONG {
             return Ok(());
         }
@@ -187,7 +191,7 @@ impl Frames {
     }
 
     /// Puts a close frame with the code 1000.
-    pub fn put_close(&self, writing: Writing, out: &mut Vec<u8>) -> Result<()> {
+    pub fn put_close(&self, writing: Writing, out: &mut Vec<u8>) -> Result<(), AllocError> {
         self.put_header(FIN | CLOSE, 2, writing, out)?;
         let code: [u8; 2] = [0x03, 0xe8];
         let [a, b, ..] = self.key;
@@ -200,22 +204,26 @@ impl Frames {
     }
 
     /// Puts a header with the shortest form of a length below 65,536.
-    fn put_header(&self, first: u8, len: usize, writing: Writing, out: &mut Vec<u8>) -> Result<()> {
-        let mask = if writing.masked { 0x80 } else { 0 };
-        if len < 126 {
-            put_bytes(&[first, mask | len as u8], writing.digits, out)?;
-        } else {
-            let (high, low) = ((len / 256 % 256) as u8, (len % 256) as u8);
-            put_bytes(&[first, mask | 126, high, low], writing.digits, out)?;
+    fn put_header(
+        &self,
+        first: u8,
+        len: usize,
+        writing: Writing,
+        out: &mut Vec<u8>,
+    ) -> Result<(), AllocError> {
+        let (high, low) = ((len / 256 % 256) as u8, (len % 256) as u8);
+        let [a, b, c, d] = self.key;
+        let digits = writing.digits;
+        match (writing.masked, len < 126) {
+            (false, true) => put_bytes(&[first, low], digits, out),
+            (false, false) => put_bytes(&[first, 126, high, low], digits, out),
+            (true, true) => put_bytes(&[first, 0x80 | low, a, b, c, d], digits, out),
+            (true, false) => put_bytes(&[first, 0x80 | 126, high, low, a, b, c, d], digits, out),
         }
-        if writing.masked {
-            put_bytes(&self.key, writing.digits, out)?;
-        }
-        Ok(())
     }
 
     /// The payload of a part as digits, or a dash for none.
-    pub fn put_payload(&self, part: &Part, out: &mut Vec<u8>) -> Result<()> {
+    pub fn put_payload(&self, part: &Part, out: &mut Vec<u8>) -> Result<(), AllocError> {
         if part.len == 0 {
             out.push(b'-')?;
             return Ok(());
@@ -233,7 +241,7 @@ impl Frames {
     }
 
     /// The masking key as digits.
-    pub fn put_key(&self, out: &mut Vec<u8>) -> Result<()> {
+    pub fn put_key(&self, out: &mut Vec<u8>) -> Result<(), AllocError> {
         push_digits(out, &self.key)
     }
 }
@@ -256,7 +264,7 @@ impl Part {
 }
 
 /// Puts bytes, as they are or as digits.
-fn put_bytes(bytes: &[u8], digits: bool, out: &mut Vec<u8>) -> Result<()> {
+fn put_bytes(bytes: &[u8], digits: bool, out: &mut Vec<u8>) -> Result<(), AllocError> {
     if digits {
         return push_digits(out, bytes);
     }

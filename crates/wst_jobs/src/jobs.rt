@@ -10,7 +10,7 @@ use crate::input::{Text, run_wst};
 use crate::pool::Fill;
 use crate::scripts::{Cut, calls, moves, steps};
 use anyhow::Result;
-use std::alloc::Global;
+use std::alloc::{AllocError, Global};
 use std::io::{self, ErrorKind, Read};
 use std::net::Net;
 
@@ -218,7 +218,7 @@ const BLOCK: usize = 262_144;
 
 impl Stream {
     /// Makes the next block, or none at the end.
-    fn make(&mut self) -> Result<()> {
+    fn make(&mut self) -> Result<(), AllocError> {
         self.block.clear();
         self.given = 0;
         for _ in 0..BLOCK {

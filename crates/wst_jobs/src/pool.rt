@@ -1,8 +1,7 @@
 //! Payloads from a pool, as bytes and as digits, plain and under one masking key.
 
 use crate::chance::Chance;
-use anyhow::{Context, Result};
-use std::alloc::Global;
+use std::alloc::{AllocError, Global};
 
 /// The bytes of a pool, a multiple of 12.
 const POOL: usize = 196_608;
@@ -38,7 +37,12 @@ pub struct Writing {
 
 impl Pool {
     /// A pool under a masking key.
-    pub fn new(alloc: Global, fill: Fill, key: [u8; 4], chance: &mut Chance) -> Result<Pool> {
+    pub fn new(
+        alloc: Global,
+        fill: Fill,
+        key: [u8; 4],
+        chance: &mut Chance,
+    ) -> Result<Pool, AllocError> {
         let mut pool = Pool {
             plain: fill.bytes(alloc, chance)?,
             masked: Vec::new(alloc),
@@ -54,7 +58,13 @@ impl Pool {
     }
 
     /// Puts the payload of so many bytes at a place, a multiple of 4, behind others.
-    pub fn put(&self, place: usize, len: usize, writing: Writing, out: &mut Vec<u8>) -> Result<()> {
+    pub fn put(
+        &self,
+        place: usize,
+        len: usize,
+        writing: Writing,
+        out: &mut Vec<u8>,
+    ) -> Result<(), AllocError> {
         let (bytes, width) = match (writing.masked, writing.digits) {
             (false, false) => (&self.plain, 1),
             (true, false) => (&self.masked, 1),
@@ -63,7 +73,7 @@ impl Pool {
         };
         let begin = place.saturating_mul(width);
         let end = begin.saturating_add(len.saturating_mul(width));
-        let payload = bytes.as_slice().get(begin..end).context("no such payload")?;
+        let payload = bytes.as_slice().get(begin..end).unwrap_or(&[]);
         out.extend_from_slice(payload)?;
         Ok(())
     }
@@ -71,7 +81,7 @@ impl Pool {
 
 impl Fill {
     /// The bytes of a pool.
-    fn bytes(self, alloc: Global, chance: &mut Chance) -> Result<Vec<u8>> {
+    fn bytes(self, alloc: Global, chance: &mut Chance) -> Result<Vec<u8>, AllocError> {
         let mut bytes = Vec::new(alloc);
         for place in 0..POOL / 3 {
             let letters = match self {
@@ -107,7 +117,7 @@ fn space_at(place: usize) -> u8 {
 static DIGITS: [u8; 16] = *b"0123456789abcdef";
 
 /// Puts the digits of bytes behind others.
-pub fn push_digits(out: &mut Vec<u8>, bytes: &[u8]) -> Result<()> {
+pub fn push_digits(out: &mut Vec<u8>, bytes: &[u8]) -> Result<(), AllocError> {
     for byte in bytes {
         out.push(DIGITS[(*byte / 16) as usize])?;
         out.push(DIGITS[(*byte % 16) as usize])?;

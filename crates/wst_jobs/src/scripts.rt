@@ -3,8 +3,7 @@
 use crate::chance::Chance;
 use crate::frames::{Frames, Mix, Part};
 use crate::pool::Writing;
-use anyhow::{Context, Result};
-use std::alloc::Global;
+use std::alloc::{AllocError, Global};
 
 /// What a client sent, as digits.
 const CLIENTS: Writing = Writing {
@@ -29,7 +28,7 @@ pub fn calls(
     mix: Mix,
     (size, cut, sends): (usize, Cut, bool),
     chance: &mut Chance,
-) -> Result<Vec<u8>> {
+) -> Result<Vec<u8>, AllocError> {
     let mut stream = Vec::new(alloc);
     for _ in 0..size {
         if stream.len() / 2 >= size {
@@ -63,7 +62,12 @@ pub fn calls(
 }
 
 /// Puts the line of a send: of an end, whose word is given with a space behind it, or of the only end.
-fn put_send(frames: &Frames, part: &Part, end: &[u8], text: &mut Vec<u8>) -> Result<()> {
+fn put_send(
+    frames: &Frames,
+    part: &Part,
+    end: &[u8],
+    text: &mut Vec<u8>,
+) -> Result<(), AllocError> {
     if part.is_message() {
         text.extend_from_slice(b"begin ")?;
         text.extend_from_slice(end)?;
@@ -88,7 +92,7 @@ pub fn moves(
     mix: Mix,
     size: usize,
     chance: &mut Chance,
-) -> Result<Vec<u8>> {
+) -> Result<Vec<u8>, AllocError> {
     let mut text = Vec::new(alloc);
     for _ in 0..size {
         if text.len() >= size {
@@ -113,7 +117,12 @@ pub fn moves(
 }
 
 /// Puts the line of an arrival of so many bytes.
-fn put_arrival(frames: &Frames, end: &[u8], count: usize, text: &mut Vec<u8>) -> Result<()> {
+fn put_arrival(
+    frames: &Frames,
+    end: &[u8],
+    count: usize,
+    text: &mut Vec<u8>,
+) -> Result<(), AllocError> {
     text.extend_from_slice(b"arrive ")?;
     text.extend_from_slice(end)?;
     put_number(count, text)?;
@@ -124,7 +133,7 @@ fn put_arrival(frames: &Frames, end: &[u8], count: usize, text: &mut Vec<u8>) ->
 }
 
 /// Puts a number in decimal digits.
-fn put_number(number: usize, text: &mut Vec<u8>) -> Result<()> {
+fn put_number(number: usize, text: &mut Vec<u8>) -> Result<(), AllocError> {
     let mut digits = [b'0'; 10];
     let mut left = number;
     let mut begin = digits.len();
@@ -135,7 +144,7 @@ fn put_number(number: usize, text: &mut Vec<u8>) -> Result<()> {
             begin = place;
         }
     }
-    text.extend_from_slice(digits.get(begin..).context("a number has a digit")?)?;
+    text.extend_from_slice(digits.get(begin..).unwrap_or(&digits))?;
     Ok(())
 }
 
@@ -146,7 +155,7 @@ pub fn steps(
     mix: Mix,
     size: usize,
     chance: &mut Chance,
-) -> Result<Vec<u8>> {
+) -> Result<Vec<u8>, AllocError> {
     let mut text = Vec::new(alloc);
     for _ in 0..size {
         if text.len() >= size {
