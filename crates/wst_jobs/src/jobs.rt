@@ -74,7 +74,13 @@ impl Job {
         let mut results = String::new(alloc);
         match self {
             Job::Captures => captures(alloc, net, part, &mut chance, &mut results)?,
-            Job::Scripts => scripts(alloc, net, part, &mut chance, &mut results)?,
+            Job::Scripts => {
+                // So often that it takes about half a second.
+                let rounds = if part == 1 { 3 } else { 1 };
+                for _ in 0..rounds {
+                    scripts(alloc, net, part, &mut chance, &mut results)?;
+                }
+            }
             Job::Show => {
                 let frames = Frames::new(alloc, Fill::Ascii, &mut chance)?;
                 show(
