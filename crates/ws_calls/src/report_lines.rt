@@ -11,7 +11,7 @@ use crate::report::CallAnswer;
 use std::alloc::Global;
 use std::fmt;
 use ws_base::NoMemory;
-use ws_formats::Hex;
+use ws_formats::HexBlocks;
 use ws_session::{Event, PlacedEvent, Status};
 
 /// Tells what came of a call, after the lines that stand there. Each line ends with LF.
@@ -91,7 +91,7 @@ impl fmt::Display for AnswerLines<'_> {
 
     fn fmt<W: fmt::Write>(&self, f: &mut fmt::Formatter<W>) -> fmt::Result {
         match self.answer {
-            CallAnswer::Sent(put) => writeln!(f, "sent {}", Hex(put.as_slice())),
+            CallAnswer::Sent(put) => writeln!(f, "sent {}", HexBlocks(put.as_slice())),
             CallAnswer::Refused(fault) => writeln!(f, "refused {fault}"),
             CallAnswer::Taken { events, len, put } => {
                 for placed in events.as_slice() {
@@ -101,7 +101,7 @@ impl fmt::Display for AnswerLines<'_> {
                     };
                     write!(f, "{line}")?;
                 }
-                writeln!(f, "taken {len} put {}", Hex(put.as_slice()))
+                writeln!(f, "taken {len} put {}", HexBlocks(put.as_slice()))
             }
             CallAnswer::Ended => writeln!(f, "ended"),
         }
@@ -137,13 +137,18 @@ impl fmt::Display for EventWords<'_> {
         match self.event {
             Event::Part => write!(f, "part"),
             Event::Message(message) => {
-                write!(f, "{} {}", message.kind, Hex(message.payload.as_slice()))
+                write!(
+                    f,
+                    "{} {}",
+                    message.kind,
+                    HexBlocks(message.payload.as_slice())
+                )
             }
-            Event::Ping(payload) => write!(f, "ping {}", Hex(payload.as_slice())),
-            Event::Pong(payload) => write!(f, "pong {}", Hex(payload.as_slice())),
+            Event::Ping(payload) => write!(f, "ping {}", HexBlocks(payload.as_slice())),
+            Event::Pong(payload) => write!(f, "pong {}", HexBlocks(payload.as_slice())),
             Event::Close(Some(close)) => {
                 let reason = close.reason().as_bytes();
-                write!(f, "close {} {}", close.code(), Hex(reason))
+                write!(f, "close {} {}", close.code(), HexBlocks(reason))
             }
             Event::Close(None) => write!(f, "close none"),
             Event::Failed(reason) => write!(f, "failed {reason}"),

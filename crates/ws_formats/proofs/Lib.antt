@@ -1,7 +1,7 @@
 -- The lemmas behind words and lines: a word tells one value, a line is its words, and a text is damaged at one line.
 pub mod PassedUp
 pub mod HexWords
-pub mod HexBlocks
+pub mod HexByBlocks
 pub mod HexReads
 pub mod NumberWords
 pub mod DamagedLines

@@ -1,7 +1,7 @@
 //! Bytes and masking keys in lower-case hexadecimal, two digits a byte.
 
-ghost use Rattle.std.specs.Prelude.{◌≡◌, ◌↔◌, ◌*◌, ◌≤◌, ◌<◌, IsTrue, Some, false, length};
-ghost use Rattle.std.specs.Fmt.{WritesOnOk, digit_glyph};
+ghost use Rattle.std.specs.Prelude.{◌≡◌, ◌↔◌, ◌*◌, ◌<◌, IsTrue, Some, false, length};
+ghost use Rattle.std.specs.Fmt.{digit_glyph};
 ghost use Rattle.ws_formats.specs.Words.{IsHexWord, IsKeyOrDash, IsKeyWord, hex, hex_word};
 ghost use Rattle.ws_formats.specs.Reading.{AreDigits, ArePairs, IsDigit, IsPair, Reads};
 ghost use Rattle.ws_base.specs.Finding.{Finds};
@@ -13,7 +13,7 @@ use ws_base::{LineFault, Payload};
 /// The key that a dash stands for.
 const KEY_OF_A_DASH: [u8; 4] = [0; 4];
 
-/// How many bytes are written as digits at once.
+/// How many digits are looked at at once.
 const BLOCK: usize = 64;
 
 /// Bytes as two digits each.
@@ -24,41 +24,10 @@ impl fmt::Display for HexDigits<'_> {
     ghost output = { λ bytes. Some (hex bytes.0.now) };
 
     fn fmt<W: fmt::Write>(&self, f: &mut fmt::Formatter<W>) -> fmt::Result {
-        let bytes = self.0;
-        let mut at = 0;
-        while at < bytes.len() {
-            let end = at + (bytes.len() - at).min(BLOCK);
-            write_block(f, &bytes[at..end])?;
-            at = end;
+        for byte in self.0 {
+            write!(f, "{:x}{:x}", byte / 16, byte % 16)?;
         }
         Ok(())
-    }
-}
-
-/// Writes the digits of a few bytes at once.
-fn write_block<W: fmt::Write>(f: &mut fmt::Formatter<W>, bytes: &[u8]) -> fmt::Result
-    requires { length bytes.now ≤ 64 }
-    ensures { WritesOnOk W.write_str_gives f.old result (hex bytes.now) f.new }
-{
-    let mut digits = [0; 2 * BLOCK];
-    'bytes: for i in 0..bytes.len() {
-        digits[2 * i] = digit_of(bytes[i] / 16);
-        digits[2 * i + 1] = digit_of(bytes[i] % 16);
-    }
-    // The digits are ASCII, so they need no check.
-    let text = unsafe { str::from_utf8_unchecked(&digits[..2 * bytes.len()]) };
-    f.write_str(text)
-}
-
-/// The digit of half a byte.
-fn digit_of(half: u8) -> u8
-    requires { half < 16 }
-    ensures { result ≡ digit_glyph false half }
-{
-    if half < 10 {
-        b'0' + half
-    } else {
-        b'a' - 10 + half
     }
 }
 

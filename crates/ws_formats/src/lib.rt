@@ -7,6 +7,7 @@
 #![tactic(auto)]
 
 mod closing;
+mod hex_blocks;
 mod hexadecimal;
 pub mod laws;
 mod lines;
@@ -14,6 +15,7 @@ mod numbers;
 mod words;
 
 pub use closing::read_close;
+pub use hex_blocks::{HexBlocks, HexDigitBlocks};
 pub use hexadecimal::{Hex, HexDigits, read_hex, read_key, read_key_or_dash};
 pub use lines::{Line, PartialText, cut_line, read_by_lines, read_lines};
 pub use numbers::{read_u16, read_u32};

@@ -10,7 +10,7 @@ use crate::report::{Answer, EndReport, Report};
 use std::alloc::Global;
 use std::fmt;
 use ws_base::NoMemory;
-use ws_formats::Hex;
+use ws_formats::HexBlocks;
 use ws_session::Message;
 
 /// The lines of a report: one for each move, then those of the client and those of the server. Each ends with LF.
@@ -74,7 +74,7 @@ impl fmt::Display for EndLines<'_> {
 
     fn fmt<W: fmt::Write>(&self, f: &mut fmt::Formatter<W>) -> fmt::Result {
         let side = self.side;
-        writeln!(f, "{side} put {}", Hex(self.end.put.as_slice()))?;
+        writeln!(f, "{side} put {}", HexBlocks(self.end.put.as_slice()))?;
         writeln!(f, "{side} reached {}", self.end.reached)?;
         for message in &self.end.delivered {
             write!(f, "{}", MessageLine { side, message })?;
@@ -94,7 +94,7 @@ impl fmt::Display for MessageLine<'_> {
     ghost output = { λ line. Some (printed_message line) };
 
     fn fmt<W: fmt::Write>(&self, f: &mut fmt::Formatter<W>) -> fmt::Result {
-        let payload = Hex(self.message.payload.as_slice());
+        let payload = HexBlocks(self.message.payload.as_slice());
         writeln!(f, "{} got {} {}", self.side, self.message.kind, payload)
     }
 }

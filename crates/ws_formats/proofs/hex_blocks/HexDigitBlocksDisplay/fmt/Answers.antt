@@ -2,8 +2,8 @@
 use Rattle.std.proofs.Common.{rules, ◌≡◌, ℕ, ◌+◌, ◌-◌, ◌++◌, ◌∙◌, ap, arith, drop, sym, take}
 use Rattle.std.proofs.lemmas.Grind.{put_two}
 use Rattle.ws_formats.specs.Words.{hex}
-use Rattle.ws_formats.proofs.HexBlocks.{hex_more}
-use Rattle.ws_formats.proofs.hexadecimal.HexDigitsDisplay.fmt.Goals as goal
+use Rattle.ws_formats.proofs.HexByBlocks.{hex_more}
+use Rattle.ws_formats.proofs.hex_blocks.HexDigitBlocksDisplay.fmt.Goals as goal
 
 pub loop-at-preserved : goal.loop-at-preserved
 loop-at-preserved g c =

@@ -1,7 +1,7 @@
 -- Byte after byte: the digits of the bytes so far stand at the front.
 use Rattle.std.proofs.Common.{◌≡◌, ◌*◌, length, take}
 use Rattle.ws_formats.specs.Words.{hex}
-use Rattle.ws_formats.proofs.hexadecimal.write_block.Given as goal
+use Rattle.ws_formats.proofs.hex_blocks.write_block.Given as goal
 
 -- the digits of the bytes so far stand at the front
 abbrev pub invariant-bytes : goal.invariant-bytes

@@ -4,8 +4,8 @@ use Rattle.std.proofs.lemmas.List.{length-set, take_all}
 use Rattle.std.proofs.lemmas.Str.{IsUtf8-from_ascii}
 use Rattle.std.specs.Str.{IsUtf8}
 use Rattle.ws_formats.specs.Words.{hex}
-use Rattle.ws_formats.proofs.HexBlocks.{digits_more, hex_ascii, two_more}
-use Rattle.ws_formats.proofs.hexadecimal.write_block.Goals as goal
+use Rattle.ws_formats.proofs.HexByBlocks.{digits_more, hex_ascii, two_more}
+use Rattle.ws_formats.proofs.hex_blocks.write_block.Goals as goal
 
 pub bytes-preserved : goal.bytes-preserved
 bytes-preserved g c =
