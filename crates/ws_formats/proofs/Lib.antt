@@ -2,6 +2,7 @@
 pub mod PassedUp
 pub mod HexWords
 pub mod HexByBlocks
+pub mod HexLanes
 pub mod HexReads
 pub mod NumberWords
 pub mod DamagedLines

@@ -1,6 +1,6 @@
 //! Bytes and masking keys in lower-case hexadecimal, two digits a byte.
 
-ghost use Rattle.std.specs.Prelude.{◌≡◌, ◌↔◌, ◌*◌, ◌<◌, IsTrue, Some, false, length};
+ghost use Rattle.std.specs.Prelude.{◌≡◌, ◌↔◌, ℕ, ◌+◌, ◌*◌, ◌≤◌, ◌<◌, IsTrue, Some, false, length, slice_index};
 ghost use Rattle.std.specs.Fmt.{digit_glyph};
 ghost use Rattle.ws_formats.specs.Words.{IsHexWord, IsKeyOrDash, IsKeyWord, hex, hex_word};
 ghost use Rattle.ws_formats.specs.Reading.{AreDigits, ArePairs, IsDigit, IsPair, Reads};
@@ -8,13 +8,27 @@ ghost use Rattle.ws_base.specs.Finding.{Finds};
 
 use std::alloc::Global;
 use std::fmt;
+use std::simd::Simd;
+use std::simd::prelude::*;
 use ws_base::{LineFault, Payload};
 
 /// The key that a dash stands for.
 const KEY_OF_A_DASH: [u8; 4] = [0; 4];
 
 /// How many digits are looked at at once.
-const BLOCK: usize = 64;
+const LANES: usize = 64;
+
+/// The same in a word of fewer.
+const FEWER_LANES: usize = 16;
+
+/// The same in a word of fewer than these.
+const LEAST_LANES: usize = 8;
+
+/// How many bytes are read from their digits at once.
+const MANY: usize = 16;
+
+/// The same of fewer.
+const FEW: usize = 4;
 
 /// Bytes as two digits each.
 #[derive(Drop)]
@@ -80,18 +94,50 @@ fn read_pairs(alloc: Global, word: &[u8]) -> Result<Payload, LineFault>
 fn are_digits(word: &[u8]) -> bool
     ensures { IsTrue result ↔ AreDigits word.now }
 {
-    let mut at = 0;
-    while at < word.len() {
-        let end = at + (word.len() - at).min(BLOCK);
-        if !is_block_of_digits(&word[at..end]) {
-            return false;
-        }
-        at = end;
+    if word.len() >= LANES {
+        return are_digits_by::<LANES>(word);
     }
-    true
+    if word.len() >= FEWER_LANES {
+        return are_digits_by::<FEWER_LANES>(word);
+    }
+    if word.len() >= LEAST_LANES {
+        return are_digits_by::<LEAST_LANES>(word);
+    }
+    is_block_of_digits(word)
 }
 
-/// The same for a few. It goes to their end, and its tests don't branch, so that the loop goes by vectors.
+/// The same by vectors, of which the last begins before the others end.
+fn are_digits_by<const N: usize>(word: &[u8]) -> bool
+    requires lanes { (0 < N) × (N ≤ 64) }
+    requires enough { N ≤ length word.now }
+    ensures { IsTrue result ↔ AreDigits word.now }
+{
+    let mut at = 0;
+    while word.len() - at > N {
+        if !are_lanes_digits(Simd::<u8, N>::from_slice(&word[at..])) {
+            return false;
+        }
+        at += N;
+    }
+    are_lanes_digits(Simd::<u8, N>::from_slice(&word[word.len() - N..]))
+}
+
+/// Whether each lane is a digit: at most nine after `0`, or at most five after `a`.
+#[inline(always)]
+fn are_lanes_digits<const N: usize>(block: Simd<u8, N>) -> bool
+    requires { N ≤ 64 }
+    ensures { IsTrue result ↔ AreDigits block.entry }
+{
+    let past_nine = (block - Simd::splat(b'0')).saturating_sub(Simd::splat(9));
+    let past_f = (block - Simd::splat(b'a')).saturating_sub(Simd::splat(5));
+    past_nine
+        .simd_min(past_f)
+        .simd_ne(Simd::splat(0))
+        .to_bitmask()
+        == 0
+}
+
+/// The same of less than a vector. It goes to their end, and its tests don't branch.
 fn is_block_of_digits(word: &[u8]) -> bool
     ensures { IsTrue result ↔ AreDigits word.now }
 {
@@ -116,8 +162,36 @@ fn is_digit(byte: u8) -> bool
     ((b'0' <= byte) & (byte <= b'9')) | ((b'a' <= byte) & (byte <= b'f'))
 }
 
-/// Puts the bytes that pairs of digits spell into room of their number.
+/// Puts the bytes that pairs of digits spell into room of their number, by vectors as long as they fit.
 fn put_pairs(word: &[u8], bytes: &mut [u8])
+    requires digits { AreDigits word.now }
+    requires room { length word.now ≡ 2 * length bytes.old }
+    ensures { ArePairs bytes.new word.now }
+{
+    let mut at = 0;
+    while bytes.len() - at >= MANY {
+        put_sixteen(&word[2 * at..2 * at + 2 * MANY], &mut bytes[at..at + MANY]);
+        at += MANY;
+    }
+    put_few_pairs(&word[2 * at..], &mut bytes[at..]);
+}
+
+/// The same by shorter vectors.
+fn put_few_pairs(word: &[u8], bytes: &mut [u8])
+    requires digits { AreDigits word.now }
+    requires room { length word.now ≡ 2 * length bytes.old }
+    ensures { ArePairs bytes.new word.now }
+{
+    let mut at = 0;
+    while bytes.len() - at >= FEW {
+        put_four(&word[2 * at..2 * at + 2 * FEW], &mut bytes[at..at + FEW]);
+        at += FEW;
+    }
+    put_last_pairs(&word[2 * at..], &mut bytes[at..]);
+}
+
+/// The same, pair by pair.
+fn put_last_pairs(word: &[u8], bytes: &mut [u8])
     requires digits { AreDigits word.now }
     requires room { length word.now ≡ 2 * length bytes.old }
     ensures { ArePairs bytes.new word.now }
@@ -125,6 +199,58 @@ fn put_pairs(word: &[u8], bytes: &mut [u8])
     'bytes: for i in 0..bytes.len() {
         bytes[i] = value_of(word[2 * i]) * 16 + value_of(word[2 * i + 1]);
     }
+}
+
+/// Puts sixteen bytes.
+#[inline(always)]
+fn put_sixteen(word: &[u8], bytes: &mut [u8])
+    requires digits { AreDigits word.now }
+    requires pairs { length word.now ≡ 32 }
+    requires room { length bytes.old ≡ 16 }
+    ensures { ArePairs bytes.new word.now }
+{
+    let digits = u8x32::from_slice(word);
+    let high = digits.swizzle([0, 2, 4, 6, 8, 10, 12, 14, 16, 18, 20, 22, 24, 26, 28, 30]);
+    let low = digits.swizzle([1, 3, 5, 7, 9, 11, 13, 15, 17, 19, 21, 23, 25, 27, 29, 31]);
+    joined(high, low).copy_to_slice(bytes);
+}
+
+/// Puts four bytes.
+#[inline(always)]
+fn put_four(word: &[u8], bytes: &mut [u8])
+    requires digits { AreDigits word.now }
+    requires pairs { length word.now ≡ 8 }
+    requires room { length bytes.old ≡ 4 }
+    ensures { ArePairs bytes.new word.now }
+{
+    let digits = u8x8::from_slice(word);
+    let high = digits.swizzle([0, 2, 4, 6]);
+    let low = digits.swizzle([1, 3, 5, 7]);
+    joined(high, low).copy_to_slice(bytes);
+}
+
+/// The bytes whose first digits are these, and their second digits those.
+#[inline(always)]
+fn joined<const N: usize>(high: Simd<u8, N>, low: Simd<u8, N>) -> Simd<u8, N>
+    requires high { AreDigits high }
+    requires low { AreDigits low }
+    ensures len { length result ≡ N }
+    ensures pairs { (k : ℕ) → k < N →
+        IsPair (slice_index result k) (slice_index high.entry k) (slice_index low.entry k) }
+{
+    lane_values(high) * Simd::splat(16) + lane_values(low)
+}
+
+/// The values of digits. Of the two differences the other one is larger, or wraps.
+#[inline(always)]
+fn lane_values<const N: usize>(digits: Simd<u8, N>) -> Simd<u8, N>
+    requires { AreDigits digits }
+    ensures len { length result ≡ N }
+    ensures small { (k : ℕ) → k < N → slice_index result k < 16 }
+    ensures value { (k : ℕ) → k < N →
+        digit_glyph false (slice_index result k) ≡ slice_index digits.entry k }
+{
+    (digits - Simd::splat(b'0')).simd_min(digits - Simd::splat(b'a' - 10))
 }
 
 /// The value of a lower-case hexadecimal digit.

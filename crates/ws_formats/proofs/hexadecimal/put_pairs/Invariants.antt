@@ -1,11 +1,15 @@
--- Pair after pair: each byte so far is spelled by its pair.
-use Rattle.std.proofs.Common.{◌≡◌, ◌<◌, ◌+◌, ◌*◌, ℕ, get_or, length}
-use Rattle.ws_formats.specs.Reading.{IsPair}
+-- Vector after vector: the pairs so far spell the bytes so far.
+use Rattle.std.proofs.Common.{◌≡◌, ◌≤◌, ◌-◌, ◌*◌, length, take}
+use Rattle.ws_formats.specs.Reading.{ArePairs}
 use Rattle.ws_formats.proofs.hexadecimal.put_pairs.Given as goal
 
--- each byte so far is spelled by its pair
-abbrev pub invariant-bytes : goal.invariant-bytes
-invariant-bytes l = record {
-  len : length l.bytes ≡ length l.fn.bytes;
-  spelled : (k : ℕ) → k < l.i → IsPair (get_or l.bytes k 0) (get_or l.word (2 * k) 0) (get_or l.word (2 * k + 1) 0);
+-- the pairs so far spell the bytes so far
+abbrev pub invariant-loop-bytes : goal.invariant-loop-bytes
+invariant-loop-bytes l = record {
+  within : l.at ≤ length l.bytes;
+  long : length l.word ≡ 2 * length l.bytes;
+  pairs : ArePairs (take l.at l.bytes) (take (2 * l.at) l.word);
 }
+
+abbrev pub decreases-loop-bytes : goal.decreases-loop-bytes
+decreases-loop-bytes l = length l.bytes - l.at
