@@ -113,6 +113,26 @@ module _ (text piece tail : List ℕ) (used whole : ℕ) (front : HasUnfinished 
   pub parts_break : (place : ℕ) → ((t : List ℕ) → HasUnfinished t tail → BreaksTextAt t (rest_from whole (rest_from used piece)) place) → BreaksTextAt text piece ((used + whole) + place)
   parts_break place h = breaks_later text piece (used + whole) place (subst (λ (l : List ℕ). BreaksTextAt (text ++ take (used + whole) piece) l place) back_is (h (text ++ take (used + whole) piece) before_back))
 
+  -- no back
+  pub parts_end : whole ≡ length (rest_from used piece) → HasUnfinished (text ++ piece) tail
+  parts_end all =
+      let many : length (rest_from used piece) ≡ length piece - used = ap (λ (l : List ℕ). length l) (take_rest piece used) ∙ length-drop used piece in
+      subst (λ (l : List ℕ). HasUnfinished (text ++ l) tail) (take_all (used + whole) piece (omega (arith, all, many))) before_back
+
+-- a piece after whole characters in two parts: whole characters, and the back
+module _ (text piece : List ℕ) (whole : ℕ) (so_far : IsText text) (is_text : IsText (take whole piece)) where
+  before_rest : HasUnfinished (text ++ take whole piece) []
+  before_rest = unfinished_of_text (text ++ take whole piece) (text_append text (take whole piece) so_far is_text)
+
+  pub front_joins : (new : List ℕ) → ((t : List ℕ) → HasUnfinished t [] → HasUnfinished (t ++ rest_from whole piece) new) → HasUnfinished (text ++ piece) new
+  front_joins new h = joined_rest text piece new whole (subst (λ (l : List ℕ). HasUnfinished ((text ++ take whole piece) ++ l) new) (take_rest piece whole) (h (text ++ take whole piece) before_rest))
+
+  pub front_breaks : (place : ℕ) → ((t : List ℕ) → HasUnfinished t [] → BreaksTextAt t (rest_from whole piece) place) → BreaksTextAt text piece (whole + place)
+  front_breaks place h = breaks_later text piece whole place (subst (λ (l : List ℕ). BreaksTextAt (text ++ take whole piece) l place) (take_rest piece whole) (h (text ++ take whole piece) before_rest))
+
+  pub front_is_all : whole ≡ length piece → HasUnfinished (text ++ piece) []
+  front_is_all all = subst (λ (l : List ℕ). HasUnfinished (text ++ l) []) (take_all whole piece (omega (arith, all))) before_rest
+
 -- ---- a stream
 
 -- a front of what begins a text begins one

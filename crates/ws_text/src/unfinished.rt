@@ -3,14 +3,12 @@
 ghost use Rattle.std.specs.Prelude.{◌≡◌, ◌≤◌, ◌<◌, ℕ, List, [], ◌∷◌, ◌++◌, length, take, IsTrue, ◌↔◌, ◌⊎◌, MatchOption};
 ghost use Rattle.std.specs.Prelude.{MatchResult, IfOk, IfErr};
 ghost use Rattle.std.specs.Int.{IsInRange};
-ghost use Rattle.ws_text.specs.Text.{HasUnfinished, IsUnfinished};
+ghost use Rattle.std.specs.Str.{IsAscii};
+ghost use Rattle.ws_text.specs.Text.{HasUnfinished, IsText, IsUnfinished};
 ghost use Rattle.ws_text.specs.Stream.{BreaksTextAt, IsWanted};
 ghost use Rattle.ws_text.specs.InnerStep.{kept_bytes, BeginsCharacter, GoesOn};
 
-use crate::whole::{is_short_ascii, valid_prefix};
-
-/// The most bytes of a piece that is read byte by byte: to do so takes less than to look for its whole characters.
-const FEW: usize = 3;
+use crate::whole::{HANDFUL, LANES, few_ascii, is_short_ascii, valid_behind, valid_prefix};
 
 /// The first bytes of a character that is not all there, or none.
 #[derive(Clone, Copy)]
@@ -99,8 +97,17 @@ impl Unfinished {
             MatchResult result (λ new. HasUnfinished (text ++ piece.now) (kept_bytes new))
             (BreaksTextAt text piece.now) }
     {
-        if self.is_nothing() && is_short_ascii(piece) {
-            return Ok(Unfinished::Nothing);
+        if self.is_nothing() {
+            if piece.len() < LANES {
+                let ascii = few_ascii(piece);
+                if ascii == piece.len() {
+                    return Ok(Unfinished::Nothing);
+                }
+                return push_few(piece, ascii);
+            }
+            if is_short_ascii(piece) {
+                return Ok(Unfinished::Nothing);
+            }
         }
         self.push_any(piece)
     }
@@ -115,12 +122,15 @@ impl Unfinished {
             MatchResult result (λ new. HasUnfinished (text ++ piece.now) (kept_bytes new))
             (BreaksTextAt text piece.now) }
     {
-        if piece.len() <= FEW {
+        if piece.len() <= HANDFUL {
             return self.push_bytes(piece);
         }
         let (unfinished, used) = self.complete(piece)?;
         let rest = &piece[used..];
         let whole = valid_prefix(rest);
+        if whole == rest.len() {
+            return Ok(unfinished);
+        }
         match unfinished.push_bytes(&rest[whole..]) {
             Ok(unfinished) => Ok(unfinished),
             Err(place) => Err(used + whole + place),
@@ -168,6 +178,27 @@ impl Unfinished {
             }
         }
         Ok(unfinished)
+    }
+}
+
+/// Takes a piece of few bytes after whole characters, so many at its front known to be ASCII. It stands apart, so that
+/// these don't pay for what `simdutf8` sets up.
+#[inline(never)]
+fn push_few(piece: &[u8], ascii: usize) -> Result<Unfinished, usize>
+    requires within { ascii ≤ length piece.now }
+    requires front { IsAscii (take ascii piece.now) }
+    ensures unfinished { IfOk result (λ new. IsUnfinished (kept_bytes new)) }
+    ensures text { (text : List ℕ) → IsText text →
+        MatchResult result (λ new. HasUnfinished (text ++ piece.now) (kept_bytes new))
+        (BreaksTextAt text piece.now) }
+{
+    let whole = valid_behind(piece, ascii);
+    if whole == piece.len() {
+        return Ok(Unfinished::Nothing);
+    }
+    match Unfinished::Nothing.push_bytes(&piece[whole..]) {
+        Ok(unfinished) => Ok(unfinished),
+        Err(place) => Err(whole + place),
     }
 }
 

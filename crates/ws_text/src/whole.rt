@@ -7,8 +7,11 @@ ghost use Rattle.ws_text.specs.Text.{IsText};
 use std::simd::Simd;
 use std::simd::prelude::*;
 
+/// The most bytes that are read one by one: to do so takes less than to look for their whole characters.
+pub(crate) const HANDFUL: usize = 3;
+
 /// How many bytes are looked at at once.
-const LANES: usize = 64;
+pub(crate) const LANES: usize = 64;
 
 /// The same of what is less than those.
 const FEWER_LANES: usize = 16;
@@ -45,6 +48,20 @@ fn few_valid(bytes: &[u8]) -> usize
     }
 }
 
+/// The same of few bytes whose front is known to be ASCII: what is behind it is read alone. Of a handful none is read.
+pub(crate) fn valid_behind(bytes: &[u8], ascii: usize) -> usize
+    requires within { ascii ≤ length bytes.now }
+    requires front { IsAscii (take ascii bytes.now) }
+    ensures within { result ≤ length bytes.now }
+    ensures text { IsText (take result bytes.now) }
+{
+    let rest = &bytes[ascii..];
+    if rest.len() <= HANDFUL {
+        return ascii;
+    }
+    ascii + few_valid(rest)
+}
+
 /// Where the last character begins, if bytes of it are missing; else the number of bytes. What stands
 /// before it is a text wherever the bytes begin one, and so it is read once.
 fn last_start(bytes: &[u8]) -> usize
@@ -60,43 +77,47 @@ fn last_start(bytes: &[u8]) -> usize
 
 /// Whether it is a short piece and ASCII, as many a text is: told without what `simdutf8` sets up for any text.
 pub(crate) fn is_short_ascii(bytes: &[u8]) -> bool
+    requires { 64 ≤ length bytes.now }
     ensures { IsTrue result → IsAscii bytes.now }
 {
-    if bytes.len() < LANES {
-        return are_few_ascii(bytes);
-    }
-    bytes.len() <= SHORT && is_ascii_by::<LANES>(bytes)
+    bytes.len() <= SHORT && ascii_by::<LANES>(bytes) == bytes.len()
 }
 
-/// The same of less than a vector, by narrower ones, and of less than these byte by byte. It stands apart, so that what
-/// is made a part of the callers stays small.
+/// How many bytes at the front of few were seen to be ASCII: all, or those of the vectors before the first that isn't.
+/// Less than the narrowest vector is looked at byte by byte. It stands apart, so that what is made a part of the callers
+/// stays small.
 #[inline(never)]
-fn are_few_ascii(bytes: &[u8]) -> bool
-    ensures { IsTrue result → IsAscii bytes.now }
+pub(crate) fn few_ascii(bytes: &[u8]) -> usize
+    ensures within { result ≤ length bytes.now }
+    ensures ascii { IsAscii (take result bytes.now) }
 {
-    if bytes.len() < LEAST_LANES {
-        return bytes.is_ascii();
+    if bytes.len() >= FEWER_LANES {
+        return ascii_by::<FEWER_LANES>(bytes);
     }
-    if bytes.len() < FEWER_LANES {
-        return is_ascii_by::<LEAST_LANES>(bytes);
+    if bytes.len() >= LEAST_LANES {
+        return ascii_by::<LEAST_LANES>(bytes);
     }
-    is_ascii_by::<FEWER_LANES>(bytes)
+    if bytes.is_ascii() { bytes.len() } else { 0 }
 }
 
 /// The same by vectors, of which the last begins before the others end.
-fn is_ascii_by<const N: usize>(bytes: &[u8]) -> bool
+fn ascii_by<const N: usize>(bytes: &[u8]) -> usize
     requires lanes { (0 < N) × (N ≤ 64) }
     requires enough { N ≤ length bytes.now }
-    ensures { IsTrue result → IsAscii bytes.now }
+    ensures within { result ≤ length bytes.now }
+    ensures ascii { IsAscii (take result bytes.now) }
 {
     let mut at = 0;
     while bytes.len() - at > N {
         if !is_ascii(Simd::<u8, N>::from_slice(&bytes[at..])) {
-            return false;
+            return at;
         }
         at += N;
     }
-    is_ascii(Simd::<u8, N>::from_slice(&bytes[bytes.len() - N..]))
+    if is_ascii(Simd::<u8, N>::from_slice(&bytes[bytes.len() - N..])) {
+        return bytes.len();
+    }
+    at
 }
 
 /// Whether no byte of the vector has its top bit set.

@@ -1,10 +1,10 @@
--- Vectors that cover a piece are ASCII, and so is the piece.
+-- Vectors that cover a piece are ASCII, and so is the piece; those before the first that isn't are its front.
 use Rattle.std.proofs.Common.{◌≡◌, ◌+◌, ◌-◌, ◌≤◌, ◌<◌, ℕ, List, length, take, drop, get_or, sym, subst, arith, inl, inr, take-add}
 use Rattle.std.proofs.lemmas.Bool.{cases_lt}
 use Rattle.std.proofs.lemmas.List.{get_or-take, get_or-drop, length-drop, take_all}
 use Rattle.std.proofs.lemmas.Str.{IsAscii-append}
 use Rattle.std.specs.Str.{IsAscii}
-use Rattle.ws_text.proofs.whole.is_ascii_by.Goals as goal
+use Rattle.ws_text.proofs.whole.ascii_by.Goals as goal
 
 covered : (l : List ℕ) (at from : ℕ) → from ≤ at → IsAscii (take at l) → IsAscii (drop from l) → IsAscii l
 covered l at from le first last = λ i.
@@ -19,9 +19,9 @@ covered l at from le first last = λ i.
 pub loop-at-preserved : goal.loop-at-preserved
 loop-at-preserved g c = (omega arith, subst IsAscii (sym (take-add c.loop-at.at g.row.N c.args.bytes.now)) (IsAscii-append _ _ c.loop-at.invariant.1 (c.is_ascii.ensures c.if-not-is_ascii.false)))
 
-pub returns : goal.returns
-returns g c = λ yes.
+pub returns-then-is_ascii-clause-ascii : goal.returns-then-is_ascii-clause-ascii
+returns-then-is_ascii-clause-ascii g c =
     let l = c.args.bytes.now in
     let n = g.row.N in
-    let last : IsAscii (drop (length l - n) l) = subst IsAscii (take_all n (drop (length l - n) l) (omega (arith, length-drop (length l - n) l))) (c.is_ascii-2.ensures yes) in
-    covered l c.loop-at.at (length l - n) (omega arith) c.loop-at.invariant.1 last
+    let last : IsAscii (drop (length l - n) l) = subst IsAscii (take_all n (drop (length l - n) l) (omega (arith, length-drop (length l - n) l))) (c.is_ascii-2.ensures c.if-is_ascii.true) in
+    subst IsAscii (sym (take_all (length l) l (omega arith))) (covered l c.loop-at.at (length l - n) (omega arith) c.loop-at.invariant.1 last)

@@ -1,7 +1,7 @@
 -- Vector after vector: the bytes up to `at` are ASCII, and fewer are left.
 use Rattle.std.proofs.Common.{◌-◌, ◌≤◌, length, take}
 use Rattle.std.specs.Str.{IsAscii}
-use Rattle.ws_text.proofs.whole.is_ascii_by.Given as goal
+use Rattle.ws_text.proofs.whole.ascii_by.Given as goal
 
 -- the vectors so far are ASCII
 abbrev pub invariant-loop-at : goal.invariant-loop-at
