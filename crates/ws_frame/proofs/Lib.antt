@@ -3,7 +3,7 @@ pub mod Written
 pub mod TestDeviceLemmas
 pub mod Fronts
 pub mod LineLemmas
-pub mod DigitTable
+pub mod DigitLanes
 pub mod Partials
 pub mod Runs
 pub mod RunEnds

@@ -61,7 +61,7 @@ digits_front end start text buf rest ends is =
     take-take (end - start) ((start + end) - start) (drop start buf) (omega arith)
     ∙ ap (λ n. take n (drop start buf)) count ∙ ap (λ (t : List ℕ). take (length text) t) is ∙ take-append_seam text rest
 
-hex_cons : (b : ℕ) (bytes : List ℕ) → b < 256 → hex (b ∷ bytes) ≡ digit_glyph false (b / 16) ∷ digit_glyph false (b % 16) ∷ hex bytes
+pub hex_cons : (b : ℕ) (bytes : List ℕ) → b < 256 → hex (b ∷ bytes) ≡ digit_glyph false (b / 16) ∷ digit_glyph false (b % 16) ∷ hex bytes
 hex_cons b bytes small =
     let first : digits 16 false (b / 16) ≡ digit_glyph false (b / 16) ∷ [] = hex_one_digit false (b / 16) (omega arith) in
     let second : digits 16 false (b % 16) ≡ digit_glyph false (b % 16) ∷ [] = hex_one_digit false (b % 16) (omega arith) in

@@ -71,10 +71,12 @@ impl FirstBytes {
     }
 
     /// The bytes, and behind them any others up to sixteen.
-    pub(crate) fn block(&self) -> &[u8; SHOWN]
-        ensures { take (length self.now) result.now ≡ self.now }
+    #[inline(always)]
+    pub(crate) fn lanes(&self) -> u8x16
+        ensures front { take (length self.now) result ≡ self.now }
+        ensures len { length result ≡ 16 }
     {
-        &self.bytes
+        u8x16::from_array(self.bytes)
     }
 
     /// More bytes come: the first sixteen of all are kept.
@@ -107,9 +109,9 @@ fn mask_sixteen(key: [u8; 4], bytes: &mut [u8])
     masked.copy_to_slice(bytes);
 }
 
-/// The bytes of a key over a vector.
+/// The bytes of a key over a vector, as they stand over the first bytes of a payload.
 #[inline(always)]
-fn sixteen_lanes(key: [u8; 4]) -> u8x16
+pub(crate) fn sixteen_lanes(key: [u8; 4]) -> u8x16
     ensures len { length result ≡ 16 }
     ensures lanes { AreKeyLanes key 0 result }
 {

@@ -8,6 +8,7 @@
 
 mod byte_devices;
 mod counting;
+mod digits;
 mod failing;
 mod first_bytes;
 pub mod laws;

@@ -111,7 +111,7 @@ fn push_key(room: &mut Room, key: Option<[u8; 4]>)
 {
     match key {
         None => room.push(b"-"),
-        Some(key) => room.push_key(&key),
+        Some(key) => room.push_key(key),
     }
 }
 
@@ -125,7 +125,7 @@ fn push_data(room: &mut Room, len: u64, first: &FirstBytes)
         room.push(b"-");
         return;
     }
-    room.push_hex(first.block(), first.len());
+    room.push_hex(first.lanes(), first.len());
     if len > SHOWN as u64 {
         room.push(b"..");
     }

@@ -1,7 +1,0 @@
--- The table has the digit of each byte's low half.
-use Rattle.std.proofs.Common.{arith}
-use Rattle.ws_frame.proofs.DigitTable.{digits_at}
-use Rattle.ws_frame.proofs.room.low_digit.Goals as goal
-
-pub returns : goal.returns
-returns c = (digits_at c.args.byte (omega (arith, c.ranges.byte.fits))).1
