@@ -4,6 +4,7 @@ pub mod TestDeviceLemmas
 pub mod Fronts
 pub mod LineLemmas
 pub mod DigitLanes
+pub mod DecimalDigits
 pub mod Partials
 pub mod Runs
 pub mod RunEnds

@@ -1,5 +1,5 @@
 -- The parts of a line, as `line.rt` makes them. A reader may skip this file: no public contract speaks of it.
-use Rattle.std.specs.Prelude.{ℕ, Bool, List, [], ◌∷◌, codes}
+use Rattle.std.specs.Prelude.{ℕ, ◌+◌, ◌/◌, ◌%◌, Bool, List, [], ◌∷◌, ◌++◌, codes}
 use Rattle.std.specs.List.{concat}
 use Rattle.std.specs.Fmt.{decimal}
 use Rattle.ws_wire.specs.declared.role.Role.{Role}
@@ -25,3 +25,11 @@ layout_words header = concat (
 abbrev pub end_words : Role → HeaderFields → List ℕ
 end_words from header = concat (
     mask_mark from header.key ∷ form_mark header.form header.len ∷ codes "\n" ∷ [])
+
+-- two decimal digits, those of a number below a hundred
+abbrev pub pair_digits : ℕ → List ℕ
+pair_digits n = (48 + n / 10) ∷ (48 + n % 10) ∷ []
+
+-- four of them, those of a number below ten thousand
+abbrev pub four_digits : ℕ → List ℕ
+four_digits n = pair_digits (n / 100) ++ pair_digits (n % 100)

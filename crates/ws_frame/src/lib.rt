@@ -8,6 +8,7 @@
 
 mod byte_devices;
 mod counting;
+mod decimals;
 mod digits;
 mod failing;
 mod first_bytes;

@@ -1,19 +1,15 @@
 //! A fixed room for lines that wait to be written.
 
-ghost use Rattle.std.specs.Prelude.{◌≡◌, ◌≤◌, ◌+◌, ◌*◌, [], ◌++◌, length, take, decimal};
+ghost use Rattle.std.specs.Prelude.{◌≡◌, ◌≤◌, ◌+◌, ◌*◌, [], ◌++◌, length, take};
 ghost use Rattle.ws_frame.specs.Lines.{hex};
 
 use crate::digits::digits_of;
 use crate::first_bytes::sixteen_lanes;
-use itoa::write_digits;
 use std::marker::Model;
 use std::simd::u8x16;
 
 /// How many bytes a room holds.
 pub(crate) const ROOM: usize = 65536;
-
-/// No number has more decimal digits than this.
-const DECIMAL: usize = 20;
 
 /// The digits of a masking key.
 const KEY_DIGITS: usize = 8;
@@ -83,7 +79,7 @@ impl Room {
     /// Puts the front of a block behind them. The whole block is copied, since its size is known to the compiler where
     /// that of the front isn't; what follows is put over the rest of it.
     #[inline(always)]
-    fn push_front(&mut self, block: &[u8], len: usize)
+    pub(crate) fn push_front(&mut self, block: &[u8], len: usize)
         requires front { len ≤ length block.now }
         requires room { length self.old + length block.now ≤ 65536 }
         ensures pushed { self.new ≡ self.old ++ take len block.now }
@@ -92,17 +88,6 @@ impl Room {
         let end = self.len + block.len();
         self.bytes[self.len..end].copy_from_slice(block);
         self.len += len;
-    }
-
-    /// Puts a number behind them, in decimal digits.
-    pub(crate) fn push_decimal(&mut self, number: u64)
-        requires { length self.old + 20 ≤ 65536 }
-        ensures pushed { self.new ≡ self.old ++ decimal number }
-        ensures len { length self.new ≤ length self.old + 20 }
-    {
-        let mut digits = [0; 2 * DECIMAL];
-        let start = write_digits(number, &mut digits, DECIMAL);
-        self.push_front(&digits[start..start + DECIMAL], DECIMAL - start);
     }
 
     /// Puts the digits of the first of a few bytes behind them, two a byte. The digits of all are made at once.

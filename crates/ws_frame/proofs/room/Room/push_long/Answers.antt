@@ -3,7 +3,7 @@ use Rattle.std.proofs.Common.{arith, ◌∙◌, ◌++◌, List, ℕ, ap}
 use Rattle.std.specs.Fmt.{decimal}
 use Rattle.std.proofs.lemmas.Fmt.{length-decimal-le}
 use Rattle.ws_frame.proofs.LineLemmas.{digits_front}
-use Rattle.ws_frame.proofs.room.Room.push_decimal.Goals as goal
+use Rattle.ws_frame.proofs.room.Room.push_long.Goals as goal
 
 pub write_digits-start-requires : goal.write_digits-start-requires
 write_digits-start-requires c = (length-decimal-le 20 c.args.number (omega arith) (omega (arith, c.ranges.number.fits)) (omega (arith, c.ranges.number.fits)), omega arith)

@@ -1,0 +1,154 @@
+//! Decimal digits, two at once.
+
+ghost use Rattle.std.specs.Prelude.{◌≡◌, ◌≤◌, ◌<◌, ◌+◌, ◌++◌, length, decimal};
+ghost use Rattle.ws_frame.specs.InnerPrinting.{pair_digits, four_digits};
+
+use crate::room::Room;
+use itoa::write_digits;
+
+/// No number has more decimal digits than this.
+const DECIMAL: usize = 20;
+
+/// The two digits of each number below a hundred.
+static PAIRS: [u8; 200] = *b"0001020304050607080910111213141516171819\
+      2021222324252627282930313233343536373839\
+      4041424344454647484950515253545556575859\
+      6061626364656667686970717273747576777879\
+      8081828384858687888990919293949596979899";
+
+impl Room {
+    /// Puts a number behind what stands in the room, in decimal digits.
+    #[inline(always)]
+    pub(crate) fn push_decimal(&mut self, number: u64)
+        requires { length self.old + 20 ≤ 65536 }
+        ensures pushed { self.new ≡ self.old ++ decimal number }
+        ensures len { length self.new ≤ length self.old + 20 }
+    {
+        if number < 10_000 {
+            self.push_few(number);
+        } else {
+            self.push_many(number);
+        }
+    }
+
+    /// The same of a number of at most four digits.
+    #[inline(always)]
+    fn push_few(&mut self, number: u64)
+        requires few { number < 10000 }
+        requires room { length self.old + 4 ≤ 65536 }
+        ensures pushed { self.new ≡ self.old ++ decimal number }
+        ensures len { length self.new ≤ length self.old + 4 }
+    {
+        if number < 100 {
+            self.push_first(number);
+        } else {
+            self.push_hundreds(number);
+        }
+    }
+
+    /// The same of a number of three or four digits.
+    #[inline(always)]
+    fn push_hundreds(&mut self, number: u64)
+        requires hundreds { 100 ≤ number }
+        requires few { number < 10000 }
+        requires room { length self.old + 4 ≤ 65536 }
+        ensures pushed { self.new ≡ self.old ++ decimal number }
+        ensures len { length self.new ≤ length self.old + 4 }
+    {
+        self.push_first(number / 100);
+        self.push_pair(number % 100);
+    }
+
+    /// The same of a number of one or two digits.
+    #[inline(always)]
+    fn push_first(&mut self, number: u64)
+        requires few { number < 100 }
+        requires room { length self.old + 2 ≤ 65536 }
+        ensures pushed { self.new ≡ self.old ++ decimal number }
+        ensures len { length self.new ≤ length self.old + 2 }
+    {
+        if number < 10 {
+            self.push(&[b'0' + number as u8]);
+        } else {
+            self.push_pair(number);
+        }
+    }
+
+    /// The same of a number of more than four digits: at most twelve are put without a loop.
+    #[inline(never)]
+    fn push_many(&mut self, number: u64)
+        requires many { 10000 ≤ number }
+        requires room { length self.old + 20 ≤ 65536 }
+        ensures pushed { self.new ≡ self.old ++ decimal number }
+        ensures len { length self.new ≤ length self.old + 20 }
+    {
+        if number < 100_000_000 {
+            self.push_eight(number);
+        } else if number < 1_000_000_000_000 {
+            self.push_twelve(number);
+        } else {
+            self.push_long(number);
+        }
+    }
+
+    /// The same of a number of five to eight digits.
+    #[inline(always)]
+    fn push_eight(&mut self, number: u64)
+        requires many { 10000 ≤ number }
+        requires few { number < 100000000 }
+        requires room { length self.old + 8 ≤ 65536 }
+        ensures pushed { self.new ≡ self.old ++ decimal number }
+        ensures len { length self.new ≤ length self.old + 8 }
+    {
+        self.push_few(number / 10_000);
+        self.push_four(number % 10_000);
+    }
+
+    /// The same of a number of nine to twelve digits.
+    #[inline(always)]
+    fn push_twelve(&mut self, number: u64)
+        requires many { 100000000 ≤ number }
+        requires few { number < 1000000000000 }
+        requires room { length self.old + 12 ≤ 65536 }
+        ensures pushed { self.new ≡ self.old ++ decimal number }
+        ensures len { length self.new ≤ length self.old + 12 }
+    {
+        self.push_eight(number / 10_000);
+        self.push_four(number % 10_000);
+    }
+
+    /// The same of any number.
+    fn push_long(&mut self, number: u64)
+        requires { length self.old + 20 ≤ 65536 }
+        ensures pushed { self.new ≡ self.old ++ decimal number }
+        ensures len { length self.new ≤ length self.old + 20 }
+    {
+        let mut digits = [0; 2 * DECIMAL];
+        let start = write_digits(number, &mut digits, DECIMAL);
+        self.push_front(&digits[start..start + DECIMAL], DECIMAL - start);
+    }
+
+    /// Puts four digits, of a number that may be less than four of them long.
+    #[inline(always)]
+    fn push_four(&mut self, number: u64)
+        requires few { number < 10000 }
+        requires room { length self.old + 4 ≤ 65536 }
+        ensures pushed { self.new ≡ self.old ++ four_digits number }
+        ensures len { length self.new ≡ length self.old + 4 }
+    {
+        self.push_pair(number / 100);
+        self.push_pair(number % 100);
+    }
+
+    /// Puts two digits, of a number that may be one of them long.
+    #[inline(always)]
+    fn push_pair(&mut self, number: u64)
+        requires few { number < 100 }
+        requires room { length self.old + 2 ≤ 65536 }
+        ensures pushed { self.new ≡ self.old ++ pair_digits number }
+        ensures len { length self.new ≡ length self.old + 2 }
+    {
+        let place = number as usize * 2;
+        self.push(&[PAIRS[place], PAIRS[place + 1]]);
+    }
+}
