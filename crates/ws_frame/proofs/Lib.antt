@@ -5,6 +5,7 @@ pub mod Fronts
 pub mod LineLemmas
 pub mod DigitLanes
 pub mod DecimalDigits
+pub mod KindTable
 pub mod Partials
 pub mod Runs
 pub mod RunEnds

@@ -44,12 +44,15 @@ impl FirstBytes {
         requires { count ≤ length bytes.now }
         ensures { result ≡ take 16 (take count bytes.now) }
     {
-        let mut first = FirstBytes::new();
         if bytes.len() >= SHOWN {
-            first.bytes.copy_from_slice(&bytes[..SHOWN]);
-            first.len = count.min(SHOWN);
-            return first;
+            let mut block = [0; SHOWN];
+            block.copy_from_slice(&bytes[..SHOWN]);
+            return FirstBytes {
+                bytes: block,
+                len: count.min(SHOWN),
+            };
         }
+        let mut first = FirstBytes::new();
         first.push(&bytes[..count]);
         first
     }

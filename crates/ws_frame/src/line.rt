@@ -9,7 +9,7 @@ ghost use Rattle.ws_frame.specs.InnerPrinting.{place_words, bits_words, layout_w
 use crate::first_bytes::{FirstBytes, SHOWN};
 use crate::room::Room;
 use crate::source::Source;
-use ws_wire::{Form, Header, Opcode, Role};
+use ws_wire::{Form, Header, Role};
 
 /// No line has more bytes than this.
 pub(crate) const MAX_LINE: usize = 200;
@@ -19,6 +19,14 @@ const FIN: usize = 5;
 
 /// Where the reserved bits do.
 const RSV: usize = 11;
+
+/// How many bytes an opcode has in the table of their names.
+const KIND: usize = 8;
+
+/// The name of each opcode in seven bytes, and how many of them it takes.
+static KINDS: [u8; 128] =
+    *b"cont   \x04text   \x04binary \x06op3    \x03op4    \x03op5    \x03op6    \x03\
+      op7    \x03close  \x05ping   \x04pong   \x04op11   \x04op12   \x04op13   \x04op14   \x04op15   \x04";
 
 /// Puts the line of a frame that begins at `offset` into the room, ended by LF. `first` are the first bytes of the
 /// payload, unmasked: as many as there are, at most `SHOWN`.
@@ -74,10 +82,13 @@ fn push_layout(room: &mut Room, header: &Header)
     ensures len { length room.new ≤ length room.old + 45 }
 {
     push_key(room, header.key());
-    room.push(b" len=");
+    // A word that is copied from here can't lie in the room, so it isn't asked at run time whether the two overlap.
+    let len_word = *b" len=";
+    let short_word = *b" short ";
+    room.push(&len_word);
     room.push_decimal(header.payload_len());
     match header.form() {
-        Form::Short => room.push(b" short "),
+        Form::Short => room.push(&short_word),
         Form::Two => room.push(b" two "),
         Form::Eight => room.push(b" eight "),
     }
@@ -85,22 +96,14 @@ fn push_layout(room: &mut Room, header: &Header)
 
 /// Puts the name of an opcode.
 fn push_kind(room: &mut Room, opcode: u8)
-    requires { length room.old + 22 ≤ 65536 }
+    requires known { opcode < 16 }
+    requires room { length room.old + 22 ≤ 65536 }
     ensures pushed { room.new ≡ room.old ++ opcode_word opcode }
     ensures len { length room.new ≤ length room.old + 22 }
 {
-    match Opcode::of(opcode) {
-        Opcode::Continuation => room.push(b"cont"),
-        Opcode::Text => room.push(b"text"),
-        Opcode::Binary => room.push(b"binary"),
-        Opcode::Close => room.push(b"close"),
-        Opcode::Ping => room.push(b"ping"),
-        Opcode::Pong => room.push(b"pong"),
-        Opcode::Reserved(number) => {
-            room.push(b"op");
-            room.push_decimal(u64::from(number));
-        }
-    }
+    let place = opcode as usize * KIND;
+    let word = &KINDS[place..place + KIND];
+    room.push_front(word, word[KIND - 1] as usize);
 }
 
 /// Puts a masking key in hexadecimal, or a dash.

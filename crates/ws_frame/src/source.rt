@@ -22,9 +22,21 @@ pub enum Mark {
 }
 
 impl Mark {
-    /// Puts the mark behind what stands in the room.
-    #[inline]
+    /// Puts the mark behind what stands in the room. A stream that is shown alone has none.
+    #[inline(always)]
     pub(crate) fn push_to(self, room: &mut Room)
+        requires { length room.old + 23 ≤ 65536 }
+        ensures pushed { room.new ≡ room.old ++ mark_word self }
+        ensures len { length room.new ≤ length room.old + 23 }
+    {
+        if let Mark::Plain = self {
+            return;
+        }
+        self.push_word_to(room);
+    }
+
+    /// The same of any mark.
+    fn push_word_to(self, room: &mut Room)
         requires { length room.old + 23 ≤ 65536 }
         ensures pushed { room.new ≡ room.old ++ mark_word self }
         ensures len { length room.new ≤ length room.old + 23 }
