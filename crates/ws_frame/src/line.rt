@@ -85,11 +85,12 @@ fn push_layout(room: &mut Room, header: &Header)
     // A word that is copied from here can't lie in the room, so it isn't asked at run time whether the two overlap.
     let len_word = *b" len=";
     let short_word = *b" short ";
+    let two_word = *b" two ";
     room.push(&len_word);
     room.push_decimal(header.payload_len());
     match header.form() {
         Form::Short => room.push(&short_word),
-        Form::Two => room.push(b" two "),
+        Form::Two => room.push(&two_word),
         Form::Eight => room.push(b" eight "),
     }
 }
@@ -102,8 +103,9 @@ fn push_kind(room: &mut Room, opcode: u8)
     ensures len { length room.new ≤ length room.old + 22 }
 {
     let place = opcode as usize * KIND;
-    let word = &KINDS[place..place + KIND];
-    room.push_front(word, word[KIND - 1] as usize);
+    let mut word = [0; KIND];
+    word.copy_from_slice(&KINDS[place..place + KIND]);
+    room.push_front(&word, word[KIND - 1] as usize);
 }
 
 /// Puts a masking key in hexadecimal, or a dash.

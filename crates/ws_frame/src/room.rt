@@ -85,9 +85,9 @@ impl Room {
         ensures pushed { self.new ≡ self.old ++ take len block.now }
         ensures len { length self.new ≡ length self.old + len }
     {
-        let end = self.len + block.len();
-        self.bytes[self.len..end].copy_from_slice(block);
-        self.len += len;
+        let start = self.len;
+        self.bytes[start..start + block.len()].copy_from_slice(block);
+        self.len = start + len;
     }
 
     /// Puts the digits of the first of a few bytes behind them, two a byte. The digits of all are made at once.

@@ -10,10 +10,10 @@ word_is opcode =
     ap (λ k. take k (drop (opcode * 8) KINDS)) eight
 
 pub push_front-requires-clause-front : goal.push_front-requires-clause-front
-push_front-requires-clause-front c = (named c.args.opcode _ c.requires.known (word_is c.args.opcode)).0
+push_front-requires-clause-front c = (named c.args.opcode _ c.requires.known (c.copy_from_slice.ensures.after ∙ word_is c.args.opcode)).0
 
 pub returns-clause-pushed : goal.returns-clause-pushed
-returns-clause-pushed c = c.push_front.ensures.pushed ∙ ap (λ (t : List ℕ). c.args.room.now ++ t) (named c.args.opcode _ c.requires.known (word_is c.args.opcode)).2
+returns-clause-pushed c = c.push_front.ensures.pushed ∙ ap (λ (t : List ℕ). c.args.room.now ++ t) (named c.args.opcode _ c.requires.known (c.copy_from_slice.ensures.after ∙ word_is c.args.opcode)).2
 
 pub returns-clause-len : goal.returns-clause-len
-returns-clause-len c = omega (arith, c.push_front.ensures.len, (named c.args.opcode _ c.requires.known (word_is c.args.opcode)).1)
+returns-clause-len c = omega (arith, c.push_front.ensures.len, (named c.args.opcode _ c.requires.known (c.copy_from_slice.ensures.after ∙ word_is c.args.opcode)).1)
