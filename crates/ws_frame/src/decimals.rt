@@ -31,6 +31,20 @@ impl Room {
         }
     }
 
+    /// The same of a number that is seldom small: the way of a large one is made a part of the caller too.
+    #[inline(always)]
+    pub(crate) fn push_large(&mut self, number: u64)
+        requires { length self.old + 20 ≤ 65536 }
+        ensures pushed { self.new ≡ self.old ++ decimal number }
+        ensures len { length self.new ≤ length self.old + 20 }
+    {
+        if number < 10_000 {
+            self.push_few(number);
+        } else {
+            self.push_more(number);
+        }
+    }
+
     /// The same of a number of at most four digits.
     #[inline(always)]
     fn push_few(&mut self, number: u64)
@@ -74,9 +88,20 @@ impl Room {
         }
     }
 
-    /// The same of a number of more than four digits: at most twelve are put without a loop.
+    /// The same of a number of more than four digits, as a call.
     #[inline(never)]
     fn push_many(&mut self, number: u64)
+        requires many { 10000 ≤ number }
+        requires room { length self.old + 20 ≤ 65536 }
+        ensures pushed { self.new ≡ self.old ++ decimal number }
+        ensures len { length self.new ≤ length self.old + 20 }
+    {
+        self.push_more(number);
+    }
+
+    /// The same of a number of more than four digits: at most twelve are put without a loop.
+    #[inline(always)]
+    fn push_more(&mut self, number: u64)
         requires many { 10000 ≤ number }
         requires room { length self.old + 20 ≤ 65536 }
         ensures pushed { self.new ≡ self.old ++ decimal number }
@@ -118,6 +143,7 @@ impl Room {
     }
 
     /// The same of any number.
+    #[inline(never)]
     fn push_long(&mut self, number: u64)
         requires { length self.old + 20 ≤ 65536 }
         ensures pushed { self.new ≡ self.old ++ decimal number }

@@ -54,7 +54,7 @@ fn push_place(room: &mut Room, offset: u64, header: &Header)
     ensures pushed { room.new ≡ room.old ++ place_words offset header.now }
     ensures len { length room.new ≤ length room.old + 80 }
 {
-    room.push_decimal(offset);
+    room.push_large(offset);
     room.push(b" ");
     push_kind(room, header.opcode());
     push_bits(room, header.fin(), header.rsv());
