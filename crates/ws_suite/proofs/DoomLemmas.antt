@@ -1,19 +1,19 @@
 -- What a session that took the turns says of their doom.
-use Rattle.std.proofs.Common.{◌≡◌, ◌∙◌, ℕ, zero, suc, ◌+◌, ◌<◌, ◌↔◌, Bool, true, false, List, [], ◌∷◌, ◌++◌}
-use Rattle.std.proofs.Common.{length, get_or, min, ◌==◌, take, ap, sym, refl, subst, arith, inl, inr}
+use Rattle.std.proofs.Common.{◌≡◌, ◌∙◌, ℕ, zero, suc, ◌+◌, ◌-◌, ◌<◌, ◌↔◌, Bool, true, false, List, [], ◌∷◌, ◌++◌}
+use Rattle.std.proofs.Common.{length, get_or, min, ◌==◌, take, drop, ap, sym, refl, subst, arith, append_assoc, inl, inr}
 use Rattle.std.proofs.lemmas.Bool.{cases_lt, eqb-true}
-use Rattle.std.proofs.lemmas.List.{get_or_past, length-map, take_all, take_min, take_more}
+use Rattle.std.proofs.lemmas.List.{get_or_past, length-drop, length-map, take-append-drop, take_all, take_min, take_more}
 use Rattle.std.specs.Prelude.{IsTrue, slice_index_or}
 use Rattle.std.specs.List.{concat}
 use Rattle.ws_wire.specs.declared.role.Role.{Role}
 use Rattle.ws_wire.specs.Frame.{Frame, KeyedFrame}
-use Rattle.ws_session.specs.declared.event.PlacedEvent.{PlacedEvent}
+use Rattle.ws_session.specs.declared.event.Taken.{Taken}
 use Rattle.ws_session.specs.Limits.{LimitsValue}
 use Rattle.ws_session.specs.Doomed.{EndsDoomed}
 use Rattle.ws_session.specs.Exchange.{SessionValue, HasExchanged, is_over}
 use Rattle.ws_session.specs.Replies.{reply_to}
 use Rattle.ws_session.specs.Sends.{most_limits}
-use Rattle.ws_session.specs.Taking.{HasTakenAll}
+use Rattle.ws_session.specs.Taking.{HasTaken}
 use Rattle.ws_scripts.specs.declared.transcript.Turn.{Turn}
 use Rattle.ws_suite.specs.Evidence.{sent_turns}
 use Rattle.ws_suite.specs.Doom.{IsDoomedAfter, IsLastWithBytes}
@@ -31,14 +31,33 @@ DoomLaw = (v : SessionValue) (sent : List Frame) (bytes : List ℕ) (frames : Li
 
 -- ---- a session that took the turns
 
--- more bytes were taken
-pub more_taken : (role : Role) (before bytes key x y : List ℕ) (first told : List PlacedEvent)
+-- more bytes were taken, up to the next event
+pub more_taken : (role : Role) (before piece key x y : List ℕ) (front : Taken)
     (old new : SessionValue) → HasTakenBytes role before old
-    → HasTakenAll reply_to old new (record { piece = bytes; key = key; before = x; after = y }) first told
-    → new.role ≡ old.role → new.limits ≡ old.limits → HasTakenBytes role (before ++ bytes) new
-more_taken role before bytes key x y first told old new h taken same limits =
-    let takes = taken.takes (record { sent = h.sent; taken = before; ended = false }) refl h.exchanged in
+    → HasTaken reply_to old new (record { piece = piece; key = key; before = x; after = y }) front
+    → new.role ≡ old.role → new.limits ≡ old.limits → HasTakenBytes role (before ++ take front.used piece) new
+more_taken role before piece key x y front old new h taken same limits =
+    let takes = taken (record { sent = h.sent; taken = before; ended = false }) refl h.exchanged in
     record { sent = _; exchanged = takes.agrees; same_role = same ∙ h.same_role; limits = limits ∙ h.limits }
+
+-- the front of what is left was taken, and is passed
+pub front_passed : (bytes done rest key x y : List ℕ) (front : Taken) (first old new : SessionValue) → bytes ≡ done ++ rest
+    → ((role : Role) (before : List ℕ) → HasTakenBytes role before first → HasTakenBytes role (before ++ done) old)
+    → HasTaken reply_to old new (record { piece = rest; key = key; before = x; after = y }) front
+    → new.role ≡ old.role → new.limits ≡ old.limits
+    → (next : List ℕ) × (bytes ≡ next ++ take (length rest - front.used) (drop front.used rest))
+    × ((role : Role) (before : List ℕ) → HasTakenBytes role before first → HasTakenBytes role (before ++ next) new)
+front_passed bytes done rest key x y front first old new parts so_far taken same limits =
+    let part = take front.used rest in
+    let after = take (length rest - front.used) (drop front.used rest) in
+    let whole : after ≡ drop front.used rest = take_all (length rest - front.used) (drop front.used rest)
+    (omega (arith, length-drop front.used rest)) in
+    let split : rest ≡ part ++ after = sym (take-append-drop front.used rest) ∙ ap (λ (l : List ℕ). part ++ l) (sym whole) in (
+      done ++ part,
+      parts ∙ (ap (λ (l : List ℕ). done ++ l) split ∙ sym (append_assoc done part after)),
+      λ role before h. subst (λ (l : List ℕ). HasTakenBytes role l new) (append_assoc before done part)
+          (more_taken role (before ++ done) rest key x y front old new (so_far role before h) taken same limits),
+    )
 
 -- what it tells is told of the bytes that it took
 pub told_of_bytes : DoomLaw → (role : Role) (bytes : List ℕ) (v : SessionValue) (r : Bool) → HasTakenBytes role bytes v

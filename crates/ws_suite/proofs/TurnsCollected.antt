@@ -1,18 +1,20 @@
 -- What is collected of a direction, with one turn or one piece more.
-use Rattle.std.proofs.Common.{◌≡◌, ◌∙◌, ℕ, zero, suc, ◌+◌, ◌<◌, ◌↔◌, nat_lt, Bool, true, false, List, [], ◌∷◌, ◌++◌, length, take, flat_map, Option, None, ap, sym, refl, subst, arith, append_assoc, append-nil}
+use Rattle.std.proofs.Common.{◌≡◌, ◌∙◌, ℕ, zero, suc, ◌+◌, ◌<◌, ◌≤◌, ◌↔◌, max, nat_le, nat_lt, Bool, true, false, List, [], ◌∷◌, ◌++◌, length, map, take, drop, flat_map, if◌then◌else◌, is_none, Option, None, Some, ap, sym, refl, subst, arith, append_assoc, append-nil}
 use Rattle.std.proofs.lemmas.Bool.Decides.{nat_tests}
-use Rattle.std.proofs.lemmas.List.{length-append, take_all}
-use Rattle.std.specs.List.{concat, last_or}
+use Rattle.std.proofs.lemmas.List.{length-append, length-take-le, take-append-drop, take-append-le, take_all}
+use Rattle.std.specs.List.{AllByRecursion, concat, last_or}
+use Rattle.std.specs.Prelude.{option_to_list}
 use Rattle.ws_wire.specs.declared.role.Role.{Role}
 use Rattle.ws_wire.specs.Frame.{stream_bytes}
 use Rattle.ws_session.specs.declared.event.Event.{Event}
 use Rattle.ws_session.specs.declared.event.PlacedEvent.{PlacedEvent}
+use Rattle.ws_session.specs.declared.event.Taken.{Taken}
 use Rattle.ws_session.specs.Limits.{LimitsValue}
 use Rattle.ws_session.specs.Events.{HasEvents}
-use Rattle.ws_session.specs.Exchange.{SessionValue, HasExchanged}
-use Rattle.ws_session.specs.Replies.{replies_by, reply_to}
+use Rattle.ws_session.specs.Exchange.{Exchange, SessionValue, HasExchanged}
+use Rattle.ws_session.specs.Replies.{replies_by, reply_to, under_key}
 use Rattle.ws_session.specs.Sends.{most_limits}
-use Rattle.ws_session.specs.Taking.{HasTakenAll, TakesAll, ending_by, events_in}
+use Rattle.ws_session.specs.Taking.{HasTaken, HasTakenAll, Takes, TakesAll, ending_by, events_in}
 use Rattle.ws_suite.specs.declared.evidence.InTurn.{InTurn}
 use Rattle.ws_suite.specs.declared.evidence.Reply.{Reply}
 use Rattle.ws_suite.specs.declared.evidence.Ending.{Ending}
@@ -192,6 +194,80 @@ module _ {K : Type 0} {keeps : K → List (InTurn Reply) → Type 0} (laws : Eve
     same_role = kept ∙ h.same_role;
     limits = limits ∙ h.limits;
   }
+
+-- ---- the front of a piece, up to its next event
+
+-- the event, if there is one, with its place
+abbrev pub placed_in : Option Event → ℕ → List PlacedEvent
+placed_in None used = []
+placed_in (Some event) used = record { event = event; end = used } ∷ []
+
+events_placed : (o : Option Event) (used : ℕ) → events_in (placed_in o used) ≡ option_to_list o
+events_placed None used = refl
+events_placed (Some event) used = refl
+
+placed_by : (o : Option Event) (used n : ℕ) → nat_le used n ≡ true → ending_by n (placed_in o used) ≡ placed_in o used
+placed_by None used n e = refl
+placed_by (Some event) used n e = ap (λ (b : Bool). if b then record { event = event; end = used } ∷ [] else []) e
+
+placed_later : (o : Option Event) (used n : ℕ) → nat_le used n ≡ false → ending_by n (placed_in o used) ≡ []
+placed_later None used n e = refl
+placed_later (Some event) used n e = ap (λ (b : Bool). if b then record { event = event; end = used } ∷ [] else []) e
+
+module _ (piece key x y : List ℕ) (old new : SessionValue) (t : Taken) (less : t.used ≤ length piece)
+    (taken : HasTaken reply_to old new (record { piece = piece; key = key; before = x; after = y }) t) (same : new.role ≡ old.role) (limits : new.limits ≡ old.limits) where
+  size : length (take t.used piece) ≡ t.used
+  size = length-take-le t.used piece less
+
+  within : (o : Option Event) → AllByRecursion (λ (placed : PlacedEvent). placed.end ≤ length (take t.used piece)) (placed_in o t.used)
+  within None = tt
+  within (Some event) = (omega (arith, size), tt)
+
+  -- a call that takes the front takes all of it
+  front_is_whole : HasTakenAll reply_to old new (record { piece = take t.used piece; key = key; before = x; after = y }) [] (placed_in t.event t.used)
+  front_is_whole = record {
+    told = placed_in t.event t.used;
+    added = refl;
+    within = within t.event;
+    same = (same, limits);
+    takes = λ exchange on h.
+        let one = taken exchange on h in
+        let events_are = sym (events_placed t.event t.used) in
+        record {
+          agrees = subst (λ (l : List Event). HasExchanged new (exchange.sent ++ replies_by reply_to exchange.sent l) (exchange.taken ++ take t.used piece) exchange.ended) events_are one.agrees;
+          events = λ events has. subst (λ (l : List Event). HasEvents old.role old.limits (exchange.taken ++ take t.used piece) (events ++ l)) events_are (one.event events has);
+          places = λ n events has. places exchange one n events has (nat_le t.used n) refl;
+          put = one.put ∙ ap (λ (l : List Event). x ++ stream_bytes (map (under_key old.role key) (replies_by reply_to exchange.sent l))) events_are;
+        };
+  }
+    where
+      places : (exchange : Exchange) → Takes reply_to old new exchange (record { piece = piece; key = key; before = x; after = y }) t → (n : ℕ) (events : List Event) → HasEvents old.role old.limits exchange.taken events
+          → (b : Bool) → nat_le t.used n ≡ b → HasEvents old.role old.limits (exchange.taken ++ take n (take t.used piece)) (events ++ events_in (ending_by n (placed_in t.event t.used)))
+      places exchange one n events has true e =
+          let all : take n (take t.used piece) ≡ take t.used piece = take_all n (take t.used piece) (let by : t.used ≤ n = grind (arith, nat_tests) in omega (arith, size, by)) in
+          subst (λ (l : List ℕ). HasEvents old.role old.limits (exchange.taken ++ l) (events ++ events_in (ending_by n (placed_in t.event t.used)))) (sym all)
+          (subst (λ (l : List Event). HasEvents old.role old.limits (exchange.taken ++ take t.used piece) (events ++ l))
+          (sym (ap (λ (l : List PlacedEvent). events_in l) (placed_by t.event t.used n e) ∙ events_placed t.event t.used)) (one.event events has))
+      places exchange one n events has false e =
+          let short : n < t.used = grind (arith, nat_tests) in
+          let front : take n (take t.used piece) ≡ take n piece =
+          sym (take-append-le n (take t.used piece) (drop t.used piece) (omega (arith, size, short))) ∙ ap (λ (l : List ℕ). take n l) (take-append-drop t.used piece) in
+          subst (λ (l : List ℕ). HasEvents old.role old.limits (exchange.taken ++ l) (events ++ events_in (ending_by n (placed_in t.event t.used)))) (sym front)
+          (subst (λ (l : List Event). HasEvents old.role old.limits (exchange.taken ++ take n piece) l)
+          (sym (ap (λ (l : List PlacedEvent). events ++ events_in l) (placed_later t.event t.used n e) ∙ append-nil events)) (one.least n events short has))
+
+  rest_after : 0 < t.used → (o : Option Event) → is_none o ≡ nat_lt (last_end (placed_in o t.used)) (length (take t.used piece))
+  rest_after some None = let more : 0 < length (take t.used piece) = omega (arith, size, some) in grind (arith, nat_tests, more)
+  rest_after some (Some event) = let all : length (take t.used piece) ≤ max t.used 0 = omega (arith, size) in grind (arith, nat_tests, all)
+
+  -- the front was taken and its event, if there is one, collected
+  pub front_taken_too : {K : Type 0} {keeps : K → List (InTurn Reply) → Type 0} (laws : EventLaws) (way : Way) (role : Role) (turns : List (List ℕ)) (last : List ℕ) (a b : Collected K) → 0 < t.used
+      → HasTakenWay keeps way role (turns ++ last ∷ []) old a → AreCollected keeps way (length turns) (option_to_list t.event) (make_collected a (is_none t.event)) b
+      → HasTakenWay keeps way role (turns ++ (last ++ take t.used piece) ∷ []) new b
+  front_taken_too {K} {keeps} laws way role turns last a b some h are =
+      piece_taken laws way role turns last (take t.used piece) key x y [] (placed_in t.event t.used) old new a b (omega (arith, size, some)) refl front_is_whole h same limits
+      (subst (λ (r : Bool). AreCollected keeps way (length turns) (events_in (placed_in t.event t.used)) (make_collected a r) b) (rest_after some t.event)
+      (subst (λ (l : List Event). AreCollected keeps way (length turns) l (make_collected a (is_none t.event)) b) (sym (events_placed t.event t.used)) are))
 
 -- a piece without bytes
 pub nothing_taken : {K : Type 0} {keeps : K → List (InTurn Reply) → Type 0} (way : Way) (role : Role) (turns : List (List ℕ)) (last piece : List ℕ) (session : SessionValue) (c : Collected K) → piece ≡ []

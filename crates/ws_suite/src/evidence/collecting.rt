@@ -1,19 +1,19 @@
 //! What one direction says, piece by piece: a session takes the bytes, and what it tells is collected.
 
-ghost use Rattle.std.specs.Prelude.{◌≡◌, ◌<◌, ℕ, List, [], ◌∷◌, ◌++◌, length, true, OnOk, option_to_list};
+ghost use Rattle.std.specs.Prelude.{◌≡◌, ◌<◌, ◌≤◌, ℕ, List, [], ◌∷◌, ◌++◌, length, take, true, IfOk, OnOk};
+ghost use Rattle.std.specs.Prelude.{option_to_list};
 ghost use Rattle.ws_wire.specs.declared.role.Role.{Role};
 ghost use Rattle.ws_session.specs.declared.event.Event.{Event};
 ghost use Rattle.ws_session.specs.Exchange.{is_over};
 ghost use Rattle.ws_session.specs.Sends.{most_limits};
-ghost use Rattle.ws_session.specs.Taking.{events_in};
 ghost use Rattle.ws_suite.specs.Evidence.{ending_in};
-ghost use Rattle.ws_suite.specs.InnerCollecting.{AreCollected, HasTakenWay, found_by, last_end};
+ghost use Rattle.ws_suite.specs.InnerCollecting.{AreCollected, EventLaws, HasTakenWay, found_by};
 
 use crate::evidence::{Ending, InTurn, KeepsReplies, Reply};
 use crate::lemmas::session_laws;
 use std::alloc::Global;
 use ws_base::NoMemory;
-use ws_session::{Event, Limits, MAX_MESSAGE, PlacedEvent, Session};
+use ws_session::{Event, Limits, MAX_MESSAGE, Session};
 use ws_wire::{NO_KEY, Role};
 
 /// One of the two directions, and what is collected of it.
@@ -66,11 +66,8 @@ fn most() -> Limits
     }
 }
 
-/// How many bytes of a piece are taken at once: so few that the room for their events doesn't count.
-pub(super) const AT_ONCE: usize = 4096;
-
-/// Takes a piece of the turn with this number, which is the last, and collects what it says. The events of some bytes
-/// are collected before more bytes are taken.
+/// Takes a piece of the turn with this number, which is the last, and collects what it says. Each event is collected
+/// before more bytes are taken: so there is no list of them.
 pub(super) fn take_piece<K: KeepsReplies>(
     alloc: Global,
     way: Way,
@@ -84,67 +81,53 @@ pub(super) fn take_piece<K: KeepsReplies>(
         taken.new.session taken.new.collected) }
     ensures over { is_over taken.old.session.status ≡ true → taken.new.session ≡ taken.old.session }
 {
+    session_laws();
+    let mut replies = Vec::new(alloc);
     let mut rest = piece;
     while !rest.is_empty() {
-        let (part, after) = rest.split_at(rest.len().min(AT_ONCE));
-        take_part(alloc, way, number, part, taken)?;
-        rest = after;
+        let used = take_front(way, number, rest, &mut replies, taken)?;
+        replies.clear();
+        rest = &rest[used..];
     }
     Ok(())
 }
 
-/// Takes a part of a piece at once.
-fn take_part<K: KeepsReplies>(
-    alloc: Global,
+/// Takes the front of a piece, up to its next event, and collects that: how many bytes these are. What the session
+/// replies is put behind `replies`, and asked by nobody.
+fn take_front<K: KeepsReplies>(
     way: Way,
     number: usize,
     piece: &[u8],
+    replies: &mut Vec<u8>,
     taken: &mut Taken<K>,
-) -> Result<(), NoMemory>
+) -> Result<usize, NoMemory>
     requires { 0 < length piece.now }
-    ensures taken { (role : Role) (turns : List (List ℕ)) (last : List ℕ) → number ≡ length turns →
+    ensures used { IfOk result (λ used. (0 < used) × (used ≤ length piece.now)) }
+    ensures taken { EventLaws → (role : Role) (turns : List (List ℕ)) (last : List ℕ) → number ≡ length turns →
         HasTakenWay K.keeps way role (turns ++ last ∷ []) taken.old.session taken.old.collected →
-        OnOk result (HasTakenWay K.keeps way role (turns ++ (last ++ piece.now) ∷ [])
+        IfOk result (λ used. HasTakenWay K.keeps way role (turns ++ (last ++ take used piece.now) ∷ [])
         taken.new.session taken.new.collected) }
     ensures over { is_over taken.old.session.status ≡ true → taken.new.session ≡ taken.old.session }
 {
-    session_laws();
-    let mut out = Vec::new(alloc);
-    let mut events = Vec::new(alloc);
-    taken
-        .session
-        .take_all(piece, NO_KEY, &mut out, &mut events)?;
-    taken.collected.has_rest = last_end(&events) < piece.len();
-    collect_events(way, number, events, &mut taken.collected)?;
-    Ok(())
+    let front = taken.session.take(piece, NO_KEY, replies)?;
+    taken.collected.has_rest = front.event.is_none();
+    collect_found(way, number, front.event, &mut taken.collected)?;
+    Ok(front.used)
 }
 
-/// The greatest place at which an event ends, or 0.
-fn last_end(events: &[PlacedEvent]) -> usize
-    ensures { result ≡ last_end events.now }
-{
-    let mut end = 0;
-    let mut place = events.len();
-    while place > 0 {
-        place -= 1;
-        end = events[place].end.max(end);
-    }
-    end
-}
-
-/// Collects what the events of a turn say.
-fn collect_events<K: KeepsReplies>(
+/// Collects what an event says, if there is one.
+fn collect_found<K: KeepsReplies>(
     way: Way,
-    number: usize,
-    events: Vec<PlacedEvent>,
+    turn: usize,
+    event: Option<Event>,
     collected: &mut Collected<K>,
 ) -> Result<(), NoMemory>
-    ensures { OnOk result (AreCollected K.keeps way number (events_in events.items) collected.old collected.new) }
+    ensures { OnOk result (AreCollected K.keeps way turn (option_to_list event) collected.old collected.new) }
 {
-    for placed in events {
-        collect_event(way, number, placed.event, collected)?;
+    match event {
+        Some(event) => collect_event(way, turn, event, collected),
+        None => Ok(()),
     }
-    Ok(())
 }
 
 /// Collects what an event says.

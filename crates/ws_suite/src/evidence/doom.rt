@@ -8,7 +8,6 @@ ghost use Rattle.ws_suite.specs.Doom.{AnswersDoom, CountsAs, HasDoomCounted, IsD
 ghost use Rattle.ws_suite.specs.Doom.{IsLastWithBytes, counts_doom};
 ghost use Rattle.ws_suite.specs.InnerDoom.{AreWithoutBytes, HasTakenBytes};
 
-use crate::evidence::collecting::AT_ONCE;
 use crate::evidence::{Direction, Ending, Evidence, InTurn, ends_with_close, is_close_ending};
 use std::alloc::Global;
 use ws_base::NoMemory;
@@ -164,27 +163,17 @@ fn is_doomed_after(
     Ok(session.is_doomed())
 }
 
-/// Takes bytes, and drops what they say, before more of them are taken.
+/// Takes bytes, and drops what they say, event after event.
 fn take_bytes(alloc: Global, bytes: &[u8], session: &mut Session) -> Result<(), NoMemory>
     ensures { (role : Role) (before : List ℕ) → HasTakenBytes role before session.old
         → OnOk result (HasTakenBytes role (before ++ bytes.now) session.new) }
 {
+    let mut replies = Vec::new(alloc);
     let mut rest = bytes;
     while !rest.is_empty() {
-        let (part, after) = rest.split_at(rest.len().min(AT_ONCE));
-        take_part(alloc, part, session)?;
-        rest = after;
+        let front = session.take(rest, NO_KEY, &mut replies)?;
+        replies.clear();
+        rest = &rest[front.used..];
     }
-    Ok(())
-}
-
-/// Takes bytes at once.
-fn take_part(alloc: Global, bytes: &[u8], session: &mut Session) -> Result<(), NoMemory>
-    ensures { (role : Role) (before : List ℕ) → HasTakenBytes role before session.old
-        → OnOk result (HasTakenBytes role (before ++ bytes.now) session.new) }
-{
-    let mut out = Vec::new(alloc);
-    let mut events = Vec::new(alloc);
-    session.take_all(bytes, NO_KEY, &mut out, &mut events)?;
     Ok(())
 }

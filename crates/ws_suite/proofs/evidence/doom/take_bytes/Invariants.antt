@@ -1,4 +1,4 @@
--- Part after part: what stands before the rest of the bytes was taken, and the rest grows shorter.
+-- Front after front: what stands before the rest of the bytes was taken, and the rest grows shorter.
 use Rattle.std.proofs.Common.{◌≡◌, ◌++◌, ℕ, List, length}
 use Rattle.ws_wire.specs.declared.role.Role.{Role}
 use Rattle.ws_suite.specs.InnerDoom.{HasTakenBytes}
