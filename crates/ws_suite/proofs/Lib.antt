@@ -18,3 +18,4 @@ mod TurnsAdded
 mod FairEvidence
 mod KeptLemmas
 mod ChosenLemmas
+mod AnsweredLemmas

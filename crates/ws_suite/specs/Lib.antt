@@ -13,4 +13,5 @@ pub mod InnerDoom
 pub mod InnerEchoReplyLaws
 pub mod InnerJudging
 pub mod InnerChosen
+pub mod InnerAnswered
 pub mod InnerInStep

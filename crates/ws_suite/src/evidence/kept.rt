@@ -1,6 +1,7 @@
 //! Replies that take little room: their payloads stand one behind the other, and each reply has a small head.
 
 ghost use Rattle.std.specs.Prelude.{◌≡◌, ◌↔◌, ◌≤◌, ◌∷◌, ◌++◌, [], length, IsTrue, OnOk};
+ghost use Rattle.ws_suite.specs.InnerAnswered.{AreAnsweredEach, AreHeadsAnswered};
 ghost use Rattle.ws_suite.specs.Kept.{first_of, reply_of, what_of};
 
 use crate::evidence::{InTurn, Reply};
@@ -76,6 +77,15 @@ impl Replies {
         Ok(())
     }
 
+    /// Whether these are the due ones, one for one, and none stands in an earlier turn than its cause. They are
+    /// compared as they are kept: their heads, and then all payloads at once.
+    pub(crate) fn answer_each(&self, due: &Replies) -> bool
+        ensures { IsTrue result → AreAnsweredEach due.now self.now }
+    {
+        are_heads_answered(due.heads.as_slice(), self.heads.as_slice())
+            && due.payloads.as_slice() == self.payloads.as_slice()
+    }
+
     /// The replies, one after the other.
     pub fn iter(&self) -> Walk<'_>
         ensures { result ≡ self.now }
@@ -84,6 +94,46 @@ impl Replies {
             heads: self.heads.as_slice(),
             payloads: self.payloads.as_slice(),
         }
+    }
+}
+
+/// Whether replies with these heads are the due ones, where they have the same payloads.
+fn are_heads_answered(due: &[Head], got: &[Head]) -> bool
+    ensures { IsTrue result → AreHeadsAnswered due.now got.now }
+{
+    let mut due_left = due;
+    let mut got_left = got;
+    while let Some((first, due_rest)) = due_left.split_first() {
+        let Some((head, got_rest)) = got_left.split_first() else {
+            return false;
+        };
+        if !is_head_answered(first, head) {
+            return false;
+        }
+        due_left = due_rest;
+        got_left = got_rest;
+    }
+    got_left.is_empty()
+}
+
+/// Whether a reply with this head is the due one, where it has the same payload.
+fn is_head_answered(due: &Head, got: &Head) -> bool
+    ensures { IsTrue result ↔ (got.now.kind ≡ due.now.kind) × (got.now.len ≡ due.now.len)
+        × (due.now.turn ≤ got.now.turn) }
+{
+    are_one_kind(got.kind, due.kind) && got.len == due.len && due.turn <= got.turn
+}
+
+/// Whether two replies are of one kind.
+fn are_one_kind(one: ReplyKind, other: ReplyKind) -> bool
+    ensures { IsTrue result ↔ (one ≡ other) }
+{
+    match (one, other) {
+        (ReplyKind::Text, ReplyKind::Text)
+        | (ReplyKind::Binary, ReplyKind::Binary)
+        | (ReplyKind::Pong, ReplyKind::Pong)
+        | (ReplyKind::Ping, ReplyKind::Ping) => true,
+        _ => false,
     }
 }
 

@@ -1,10 +1,12 @@
 //! What is found by comparing what was got with what is due: no list is made of them, and the rules read what came
 //! of it.
 
-ghost use Rattle.std.specs.Prelude.{IfOk};
+ghost use Rattle.std.specs.Prelude.{◌≡◌, IfOk};
+ghost use Rattle.ws_suite.specs.declared.evidence.Evidence.{Evidence};
+ghost use Rattle.ws_suite.specs.InnerAnswered.{AreAnsweredEach};
 ghost use Rattle.ws_suite.specs.InnerJudging.{AreFindingsOf, without_pings};
 
-use crate::evidence::Evidence;
+use crate::evidence::{Evidence, Replies};
 use crate::judging::chosen::{Chosen, Wanted};
 use crate::judging::pongs::{has_last_pong, match_pongs};
 use crate::judging::replies::{any_before, are_fewer, are_left, begins, is_any};
@@ -34,8 +36,37 @@ pub(crate) struct Findings {
     pub keeps_order: bool,
 }
 
-/// What is found in the evidence.
+/// What is found in the evidence. Where what was got is what is due, one for one, it is known at once.
 pub(super) fn findings_of(alloc: Global, x: &Evidence) -> Result<Findings, NoMemory>
+    ensures { IfOk result (λ found. AreFindingsOf (without_pings x.now) found) }
+{
+    if x.got.replies.answer_each(&x.due.replies) {
+        return Ok(found_of_answered(&x.due.replies));
+    }
+    found_by_walks(alloc, x)
+}
+
+/// What is found where each due reply was got, and no other.
+fn found_of_answered(due: &Replies) -> Findings
+    ensures { (x : Evidence) → x.due.replies ≡ due.now → AreAnsweredEach x.due.replies x.got.replies
+        → AreFindingsOf (without_pings x) result }
+{
+    let owes_pongs = is_any(Chosen::among(due, Wanted::Pongs));
+    Findings {
+        has_early_message: false,
+        has_early_pong: false,
+        has_unmatched_pong: false,
+        begins: true,
+        is_short_of_messages: false,
+        is_short_of_pongs: false,
+        owes_pongs,
+        has_last_pong: owes_pongs,
+        keeps_order: true,
+    }
+}
+
+/// What is found by walks over both lists of replies.
+fn found_by_walks(alloc: Global, x: &Evidence) -> Result<Findings, NoMemory>
     ensures { IfOk result (λ found. AreFindingsOf (without_pings x.now) found) }
 {
     let due = &x.due.replies;
