@@ -183,11 +183,41 @@ fn bytes_of(alloc: Global, key: Option<[u8; 4]>, steps: &[Step]) -> Result<Vec<u
     requires { FitHeaders steps.now }
     ensures { IfOk result (λ bytes. bytes.items ≡ turn_bytes key steps.now) }
 {
-    let mut bytes = Vec::new(alloc);
+    let mut bytes = Vec::with_capacity(alloc, room_for(steps, key.is_some()))?;
     for step in steps {
         append_step(step, key, &mut bytes)?;
     }
     Ok(bytes)
+}
+
+/// How many bytes the steps have, so that they are put into a room that needn't grow. No contract speaks of the room.
+fn room_for(steps: &[Step], masked: bool) -> usize {
+    let mut room: usize = 0;
+    for step in steps {
+        room = room.saturating_add(bytes_in(step, masked));
+    }
+    room
+}
+
+/// How many bytes a step has.
+fn bytes_in(step: &Step, masked: bool) -> usize {
+    match step {
+        Step::Frame { payload, .. } => payload
+            .len()
+            .saturating_add(header_len(payload.len(), masked)),
+        Step::Raw(bytes) => bytes.len(),
+        Step::Wait => 0,
+    }
+}
+
+/// How many bytes the shortest header of a frame has (RFC 6455 section 5.2).
+fn header_len(payload: usize, masked: bool) -> usize {
+    let key = if masked { 4 } else { 0 };
+    match payload {
+        0..=125 => 2 + key,
+        126..=65_535 => 4 + key,
+        _ => 10 + key,
+    }
 }
 
 /// Puts the bytes of a step at the end of `out`.
