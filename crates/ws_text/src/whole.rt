@@ -84,8 +84,8 @@ pub(crate) fn is_short_ascii(bytes: &[u8]) -> bool
 }
 
 /// How many bytes at the front of few were seen to be ASCII: all, or those of the vectors before the first that isn't.
-/// Less than the narrowest vector is looked at byte by byte. It stands apart, so that what is made a part of the callers
-/// stays small.
+/// Less than the narrowest vector is looked at byte by byte. It stands apart, so that what is made a part of the
+/// callers stays small.
 #[inline(never)]
 pub(crate) fn few_ascii(bytes: &[u8]) -> usize
     ensures within { result ≤ length bytes.now }
