@@ -2,4 +2,5 @@
 pub mod Numbers
 pub mod OrderLaws
 pub mod Sending
+pub mod Ends
 pub mod Running

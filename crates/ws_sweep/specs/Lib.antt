@@ -4,3 +4,4 @@ pub mod ShortCases
 pub mod Telling
 pub mod Examples
 pub mod InnerLaws
+pub mod InnerFronts

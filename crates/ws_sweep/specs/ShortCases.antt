@@ -56,3 +56,11 @@ AreCaseSteps tested key places steps =
 pub record IsShortCase (tested : Role) (key : Option (List ℕ)) (places : List ℕ) (case : Case) : Type 0 where
   pub steps : AreCaseSteps tested key places case.steps
   pub whole : case.chop ≡ Whole
+
+-- ---- one case after the other
+
+-- the role of the tested ends and the key for which cases are made, and the case that was made last
+pub record CaseInHand : Type 0 where
+  pub tested : Role
+  pub key : Option (List ℕ)
+  pub case : Case

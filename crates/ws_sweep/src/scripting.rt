@@ -46,7 +46,11 @@ pub fn short_case(
 }
 
 /// The steps of a script.
-fn steps_of(alloc: Global, tested: Role, script: &ShortScript) -> Result<Vec<Step>, NoMemory>
+pub(crate) fn steps_of(
+    alloc: Global,
+    tested: Role,
+    script: &ShortScript,
+) -> Result<Vec<Step>, NoMemory>
     requires { ArePlaces script.now }
     ensures { IfOk result (λ steps. steps.items ≡ short_steps tested script.now) }
 {
@@ -59,7 +63,7 @@ fn steps_of(alloc: Global, tested: Role, script: &ShortScript) -> Result<Vec<Ste
 }
 
 /// A case of these steps, whose turns are sent whole.
-fn whole_case(alloc: Global, steps: Vec<Step>) -> Result<Case, NoMemory>
+pub(crate) fn whole_case(alloc: Global, steps: Vec<Step>) -> Result<Case, NoMemory>
     ensures steps { IfOk result (λ case. case.steps ≡ steps.items) }
     ensures whole { IfOk result (λ case. case.chop ≡ Whole) }
 {
@@ -72,7 +76,7 @@ fn whole_case(alloc: Global, steps: Vec<Step>) -> Result<Case, NoMemory>
 }
 
 /// The case with a close behind its steps.
-fn with_close(alloc: Global, case: Case) -> Result<Case, NoMemory>
+pub(crate) fn with_close(alloc: Global, case: Case) -> Result<Case, NoMemory>
     ensures steps { IfOk result (λ closed. closed.steps ≡ case.steps ++ close_step ∷ []) }
     ensures chop { IfOk result (λ closed. closed.chop ≡ case.chop) }
 {
@@ -91,7 +95,21 @@ fn has_end(alloc: Global, tested: Role, key: Option<[u8; 4]>, case: &Case) -> Re
     requires { CanBeRun case.now }
     ensures { IfOk result (λ ends. IsTrue ends ↔ HasEnd tested (bytes_sent case.now.steps key)) }
 {
-    let bytes = bytes_with(alloc, case.steps.as_slice(), key)?;
+    let ends = steps_have_end(alloc, tested, key, case.steps.as_slice())?;
+    Ok(ends)
+}
+
+/// Whether what steps send to an end of this role holds a close or a fault.
+pub(crate) fn steps_have_end(
+    alloc: Global,
+    tested: Role,
+    key: Option<[u8; 4]>,
+    steps: &[Step],
+) -> Result<bool, NoMemory>
+    requires { FitHeaders steps.now }
+    ensures { IfOk result (λ ends. IsTrue ends ↔ HasEnd tested (bytes_sent steps.now key)) }
+{
+    let bytes = bytes_with(alloc, steps, key)?;
     let ends = is_over_after(alloc, tested, &bytes)?;
     Ok(ends)
 }

@@ -1,6 +1,6 @@
 //! The scripts of at most some steps, in the order of their lengths and then of the alphabet.
 
-ghost use Rattle.std.specs.Prelude.{◌≡◌, ◌+◌, ◌<◌, ◌≤◌};
+ghost use Rattle.std.specs.Prelude.{◌≡◌, ◌+◌, ◌<◌, ◌≤◌, length};
 ghost use Rattle.ws_sweep.specs.Order.{ArePlaces, count_of_scripts, max_steps, script_number};
 
 use std::marker::Model;
@@ -53,6 +53,13 @@ impl ShortScript {
         ensures { result.now ≡ self.now }
     {
         &self.room[self.start..]
+    }
+
+    /// Does nothing: a script has so many steps at most.
+    pub(crate) fn has_few_steps(&self)
+        ensures { length self.now ≤ max_steps }
+    {
+        let _places = &self.room[self.start..];
     }
 }
 

@@ -6,7 +6,8 @@ ghost use Rattle.ws_frame.specs.Devices.{watched};
 ghost use Rattle.ws_frame.specs.Watching.{has_failed};
 ghost use Rattle.ws_sweep.specs.Order.{ArePlaces, max_steps};
 ghost use Rattle.wst_testing.specs.Notes.{TellsEach};
-ghost use Rattle.wst_testing.specs.Sweeps.{CountsScripts, IsConnected, SweepsScript, SweepsScripts, TellsSweepEnd};
+ghost use Rattle.wst_testing.specs.Sweeps.{CountsScripts, IsConnected, MakesCasesOf, SweepsScript, SweepsScripts};
+ghost use Rattle.wst_testing.specs.Sweeps.{TellsSweepEnd};
 ghost use Rattle.wst_testing.specs.Sweeps.{WritesText, case_rules, is_told, script_line, script_notes, sweep_total};
 ghost use Rattle.wst_testing.specs.Sweeps.{told_line};
 
@@ -19,7 +20,7 @@ use ws_base::NoMemory;
 use ws_frame::{Watched, WriteFault, write_whole};
 use ws_peer::tester_key;
 use ws_suite::Verdict;
-use ws_sweep::{ShortScript, ShortScripts, script_count, short_case, tell_steps};
+use ws_sweep::{ShortCases, ShortScript, ShortScripts, script_count, tell_steps};
 use ws_wire::Role;
 use wst_commands::{Exit, Fault, tell, tell_fault};
 use wst_sockets::ConnectFault;
@@ -101,10 +102,12 @@ fn run_scripts<S: CaseServer, W: Write, F: Write>(
     requires steps { rules.steps ≤ max_steps }
     ensures { CountsScripts (S.meets server.now rules.key) rules result (watched W.contents writer.old writer.new) }
 {
+    let key = tester_key(rules.tested, rules.key);
+    let mut cases = ShortCases::new(alloc, rules.tested, key)?;
     let mut tally = Tally::new();
     let mut scripts = ShortScripts::up_to(rules.steps);
     while let Some(script) = scripts.next() {
-        let outcome = run_script(alloc, server, rules, &script, writer, faults)?;
+        let outcome = run_script(alloc, server, rules, &script, &mut cases, writer, faults)?;
         tally = tally.with(&outcome);
     }
     Ok(tally)
@@ -116,18 +119,20 @@ fn run_script<S: CaseServer, W: Write, F: Write>(
     server: &S,
     rules: SweepRules,
     script: &ShortScript,
+    cases: &mut ShortCases,
     writer: &mut Watched<W>,
     faults: &mut Watched<F>,
 ) -> Result<Outcome, SweepStop>
     requires works { has_failed writer.old ≡ false }
     requires places { ArePlaces script.now }
-    ensures { SweepsScript (S.meets server.now rules.key) rules script.now result
+    requires cases { MakesCasesOf rules cases.old }
+    ensures swept { SweepsScript (S.meets server.now rules.key) rules script.now result
         (watched W.contents writer.old writer.new) }
+    ensures cases { MakesCasesOf rules cases.new }
 {
     tell_script(alloc, rules, script, faults)?;
-    let key = tester_key(rules.tested, rules.key);
-    let case = short_case(alloc, rules.tested, key, script)?;
-    let outcome = outcome_of(alloc, server, &case, case_rules(rules))?;
+    cases.go_to(alloc, script)?;
+    let outcome = outcome_of(alloc, server, cases.case(), case_rules(rules))?;
     let told = connected(outcome)?;
     tell_outcome(alloc, rules, script, &told, writer)?;
     Ok(told)

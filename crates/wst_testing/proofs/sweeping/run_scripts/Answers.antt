@@ -1,20 +1,28 @@
 -- The next script was run behind those before it, or the run stops there.
-use Rattle.std.proofs.Common.{arith}
+use Rattle.std.proofs.Common.{◌≡◌, IsErrAnd, arith, rules}
 use Rattle.ws_frame.specs.Devices.{watched}
 use Rattle.ws_frame.specs.Watching.{has_failed, inner_of}
-use Rattle.wst_testing.proofs.SweepLemmas.{counts_stop, room_left, swept_more}
+use Rattle.wst_testing.specs.declared.sweeping.SweepStop.TheVariants as stop
+use Rattle.wst_testing.proofs.SweepLemmas.{counts_stop, lacks_at_first, room_left, swept_more}
 use Rattle.wst_testing.proofs.sweeping.run_scripts.Goals as goal
+
+pub returns-in_err-cases : goal.returns-in_err-cases
+returns-in_err-cases g c =
+    let stopped : IsErrAnd c.from_residual.result (λ why. why ≡ stop.NoMemory) = search rules in
+    lacks_at_first (g.S.CaseServer.meets c.args.server.now c.args.rules.key) c.args.rules
+    c.from_residual.result (g.W.Write.contents (inner_of c.args.writer.now))
+    (has_failed c.args.writer.now) stopped
 
 pub returns-in_err-outcome : goal.returns-in_err-outcome
 returns-in_err-outcome g c =
     let at = c.loop-script in
     let given = c.in-Some.ensures.steps in
     counts_stop (g.S.CaseServer.meets c.args.server.now c.args.rules.key) c.args.rules at.scripts.next at.tally
-    c.in-Some.script c.in_err-outcome.field-0.0 c.from_residual.result
+    c.in-Some.script c.in_err-outcome.field-0.0 c.from_residual-in_err-outcome.result
     (g.W.Write.contents (inner_of c.args.writer.now)) (g.W.Write.contents (inner_of at.writer))
     (g.W.Write.contents (inner_of c.run_script.new.writer)) (has_failed at.writer)
-    (has_failed c.run_script.new.writer) at.invariant.run given.0 given.1 c.in_err-outcome.ensures
-    c.from_residual.ensures.1
+    (has_failed c.run_script.new.writer) at.invariant.run given.0 given.1 c.in_err-outcome.ensures.swept
+    c.from_residual-in_err-outcome.ensures.1
 
 pub with-tally-requires-clause-pass : goal.with-tally-requires-clause-pass
 with-tally-requires-clause-pass g c =
@@ -41,9 +49,10 @@ pub loop-script-preserved-in_ok-outcome : goal.loop-script-preserved-in_ok-outco
 loop-script-preserved-in_ok-outcome g c =
     let at = c.loop-script in
     let given = c.in-Some.ensures.steps in
-    let told = c.in_ok-outcome.ensures in
+    let told = c.in_ok-outcome.ensures.swept in
     let place = at.invariant.place in
     record {
+      cases = c.in_ok-outcome.ensures.cases;
       works = told.3;
       place = omega (arith, place, given.2, given.3);
       run = swept_more (g.S.CaseServer.meets c.args.server.now c.args.rules.key) c.args.rules at.scripts.next
@@ -58,9 +67,10 @@ pub loop-script-preserved : goal.loop-script-preserved
 loop-script-preserved g c =
     let at = c.loop-script in
     let given = c.in-Some.ensures.steps in
-    let told = c.in_ok-outcome.ensures in
+    let told = c.in_ok-outcome.ensures.swept in
     let place = at.invariant.place in
     record {
+      cases = c.in_ok-outcome.ensures.cases;
       works = told.3;
       place = omega (arith, place, given.2, given.3);
       run = swept_more (g.S.CaseServer.meets c.args.server.now c.args.rules.key) c.args.rules at.scripts.next
