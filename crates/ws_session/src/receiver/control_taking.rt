@@ -8,9 +8,10 @@ ghost use Rattle.ws_session.specs.InnerReceiver.{IsSoundReceiver, IsExact, IsOwe
 ghost use Rattle.ws_session.specs.InnerTaking.{Receives, WantsRoom};
 
 use crate::event::Taken;
+use crate::opcode::PING;
 use crate::receiver::Receiver;
-use crate::receiver::control_frame::{check_control, whole_ping};
-use crate::receiver::frame_check::FrameCheck;
+use crate::receiver::control_frame::{check_control, whole_payload};
+use crate::receiver::frame_check::{Content, FrameCheck};
 use crate::replying::Replying;
 use ws_base::NoMemory;
 use ws_wire::Header;
@@ -47,15 +48,18 @@ impl Receiver {
         ensures wants { OnErr result (WantsRoom (IsOwed replying.now) self.old piece.now) }
     {
         if !self.frame.holds_control()
-            && let Some(payload) = whole_ping(header, start, &piece[start..])
+            && let Some(payload) = whole_payload(header, start, &piece[start..])
         {
             let used = start + payload.as_slice().len();
-            return self.on_ping(used, payload, replying, out);
+            if header.opcode() == PING {
+                return self.on_ping(used, payload, replying, out);
+            }
+            return self.on_content(used, Content::Pong(payload), replying, out);
         }
         self.take_any_control(header, start, piece, replying, out)
     }
 
-    /// The same of any control frame. It keeps what it finds in more places, for which a whole ping doesn't pay.
+    /// The same of any control frame. It keeps what it finds in more places than a whole ping or pong needs.
     #[inline(never)]
     fn take_any_control(
         &mut self,
