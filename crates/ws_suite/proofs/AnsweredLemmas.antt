@@ -125,8 +125,12 @@ answered_in_order (due ∷ dues) (got ∷ gots) (same, turn, later) = pick (is_a
   where
     pick : (b : Bool) → is_answer got.what ≡ b → IsWithSomeLeftOut (bare (answers_among gots)) (bare dues)
         → IsWithSomeLeftOut (bare (answers_among (got ∷ gots))) (bare (due ∷ dues))
-    pick true is h = inr (bare (answers_among gots), ap (λ (b : Bool). bare (if b then got ∷ answers_among gots else answers_among gots)) is
-        ∙ ap (λ (r : Reply). r ∷ bare (answers_among gots)) same, h)
+    pick true is h = inr (
+      bare (answers_among gots),
+      ap (λ (b : Bool). bare (if b then got ∷ answers_among gots else answers_among gots)) is
+          ∙ ap (λ (r : Reply). r ∷ bare (answers_among gots)) same,
+      h,
+    )
     pick false is h = inl (subst (λ (l : List Reply). IsWithSomeLeftOut l (bare dues))
         (sym (ap (λ (b : Bool). bare (if b then got ∷ answers_among gots else answers_among gots)) is)) h)
 
