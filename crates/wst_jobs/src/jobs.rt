@@ -1,6 +1,6 @@
 //! The jobs, each at its full size for the part 1.
 
-ghost use Rattle.std.specs.Prelude.{◌<◌};
+ghost use Rattle.std.specs.Prelude.{◌<◌, ◌≤◌};
 
 use crate::captures::{Echo, Format, capture, late_pongs};
 use crate::chance::Chance;
@@ -29,6 +29,14 @@ pub enum Job {
     Sweep,
     /// Late pongs, single bytes, tiny frames and texts that are cut inside a character.
     Awkward,
+}
+
+/// How much of a job the part 1 has, so that it takes about half a second: a smaller part has it once.
+fn times(full: u32, part: u32) -> u32
+    requires { full ≤ 3 }
+    ensures { result ≤ 3 }
+{
+    if part == 1 { full } else { 1 }
 }
 
 /// The bytes of a part of so many megabytes.
@@ -75,9 +83,7 @@ impl Job {
         match self {
             Job::Captures => captures(alloc, net, part, &mut chance, &mut results)?,
             Job::Scripts => {
-                // So often that it takes about half a second.
-                let rounds = if part == 1 { 3 } else { 1 };
-                for _ in 0..rounds {
+                for _ in 0..times(3, part) {
                     scripts(alloc, net, part, &mut chance, &mut results)?;
                 }
             }
@@ -88,7 +94,7 @@ impl Job {
                     net,
                     frames,
                     Mix::Chat,
-                    megabytes(350, part),
+                    megabytes(350 * times(2, part), part),
                     chance,
                     &mut results,
                 )?;
@@ -264,10 +270,11 @@ fn endpoint(alloc: Global, part: u32, chance: &mut Chance, results: &mut String)
     requires { 0 < part }
 {
     let frames = Frames::new(alloc, Fill::Ascii, chance)?;
+    let times = times(2, part);
     let sizes = [
-        (megabytes(100, part), Pieces::Segments),
-        (megabytes(20, part), Pieces::Small),
-        (megabytes(2, part), Pieces::Bytes),
+        (megabytes(100 * times, part), Pieces::Segments),
+        (megabytes(20 * times, part), Pieces::Small),
+        (megabytes(2 * times, part), Pieces::Bytes),
     ];
     for pieces in sizes {
         serve(alloc, &frames, Mix::Chat, pieces, chance, results)?;
