@@ -127,7 +127,6 @@ impl Receiver {
 
     /// Takes bytes from the front of a piece, up to the end of one frame or to a fault, and puts what is owed for that
     /// at the end of `out`. `NoMemory` leaves all that shows as it was.
-    #[inline(always)]
     pub(crate) fn take(
         &mut self,
         status: &Status,

@@ -134,7 +134,6 @@ impl Session {
     /// is owed for that at the end of `out`. `key` masks what a client puts. Call it again with the
     /// rest of the piece. Once the session is over a piece is used whole and says nothing.
     /// `NoMemory` where a growth was refused: then nothing is taken and nothing changed.
-    #[inline(always)]
     pub fn take(&mut self, piece: &[u8], key: [u8; 4], out: &mut Vec<u8>) -> Result<Taken, NoMemory>
         ensures taken { IfOk result (λ taken. HasTaken reply_to self.old self.new
             (record { piece = piece.now; key = key; before = out.old.items; after = out.new.items }) taken) }
@@ -155,7 +154,6 @@ impl Session {
     }
 
     /// Takes bytes as `take` does, and where it is echoing sends each message back.
-    #[inline(always)]
     pub(crate) fn take_by(
         &mut self,
         answering: Answering,

@@ -101,7 +101,7 @@ impl Receiver {
     }
 
     /// A ping has come.
-    pub(super) fn on_ping(
+    fn on_ping(
         &mut self,
         used: usize,
         payload: Small,

@@ -104,7 +104,6 @@ impl State {
     }
 
     /// Takes the front of a piece, and where it is echoing sends each message back.
-    #[inline(always)]
     pub(super) fn take_by(
         &mut self,
         answering: Answering,

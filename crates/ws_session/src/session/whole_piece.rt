@@ -6,7 +6,7 @@ ghost use Rattle.ws_session.specs.declared.session.Answering.{Answering};
 ghost use Rattle.ws_session.specs.Replies.{reply_to};
 ghost use Rattle.ws_session.specs.Exchange.{is_over};
 ghost use Rattle.ws_session.specs.Taking.{HasTaken, HasTakenAll, front_taken};
-ghost use Rattle.ws_session.specs.Memory.{WantsMemory, WantsMemoryToTell};
+ghost use Rattle.ws_session.specs.Memory.{WantsMemoryToTell};
 ghost use Rattle.ws_session.specs.InnerInvariant.{CanAnswer, HasTakenFront, reply_by};
 
 use crate::event::{PlacedEvent, TakeStop, Taken};
@@ -102,7 +102,7 @@ impl Session {
                 return Ok(taken.used);
             }
         }
-        let Taken { used, event } = self.take_apart(answering, piece, key, out)?;
+        let Taken { used, event } = self.take_by(answering, piece, key, out)?;
         if let Some(event) = event {
             events.push_reserved(PlacedEvent {
                 event,
@@ -110,30 +110,6 @@ impl Session {
             });
         }
         Ok(used)
-    }
-
-    /// The same as `take_by`, which is made a part of its callers: here, where the event is only put behind others,
-    /// that would cost more copies of it.
-    #[inline(never)]
-    fn take_apart(
-        &mut self,
-        answering: Answering,
-        piece: &[u8],
-        key: [u8; 4],
-        out: &mut Vec<u8>,
-    ) -> Result<Taken, NoMemory>
-        requires { CanAnswer answering self.old.sending }
-        ensures taken { IfOk result (λ taken. HasTaken (reply_by answering) self.old self.new
-            (record { piece = piece.now; key = key; before = out.old.items; after = out.new.items }) taken) }
-        ensures role { self.new.role ≡ self.old.role }
-        ensures limits { self.new.limits ≡ self.old.limits }
-        ensures used { IfOk result (λ taken. (0 < length piece.now → 0 < taken.used)
-            × (taken.used ≤ length piece.now)) }
-        ensures sending { self.new.sending ≡ self.old.sending }
-        ensures kept { OnErr result ((self.new ≡ self.old) × (out.new.items ≡ out.old.items)) }
-        ensures memory { OnErr result (WantsMemory (reply_by answering) self.old piece.now) }
-    {
-        self.state.take_by(answering, piece, key, out)
     }
 
     /// Takes a piece that gives no event, whole. `NoMemory` where it would give one, or a growth was refused: then

@@ -20,7 +20,7 @@ returns-in-Some-clause-taken c =
       event = Some c.in-Some.event;
       added = c.push_reserved.ensures.items ∙ ap (λ (l : List PlacedEvent). l ++ placed_at (c.args.before + used) (Some c.in-Some.event)) c.in-Ok.ensures.items;
       same = (c.in_ok-used.ensures.role, c.in_ok-used.ensures.limits);
-      takes = subst (λ (event : Option Event). HasTaken (reply_by c.args.answering) c.args.self.now c.take_apart.new.self (call_of c.args.piece.now c.args.key c.args.out.now.items c.take_apart.new.out.items) (taken event)) c.in-Some.is c.in_ok-used.ensures.taken;
+      takes = subst (λ (event : Option Event). HasTaken (reply_by c.args.answering) c.args.self.now c.take_by.new.self (call_of c.args.piece.now c.args.key c.args.out.now.items c.take_by.new.out.items) (taken event)) c.in-Some.is c.in_ok-used.ensures.taken;
     }
 
 pub returns-in-Err-clause-taken : goal.returns-in-Err-clause-taken
