@@ -4,14 +4,14 @@ ghost use Rattle.std.specs.Prelude.{◌≡◌, ◌≤◌, ◌+◌, ◌++◌, len
 ghost use Rattle.ws_session.specs.InnerMasked.{masked_from};
 
 use std::marker::Model;
-use ws_base::ShortBytes;
+use ws_base::FewBytes;
 use ws_text::MAX_CONTROL_PAYLOAD;
 use ws_wire::mask;
 
 /// At most 125 bytes, kept in place.
 #[derive(Clone, Copy)]
 pub struct Small {
-    bytes: ShortBytes<MAX_CONTROL_PAYLOAD>,
+    bytes: FewBytes<MAX_CONTROL_PAYLOAD>,
 }
 
 impl Model for Small {
@@ -39,7 +39,7 @@ impl Small {
         ensures { result ≡ bytes.now }
     {
         Small {
-            bytes: ShortBytes::of(bytes),
+            bytes: FewBytes::of(bytes),
         }
     }
 
@@ -48,7 +48,7 @@ impl Small {
         requires { length front.now + length back.now ≤ 125 }
         ensures { result ≡ front.now ++ back.now }
     {
-        let mut bytes = ShortBytes::of(front);
+        let mut bytes = FewBytes::of(front);
         bytes.push(back);
         Small { bytes }
     }
