@@ -4,6 +4,10 @@ ghost use Rattle.std.specs.Prelude.{◌≡◌, ◌≤◌, ◌+◌, ◌++◌, [],
 
 use std::marker::Model;
 
+/// How many bytes fill eight vectors of sixteen, with the byte of their length. What has this size is copied by whole
+/// vectors: a last one that overlaps the one before it would be read again before it is there, by a copy of the copy.
+pub const EIGHT_VECTORS: usize = 127;
+
 /// At most `N` bytes, kept in place, where `N` is at most 255: as `ShortBytes`, but their length takes one byte, and
 /// nothing is left free beside them. An event holds such bytes, and is copied from call to call.
 #[derive(Clone, Copy)]

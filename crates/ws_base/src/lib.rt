@@ -10,7 +10,7 @@ mod sequence;
 mod short_bytes;
 mod text_fault;
 
-pub use few_bytes::FewBytes;
+pub use few_bytes::{EIGHT_VECTORS, FewBytes};
 pub use memory::NoMemory;
 pub use sequence::{Payload, Sequence};
 pub use short_bytes::ShortBytes;

@@ -4,22 +4,24 @@ ghost use Rattle.std.specs.Prelude.{◌≡◌, ◌≤◌, ◌+◌, ◌++◌, len
 ghost use Rattle.ws_session.specs.InnerMasked.{masked_from};
 
 use std::marker::Model;
-use ws_base::FewBytes;
+use ws_base::{EIGHT_VECTORS, FewBytes};
 use ws_text::MAX_CONTROL_PAYLOAD;
 use ws_wire::mask;
 
 /// At most 125 bytes, kept in place.
 #[derive(Clone, Copy)]
 pub struct Small {
-    bytes: FewBytes<MAX_CONTROL_PAYLOAD>,
+    bytes: FewBytes<EIGHT_VECTORS>,
 }
 
 impl Model for Small {
-    ghost use Rattle.std.specs.Prelude.{List, ℕ};
+    ghost use Rattle.std.specs.Prelude.{◌≤◌, length, List, ℕ};
 
     ghost Value = { List ℕ };
 
     ghost view = { λ s. s.bytes };
+
+    ghost invariant = { λ s. length s.bytes ≤ 125 };
 
     ghost inverse = { λ v. record { bytes = v } };
 }

@@ -9,7 +9,7 @@ ghost use Rattle.ws_text.specs.declared.closing.CloseFault.TheVariants.{OneByte,
 use std::error::Error;
 use std::fmt;
 use std::marker::Model;
-use ws_base::FewBytes;
+use ws_base::{EIGHT_VECTORS, FewBytes};
 
 /// The most payload bytes of a control frame (section 5.5).
 pub const MAX_CONTROL_PAYLOAD: usize = 125;
@@ -39,7 +39,7 @@ pub fn code_may_begin(high: u8) -> bool
 #[derive(Clone, Copy)]
 pub struct Close {
     code: u16,
-    reason: FewBytes<MAX_REASON>,
+    reason: FewBytes<EIGHT_VECTORS>,
 }
 
 impl Model for Close {
