@@ -63,6 +63,18 @@ impl Small {
         self.bytes.push(more);
     }
 
+    /// The first bytes of a payload, unmasked.
+    pub(crate) fn unmasked(key: Option<[u8; 4]>, bytes: &[u8]) -> Small
+        requires { length bytes.now ≤ 125 }
+        ensures { result ≡ masked_from key 0 bytes.now }
+    {
+        let mut room = [0; MAX_CONTROL_PAYLOAD];
+        let (part, _) = room.split_at_mut(bytes.len());
+        part.copy_from_slice(bytes);
+        unmask(key, 0, part);
+        Small::of(part)
+    }
+
     /// These bytes, and after them those of a payload that these begin, unmasked.
     pub(crate) fn with_masked(&self, key: Option<[u8; 4]>, more: &[u8]) -> Small
         requires { length self.now + length more.now ≤ 125 }

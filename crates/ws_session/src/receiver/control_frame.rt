@@ -1,11 +1,15 @@
 //! The payload of a control frame, as it comes (RFC 6455 section 5.5).
 
-ghost use Rattle.std.specs.Prelude.{◌≡◌, ◌+◌, ◌≤◌, ◌<◌, ◌^◌, length};
+ghost use Rattle.std.specs.Prelude.{◌≡◌, ◌≢◌, ◌+◌, ◌≤◌, ◌<◌, ◌^◌, [], length, MatchOption};
+ghost use Rattle.ws_session.specs.declared.receiver.frame_check.Content.{Content};
+ghost use Rattle.ws_session.specs.declared.receiver.frame_check.FrameCheck.TheVariants.{Whole};
 ghost use Rattle.ws_session.specs.Faults.{IsControl};
-ghost use Rattle.ws_session.specs.InnerChecking.{reason_of_close};
-ghost use Rattle.ws_session.specs.InnerReceiving.{AssemblyValue, arrived_payload, IsPayloadCheck, IsWholeControl};
+ghost use Rattle.ws_session.specs.InnerChecking.{reason_of_close, frame_with};
+ghost use Rattle.ws_session.specs.InnerReceiving.{AssemblyValue, arrived_payload, IsContentOf, IsPayloadCheck};
+ghost use Rattle.ws_session.specs.InnerReceiving.{IsWholeControl};
 
 use crate::control_payload::Small;
+use crate::opcode::CLOSE;
 use crate::reason::Reason;
 use crate::receiver::assembly::Assembly;
 use crate::receiver::frame_check::{Content, FrameCheck};
@@ -42,6 +46,24 @@ pub(super) fn check_control(
         };
     }
     check_whole(header, &payload, start + here)
+}
+
+/// The payload of a ping or pong that is whole with the piece and of which none came before, as that of most: the check
+/// above keeps it in more places. `rest` is what the piece has after its first `start` bytes.
+pub(super) fn whole_payload(header: &Header, start: usize, rest: &[u8]) -> Option<Small>
+    requires opcode { IsControl header.now }
+    requires short { header.now.len ≤ 125 }
+    requires room { start + length rest.now < 2 ^ 64 }
+    ensures { MatchOption result Unit (λ payload. (header.now.opcode ≢ 8)
+        × ((a : AssemblyValue) (content : Content) → IsContentOf a (frame_with header.now payload) content
+        → IsPayloadCheck header.now 0 start a (arrived_payload header.now [] rest.now)
+        (Whole (start + length payload) content))) }
+{
+    let len = header.payload_len() as usize;
+    if header.opcode() == CLOSE || rest.len() < len {
+        return None;
+    }
+    Some(Small::unmasked(header.key(), &rest[..len]))
 }
 
 /// Checks the whole payload of a control frame, which ends with so many bytes of the piece.

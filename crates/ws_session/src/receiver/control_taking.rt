@@ -8,9 +8,10 @@ ghost use Rattle.ws_session.specs.InnerReceiver.{IsSoundReceiver, IsExact, IsOwe
 ghost use Rattle.ws_session.specs.InnerTaking.{Receives, WantsRoom};
 
 use crate::event::Taken;
+use crate::opcode::PING;
 use crate::receiver::Receiver;
-use crate::receiver::control_frame::check_control;
-use crate::receiver::frame_check::FrameCheck;
+use crate::receiver::control_frame::{check_control, whole_payload};
+use crate::receiver::frame_check::{Content, FrameCheck};
 use crate::replying::Replying;
 use ws_base::NoMemory;
 use ws_wire::Header;
@@ -20,6 +21,47 @@ impl Receiver {
     /// payload in places of its own, and stands apart so that a data frame doesn't pay for these.
     #[inline(never)]
     pub(super) fn take_control(
+        &mut self,
+        header: &Header,
+        start: usize,
+        piece: &[u8],
+        replying: &Replying,
+        out: &mut Vec<u8>,
+    ) -> Result<Taken, NoMemory>
+        requires exact { IsExact self.old }
+        requires role { replying.now.role ≡ self.old.role }
+        requires bytes { AreBytes (self.old.partial_frame ++ piece.now) }
+        requires at { IsControlAt self.old.role self.old.limits (assembly_of self.old) self.old.frame piece.now
+            header.now start }
+        ensures takes { IfOk result
+            (Receives replying.now self.old self.new piece.now out.old.items out.new.items) }
+        ensures sound { IsSoundReceiver self.new }
+        ensures exact { IfOk result (λ taken. IsExact self.new) }
+        ensures role { self.new.role ≡ self.old.role }
+        ensures limits { self.new.limits ≡ self.old.limits }
+        ensures over { IfOk result (λ taken. is_over replying.now.status ≡ false
+            → is_over (status_by replying.now.status taken.event) ≡ true
+            → (self.new.opened ≡ None) × (self.new.partial_frame ≡ [])) }
+        ensures kept { OnErr result ((self.new.opened ≡ self.old.opened)
+            × (self.new.partial_frame ≡ self.old.partial_frame) × (out.new.items ≡ out.old.items)) }
+        ensures came { OnErr result (self.new.came ≡ self.old.came) }
+        ensures wants { OnErr result (WantsRoom (IsOwed replying.now) self.old piece.now) }
+    {
+        if !self.frame.holds_control()
+            && let Some(payload) = whole_payload(header, start, &piece[start..])
+        {
+            let used = start + payload.as_slice().len();
+            if header.opcode() == PING {
+                return self.on_ping(used, payload, replying, out);
+            }
+            return self.on_content(used, Content::Pong(payload), replying, out);
+        }
+        self.take_any_control(header, start, piece, replying, out)
+    }
+
+    /// The same of any control frame. It keeps what it finds in more places than a whole ping or pong needs.
+    #[inline(never)]
+    fn take_any_control(
         &mut self,
         header: &Header,
         start: usize,

@@ -101,7 +101,7 @@ impl Receiver {
     }
 
     /// A ping has come.
-    fn on_ping(
+    pub(super) fn on_ping(
         &mut self,
         used: usize,
         payload: Small,

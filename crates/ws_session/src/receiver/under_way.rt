@@ -1,6 +1,6 @@
 //! The frame that has begun to come and isn't whole (RFC 6455 section 5.2).
 
-ghost use Rattle.std.specs.Prelude.{◌≡◌, ◌^◌, ◌≤◌, ◌<◌, length, false};
+ghost use Rattle.std.specs.Prelude.{◌≡◌, ◌^◌, ◌≤◌, ◌<◌, [], length, false};
 ghost use Rattle.ws_session.specs.declared.receiver.under_way.UnderWay.TheVariants.{Data};
 ghost use Rattle.ws_wire.specs.Header.{header_bytes};
 ghost use Rattle.ws_session.specs.InnerReceiving.{came_of, control_payload_of};
@@ -65,6 +65,13 @@ impl UnderWay {
             UnderWay::Header(bytes) => !bytes.as_slice().is_empty(),
             UnderWay::Data { .. } | UnderWay::Control { .. } => true,
         }
+    }
+
+    /// Whether payload of a control frame may have come.
+    pub(super) fn holds_control(&self) -> bool
+        ensures { result ≡ false → control_payload_of self.now ≡ [] }
+    {
+        matches!(self, UnderWay::Control { .. })
     }
 
     /// The payload of a control frame so far.
