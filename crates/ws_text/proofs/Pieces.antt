@@ -1,5 +1,5 @@
 -- One more byte, and one more piece, behind a text so far.
-use Rattle.std.proofs.Common.{◌≡◌, ℕ, ◌+◌, ◌-◌, ◌<◌, ◌≤◌, ◌⊎◌, Option, None, Some, List, [], ◌∷◌, ◌++◌, length, take, drop, get_or, sym, ap, ◌∙◌, append_assoc, arith, inl, inr, subst}
+use Rattle.std.proofs.Common.{◌≡◌, ℕ, ◌+◌, ◌-◌, ◌<◌, ◌≤◌, ◌⊎◌, Bool, true, false, Option, List, [], ◌∷◌, ◌++◌, length, take, drop, get_or, sym, ap, ◌∙◌, append_assoc, arith, inl, inr, subst}
 use Rattle.std.specs.List.{flat_map}
 use Rattle.std.specs.Prelude.{All}
 use Rattle.std.proofs.lemmas.Bool.{cases_lt}
@@ -7,10 +7,9 @@ use Rattle.std.specs.Prelude.{◌↔◌}
 use Rattle.std.proofs.lemmas.List.{append-nil, take_more, take_all, take_rest, take-append-drop, take-take, drop-take, drop-drop, length-drop, drop_all}
 use Rattle.std.proofs.lemmas.List.Elements.{All-head}
 use Rattle.ws_text.specs.Text.{IsText, BeginsText, char_bytes, IsScalarValue, IsUnfinished, HasUnfinished}
-use Rattle.std.specs.Option.{option_map}
 use Rattle.ws_text.specs.declared.unfinished.Unfinished.{Unfinished}
 use Rattle.ws_text.specs.Stream.{BreaksTextAt, HasReadText}
-use Rattle.ws_text.specs.InnerStep.{kept_bytes, BeginsCharacter, GoesOn}
+use Rattle.ws_text.specs.InnerStep.{kept_bytes, stream_of, BeginsCharacter, GoesOn}
 use Rattle.ws_text.proofs.Texts.{text_append, text_of_character, begins_of_unfinished, begins_by_unfinished, unfinished_of_text, text_without_unfinished}
 
 -- ---- one byte
@@ -145,11 +144,9 @@ broken text piece place b h =
     let parts : (text ++ take (place + 1) piece) ++ drop (place + 1) piece ≡ text ++ piece = append_assoc text (take (place + 1) piece) (drop (place + 1) piece) ∙ ap (λ (l : List ℕ). text ++ l) (take-append-drop (place + 1) piece) in
     b.after (front_begins (text ++ take (place + 1) piece) (drop (place + 1) piece) (subst (λ (l : List ℕ). BeginsText l) (sym parts) h))
 
-pub read_of : (kept : Option Unfinished) (unfinished : Unfinished) (stream : Option (List ℕ)) (text : List ℕ) → kept ≡ Some unfinished → option_map kept_bytes kept ≡ stream → HasReadText stream text → HasUnfinished text (kept_bytes unfinished)
-read_of None unfinished stream text e view h = absurd cc
-read_of (Some kept) unfinished stream text e view h =
-    let same : kept ≡ unfinished = cc in
-    subst (λ (u : Unfinished). HasUnfinished text (kept_bytes u)) same (subst (λ (s : Option (List ℕ)). HasReadText s text) (sym view) h)
+pub read_of : (kept : Unfinished) (failed : Bool) (stream : Option (List ℕ)) (text : List ℕ) → failed ≡ false → stream_of kept failed ≡ stream → HasReadText stream text → HasUnfinished text (kept_bytes kept)
+read_of kept true stream text e view h = absurd cc
+read_of kept false stream text e view h = subst (λ (s : Option (List ℕ)). HasReadText s text) (sym view) h
 
 -- the same of fewer bytes of a piece
 fewer_begin : (text piece : List ℕ) (few many : ℕ) → few ≤ many → BeginsText (text ++ take many piece) → BeginsText (text ++ take few piece)

@@ -1,5 +1,5 @@
 -- Inside the crate: one more byte after an unfinished character, for contracts of private functions.
-use Rattle.std.specs.Prelude.{◌≡◌, ℕ, ◌⊎◌, List, [], ◌∷◌, ◌++◌}
+use Rattle.std.specs.Prelude.{◌≡◌, ℕ, ◌⊎◌, Bool, true, false, List, [], ◌∷◌, ◌++◌, Option, Some, None}
 use Rattle.ws_text.specs.Text.{IsScalarValue, char_bytes, IsUnfinished}
 use Rattle.ws_text.specs.declared.unfinished.Unfinished.{Unfinished}
 use Rattle.ws_text.specs.declared.unfinished.Unfinished.TheVariants.{Nothing, One, Two, Three}
@@ -17,6 +17,29 @@ from_kept_bytes [] = Nothing
 from_kept_bytes (a ∷ []) = One a
 from_kept_bytes (a ∷ b ∷ []) = Two a b
 from_kept_bytes (a ∷ b ∷ d ∷ bytes) = Three a b d
+
+-- ---- a stream
+
+-- what a stream is seen as, of what it keeps and whether it has failed
+abbrev pub stream_of : Unfinished → Bool → Option (List ℕ)
+stream_of kept true = None
+stream_of kept false = Some (kept_bytes kept)
+
+-- what it keeps is unfinished, and nothing once it has failed
+abbrev pub IsStream : Unfinished → Bool → Type 0
+IsStream kept true = kept ≡ Nothing
+IsStream kept false = IsUnfinished (kept_bytes kept)
+
+-- and back
+abbrev pub kept_in : Option (List ℕ) → Unfinished
+kept_in None = Nothing
+kept_in (Some tail) = from_kept_bytes tail
+
+abbrev pub has_none : Option (List ℕ) → Bool
+has_none None = true
+has_none (Some tail) = false
+
+-- ---- characters
 
 -- the bytes are this character
 pub record IsCharacter (c : ℕ) (bytes : List ℕ) : Type 0 where

@@ -13,23 +13,24 @@ use std::marker::Model;
 /// a piece has cut, or that it has failed. A copy goes on where the original stands.
 #[derive(Clone, Copy)]
 pub struct Utf8Stream {
-    unfinished: Option<Unfinished>,
+    /// What it keeps: nothing once it has failed. It stands first, and whether it has failed apart from it, since a
+    /// copy is read in the widths in which it is written so.
+    unfinished: Unfinished,
+    failed: bool,
 }
 
 impl Model for Utf8Stream {
-    ghost use Rattle.std.specs.Prelude.{ℕ, List, Option, IfSome};
-    ghost use Rattle.std.specs.Option.{option_map};
+    ghost use Rattle.std.specs.Prelude.{ℕ, List, Option};
 
     ghost Value = { Option (List ℕ) };
 
-    ghost use Rattle.ws_text.specs.Text.{IsUnfinished};
-    ghost use Rattle.ws_text.specs.InnerStep.{kept_bytes, from_kept_bytes};
+    ghost use Rattle.ws_text.specs.InnerStep.{IsStream, stream_of, kept_in, has_none};
 
-    ghost view = { λ s. option_map kept_bytes s.unfinished };
+    ghost view = { λ s. stream_of s.unfinished s.failed };
 
-    ghost invariant = { λ s. IfSome s.unfinished (λ kept. IsUnfinished (kept_bytes kept)) };
+    ghost invariant = { λ s. IsStream s.unfinished s.failed };
 
-    ghost inverse = { λ v. record { unfinished = option_map from_kept_bytes v } };
+    ghost inverse = { λ v. record { unfinished = kept_in v; failed = has_none v } };
 }
 
 impl Utf8Stream {
@@ -38,7 +39,8 @@ impl Utf8Stream {
         ensures { HasReadText result [] }
     {
         Utf8Stream {
-            unfinished: Some(Unfinished::Nothing),
+            unfinished: Unfinished::Nothing,
+            failed: false,
         }
     }
 
@@ -57,16 +59,17 @@ impl Utf8Stream {
         ensures fails { OnErr result (HasFailed self.new) }
         ensures failed { HasFailed self.old → result ≡ Err 0 }
     {
-        let Some(unfinished) = self.unfinished else {
+        if self.failed {
             return Err(0);
-        };
-        match unfinished.push(piece) {
+        }
+        match self.unfinished.push(piece) {
             Ok(unfinished) => {
-                self.unfinished = Some(unfinished);
+                self.unfinished = unfinished;
                 Ok(())
             }
             Err(place) => {
-                self.unfinished = None;
+                self.unfinished = Unfinished::Nothing;
+                self.failed = true;
                 Err(place)
             }
         }
@@ -77,10 +80,10 @@ impl Utf8Stream {
         ensures whole { (text : List ℕ) → HasReadText self.now text → (IsTrue result ↔ IsText text) }
         ensures failed { HasFailed self.now → result ≡ false }
     {
-        match self.unfinished {
-            Some(unfinished) => unfinished.is_nothing(),
-            None => false,
+        if self.failed {
+            return false;
         }
+        self.unfinished.is_nothing()
     }
 
     /// How many bytes the text still wants, 0 to 3: those that are missing of the character inside which it ends. With
@@ -91,9 +94,9 @@ impl Utf8Stream {
         ensures bound { result ≤ 3 }
         ensures failed { HasFailed self.now → result ≡ 0 }
     {
-        match self.unfinished {
-            Some(unfinished) => unfinished.missing(),
-            None => 0,
+        if self.failed {
+            return 0;
         }
+        self.unfinished.missing()
     }
 }

@@ -1,5 +1,5 @@
 -- A front of ASCII and the valid bytes behind it are a text.
-use Rattle.std.proofs.Common.{◌≡◌, ◌+◌, ◌-◌, ℕ, List, length, take, drop, sym, ap, subst, take-add}
+use Rattle.std.proofs.Common.{ℕ, List, take, drop, sym, subst, take-add}
 use Rattle.std.proofs.lemmas.List.{take_rest}
 use Rattle.std.proofs.lemmas.Str.{IsUtf8-from_ascii}
 use Rattle.ws_text.specs.Text.{IsText}

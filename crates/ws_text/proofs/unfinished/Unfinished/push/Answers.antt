@@ -1,5 +1,5 @@
 -- A short piece of ASCII is a text.
-use Rattle.std.proofs.Common.{ℕ, List, [], length, take, refl, arith, subst}
+use Rattle.std.proofs.Common.{ℕ, List, [], refl, arith, subst}
 use Rattle.std.specs.Str.{IsAscii}
 use Rattle.std.proofs.lemmas.List.{take_all}
 use Rattle.std.proofs.lemmas.Str.{IsUtf8-from_ascii}
