@@ -4,7 +4,8 @@ ghost use Rattle.std.specs.Prelude.{◌≡◌, ◌+◌, ◌<◌, ◌≤◌, ◌+
 ghost use Rattle.std.specs.List.{AllByRecursion};
 ghost use Rattle.ws_scripts.specs.Scripts.{ArePieces, AreTurns, CanBeRun, CutsOff, FitHeaders, FitsAHeader};
 ghost use Rattle.ws_scripts.specs.Scripts.{IsAct, is_wait, step_bytes, turn_bytes, turns_of, without_empty};
-ghost use Rattle.ws_wire.specs.Frame.{Frame, frame_bytes};
+ghost use Rattle.ws_wire.specs.Frame.{Frame, KeyedFrame, frame_bytes, sent_as};
+ghost use Rattle.ws_wire.specs.Header.{header_bytes};
 ghost use Rattle.ws_scripts.specs.declared.script.Chop.TheVariants.{Octets, PerFrame, Whole};
 ghost use Rattle.ws_scripts.specs.declared.script.Step.TheVariants.{Wait};
 
@@ -183,40 +184,45 @@ fn bytes_of(alloc: Global, key: Option<[u8; 4]>, steps: &[Step]) -> Result<Vec<u
     requires { FitHeaders steps.now }
     ensures { IfOk result (λ bytes. bytes.items ≡ turn_bytes key steps.now) }
 {
-    let mut bytes = Vec::with_capacity(alloc, room_for(steps, key.is_some()))?;
+    let mut bytes = Vec::with_capacity(alloc, room_for(steps, key))?;
     for step in steps {
         append_step(step, key, &mut bytes)?;
     }
     Ok(bytes)
 }
 
-/// How many bytes the steps have, so that they are put into a room that needn't grow. No contract speaks of the room.
-fn room_for(steps: &[Step], masked: bool) -> usize {
+/// How much room the bytes of the steps get: no more than they take, so that asking for it is no new way to fail.
+fn room_for(steps: &[Step], key: Option<[u8; 4]>) -> usize
+    ensures { result ≤ length (turn_bytes key steps.now) }
+{
     let mut room: usize = 0;
     for step in steps {
-        room = room.saturating_add(bytes_in(step, masked));
+        room = room.saturating_add(bytes_in(step, key));
     }
     room
 }
 
-/// How many bytes a step has.
-fn bytes_in(step: &Step, masked: bool) -> usize {
+/// How much room the bytes of a step get.
+fn bytes_in(step: &Step, key: Option<[u8; 4]>) -> usize
+    ensures { result ≤ length (step_bytes key step.now) }
+{
     match step {
-        Step::Frame { payload, .. } => payload
-            .len()
-            .saturating_add(header_len(payload.len(), masked)),
+        Step::Frame { payload, .. } => payload.len().saturating_add(header_len(payload.len(), key)),
         Step::Raw(bytes) => bytes.len(),
         Step::Wait => 0,
     }
 }
 
-/// How many bytes the shortest header of a frame has (RFC 6455 section 5.2).
-fn header_len(payload: usize, masked: bool) -> usize {
-    let key = if masked { 4 } else { 0 };
+/// How many bytes the shortest header of a frame has, by the length of its payload and its key (RFC 6455 section 5.2).
+fn header_len(payload: usize, key: Option<[u8; 4]>) -> usize
+    ensures { (x : KeyedFrame) → length x.frame.payload ≡ payload → x.key ≡ key →
+        result ≡ length (header_bytes (sent_as x).header) }
+{
+    let masking_key = if key.is_some() { 4 } else { 0 };
     match payload {
-        0..=125 => 2 + key,
-        126..=65_535 => 4 + key,
-        _ => 10 + key,
+        0..=125 => 2 + masking_key,
+        126..=65_535 => 4 + masking_key,
+        _ => 10 + masking_key,
     }
 }
 
