@@ -1,4 +1,5 @@
--- The parts of a line, as `line.rt` makes them. A reader may skip this file: no public contract speaks of it.
+-- The parts of a line, and the decimals in it, as they are made. A reader may skip this file: no public contract speaks
+-- of it.
 use Rattle.std.specs.Prelude.{ℕ, ◌+◌, ◌/◌, ◌%◌, Bool, List, [], ◌∷◌, ◌++◌, codes}
 use Rattle.std.specs.List.{concat}
 use Rattle.std.specs.Fmt.{decimal}

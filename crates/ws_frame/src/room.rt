@@ -102,6 +102,7 @@ impl Room {
         let digits = digits_of(bytes).to_array();
         self.push_front(&digits, 2 * count);
     }
+
     /// Puts the digits of a masking key behind them, two a byte.
     #[inline(always)]
     pub(crate) fn push_key(&mut self, key: [u8; 4])
