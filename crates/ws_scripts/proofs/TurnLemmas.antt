@@ -1,11 +1,7 @@
 -- Steps cut into turns, and bytes into pieces.
 use Rattle.std.proofs.Common.{◌≡◌, ◌∙◌, ℕ, zero, suc, ◌+◌, ◌<◌, ◌≤◌, true, false, List, [], ◌∷◌, ◌++◌, length, take, drop, map, ap, sym, refl, subst, arith, append_assoc, append-nil, Option}
-use Rattle.std.proofs.lemmas.List.{length-append, take-append-drop}
+use Rattle.std.proofs.lemmas.List.{take-append-drop}
 use Rattle.std.specs.List.{AllByRecursion, AllZip, concat, flat_map, onto_first}
-use Rattle.ws_wire.specs.Frame.{KeyedFrame, frame_bytes, sent_as}
-use Rattle.ws_wire.specs.Header.{header_bytes}
-use Rattle.ws_wire.specs.Masking.{masked_payload}
-use Rattle.ws_wire.proofs.Masks.{length-masked_payload}
 use Rattle.ws_scripts.specs.declared.script.Step.{Step}
 use Rattle.ws_scripts.specs.declared.script.Step.TheVariants.{Frame, Raw, Wait}
 use Rattle.ws_scripts.specs.declared.script.Chop.TheVariants.{PerFrame, Whole}
@@ -53,12 +49,6 @@ bytes_of_turns key (Frame fin rsv opcode payload ∷ steps) =
 bytes_of_turns key (Raw bytes ∷ steps) =
     ap (λ (l : List ℕ). bytes ++ l) (bytes_of_turns key steps) ∙ sym (first_longer key (Raw bytes) (turns_of steps))
 bytes_of_turns key (Wait ∷ steps) = bytes_of_turns key steps
-
--- a frame has the bytes of its header and as many as its payload
-pub frame_length : (x : KeyedFrame) → length (frame_bytes x) ≡ length (header_bytes (sent_as x).header) + length x.frame.payload
-frame_length x =
-    let header = header_bytes (sent_as x).header in
-    length-append header (masked_payload x.key x.frame.payload) ∙ ap (λ n. length header + n) (length-masked_payload x.key x.frame.payload)
 
 -- ---- places side by side
 

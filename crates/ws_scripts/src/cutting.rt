@@ -1,6 +1,7 @@
 //! A script as what goes over the wire: turns, and the pieces of each (RFC 6455 section 5.2).
 
-ghost use Rattle.std.specs.Prelude.{◌≡◌, ◌+◌, ◌<◌, ◌≤◌, ◌++◌, [], ◌∷◌, IfOk, OnOk, length, take, drop, flat_map};
+ghost use Rattle.std.specs.Prelude.{◌≡◌, ◌+◌, ◌-◌, ◌^◌, ◌<◌, ◌≤◌, ◌++◌, [], ◌∷◌, length, take, drop, min, flat_map};
+ghost use Rattle.std.specs.Prelude.{IfOk, OnOk};
 ghost use Rattle.std.specs.List.{AllByRecursion};
 ghost use Rattle.ws_scripts.specs.Scripts.{ArePieces, AreTurns, CanBeRun, CutsOff, FitHeaders, FitsAHeader};
 ghost use Rattle.ws_scripts.specs.Scripts.{IsAct, is_wait, step_bytes, turn_bytes, turns_of, without_empty};
@@ -191,9 +192,10 @@ fn bytes_of(alloc: Global, key: Option<[u8; 4]>, steps: &[Step]) -> Result<Vec<u
     Ok(bytes)
 }
 
-/// How much room the bytes of the steps get: no more than they take, so that asking for it is no new way to fail.
+/// How many bytes the steps have, where a `usize` can tell: so much room is asked for, and no more, so that asking is
+/// no new way to fail.
 fn room_for(steps: &[Step], key: Option<[u8; 4]>) -> usize
-    ensures { result ≤ length (turn_bytes key steps.now) }
+    ensures { result ≡ min (length (turn_bytes key steps.now)) (2 ^ 64 - 1) }
 {
     let mut room: usize = 0;
     for step in steps {
@@ -202,9 +204,9 @@ fn room_for(steps: &[Step], key: Option<[u8; 4]>) -> usize
     room
 }
 
-/// How much room the bytes of a step get.
+/// How many bytes a step has, where a `usize` can tell.
 fn bytes_in(step: &Step, key: Option<[u8; 4]>) -> usize
-    ensures { result ≤ length (step_bytes key step.now) }
+    ensures { result ≡ min (length (step_bytes key step.now)) (2 ^ 64 - 1) }
 {
     match step {
         Step::Frame { payload, .. } => payload.len().saturating_add(header_len(payload.len(), key)),

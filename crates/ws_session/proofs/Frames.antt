@@ -8,7 +8,7 @@ use Rattle.ws_wire.specs.declared.header.Form.TheVariants.{Short, Two, Eight}
 use Rattle.ws_wire.specs.Header.{HeaderFields, IsMaskingKey, AreBytes, header_bytes, CanHold, shortest_form}
 use Rattle.ws_wire.specs.Masking.{masked_payload}
 use Rattle.ws_wire.specs.Frame.{KeyedFrame, FitsTheLayout, sent_as, frame_bytes}
-use Rattle.ws_wire.proofs.Frames.{sent_is_wire}
+use Rattle.ws_wire.proofs.Frames.{sent_is_wire, length-frame_bytes}
 use Rattle.ws_wire.proofs.Headers.{same_header}
 use Rattle.ws_wire.proofs.Masks.{length-masked_payload, same_masked_payload, take-masked_payload}
 use Rattle.ws_session.specs.declared.message.Message.{Message}
@@ -30,7 +30,6 @@ use Rattle.ws_wire.proofs.Frames.{no_wire_of_cut_payload, no_wire_without_header
 use Rattle.ws_session.specs.Faults.{IsControl}
 use Rattle.ws_session.specs.InnerChecking.{NoneAtHeader, IsFirstAtHeader, NoneInPayload, IsFirstInPayload, frame_with, IsRoomFor}
 use Rattle.ws_session.proofs.HeaderReasons.{early_or_big}
-use Rattle.ws_session.proofs.Next.{length-frame_bytes}
 
 pub none_or_some : (opened : Option Message) → (opened ≢ None → ⊥) → opened ≡ None
 none_or_some None h = refl

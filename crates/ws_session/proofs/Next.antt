@@ -8,6 +8,7 @@ use Rattle.ws_wire.specs.declared.role.Role.{Role}
 use Rattle.ws_wire.specs.Header.{HeaderFields, header_bytes}
 use Rattle.ws_wire.specs.Masking.{masked, masked_payload}
 use Rattle.ws_wire.specs.Frame.{KeyedFrame, FitsTheLayout, frame_bytes, stream_bytes}
+use Rattle.ws_wire.proofs.Frames.{length-frame_bytes}
 use Rattle.ws_wire.proofs.Masks.{length-masked_payload}
 use Rattle.ws_session.specs.declared.message.Message.{Message}
 use Rattle.ws_session.specs.declared.reason.Reason.{Reason}
@@ -28,9 +29,6 @@ place_is role limits s n r f =
     let frame = length-append (header_bytes f.header) (masked_payload f.header.key f.payload) in
     let bytes = length-masked_payload f.header.key f.payload in
     plain_sum n (length (take n s)) (length (stream_bytes f.before)) (length (header_bytes f.header)) (length f.payload) (length (header_bytes f.header ++ masked_payload f.header.key f.payload)) (length (masked_payload f.header.key f.payload)) taken parts frame bytes
-
-pub length-frame_bytes : (x : KeyedFrame) → length (frame_bytes x) ≡ length (header_bytes (header_of x)) + length x.frame.payload
-length-frame_bytes x = length-append (header_bytes (header_of x)) (masked_payload x.key x.frame.payload) ∙ ap (λ n. length (header_bytes (header_of x)) + n) (length-masked_payload x.key x.frame.payload)
 
 -- a header has two bytes or more
 pub two_bytes : (h : HeaderFields) → 1 < length (header_bytes h)

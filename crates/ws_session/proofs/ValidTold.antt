@@ -6,6 +6,7 @@ use Rattle.std.proofs.lemmas.Grind.{flat_map-append}
 use Rattle.ws_wire.specs.declared.role.Role.{Role}
 use Rattle.ws_wire.specs.Header.{header_bytes, is_masked}
 use Rattle.ws_wire.specs.Frame.{KeyedFrame, FitsTheLayout, frame_bytes, stream_bytes}
+use Rattle.ws_wire.proofs.Frames.{length-frame_bytes}
 use Rattle.ws_session.specs.declared.reason.Reason.{Reason}
 use Rattle.ws_session.specs.declared.event.Event.TheVariants as event
 use Rattle.ws_session.specs.Limits.{LimitsValue}
@@ -17,7 +18,7 @@ use Rattle.ws_session.specs.InnerNextFrame.{AreSent, header_of}
 use Rattle.ws_session.specs.Reach.{is_message_too_big, passes_limit, size_reason, PassingFrame, fitting, first_passing, ending_within, frames_within, reason_within, size_fault, events_of_fault, events_within}
 use Rattle.ws_session.proofs.Faults.{fault_before, fault_later, faultless_before}
 use Rattle.ws_session.proofs.Streams.{ending_before_past}
-use Rattle.ws_session.proofs.Next.{length-frame_bytes, two_bytes, first_of_next}
+use Rattle.ws_session.proofs.Next.{two_bytes, first_of_next}
 use Rattle.ws_session.proofs.OneMoreFrame.{through_close_same}
 use Rattle.ws_session.proofs.Valid.{ValidFront, valid_nothing}
 use Rattle.ws_session.proofs.ValidStreams.{no_closes, valid_has_none}

@@ -8,7 +8,7 @@ use Rattle.std.specs.List.{AllByRecursion}
 use Rattle.ws_wire.specs.Header.{header_bytes}
 use Rattle.ws_wire.specs.Frame.{Frame, KeyedFrame, FitsTheLayout, frame_bytes, stream_bytes}
 use Rattle.ws_wire.specs.Stream.{SplitsInto}
-use Rattle.ws_wire.proofs.Frames.{no_frame_begins}
+use Rattle.ws_wire.proofs.Frames.{no_frame_begins, length-frame_bytes}
 use Rattle.ws_session.specs.declared.reason.Reason.{Reason}
 use Rattle.ws_session.specs.Limits.{LimitsValue}
 use Rattle.ws_session.specs.Messages.{is_close}
@@ -17,7 +17,7 @@ use Rattle.ws_session.specs.Validity.{CloseIsLast, AreValidFrames}
 use Rattle.ws_session.specs.Replies.{has_close}
 use Rattle.ws_session.specs.InnerNextFrame.{AreSent, header_of}
 use Rattle.ws_session.specs.Reach.{passes_limit, size_reason, fitting_after, fitting, first_passing_after, first_passing, ending_within, frames_within, PassingFrame, reason_within, size_fault}
-use Rattle.ws_session.proofs.Next.{length-frame_bytes, two_bytes}
+use Rattle.ws_session.proofs.Next.{two_bytes}
 use Rattle.ws_session.proofs.OneMoreFrame.{none_in_nothing}
 use Rattle.ws_session.proofs.Fitting.{passing_frame}
 

@@ -7,6 +7,7 @@ use Rattle.ws_wire.specs.Header.{HeaderFields, IsHeader, AreBytes, top_bit}
 use Rattle.ws_wire.specs.declared.role.Role.TheVariants.{Client}
 use Rattle.ws_wire.specs.declared.header.Form.TheVariants.{Short}
 use Rattle.ws_wire.specs.Frame.{KeyedFrame, FitsTheLayout, frame_bytes}
+use Rattle.ws_wire.proofs.Frames.{length-frame_bytes}
 use Rattle.ws_session.specs.declared.reason.Reason.{Reason}
 use Rattle.ws_session.specs.declared.reason.Reason.TheVariants as reason
 use Rattle.ws_session.specs.declared.event.Event.{Event}
@@ -25,7 +26,7 @@ use Rattle.ws_session.specs.InnerNextFrame.{BeginsNoFrame, header_of}
 use Rattle.ws_session.proofs.Calls.{exchange_of, call_of}
 use Rattle.ws_session.proofs.EventsGoOn.{one_events}
 use Rattle.ws_session.proofs.FineFrames.{begins_nothing}
-use Rattle.ws_session.proofs.Next.{place_is, two_bytes, length-frame_bytes}
+use Rattle.ws_session.proofs.Next.{place_is, two_bytes}
 use Rattle.ws_session.proofs.OneMoreFrame.{none_in_nothing}
 use Rattle.ws_session.proofs.RightPayloads.{right_data}
 use Rattle.ws_session.proofs.ValidStreams.{valid_has_none}

@@ -1,5 +1,5 @@
 -- No frame begins another, and whether one stands at the front can be told.
-use Rattle.std.proofs.Common.{◌≡◌, ℕ, ◌^◌, ◌<◌, ◌≤◌, ◌⊎◌, Bool, List, ◌++◌, length, take, drop, Option, refl, sym, ap, ◌∙◌, append_assoc, arith, inl, inr}
+use Rattle.std.proofs.Common.{◌≡◌, ℕ, ◌+◌, ◌^◌, ◌<◌, ◌≤◌, ◌⊎◌, Bool, List, ◌++◌, length, take, drop, Option, refl, sym, ap, ◌∙◌, append_assoc, arith, inl, inr}
 use Rattle.std.proofs.lemmas.Bool.{cases_lt, lt-ltb, le-ltb}
 use Rattle.std.proofs.lemmas.List.{length-append, length-take-le, take-append-drop}
 use Rattle.ws_wire.specs.declared.header.Form.{Form}
@@ -14,6 +14,14 @@ use Rattle.ws_wire.proofs.Numbers.{front_bytes}
 use Rattle.ws_wire.proofs.Headers.{same_header, same_fields, same_parts, header_or_none, header_parts}
 use Rattle.ws_wire.proofs.Masks.{masked_payload_twice, length-masked_payload, same_masked_payload, masked_payload_bytes}
 use Rattle.ws_wire.proofs.Splits.{NoneBegins, SomeFront, IsToldAtFront, rest_bytes}
+
+-- ---- how long a frame is
+
+-- a frame has the bytes of its header and as many as its payload
+pub length-frame_bytes : (x : KeyedFrame) → length (frame_bytes x) ≡ length (header_bytes (sent_as x).header) + length x.frame.payload
+length-frame_bytes x =
+    let header = header_bytes (sent_as x).header in
+    length-append header (masked_payload x.key x.frame.payload) ∙ ap (λ n. length header + n) (length-masked_payload x.key x.frame.payload)
 
 -- ---- the shortest form
 
