@@ -1,5 +1,5 @@
 -- What a session that took the turns says of their doom.
-use Rattle.std.proofs.Common.{◌≡◌, ◌∙◌, ℕ, zero, suc, ◌+◌, ◌-◌, ◌<◌, ◌↔◌, Bool, true, false, List, [], ◌∷◌, ◌++◌}
+use Rattle.std.proofs.Common.{◌≡◌, ◌∙◌, ℕ, zero, suc, ◌+◌, ◌-◌, ◌<◌, ◌≤◌, ◌↔◌, Bool, true, false, List, [], ◌∷◌, ◌++◌}
 use Rattle.std.proofs.Common.{length, get_or, min, ◌==◌, take, drop, ap, sym, refl, subst, arith, append_assoc, inl, inr}
 use Rattle.std.proofs.lemmas.Bool.{cases_lt, eqb-true}
 use Rattle.std.proofs.lemmas.List.{get_or_past, length-drop, length-map, take-append-drop, take_all, take_min, take_more}
@@ -18,7 +18,7 @@ use Rattle.ws_scripts.specs.declared.transcript.Turn.{Turn}
 use Rattle.ws_suite.specs.Evidence.{sent_turns}
 use Rattle.ws_suite.specs.Doom.{IsDoomedAfter, IsLastWithBytes}
 use Rattle.ws_suite.specs.InnerDoom.{AreWithoutBytes, HasTakenBytes}
-use Rattle.ws_suite.proofs.EvidenceLemmas.{joined_more}
+use Rattle.ws_suite.proofs.EvidenceLemmas.{front_of_part, joined_more}
 
 -- what is doomed, after some frames
 abbrev pub EndsInDoom : Role → LimitsValue → List ℕ → Type 0
@@ -40,14 +40,14 @@ more_taken role before piece key x y front old new h taken same limits =
     let takes = taken (record { sent = h.sent; taken = before; ended = false }) refl h.exchanged in
     record { sent = _; exchanged = takes.agrees; same_role = same ∙ h.same_role; limits = limits ∙ h.limits }
 
--- the front of what is left was taken, and is passed
-pub front_passed : (bytes done rest key x y : List ℕ) (front : Taken) (first old new : SessionValue) → bytes ≡ done ++ rest
+-- the front of a part of what is left was taken, and is passed
+pub front_passed : (n : ℕ) (bytes done rest key x y : List ℕ) (front : Taken) (first old new : SessionValue) → bytes ≡ done ++ rest
     → ((role : Role) (before : List ℕ) → HasTakenBytes role before first → HasTakenBytes role (before ++ done) old)
-    → HasTaken reply_to old new (record { piece = rest; key = key; before = x; after = y }) front
-    → new.role ≡ old.role → new.limits ≡ old.limits
+    → HasTaken reply_to old new (record { piece = take n rest; key = key; before = x; after = y }) front
+    → front.used ≤ length (take n rest) → new.role ≡ old.role → new.limits ≡ old.limits
     → (next : List ℕ) × (bytes ≡ next ++ take (length rest - front.used) (drop front.used rest))
     × ((role : Role) (before : List ℕ) → HasTakenBytes role before first → HasTakenBytes role (before ++ next) new)
-front_passed bytes done rest key x y front first old new parts so_far taken same limits =
+front_passed n bytes done rest key x y front first old new parts so_far taken within same limits =
     let part = take front.used rest in
     let after = take (length rest - front.used) (drop front.used rest) in
     let whole : after ≡ drop front.used rest = take_all (length rest - front.used) (drop front.used rest)
@@ -55,8 +55,9 @@ front_passed bytes done rest key x y front first old new parts so_far taken same
     let split : rest ≡ part ++ after = sym (take-append-drop front.used rest) ∙ ap (λ (l : List ℕ). part ++ l) (sym whole) in (
       done ++ part,
       parts ∙ (ap (λ (l : List ℕ). done ++ l) split ∙ sym (append_assoc done part after)),
-      λ role before h. subst (λ (l : List ℕ). HasTakenBytes role l new) (append_assoc before done part)
-          (more_taken role (before ++ done) rest key x y front old new (so_far role before h) taken same limits),
+      λ role before h. subst (λ (l : List ℕ). HasTakenBytes role l new)
+          (ap (λ (l : List ℕ). (before ++ done) ++ l) (front_of_part front.used n rest within) ∙ append_assoc before done part)
+          (more_taken role (before ++ done) (take n rest) key x y front old new (so_far role before h) taken same limits),
     )
 
 -- what it tells is told of the bytes that it took

@@ -15,8 +15,8 @@ use Rattle.ws_suite.specs.declared.evidence.InTurn.{InTurn}
 use Rattle.ws_suite.specs.declared.evidence.Reply.{Reply}
 use Rattle.ws_suite.specs.declared.evidence.collecting.Way.{Way}
 use Rattle.ws_suite.specs.declared.evidence.collecting.Collected.{Collected}
-use Rattle.ws_suite.specs.Evidence.{AreEventsByTurn, HasRest, by_turn, ending_in, joined_events}
-use Rattle.ws_suite.specs.InnerCollecting.{AreCollected, EventLaws, at_turn, found_by, last_end}
+use Rattle.ws_suite.specs.Evidence.{AreEventsByTurn, HasRest, by_turn, joined_events}
+use Rattle.ws_suite.specs.InnerCollecting.{AreCollected, EventLaws, at_turn, last_end}
 
 pub joined_more : (pieces : List (List ℕ)) (piece : List ℕ) → concat (pieces ++ piece ∷ []) ≡ concat pieces ++ piece
 joined_more [] piece = append-nil piece
@@ -42,6 +42,12 @@ pub last_joined : {X : Type 0} (o : Option X) (xs ys : List X) → last_or o (xs
 last_joined o [] ys = refl
 last_joined {X} o (x ∷ xs) ys = last_joined (Some x) xs ys
 
+-- ---- a piece, a part of it at a time
+
+-- what is no longer than the part stands at the front of the whole
+pub front_of_part : {X : Type 0} (used n : ℕ) (xs : List X) → used ≤ length (take n xs) → take used (take n xs) ≡ take used xs
+front_of_part {X} used n xs within = sym (take-append-le used (take n xs) (drop n xs) within) ∙ ap (λ (l : List X). take used l) (take-append-drop n xs)
+
 -- ---- events of one turn
 
 pub nothing_collected : {K : Type 0} {keeps : K → List (InTurn Reply) → Type 0} (way : Way) (turn : ℕ) (c : Collected K) → AreCollected keeps way turn [] c c
@@ -55,19 +61,6 @@ found_twice : {X : Type 0} (found : Event → List X) (turn : ℕ) (a b : List E
 found_twice {X} found turn a b =
     sym (map-append (λ (x : X). record { turn = turn; what = x }) (flat_map found a) (flat_map found b))
     ∙ ap (λ (l : List X). at_turn turn l) (sym (flat_map-append found a b))
-
-pub collected_joined : {K : Type 0} {keeps : K → List (InTurn Reply) → Type 0} (way : Way) (turn : ℕ) (a b : List Event) (old mid new : Collected K) → AreCollected keeps way turn a old mid → AreCollected keeps way turn b mid new
-    → AreCollected keeps way turn (a ++ b) old new
-collected_joined {K} {keeps} way turn a b old mid new p q = record {
-  replies = λ replies h.
-      let first = at_turn turn (flat_map (found_by way) a) in
-      let second = at_turn turn (flat_map (found_by way) b) in
-      subst (λ (l : List (InTurn Reply)). keeps new.replies l) (append_assoc replies first second ∙ ap (λ (l : List (InTurn Reply)). replies ++ l) (found_twice (found_by way) turn a b))
-      (q.replies (replies ++ first) (p.replies replies h));
-  ending = q.ending ∙ (ap (λ (o : Option (InTurn _)). last_or o (at_turn turn (flat_map ending_in b))) p.ending
-      ∙ (sym (last_joined old.ending (at_turn turn (flat_map ending_in a)) (at_turn turn (flat_map ending_in b))) ∙ ap (λ (l : List (InTurn _)). last_or old.ending l) (found_twice ending_in turn a b)));
-  has_rest = q.has_rest ∙ p.has_rest;
-}
 
 -- the last turn has told more events
 pub by_turn_grown : {X : Type 0} (found : Event → List X) (events : List (List Event)) (told added : List Event) →

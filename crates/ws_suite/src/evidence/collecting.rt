@@ -66,6 +66,10 @@ fn most() -> Limits
     }
 }
 
+/// How many bytes of a piece are taken at once: so few that the room that a session asks for them doesn't count where
+/// one of them is at fault.
+pub(super) const AT_ONCE: usize = 4096;
+
 /// Takes a piece of the turn with this number, which is the last, and collects what it says. Each event is collected
 /// before more bytes are taken: so there is no list of them.
 pub(super) fn take_piece<K: KeepsReplies>(
@@ -85,15 +89,16 @@ pub(super) fn take_piece<K: KeepsReplies>(
     let mut replies = Vec::new(alloc);
     let mut rest = piece;
     while !rest.is_empty() {
-        let used = take_front(way, number, rest, &mut replies, taken)?;
+        let part = &rest[..rest.len().min(AT_ONCE)];
+        let used = take_front(way, number, part, &mut replies, taken)?;
         replies.clear();
         rest = &rest[used..];
     }
     Ok(())
 }
 
-/// Takes the front of a piece, up to its next event, and collects that: how many bytes these are. What the session
-/// replies is put behind `replies`, and asked by nobody.
+/// Takes the front of a piece, up to its next event, and collects that: how many bytes these are. The session's replies
+/// go after those in `replies`; nobody reads them.
 fn take_front<K: KeepsReplies>(
     way: Way,
     number: usize,

@@ -8,6 +8,7 @@ ghost use Rattle.ws_suite.specs.Doom.{AnswersDoom, CountsAs, HasDoomCounted, IsD
 ghost use Rattle.ws_suite.specs.Doom.{IsLastWithBytes, counts_doom};
 ghost use Rattle.ws_suite.specs.InnerDoom.{AreWithoutBytes, HasTakenBytes};
 
+use crate::evidence::collecting::AT_ONCE;
 use crate::evidence::{Direction, Ending, Evidence, InTurn, ends_with_close, is_close_ending};
 use std::alloc::Global;
 use ws_base::NoMemory;
@@ -171,7 +172,8 @@ fn take_bytes(alloc: Global, bytes: &[u8], session: &mut Session) -> Result<(), 
     let mut replies = Vec::new(alloc);
     let mut rest = bytes;
     while !rest.is_empty() {
-        let front = session.take(rest, NO_KEY, &mut replies)?;
+        let part = &rest[..rest.len().min(AT_ONCE)];
+        let front = session.take(part, NO_KEY, &mut replies)?;
         replies.clear();
         rest = &rest[front.used..];
     }

@@ -217,11 +217,5 @@ impl<'a> Walk<'a> {
 pub(crate) fn is_same(one: &Kept<'_>, other: &Kept<'_>) -> bool
     ensures { IsTrue result ↔ (what_of one.now ≡ what_of other.now) }
 {
-    match (one.kind, other.kind) {
-        (ReplyKind::Text, ReplyKind::Text)
-        | (ReplyKind::Binary, ReplyKind::Binary)
-        | (ReplyKind::Pong, ReplyKind::Pong)
-        | (ReplyKind::Ping, ReplyKind::Ping) => one.payload == other.payload,
-        _ => false,
-    }
+    are_one_kind(one.kind, other.kind) && one.payload == other.payload
 }

@@ -2,6 +2,7 @@
 use Rattle.std.proofs.Common.{◌≡◌, ◌∙◌, ◌-◌, ◌++◌, ◌∷◌, [], ℕ, List, ap, sym, subst, refl, arith, rules, length, take, drop, append_assoc, append-nil}
 use Rattle.std.proofs.lemmas.List.{length-drop, take-append-drop, take_all}
 use Rattle.ws_suite.specs.InnerCollecting.{HasTakenWay}
+use Rattle.ws_suite.proofs.EvidenceLemmas.{front_of_part}
 use Rattle.ws_suite.proofs.evidence.collecting.take_piece.Goals as goal
 
 pub loop-rest-init : goal.loop-rest-init
@@ -17,13 +18,14 @@ loop-rest-preserved g c =
     let rest = c.loop-rest.rest.now in
     let used = c.in_ok-used.used in
     let part = take used rest in
+    let taken : take used (take c.min.result rest) ≡ part = front_of_part used c.min.result rest c.in_ok-used.ensures.used.1 in
     let after = take (length rest - used) (drop used rest) in
     let whole : after ≡ drop used rest = take_all (length rest - used) (drop used rest) (omega (arith, length-drop used rest)) in
     let split : rest ≡ part ++ after = sym (take-append-drop used rest) ∙ ap (λ (l : List ℕ). part ++ l) (sym whole) in
     let i = c.loop-rest.invariant in (
       i.0 ++ part,
       i.1 ∙ (ap (λ (l : List ℕ). i.0 ++ l) split ∙ sym (append_assoc i.0 part after)),
-      λ role turns last number h. subst (λ (l : List ℕ). HasTakenWay g.K.KeepsReplies.keeps c.args.way role (turns ++ l ∷ []) c.take_front.new.taken.session c.take_front.new.taken.collected) (append_assoc last i.0 part)
+      λ role turns last number h. subst (λ (l : List ℕ). HasTakenWay g.K.KeepsReplies.keeps c.args.way role (turns ++ l ∷ []) c.take_front.new.taken.session c.take_front.new.taken.collected) (ap (λ (l : List ℕ). (last ++ i.0) ++ l) taken ∙ append_assoc last i.0 part)
           (c.in_ok-used.ensures.taken c.session_laws.ensures role turns (last ++ i.0) number (i.2 role turns last number h)),
       λ over. search rules,
     )

@@ -12,16 +12,16 @@ pub loop-rest-preserved : goal.loop-rest-preserved
 loop-rest-preserved c =
     let i = c.loop-rest.invariant in
     let took = c.in_ok-front.ensures in
-    front_passed _ i.0 c.loop-rest.rest.now _ _ _ c.in_ok-front.front _ c.loop-rest.session c.take.new.self i.1 i.2 took.taken took.role took.limits
+    front_passed c.min.result _ i.0 c.loop-rest.rest.now _ _ _ c.in_ok-front.front _ c.loop-rest.session c.take.new.self i.1 i.2 took.taken took.used.1 took.role took.limits
 
 pub loop-rest-preserved-in_ok-front : goal.loop-rest-preserved-in_ok-front
 loop-rest-preserved-in_ok-front c =
     let i = c.loop-rest.invariant in
     let took = c.in_ok-front.ensures in
-    front_passed _ i.0 c.loop-rest.rest.now _ _ _ c.in_ok-front.front _ c.loop-rest.session c.take.new.self i.1 i.2 took.taken took.role took.limits
+    front_passed c.min.result _ i.0 c.loop-rest.rest.now _ _ _ c.in_ok-front.front _ c.loop-rest.session c.take.new.self i.1 i.2 took.taken took.used.1 took.role took.limits
 
 pub loop-rest-preserved-in_ok-front-2 : goal.loop-rest-preserved-in_ok-front-2
 loop-rest-preserved-in_ok-front-2 c =
     let i = c.loop-rest.invariant in
     let took = c.in_ok-front.ensures in
-    front_passed _ i.0 c.loop-rest.rest.now _ _ _ c.in_ok-front.front _ c.loop-rest.session c.take.new.self i.1 i.2 took.taken took.role took.limits
+    front_passed c.min.result _ i.0 c.loop-rest.rest.now _ _ _ c.in_ok-front.front _ c.loop-rest.session c.take.new.self i.1 i.2 took.taken took.used.1 took.role took.limits
