@@ -22,7 +22,7 @@ pub(crate) fn end_laws()
 }
 
 /// A key is four bytes, as its type says, where there is one.
-pub(crate) fn is_masking_key(key: Option<[u8; 4]>)
+pub(crate) fn law_masking_key(key: Option<[u8; 4]>)
     ensures { IsMaskingKey key }
 {
     match key {

@@ -114,8 +114,8 @@ pub(crate) fn steps_have_end(
     Ok(ends)
 }
 
-/// Whether a session of this role that has taken these bytes is over, as it is by a close or a fault alone. What it
-/// tells of them before that isn't asked.
+/// Whether a session of this role that has taken these bytes is over, as it is by a close or a fault alone. Its events
+/// and replies are not read.
 fn is_over_after(alloc: Global, tested: Role, bytes: &[u8]) -> Result<bool, NoMemory>
     ensures { IfOk result (λ ends. IsTrue ends ↔ HasEnd tested bytes.now) }
 {

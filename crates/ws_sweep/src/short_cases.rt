@@ -1,12 +1,12 @@
 //! The case of one short script after the other, with what is known of the steps that neighbours share.
 
-ghost use Rattle.std.specs.Prelude.{◌≡◌, ◌↔◌, ◌≤◌, length, IfOk, IsTrue, OnOk};
+ghost use Rattle.std.specs.Prelude.{◌≡◌, ◌↔◌, ◌≤◌, [], length, IfOk, IsTrue, OnErr, OnOk};
 ghost use Rattle.ws_scripts.specs.Scripts.{CanBeRun, FitHeaders};
 ghost use Rattle.ws_sweep.specs.Order.{ArePlaces, max_steps};
 ghost use Rattle.ws_sweep.specs.ShortCases.{HasEnd, IsShortCase, bytes_sent, short_steps};
 ghost use Rattle.ws_sweep.specs.InnerFronts.{IsFrontOf};
 
-use crate::lemmas::{end_laws, is_masking_key};
+use crate::lemmas::{end_laws, law_masking_key};
 use crate::scripting::{steps_have_end, steps_of, whole_case, with_close};
 use crate::short_script::ShortScript;
 use std::alloc::Global;
@@ -52,6 +52,7 @@ impl ShortCases {
     pub fn new(alloc: Global, tested: Role, key: Option<[u8; 4]>) -> Result<ShortCases, NoMemory>
         ensures tested { IfOk result (λ cases. cases.tested ≡ tested) }
         ensures key { IfOk result (λ cases. cases.key ≡ key) }
+        ensures first { IfOk result (λ cases. cases.case.steps ≡ []) }
     {
         let case = whole_case(alloc, Vec::new(alloc))?;
         let front = Front {
@@ -73,15 +74,16 @@ impl ShortCases {
         &self.case
     }
 
-    /// Makes the case of a script.
+    /// Makes the case of a script. An error leaves the one that was made last.
     pub fn go_to(&mut self, alloc: Global, script: &ShortScript) -> Result<(), NoMemory>
         requires { ArePlaces script.now }
         ensures is { OnOk result (IsShortCase self.old.tested self.old.key script.now self.new.case) }
         ensures runs { OnOk result (CanBeRun self.new.case) }
         ensures tested { self.new.tested ≡ self.old.tested }
         ensures key { self.new.key ≡ self.old.key }
+        ensures kept { OnErr result (self.new.case ≡ self.old.case) }
     {
-        script.has_few_steps();
+        script.law_few_steps();
         let steps = steps_of(alloc, self.tested, script)?;
         let case = whole_case(alloc, steps)?;
         let places = script.places();
@@ -113,7 +115,7 @@ fn script_has_end(
     ensures ends { IfOk result (λ ends. IsTrue ends ↔ HasEnd tested (bytes_sent steps.now key)) }
 {
     end_laws();
-    is_masking_key(key);
+    law_masking_key(key);
     if let Some((_last, before)) = places.split_last() {
         let first = &steps[..before.len()];
         if front_has_end(alloc, tested, key, front, before, first)? {
@@ -124,7 +126,8 @@ fn script_has_end(
     Ok(ends)
 }
 
-/// Whether these steps, before the last of a script, have a close or a fault. It is asked where others were asked last.
+/// Whether it is known that these steps, before the last of a script, have a close or a fault. A session is asked only
+/// where others were asked last.
 fn front_has_end(
     alloc: Global,
     tested: Role,

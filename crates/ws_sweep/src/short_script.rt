@@ -56,7 +56,7 @@ impl ShortScript {
     }
 
     /// Does nothing: a script has so many steps at most.
-    pub(crate) fn has_few_steps(&self)
+    pub(crate) fn law_few_steps(&self)
         ensures { length self.now ≤ max_steps }
     {
         let _places = &self.room[self.start..];
