@@ -4,8 +4,9 @@ ghost use Rattle.std.specs.Prelude.{◌≡◌, ◌≤◌, ◌+◌, ◌++◌, [],
 
 use std::marker::Model;
 
-/// How many bytes fill eight vectors of sixteen, with the byte of their length. What has this size is copied by whole
-/// vectors: a last one that overlaps the one before it would be read again before it is there, by a copy of the copy.
+/// How many bytes fill eight vectors of sixteen bytes together with the byte of their length. `FewBytes` of so many are
+/// copied vector by vector. What is longer than a vector and no multiple of it ends in one that overlaps the one before
+/// it, and a copy of that copy has to wait for both.
 pub const EIGHT_VECTORS: usize = 127;
 
 /// At most `N` bytes, kept in place, where `N` is at most 255: as `ShortBytes`, but their length takes one byte, and

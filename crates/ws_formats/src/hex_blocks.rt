@@ -11,8 +11,8 @@ const BLOCK: usize = 64;
 
 /// Bytes as two digits each: the text of `HexDigits`, in calls of up to 128 digits in place of one.
 ///
-/// It is some sixty times as quick. A writer that refuses a call for want of room holds up to 127 digits fewer than of
-/// `HexDigits`, so it is for texts that are let go then, such as a `String` that can't grow.
+/// A writer that refuses a call for want of room holds up to 127 digits fewer than of `HexDigits`, so it is for texts
+/// that are let go then, such as a `String` that can't grow.
 #[derive(Drop)]
 pub struct HexDigitBlocks<'a>(pub &'a [u8]);
 

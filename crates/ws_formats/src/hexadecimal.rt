@@ -18,16 +18,16 @@ const KEY_OF_A_DASH: [u8; 4] = [0; 4];
 /// How many digits are looked at at once.
 const LANES: usize = 64;
 
-/// The same in a word of fewer.
+/// How many in a word of fewer than `LANES`.
 const FEWER_LANES: usize = 16;
 
-/// The same in a word of fewer than these.
+/// How many in a word of fewer than `FEWER_LANES`.
 const LEAST_LANES: usize = 8;
 
 /// How many bytes are read from their digits at once.
 const MANY: usize = 16;
 
-/// The same of fewer.
+/// How many where fewer than `MANY` are left.
 const FEW: usize = 4;
 
 /// Bytes as two digits each.
@@ -241,7 +241,8 @@ fn joined<const N: usize>(high: Simd<u8, N>, low: Simd<u8, N>) -> Simd<u8, N>
     lane_values(high) * Simd::splat(16) + lane_values(low)
 }
 
-/// The values of digits. Of the two differences the other one is larger, or wraps.
+/// The values of digits: for each the lesser of how far it stands behind `0` and how far behind what is ten before `a`.
+/// The other of the two is larger, or wraps.
 #[inline(always)]
 fn lane_values<const N: usize>(digits: Simd<u8, N>) -> Simd<u8, N>
     requires { AreDigits digits }

@@ -217,15 +217,6 @@ pub bad_length_of_piece : (rest piece first : List ℕ) (header : Option HeaderF
 bad_length_of_piece rest piece first header to_come k e none bad =
     subst (λ (t : List ℕ). BeginsBadLength (t ++ piece)) (sym (nothing_before rest first header to_come k e none)) bad
 
--- a header that is whole takes some bytes
-pub header_takes_some : (piece : List ℕ) (h : HeaderFields) (used : ℕ) → Begins h used piece → 0 < used
-header_takes_some piece h used b = omega (arith, ap (λ (t : List ℕ). length t) b.front.layout, length-take used piece)
-
-pub header_of_piece : (rest piece first : List ℕ) (header : Option HeaderFields) (to_come : ℕ) (h : HeaderFields) (used : ℕ) → IsKeptAs rest header first to_come → header ≡ None → first ≡ [] → Begins h used piece
-    → rest ++ take used piece ≡ header_bytes h
-header_of_piece rest piece first header to_come h used k e none b =
-    ap (λ (t : List ℕ). t ++ take used piece) (nothing_before rest first header to_come k e none) ∙ b.front.layout
-
 -- the piece has all bytes of the frame
 whole_at_front : (piece first : List ℕ) (h : HeaderFields) (used len : ℕ) → Begins h used piece → h.len < 2 ^ 63 → AreBytes piece → len ≡ h.len → used + len ≤ length piece → first ≡ take 16 (take len (drop used piece))
     → IsWhole (take (used + len) piece) h first

@@ -82,7 +82,8 @@ fn push_layout(room: &mut Room, header: &Header)
     ensures len { length room.new ≤ length room.old + 45 }
 {
     push_key(room, header.key());
-    // A word that is copied from here can't lie in the room, so it isn't asked at run time whether the two overlap.
+    // The words of most lines are copied from here: they can't lie in the room, so it isn't asked at run time whether
+    // the two overlap.
     let len_word = *b" len=";
     let short_word = *b" short ";
     let two_word = *b" two ";

@@ -52,7 +52,8 @@ impl Partial {
         self.header.is_none() && self.first.len() == 0
     }
 
-    /// Takes at most the rest of one frame: of a header, or of a payload, which is skipped.
+    /// Takes at most the rest of one frame: all of one that lies whole in the piece, else the rest of its header, or of
+    /// its payload, which is skipped.
     pub(crate) fn take(&mut self, piece: &[u8]) -> Taken
         requires under_way { KeepsPartialFrame self.old }
         requires some { 0 < length piece.now }

@@ -35,7 +35,7 @@ impl Mark {
         self.push_word_to(room);
     }
 
-    /// The same of any mark.
+    /// The same of any mark. It stands apart, so that a stream that is shown alone doesn't pay for it.
     fn push_word_to(self, room: &mut Room)
         requires { length room.old + 23 ≤ 65536 }
         ensures pushed { room.new ≡ room.old ++ mark_word self }

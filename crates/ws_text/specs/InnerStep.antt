@@ -35,10 +35,6 @@ abbrev pub kept_in : Option (List ℕ) → Unfinished
 kept_in None = Nothing
 kept_in (Some tail) = from_kept_bytes tail
 
-abbrev pub has_none : Option (List ℕ) → Bool
-has_none None = true
-has_none (Some tail) = false
-
 -- ---- characters
 
 -- the bytes are this character

@@ -13,9 +13,10 @@ use std::marker::Model;
 /// a piece has cut, or that it has failed. A copy goes on where the original stands.
 #[derive(Clone, Copy)]
 pub struct Utf8Stream {
-    /// What it keeps: nothing once it has failed. It stands first, and whether it has failed apart from it, since a
-    /// copy is read in the widths in which it is written so.
+    /// The bytes that it keeps: none once it has failed.
     unfinished: Unfinished,
+    /// Whether it has failed: a field of its own, behind the other, so that a copy is read in the widths in which it
+    /// was written.
     failed: bool,
 }
 
@@ -24,13 +25,14 @@ impl Model for Utf8Stream {
 
     ghost Value = { Option (List ℕ) };
 
-    ghost use Rattle.ws_text.specs.InnerStep.{IsStream, stream_of, kept_in, has_none};
+    ghost use Rattle.std.specs.Prelude.{is_none};
+    ghost use Rattle.ws_text.specs.InnerStep.{IsStream, stream_of, kept_in};
 
     ghost view = { λ s. stream_of s.unfinished s.failed };
 
     ghost invariant = { λ s. IsStream s.unfinished s.failed };
 
-    ghost inverse = { λ v. record { unfinished = kept_in v; failed = has_none v } };
+    ghost inverse = { λ v. record { unfinished = kept_in v; failed = is_none v } };
 }
 
 impl Utf8Stream {

@@ -112,7 +112,7 @@ impl Unfinished {
         self.push_any(piece)
     }
 
-    /// The same of any piece: a cut character is joined byte by byte, and so is one that the piece cuts; `simdutf8`
+    /// The same of any piece: a cut character is joined byte by byte, and so is one that the piece cuts; `valid_prefix`
     /// checks what lies between. It stands apart, so that a short piece of ASCII doesn't pay for it.
     #[inline(never)]
     fn push_any(self, piece: &[u8]) -> Result<Unfinished, usize>

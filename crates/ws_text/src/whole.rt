@@ -1,4 +1,4 @@
-//! How much of a piece is whole characters: the bulk of it, checked by `simdutf8`.
+//! How much of a piece is whole characters: the bulk of it, checked by `simdutf8`, or by `std` where it is short.
 
 ghost use Rattle.std.specs.Prelude.{◌≤◌, ◌<◌, IsTrue, length, take};
 ghost use Rattle.std.specs.Str.{IsAscii};
@@ -13,10 +13,10 @@ pub(crate) const HANDFUL: usize = 3;
 /// How many bytes are looked at at once.
 pub(crate) const LANES: usize = 64;
 
-/// The same of what is less than those.
+/// How many in a piece of fewer than `LANES`.
 const FEWER_LANES: usize = 16;
 
-/// The same of what is less than these.
+/// How many in a piece of fewer than `FEWER_LANES`.
 const LEAST_LANES: usize = 8;
 
 /// The most bytes of a short piece. A longer one `simdutf8` looks at by vectors of its own.

@@ -48,8 +48,9 @@ pub(super) fn check_control(
     check_whole(header, &payload, start + here)
 }
 
-/// The payload of a ping or pong that is whole with the piece and of which none came before, as that of most: the check
-/// above keeps it in more places. `rest` is what the piece has after its first `start` bytes.
+/// The payload of a ping or pong that stands whole in `rest`, the piece without its first `start` bytes: `None` for a
+/// close, and where the payload goes on behind the piece. Most pings are whole, and `check_control` would copy their
+/// payload more often.
 pub(super) fn whole_payload(header: &Header, start: usize, rest: &[u8]) -> Option<Small>
     requires opcode { IsControl header.now }
     requires short { header.now.len ≤ 125 }
