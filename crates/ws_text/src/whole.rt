@@ -1,6 +1,6 @@
 //! How much of a piece is whole characters: the bulk of it, checked by `simdutf8`, or by `std` where it is short.
 
-ghost use Rattle.std.specs.Prelude.{◌≤◌, ◌<◌, IsTrue, length, take};
+ghost use Rattle.std.specs.Prelude.{◌≡◌, ◌≤◌, ◌<◌, ◌↔◌, ℕ, IsTrue, drop, length, take};
 ghost use Rattle.std.specs.Str.{IsAscii};
 ghost use Rattle.ws_text.specs.Text.{IsText};
 
@@ -37,10 +37,12 @@ pub(crate) fn valid_prefix(bytes: &[u8]) -> usize
     }
 }
 
-/// The same of less than a vector, which `simdutf8` leaves to `std` after some steps of its own.
+/// The same of less than a vector, which `simdutf8` leaves to `std` after some steps of its own: no longer front is a
+/// text.
 fn few_valid(bytes: &[u8]) -> usize
     ensures within { result ≤ length bytes.now }
     ensures text { IsText (take result bytes.now) }
+    ensures longest { (len : ℕ) → len ≤ length bytes.now → IsText (take len bytes.now) → len ≤ result }
 {
     match std::str::from_utf8(bytes) {
         Ok(text) => text.len(),
@@ -54,6 +56,8 @@ pub(crate) fn valid_behind(bytes: &[u8], ascii: usize) -> usize
     requires front { IsAscii (take ascii bytes.now) }
     ensures within { result ≤ length bytes.now }
     ensures text { IsText (take result bytes.now) }
+    ensures longest { 3 < length (drop ascii bytes.now)
+        → (len : ℕ) → len ≤ length bytes.now → IsText (take len bytes.now) → len ≤ result }
 {
     let rest = &bytes[ascii..];
     if rest.len() <= HANDFUL {
@@ -78,7 +82,8 @@ fn last_start(bytes: &[u8]) -> usize
 /// Whether it is a short piece and ASCII, as many a text is: told without what `simdutf8` sets up for any text.
 pub(crate) fn is_short_ascii(bytes: &[u8]) -> bool
     requires { 64 ≤ length bytes.now }
-    ensures { IsTrue result → IsAscii bytes.now }
+    ensures ascii { IsTrue result → IsAscii bytes.now }
+    ensures short { IsAscii bytes.now → length bytes.now ≤ 256 → IsTrue result }
 {
     bytes.len() <= SHORT && ascii_by::<LANES>(bytes) == bytes.len()
 }
@@ -90,6 +95,7 @@ pub(crate) fn is_short_ascii(bytes: &[u8]) -> bool
 pub(crate) fn few_ascii(bytes: &[u8]) -> usize
     ensures within { result ≤ length bytes.now }
     ensures ascii { IsAscii (take result bytes.now) }
+    ensures all { IsAscii bytes.now → result ≡ length bytes.now }
 {
     if bytes.len() >= FEWER_LANES {
         return ascii_by::<FEWER_LANES>(bytes);
@@ -106,6 +112,7 @@ fn ascii_by<const N: usize>(bytes: &[u8]) -> usize
     requires enough { N ≤ length bytes.now }
     ensures within { result ≤ length bytes.now }
     ensures ascii { IsAscii (take result bytes.now) }
+    ensures all { IsAscii bytes.now → result ≡ length bytes.now }
 {
     let mut at = 0;
     while bytes.len() - at > N {
@@ -123,7 +130,7 @@ fn ascii_by<const N: usize>(bytes: &[u8]) -> usize
 /// Whether no byte of the vector has its top bit set.
 fn is_ascii<const N: usize>(block: Simd<u8, N>) -> bool
     requires { N ≤ 64 }
-    ensures { IsTrue result → IsAscii block.entry }
+    ensures { IsTrue result ↔ IsAscii block.entry }
 {
     block.simd_ge(Simd::splat(0x80)).to_bitmask() == 0
 }

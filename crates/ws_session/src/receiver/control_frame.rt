@@ -1,6 +1,6 @@
 //! The payload of a control frame, as it comes (RFC 6455 section 5.5).
 
-ghost use Rattle.std.specs.Prelude.{◌≡◌, ◌≢◌, ◌+◌, ◌≤◌, ◌<◌, ◌^◌, [], length, MatchOption};
+ghost use Rattle.std.specs.Prelude.{◌≡◌, ◌≢◌, ◌+◌, ◌≤◌, ◌<◌, ◌^◌, ◌⊎◌, [], length, MatchOption};
 ghost use Rattle.ws_session.specs.declared.receiver.frame_check.Content.{Content};
 ghost use Rattle.ws_session.specs.declared.receiver.frame_check.FrameCheck.TheVariants.{Whole};
 ghost use Rattle.ws_session.specs.Faults.{IsControl};
@@ -55,7 +55,8 @@ pub(super) fn whole_payload(header: &Header, start: usize, rest: &[u8]) -> Optio
     requires opcode { IsControl header.now }
     requires short { header.now.len ≤ 125 }
     requires room { start + length rest.now < 2 ^ 64 }
-    ensures { MatchOption result Unit (λ payload. (header.now.opcode ≢ 8)
+    ensures { MatchOption result ((header.now.opcode ≡ 8) ⊎ (length rest.now < header.now.len))
+        (λ payload. (header.now.opcode ≢ 8)
         × ((a : AssemblyValue) (content : Content) → IsContentOf a (frame_with header.now payload) content
         → IsPayloadCheck header.now 0 start a (arrived_payload header.now [] rest.now)
         (Whole (start + length payload) content))) }

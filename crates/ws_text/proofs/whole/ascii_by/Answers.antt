@@ -17,11 +17,11 @@ covered l at from le first last = λ i.
         subst (λ (k : ℕ). get_or l k 0 < 128) same low
 
 pub loop-at-preserved : goal.loop-at-preserved
-loop-at-preserved g c = (omega arith, subst IsAscii (sym (take-add c.loop-at.at g.row.N c.args.bytes.now)) (IsAscii-append _ _ c.loop-at.invariant.1 (c.is_ascii.ensures c.if-not-is_ascii.false)))
+loop-at-preserved g c = (omega arith, subst IsAscii (sym (take-add c.loop-at.at g.row.N c.args.bytes.now)) (IsAscii-append _ _ c.loop-at.invariant.1 (c.is_ascii.ensures.0 c.if-not-is_ascii.false)))
 
 pub returns-then-is_ascii-clause-ascii : goal.returns-then-is_ascii-clause-ascii
 returns-then-is_ascii-clause-ascii g c =
     let l = c.args.bytes.now in
     let n = g.row.N in
-    let last : IsAscii (drop (length l - n) l) = subst IsAscii (take_all n (drop (length l - n) l) (omega (arith, length-drop (length l - n) l))) (c.is_ascii-2.ensures c.if-is_ascii.true) in
+    let last : IsAscii (drop (length l - n) l) = subst IsAscii (take_all n (drop (length l - n) l) (omega (arith, length-drop (length l - n) l))) (c.is_ascii-2.ensures.0 c.if-is_ascii.true) in
     subst IsAscii (sym (take_all (length l) l (omega arith))) (covered l c.loop-at.at (length l - n) (omega arith) c.loop-at.invariant.1 last)

@@ -11,7 +11,7 @@ pub returns-then-is_short_ascii-clause-text : goal.returns-then-is_short_ascii-c
 returns-then-is_short_ascii-clause-text c = λ text h.
     let piece = c.args.piece.now in
     let is_text = (text_without_unfinished text (kept_bytes c.args.self) h).1 (c.if-is_nothing.ensures.0 refl) in
-    unfinished_after text piece [] is_text (unfinished_of_text piece (text_from_utf8 piece (IsUtf8-from_ascii piece (c.if-is_short_ascii.ensures refl))))
+    unfinished_after text piece [] is_text (unfinished_of_text piece (text_from_utf8 piece (IsUtf8-from_ascii piece (c.if-is_short_ascii.ensures.ascii refl))))
 
 pub returns-then-ascii-piece-clause-text : goal.returns-then-ascii-piece-clause-text
 returns-then-ascii-piece-clause-text c = λ text h.
