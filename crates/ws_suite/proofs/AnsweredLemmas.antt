@@ -1,23 +1,28 @@
 -- Replies that are answered one for one: what is found in them.
-use Rattle.std.proofs.Common.{◌≡◌, ◌∙◌, ◌↔◌, ℕ, ◌<◌, ◌≤◌, nat_lt, Bool, true, false, ◌||◌, if◌then◌else◌, List, [], ◌∷◌, length}
+use Rattle.std.proofs.Common.{◌≡◌, ◌∙◌, ◌↔◌, ℕ, ◌<◌, ◌≤◌, nat_lt, Bool, true, false, ◌||◌, if◌then◌else◌, List, [], ◌∷◌, ◌++◌, length}
 use Rattle.std.proofs.Common.{Option, Some, None, drop, take, ap, ap₂, sym, refl, subst, inl, inr, arith, append-nil}
 use Rattle.std.proofs.lemmas.Bool.Decides.{nat_tests}
-use Rattle.std.proofs.lemmas.List.{length-map}
+use Rattle.std.proofs.lemmas.List.{length-drop, length-map, length-take-le, take-append-drop}
 use Rattle.std.proofs.lemmas.Slice.Eq.{bytes_eq-Decides}
 use Rattle.std.specs.List.{filter, last_or, list_any, zip}
 use Rattle.ws_suite.specs.declared.evidence.InTurn.{InTurn}
 use Rattle.ws_suite.specs.declared.evidence.Reply.{Reply}
 use Rattle.ws_suite.specs.declared.evidence.Evidence.{Evidence}
 use Rattle.ws_suite.specs.declared.evidence.kept.Head.{Head}
+use Rattle.ws_session.specs.declared.message.Kind.{Kind}
+use Rattle.ws_session.specs.declared.message.Kind.TheVariants as kind
+use Rattle.ws_suite.specs.declared.evidence.Reply.TheVariants as reply
 use Rattle.ws_suite.specs.declared.evidence.kept.ReplyKind.{ReplyKind}
+use Rattle.ws_suite.specs.declared.evidence.kept.ReplyKind.TheVariants.{Text, Binary, Pong, Ping}
 use Rattle.ws_suite.specs.declared.judging.findings.Findings.{Findings}
 use Rattle.ws_suite.specs.InnerAnswered.{AreAnsweredEach, AreHeadsAnswered}
 use Rattle.ws_suite.specs.InnerJudging.{AreFindingsOf, answers_among, is_answer, without_pings}
-use Rattle.ws_suite.specs.Kept.{kept_replies, reply_of}
+use Rattle.ws_suite.specs.Kept.{kept_replies, payloads_len, reply_of}
 use Rattle.ws_suite.specs.Matching.{IsBeginningOf, IsLastPong, IsWithSomeLeftOut, bare, due_after, has_payload_of, is_message, is_pong}
 use Rattle.ws_suite.specs.Matching.{matches_of, message_replies, payload_of, pong_replies}
 use Rattle.ws_suite.specs.Verdicts.{is_before, is_before_match, is_unmatched}
 use Rattle.ws_suite.proofs.JudgeLemmas.{found_first, left_of_match}
+use Rattle.ws_suite.proofs.KeptLemmas.{payload_kept}
 use Rattle.ws_suite.proofs.TellingLemmas.{same_messages, same_pongs}
 
 -- ---- by their heads
@@ -34,6 +39,43 @@ answered_as_kept (due ∷ dues) (got ∷ gots) payloads others same (kind, len, 
   answered_as_kept dues gots (drop due.len payloads) (drop got.len others)
       (ap₂ (λ (n : ℕ) (l : List ℕ). drop n l) (sym len) same) later,
 )
+
+kind_in : Reply → ReplyKind
+kind_in (reply.Message message) = of_message message.kind
+  where
+    of_message : Kind → ReplyKind
+    of_message kind.Text = Text
+    of_message kind.Binary = Binary
+kind_in (reply.Pong payload) = Pong
+kind_in (reply.Ping payload) = Ping
+
+kind_kept : (kind : ReplyKind) (payload : List ℕ) → kind_in (reply_of kind payload) ≡ kind
+unfolding kind_in
+kind_kept Text payload = refl
+kind_kept Binary payload = refl
+kind_kept Pong payload = refl
+kind_kept Ping payload = refl
+
+no_bytes : (bytes : List ℕ) → length bytes ≡ 0 → bytes ≡ []
+no_bytes [] none = refl
+no_bytes (x ∷ bytes) none = absurd (omega (arith, none))
+
+-- so those that are answered have the same heads and payloads
+pub kept_as_answered : (dues gots : List Head) (payloads others : List ℕ) → payloads_len dues ≡ length payloads
+    → payloads_len gots ≡ length others → AreAnsweredEach (kept_replies dues payloads) (kept_replies gots others)
+    → AreHeadsAnswered dues gots × (payloads ≡ others)
+kept_as_answered [] [] payloads others all rest h = (tt, no_bytes payloads (sym all) ∙ sym (no_bytes others (sym rest)))
+kept_as_answered [] (got ∷ gots) payloads others all rest h = absurd h
+kept_as_answered (due ∷ dues) [] payloads others all rest h = absurd h
+kept_as_answered (due ∷ dues) (got ∷ gots) payloads others all rest (same, turn, later) =
+    let kind : got.kind ≡ due.kind = sym (kind_kept got.kind (take got.len others)) ∙ (ap kind_in same ∙ kind_kept due.kind (take due.len payloads)) in
+    let first : take got.len others ≡ take due.len payloads = sym (payload_kept got.kind (take got.len others)) ∙ (ap payload_of same ∙ payload_kept due.kind (take due.len payloads)) in
+    let len : got.len ≡ due.len = sym (length-take-le got.len others (omega (arith, rest))) ∙ (ap (λ (l : List ℕ). length l) first ∙ length-take-le due.len payloads (omega (arith, all))) in
+    let behind = kept_as_answered dues gots (drop due.len payloads) (drop got.len others)
+    (omega (arith, all, length-drop due.len payloads)) (omega (arith, rest, length-drop got.len others)) later in (
+      (kind, len, turn, behind.0),
+      sym (take-append-drop due.len payloads) ∙ (ap₂ (λ (a b : List ℕ). a ++ b) (sym first) behind.1 ∙ take-append-drop got.len others),
+    )
 
 -- ---- those of a kind
 

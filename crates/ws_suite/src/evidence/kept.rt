@@ -80,7 +80,7 @@ impl Replies {
     /// Whether these are the due ones, one for one, and none stands in an earlier turn than its cause. They are
     /// compared as they are kept: their heads, and then all payloads at once.
     pub(crate) fn answer_each(&self, due: &Replies) -> bool
-        ensures { IsTrue result → AreAnsweredEach due.now self.now }
+        ensures { IsTrue result ↔ AreAnsweredEach due.now self.now }
     {
         are_heads_answered(due.heads.as_slice(), self.heads.as_slice())
             && due.payloads.as_slice() == self.payloads.as_slice()
@@ -99,7 +99,7 @@ impl Replies {
 
 /// Whether replies with these heads are the due ones, where they have the same payloads.
 fn are_heads_answered(due: &[Head], got: &[Head]) -> bool
-    ensures { IsTrue result → AreHeadsAnswered due.now got.now }
+    ensures { IsTrue result ↔ AreHeadsAnswered due.now got.now }
 {
     let mut due_left = due;
     let mut got_left = got;
