@@ -8,7 +8,7 @@ use std::alloc::Global;
 use std::fmt::Write;
 use ws_formats::{Hex, HexDigits};
 use ws_peer::tester_key;
-use ws_session::{Limits, MAX_MESSAGE, Status, feed_all};
+use ws_session::{Limits, Status, feed_all};
 use ws_suite::{Case, Chop, Step, case, ids, turns_with};
 use ws_wire::Role;
 
@@ -92,16 +92,13 @@ fn put_fault(alloc: Global, tested: Role, case: &Case, out: &mut String) -> Resu
     requires { CanBeRun case.now }
 {
     let key = mask_key_of("37fa213d")?;
-    let Some(limits) = Limits::new(MAX_MESSAGE) else {
-        return Err(RowFault::NotARow);
-    };
     let mut pieces = Vec::new(alloc);
     for turn in turns_with(alloc, case, tester_key(tested, key))?.into_vec() {
         for piece in turn.into_vec() {
             pieces.push(piece.into_vec())?;
         }
     }
-    match feed_all(alloc, tested, limits, &pieces, key)?.status {
+    match feed_all(alloc, tested, Limits::largest(), &pieces, key)?.status {
         Status::Failed(reason) => write!(out, "{reason}")?,
         _ => out.push_str("-")?,
     }

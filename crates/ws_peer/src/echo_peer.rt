@@ -13,7 +13,7 @@ use crate::peer::{Going, Peer};
 use std::alloc::Global;
 use std::marker::Model;
 use ws_base::NoMemory;
-use ws_session::{Echo, Limits, MAX_MESSAGE};
+use ws_session::{Echo, Limits};
 use ws_wire::{NO_KEY, Role};
 
 /// An endpoint that sends each message back, answers what is owed, and ends the connection once its session is over.
@@ -50,13 +50,10 @@ impl EchoPeer {
         ensures new { MayHaveHad result (echo_end role key) [] }
         ensures spent { result.is_spent ≡ false }
     {
-        let Some(limits) = Limits::new(MAX_MESSAGE) else {
-            unreachable!()
-        };
         echo_laws();
         EchoPeer {
             alloc,
-            echo: Echo::new(alloc, limits, role),
+            echo: Echo::new(alloc, Limits::largest(), role),
             key,
             is_spent: false,
         }

@@ -2,6 +2,7 @@
 
 ghost use Rattle.std.specs.Prelude.{◌≡◌, ◌≤◌, MatchOption};
 ghost use Rattle.ws_session.specs.Limits.{LimitsValue, AreLimits};
+ghost use Rattle.ws_session.specs.Sends.{most_limits};
 
 use std::marker::Model;
 
@@ -30,6 +31,16 @@ impl Model for Limits {
 }
 
 impl Limits {
+    /// The largest that there are: messages of at most `MAX_MESSAGE` payload bytes, in frames of any size.
+    pub fn largest() -> Limits
+        ensures { result ≡ most_limits }
+    {
+        Limits {
+            max_message: MAX_MESSAGE,
+            max_frame: MAX_MESSAGE,
+        }
+    }
+
     /// Messages of at most so many payload bytes, in frames of any size. `None` outside 1 to `MAX_MESSAGE`.
     pub fn new(max_message: u32) -> Option<Limits>
         ensures { let limits : LimitsValue = record { max_message = max_message; max_frame = max_message }

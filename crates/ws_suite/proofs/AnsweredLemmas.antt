@@ -14,11 +14,10 @@ use Rattle.ws_session.specs.declared.message.Kind.TheVariants as kind
 use Rattle.ws_suite.specs.declared.evidence.Reply.TheVariants as reply
 use Rattle.ws_suite.specs.declared.evidence.kept.ReplyKind.{ReplyKind}
 use Rattle.ws_suite.specs.declared.evidence.kept.ReplyKind.TheVariants.{Text, Binary, Pong, Ping}
-use Rattle.ws_suite.specs.declared.judging.findings.Findings.{Findings}
 use Rattle.ws_suite.specs.InnerAnswered.{AreAnsweredEach, AreHeadsAnswered}
 use Rattle.ws_suite.specs.InnerJudging.{AreFindingsOf, answers_among, is_answer, without_pings}
 use Rattle.ws_suite.specs.Kept.{kept_replies, payloads_len, reply_of}
-use Rattle.ws_suite.specs.Matching.{IsBeginningOf, IsLastPong, IsWithSomeLeftOut, bare, due_after, has_payload_of, is_message, is_pong}
+use Rattle.ws_suite.specs.Matching.{IsBeginningOf, IsLastPong, IsWithSomeLeftOut, bare, has_payload_of, is_message, is_pong}
 use Rattle.ws_suite.specs.Matching.{matches_of, message_replies, payload_of, pong_replies}
 use Rattle.ws_suite.specs.Verdicts.{is_before, is_before_match, is_unmatched}
 use Rattle.ws_suite.proofs.JudgeLemmas.{found_first, left_of_match}

@@ -59,8 +59,7 @@ pub record IsShortCase (tested : Role) (key : Option (List ℕ)) (places : List 
 
 -- ---- one case after the other
 
--- the role of the tested ends and the key for which cases are made, and the case that was made last
-pub record CaseInHand : Type 0 where
+-- the role of the tested ends and the key for which cases are made
+pub record CaseRules : Type 0 where
   pub tested : Role
   pub key : Option (List ℕ)
-  pub case : Case

@@ -6,7 +6,7 @@ ghost use Rattle.ws_sweep.specs.Order.{alphabet_size};
 
 use std::alloc::Global;
 use ws_base::{NoMemory, Payload};
-use ws_suite::Step;
+use ws_scripts::Step;
 use ws_wire::Role;
 
 /// What a step sends.

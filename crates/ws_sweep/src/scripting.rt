@@ -1,7 +1,6 @@
 //! The case of a short script.
 
 ghost use Rattle.std.specs.Prelude.{◌≡◌, ◌↔◌, ◌++◌, ◌∷◌, [], IfOk, IsTrue};
-ghost use Rattle.ws_session.specs.Sends.{most_limits};
 ghost use Rattle.ws_scripts.specs.declared.script.Chop.TheVariants.{Whole};
 ghost use Rattle.ws_scripts.specs.Scripts.{CanBeRun, FitHeaders};
 ghost use Rattle.ws_sweep.specs.Order.{ArePlaces};
@@ -12,9 +11,8 @@ use crate::lemmas::event_laws;
 use crate::short_script::ShortScript;
 use std::alloc::Global;
 use ws_base::{NoMemory, Sequence};
-use ws_scripts::bytes_with;
-use ws_session::{Limits, MAX_MESSAGE, Session};
-use ws_suite::{Case, Chop, Step};
+use ws_scripts::{Case, Chop, Step, bytes_with};
+use ws_session::{Limits, Session};
 use ws_wire::{NO_KEY, Role};
 
 /// The name of a case that has none.
@@ -120,19 +118,9 @@ fn is_over_after(alloc: Global, tested: Role, bytes: &[u8]) -> Result<bool, NoMe
     ensures { IfOk result (λ ends. IsTrue ends ↔ HasEnd tested bytes.now) }
 {
     event_laws();
-    let mut session = Session::new(alloc, tested, most());
+    let mut session = Session::new(alloc, tested, Limits::largest());
     let mut out = Vec::new(alloc);
     let mut events = Vec::new(alloc);
     session.take_all(bytes, NO_KEY, &mut out, &mut events)?;
     Ok(session.status().is_over())
-}
-
-/// The largest limits.
-fn most() -> Limits
-    ensures { result ≡ most_limits }
-{
-    match Limits::new(MAX_MESSAGE) {
-        Some(limits) => limits,
-        None => unreachable!(),
-    }
 }

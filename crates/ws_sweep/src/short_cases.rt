@@ -1,6 +1,6 @@
 //! The case of one short script after the other, with what is known of the steps that neighbours share.
 
-ghost use Rattle.std.specs.Prelude.{◌≡◌, ◌↔◌, ◌≤◌, [], length, IfOk, IsTrue, OnErr, OnOk};
+ghost use Rattle.std.specs.Prelude.{◌≡◌, ◌↔◌, ◌≤◌, length, IfOk, IsTrue};
 ghost use Rattle.ws_scripts.specs.Scripts.{CanBeRun, FitHeaders};
 ghost use Rattle.ws_sweep.specs.Order.{ArePlaces, max_steps};
 ghost use Rattle.ws_sweep.specs.ShortCases.{HasEnd, IsShortCase, bytes_sent, short_steps};
@@ -12,7 +12,7 @@ use crate::short_script::ShortScript;
 use std::alloc::Global;
 use std::marker::Model;
 use ws_base::{NoMemory, ShortBytes};
-use ws_suite::{Case, Step};
+use ws_scripts::{Case, Step};
 use ws_wire::Role;
 
 /// The steps before the last of a script, by their places, and what was found of them.
@@ -23,7 +23,7 @@ struct Front {
     has_end: bool,
 }
 
-/// The case of a short script, and then of another, each that of `short_case` for one role and one key.
+/// Makes the case of a short script, and then of another, each that of `short_case` for one role and one key.
 ///
 /// Most scripts share all steps but the last with the one before them in the order. Where these have a close or a
 /// fault, the script has it too, and isn't asked. So cases are made fastest in the order of the scripts.
@@ -31,57 +31,41 @@ struct Front {
 pub struct ShortCases {
     tested: Role,
     key: Option<[u8; 4]>,
-    front: Front,
-    case: Case,
+    /// What was asked last.
+    front: Option<Front>,
 }
 
 impl Model for ShortCases {
-    ghost use Rattle.ws_sweep.specs.ShortCases.{CaseInHand};
+    ghost use Rattle.ws_sweep.specs.ShortCases.{CaseRules};
     ghost use Rattle.ws_sweep.specs.InnerFronts.{IsFrontOf};
 
-    ghost Value = { CaseInHand };
+    ghost Value = { CaseRules };
 
-    ghost view = { λ s. record { tested = s.tested; key = s.key; case = s.case } };
+    ghost view = { λ s. record { tested = s.tested; key = s.key } };
 
-    ghost invariant = { λ s. IsFrontOf s.tested s.key s.front.places s.front.has_end };
+    ghost invariant = { λ s. IsFrontOf s.tested s.key s.front };
 }
 
 impl ShortCases {
-    /// For tested ends of this role, the frames masked with `key`, or plain where there is none. The first case has no
-    /// steps.
-    pub fn new(alloc: Global, tested: Role, key: Option<[u8; 4]>) -> Result<ShortCases, NoMemory>
-        ensures tested { IfOk result (λ cases. cases.tested ≡ tested) }
-        ensures key { IfOk result (λ cases. cases.key ≡ key) }
-        ensures first { IfOk result (λ cases. cases.case.steps ≡ []) }
+    /// For tested ends of this role, the frames masked with `key`, or plain where there is none.
+    pub fn new(tested: Role, key: Option<[u8; 4]>) -> ShortCases
+        ensures tested { result.tested ≡ tested }
+        ensures key { result.key ≡ key }
     {
-        let case = whole_case(alloc, Vec::new(alloc))?;
-        let front = Front {
-            places: ShortBytes::new(),
-            has_end: false,
-        };
-        Ok(ShortCases {
+        ShortCases {
             tested,
             key,
-            front,
-            case,
-        })
+            front: None,
+        }
     }
 
-    /// The case that was made last.
-    pub fn case(&self) -> &Case
-        ensures { result.now ≡ self.now.case }
-    {
-        &self.case
-    }
-
-    /// Makes the case of a script. An error leaves the one that was made last.
-    pub fn go_to(&mut self, alloc: Global, script: &ShortScript) -> Result<(), NoMemory>
+    /// The case of a script. After an error the next one is made as ever.
+    pub fn case_of(&mut self, alloc: Global, script: &ShortScript) -> Result<Case, NoMemory>
         requires { ArePlaces script.now }
-        ensures is { OnOk result (IsShortCase self.old.tested self.old.key script.now self.new.case) }
-        ensures runs { OnOk result (CanBeRun self.new.case) }
+        ensures is { IfOk result (λ case. IsShortCase self.old.tested self.old.key script.now case) }
+        ensures runs { IfOk result (λ case. CanBeRun case) }
         ensures tested { self.new.tested ≡ self.old.tested }
         ensures key { self.new.key ≡ self.old.key }
-        ensures kept { OnErr result (self.new.case ≡ self.old.case) }
     {
         script.law_few_steps();
         let steps = steps_of(alloc, self.tested, script)?;
@@ -89,11 +73,10 @@ impl ShortCases {
         let places = script.places();
         let steps = case.steps.as_slice();
         if script_has_end(alloc, self.tested, self.key, &mut self.front, places, steps)? {
-            self.case = case;
-        } else {
-            self.case = with_close(alloc, case)?;
+            return Ok(case);
         }
-        Ok(())
+        let closed = with_close(alloc, case)?;
+        Ok(closed)
     }
 }
 
@@ -103,15 +86,15 @@ fn script_has_end(
     alloc: Global,
     tested: Role,
     key: Option<[u8; 4]>,
-    front: &mut Front,
+    front: &mut Option<Front>,
     places: &[u8],
     steps: &[Step],
 ) -> Result<bool, NoMemory>
-    requires front { IsFrontOf tested key front.old.places front.old.has_end }
+    requires front { IsFrontOf tested key front.old }
     requires places { ArePlaces places.now }
     requires few { length places.now ≤ max_steps }
     requires steps { steps.now ≡ short_steps tested places.now }
-    ensures front { IsFrontOf tested key front.new.places front.new.has_end }
+    ensures front { IsFrontOf tested key front.new }
     ensures ends { IfOk result (λ ends. IsTrue ends ↔ HasEnd tested (bytes_sent steps.now key)) }
 {
     end_laws();
@@ -126,29 +109,32 @@ fn script_has_end(
     Ok(ends)
 }
 
-/// Whether it is known that these steps, before the last of a script, have a close or a fault. A session is asked only
+/// Whether what these steps, those before the last of a script, send has a close or a fault. A session is asked only
 /// where others were asked last.
 fn front_has_end(
     alloc: Global,
     tested: Role,
     key: Option<[u8; 4]>,
-    front: &mut Front,
+    front: &mut Option<Front>,
     places: &[u8],
     steps: &[Step],
 ) -> Result<bool, NoMemory>
-    requires front { IsFrontOf tested key front.old.places front.old.has_end }
+    requires front { IsFrontOf tested key front.old }
     requires few { length places.now ≤ max_steps }
     requires fit { FitHeaders steps.now }
     requires steps { steps.now ≡ short_steps tested places.now }
-    ensures front { IsFrontOf tested key front.new.places front.new.has_end }
-    ensures ends { IfOk result (λ ends. IsTrue ends → HasEnd tested (bytes_sent steps.now key)) }
+    ensures front { IsFrontOf tested key front.new }
+    ensures ends { IfOk result (λ ends. IsTrue ends ↔ HasEnd tested (bytes_sent steps.now key)) }
 {
-    if front.places.as_slice() != places {
-        let has_end = steps_have_end(alloc, tested, key, steps)?;
-        *front = Front {
-            places: ShortBytes::of(places),
-            has_end,
-        };
+    if let Some(known) = front.as_ref()
+        && known.places.as_slice() == places
+    {
+        return Ok(known.has_end);
     }
-    Ok(front.has_end)
+    let has_end = steps_have_end(alloc, tested, key, steps)?;
+    *front = Some(Front {
+        places: ShortBytes::of(places),
+        has_end,
+    });
+    Ok(has_end)
 }

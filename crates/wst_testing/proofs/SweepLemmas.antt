@@ -15,7 +15,7 @@ use Rattle.ws_wire.specs.declared.role.Role.{Role}
 use Rattle.ws_session.specs.Replies.{key_for}
 use Rattle.ws_suite.specs.Evidence.{other_role}
 use Rattle.ws_sweep.specs.Order.{ArePlaces, count_of_scripts, script_number}
-use Rattle.ws_sweep.specs.ShortCases.{CaseInHand, IsShortCase}
+use Rattle.ws_sweep.specs.ShortCases.{CaseRules, IsShortCase}
 use Rattle.wst_commands.specs.declared.exit.Exit.{Exit}
 use Rattle.wst_testing.specs.Outcomes.{exit_of_tests, is_fail, is_loose, is_pass, no_tally, tally_of, tally_with}
 use Rattle.wst_testing.specs.Testing.{IsTested}
@@ -165,22 +165,12 @@ tested_so Meets rules asked case outcome same tested =
     subst (λ (r : RunRules). IsTested (Meets r.key) r case outcome) same tested
 
 -- the case is made for the role and the key of the rules
-pub short_so : (rules : SweepRules) (cases : CaseInHand) (places : List ℕ) (made case : Case) → MakesCasesOf rules cases
-    → IsShortCase cases.tested cases.key places made → case ≡ made
+pub short_so : (rules : SweepRules) (cases : CaseRules) (places : List ℕ) (case : Case) → MakesCasesOf rules cases
+    → IsShortCase cases.tested cases.key places case
     → IsShortCase rules.tested (key_for (other_role rules.tested) rules.key) places case
-short_so rules cases places made case of_rules short is =
+short_so rules cases places case of_rules short =
     subst (λ (k : Option (List ℕ)). IsShortCase rules.tested k places case) of_rules.1
-    (subst (λ (r : Role). IsShortCase r cases.key places case) of_rules.0
-    (subst (λ (k : Case). IsShortCase cases.tested cases.key places k) (sym is) short))
-
--- a run that hasn't begun lacks memory
-pub lacks_at_first : (Meets : Case → Meeting → Type 0) (rules : SweepRules) (ended : Result Tally SweepStop)
-    (held : Option (List ℕ)) (f : Bool) → IsErrAnd ended (λ stopped. stopped ≡ stop.NoMemory)
-    → CountsScripts Meets rules ended (record { failed = f; old = held; new = held })
-lacks_at_first Meets rules (Ok all) held f is = absurd is
-lacks_at_first Meets rules (Err stopped) held f is =
-    subst (λ (w : SweepStop). StopsSweep Meets rules w (record { failed = f; old = held; new = held })) (sym is)
-    (record { scripts = []; in_order = tt; stops = Appends-nil held })
+    (subst (λ (r : Role). IsShortCase r cases.key places case) of_rules.0 short)
 
 -- there is no connection to it
 pub script_misses : (Meets : Case → Meeting → Type 0) (rules : SweepRules) (places : List ℕ) (case : Case)

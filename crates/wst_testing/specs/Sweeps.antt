@@ -11,7 +11,7 @@ use Rattle.ws_scripts.specs.declared.script.Case.{Case}
 use Rattle.ws_suite.specs.declared.verdict.Verdict.{Verdict}
 use Rattle.ws_suite.specs.declared.verdict.Verdict.TheVariants as verdict
 use Rattle.ws_sweep.specs.Order.{ArePlaces, count_of_scripts, script_number}
-use Rattle.ws_sweep.specs.ShortCases.{CaseInHand, IsShortCase}
+use Rattle.ws_sweep.specs.ShortCases.{CaseRules, IsShortCase}
 use Rattle.ws_sweep.specs.Telling.{steps_text}
 use Rattle.wst_commands.specs.Devices.{Tells}
 use Rattle.wst_commands.specs.Faults.{LacksMemory}
@@ -187,7 +187,7 @@ SweepsScript Meets rules places ended output = MatchResult ended
     (λ why. StopsAtScript Meets rules places why output)
 
 -- the cases are made for the tested ends of these rules and the key of their tester
-abbrev pub MakesCasesOf : SweepRules → CaseInHand → Type 0
+abbrev pub MakesCasesOf : SweepRules → CaseRules → Type 0
 MakesCasesOf rules cases =
     (cases.tested ≡ rules.tested) × (cases.key ≡ key_for (other_role rules.tested) rules.key)
 

@@ -103,7 +103,7 @@ fn run_scripts<S: CaseServer, W: Write, F: Write>(
     ensures { CountsScripts (S.meets server.now rules.key) rules result (watched W.contents writer.old writer.new) }
 {
     let key = tester_key(rules.tested, rules.key);
-    let mut cases = ShortCases::new(alloc, rules.tested, key)?;
+    let mut cases = ShortCases::new(rules.tested, key);
     let mut tally = Tally::new();
     let mut scripts = ShortScripts::up_to(rules.steps);
     while let Some(script) = scripts.next() {
@@ -131,8 +131,8 @@ fn run_script<S: CaseServer, W: Write, F: Write>(
     ensures cases { MakesCasesOf rules cases.new }
 {
     tell_script(alloc, rules, script, faults)?;
-    cases.go_to(alloc, script)?;
-    let outcome = outcome_of(alloc, server, cases.case(), case_rules(rules))?;
+    let case = cases.case_of(alloc, script)?;
+    let outcome = outcome_of(alloc, server, &case, case_rules(rules))?;
     let told = connected(outcome)?;
     tell_outcome(alloc, rules, script, &told, writer)?;
     Ok(told)

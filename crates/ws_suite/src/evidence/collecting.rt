@@ -5,7 +5,6 @@ ghost use Rattle.std.specs.Prelude.{option_to_list};
 ghost use Rattle.ws_wire.specs.declared.role.Role.{Role};
 ghost use Rattle.ws_session.specs.declared.event.Event.{Event};
 ghost use Rattle.ws_session.specs.Exchange.{is_over};
-ghost use Rattle.ws_session.specs.Sends.{most_limits};
 ghost use Rattle.ws_suite.specs.Evidence.{ending_in};
 ghost use Rattle.ws_suite.specs.InnerCollecting.{AreCollected, EventLaws, HasTakenWay, found_by};
 
@@ -13,7 +12,7 @@ use crate::evidence::{Ending, InTurn, KeepsReplies, Reply};
 use crate::lemmas::session_laws;
 use std::alloc::Global;
 use ws_base::NoMemory;
-use ws_session::{Event, Limits, MAX_MESSAGE, Session};
+use ws_session::{Event, Limits, Session};
 use ws_wire::{NO_KEY, Role};
 
 /// One of the two directions, and what is collected of it.
@@ -47,22 +46,12 @@ pub(super) fn nothing_taken<K: KeepsReplies>(alloc: Global, way: Way, role: Role
     ensures { HasTakenWay K.keeps way role [] result.session result.collected }
 {
     Taken {
-        session: Session::new(alloc, role, most()),
+        session: Session::new(alloc, role, Limits::largest()),
         collected: Collected {
             replies: K::none(alloc),
             ending: None,
             has_rest: false,
         },
-    }
-}
-
-/// The largest limits.
-fn most() -> Limits
-    ensures { result ≡ most_limits }
-{
-    match Limits::new(MAX_MESSAGE) {
-        Some(limits) => limits,
-        None => unreachable!(),
     }
 }
 

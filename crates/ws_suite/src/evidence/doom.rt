@@ -13,7 +13,7 @@ use crate::evidence::{Direction, Ending, Evidence, InTurn, ends_with_close, is_c
 use std::alloc::Global;
 use ws_base::NoMemory;
 use ws_scripts::{Ended, Transcript, Turn};
-use ws_session::{Limits, MAX_MESSAGE, Session, laws};
+use ws_session::{Limits, Session, laws};
 use ws_wire::{NO_KEY, Role};
 
 /// The evidence, with what was doomed counted.
@@ -154,10 +154,7 @@ fn is_doomed_after(
     ensures { IfOk result (λ doomed. IsTrue doomed ↔ IsDoomedAfter tested (sent_turns turns.now) count) }
 {
     laws::doomed_streams_go_on();
-    let Some(limits) = Limits::new(MAX_MESSAGE) else {
-        unreachable!()
-    };
-    let mut session = Session::new(alloc, tested, limits);
+    let mut session = Session::new(alloc, tested, Limits::largest());
     for number in 0..turns.len().min(count) {
         take_bytes(alloc, turns[number].sent.as_slice(), &mut session)?;
     }

@@ -7,7 +7,6 @@ ghost use Rattle.ws_suite.specs.Matching.{matches_of};
 ghost use Rattle.ws_suite.specs.Verdicts.{is_before_match, is_unmatched};
 
 use crate::judging::chosen::Chosen;
-use crate::judging::pongs::either;
 
 /// What comes of pongs that were matched in step with those that are due.
 #[derive(Drop)]
@@ -59,4 +58,11 @@ fn next_in_step<'a, 'b>(due: &Chosen<'a>, got: &Chosen<'b>) -> Option<InStep<'a,
         due: due_left,
         got: got_left,
     })
+}
+
+/// Whether one of the two holds.
+pub(super) fn either(one: bool, other: bool) -> bool
+    ensures { result ≡ (one || other) }
+{
+    one || other
 }

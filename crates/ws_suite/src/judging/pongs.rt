@@ -1,6 +1,6 @@
 //! Pongs and the pings that they answer (RFC 6455 section 5.5.3).
 
-ghost use Rattle.std.specs.Prelude.{◌≡◌, ◌↔◌, ◌+◌, ◌≤◌, ◌||◌, List, IfOk, IsTrue, None, drop, false, find};
+ghost use Rattle.std.specs.Prelude.{◌≡◌, ◌↔◌, ◌+◌, ◌≤◌, List, IfOk, IsTrue, None, drop, false, find};
 ghost use Rattle.std.specs.Prelude.{length, true};
 ghost use Rattle.std.specs.List.{list_any};
 ghost use Rattle.ws_suite.specs.declared.evidence.InTurn.{InTurn};
@@ -13,7 +13,7 @@ ghost use Rattle.ws_suite.specs.Verdicts.{is_before_match, is_unmatched};
 
 use crate::evidence::{Kept, is_same};
 use crate::judging::chosen::Chosen;
-use crate::judging::in_step::match_in_step;
+use crate::judging::in_step::{either, match_in_step};
 use crate::judging::replies::is_any;
 use std::alloc::Global;
 use std::collections::BTreeMap;
@@ -109,13 +109,6 @@ fn is_left<'a>(pong: &Kept<'a>, places: &LastPlaces<'a>, next: usize) -> bool
         Some(last) => next <= *last,
         None => false,
     }
-}
-
-/// Whether one of the two holds.
-pub(super) fn either(one: bool, other: bool) -> bool
-    ensures { result ≡ (one || other) }
-{
-    one || other
 }
 
 /// What comes of one pong.

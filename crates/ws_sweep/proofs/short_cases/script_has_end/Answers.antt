@@ -16,7 +16,7 @@ pub returns-then-branch-clause-ends : goal.returns-then-branch-clause-ends
 returns-then-branch-clause-ends c = (
   λ is. script_ends c.end_laws.ensures c.args.tested c.args.key c.law_masking_key.ensures c.args.steps.now
       c.args.places.now c.in-Some.before.now c.in-Some._last.now c.requires.steps c.in-Some.ensures.cases.0
-      (c.in_ok-front_has_end.ensures.ends c.if-branch.true),
+      (c.in_ok-front_has_end.ensures.ends.0 c.if-branch.true),
   λ end. refl,
 )
 

@@ -1,5 +1,5 @@
 -- The front that is answered is a text, and no longer one is: all of the bytes, or as far as they are valid.
-use Rattle.std.proofs.Common.{◌≤◌, ◌<◌, ℕ, List, length, take, arith, ap, inl, inr, sym, subst}
+use Rattle.std.proofs.Common.{◌<◌, ℕ, List, length, take, arith, ap, inl, inr, sym, subst}
 use Rattle.std.proofs.lemmas.Bool.{cases_lt}
 use Rattle.std.proofs.lemmas.List.{take_all}
 use Rattle.ws_text.specs.Text.{IsText}

@@ -12,11 +12,11 @@ pub returns-in_err-told-clause-swept : goal.returns-in_err-told-clause-swept
 returns-in_err-told-clause-swept g c =
     let Meets = g.S.CaseServer.meets c.args.server.now in
     let rules = c.args.rules in
-    let tested = tested_so Meets rules c.case_rules.result c.case.result.now c.in_ok-outcome.outcome
+    let tested = tested_so Meets rules c.case_rules.result c.in_ok-case.case c.in_ok-outcome.outcome
     c.case_rules.ensures c.in_ok-outcome.ensures in
-    let short = short_so rules c.args.cases.now c.args.script.now c.go_to.new.self.case c.case.result.now c.requires.cases
-    c.in_ok-go_to.ensures.is c.case.ensures in
-    script_misses (Meets rules.key) rules c.args.script.now c.case.result.now c.in_ok-outcome.outcome
+    let short = short_so rules c.args.cases.now c.args.script.now c.in_ok-case.case c.requires.cases
+    c.in_ok-case.ensures.is in
+    script_misses (Meets rules.key) rules c.args.script.now c.in_ok-case.case c.in_ok-outcome.outcome
     c.in_err-told.field-0.0 c.from_residual-in_err-told.result (g.W.Write.contents (inner_of c.args.writer.now))
     (has_failed c.args.writer.now) short tested c.in_err-told.ensures
     c.from_residual-in_err-told.ensures.1
@@ -25,12 +25,12 @@ pub returns-in_err-tell_outcome-clause-swept : goal.returns-in_err-tell_outcome-
 returns-in_err-tell_outcome-clause-swept g c =
     let Meets = g.S.CaseServer.meets c.args.server.now in
     let rules = c.args.rules in
-    let case = c.case.result.now in
+    let case = c.in_ok-case.case in
     let told = c.in_ok-told.told in
     let tested = tested_so Meets rules c.case_rules.result case c.in_ok-outcome.outcome c.case_rules.ensures
     c.in_ok-outcome.ensures in
-    let short = short_so rules c.args.cases.now c.args.script.now c.go_to.new.self.case case c.requires.cases
-    c.in_ok-go_to.ensures.is c.case.ensures in
+    let short = short_so rules c.args.cases.now c.args.script.now case c.requires.cases
+    c.in_ok-case.ensures.is in
     let swept : IsSwept (Meets rules.key) rules (c.args.script.now, told) = (
       case,
       short,
@@ -45,12 +45,12 @@ pub returns-clause-swept : goal.returns-clause-swept
 returns-clause-swept g c =
     let Meets = g.S.CaseServer.meets c.args.server.now in
     let rules = c.args.rules in
-    let case = c.case.result.now in
+    let case = c.in_ok-case.case in
     let told = c.in_ok-told.told in
     let tested = tested_so Meets rules c.case_rules.result case c.in_ok-outcome.outcome c.case_rules.ensures
     c.in_ok-outcome.ensures in
-    let short = short_so rules c.args.cases.now c.args.script.now c.go_to.new.self.case case c.requires.cases
-    c.in_ok-go_to.ensures.is c.case.ensures in
+    let short = short_so rules c.args.cases.now c.args.script.now case c.requires.cases
+    c.in_ok-case.ensures.is in
     let swept : IsSwept (Meets rules.key) rules (c.args.script.now, told) = (
       case,
       short,

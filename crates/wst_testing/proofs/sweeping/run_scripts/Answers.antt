@@ -1,17 +1,9 @@
 -- The next script was run behind those before it, or the run stops there.
-use Rattle.std.proofs.Common.{◌≡◌, IsErrAnd, arith, rules}
+use Rattle.std.proofs.Common.{arith}
 use Rattle.ws_frame.specs.Devices.{watched}
 use Rattle.ws_frame.specs.Watching.{has_failed, inner_of}
-use Rattle.wst_testing.specs.declared.sweeping.SweepStop.TheVariants as stop
-use Rattle.wst_testing.proofs.SweepLemmas.{counts_stop, lacks_at_first, room_left, swept_more}
+use Rattle.wst_testing.proofs.SweepLemmas.{counts_stop, room_left, swept_more}
 use Rattle.wst_testing.proofs.sweeping.run_scripts.Goals as goal
-
-pub returns-in_err-cases : goal.returns-in_err-cases
-returns-in_err-cases g c =
-    let stopped : IsErrAnd c.from_residual.result (λ why. why ≡ stop.NoMemory) = search rules in
-    lacks_at_first (g.S.CaseServer.meets c.args.server.now c.args.rules.key) c.args.rules
-    c.from_residual.result (g.W.Write.contents (inner_of c.args.writer.now))
-    (has_failed c.args.writer.now) stopped
 
 pub returns-in_err-outcome : goal.returns-in_err-outcome
 returns-in_err-outcome g c =

@@ -1,5 +1,5 @@
 -- A header ends with the first byte behind which it is whole, and the bytes kept until then have room.
-use Rattle.std.proofs.Common.{◌≡◌, ◌∙◌, ◌+◌, ◌++◌, [], ◌∷◌, length, take, get_or, List, ℕ, ap, subst, arith}
+use Rattle.std.proofs.Common.{◌≡◌, ◌∙◌, ◌+◌, ◌++◌, take, List, ℕ, subst, arith}
 use Rattle.ws_wire.specs.Reading.{Begins}
 use Rattle.ws_session.proofs.HeaderEnds.{header_ends, short_so_far, one_more}
 use Rattle.ws_session.proofs.receiver.header_end.complete_by_byte.Goals as goal

@@ -3,7 +3,7 @@ use Rattle.std.proofs.Common.{◌∙◌, ◌++◌, List, [], ◌∷◌, ap}
 use Rattle.ws_scripts.specs.declared.script.Step.{Step}
 use Rattle.ws_sweep.specs.ShortCases.{close_step, short_steps}
 use Rattle.ws_sweep.proofs.Running.{can_be_run, closed_steps_fit, steps_fit}
-use Rattle.ws_sweep.proofs.short_cases.ShortCases.go_to.Goals as goal
+use Rattle.ws_sweep.proofs.short_cases.ShortCases.case_of.Goals as goal
 
 pub returns-then-branch-clause-runs : goal.returns-then-branch-clause-runs
 returns-then-branch-clause-runs c =
@@ -11,10 +11,10 @@ returns-then-branch-clause-runs c =
     (c.in_ok-case.ensures.steps ∙ c.in_ok-steps.ensures) c.in_ok-case.ensures.whole
     (steps_fit c.self.inside.tested c.args.script.now c.requires)
 
-pub returns-in_ok-self-inside-clause-runs : goal.returns-in_ok-self-inside-clause-runs
-returns-in_ok-self-inside-clause-runs c =
-    can_be_run c.in_ok-self-inside.field-0 (short_steps c.self.inside.tested c.args.script.now ++ close_step ∷ [])
-    (c.in_ok-self-inside.ensures.steps ∙ ap (λ (l : List Step). l ++ close_step ∷ [])
+pub returns-clause-runs : goal.returns-clause-runs
+returns-clause-runs c =
+    can_be_run c.in_ok-closed.closed (short_steps c.self.inside.tested c.args.script.now ++ close_step ∷ [])
+    (c.in_ok-closed.ensures.steps ∙ ap (λ (l : List Step). l ++ close_step ∷ [])
     (c.in_ok-case.ensures.steps ∙ c.in_ok-steps.ensures))
-    (c.in_ok-self-inside.ensures.chop ∙ c.in_ok-case.ensures.whole)
+    (c.in_ok-closed.ensures.chop ∙ c.in_ok-case.ensures.whole)
     (closed_steps_fit c.self.inside.tested c.args.script.now c.requires)
