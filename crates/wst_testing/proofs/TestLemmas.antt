@@ -11,7 +11,7 @@ use Rattle.std.proofs.lemmas.List.Folds.{list_any-append}
 use Rattle.std.specs.List.{list_any}
 use Rattle.std.specs.Io.KnownBytes.{Appends, Keeps}
 use Rattle.ws_wire.proofs.Splits.{all-append}
-use Rattle.ws_frame.specs.Devices.{Device, HasBegun, HasWritten}
+use Rattle.ws_frame.specs.Devices.{Device}
 use Rattle.ws_frame.specs.Watching.{AppendsFront}
 use Rattle.ws_reports.specs.Reports.{ReportValue, end_text}
 use Rattle.ws_scripts.specs.declared.script.Case.{Case}

@@ -20,7 +20,6 @@ use Rattle.wst_commands.specs.TimeLimits.{GivesTimeout, HasTimeout}
 use Rattle.wst_commands.specs.declared.exit.Exit.{Exit}
 use Rattle.wst_commands.specs.declared.exit.Exit.TheVariants.{WrongWords}
 use Rattle.wst_commands.specs.declared.given_cases.NoCases.TheVariants.{NoMemory, NoSuchCase}
-use Rattle.wst_testing.specs.declared.case_server.MemoryEnd.{MemoryEnd}
 use Rattle.wst_testing.specs.declared.case_server.MemoryPeer.{MemoryPeer}
 use Rattle.wst_testing.specs.declared.case_server.MemoryPeer.TheVariants.{Own, Tung}
 use Rattle.wst_testing.specs.declared.run_plans.Refusal.{Refusal}

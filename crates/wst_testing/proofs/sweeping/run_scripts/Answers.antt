@@ -10,11 +10,11 @@ returns-in_err-outcome g c =
     let at = c.loop-script in
     let given = c.in-Some.ensures.steps in
     counts_stop (g.S.CaseServer.meets c.args.server.now c.args.rules.key) c.args.rules at.scripts.next at.tally
-    c.in-Some.script c.in_err-outcome.field-0.0 c.from_residual-in_err-outcome.result
+    c.in-Some.script c.in_err-outcome.field-0.0 c.from_residual.result
     (g.W.Write.contents (inner_of c.args.writer.now)) (g.W.Write.contents (inner_of at.writer))
     (g.W.Write.contents (inner_of c.run_script.new.writer)) (has_failed at.writer)
     (has_failed c.run_script.new.writer) at.invariant.run given.0 given.1 c.in_err-outcome.ensures.swept
-    c.from_residual-in_err-outcome.ensures.1
+    c.from_residual.ensures.1
 
 pub with-tally-requires-clause-pass : goal.with-tally-requires-clause-pass
 with-tally-requires-clause-pass g c =
