@@ -1,10 +1,10 @@
 //! Scripts that test a peer (RFC 6455 sections 5 to 8): what to send, in which turns and pieces; the transcript of what
 //! was sent and got; and scripts, and captures of transcripts, as text.
 //!
-//! The layers above use eight contracts: `case` has a script for each name of the table and no other, which can be run,
-//! `all_ids` lists these names in their order, `turns_with` cuts a script as its definition says, `bytes_with` gives the
-//! bytes of its turns, one after the other, `read_script` gives the script that a text is, `write_script` a text of it,
-//! `read_capture2` the one capture that a text is, and `write_capture2` its lines.
+//! The layers above use eight contracts: `case` has a script for each name of the table and no other, which can be
+//! run, `all_ids` lists these names in their order, `turns_with` cuts a script as its definition says, `bytes_with`
+//! gives the bytes of its turns, one after the other, `read_script` gives the script that a text is, `write_script` a
+//! text of it, `read_capture2` the one capture that a text is, and `write_capture2` its lines.
 #![tactic(auto)]
 
 mod capture;
