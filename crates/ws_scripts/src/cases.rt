@@ -69,6 +69,17 @@ pub fn ids(alloc: Global) -> Result<Sequence<String>, NoMemory>
     Ok(Sequence::from_vec(names))
 }
 
+/// The names of all cases: those that `ids` lists, then the six that begin with `x`.
+pub fn all_ids(alloc: Global) -> Result<Sequence<String>, NoMemory>
+    ensures { IfOk result (λ names. map string_bytes names ≡ case_names) }
+{
+    let mut all = Vec::new(alloc);
+    for part in 0..ALL_PARTS {
+        push_all(alloc, sections(part), &mut all)?;
+    }
+    Ok(Sequence::from_vec(all))
+}
+
 /// Puts the names of the cases of some sections at the end of the names.
 fn push_all(alloc: Global, sections: &[Section], names: &mut Vec<String>) -> Result<(), NoMemory>
     ensures { IfOk result (λ _. map string_bytes names.new.items ≡

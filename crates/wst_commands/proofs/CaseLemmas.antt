@@ -1,21 +1,26 @@
 -- Cases one after the other: their names, their lines, and those for which words stand.
-use Rattle.std.proofs.Common.{◌≡◌, ◌≢◌, ◌∙◌, ◌+◌, ◌-◌, ◌<◌, ap, ap₂, arith, cond, refl, subst, sym, ℕ, Bool, true, false}
+use Rattle.std.proofs.Common.{◌≡◌, ◌≢◌, ◌==◌, ◌∙◌, ◌+◌, ◌-◌, ◌<◌, ap, ap₂, arith, cond, refl, subst, sym, ℕ, Bool, true, false}
 use Rattle.std.proofs.Common.{List, [], ◌∷◌, ◌++◌, append-nil, append_assoc, codes, filter, flat_map, length, map}
-use Rattle.std.proofs.Common.{Option, slice_index_or, string_bytes, take, drop}
+use Rattle.std.proofs.Common.{MatchResult, Option, Result, slice_index_or, string_bytes, take, drop}
+use Rattle.std.proofs.lemmas.Bool.Decides.{nat_tests}
 use Rattle.std.proofs.lemmas.Grind.{flat_map-append}
-use Rattle.std.proofs.lemmas.List.{length-map, map-append, take-append-drop, take_more}
-use Rattle.std.proofs.lemmas.List.Elements.{All-append, All-nil, All-push, filter-append}
+use Rattle.std.proofs.lemmas.List.{get_or-map, length-map, map-append, take-append-drop, take_more}
+use Rattle.std.proofs.lemmas.List.Elements.{All-append, All-from_get_or, All-get_or, All-nil, All-push, filter-append}
 use Rattle.std.proofs.lemmas.Slice.Zip.{AllZip-long}
 use Rattle.std.specs.Borrow.{Bor}
-use Rattle.std.specs.List.{All}
+use Rattle.std.specs.List.{All, Contains}
 use Rattle.std.specs.declared.alloc.Global.{Global}
 use Rattle.std.specs.declared.string.String.{String}
+use Rattle.std.specs.declared.vec.Vec.{Vec}
+use Rattle.ws_scripts.specs.CaseNames.{case_names}
 use Rattle.ws_scripts.specs.Scripts.{ArePieces, AreTurns, CanBeRun, turns_of}
 use Rattle.ws_scripts.specs.ScriptTexts.{written_script}
 use Rattle.ws_scripts.specs.declared.script.Case.{Case}
 use Rattle.wst_commands.specs.Cases.{case_line, cases_text}
-use Rattle.wst_commands.specs.GivenCases.{AreCasesBy, AreCasesFor, AreCasesOf, GrowsByCase, GrowsByCases, ids_for}
-use Rattle.wst_commands.specs.GivenCases.{is_glob, is_meant, names_of, or_all}
+use Rattle.wst_commands.specs.GivenCases.{AreCasesFor, AreCasesOf, AreNamesFor, GrowsByCase, GrowsByCases, HaveNoGlob}
+use Rattle.wst_commands.specs.GivenCases.{LackCases}
+use Rattle.wst_commands.specs.declared.given_cases.NoCases.{NoCases}
+use Rattle.wst_commands.specs.GivenCases.{NameCases, ids_for, ids_of, is_glob, is_meant, names_of, or_all}
 
 -- ---- names
 
@@ -77,11 +82,38 @@ more_cases names others old more new before behind is = record {
       ∙ ap₂ (λ (a b : List (List ℕ)). a ++ b) before.named behind.named;
 }
 
+-- the ids so far and the next one are names of cases
+pub next_named : (ids : List (Bor (List ℕ))) (i : ℕ) (d : Bor (List ℕ)) → i < length ids
+    → All (Contains case_names) (names_of (take i ids)) → Contains case_names (slice_index_or ids i d).now
+    → All (Contains case_names) (names_of (take (i + 1) ids))
+next_named ids i d within before named =
+    subst (λ (l : List (List ℕ)). All (Contains case_names) l) (sym (next_word ids i d within))
+    (All-push (Contains case_names) (names_of (take i ids)) (slice_index_or ids i d).now before named)
+
+-- where one of the ids is the name of no case, not each is that of one
+pub one_unnamed : (ids : List (Bor (List ℕ))) (i : ℕ) (d : Bor (List ℕ)) → i < length ids
+    → ¬ (Contains case_names (slice_index_or ids i d).now) → ¬ (NameCases (names_of ids))
+one_unnamed ids i d within other = λ h.
+    other (subst (λ (l : List ℕ). Contains case_names l) (get_or-map (λ (x : Bor (List ℕ)). x.now) ids i d d.now within)
+    (All-get_or (Contains case_names) (names_of ids) i d.now
+    (omega (arith, within, length-map ids (λ (x : Bor (List ℕ)). x.now))) h.1))
+
+-- no ids are the names of no cases
+pub none_named : (ids : List (Bor (List ℕ))) (b : Bool) → b ≡ (length ids == 0) → b ≡ true → NameCases (names_of ids) → ⊥
+none_named [] b is none h = h.0 refl
+none_named (id ∷ ids) b is none h =
+    let zero : length (id ∷ ids) ≡ 0 = grind (arith, nat_tests, is, none) in absurd (omega (arith, zero))
+
+-- and some are some names
+pub some_named : (ids : List (Bor (List ℕ))) (b : Bool) → b ≡ (length ids == 0) → b ≡ false → names_of ids ≡ [] → ⊥
+some_named [] b is some nil = absurd cc
+some_named (id ∷ ids) b is some nil = absurd cc
+
 -- the case of the next id was put behind those of the ids so far
 pub next_id : (ids : List (Bor (List ℕ))) (i : ℕ) (d : Bor (List ℕ)) (first old more new : List Case) → i < length ids
     → AreCasesOf (names_of (take i ids)) more → old ≡ first ++ more → GrowsByCase (slice_index_or ids i d).now true old new
     → (longer : List Case) × AreCasesOf (names_of (take (i + 1) ids)) longer × (new ≡ first ++ longer)
-next_id ids i d first old more new within before is (case, runs, called, grown) = (
+next_id ids i d first old more new within before is (named, (case, runs, called, grown)) = (
   more ++ case ∷ [],
   subst (λ (l : List (List ℕ)). AreCasesOf l (more ++ case ∷ [])) (sym (next_word ids i d within))
       (one_more_case (names_of (take i ids)) (slice_index_or ids i d).now more (more ++ case ∷ []) case before runs called refl),
@@ -89,46 +121,76 @@ next_id ids i d first old more new within before is (case, runs, called, grown) 
 )
 
 -- the cases of the next word were put behind those of the words so far
-pub next_cases : (names : List (List ℕ)) (words : List (Bor (List ℕ))) (i : ℕ) (d : Bor (List ℕ)) (old new : List Case) → i < length words
-    → AreCasesBy names (names_of (take i words)) old → GrowsByCases (ids_for names (slice_index_or words i d).now) true old new
-    → AreCasesBy names (names_of (take (i + 1) words)) new
-next_cases names words i d old new within before (some, more, are, grown) =
+pub next_cases : (words : List (Bor (List ℕ))) (i : ℕ) (d : Bor (List ℕ)) (old new : List Case) → i < length words
+    → AreCasesFor (names_of (take i words)) old → GrowsByCases (ids_of (slice_index_or words i d).now) true old new
+    → AreCasesFor (names_of (take (i + 1) words)) new
+next_cases words i d old new within before (some, (more, are, grown)) =
     let word = (slice_index_or words i d).now in
     let front = names_of (take i words) in
-    let ids : flat_map (ids_for names) (front ++ word ∷ []) ≡ flat_map (ids_for names) front ++ ids_for names word =
-    flat_map-append (ids_for names) front (word ∷ []) ∙ ap (λ (l : List (List ℕ)). flat_map (ids_for names) front ++ l) (append-nil (ids_for names word)) in
-    subst (λ (l : List (List ℕ)). AreCasesBy names l new) (sym (next_word words i d within)) record {
+    let ids : flat_map ids_of (front ++ word ∷ []) ≡ flat_map ids_of front ++ ids_of word =
+    flat_map-append ids_of front (word ∷ []) ∙ ap (λ (l : List (List ℕ)). flat_map ids_of front ++ l)
+    (append-nil (ids_of word)) in
+    subst (λ (l : List (List ℕ)). AreCasesFor l new) (sym (next_word words i d within)) record {
       have = subst (λ (l : List (List ℕ)). AreCasesOf l new) (sym ids)
-          (more_cases (flat_map (ids_for names) front) (ids_for names word) old more new before.have are grown);
-      some = All-push (λ (w : List ℕ). ids_for names w ≢ []) front word before.some some;
+          (more_cases (flat_map ids_of front) (ids_of word) old more new before.have are grown);
+      some = All-push (λ (w : List ℕ). NameCases (ids_of w)) front word before.some some;
     }
 
 -- no words stand for no cases
-pub no_cases : (names : List (List ℕ)) → AreCasesBy names [] []
-no_cases names = record {
+pub no_cases : AreCasesFor [] []
+no_cases = record {
   have = record { can_be_run = All-nil CanBeRun; named = refl };
-  some = All-nil (λ (w : List ℕ). ids_for names w ≢ []);
+  some = All-nil (λ (w : List ℕ). NameCases (ids_of w));
 }
 
 -- where no word is given a star is
-pub none_given : (words : List (Bor (List ℕ))) → length words ≡ 0 → codes "*" ∷ [] ≡ or_all (names_of words)
-none_given [] none = refl
-none_given (word ∷ words) none = absurd (omega (arith, none))
+pub none_given : (words : List (Bor (List ℕ))) (b : Bool) → b ≡ (length words == 0) → b ≡ true
+    → codes "*" ∷ [] ≡ or_all (names_of words)
+none_given [] b is none = refl
+none_given (word ∷ words) b is none =
+    let zero : length (word ∷ words) ≡ 0 = grind (arith, nat_tests, is, none) in absurd (omega (arith, zero))
 
-pub some_given : (words : List (Bor (List ℕ))) → (length words ≡ 0 → ⊥) → names_of words ≡ or_all (names_of words)
-some_given [] some = absurd (some refl)
-some_given (word ∷ words) some = refl
+pub some_given : (words : List (Bor (List ℕ))) (b : Bool) → b ≡ (length words == 0) → b ≡ false
+    → names_of words ≡ or_all (names_of words)
+some_given [] b is some = absurd cc
+some_given (word ∷ words) b is some = refl
+
+-- the cases for which words stand, or why there are none
+abbrev pub AnswersFor : List (List ℕ) → Result (Vec Case Global) NoCases → Type 0
+AnswersFor words result = MatchResult result (λ cases. AreCasesFor words cases.items) (LackCases words)
 
 -- a word that is no glob stands for itself
 pub plain_ids : (names : List (List ℕ)) (word : List ℕ) → is_glob word ≡ false → ids_for names word ≡ word ∷ []
 plain_ids names word plain =
     ap (λ (b : Bool). cond b (filter (is_meant (take (length word - 1) word)) names) (word ∷ [])) plain
 
+-- where none of the words is a glob no names are needed for them
+pub none_needed : (words : List (Bor (List ℕ))) → HaveNoGlob words → AreNamesFor words []
+none_needed words plain =
+    let none : Bor (List ℕ) = record { ref_ptr = (0, 0); now = [] } in
+    All-from_get_or (λ (w : Bor (List ℕ)). ids_for [] w.now ≡ ids_of w.now) words none (λ i within.
+    let word = slice_index_or words i none in
+    let p = All-get_or (λ (w : Bor (List ℕ)). is_glob w.now ≡ false) words i none within plain in
+    plain_ids [] word.now p ∙ sym (plain_ids case_names word.now p))
+
+-- and those of all cases are right for each
+pub all_given : (words : List (Bor (List ℕ))) (names : List (List ℕ)) → names ≡ case_names → AreNamesFor words names
+all_given words names are =
+    let none : Bor (List ℕ) = record { ref_ptr = (0, 0); now = [] } in
+    All-from_get_or (λ (w : Bor (List ℕ)). ids_for names w.now ≡ ids_of w.now) words none (λ i within.
+    ap (λ (l : List (List ℕ)). ids_for l (slice_index_or words i none).now) are)
+
+-- the ids of a word, by names that are right for it
+pub ids_by : (words : List (Bor (List ℕ))) (names : List (List ℕ)) (i : ℕ) (d : Bor (List ℕ)) → i < length words
+    → AreNamesFor words names → ids_for names (slice_index_or words i d).now ≡ ids_of (slice_index_or words i d).now
+ids_by words names i d within are =
+    All-get_or (λ (w : Bor (List ℕ)). ids_for names w.now ≡ ids_of w.now) words i d within are
+
 -- and so for one case
 pub one_case : (word : List ℕ) (cases : List Case) → AreCasesFor (word ∷ []) cases → is_glob word ≡ false → length cases ≡ 1
-one_case word cases (names, are) plain =
+one_case word cases are plain =
     sym (length-map cases (λ (c : Case). string_bytes c.id)) ∙ ap (λ (l : List (List ℕ)). length l) are.have.named
-    ∙ ap (λ (l : List (List ℕ)). length (l ++ [])) (plain_ids names word plain)
+    ∙ ap (λ (l : List (List ℕ)). length (l ++ [])) (plain_ids case_names word plain)
 
 -- one case, where there is one
 pub only_one : (cases : List Case) (case : Case) → length cases ≡ 1 → case ≡ slice_index_or cases 0 case → cases ≡ case ∷ []

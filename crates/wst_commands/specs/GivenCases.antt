@@ -4,8 +4,9 @@ use Rattle.std.specs.Prelude.{◌≡◌, ◌≢◌, ◌⊎◌, ⊤, ℕ, ◌-◌
 use Rattle.std.specs.Prelude.{if◌then◌else◌, List, [], ◌∷◌, ◌++◌, codes, filter, flat_map, length, map}
 use Rattle.std.specs.Prelude.{slice_index, string_bytes, take}
 use Rattle.std.specs.Borrow.{Bor}
-use Rattle.std.specs.List.{All, concat, starts_with}
+use Rattle.std.specs.List.{All, Contains, concat, starts_with}
 use Rattle.ws_frame.specs.Devices.{Device}
+use Rattle.ws_scripts.specs.CaseNames.{case_names}
 use Rattle.ws_scripts.specs.Scripts.{CanBeRun}
 use Rattle.ws_scripts.specs.declared.script.Case.{Case}
 use Rattle.wst_commands.specs.Devices.{Tells}
@@ -26,10 +27,18 @@ abbrev pub is_meant : List ℕ → List ℕ → Bool
 is_meant front name = starts_with nat_eq name front
     && (not (starts_with nat_eq name (codes "x")) || starts_with nat_eq front (codes "x"))
 
--- These ids, in this order, stand for the word, where these are the names of all cases in their order: the word itself;
--- where it ends in a star, the names that are meant by what stands before that.
+-- The ids for which a word stands among these names, in the order of the names: the word itself; if it ends in a star,
+-- the names that are meant by what is in front of the star.
 abbrev pub ids_for : List (List ℕ) → List ℕ → List (List ℕ)
 ids_for names word = if is_glob word then filter (is_meant (take (length word - 1) word)) names else word ∷ []
+
+-- the ids for which a word stands among the names of all cases, which are in the order of the table
+abbrev pub ids_of : List ℕ → List (List ℕ)
+ids_of word = ids_for case_names word
+
+-- these ids are names of cases, and there is at least one
+abbrev pub NameCases : List (List ℕ) → Type 0
+NameCases ids = (ids ≢ []) × All (Contains case_names) ids
 
 -- ---- the cases of words
 
@@ -38,25 +47,20 @@ pub record AreCasesOf (names : List (List ℕ)) (cases : List Case) : Type 0 whe
   pub can_be_run : All CanBeRun cases
   pub named : map (λ case. string_bytes case.id) cases ≡ names
 
--- the cases for which the words stand, each word in its place and for one case at least, where these are the names of
--- all cases in their order
-pub record AreCasesBy (names words : List (List ℕ)) (cases : List Case) : Type 0 where
-  pub have : AreCasesOf (flat_map (ids_for names) words) cases
-  pub some : All (λ word. ids_for names word ≢ []) words
-
--- which names all cases have is said by no definition
-abbrev pub AreCasesFor : List (List ℕ) → List Case → Type 0
-AreCasesFor words cases = (names : List (List ℕ)) × AreCasesBy names words cases
+-- the cases for which the words stand, those of each word in its place; each word stands for at least one case
+pub record AreCasesFor (words : List (List ℕ)) (cases : List Case) : Type 0 where
+  pub have : AreCasesOf (flat_map ids_of words) cases
+  pub some : All (λ word. NameCases (ids_of word)) words
 
 -- the words that are given; where there are none, a star: all cases but those whose names begin with `x`
 abbrev pub or_all : List (List ℕ) → List (List ℕ)
 or_all [] = codes "*" ∷ []
 or_all (word ∷ words) = word ∷ words
 
--- why there are no cases for the words: one stands for none, and those before it stand for some; or memory ran out
+-- why there are no cases for the words: this word stands for none, and each in front of it for some; or memory ran out
 abbrev pub LackCases : List (List ℕ) → NoCases → Type 0
 LackCases words (NoSuchCase word) = (before after : List (List ℕ)) × (cases : List Case)
-    × (words ≡ before ++ word.now ∷ after) × AreCasesFor before cases
+    × (words ≡ before ++ word.now ∷ after) × AreCasesFor before cases × ¬ (NameCases (ids_of word.now))
 LackCases words NoMemory = ⊤
 
 -- ---- what is told
@@ -77,13 +81,22 @@ TellsNoCases NoMemory exit faults = LacksMemory exit faults
 abbrev pub names_of : List (Bor (List ℕ)) → List (List ℕ)
 names_of words = map (λ word. word.now) words
 
+-- among these names each of the words stands for the ids for which it stands among all names
+abbrev pub AreNamesFor : List (Bor (List ℕ)) → List (List ℕ) → Type 0
+AreNamesFor words names = All (λ word. ids_for names word.now ≡ ids_of word.now) words
+
+-- none of the words ends in a star
+abbrev pub HaveNoGlob : List (Bor (List ℕ)) → Type 0
+HaveNoGlob words = All (λ word. is_glob word.now ≡ false) words
+
 -- a case with this name was put at the end; or there is none
 abbrev pub GrowsByCase : List ℕ → Bool → List Case → List Case → Type 0
-GrowsByCase name true old new = (case : Case) × CanBeRun case × (string_bytes case.id ≡ name) × (new ≡ old ++ case ∷ [])
-GrowsByCase name false old new = new ≡ old
+GrowsByCase name true old new = Contains case_names name
+    × ((case : Case) × CanBeRun case × (string_bytes case.id ≡ name) × (new ≡ old ++ case ∷ []))
+GrowsByCase name false old new = ¬ (Contains case_names name)
 
 -- the cases with these names, of which there is one, were put at the end; or there is none, or a name has no case
 abbrev pub GrowsByCases : List (List ℕ) → Bool → List Case → List Case → Type 0
 GrowsByCases names true old new =
-    (names ≢ []) × (more : List Case) × AreCasesOf names more × (new ≡ old ++ more)
-GrowsByCases names false old new = ⊤
+    NameCases names × ((more : List Case) × AreCasesOf names more × (new ≡ old ++ more))
+GrowsByCases names false old new = ¬ (NameCases names)

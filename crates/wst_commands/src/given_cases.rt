@@ -1,11 +1,13 @@
 //! The cases that the words of a command line stand for. How words stand for cases is told in docs/FORMATS.md.
 
-ghost use Rattle.std.specs.Prelude.{◌≡◌, ◌⊎◌, IfOk, MatchOption, MatchResult, filter, map, string_bytes, take};
+ghost use Rattle.std.specs.Prelude.{◌≡◌, ◌⊎◌, ⊤, IfOk, MatchBool, MatchOption, MatchResult, filter, map, take};
+ghost use Rattle.std.specs.Prelude.{string_bytes};
 ghost use Rattle.std.specs.Prelude.{◌-◌, false, length, true};
 ghost use Rattle.ws_frame.specs.Devices.{watched};
 ghost use Rattle.wst_commands.specs.Devices.{StaysFailed, Tells};
 ghost use Rattle.wst_commands.specs.Faults.{LacksMemory};
-ghost use Rattle.wst_commands.specs.GivenCases.{AreCasesFor, GrowsByCase, GrowsByCases, LackCases, TellsNoCases};
+ghost use Rattle.wst_commands.specs.GivenCases.{AreCasesFor, AreNamesFor, GrowsByCase, GrowsByCases, HaveNoGlob};
+ghost use Rattle.wst_commands.specs.GivenCases.{LackCases, TellsNoCases};
 ghost use Rattle.wst_commands.specs.GivenCases.{ids_for, is_glob, is_meant, names_of, no_case_line, or_all};
 ghost use Rattle.wst_commands.specs.declared.exit.Exit.TheVariants.{WrongWords};
 
@@ -16,10 +18,8 @@ use std::alloc::{AllocError, Global};
 use std::io::Write;
 use ws_base::NoMemory;
 use ws_frame::Watched;
-use ws_suite::{Case, case, ids};
-
-/// The names of the cases that are not in the list of cases. They stand behind it.
-const UNLISTED: [&str; 6] = ["x.1", "x.2", "x.3", "x.4", "x.5", "x.6"];
+use ws_scripts::all_ids;
+use ws_suite::{Case, case};
 
 /// Why there are no cases for some words.
 #[derive(Clone, Copy)]
@@ -70,15 +70,27 @@ fn cases_for<'a>(alloc: Global, words: &[&'a str]) -> Result<Vec<Case>, NoCases<
 }
 
 /// The names of all cases, in their order; none where no word needs them.
-fn names_for(alloc: Global, words: &[&str]) -> Result<Vec<String>, NoMemory> {
-    let mut names = Vec::new(alloc);
-    if words.iter().any(|word| is_glob(*word)) {
-        names = ids(alloc)?.into_vec();
-        for name in UNLISTED {
-            names.push(String::from_str(alloc, name)?)?;
+fn names_for(alloc: Global, words: &[&str]) -> Result<Vec<String>, NoMemory>
+    ensures { IfOk result (λ names. AreNamesFor words.now (map string_bytes names.items)) }
+{
+    if has_glob(words) {
+        let names = all_ids(alloc)?;
+        Ok(names.into_vec())
+    } else {
+        Ok(Vec::new(alloc))
+    }
+}
+
+/// Whether one of the words ends in a star.
+fn has_glob(words: &[&str]) -> bool
+    ensures { MatchBool result ⊤ (HaveNoGlob words.now) }
+{
+    for word in words {
+        if is_glob(*word) {
+            return true;
         }
     }
-    Ok(names)
+    false
 }
 
 /// Puts the cases that a word stands for at the end of the cases. Answers whether there is one, and each id has one.
@@ -91,14 +103,18 @@ fn push_cases(
     ensures { IfOk result (λ there. GrowsByCases (ids_for (map string_bytes names.now) word.now) there
         cases.old.items cases.new.items) }
 {
-    let ids = ids_for(alloc, names, word)?;
-    for id in ids.as_slice() {
+    let found = ids_for(alloc, names, word)?;
+    let ids = found.as_slice();
+    if ids.is_empty() {
+        return Ok(false);
+    }
+    for id in ids {
         let there = push_case(alloc, *id, cases)?;
         if !there {
             return Ok(false);
         }
     }
-    Ok(!ids.is_empty())
+    Ok(true)
 }
 
 /// Puts the case with this name at the end of the cases. Answers whether there is one.

@@ -21,7 +21,7 @@ use Rattle.wst_testing.proofs.NoteLemmas.{each_on}
 
 -- the cases that are asked for can be run
 pub cases_run : (words : List (List ℕ)) (cases : List Case) → AreCasesFor words cases → All CanBeRun cases
-cases_run words cases (names, are) = are.have.can_be_run
+cases_run words cases are = are.have.can_be_run
 
 -- twice not
 not_not : (b : Bool) → not (not b) ≡ b
