@@ -175,8 +175,10 @@ def connected(port):
             time.sleep(0.01)
 
 
-def start(*words, stdin=subprocess.DEVNULL, stdout=subprocess.PIPE):
-    process = subprocess.Popen([WST, *words], stdin=stdin, stdout=stdout, stderr=subprocess.PIPE)
+def start(*words, stdin=subprocess.DEVNULL, stdout=subprocess.PIPE, before=None):
+    """A run of `wst`. What is done before it begins is done in the new process."""
+    pipes = {"stdin": stdin, "stdout": stdout, "stderr": subprocess.PIPE}
+    process = subprocess.Popen([WST, *words], preexec_fn=before, **pipes)
     running.append(process)
     return process
 

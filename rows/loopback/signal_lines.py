@@ -9,6 +9,8 @@ from client_lines import ADDRESS, CLOSE as CLOSE_OF_SERVER, CLOSE_BACK as CLOSE_
 from client_lines import EMPTY_BACK as EMPTY_OF_CLIENT, EMPTY_TEXT as EMPTY_OF_SERVER, Listening, request_for
 from send_lines import BY_TURNS, WITH_CLOSE, Sent
 from server import SECONDS, Server, Tested
+from sweep_lines import Swept
+from tap_lines import ANSWERED, ASKED, HEARD, SAID, Tap
 from wire import CLOSE, CLOSE_BACK, EMPTY_BACK, EMPTY_TEXT, HELLO, HELLO_BACK, MASKED_CLOSE, REQUEST, RESPONSE
 from wire import request_to
 
@@ -98,9 +100,52 @@ def a_client_under_test():
     run.ends("1.1.1 PASS", "1 pass, 0 loose, 0 fail")
 
 
+def a_sweep_that_is_answered_late():
+    server = Swept(LIMIT, "--steps=0")
+    client = server.next()
+    asked = request_to(server.address)
+    assert client.get(len(asked)) == asked
+    stop_and_go_on(server.process)
+    client.send(RESPONSE)
+    assert client.get(len(MASKED_CLOSE)) == MASKED_CLOSE
+    stop_and_go_on(server.process)
+    client.send(CLOSE_BACK)
+    client.close()
+    server.ends("1 scripts: 1 pass, 0 loose, 0 fail\n")
+
+
+def a_connection_that_is_tapped():
+    """It waits for a client, for a byte of either end, and for one end once the other has ended."""
+    tap = Tap()
+    stop_and_go_on(tap.process)
+    client, server = tap.pair()
+    stop_and_go_on(tap.process)
+    client.send(REQUEST)
+    assert server.get(len(REQUEST)) == REQUEST
+    stop_and_go_on(tap.process)
+    server.send(RESPONSE)
+    assert client.get(len(RESPONSE)) == RESPONSE
+    client.send(HELLO)
+    assert server.get(len(HELLO)) == HELLO
+    stop_and_go_on(tap.process)
+    server.send(HELLO_BACK)
+    assert client.get(len(HELLO_BACK)) == HELLO_BACK
+    client.half_close()
+    assert server.rest() == b""
+    stop_and_go_on(tap.process)
+    server.send(HELLO_BACK)
+    server.close()
+    assert client.rest() == HELLO_BACK
+    client.close()
+    tap.tells(ASKED, ANSWERED, SAID, HEARD, HEARD.replace("0", "7", 1), "end client")
+    tap.ends()
+
+
 TESTS = [
     a_server_that_answers_late,
     a_script_that_is_answered_late,
     a_client_that_is_served,
     a_client_under_test,
+    a_sweep_that_is_answered_late,
+    a_connection_that_is_tapped,
 ]

@@ -1,6 +1,7 @@
 """What `wst tap` passes on between a client and a server, what it tells of them, and when."""
 
 import random
+import resource
 import select
 import socket
 import threading
@@ -20,11 +21,12 @@ LONG = 60
 class Tap(Running):
     """`wst tap` between its clients and a socket of ours that listens."""
 
-    def __init__(self, count=1, target=None):
+    def __init__(self, count=1, target=None, before=None):
         self.listener = socket.create_server(("127.0.0.1", 0))
         self.listener.settimeout(SECONDS)
         self.number = 0
-        self.process = start("tap", "127.0.0.1:0", target or f"127.0.0.1:{self.listener.getsockname()[1]}", str(count))
+        target = target or f"127.0.0.1:{self.listener.getsockname()[1]}"
+        self.process = start("tap", "127.0.0.1:0", target, str(count), before=before)
         told, _, port = self.line().rpartition(":")
         assert told == "listening on 127.0.0.1", told
         self.port = int(port)
@@ -112,6 +114,28 @@ def a_connection():
         "end server",
     )
     tap.ends()
+
+
+def in_512_kib_of_stack():
+    """All that docs/proof/ASSUMPTIONS.md says that it needs: a connection with 1 MiB each way."""
+    tap = Tap(before=lambda: resource.setrlimit(resource.RLIMIT_STACK, (512 * 1024, 512 * 1024)))
+    client, server = tap.open_pair()
+    text = bytes.fromhex("827f0000000000100000") + bytes(1024 * 1024)
+    masked = bytes.fromhex("82ff000000000010000000000000") + bytes(1024 * 1024)
+    at_once(lambda: client.send(masked), lambda: same(server.get(len(masked)), masked))
+    at_once(lambda: server.send(text), lambda: same(client.get(len(text)), text))
+    end_in_turn(client, server)
+    zeros = "00" * 16
+    tap.tells(
+        f"> 0 binary fin=1 rsv=0 key=00000000 len=1048576 eight {zeros}..",
+        f"< 0 binary fin=1 rsv=0 key=- len=1048576 eight {zeros}..",
+        "end client",
+    )
+    tap.ends()
+
+
+def same(got, wanted):
+    assert got == wanted
 
 
 def a_line_once_its_frame_is_whole():
@@ -413,6 +437,7 @@ def a_server_and_a_tester_of_ours():
 
 TESTS = [
     a_connection,
+    in_512_kib_of_stack,
     a_line_once_its_frame_is_whole,
     frames_that_come_with_the_heads,
     heads_in_pieces,
