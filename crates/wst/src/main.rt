@@ -3,6 +3,7 @@
 #![tactic(auto)]
 
 mod descriptors;
+mod stack;
 
 use descriptors::open_the_closed;
 use std::io::ErrorKind;
@@ -13,7 +14,10 @@ use wst_run::{run, words_are_no_text};
 use wst_sockets::Resumed;
 
 fn main(rt: HostRuntime) -> ExitCode {
-    let _held = open_the_closed(&rt);
+    let held = open_the_closed(&rt);
+    if !stack::is_there(held.iter().filter(|place| place.is_some()).count()) {
+        return ExitCode::FAILURE;
+    }
     let mut input = Watched::new(Resumed::of(rt.stdin()));
     let mut output = Watched::new(Resumed::of(rt.stdout()));
     let mut faults = Watched::new(Resumed::of(rt.stderr()));
