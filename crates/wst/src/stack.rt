@@ -1,8 +1,8 @@
 //! The stack that the commands need, used once before anything asks for memory.
 //!
-//! The system adds to a stack as more of it is used. If a limit on address space (`ulimit -v`) leaves no room for that, it
-//! stops the program by SIGSEGV. So all that a command over files or in memory uses later is used at the start: from then
-//! on only calls that can say `no memory` ask for more.
+//! The system adds to a stack as more of it is used. If a limit on address space (`ulimit -v`) leaves no room for
+//! that, it stops the program by SIGSEGV. So all that a command over files or in memory uses later is used at the
+//! start: from then on only calls that can say `no memory` ask for more.
 
 /// How many bytes are used: `send` needs the most of these commands, 161 KiB.
 const DEEPEST: usize = 192 * 1024;
