@@ -92,6 +92,11 @@ impl Cost {
         }
     }
 
+    /// Whether a word asks for it.
+    pub fn is_asked(self, word: &str) -> bool {
+        word == self.name()
+    }
+
     /// Makes the call once, over a part of a megabyte that is made from the seed.
     pub fn run<N: Net>(self, alloc: Global, net: &N, part: u32, seed: u32) -> Result<String>
         requires { 0 < part }

@@ -46,7 +46,7 @@ fn main(rt: HostRuntime) -> Result<()> {
         }
     }
     for cost in Cost::ALL {
-        if *name == cost.name() {
+        if cost.is_asked(name) {
             let results = cost.run(alloc, &rt, part, seed)?;
             println!(rt; "{}:{results}", cost.name())?;
         }
