@@ -2,7 +2,7 @@
 
 use std::fmt;
 
-/// The messages of a stream, and the bytes of their payloads.
+/// The messages and pings of a stream, and the bytes of their payloads.
 #[derive(Clone, Copy)]
 pub struct Counts {
     messages: u64,
@@ -18,7 +18,7 @@ impl Counts {
         }
     }
 
-    /// One more message, of so many bytes.
+    /// One more message or ping, of so many bytes.
     pub fn on_message(&mut self, len: usize) {
         self.messages = self.messages.saturating_add(1);
         self.bytes = self.bytes.saturating_add(len as u64);

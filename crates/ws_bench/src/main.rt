@@ -5,7 +5,7 @@
 //!     ws_bench SIZE --peer tungstenite   the same by the crate `tungstenite`
 //!     ws_bench SIZE --copy               only reads the pieces
 //!     ws_bench --make FILL LENGTH COUNT  writes COUNT messages as a client masks them, and a close frame: `binary`,
-//!                                        `text` or `greek`, of LENGTH bytes each
+//!                                        `text` or `greek`, of LENGTH bytes each, or pings: `ping`
 #![tactic(auto)]
 
 mod counts;

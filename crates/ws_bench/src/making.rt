@@ -3,7 +3,7 @@
 use anyhow::{Context, Result};
 use std::alloc::{AllocError, Global};
 use std::io::Write;
-use ws_session::{Kind, Limits, Session};
+use ws_session::{Kind, Limits, SendFault, Session};
 use ws_wire::Role;
 
 /// The key of the first frame.
@@ -18,6 +18,8 @@ pub enum Fill {
     Text,
     /// Greek letters, of two bytes each.
     Greek,
+    /// Bytes of all values, of pings.
+    Ping,
 }
 
 impl Fill {
@@ -27,22 +29,30 @@ impl Fill {
             "binary" => Some(Fill::Binary),
             "text" => Some(Fill::Text),
             "greek" => Some(Fill::Greek),
+            "ping" => Some(Fill::Ping),
             _ => None,
         }
     }
 
-    /// The kind of such a message.
-    fn kind(self) -> Kind {
+    /// Puts a frame that a client sends: a message of one frame, or a ping.
+    fn put(
+        self,
+        client: &mut Session,
+        payload: &[u8],
+        key: [u8; 4],
+        frame: &mut Vec<u8>,
+    ) -> Result<(), SendFault> {
         match self {
-            Fill::Binary => Kind::Binary,
-            Fill::Text | Fill::Greek => Kind::Text,
+            Fill::Binary => client.begin(Kind::Binary, payload, true, key, frame),
+            Fill::Text | Fill::Greek => client.begin(Kind::Text, payload, true, key, frame),
+            Fill::Ping => client.ping(payload, key, frame),
         }
     }
 
     /// The byte at this place of a payload.
     fn byte(self, place: usize) -> u8 {
         match self {
-            Fill::Binary => (place % 256) as u8,
+            Fill::Binary | Fill::Ping => (place % 256) as u8,
             Fill::Text => b'a' + (place % 26) as u8,
             // The letters U+03B1 to U+03BF.
             Fill::Greek if place % 2 == 0 => 0xce,
@@ -60,7 +70,7 @@ impl Fill {
     }
 }
 
-/// Writes so many messages of `len` bytes, each in one frame with a key of its own, and a close frame.
+/// Writes so many messages or pings of `len` bytes, each in one frame with a key of its own, and a close frame.
 pub fn make<W: Write>(
     alloc: Global,
     fill: Fill,
@@ -76,7 +86,7 @@ pub fn make<W: Write>(
     let mut key = FIRST_KEY;
     for _ in 0..count {
         frame.clear();
-        client.begin(fill.kind(), &payload, true, key.to_be_bytes(), &mut frame)?;
+        fill.put(&mut client, &payload, key.to_be_bytes(), &mut frame)?;
         output.write_all(&frame)?;
         key = key.wrapping_mul(1_664_525).wrapping_add(1_013_904_223);
     }

@@ -9,7 +9,7 @@ use tungstenite::{NoMask, WebSocket};
 use ws_session::{Event, Limits, MAX_MESSAGE, Session, Status};
 use ws_wire::{NO_KEY, Role};
 
-/// Takes a stream of messages up to a close frame by a session.
+/// Takes a stream of messages and pings up to a close frame by a session.
 pub fn take<R: Read + Drop>(alloc: Global, mut pieces: Pieces<R>) -> Result<Counts> {
     let limits = Limits::new(MAX_MESSAGE).context("bad limits")?;
     let mut session = Session::new(alloc, Role::Server, limits);
@@ -30,7 +30,7 @@ pub fn take<R: Read + Drop>(alloc: Global, mut pieces: Pieces<R>) -> Result<Coun
     }
 }
 
-/// Takes a whole piece, and counts the messages that end in it.
+/// Takes a whole piece, and counts the messages and pings that end in it. The pongs are let go.
 fn take_piece(
     session: &mut Session,
     piece: &[u8],
@@ -45,14 +45,17 @@ fn take_piece(
         }
         let taken = session.take(rest, NO_KEY, replies)?;
         rest = &rest[taken.used..];
-        if let Some(Event::Message(message)) = taken.event {
-            counts.on_message(message.payload.len());
+        match &taken.event {
+            Some(Event::Message(message)) => counts.on_message(message.payload.len()),
+            Some(Event::Ping(payload)) => counts.on_message(payload.as_slice().len()),
+            _ => {}
         }
     }
+    replies.clear();
     Ok(())
 }
 
-/// Takes a stream of messages up to a close frame by a socket of `tungstenite`.
+/// Takes a stream of messages and pings up to a close frame by a socket of `tungstenite`.
 pub fn take_by_tungstenite<R: Read + Drop>(alloc: Global, pieces: Pieces<R>) -> Result<Counts> {
     let role = tungstenite::Role::Server;
     let mut socket = WebSocket::from_raw_socket(alloc, pieces, NoMask, role, None);

@@ -4,19 +4,19 @@ use crate::chance::Chance;
 use crate::pool::{Fill, Pool, Writing, push_digits};
 use std::alloc::{AllocError, Global};
 
-const CONTINUATION: u8 = 0x00;
+pub const CONTINUATION: u8 = 0x00;
 
-const TEXT: u8 = 0x01;
+pub const TEXT: u8 = 0x01;
 
-const BINARY: u8 = 0x02;
+pub const BINARY: u8 = 0x02;
 
-const CLOSE: u8 = 0x08;
+pub const CLOSE: u8 = 0x08;
 
-const PING: u8 = 0x09;
+pub const PING: u8 = 0x09;
 
-const PONG: u8 = 0x0a;
+pub const PONG: u8 = 0x0a;
 
-const FIN: u8 = 0x80;
+pub const FIN: u8 = 0x80;
 
 /// The places of a pool at which payloads begin, in steps of 12 bytes: 65,536 bytes follow each.
 const PLACES: u64 = 10_000;

@@ -32,7 +32,9 @@ impl Read for Text<'_> {
 }
 
 /// Runs `wst` with these words, parted by spaces, over what a reader gives. Puts its exit status, the digest of what it
-/// wrote and that of what it told on the fault output.
+/// wrote and that of what it told on the fault output. It stays a function of its own, so that its instructions can be
+/// counted.
+#[inline(never)]
 pub fn run_wst<N: Net, R: Read + Drop>(
     alloc: Global,
     net: &N,

@@ -4,14 +4,15 @@ ghost use Rattle.std.specs.Prelude.{◌<◌, ◌≤◌};
 
 use crate::captures::{Echo, Format, capture, late_pongs};
 use crate::chance::Chance;
-use crate::endpoint::{Pieces, STREAM, serve};
+use crate::endpoint::{Pieces, serve};
 use crate::frames::{Frames, Mix};
 use crate::input::{Text, run_wst};
+use crate::mixed::mixed;
 use crate::pool::Fill;
 use crate::scripts::{Cut, calls, moves, steps};
+use crate::showing::show;
 use anyhow::Result;
-use std::alloc::{AllocError, Global};
-use std::io::{self, ErrorKind, Read};
+use std::alloc::Global;
 use std::net::Net;
 
 /// A job that a user waits for.
@@ -29,18 +30,20 @@ pub enum Job {
     Sweep,
     /// Late pongs, single bytes, tiny frames and texts that are cut inside a character.
     Awkward,
+    /// New masking keys, accents, large messages, pongs in any order, tested clients, and both echoes.
+    Mixed,
 }
 
 /// How much of a job the part 1 has, so that it takes about half a second: a smaller part has it once.
 fn times(full: u32, part: u32) -> u32
-    requires { full ≤ 3 }
-    ensures { result ≤ 3 }
+    requires { full ≤ 4 }
+    ensures { result ≤ 4 }
 {
     if part == 1 { full } else { 1 }
 }
 
 /// The bytes of a part of so many megabytes.
-fn megabytes(count: u32, part: u32) -> usize
+pub fn megabytes(count: u32, part: u32) -> usize
     requires { 0 < part }
 {
     count as usize * 1_000_000 / part as usize
@@ -48,13 +51,14 @@ fn megabytes(count: u32, part: u32) -> usize
 
 impl Job {
     /// All jobs.
-    pub const ALL: [Job; 6] = [
+    pub const ALL: [Job; 7] = [
         Job::Captures,
         Job::Scripts,
         Job::Show,
         Job::Endpoint,
         Job::Sweep,
         Job::Awkward,
+        Job::Mixed,
     ];
 
     /// The word that names it.
@@ -66,6 +70,7 @@ impl Job {
             Job::Endpoint => "endpoint",
             Job::Sweep => "sweep",
             Job::Awkward => "awkward",
+            Job::Mixed => "mixed",
         }
     }
 
@@ -81,9 +86,13 @@ impl Job {
         let mut chance = Chance::new(seed);
         let mut results = String::new(alloc);
         match self {
-            Job::Captures => captures(alloc, net, part, &mut chance, &mut results)?,
+            Job::Captures => {
+                for _ in 0..times(2, part) {
+                    captures(alloc, net, part, &mut chance, &mut results)?;
+                }
+            }
             Job::Scripts => {
-                for _ in 0..times(3, part) {
+                for _ in 0..times(4, part) {
                     scripts(alloc, net, part, &mut chance, &mut results)?;
                 }
             }
@@ -102,6 +111,7 @@ impl Job {
             Job::Endpoint => endpoint(alloc, part, &mut chance, &mut results)?,
             Job::Sweep => sweep(alloc, net, part, &mut chance, &mut results)?,
             Job::Awkward => awkward(alloc, net, part, chance, &mut results)?,
+            Job::Mixed => mixed(alloc, net, part, &mut chance, &mut results)?,
         }
         Ok(results)
     }
@@ -189,80 +199,6 @@ fn scripts<N: Net>(
         Text::of(script.as_slice()),
         results,
     )
-}
-
-/// `show` over a stream of at least so many bytes.
-fn show<N: Net>(
-    alloc: Global,
-    net: &N,
-    frames: Frames,
-    mix: Mix,
-    size: usize,
-    chance: Chance,
-    results: &mut String,
-) -> Result<()> {
-    let stream = Stream {
-        frames,
-        mix,
-        left: size,
-        block: Vec::new(alloc),
-        given: 0,
-        chance,
-    };
-    run_wst(alloc, net, "wst show --from client", stream, results)
-}
-
-/// A stream of frames that is made as it is read.
-#[derive(Drop)]
-struct Stream {
-    frames: Frames,
-    mix: Mix,
-    /// How many bytes are still to be made, at least.
-    left: usize,
-    block: Vec<u8>,
-    /// How many bytes of the block were given.
-    given: usize,
-    chance: Chance,
-}
-
-/// The bytes of a block, at least.
-const BLOCK: usize = 262_144;
-
-impl Stream {
-    /// Makes the next block, or none at the end.
-    fn make(&mut self) -> Result<(), AllocError> {
-        self.block.clear();
-        self.given = 0;
-        for _ in 0..BLOCK {
-            if self.left == 0 || self.block.len() >= BLOCK {
-                break;
-            }
-            let part = self.frames.part(self.mix, &mut self.chance);
-            let before = self.block.len();
-            self.frames
-                .put_cut(&part, STREAM, &mut self.chance, &mut self.block)?;
-            self.left = self
-                .left
-                .saturating_sub(self.block.len().saturating_sub(before));
-        }
-        Ok(())
-    }
-}
-
-impl Read for Stream {
-    fn read(&mut self, buf: &mut [u8]) -> io::Result<usize> {
-        if self.given >= self.block.len() && self.make().is_err() {
-            return Err(io::Error::from(ErrorKind::OutOfMemory));
-        }
-        let (_, ready) = self
-            .block
-            .as_slice()
-            .split_at(self.given.min(self.block.len()));
-        let count = buf.len().min(ready.len());
-        buf[..count].copy_from_slice(&ready[..count]);
-        self.given = self.given.saturating_add(count);
-        Ok(count)
-    }
 }
 
 /// A server's session over a chat in segments, in small pieces and byte by byte.

@@ -4,7 +4,7 @@ use crate::chance::Chance;
 use std::alloc::{AllocError, Global};
 
 /// The bytes of a pool, a multiple of 12.
-const POOL: usize = 196_608;
+pub const POOL: usize = 196_608;
 
 /// What payloads are made of.
 #[derive(Clone, Copy)]
@@ -81,7 +81,7 @@ impl Pool {
 
 impl Fill {
     /// The bytes of a pool.
-    fn bytes(self, alloc: Global, chance: &mut Chance) -> Result<Vec<u8>, AllocError> {
+    pub fn bytes(self, alloc: Global, chance: &mut Chance) -> Result<Vec<u8>, AllocError> {
         let mut bytes = Vec::new(alloc);
         for place in 0..POOL / 3 {
             let letters = match self {
