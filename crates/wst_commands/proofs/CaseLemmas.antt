@@ -1,5 +1,5 @@
 -- Cases one after the other: their names, their lines, and those for which words stand.
-use Rattle.std.proofs.Common.{◌≡◌, ◌≢◌, ◌==◌, ◌∙◌, ◌+◌, ◌-◌, ◌<◌, ap, ap₂, arith, cond, refl, subst, sym, ℕ, Bool, true, false}
+use Rattle.std.proofs.Common.{◌≡◌, ◌==◌, ◌∙◌, ◌+◌, ◌-◌, ◌<◌, ap, ap₂, arith, cond, refl, subst, sym, ℕ, Bool, true, false}
 use Rattle.std.proofs.Common.{List, [], ◌∷◌, ◌++◌, append-nil, append_assoc, codes, filter, flat_map, length, map}
 use Rattle.std.proofs.Common.{MatchResult, Option, Result, slice_index_or, string_bytes, take, drop}
 use Rattle.std.proofs.lemmas.Bool.Decides.{nat_tests}
@@ -96,11 +96,12 @@ pub one_unnamed : (ids : List (Bor (List ℕ))) (i : ℕ) (d : Bor (List ℕ)) �
 one_unnamed ids i d within other = λ h.
     other (subst (λ (l : List ℕ). Contains case_names l) (get_or-map (λ (x : Bor (List ℕ)). x.now) ids i d d.now within)
     (All-get_or (Contains case_names) (names_of ids) i d.now
-    (omega (arith, within, length-map ids (λ (x : Bor (List ℕ)). x.now))) h.1))
+    (omega (arith, within, length-map ids (λ (x : Bor (List ℕ)). x.now))) h.named))
 
 -- no ids are the names of no cases
-pub none_named : (ids : List (Bor (List ℕ))) (b : Bool) → b ≡ (length ids == 0) → b ≡ true → NameCases (names_of ids) → ⊥
-none_named [] b is none h = h.0 refl
+pub none_named : (ids : List (Bor (List ℕ))) (b : Bool) → b ≡ (length ids == 0) → b ≡ true
+    → NameCases (names_of ids) → ⊥
+none_named [] b is none h = h.some refl
 none_named (id ∷ ids) b is none h =
     let zero : length (id ∷ ids) ≡ 0 = grind (arith, nat_tests, is, none) in absurd (omega (arith, zero))
 
@@ -166,6 +167,7 @@ plain_ids names word plain =
 
 -- where none of the words is a glob no names are needed for them
 pub none_needed : (words : List (Bor (List ℕ))) → HaveNoGlob words → AreNamesFor words []
+unfolding ids_of
 none_needed words plain =
     let none : Bor (List ℕ) = record { ref_ptr = (0, 0); now = [] } in
     All-from_get_or (λ (w : Bor (List ℕ)). ids_for [] w.now ≡ ids_of w.now) words none (λ i within.
@@ -175,6 +177,7 @@ none_needed words plain =
 
 -- and those of all cases are right for each
 pub all_given : (words : List (Bor (List ℕ))) (names : List (List ℕ)) → names ≡ case_names → AreNamesFor words names
+unfolding ids_of
 all_given words names are =
     let none : Bor (List ℕ) = record { ref_ptr = (0, 0); now = [] } in
     All-from_get_or (λ (w : Bor (List ℕ)). ids_for names w.now ≡ ids_of w.now) words none (λ i within.
@@ -188,6 +191,7 @@ ids_by words names i d within are =
 
 -- and so for one case
 pub one_case : (word : List ℕ) (cases : List Case) → AreCasesFor (word ∷ []) cases → is_glob word ≡ false → length cases ≡ 1
+unfolding ids_of
 one_case word cases are plain =
     sym (length-map cases (λ (c : Case). string_bytes c.id)) ∙ ap (λ (l : List (List ℕ)). length l) are.have.named
     ∙ ap (λ (l : List (List ℕ)). length (l ++ [])) (plain_ids case_names word plain)

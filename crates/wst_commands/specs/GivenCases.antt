@@ -33,12 +33,13 @@ abbrev pub ids_for : List (List ℕ) → List ℕ → List (List ℕ)
 ids_for names word = if is_glob word then filter (is_meant (take (length word - 1) word)) names else word ∷ []
 
 -- the ids for which a word stands among the names of all cases, which are in the order of the table
-abbrev pub ids_of : List ℕ → List (List ℕ)
+unfoldable pub ids_of : List ℕ → List (List ℕ)
 ids_of word = ids_for case_names word
 
 -- these ids are names of cases, and there is at least one
-abbrev pub NameCases : List (List ℕ) → Type 0
-NameCases ids = (ids ≢ []) × All (Contains case_names) ids
+pub record NameCases (ids : List (List ℕ)) : Type 0 where
+  pub some : ids ≢ []
+  pub named : All (Contains case_names) ids
 
 -- ---- the cases of words
 
@@ -57,10 +58,18 @@ abbrev pub or_all : List (List ℕ) → List (List ℕ)
 or_all [] = codes "*" ∷ []
 or_all (word ∷ words) = word ∷ words
 
--- why there are no cases for the words: this word stands for none, and each in front of it for some; or memory ran out
+-- this is the first of the words that stands for no case: those in front of it have their cases
+pub record IsFirstWithout (words : List (List ℕ)) (word : List ℕ) : Type 0 where
+  pub before : List (List ℕ)
+  pub after : List (List ℕ)
+  pub split : words ≡ before ++ word ∷ after
+  pub cases : List Case
+  pub have : AreCasesFor before cases
+  pub none : ¬ (NameCases (ids_of word))
+
+-- why there are no cases for the words: this word is the first that stands for none; or memory ran out
 abbrev pub LackCases : List (List ℕ) → NoCases → Type 0
-LackCases words (NoSuchCase word) = (before after : List (List ℕ)) × (cases : List Case)
-    × (words ≡ before ++ word.now ∷ after) × AreCasesFor before cases × ¬ (NameCases (ids_of word.now))
+LackCases words (NoSuchCase word) = IsFirstWithout words word.now
 LackCases words NoMemory = ⊤
 
 -- ---- what is told

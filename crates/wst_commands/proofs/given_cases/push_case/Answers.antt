@@ -8,6 +8,7 @@ use Rattle.wst_commands.proofs.given_cases.push_case.Goals as goal
 pub returns-in_ok-push-in-Some : goal.returns-in_ok-push-in-Some
 returns-in_ok-push-in-Some c =
     let found = c.in-Some.found in
-    let named : Contains case_names c.args.name.now × CanBeRun found × (string_bytes found.id ≡ c.args.name.now) = search rules in
+    let named : Contains case_names c.args.name.now × CanBeRun found × (string_bytes found.id ≡ c.args.name.now) =
+    search rules in
     let grown : c.push.new.self.items ≡ c.args.cases.now.items ++ found ∷ [] = search rules in
     (named.0, (found, named.1, named.2, grown))

@@ -1,5 +1,5 @@
 -- The case of the next id stands behind those of the ids before it.
-use Rattle.std.proofs.Common.{◌≡◌, ◌≢◌, ◌∙◌, ◌+◌, ap, Bool, ℕ, List, [], slice_index_or, subst, take, take_all}
+use Rattle.std.proofs.Common.{◌≢◌, ◌∙◌, ap, Bool, ℕ, List, [], slice_index_or, subst, take, take_all}
 use Rattle.std.specs.Borrow.{Bor}
 use Rattle.std.specs.List.{All, Contains}
 use Rattle.ws_scripts.specs.CaseNames.{case_names}
@@ -46,10 +46,10 @@ returns c =
     let whole = ap (λ (l : List (Bor (List ℕ))). names_of l)
     (take_all c.loop-id.id-index ids c.loop-id-test.false ∙ c.as_slice-ids.ensures.value) ∙ c.in_ok-found.ensures in
     let some = some_named c.as_slice-ids.result.now c.is_empty.result c.is_empty.ensures c.if-is_empty.false in (
-      (
-        subst (λ (l : List (List ℕ)). l ≢ [])
-            (ap (λ (l : List (Bor (List ℕ))). names_of l) c.as_slice-ids.ensures.value ∙ c.in_ok-found.ensures) some,
-        subst (λ (l : List (List ℕ)). All (Contains case_names) l) whole named,
-      ),
+      record {
+        some = subst (λ (l : List (List ℕ)). l ≢ [])
+            (ap (λ (l : List (Bor (List ℕ))). names_of l) c.as_slice-ids.ensures.value ∙ c.in_ok-found.ensures) some;
+        named = subst (λ (l : List (List ℕ)). All (Contains case_names) l) whole named;
+      },
       (more, subst (λ (l : List (List ℕ)). AreCasesOf l more) whole are, is),
     )
