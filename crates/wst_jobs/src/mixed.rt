@@ -40,10 +40,10 @@ pub fn mixed<N: Net>(
         (Role::Client, Role::Server, "wst show --from server"),
     ];
     for (role, sender, show) in ends {
-        let stream = long_stream(alloc, &pools, sender, megabytes(24, part), chance)?;
+        let stream = long_stream(alloc, &pools, sender, megabytes(60, part), chance)?;
         tell(alloc, role, stream.as_slice(), chance, results)?;
         run_wst(alloc, net, show, Text::of(stream.as_slice()), results)?;
-        let count = megabytes(1, part) / 200;
+        let count = megabytes(1, part) / 80;
         tell_short(alloc, &pools, (role, sender), count, chance, results)?;
     }
     for tested in [Role::Server, Role::Client] {
@@ -105,11 +105,11 @@ fn judge<N: Net>(
         Role::Client => "wst judge --role client",
     };
     for pongs in [Pongs::LeftOut, Pongs::Reversed, Pongs::Newest] {
-        let count = megabytes(1, part) / 40;
+        let count = megabytes(1, part) / 25;
         let text = pings(alloc, pools, (tested, pongs), count, chance)?;
         run_wst(alloc, net, words, Text::of(text.as_slice()), results)?;
     }
-    let text = messages(alloc, pools, tested, megabytes(4, part), chance)?;
+    let text = messages(alloc, pools, tested, megabytes(8, part), chance)?;
     run_wst(alloc, net, words, Text::of(text.as_slice()), results)
 }
 
