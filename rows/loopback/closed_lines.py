@@ -54,8 +54,8 @@ class TestedWithout(Tested):
 
 
 def a_script_without_an_output():
-    """Its first line fails behind the first turn, and the run ends there. What a client hasn't read when it ends makes the
-    system reset the connection, so no byte is sent to it."""
+    """Its first line fails behind the first turn, and the run ends there, without reading on. The system resets a
+    connection with unread bytes, so the test sends none."""
     server = TestedWithout(OUTPUT, "send", script=b'text "Hello"\nwait\ntext "Hello"\n')
     client = server.accepted()
     assert client.rest() == HELLO

@@ -176,7 +176,7 @@ def connected(port):
 
 
 def start(*words, stdin=subprocess.DEVNULL, stdout=subprocess.PIPE, before=None):
-    """A run of `wst`. What is done before it begins is done in the new process."""
+    """A run of `wst`. `before` runs in the new process, in front of `wst`."""
     pipes = {"stdin": stdin, "stdout": stdout, "stderr": subprocess.PIPE}
     process = subprocess.Popen([WST, *words], preexec_fn=before, **pipes)
     running.append(process)

@@ -1,5 +1,5 @@
-"""A run of `wst` with a limit of time that is stopped and goes on while it waits: each wait is interrupted by that, and
-is made again."""
+"""A run of `wst` that is stopped and goes on while it waits, with a limit of time where it has one: each wait is
+interrupted by that, and is made again."""
 
 import os
 import signal

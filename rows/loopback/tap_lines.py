@@ -117,7 +117,7 @@ def a_connection():
 
 
 def in_512_kib_of_stack():
-    """All that docs/proof/ASSUMPTIONS.md says that it needs: a connection with 1 MiB each way."""
+    """With the stack that docs/proof/ASSUMPTIONS.md says is enough: a connection with 1 MiB each way."""
     tap = Tap(before=lambda: resource.setrlimit(resource.RLIMIT_STACK, (512 * 1024, 512 * 1024)))
     client, server = tap.open_pair()
     text = bytes.fromhex("827f0000000000100000") + bytes(1024 * 1024)

@@ -13,10 +13,13 @@ use ws_frame::Watched;
 use wst_run::{run, words_are_no_text};
 use wst_sockets::Resumed;
 
+/// The status of a device that failed, for a stack that is not there.
+const NO_STACK: u8 = 3;
+
 fn main(rt: HostRuntime) -> ExitCode {
     let held = open_the_closed(&rt);
     if !stack::is_there(held.iter().filter(|place| place.is_some()).count()) {
-        return ExitCode::FAILURE;
+        return ExitCode::from(NO_STACK);
     }
     let mut input = Watched::new(Resumed::of(rt.stdin()));
     let mut output = Watched::new(Resumed::of(rt.stdout()));

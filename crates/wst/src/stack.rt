@@ -1,4 +1,4 @@
-//! The stack that the commands need, used once before anything asks for memory.
+//! The stack that the commands need, used once before a command asks for memory.
 //!
 //! The system adds to a stack as more of it is used. If a limit on address space (`ulimit -v`) leaves no room for
 //! that, it stops the program by SIGSEGV. So all that a command over files or in memory uses later is used at the
@@ -7,8 +7,8 @@
 /// How many bytes are used: `send` needs the most of these commands, 161 KiB.
 const DEEPEST: usize = 192 * 1024;
 
-/// Uses the stack. `place` is a number that is known only as the program runs, so that no compiler leaves the room out.
-/// The answer is always true: without the stack the system has stopped the program.
+/// Uses the stack. `place` is a number that is known only as the program runs, so that the compiler keeps the room.
+/// Without that much stack the system stops the program here. The answer is read only so that the call is made.
 #[inline(never)]
 pub fn is_there(place: usize) -> bool {
     let mut room = [0_u8; DEEPEST];
