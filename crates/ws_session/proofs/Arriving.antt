@@ -11,10 +11,10 @@ use Rattle.ws_session.specs.declared.message.Kind.{Kind}
 use Rattle.ws_session.specs.declared.message.Message.{Message}
 use Rattle.ws_session.specs.declared.reason.Reason.TheVariants.{NotText, TextCut}
 use Rattle.ws_session.specs.declared.receiver.under_way.UnderWay.TheVariants as under_way
-use Rattle.ws_session.specs.declared.receiver.frame_check.FrameCheck.{FrameCheck}
-use Rattle.ws_session.specs.declared.receiver.frame_check.FrameCheck.TheVariants as check
-use Rattle.ws_session.specs.declared.receiver.frame_check.Content.{Content}
-use Rattle.ws_session.specs.declared.receiver.frame_check.Content.TheVariants as content
+use Rattle.ws_session.specs.InnerFrameCheck.{FrameCheck}
+use Rattle.ws_session.specs.InnerFrameCheck as check
+use Rattle.ws_session.specs.InnerContent.{Content}
+use Rattle.ws_session.specs.InnerContent as content
 use Rattle.ws_session.specs.Messages.{kind_of}
 use Rattle.ws_session.specs.Validity.{OfText}
 use Rattle.ws_session.specs.Faults.{open_payload, IsOfText, IsControl}

@@ -9,19 +9,17 @@ use Rattle.ws_session.specs.declared.message.Message.{Message}
 use Rattle.ws_session.specs.declared.reason.Reason.TheVariants.{TooBig}
 use Rattle.ws_session.specs.declared.receiver.under_way.UnderWay.{UnderWay}
 use Rattle.ws_session.specs.declared.receiver.under_way.UnderWay.TheVariants as under_way
-use Rattle.ws_session.specs.declared.receiver.frame_check.PieceCheck.{PieceCheck}
-use Rattle.ws_session.specs.declared.receiver.frame_check.PieceCheck.TheVariants as piece_check
-use Rattle.ws_session.specs.declared.receiver.frame_check.Content.{Content}
-use Rattle.ws_session.specs.declared.receiver.frame_check.Content.TheVariants as content
-use Rattle.ws_session.specs.declared.receiver.frame_check.FrameCheck.{FrameCheck}
-use Rattle.ws_session.specs.declared.receiver.frame_check.FrameCheck.TheVariants as check
+use Rattle.ws_session.specs.declared.receiver.piece_check.PieceCheck.{PieceCheck}
+use Rattle.ws_session.specs.declared.receiver.piece_check.PieceCheck.TheVariants as piece_check
+use Rattle.ws_session.specs.InnerFrameCheck.{FrameCheck}
+use Rattle.ws_session.specs.InnerFrameCheck as check
 use Rattle.ws_session.specs.Limits.{LimitsValue}
-use Rattle.ws_session.specs.Faults.{open_payload, IsControl}
+use Rattle.ws_session.specs.Faults.{open_payload}
 use Rattle.ws_session.specs.InnerAssembly.{HasReadOpen}
 use Rattle.ws_session.specs.InnerChecking.{NoneAtHeader}
 use Rattle.ws_session.specs.InnerNextFrame.{IsPartOfFrame}
-use Rattle.ws_session.specs.InnerReceiving.{AssemblyValue, first_bytes, HasKept, IsJoined, partial_of, came_of, IsExactly, IsUnderWay, IsPayloadCheck, IsDataCheck, IsFrameCheck, with_text, IsExactCheck, IsExactContent, IsExactPiece}
-use Rattle.ws_session.specs.InnerReceiver.{ReceiverValue, receiver_of, IsReceiving, IsSoundReceiver, IsExact, IsExactFor}
+use Rattle.ws_session.specs.InnerReceiving.{AssemblyValue, first_bytes, HasKept, IsJoined, partial_of, came_of, IsExactly, IsUnderWay, IsDataCheck, IsFrameCheck, with_text, IsExactPiece}
+use Rattle.ws_session.specs.InnerReceiver.{ReceiverValue, receiver_of, IsReceiving, IsSoundReceiver, IsExact}
 use Rattle.ws_session.proofs.Pieces.{kept_first, same_partial, still_data, still_header}
 
 -- ---- at most the payload of one message
@@ -46,30 +44,6 @@ pub exact_told : (h : HeaderFields) (came start more : ℕ) (a b : AssemblyValue
 exact_told h came start more a b next (piece_check.Whole used fin kind text) c = tt
 exact_told h came start more a b next (piece_check.Control same place) c = absurd c
 exact_told h came start more a b next (piece_check.Fault reason used) c = tt
-
-control_next : (h : HeaderFields) (came start : ℕ) (a : AssemblyValue) (payload : List ℕ) (next : UnderWay) (text : Option (List ℕ)) → length a.payload ≡ length (open_payload a.opened) → IsControl h → IsPayloadCheck h came start a payload (check.Need next text) → IsExactly a next
-control_next h came start a payload (under_way.Header bytes) text all control c = absurd (c.2)
-control_next h came start a payload (under_way.Data same n) text all control c = let k = c.2 in absurd (omega (arith, control.0, k.3))
-control_next h came start a payload (under_way.Control same bytes) text all control c = omega (arith, all)
-
-control_content : (a : AssemblyValue) (x : Content) → length a.payload ≡ length (open_payload a.opened) → IsExactContent a x
-control_content a (content.Data fin kind text) all = tt
-control_content a (content.Ping payload) all = all
-control_content a (content.Pong payload) all = all
-control_content a (content.Close close) all = tt
-
--- of a control frame
-pub exact_control : (h : HeaderFields) (came start : ℕ) (a : AssemblyValue) (payload : List ℕ) (j : FrameCheck) → length a.payload ≡ length (open_payload a.opened) → IsControl h → IsPayloadCheck h came start a payload j → IsExactCheck a j
-exact_control h came start a payload (check.Need next text) all control c = control_next h came start a payload next text all control c
-exact_control h came start a payload (check.Whole used x) all control c = control_content a x all
-exact_control h came start a payload (check.Fault reason used) all control c = tt
-
--- the same of the receiving side
-pub exact_for : (role : Role) (limits : LimitsValue) (a : AssemblyValue) (f : UnderWay) (x : Content) → IsExactContent a x → IsExactFor (receiver_of role limits a f) x
-exact_for role limits a f (content.Data fin kind text) is = tt
-exact_for role limits a f (content.Ping payload) is = is
-exact_for role limits a f (content.Pong payload) is = is
-exact_for role limits a f (content.Close close) is = tt
 
 -- where nothing that shows has changed the receiving side is as sound as before
 pub shown_sound : (role : Role) (limits : LimitsValue) (a b : AssemblyValue) (f g : UnderWay)

@@ -1,7 +1,7 @@
--- The end of a header, byte by byte.
-use Rattle.std.proofs.Common.{◌≡◌, ℕ, ◌+◌, ◌<◌, List, [], ◌∷◌, ◌++◌, length, take, drop, get_or, append_assoc, sym, ap, ◌∙◌, arith, inl, inr, subst}
+-- The end of a header that comes in pieces.
+use Rattle.std.proofs.Common.{◌≡◌, ℕ, ◌+◌, ◌-◌, ◌<◌, ◌≤◌, List, [], ◌++◌, length, take, drop, sym, ap, ◌∙◌, arith, inl, inr, subst}
 use Rattle.std.proofs.lemmas.Bool.{cases_lt}
-use Rattle.std.proofs.lemmas.List.{length-append, take-append-drop, length-take-le, take-take, take_more}
+use Rattle.std.proofs.lemmas.List.{length-append, take-append-drop, take-append-le, length-take-le, take-take, take_all}
 use Rattle.std.proofs.Math.Seq.{take-append-add}
 use Rattle.ws_wire.specs.Header.{HeaderFields, IsHeaderOf, AreBytes}
 use Rattle.ws_wire.proofs.Numbers.{front_bytes}
@@ -9,25 +9,50 @@ use Rattle.ws_session.proofs.ByteLists.{bytes_append}
 use Rattle.ws_wire.specs.Reading.{Begins, BeginsNoHeader}
 use Rattle.ws_session.specs.InnerReceiving.{CompletesHeader}
 
--- with one byte more a header stands there, and it takes all of them
-pub header_ends : (kept piece : List ℕ) (i n : ℕ) (h : HeaderFields) → i < length piece → BeginsNoHeader (kept ++ take i piece) → Begins h n (kept ++ take (i + 1) piece) → CompletesHeader kept piece h (i + 1)
-header_ends kept piece i n h lt none b =
-    let short : take (length kept + i) (kept ++ piece) ≡ kept ++ take i piece = take-append-add kept piece i in
-    let long : take (length kept + (i + 1)) (kept ++ piece) ≡ kept ++ take (i + 1) piece = take-append-add kept piece (i + 1) in
-    let size : length (kept ++ take (i + 1) piece) ≡ length kept + (i + 1) = length-append kept (take (i + 1) piece) ∙ ap (λ k. length kept + k) (length-take-le (i + 1) piece (omega (arith, lt))) in
-    let all : length (kept ++ piece) ≡ length kept + length piece = length-append kept piece in
-    let whole : n ≡ length kept + (i + 1) = elim (cases_lt n (length kept + (i + 1))) [
-      | inr ge ↦ omega (arith, ge, b.within, size)
-      | inl less ↦
-          let at_long : take n (kept ++ take (i + 1) piece) ≡ take n (kept ++ piece) = ap (λ (l : List ℕ). take n l) (sym long) ∙ take-take n (length kept + (i + 1)) (kept ++ piece) (omega (arith, less)) in
-          let at_short : take n (kept ++ take i piece) ≡ take n (kept ++ piece) = ap (λ (l : List ℕ). take n l) (sym short) ∙ take-take n (length kept + i) (kept ++ piece) (omega (arith, less)) in
-          absurd (none h (take n (kept ++ take i piece)) (drop n (kept ++ take i piece)) (subst (λ (l : List ℕ). IsHeaderOf h l) (at_long ∙ sym at_short) b.front) (sym (take-append-drop n (kept ++ take i piece))))
-    ] in
-    let front : take n (kept ++ take (i + 1) piece) ≡ take (length kept + (i + 1)) (kept ++ piece) = ap (λ (l : List ℕ). take n l) (sym long) ∙ take-take n (length kept + (i + 1)) (kept ++ piece) (omega (arith, whole)) ∙ ap (λ k. take k (kept ++ piece)) whole in
-    record {
-      begins = record { within = omega (arith, all, lt); front = subst (λ (l : List ℕ). IsHeaderOf h l) front b.front };
-      within = omega (arith, lt);
-    }
+-- of the piece so much is put behind what was kept
+module _ (kept piece : List ℕ) (front : ℕ) (le : front ≤ length piece) where
+  put_size : length (kept ++ take front piece) ≡ length kept + front
+  put_size = length-append kept (take front piece) ∙ ap (λ n. length kept + n) (length-take-le front piece le)
+
+  all_size : length (kept ++ piece) ≡ length kept + length piece
+  all_size = length-append kept piece
+
+  put_is : take (length kept + front) (kept ++ piece) ≡ kept ++ take front piece
+  put_is = take-append-add kept piece front
+
+  same_front : (n : ℕ) → n ≤ length kept + front → take n (kept ++ take front piece) ≡ take n (kept ++ piece)
+  same_front n within = ap (λ (l : List ℕ). take n l) (sym put_is) ∙ take-take n (length kept + front) (kept ++ piece) within
+
+  -- a header there ends behind what was kept
+  pub past_kept : (h : HeaderFields) (n : ℕ) → BeginsNoHeader kept → Begins h n (kept ++ take front piece) → length kept ≤ n
+  past_kept h n none b = elim (cases_lt n (length kept)) [
+    | inr le ↦ le
+    | inl less ↦
+        let at : take n (kept ++ take front piece) ≡ take n kept = take-append-le n kept (take front piece) (omega (arith, less)) in
+        absurd (none h (take n kept) (drop n kept) (subst (λ (l : List ℕ). IsHeaderOf h l) at b.front) (sym (take-append-drop n kept)))
+  ]
+
+  pub cut_header_ends : (h : HeaderFields) (n : ℕ) → BeginsNoHeader kept → Begins h n (kept ++ take front piece)
+      → CompletesHeader kept piece h (n - length kept)
+  cut_header_ends h n none b =
+      let past = past_kept h n none b in
+      let whole : n ≡ length kept + (n - length kept) = omega (arith, past) in
+      let begins : Begins h n (kept ++ piece) = record {
+        within = omega (arith, b.within, put_size, all_size, le);
+        front = subst (λ (l : List ℕ). IsHeaderOf h l) (same_front n (omega (arith, b.within, put_size))) b.front;
+      } in
+      record { begins = subst (λ k. Begins h k (kept ++ piece)) whole begins; within = omega (arith, b.within, put_size, le) }
+
+  -- where none stands there the piece completes none
+  pub cut_none : ((bytes : List ℕ) → AreBytes bytes → BeginsNoHeader bytes → length bytes < 14) → AreBytes kept
+      → AreBytes piece → (front < length piece → length kept + front ≡ 14) → BeginsNoHeader (kept ++ take front piece)
+      → BeginsNoHeader (kept ++ piece)
+  cut_none law k p full none = elim (cases_lt front (length piece)) [
+    | inl less ↦
+        let few = law (kept ++ take front piece) (bytes_append kept (take front piece) k (front_bytes front piece p)) none in
+        absurd (omega (arith, few, put_size, full less))
+    | inr all ↦ subst (λ (l : List ℕ). BeginsNoHeader (kept ++ l)) (take_all front piece all) none
+  ]
 
 -- where nothing was kept the piece alone counts
 pub header_at_front : (kept piece : List ℕ) (h : HeaderFields) (n : ℕ) → kept ≡ [] → Begins h n piece → CompletesHeader kept piece h n
@@ -37,13 +62,3 @@ header_at_front kept piece h n e b =
 
 pub none_at_front : (kept piece : List ℕ) → kept ≡ [] → BeginsNoHeader piece → BeginsNoHeader (kept ++ piece)
 none_at_front kept piece e none = subst (λ (l : List ℕ). BeginsNoHeader (l ++ piece)) (sym e) none
-
--- where none stands there are few bytes
-pub short_so_far : (kept piece so_far : List ℕ) (i : ℕ) → ((bytes : List ℕ) → AreBytes bytes → BeginsNoHeader bytes → length bytes < 14) → AreBytes kept → AreBytes piece → so_far ≡ kept ++ take i piece → BeginsNoHeader (kept ++ take i piece) → length so_far < 14
-short_so_far kept piece so_far i law k p e none =
-    let few = law (kept ++ take i piece) (bytes_append kept (take i piece) k (front_bytes i piece p)) none in
-    omega (arith, few, ap (λ (l : List ℕ). length l) e)
-
--- one byte more
-pub one_more : (kept piece so_far next : List ℕ) (i : ℕ) → i < length piece → so_far ≡ kept ++ take i piece → next ≡ so_far ++ get_or piece i 0 ∷ [] → next ≡ kept ++ take (i + 1) piece
-one_more kept piece so_far next i lt e n = n ∙ ap (λ (l : List ℕ). l ++ get_or piece i 0 ∷ []) e ∙ append_assoc kept (take i piece) (get_or piece i 0 ∷ []) ∙ ap (λ (l : List ℕ). kept ++ l) (sym (take_more piece i 0 lt))

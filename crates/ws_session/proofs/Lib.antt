@@ -24,6 +24,7 @@ pub mod HeaderEnds
 pub mod LeastLengths
 pub mod LeastHeaders
 pub mod Pieces
+pub mod ControlTaken
 pub mod Kept
 pub mod Exact
 pub mod Receipts

@@ -1,6 +1,6 @@
 -- When a call that takes bytes may want memory for an answer.
 use Rattle.std.proofs.Common.{◌≡◌, ◌≢◌, ℕ, ◌+◌, ◌⊎◌, true, false, Bool, if◌then◌else◌, List, [], ◌∷◌, ◌++◌, length, take, drop, Option, Some, None, refl, sym, ap, ◌∙◌, arith, inl, inr, subst}
-use Rattle.std.specs.Prelude.{option_to_list, Result, Ok}
+use Rattle.std.specs.Prelude.{option_to_list}
 use Rattle.std.proofs.lemmas.Bool.{cases_lt}
 use Rattle.std.proofs.lemmas.List.{length-append}
 use Rattle.std.proofs.Math.Seq.{drop-append_seam}
@@ -14,9 +14,7 @@ use Rattle.ws_session.specs.declared.replying.Replying.{Replying}
 use Rattle.ws_session.specs.declared.session.Answering.TheVariants.{Plain}
 use Rattle.ws_session.specs.declared.status.Status.{Status}
 use Rattle.ws_session.specs.declared.receiver.under_way.UnderWay.{UnderWay}
-use Rattle.ws_session.specs.declared.receiver.frame_check.Content.{Content}
-use Rattle.ws_session.specs.declared.receiver.frame_check.FrameCheck.{FrameCheck}
-use Rattle.ws_session.specs.declared.receiver.frame_check.FrameCheck.TheVariants as check
+use Rattle.ws_session.specs.InnerContent.{Content}
 use Rattle.ws_session.specs.Events.{HasEvents}
 use Rattle.ws_session.specs.Replies.{replies_by, until_close, has_close}
 use Rattle.ws_session.specs.Exchange.{SendingValue, SessionValue, Exchange, HasExchanged, is_over}
@@ -24,7 +22,7 @@ use Rattle.ws_session.specs.Taking.{Takes}
 use Rattle.ws_session.specs.Memory.{WouldTake, HoldsData, WantsMemory, WantsMemoryToTell}
 use Rattle.ws_session.specs.InnerNextFrame.{IsFirstFaultOfNext}
 use Rattle.ws_session.specs.InnerInvariant.{CanAnswer, reply_by}
-use Rattle.ws_session.specs.InnerReceiving.{AssemblyValue, IsWholeFrame, next_in}
+use Rattle.ws_session.specs.InnerReceiving.{AssemblyValue, IsWholeFrame}
 use Rattle.ws_session.specs.InnerReplying.{bytes_put}
 use Rattle.ws_session.specs.InnerReceiver.{ReceiverValue, receiver_of, session_with, status_by, event_of_kept, opened_by, HasReceived, IsOwed}
 use Rattle.ws_session.proofs.Calls.{exchange_of, call_of}
@@ -137,15 +135,3 @@ module _ (old : ReceiverValue) (sending : Option SendingValue) (status : Status)
   pub fault_tells : (a : AssemblyValue) (f : UnderWay) (used : ℕ) (reason : Reason) → a.opened ≡ old.opened → AreBytes (old.partial_frame ++ piece) → IsFirstFaultOfNext old.role old.limits a.opened (old.partial_frame ++ piece) (length old.partial_frame + used) reason → WantsMemoryToTell (session_with old sending status) piece
   unfolding plain
   fault_tells a f used reason opened are first exchange unended h t would = inr (some_is_not t.event (event.Failed reason) (tells_fault plain old sending exchange piece tt refl going h bytes a f used reason opened are first t would))
-
-ok_same : (x y : UnderWay × Option (List ℕ)) (r : Result (UnderWay × Option (List ℕ)) (Option Content)) → r ≡ Ok x → r ≡ Ok y → x ≡ y
-ok_same x y r e f = cc
-
-need_by : (x y : UnderWay × Option (List ℕ)) → x ≡ y → check.Need x.0 x.1 ≡ check.Need y.0 y.1
-need_by x y e = ap (λ (z : UnderWay × Option (List ℕ)). check.Need z.0 z.1) e
-
--- what is under way next is that of the check
-pub next_is : (j : FrameCheck) (next : UnderWay) (text : Option (List ℕ)) → next_in j ≡ Ok (next, text) → j ≡ check.Need next text
-next_is (check.Need n t) next text e = need_by (n, t) (next, text) (ok_same (n, t) (next, text) (next_in (check.Need n t)) refl e)
-next_is (check.Whole used x) next text e = absurd cc
-next_is (check.Fault reason used) next text e = absurd cc

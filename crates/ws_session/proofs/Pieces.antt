@@ -12,16 +12,16 @@ use Rattle.ws_session.specs.declared.reason.Reason.{Reason}
 use Rattle.ws_session.specs.declared.reason.Reason.TheVariants.{Opcode, ControlLong, MessageOpen}
 use Rattle.ws_session.specs.declared.receiver.under_way.UnderWay.{UnderWay}
 use Rattle.ws_session.specs.declared.receiver.under_way.UnderWay.TheVariants as under_way
-use Rattle.ws_session.specs.declared.receiver.frame_check.Content.TheVariants as content
-use Rattle.ws_session.specs.declared.receiver.frame_check.PieceCheck.{PieceCheck}
-use Rattle.ws_session.specs.declared.receiver.frame_check.PieceCheck.TheVariants as piece_check
-use Rattle.ws_session.specs.declared.receiver.frame_check.FrameCheck.{FrameCheck}
-use Rattle.ws_session.specs.declared.receiver.frame_check.FrameCheck.TheVariants as check
+use Rattle.ws_session.specs.InnerContent as content
+use Rattle.ws_session.specs.declared.receiver.piece_check.PieceCheck.{PieceCheck}
+use Rattle.ws_session.specs.declared.receiver.piece_check.PieceCheck.TheVariants as piece_check
+use Rattle.ws_session.specs.InnerFrameCheck.{FrameCheck}
+use Rattle.ws_session.specs.InnerFrameCheck as check
 use Rattle.ws_session.specs.Limits.{LimitsValue}
 use Rattle.ws_session.specs.Faults.{IsControl, IsOfText, open_payload}
 use Rattle.ws_session.specs.InnerAssembly.{HasReadOpen}
 use Rattle.ws_session.specs.InnerChecking.{NoneAtHeader, IsFirstAtHeader}
-use Rattle.ws_session.specs.InnerReceiving.{AssemblyValue, with_text, frame_payload, first_bytes, HasKept, IsJoined, arrived_payload, control_payload_of, partial_of, IsExactly, IsUnderWay, HasNewData, IsPayloadCheck, IsDataCheck, IsFrameCheck, IsControlAt, IsPieceCheck, ShowsTheSame}
+use Rattle.ws_session.specs.InnerReceiving.{AssemblyValue, with_text, frame_payload, first_bytes, HasKept, IsJoined, arrived_payload, control_payload_of, partial_of, IsUnderWay, HasNewData, IsPayloadCheck, IsDataCheck, IsFrameCheck, IsControlAt, IsPieceCheck, ShowsTheSame}
 use Rattle.ws_session.proofs.Frames.{none_or_some, one_or_two, at_header, part_of_header, room_for_header}
 use Rattle.ws_session.proofs.Payloads.{read_open}
 use Rattle.ws_session.proofs.Assembled.{first_is}
@@ -150,20 +150,6 @@ control_checked role limits a (under_way.Control same payload) piece rest h star
     (subst (λ (x : HeaderFields). IsPayloadCheck x (length payload) 0 a (arrived_payload x payload piece) j) (sym is.0)
     second)
 
--- so it is of what the check of the piece left as it was
-pub control_is : (role : Role) (limits : LimitsValue) (a b : AssemblyValue) (f g : UnderWay) (piece rest came : List ℕ)
-    (h : HeaderFields) (start : ℕ) (j : FrameCheck) → IsUnderWay role limits a f → AreBytes (partial_of a f ++ piece)
-    → IsPieceCheck role limits a f b g piece (Some (piece_check.Control h start)) → rest ≡ drop start piece
-    → came ≡ control_payload_of g → IsPayloadCheck h (length came) start b (arrived_payload h came rest) j
-    → IsFrameCheck role limits b (length (partial_of a f)) (partial_of a f ++ piece) j
-control_is role limits a b f g piece rest came h start j u are is behind came_is c =
-    let first = subst (λ (l : List ℕ). IsPayloadCheck h (length l) start b (arrived_payload h l rest) j)
-    (came_is ∙ ap (λ (x : UnderWay). control_payload_of x) is.1) c in
-    let second = subst (λ (x : AssemblyValue). IsPayloadCheck h (length (control_payload_of f)) start x
-    (arrived_payload h (control_payload_of f) rest) j) is.0 first in
-    subst (λ (x : AssemblyValue). IsFrameCheck role limits x (length (partial_of a f)) (partial_of a f ++ piece) j)
-    (sym is.0) (control_checked role limits a f piece rest h start j u are is.2 behind second)
-
 -- where something is told nothing that shows has changed
 pub told_shows : (role : Role) (limits : LimitsValue) (a b : AssemblyValue) (f g : UnderWay) (piece : List ℕ)
     (y : PieceCheck) → IsPieceCheck role limits a f b g piece (Some y) → ShowsTheSame a f b g
@@ -171,14 +157,6 @@ told_shows role limits a b f g piece (piece_check.Whole used fin kind text) is =
 told_shows role limits a b f g piece (piece_check.Control h start) is =
     (is.1, ap (λ (x : AssemblyValue). partial_of x g) is.0 ∙ ap (λ (x : UnderWay). partial_of a x) is.1)
 told_shows role limits a b f g piece (piece_check.Fault reason used) is = is.0
-
--- none of its payload is kept beside the open message
-pub control_exact : (role : Role) (limits : LimitsValue) (a : AssemblyValue) (f : UnderWay) (piece : List ℕ)
-    (h : HeaderFields) (start : ℕ) → IsControlAt role limits a f piece h start → IsExactly a f
-    → length a.payload ≡ length (open_payload a.opened)
-control_exact role limits a (under_way.Header kept) piece h start at exact = omega (arith, exact)
-control_exact role limits a (under_way.Data same came) piece h start at exact = absurd at.behind
-control_exact role limits a (under_way.Control same payload) piece h start at exact = omega (arith, exact)
 
 -- what is told of a data frame, behind a part of its payload and behind a header that the piece completes
 module _ (role : Role) (limits : LimitsValue) (a b : AssemblyValue) (h : HeaderFields) where

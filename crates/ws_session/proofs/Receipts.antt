@@ -13,8 +13,8 @@ use Rattle.ws_session.specs.declared.status.Status.{Status}
 use Rattle.ws_session.specs.declared.status.Status.TheVariants as status
 use Rattle.ws_session.specs.declared.replying.Replying.{Replying}
 use Rattle.ws_session.specs.declared.receiver.under_way.UnderWay.{UnderWay}
-use Rattle.ws_session.specs.declared.receiver.frame_check.Content.{Content}
-use Rattle.ws_session.specs.declared.receiver.frame_check.Content.TheVariants as content
+use Rattle.ws_session.specs.InnerContent.{Content}
+use Rattle.ws_session.specs.InnerContent as content
 use Rattle.ws_session.specs.Limits.{LimitsValue}
 use Rattle.ws_session.specs.Messages.{is_control}
 use Rattle.ws_session.specs.Events.{event_of_control, close_in}
@@ -23,10 +23,9 @@ use Rattle.ws_session.specs.Exchange.{SendingValue, HasExchanged, is_over}
 use Rattle.ws_session.specs.Taking.{Takes}
 use Rattle.ws_session.specs.InnerNextFrame.{IsPartOfFrame, HasNoFaultOfNext, IsFirstFaultOfNext, message_with, opened_with, event_behind, due_at, IsAfter}
 use Rattle.ws_session.specs.InnerInvariant.{CanAnswer, reply_by}
-use Rattle.ws_session.specs.InnerAssembly.{HasReadOpen}
-use Rattle.ws_session.specs.InnerReceiving.{AssemblyValue, IsContentOf, IsWholeFrame, message_kept, FitsIn}
+use Rattle.ws_session.specs.InnerReceiving.{AssemblyValue, IsContentOf, IsWholeFrame, message_kept}
 use Rattle.ws_session.specs.InnerReplying.{bytes_put}
-use Rattle.ws_session.specs.InnerReceiver.{ReceiverValue, receiver_of, session_with, status_by, event_of_kept, opened_by, HasReceived, IsContentKept, FitsLimit}
+use Rattle.ws_session.specs.InnerReceiver.{ReceiverValue, receiver_of, session_with, status_by, event_of_kept, opened_by, HasReceived}
 use Rattle.ws_session.proofs.Calls.{exchange_of, call_of}
 use Rattle.ws_session.proofs.OneTake.{takes_part, takes_frame, takes_fault, frame_behind_kept, fault_behind_kept, within_bytes}
 use Rattle.std.proofs.lemmas.List.{length-append}
@@ -54,18 +53,6 @@ opened_kept role limits a f frame s (content.Data fin kind text) is going = data
 opened_kept role limits a f frame s (content.Ping payload) is going = sym (ap (λ n. cond (nat_le 8 n) a.opened (cond frame.fin None (Some (message_with a.opened frame)))) is.0)
 opened_kept role limits a f frame s (content.Pong payload) is going = sym (ap (λ n. cond (nat_le 8 n) a.opened (cond frame.fin None (Some (message_with a.opened frame)))) is.0)
 opened_kept role limits a f frame s (content.Close close) is going = absurd cc
-
-pub content_kept : (role : Role) (limits : LimitsValue) (a : AssemblyValue) (f : UnderWay) (frame : Frame) (x : Content) → (is_control frame ≡ true → HasReadOpen a.opened a.text) → IsContentOf a frame x → IsContentKept (receiver_of role limits a f) x
-content_kept role limits a f frame (content.Data fin kind text) reads is = is.3
-content_kept role limits a f frame (content.Ping payload) reads is = reads (ap (λ n. nat_le 8 n) is.0)
-content_kept role limits a f frame (content.Pong payload) reads is = reads (ap (λ n. nat_le 8 n) is.0)
-content_kept role limits a f frame (content.Close close) reads is = reads (ap (λ n. nat_le 8 n) is.0)
-
-pub content_fits : (role : Role) (limits : LimitsValue) (a : AssemblyValue) (f : UnderWay) (x : Content) → FitsIn limits a x → FitsLimit (receiver_of role limits a f) x
-content_fits role limits a f (content.Data fin kind text) is = is
-content_fits role limits a f (content.Ping payload) is = tt
-content_fits role limits a f (content.Pong payload) is = tt
-content_fits role limits a f (content.Close close) is = tt
 
 -- ---- the three cases
 

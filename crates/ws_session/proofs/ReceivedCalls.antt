@@ -1,6 +1,5 @@
 -- What a call of the receiving side makes of a piece, and where it may want memory, is what a session that has it does.
 use Rattle.std.proofs.Common.{◌≡◌, ℕ, ◌+◌, false, List, ◌++◌, length, Option, Some, None, refl, sym, ap, ◌∙◌, arith, inl, inr, subst}
-use Rattle.std.specs.Prelude.{Err}
 use Rattle.ws_wire.specs.declared.role.Role.{Role}
 use Rattle.ws_wire.specs.Header.{HeaderFields, AreBytes}
 use Rattle.ws_session.specs.declared.message.Message.{Message}
@@ -11,19 +10,17 @@ use Rattle.ws_session.specs.declared.event.Taken.{Taken}
 use Rattle.ws_session.specs.declared.replying.Replying.{Replying}
 use Rattle.ws_session.specs.declared.status.Status.{Status}
 use Rattle.ws_session.specs.declared.receiver.under_way.UnderWay.{UnderWay}
-use Rattle.ws_session.specs.declared.receiver.frame_check.Content.{Content}
-use Rattle.ws_session.specs.declared.receiver.frame_check.Content.TheVariants as content
-use Rattle.ws_session.specs.declared.receiver.frame_check.PieceCheck.{PieceCheck}
-use Rattle.ws_session.specs.declared.receiver.frame_check.PieceCheck.TheVariants as piece_check
-use Rattle.ws_session.specs.declared.receiver.frame_check.FrameCheck.{FrameCheck}
-use Rattle.ws_session.specs.declared.receiver.frame_check.FrameCheck.TheVariants as check
+use Rattle.ws_session.specs.InnerContent.{Content}
+use Rattle.ws_session.specs.InnerContent as content
+use Rattle.ws_session.specs.declared.receiver.piece_check.PieceCheck.{PieceCheck}
+use Rattle.ws_session.specs.declared.receiver.piece_check.PieceCheck.TheVariants as piece_check
 use Rattle.ws_session.specs.Limits.{LimitsValue}
 use Rattle.ws_session.specs.Exchange.{SendingValue, is_over}
 use Rattle.ws_session.specs.Taking.{Takes, HasTaken}
 use Rattle.ws_session.specs.Memory.{WantsMemory, WantsMemoryToTell}
 use Rattle.ws_session.specs.InnerInvariant.{CanAnswer, reply_by}
 use Rattle.ws_session.specs.InnerNextFrame.{IsPartOfFrame, IsFirstFaultOfNext}
-use Rattle.ws_session.specs.InnerReceiving.{AssemblyValue, IsWholeFrame, HasNewData, IsFrameCheck, IsPieceCheck, partial_of, next_in}
+use Rattle.ws_session.specs.InnerReceiving.{AssemblyValue, IsWholeFrame, HasNewData, IsPieceCheck, partial_of}
 use Rattle.ws_session.specs.InnerReceiver.{ReceiverValue, receiver_of, assembly_of, session_with, status_by, telling, event_of_kept, opened_by, HasReceived, IsOwed}
 use Rattle.ws_session.specs.InnerTaking.{FrameGoesOn, HoldsEvent, ReceivesSo, Receives, WantsRoom}
 use Rattle.ws_session.proofs.Calls.{call_of}
@@ -108,14 +105,6 @@ module _ (o v : ReceiverValue) (view : o ≡ v) (piece : List ℕ) where
         → wants (event.Failed reason) → WantsRoom wants v piece
     fault_wants wants used reason are first owed = inr (used, event.Failed reason, None, holds_fault used reason are first, owed)
 
-    -- of a check that tells more than that the frame goes on
-    pub check_wants : (j : FrameCheck) (x : Option Content) → AreBytes (o.partial_frame ++ piece)
-        → IsFrameCheck o.role o.limits b (length o.partial_frame) (o.partial_frame ++ piece) j → next_in j ≡ Err x
-        → WantsRoom (λ e. Unit {0}) v piece
-    check_wants (check.Need next text) x are is none = absurd cc
-    check_wants (check.Whole used held) x are is none = frame_wants (λ e. Unit {0}) used held is tt
-    check_wants (check.Fault reason used) x are is none = fault_wants (λ e. Unit {0}) used reason are is tt
-
   -- of a data frame's payload a byte is new
   pub data_wants : (wants : Event → Type 0) → AreBytes (o.partial_frame ++ piece)
       → HasNewData o.role o.limits o.opened (length o.partial_frame) (o.partial_frame ++ piece)
@@ -128,10 +117,10 @@ pub piece_wants : (role : Role) (limits : LimitsValue) (a b : AssemblyValue) (f 
     → AreBytes (partial_of a f ++ piece) → IsPieceCheck role limits a f b g piece (Some y)
     → ((h : HeaderFields) (start : ℕ) → y ≡ piece_check.Control h start → ⊥) → WantsRoom (λ e. Unit {0}) v piece
 piece_wants role limits a b f g v view piece opened (piece_check.Whole used fin kind text) are is not_control =
-    check_wants (receiver_of role limits a f) v view piece b g opened (check.Whole used (content.Data fin kind text)) (Some (content.Data fin kind text)) are is.1 refl
+    frame_wants (receiver_of role limits a f) v view piece b g opened (λ e. Unit {0}) used (content.Data fin kind text) is.1 tt
 piece_wants role limits a b f g v view piece opened (piece_check.Control h start) are is not_control = absurd (not_control h start refl)
 piece_wants role limits a b f g v view piece opened (piece_check.Fault reason used) are is not_control =
-    check_wants (receiver_of role limits a f) v view piece b g opened (check.Fault reason used) None are is.1 refl
+    fault_wants (receiver_of role limits a f) v view piece b g opened (λ e. Unit {0}) used reason are is.1 tt
 
 -- ---- what is taken
 

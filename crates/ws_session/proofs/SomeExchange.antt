@@ -5,6 +5,7 @@ use Rattle.ws_wire.specs.Frame.{Frame}
 use Rattle.ws_session.specs.declared.event.Event.{Event}
 use Rattle.ws_session.specs.declared.event.Event.TheVariants as event
 use Rattle.ws_session.specs.declared.event.Taken.{Taken}
+use Rattle.ws_session.specs.declared.payload_room.TakenInto.{TakenInto}
 use Rattle.ws_session.specs.declared.status.Status.{Status}
 use Rattle.ws_session.specs.declared.status.Status.TheVariants as status
 use Rattle.ws_session.specs.Replies.{replies_by}
@@ -37,12 +38,13 @@ module _ (old new : SessionValue) where
   after_take reply call taken some takes over = taken_by_end reply call taken some.0.sent some.0.taken some.0.ended some.1 takes over
 
   -- whatever the call answers
-  pub after_takes : {E : Type 0} (r : Result Taken E) (reply : Event → List Frame) (call : TakeCall) (put : Type 0)
-      → HasSomeExchange old → IfOk r (HasTaken reply old new call)
-      → (is_over old.status ≡ true → IsOkAnd r (TakesNothing old new call)) → OnErr r ((new ≡ old) × put)
-      → HasSomeExchange new
-  after_takes (Ok taken) reply call put some takes over kept = after_take reply call taken some takes (λ o. let nothing = over o in nothing.unchanged)
-  after_takes (Err refused) reply call put some takes over kept = unchanged kept.0 some
+  pub after_takes : {E : Type 0} (r : Result TakenInto E) (told : Option Event) (reply : Event → List Frame)
+      (call : TakeCall) (put : Type 0) → HasSomeExchange old
+      → IfOk r (λ taken. HasTaken reply old new call (record { used = taken.used; event = told }))
+      → (is_over old.status ≡ true → IsOkAnd r (λ taken. TakesNothing old new call (record { used = taken.used; event = told })))
+      → OnErr r ((new ≡ old) × put) → HasSomeExchange new
+  after_takes (Ok taken) told reply call put some takes over kept = after_take reply call (record { used = taken.used; event = told }) some takes (λ o. let nothing = over o in nothing.unchanged)
+  after_takes (Err refused) told reply call put some takes over kept = unchanged kept.0 some
 
   pub after_send : (send : Send) (key before after : List ℕ) → HasSomeExchange old → HasSent old new send key before after → HasSomeExchange new
   after_send send key before after some sends =

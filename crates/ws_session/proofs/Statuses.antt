@@ -1,6 +1,6 @@
 -- The status of a session that isn't over, and after one more event.
 use Rattle.std.proofs.Common.{◌≡◌, ℕ, ◌⊎◌, Bool, true, false, cond, List, [], ◌∷◌, ◌++◌, Option, Some, None, refl, sym, ap, ◌∙◌, inl, inr, subst}
-use Rattle.std.specs.Prelude.{◌==◌}
+use Rattle.std.specs.Prelude.{◌==◌, is_some}
 use Rattle.std.specs.List.{AllByRecursion}
 use Rattle.std.proofs.lemmas.List.{map-append}
 use Rattle.ws_wire.specs.Header.{AreBytes}
@@ -16,6 +16,7 @@ use Rattle.std.specs.Prelude.{nat_le}
 use Rattle.std.proofs.Common.{eqb-true}
 use Rattle.ws_session.specs.declared.status.Status.{Status}
 use Rattle.ws_session.specs.Exchange.{SessionValue, HasExchanged, IsSendingOf, is_over, last_event, status_before_close, status_after, status_of}
+use Rattle.ws_session.specs.InnerReceiver.{status_by}
 use Rattle.ws_session.proofs.EventsGoOn.{events_after-append}
 
 pub last_snoc : (es : List Event) (e : Event) → last_event (es ++ e ∷ []) ≡ Some e
@@ -154,3 +155,8 @@ is_going_on v sent s ended h going =
       goes_on = at.0;
       sending = h.sending;
     }
+
+-- where nothing is told the status stays
+pub none_told : (status : Status) (told : Option Event) → is_some told ≡ false → status_by status told ≡ status
+none_told status None none = refl
+none_told status (Some e) none = absurd cc

@@ -1,6 +1,6 @@
 -- When a call that takes bytes may want memory.
 use Rattle.std.proofs.Common.{◌≡◌, ℕ, ◌+◌, ◌-◌, ◌<◌, ◌≤◌, false, List, [], ◌∷◌, ◌++◌, length, take, drop, Option, Some, None, refl, sym, ap, ◌∙◌, append_assoc, arith, inl, inr, subst}
-use Rattle.std.specs.Prelude.{option_to_list, Result, Ok, Err, IfOk, OnErr}
+use Rattle.std.specs.Prelude.{option_to_list, Result, Ok, Err, IfOk, OnOk, OnErr}
 use Rattle.std.proofs.lemmas.Bool.{cases_lt}
 use Rattle.std.proofs.lemmas.List.{length-append, append-nil, take-append-drop, length-take, length-take-le, length-drop, take-take, take_all, drop_all}
 use Rattle.std.proofs.Math.Seq.{take-append-add}
@@ -38,15 +38,11 @@ pub ok_so : {T E : Type 0} (r : Result T E) (P Q R : T → Type 0) → ((x : T) 
 ok_so (Ok x) P Q R follows p q = follows x p q
 ok_so (Err e) P Q R follows p q = tt
 
-pub ok_is : {T E : Type 0} (r : Result T E) (x : T) (P : T → Type 0) → r ≡ Ok x → IfOk r P → P x
-ok_is r x P is p = subst (λ y. IfOk y P) is p
-
-pub is_ok : {T E : Type 0} (r : Result T E) (x : T) (P : T → Type 0) → r ≡ Ok x → P x → IfOk r P
-is_ok r x P is p = subst (λ y. IfOk y P) (sym is) p
-
-pub err_so : {T E : Type 0} (r : Result T E) (P Q : Type 0) → (P → Q) → OnErr r P → OnErr r Q
-err_so (Ok x) P Q follows p = tt
-err_so (Err e) P Q follows p = follows p
+-- the same where one of them doesn't speak of the answer
+pub ok_so_of_ok : {T E : Type 0} (r : Result T E) (P : T → Type 0) (Q : Type 0) (R : T → Type 0) → ((x : T) → P x → Q → R x)
+    → IfOk r P → OnOk r Q → IfOk r R
+ok_so_of_ok (Ok x) P Q R follows p q = follows x p q
+ok_so_of_ok (Err e) P Q R follows p q = tt
 
 -- ---- a data frame of whose payload nothing has come
 

@@ -13,12 +13,11 @@ use Rattle.ws_session.specs.declared.status.Status.{Status}
 use Rattle.ws_session.specs.declared.replying.Replying.{Replying}
 use Rattle.ws_session.specs.declared.receiver.under_way.UnderWay.{UnderWay}
 use Rattle.ws_session.specs.declared.receiver.under_way.UnderWay.TheVariants as under_way
-use Rattle.ws_session.specs.declared.receiver.frame_check.Content.{Content}
-use Rattle.ws_session.specs.declared.receiver.frame_check.Content.TheVariants as content
+use Rattle.ws_session.specs.InnerContent.{Content}
+use Rattle.ws_session.specs.InnerContent as content
 use Rattle.ws_session.specs.Limits.{LimitsValue, most_beside}
 use Rattle.ws_session.specs.Faults.{open_payload}
 use Rattle.ws_session.specs.Exchange.{SendingValue, SessionValue}
-use Rattle.ws_session.specs.InnerAssembly.{IsTextOf, HasReadOpen}
 use Rattle.ws_session.specs.InnerNextFrame.{IsPartOfFrame, due_at, status_with}
 use Rattle.ws_session.specs.InnerInvariant.{reply_by}
 use Rattle.ws_session.specs.InnerReceiving.{AssemblyValue, partial_of, came_of, IsUnderWay}
@@ -102,31 +101,18 @@ abbrev pub status_by : Status → Option Event → Status
 status_by status None = status
 status_by status (Some e) = status_with status e
 
--- so many bytes were taken, and this event is told of them
+-- so many bytes were taken, and this is told of them
+abbrev pub taking : ℕ → Option Event → Taken
+taking used told = record { used = used; event = told }
+
 abbrev pub telling : ℕ → Event → Taken
-telling used e = record { used = used; event = Some e }
+telling used e = taking used (Some e)
 
 -- ---- a whole frame
 
 -- the message that is all that is kept
 abbrev pub kept_message : ReceiverValue → Kind → Message
 kept_message v kind = record { kind = kind; payload = v.assembled }
-
--- the stream has read it, where it is text; behind a control frame the text may go on
-abbrev pub IsContentKept : ReceiverValue → Content → Type 0
-IsContentKept v (content.Data fin kind text) = IsTextOf (kept_message v kind) text
-IsContentKept v _ = HasReadOpen v.opened v.text
-
--- behind a control frame the open message alone is kept
-abbrev pub IsExactFor : ReceiverValue → Content → Type 0
-IsExactFor v (content.Ping payload) = length v.assembled ≡ length (open_payload v.opened)
-IsExactFor v (content.Pong payload) = length v.assembled ≡ length (open_payload v.opened)
-IsExactFor v _ = Unit {0}
-
--- it is within the limit
-abbrev pub FitsLimit : ReceiverValue → Content → Type 0
-FitsLimit v (content.Data fin kind text) = length v.assembled ≤ v.limits.max_message
-FitsLimit v _ = Unit {0}
 
 abbrev pub event_of_kept : ReceiverValue → Content → Event
 event_of_kept v (content.Data fin kind text) = if fin then event.Message (kept_message v kind) else event.Part

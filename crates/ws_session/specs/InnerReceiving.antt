@@ -1,7 +1,7 @@
 -- Inside the crate: the frame under way as it is kept, and what the check of more bytes of it answers, for contracts of
 -- private functions. A reader may skip this file.
 use Rattle.std.specs.Prelude.{◌≡◌, ℕ, ◌+◌, ◌-◌, ◌≤◌, ◌<◌, true, false, List, [], ◌++◌, length, take, drop, Option}
-use Rattle.std.specs.Prelude.{Some, None, Result, Ok, Err}
+use Rattle.std.specs.Prelude.{Some, None}
 use Rattle.ws_wire.specs.declared.role.Role.{Role}
 use Rattle.ws_wire.specs.Header.{HeaderFields, IsHeader, AreBytes, header_bytes}
 use Rattle.ws_wire.specs.Masking.{masked_payload}
@@ -13,12 +13,12 @@ use Rattle.ws_session.specs.declared.message.Message.{Message}
 use Rattle.ws_session.specs.declared.reason.Reason.{Reason}
 use Rattle.ws_session.specs.declared.receiver.under_way.UnderWay.{UnderWay}
 use Rattle.ws_session.specs.declared.receiver.under_way.UnderWay.TheVariants as under_way
-use Rattle.ws_session.specs.declared.receiver.frame_check.Content.{Content}
-use Rattle.ws_session.specs.declared.receiver.frame_check.Content.TheVariants as content
-use Rattle.ws_session.specs.declared.receiver.frame_check.FrameCheck.{FrameCheck}
-use Rattle.ws_session.specs.declared.receiver.frame_check.FrameCheck.TheVariants as check
-use Rattle.ws_session.specs.declared.receiver.frame_check.PieceCheck.{PieceCheck}
-use Rattle.ws_session.specs.declared.receiver.frame_check.PieceCheck.TheVariants as piece_check
+use Rattle.ws_session.specs.InnerContent.{Content}
+use Rattle.ws_session.specs.InnerContent as content
+use Rattle.ws_session.specs.InnerFrameCheck.{FrameCheck}
+use Rattle.ws_session.specs.InnerFrameCheck as check
+use Rattle.ws_session.specs.declared.receiver.piece_check.PieceCheck.{PieceCheck}
+use Rattle.ws_session.specs.declared.receiver.piece_check.PieceCheck.TheVariants as piece_check
 use Rattle.ws_session.specs.Limits.{LimitsValue}
 use Rattle.ws_session.specs.Messages.{is_control}
 use Rattle.ws_session.specs.Faults.{IsControl, IsOfText, open_payload}
@@ -203,12 +203,6 @@ IsWholeControl header used payload a (check.Fault reason place) = (place ≡ use
 
 -- ---- the frame
 
--- behind a control frame the open message alone is kept
-abbrev pub IsExactContent : AssemblyValue → Content → Type 0
-IsExactContent a (content.Ping payload) = length a.payload ≡ length (open_payload a.opened)
-IsExactContent a (content.Pong payload) = length a.payload ≡ length (open_payload a.opened)
-IsExactContent a _ = Unit {0}
-
 -- its bytes take the message no further than the limit allows
 abbrev pub FitsIn : LimitsValue → AssemblyValue → Content → Type 0
 FitsIn limits a (content.Data fin kind text) = length a.payload ≤ limits.max_message
@@ -226,18 +220,6 @@ pub record IsWholeFrame (role : Role) (limits : LimitsValue) (a : AssemblyValue)
   pub is_content : IsContentOf a frame.frame content
   pub reads : is_control frame.frame ≡ true → HasReadOpen a.opened a.text
   pub fits : FitsIn limits a content
-
--- what is under way next with the stream that has read it, or what the whole frame holds, and none at a fault
-abbrev pub next_in : FrameCheck → Result (UnderWay × Option (List ℕ)) (Option Content)
-next_in (check.Need next text) = Ok (next, text)
-next_in (check.Whole used content) = Err (Some content)
-next_in (check.Fault reason used) = Err None
-
--- no more is kept than the open message and what is under way next, and behind a ping or a pong the open message alone
-abbrev pub IsExactCheck : AssemblyValue → FrameCheck → Type 0
-IsExactCheck a (check.Need next text) = IsExactly a next
-IsExactCheck a (check.Whole used content) = IsExactContent a content
-IsExactCheck a (check.Fault reason used) = Unit {0}
 
 -- The check of bytes of which so many were kept before. What isn't whole is under way next
 abbrev pub IsFrameCheck : Role → LimitsValue → AssemblyValue → ℕ → List ℕ → FrameCheck → Type 0

@@ -9,7 +9,7 @@ use Rattle.ws_session.specs.declared.event.Event.TheVariants as event
 use Rattle.ws_session.specs.declared.event.Taken.{Taken}
 use Rattle.ws_session.specs.declared.replying.Replying.{Replying}
 use Rattle.ws_session.specs.declared.receiver.under_way.UnderWay.{UnderWay}
-use Rattle.ws_session.specs.declared.receiver.frame_check.Content.{Content}
+use Rattle.ws_session.specs.InnerContent.{Content}
 use Rattle.ws_session.specs.InnerNextFrame.{IsPartOfFrame, IsFirstFaultOfNext}
 use Rattle.ws_session.specs.InnerReceiving.{AssemblyValue, IsWholeFrame, HasNewData}
 use Rattle.ws_session.specs.InnerReceiver.{ReceiverValue, receiver_of, event_of_kept, opened_by, HasReceived}

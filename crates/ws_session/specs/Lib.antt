@@ -7,6 +7,7 @@ pub mod Events
 pub mod Replies
 pub mod Exchange
 pub mod Taking
+pub mod Lent
 pub mod Memory
 pub mod Sends
 pub mod Reach
@@ -18,6 +19,9 @@ pub mod InnerChecking
 pub mod LeastHeader
 pub mod InnerDoomed
 pub mod InnerMasked
+pub mod InnerContent
+pub mod InnerFrameCheck
+pub mod InnerRoom
 pub mod InnerReceiving
 pub mod InnerReplying
 pub mod InnerReceiver

@@ -3,6 +3,7 @@
 ghost use Rattle.std.specs.Prelude.{◌≡◌, ◌≤◌, ◌<◌, ℕ, List, [], length, drop, None, Bool, true, false, IsOk, IfOk};
 ghost use Rattle.std.specs.Prelude.{IfErr, IsOkAnd, OnErr};
 ghost use Rattle.ws_wire.specs.Frame.{Frame};
+ghost use Rattle.ws_session.specs.declared.event.PlacedEvent.{PlacedEvent};
 ghost use Rattle.ws_session.specs.declared.status.Status.TheVariants.{Lost};
 ghost use Rattle.ws_session.specs.Replies.{echo_reply_to};
 ghost use Rattle.ws_session.specs.Exchange.{HasExchanged, HasSomeExchange, is_over};
@@ -97,7 +98,9 @@ impl Echo {
         // Memory is wanted where the bytes that would be used hold payload of a data frame, or an answer is owed.
         ensures memory { OnErr result (WantsMemory echo_reply_to self.old piece.now) }
     {
-        let taken = self.session.take_by(Answering::Echoing, piece, key, out)?;
+        let taken = self
+            .session
+            .take_owned(Answering::Echoing, piece, key, out)?;
         Ok(taken)
     }
 
@@ -127,5 +130,25 @@ impl Echo {
     {
         self.session
             .take_all_by(Answering::Echoing, piece, key, out, events)
+    }
+
+    /// Takes a whole piece as `Session::pass` does, and puts each whole message back at the end of `out` beside what
+    /// else is owed. `TakeStop` where a growth was refused: the bytes that it counts were taken, with their replies.
+    pub fn pass(&mut self, piece: &[u8], key: [u8; 4], out: &mut Vec<u8>) -> Result<(), TakeStop>
+        ensures taken { (told : List PlacedEvent) × HasTakenAll echo_reply_to self.old self.new
+            (record { piece = front_taken piece.now result; key = key; before = out.old.items; after = out.new.items })
+            [] told }
+        ensures over { is_over self.old.status ≡ true → IsOk result × (self.new ≡ self.old)
+            × (out.new.items ≡ out.old.items) }
+
+        // Where memory ran out some bytes are left.
+        ensures used { IfErr result (λ stop. stop.used < length piece.now) }
+
+        // Memory is wanted where the bytes that would be used next hold payload of a data frame, or an answer is owed.
+        ensures memory { IfErr result (λ stop. WantsMemory echo_reply_to self.new (drop stop.used piece.now)) }
+        ensures role { self.new.role ≡ self.old.role }
+        ensures limits { self.new.limits ≡ self.old.limits }
+    {
+        self.session.pass_by(Answering::Echoing, piece, key, out)
     }
 }

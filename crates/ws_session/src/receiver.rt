@@ -7,6 +7,7 @@ ghost use Rattle.std.specs.Prelude.{◌≡◌, ◌+◌, ◌≤◌, [], length, N
 ghost use Rattle.ws_session.specs.Limits.{most_beside};
 ghost use Rattle.ws_session.specs.Faults.{open_payload};
 ghost use Rattle.ws_session.specs.declared.replying.Replying.{Replying};
+ghost use Rattle.ws_session.specs.Lent.{payload_in};
 ghost use Rattle.ws_session.specs.Exchange.{is_over};
 ghost use Rattle.ws_session.specs.InnerReceiver.{IsSoundReceiver, IsExact, IsOwed, status_by};
 ghost use Rattle.ws_session.specs.InnerTaking.{Receives, WantsRoom};
@@ -15,22 +16,23 @@ mod assembly;
 mod checking;
 mod control_frame;
 mod control_taking;
+mod copying;
 mod data_payload;
 mod doomed;
-mod frame_check;
 mod frame_end;
 mod header_end;
 mod header_kind;
 mod header_rules;
 mod least_header;
+mod piece_check;
 mod quiet;
 mod under_way;
 
-use crate::event::Taken;
+use crate::event_room::EventRoom;
 use crate::limits::Limits;
 use crate::receiver::assembly::Assembly;
 use crate::receiver::checking::check_piece;
-use crate::receiver::frame_check::PieceCheck;
+use crate::receiver::piece_check::PieceCheck;
 use crate::receiver::under_way::{UnderWay, nothing};
 use crate::replying::Replying;
 use crate::session::Answering;
@@ -81,6 +83,11 @@ impl Receiver {
         }
     }
 
+    /// What it asks for memory.
+    pub(crate) fn alloc(&self) -> Global {
+        self.assembly.alloc()
+    }
+
     pub(crate) fn role(&self) -> Role
         ensures { result ≡ self.now.role }
     {
@@ -125,8 +132,9 @@ impl Receiver {
         self.assembly.cut(came);
     }
 
-    /// Takes bytes from the front of a piece, up to the end of one frame or to a fault, and puts what is owed for that
-    /// at the end of `out`. `NoMemory` leaves all that shows as it was.
+    /// Takes bytes from the front of a piece, up to the end of one frame or to a fault, leaves what it tells in the
+    /// room, and puts what is owed for that at the end of `out`: how many bytes it took. `NoMemory` leaves all that
+    /// shows as it was, but the room.
     pub(crate) fn take(
         &mut self,
         status: &Status,
@@ -134,18 +142,25 @@ impl Receiver {
         piece: &[u8],
         key: [u8; 4],
         out: &mut Vec<u8>,
-    ) -> Result<Taken, NoMemory>
+        room: &mut EventRoom,
+    ) -> Result<usize, NoMemory>
         requires exact { IsExact self.old }
+        requires nothing { room.old ≡ None }
         ensures takes { let replying : Replying
             = record { role = self.old.role; status = status.now; answering = answering; key = key }
-            in IfOk result (Receives replying self.old self.new piece.now out.old.items out.new.items) }
+            in IfOk result (λ used. Receives replying self.old self.new piece.now out.old.items out.new.items
+            (record { used = used; event = room.new })) }
         ensures sound { IsSoundReceiver self.new }
-        ensures exact { IfOk result (λ taken. IsExact self.new) }
+        ensures exact { IfOk result (λ used. IsExact self.new) }
         ensures role { self.new.role ≡ self.old.role }
         ensures limits { self.new.limits ≡ self.old.limits }
-        ensures over { IfOk result (λ taken. is_over status.now ≡ false
-            → is_over (status_by status.now taken.event) ≡ true
+        ensures over { IfOk result (λ used. is_over status.now ≡ false
+            → is_over (status_by status.now room.new) ≡ true
             → (self.new.opened ≡ None) × (self.new.partial_frame ≡ [])) }
+
+        // What is lent and what is kept are no more than a message, a header and a control frame's payload.
+        ensures held { IfOk result (λ used. length (payload_in room.new) + (length (open_payload self.new.opened)
+            + length self.new.partial_frame) ≤ self.new.limits.max_message + most_beside) }
         ensures kept { OnErr result ((self.new.opened ≡ self.old.opened)
             × (self.new.partial_frame ≡ self.old.partial_frame) × (out.new.items ≡ out.old.items)) }
         ensures came { OnErr result (self.new.came ≡ self.old.came) }
@@ -156,17 +171,8 @@ impl Receiver {
             in OnErr result (WantsRoom (IsOwed replying) self.old piece.now) }
     {
         let (assembly, frame) = (&mut self.assembly, &mut self.frame);
-        let Some(check) = check_piece(self.role, &self.limits, assembly, frame, piece)? else {
-            return Ok(Taken {
-                used: piece.len(),
-                event: None,
-            });
-        };
-        let replying = Replying {
-            role: self.role,
-            status: *status,
-            answering,
-            key,
+        let Some(check) = check_piece(self.role, &self.limits, assembly, frame, piece, room)? else {
+            return Ok(piece.len());
         };
         match check {
             PieceCheck::Whole {
@@ -174,11 +180,30 @@ impl Receiver {
                 fin,
                 kind,
                 text,
-            } => self.on_data(used, fin, kind, text, &replying, out),
-            PieceCheck::Control { header, start } => {
-                self.take_control(&header, start, piece, &replying, out)
+            } => {
+                self.on_data(fin, kind, text, status, answering, key, out, room)?;
+                Ok(used)
             }
-            PieceCheck::Fault { reason, used } => self.on_fault(used, reason, &replying, out),
+            PieceCheck::Control { header, start } => {
+                let replying = Replying {
+                    role: self.role,
+                    status: *status,
+                    answering,
+                    key,
+                };
+                self.take_control(&header, start, piece, &replying, out, room)
+            }
+            PieceCheck::Fault { reason, used } => {
+                let replying = Replying {
+                    role: self.role,
+                    status: *status,
+                    answering,
+                    key,
+                };
+                self.on_fault(reason, &replying, out)?;
+                room.tell_fault(reason);
+                Ok(used)
+            }
         }
     }
 }

@@ -17,7 +17,7 @@ use std::marker::Model;
 use ws_text::Utf8Stream;
 
 /// What is kept of an open message: its size so far, and where it is text the stream that has read it.
-#[derive(Drop)]
+#[derive(Clone, Copy)]
 enum SentSoFar {
     Text { size: usize, text: Utf8Stream },
     Binary { size: usize },
@@ -48,6 +48,13 @@ impl Sending {
         ensures { result ≡ None }
     {
         Sending { open: None }
+    }
+
+    /// The same again.
+    pub(crate) fn copy(&self) -> Sending
+        ensures { result ≡ self.now }
+    {
+        Sending { open: self.open }
     }
 
     /// What is kept once the first frame of a message is sent, or why it isn't sent.

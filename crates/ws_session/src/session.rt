@@ -10,15 +10,20 @@ ghost use Rattle.ws_session.specs.Doomed.{IsDoomed, EndsDoomed};
 ghost use Rattle.ws_session.specs.Replies.{reply_to};
 ghost use Rattle.ws_session.specs.Exchange.{HasExchanged, HasSomeExchange, is_over};
 ghost use Rattle.ws_session.specs.Taking.{HasTaken, TakesNothing};
+ghost use Rattle.ws_session.specs.Lent.{event_if_any, payload_in, taken_in};
 ghost use Rattle.ws_session.specs.Memory.{WantsMemory};
 ghost use Rattle.ws_session.specs.InnerInvariant.{CanAnswer, reply_by};
 
+mod copying;
+mod passing;
 mod sends;
 mod state;
 mod whole_piece;
 
 use crate::event::Taken;
+use crate::event_room::EventRoom;
 use crate::limits::Limits;
+use crate::payload_room::{PayloadRoom, TakenInto};
 use crate::session::state::State;
 use crate::status::Status;
 use std::alloc::Global;
@@ -36,6 +41,8 @@ use ws_wire::Role;
 #[derive(Drop)]
 pub struct Session {
     state: State,
+    /// What the last call of `take` told, but for a message, which was handed out: made once, and not at each call.
+    room: EventRoom,
 }
 
 /// Whether messages are sent back.
@@ -64,6 +71,7 @@ impl Session {
     {
         Session {
             state: State::new(alloc, role, limits),
+            room: EventRoom::new(alloc),
         }
     }
 
@@ -150,11 +158,47 @@ impl Session {
         // Memory is wanted where the bytes that would be used hold payload of a data frame, or an answer is owed.
         ensures memory { OnErr result (WantsMemory reply_to self.old piece.now) }
     {
-        self.take_by(Answering::Plain, piece, key, out)
+        self.take_owned(Answering::Plain, piece, key, out)
+    }
+
+    /// Takes bytes as `take` does, and lends the payload of what it tells: `room` is emptied first, and holds it then.
+    /// So nothing is handed on by value, and a message's memory serves the next message too. After an error nothing is
+    /// said of what the room holds.
+    pub fn take_into(
+        &mut self,
+        piece: &[u8],
+        key: [u8; 4],
+        out: &mut Vec<u8>,
+        room: &mut PayloadRoom,
+    ) -> Result<TakenInto, NoMemory>
+        ensures taken { IfOk result (λ taken. HasTaken reply_to self.old self.new
+            (record { piece = piece.now; key = key; before = out.old.items; after = out.new.items })
+            (taken_in taken room.new)) }
+        ensures over { is_over self.old.status ≡ true → IsOkAnd result (λ taken. TakesNothing self.old self.new
+            (record { piece = piece.now; key = key; before = out.old.items; after = out.new.items })
+            (taken_in taken room.new)) }
+
+        // At least one byte is used where there is one, and want of memory leaves all but the room as it was.
+        ensures used { IfOk result (λ taken. (0 < length piece.now → 0 < taken.used)
+            × (taken.used ≤ length piece.now)) }
+        ensures role { self.new.role ≡ self.old.role }
+        ensures limits { self.new.limits ≡ self.old.limits }
+
+        // What is lent and what is kept are no more than a message, a header and a control frame's payload.
+        ensures held { IfOk result (λ taken. length room.new + (length (open_payload self.new.opened)
+            + length self.new.partial_frame) ≤ self.new.limits.max_message + most_beside) }
+        ensures kept { OnErr result ((self.new ≡ self.old) × (out.new.items ≡ out.old.items)) }
+
+        // Memory is wanted where the bytes that would be used hold payload of a data frame, or an answer is owed.
+        ensures memory { OnErr result (WantsMemory reply_to self.old piece.now) }
+    {
+        let room = &mut room.room;
+        room.clear();
+        self.take_by(Answering::Plain, piece, key, out, room)
     }
 
     /// Takes bytes as `take` does, and where it is echoing sends each message back.
-    pub(crate) fn take_by(
+    pub(crate) fn take_owned(
         &mut self,
         answering: Answering,
         piece: &[u8],
@@ -174,6 +218,44 @@ impl Session {
         ensures kept { OnErr result ((self.new ≡ self.old) × (out.new.items ≡ out.old.items)) }
         ensures memory { OnErr result (WantsMemory (reply_by answering) self.old piece.now) }
     {
-        self.state.take_by(answering, piece, key, out)
+        self.room.clear();
+        let taken = self
+            .state
+            .take_by(answering, piece, key, out, &mut self.room)?;
+        Ok(Taken {
+            used: taken.used,
+            event: self.room.event(),
+        })
+    }
+
+    /// The same, and leaves what it tells in the room.
+    pub(crate) fn take_by(
+        &mut self,
+        answering: Answering,
+        piece: &[u8],
+        key: [u8; 4],
+        out: &mut Vec<u8>,
+        room: &mut EventRoom,
+    ) -> Result<TakenInto, NoMemory>
+        requires can { CanAnswer answering self.old.sending }
+        requires nothing { room.old ≡ None }
+        ensures taken { IfOk result (λ taken. HasTaken (reply_by answering) self.old self.new
+            (record { piece = piece.now; key = key; before = out.old.items; after = out.new.items })
+            (record { used = taken.used; event = room.new })) }
+        ensures over { is_over self.old.status ≡ true → IsOkAnd result (λ taken. TakesNothing self.old self.new
+            (record { piece = piece.now; key = key; before = out.old.items; after = out.new.items })
+            (record { used = taken.used; event = room.new })) }
+        ensures kind { IfOk result (λ taken. event_if_any taken.event (payload_in room.new) ≡ room.new) }
+        ensures held { IfOk result (λ taken. length (payload_in room.new) + (length (open_payload self.new.opened)
+            + length self.new.partial_frame) ≤ self.new.limits.max_message + most_beside) }
+        ensures role { self.new.role ≡ self.old.role }
+        ensures limits { self.new.limits ≡ self.old.limits }
+        ensures used { IfOk result (λ taken. (0 < length piece.now → 0 < taken.used)
+            × (taken.used ≤ length piece.now)) }
+        ensures sending { self.new.sending ≡ self.old.sending }
+        ensures kept { OnErr result ((self.new ≡ self.old) × (out.new.items ≡ out.old.items)) }
+        ensures memory { OnErr result (WantsMemory (reply_by answering) self.old piece.now) }
+    {
+        self.state.take_by(answering, piece, key, out, room)
     }
 }

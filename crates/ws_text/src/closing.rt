@@ -9,13 +9,21 @@ ghost use Rattle.ws_text.specs.declared.closing.CloseFault.TheVariants.{OneByte,
 use std::error::Error;
 use std::fmt;
 use std::marker::Model;
-use ws_base::{EIGHT_VECTORS, FewBytes};
+use ws_base::PackedBytes;
 
 /// The most payload bytes of a control frame (section 5.5).
 pub const MAX_CONTROL_PAYLOAD: usize = 125;
 
 /// The most bytes of a close reason: what a control frame holds beside the code.
 pub const MAX_REASON: usize = 123;
+
+/// How many bytes fill eight vectors of sixteen bytes together with the byte of their length. So many are copied vector
+/// by vector. What is longer than a vector and no multiple of it ends in one that overlaps the one before it, and a
+/// copy of that copy has to wait for both.
+const EIGHT_VECTORS: usize = 127;
+
+/// Room for the payload of a control frame, or for the reason of a close, kept in place.
+pub type ControlBytes = PackedBytes<EIGHT_VECTORS>;
 
 /// Whether the code may be sent in a close frame, and is accepted in one: 1000 to 1003, 1007 to 1014
 /// and 3000 to 4999 (section 7.4). The others are reserved, or stand for a close of which no frame
@@ -39,7 +47,7 @@ pub fn code_may_begin(high: u8) -> bool
 #[derive(Clone, Copy)]
 pub struct Close {
     code: u16,
-    reason: FewBytes<EIGHT_VECTORS>,
+    reason: ControlBytes,
 }
 
 impl Model for Close {
@@ -76,7 +84,7 @@ impl Close {
     {
         Close {
             code,
-            reason: FewBytes::of(reason.as_bytes()),
+            reason: ControlBytes::of(reason.as_bytes()),
         }
     }
 }

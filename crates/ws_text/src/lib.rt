@@ -11,6 +11,7 @@ mod unfinished;
 mod whole;
 
 pub use closing::{
-    Close, CloseFault, ClosePayload, MAX_CONTROL_PAYLOAD, MAX_REASON, code_allowed, code_may_begin,
+    Close, CloseFault, ClosePayload, ControlBytes, MAX_CONTROL_PAYLOAD, MAX_REASON, code_allowed,
+    code_may_begin,
 };
 pub use streaming::Utf8Stream;

@@ -1,7 +1,9 @@
 -- Worked examples, each a theorem: those of RFC 6455 section 5.7.
 use Rattle.std.specs.Prelude.{◌≡◌, ℕ, true, false, List, [], ◌∷◌, None, Some, refl, Bool, Option, codes}
 use Rattle.ws_wire.specs.declared.header.Form.TheVariants.{Short, Two, Eight}
+use Rattle.ws_wire.specs.declared.opcode.Opcode.TheVariants.{Text, Ping, Pong, Reserved}
 use Rattle.ws_wire.specs.Header.{header_bytes, shortest_form}
+use Rattle.ws_wire.specs.Opcode.{opcode_number, opcode_from_number}
 use Rattle.ws_wire.specs.Masking.{masked}
 use Rattle.ws_wire.specs.Frame.{KeyedFrame, frame_bytes, stream_bytes}
 
@@ -42,6 +44,29 @@ pub odd_header :
     header_bytes (record { fin = false; rsv = 7; opcode = 15; key = Some standard_key; len = 5; form = Two })
     ≡ 0x7f ∷ 0xfe ∷ 0x00 ∷ 0x05 ∷ 0x37 ∷ 0xfa ∷ 0x21 ∷ 0x3d ∷ []
 odd_header = refl
+
+-- 1 begins a text, 10 is a pong's number, and 3, 7 and 11 are reserved
+pub text_from_1 : opcode_from_number 1 ≡ Text
+text_from_1 = refl
+
+pub pong_from_10 : opcode_from_number 10 ≡ Pong
+pong_from_10 = refl
+
+pub reserved_from_3 : opcode_from_number 3 ≡ Reserved 3
+reserved_from_3 = refl
+
+pub reserved_to_7 : opcode_from_number 7 ≡ Reserved 7
+reserved_to_7 = refl
+
+pub reserved_from_11 : opcode_from_number 11 ≡ Reserved 11
+reserved_from_11 = refl
+
+-- a ping's number is 9, and a reserved opcode has its own
+pub number_of_ping : opcode_number Ping ≡ 9
+number_of_ping = refl
+
+pub number_of_reserved : opcode_number (Reserved 12) ≡ 12
+number_of_reserved = refl
 
 -- a frame with FIN, if so, and no reserved bit
 abbrev sent : Bool → ℕ → List ℕ → Option (List ℕ) → KeyedFrame

@@ -3,7 +3,9 @@
 ghost use Rattle.std.specs.Prelude.{◌≡◌, ◌<◌, ◌≤◌, ◌^◌, length, MatchOption, IfSome, Some, IsTrue, ◌↔◌};
 ghost use Rattle.ws_wire.specs.Header.{CanHold, HeaderFields, IsHeader, IsMaskingKey, IsShortestForm, form_word};
 ghost use Rattle.ws_wire.specs.Header.{shortest_form, is_longer_than_needed};
+ghost use Rattle.ws_wire.specs.Opcode.{IsOpcode};
 
+use crate::opcode::Opcode;
 use std::fmt;
 use std::marker::Model;
 
@@ -77,26 +79,28 @@ impl fmt::Display for Form {
 }
 
 /// A frame's header. The reserved bits are at most 7, the opcode is at most 15, and the form can
-/// hold the length.
+/// hold the length. The opcode is decoded once, as the header is made.
 #[derive(Clone, Copy)]
 pub struct Header {
+    // in this order no byte is lost before `len`, which stands at a multiple of eight: 24 bytes in all
     fin: bool,
-    rsv: u8,
-    opcode: u8,
+    kind: Opcode,
     key: Option<[u8; 4]>,
     len: u64,
+    rsv: u8,
     form: Form,
 }
 
 impl Model for Header {
     ghost use Rattle.ws_wire.specs.Header.{HeaderFields, IsHeader};
+    ghost use Rattle.ws_wire.specs.Opcode.{IsOpcode, opcode_number, opcode_from_number};
 
     ghost Value = { HeaderFields };
 
     ghost view = { λ h. record {
       fin = h.fin;
       rsv = h.rsv;
-      opcode = h.opcode;
+      opcode = opcode_number h.kind;
       key = h.key;
       len = h.len;
       form = h.form;
@@ -105,16 +109,16 @@ impl Model for Header {
     ghost invariant = { λ h. IsHeader (record {
       fin = h.fin;
       rsv = h.rsv;
-      opcode = h.opcode;
+      opcode = opcode_number h.kind;
       key = h.key;
       len = h.len;
       form = h.form;
-    }) };
+    }) × IsOpcode h.kind (opcode_number h.kind) };
 
     ghost inverse = { λ h. record {
       fin = h.fin;
       rsv = h.rsv;
-      opcode = h.opcode;
+      kind = opcode_from_number h.opcode;
       key = h.key;
       len = h.len;
       form = h.form;
@@ -145,7 +149,7 @@ impl Header {
         Some(Header {
             fin,
             rsv,
-            opcode,
+            kind: Opcode::of(opcode),
             key,
             len,
             form,
@@ -189,7 +193,14 @@ impl Header {
         ensures value { result ≡ self.now.opcode }
         ensures bound { result < 16 }
     {
-        self.opcode
+        Opcode::number(self.kind)
+    }
+
+    /// What the frame is, by its opcode.
+    pub fn kind(&self) -> Opcode
+        ensures { IsOpcode result self.now.opcode }
+    {
+        self.kind
     }
 
     /// The masking key, where MASK is set.

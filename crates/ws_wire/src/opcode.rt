@@ -1,8 +1,9 @@
 //! What a frame is, by the opcode of its header (RFC 6455 section 5.2).
 
-ghost use Rattle.ws_wire.specs.Opcode.{IsOpcode};
+ghost use Rattle.std.specs.Prelude.{◌≡◌};
+ghost use Rattle.ws_wire.specs.Opcode.{IsOpcode, opcode_number};
 
-/// What a frame is. A header has the number, and all that compares opcodes this.
+/// What a frame is. The wire has the number, and all that compares opcodes this.
 #[derive(Clone, Copy)]
 pub enum Opcode {
     /// The next frame of the open message.
@@ -31,6 +32,21 @@ impl Opcode {
             9 => Opcode::Ping,
             10 => Opcode::Pong,
             other => Opcode::Reserved(other),
+        }
+    }
+
+    /// Its number.
+    pub(crate) fn number(self) -> u8
+        ensures { result ≡ opcode_number self }
+    {
+        match self {
+            Opcode::Continuation => 0,
+            Opcode::Text => 1,
+            Opcode::Binary => 2,
+            Opcode::Close => 8,
+            Opcode::Ping => 9,
+            Opcode::Pong => 10,
+            Opcode::Reserved(other) => other,
         }
     }
 }

@@ -1,18 +1,20 @@
 //! The message that is open on the receiving side, and the payload of the frame under way after it (RFC 6455
 //! section 5.4).
 
-ghost use Rattle.std.specs.Prelude.{◌≡◌, ◌↔◌, ◌+◌, ◌≤◌, ◌<◌, ◌++◌, ◌∷◌, [], length, drop, is_some, IsTrue};
-ghost use Rattle.std.specs.Prelude.{OnOk, OnErr, Some, None};
+ghost use Rattle.std.specs.Prelude.{◌≡◌, ◌↔◌, ◌+◌, ◌≤◌, ◌<◌, ◌++◌, [], length, drop, is_some, IsTrue};
+ghost use Rattle.std.specs.Prelude.{IfOk, OnOk, OnErr, Some, None};
 ghost use Rattle.ws_text.specs.Stream.{HasReadText};
+ghost use Rattle.ws_session.specs.declared.event.Event.TheVariants.{Message};
 ghost use Rattle.ws_session.specs.Faults.{open_payload, IsOpenText};
 ghost use Rattle.ws_session.specs.InnerMasked.{masked_from};
 ghost use Rattle.ws_session.specs.InnerReceiving.{HasKept, IsJoined, first_bytes, frame_payload, kind_with};
 
-use crate::message::{Kind, Message};
+use crate::control_payload::unmasked;
+use crate::event_room::EventRoom;
+use crate::message::Kind;
 use std::alloc::Global;
 use std::marker::Model;
-use std::mem::replace;
-use ws_base::{NoMemory, Payload};
+use ws_base::NoMemory;
 use ws_text::Utf8Stream;
 use ws_wire::mask;
 
@@ -57,6 +59,11 @@ impl Assembly {
             payload: Vec::new(alloc),
             text: Utf8Stream::new(),
         }
+    }
+
+    /// What it asks for memory.
+    pub(crate) fn alloc(&self) -> Global {
+        self.alloc
     }
 
     pub(crate) fn is_open(&self) -> bool
@@ -133,8 +140,11 @@ impl Assembly {
         came: usize,
         key: Option<[u8; 4]>,
         bytes: &[u8],
+        room: &mut EventRoom,
     ) -> Result<(), NoMemory>
-        requires { length self.old.payload ≡ length (open_payload self.old.opened) + came }
+        requires exact { length self.old.payload ≡ length (open_payload self.old.opened) + came }
+        requires nothing { room.old ≡ None }
+        ensures nothing { room.new ≡ None }
         ensures opened { self.new.opened ≡ self.old.opened }
         ensures text { self.new.text ≡ self.old.text }
         ensures added { OnOk result (self.new.payload ≡ first_bytes self.old came ++ masked_from key came bytes.now) }
@@ -143,7 +153,7 @@ impl Assembly {
         ensures joined { IsJoined self.new }
         ensures size { length self.new.payload ≤ length (open_payload self.old.opened) + came + length bytes.now }
     {
-        append_masked(&mut self.payload, came % 4, key, bytes)?;
+        append_in_room(&mut self.payload, room, came % 4, key, bytes)?;
         Ok(())
     }
 
@@ -168,21 +178,34 @@ impl Assembly {
         self.text = text;
     }
 
-    /// A message has ended: it is all that was kept.
-    pub(crate) fn on_message(&mut self, kind: Kind) -> Message
-        ensures message { result ≡ record { kind = kind; payload = self.old.payload } }
+    /// A message has ended, which is all that was kept: it is told.
+    pub(crate) fn on_message(&mut self, kind: Kind, room: &mut EventRoom)
+        requires { room.old ≡ None }
+        ensures told { room.new ≡ Some (Message (record { kind = kind; payload = self.old.payload })) }
         ensures opened { self.new.opened ≡ None }
         ensures payload { self.new.payload ≡ [] }
         ensures text { HasReadText self.new.text [] }
     {
-        let payload = replace(&mut self.payload, Vec::new(self.alloc));
+        room.tell_message(kind, &mut self.payload);
         self.kind = None;
         self.text = Utf8Stream::new();
         self.before = 0;
-        Message {
-            kind,
-            payload: Payload::from_vec(payload),
-        }
+    }
+
+    /// The same again, with room for the bytes that are kept.
+    pub(crate) fn copy(&self) -> Result<Assembly, NoMemory>
+        ensures same { IfOk result (λ copy. copy ≡ self.now) }
+        ensures wants { OnErr result (0 < length self.now.payload) }
+    {
+        let mut payload = Vec::new(self.alloc);
+        payload.extend_from_slice(&self.payload)?;
+        Ok(Assembly {
+            alloc: self.alloc,
+            kind: self.kind,
+            before: self.before,
+            payload,
+            text: self.text,
+        })
     }
 
     /// All is over: nothing is kept any more.
@@ -193,6 +216,30 @@ impl Assembly {
     {
         *self = Assembly::new(self.alloc);
     }
+}
+
+/// The same as `append_masked`. Where nothing is kept yet, the memory that the room has for a message serves these
+/// bytes.
+#[inline(always)]
+fn append_in_room(
+    kept: &mut Vec<u8>,
+    room: &mut EventRoom,
+    phase: usize,
+    key: Option<[u8; 4]>,
+    bytes: &[u8],
+) -> Result<(), NoMemory>
+    requires phase { phase ≤ 3 }
+    requires nothing { room.old ≡ None }
+    ensures put { OnOk result (kept.new.items ≡ kept.old.items ++ masked_from key phase bytes.now) }
+    ensures kept { OnErr result (kept.new.items ≡ kept.old.items) }
+    ensures wants { OnErr result (0 < length bytes.now) }
+    ensures nothing { room.new ≡ None }
+{
+    if kept.is_empty() {
+        room.lend(kept);
+    }
+    append_masked(kept, phase, key, bytes)?;
+    Ok(())
 }
 
 /// Puts a part of a payload after other bytes, unmasked. `phase` is the place of its first byte in the payload,
@@ -219,14 +266,4 @@ fn append_masked(
         mask(key, phase, &mut kept[from..]);
     }
     Ok(())
-}
-
-/// The byte of a payload that has this place in it, unmasked.
-fn unmasked(key: Option<[u8; 4]>, place: usize, byte: u8) -> u8
-    ensures { result ∷ [] ≡ masked_from key place (byte ∷ []) }
-{
-    match key {
-        None => byte,
-        Some(key) => byte ^ key[place % 4],
-    }
 }

@@ -1,18 +1,19 @@
 //! What a piece makes of the frame under way, and of it alone: no byte behind that frame is looked at.
 
-ghost use Rattle.std.specs.Prelude.{◌≡◌, ◌≤◌, ◌++◌, ℕ, List, length, IfOk, OnErr};
+ghost use Rattle.std.specs.Prelude.{◌≡◌, ◌≤◌, ◌++◌, ℕ, List, length, None, IfOk, OnErr};
 ghost use Rattle.ws_session.specs.declared.receiver.under_way.UnderWay.TheVariants.{Header};
 ghost use Rattle.ws_wire.specs.Header.{AreBytes};
 ghost use Rattle.ws_session.specs.InnerReceiving.{IsUnderWay, IsExactly, HasNewData, partial_of, ShowsTheSame};
 ghost use Rattle.ws_session.specs.InnerReceiving.{IsPieceCheck, IsExactPiece};
 
+use crate::event_room::EventRoom;
 use crate::limits::Limits;
 use crate::receiver::assembly::Assembly;
 use crate::receiver::data_payload::check_data;
-use crate::receiver::frame_check::PieceCheck;
 use crate::receiver::header_end::complete_header;
 use crate::receiver::header_kind::is_data;
 use crate::receiver::header_rules::reason_at_header;
+use crate::receiver::piece_check::PieceCheck;
 use crate::receiver::under_way::UnderWay;
 use ws_base::NoMemory;
 use ws_wire::{Role, laws};
@@ -26,12 +27,15 @@ pub(super) fn check_piece(
     assembly: &mut Assembly,
     frame: &mut UnderWay,
     piece: &[u8],
+    room: &mut EventRoom,
 ) -> Result<Option<PieceCheck>, NoMemory>
     requires under_way { IsUnderWay role limits.now assembly.old frame.old }
     requires room { length assembly.old.payload ≤ limits.now.max_message }
     requires exact { IsExactly assembly.old frame.old }
+    requires nothing { room.old ≡ None }
     ensures checked { IfOk result (λ check. IsPieceCheck role limits.now assembly.old frame.old assembly.new frame.new
         piece.now check) }
+    ensures nothing { room.new ≡ None }
     ensures opened { assembly.new.opened ≡ assembly.old.opened }
     ensures under_way { IsUnderWay role limits.now assembly.new frame.new }
     ensures room { length assembly.new.payload ≤ limits.now.max_message }
@@ -45,7 +49,7 @@ pub(super) fn check_piece(
 {
     match frame {
         UnderWay::Data { header, came } => {
-            let Some(check) = check_data(assembly, header, *came, 0, piece)? else {
+            let Some(check) = check_data(assembly, header, *came, 0, piece, room)? else {
                 *came += piece.len();
                 return Ok(None);
             };
@@ -55,7 +59,7 @@ pub(super) fn check_piece(
             header: *header,
             start: 0,
         })),
-        UnderWay::Header(_) => check_header(role, limits, assembly, frame, piece),
+        UnderWay::Header(_) => check_header(role, limits, assembly, frame, piece, room),
     }
 }
 
@@ -67,13 +71,16 @@ fn check_header(
     assembly: &mut Assembly,
     frame: &mut UnderWay,
     piece: &[u8],
+    room: &mut EventRoom,
 ) -> Result<Option<PieceCheck>, NoMemory>
     requires header { (kept : List ℕ) × (frame.old ≡ Header kept) }
     requires under_way { IsUnderWay role limits.now assembly.old frame.old }
     requires room { length assembly.old.payload ≤ limits.now.max_message }
     requires exact { IsExactly assembly.old frame.old }
+    requires nothing { room.old ≡ None }
     ensures checked { IfOk result (λ check. IsPieceCheck role limits.now assembly.old frame.old assembly.new frame.new
         piece.now check) }
+    ensures nothing { room.new ≡ None }
     ensures opened { assembly.new.opened ≡ assembly.old.opened }
     ensures under_way { IsUnderWay role limits.now assembly.new frame.new }
     ensures room { length assembly.new.payload ≤ limits.now.max_message }
@@ -104,7 +111,7 @@ fn check_header(
         }));
     }
     let rest = &piece[end.used..];
-    let Some(check) = check_data(assembly, &end.header, 0, end.used, rest)? else {
+    let Some(check) = check_data(assembly, &end.header, 0, end.used, rest, room)? else {
         frame.begin_data(&end.header, rest.len());
         return Ok(None);
     };

@@ -8,13 +8,14 @@ ghost use Rattle.ws_session.specs.Messages.{kind_of};
 ghost use Rattle.ws_session.specs.Faults.{IsOfText, open_payload};
 ghost use Rattle.ws_session.specs.InnerReceiving.{HasKept, IsJoined, first_bytes, frame_payload, arrived_payload};
 ghost use Rattle.ws_session.specs.InnerReceiving.{IsDataCheck, IsTextRead, IsTextFault, kind_with};
-ghost use Rattle.ws_session.specs.declared.receiver.frame_check.PieceCheck.TheVariants.{Whole};
+ghost use Rattle.ws_session.specs.declared.receiver.piece_check.PieceCheck.TheVariants.{Whole};
 
+use crate::event_room::EventRoom;
 use crate::message::Kind;
 use crate::reason::Reason;
 use crate::receiver::assembly::Assembly;
-use crate::receiver::frame_check::PieceCheck;
 use crate::receiver::header_kind::{begins_text, continues_message};
+use crate::receiver::piece_check::PieceCheck;
 use ws_base::NoMemory;
 use ws_text::Utf8Stream;
 use ws_wire::Header;
@@ -29,6 +30,7 @@ pub(super) fn check_data(
     came: usize,
     start: usize,
     rest: &[u8],
+    room: &mut EventRoom,
 ) -> Result<Option<PieceCheck>, NoMemory>
     requires opcode { header.now.opcode ≤ 2 }
     requires begins { 1 ≤ header.now.opcode → assembly.old.opened ≡ None }
@@ -37,6 +39,8 @@ pub(super) fn check_data(
     requires read { IsOfText assembly.old.opened header.now →
         HasReadText assembly.old.text (first_bytes assembly.old came) }
     requires room { start + length rest.now < 2 ^ 64 }
+    requires nothing { room.old ≡ None }
+    ensures nothing { room.new ≡ None }
     ensures checked { IfOk result (λ check. IsDataCheck header.now came start (length rest.now) assembly.old
         assembly.new check) }
     ensures payload { OnOk result (frame_payload assembly.new
@@ -51,7 +55,7 @@ pub(super) fn check_data(
 {
     let left = header.payload_len() - came as u64;
     let here = left.min(rest.len() as u64) as usize;
-    assembly.add(came, header.key(), &rest[..here])?;
+    assembly.add(came, header.key(), &rest[..here], room)?;
     let goes_on = (here as u64) < left;
     if !is_of_text(assembly, header) {
         if goes_on {
@@ -102,6 +106,7 @@ fn kind_of_opcode(header: &Header) -> Kind
 
 /// Checks the bytes that are new of a payload that belongs to a text: the stream that has read the message with them,
 /// or what is wrong and after how many of them.
+#[inline(always)]
 fn check_text(
     assembly: &Assembly,
     header: &Header,

@@ -1,187 +1,185 @@
 //! What a whole frame or a fault does to the receiving side, and what is put for it (RFC 6455 sections 5.4, 5.5 and
 //! 7.1). What is owed is put first: where memory is refused nothing has changed.
 
-ghost use Rattle.std.specs.Prelude.{◌≡◌, ◌≤◌, length, if◌then◌else◌, IfOk, OnErr, Some, None};
+ghost use Rattle.std.specs.Prelude.{◌≡◌, ◌≢◌, ◌≤◌, ◌++◌, [], length, if◌then◌else◌, OnOk, OnErr, Some, None};
 ghost use Rattle.ws_session.specs.declared.event.Event.TheVariants as Event;
 ghost use Rattle.ws_session.specs.Faults.{open_payload};
 ghost use Rattle.ws_session.specs.InnerAssembly.{IsTextOf, HasReadOpen};
-ghost use Rattle.ws_session.specs.InnerReceiver.{IsSoundReceiver, HasReceived, IsContentKept, FitsLimit};
-ghost use Rattle.ws_session.specs.InnerReceiver.{IsOwed, IsExact, IsExactFor, kept_message, telling};
-ghost use Rattle.ws_session.specs.InnerReceiver.{event_of_kept, opened_by};
+ghost use Rattle.ws_session.specs.declared.limits.TheConstants.{MAX_MESSAGE};
+ghost use Rattle.ws_session.specs.declared.session.Answering.TheVariants.{Echoing};
+ghost use Rattle.ws_session.specs.Lent.{payload_in};
+ghost use Rattle.ws_session.specs.InnerNextFrame.{due_at};
+ghost use Rattle.ws_session.specs.InnerInvariant.{reply_to_message};
+ghost use Rattle.ws_session.specs.InnerReplying.{bytes_put};
+ghost use Rattle.ws_session.specs.InnerReceiver.{IsSoundReceiver, HasReceived, IsOwed, IsExact, kept_message};
 
-use crate::control_payload::Small;
-use crate::event::{Event, Taken};
+use crate::event_room::EventRoom;
 use crate::message::Kind;
 use crate::opcode::{CLOSE, PONG};
 use crate::reason::Reason;
 use crate::receiver::Receiver;
-use crate::receiver::frame_check::Content;
 use crate::replying::Replying;
+use crate::session::Answering;
+use crate::status::Status;
 use ws_base::NoMemory;
 use ws_text::{Close, Utf8Stream};
 
 impl Receiver {
-    /// A whole frame has come with the first `used` bytes of a piece.
-    pub(super) fn on_content(
-        &mut self,
-        used: usize,
-        content: Content,
-        replying: &Replying,
-        out: &mut Vec<u8>,
-    ) -> Result<Taken, NoMemory>
-        requires sound { IsSoundReceiver self.old }
-        requires read { IsContentKept self.old content }
-        requires fits { FitsLimit self.old content }
-        requires exact { IsExactFor self.old content }
-        ensures told { IfOk result (λ taken. taken ≡ telling used (event_of_kept self.old content)) }
-        ensures received { IfOk result (λ taken. HasReceived replying.now self.old self.new
-            out.old.items out.new.items (event_of_kept self.old content) (opened_by self.old content)) }
-        ensures sound { IsSoundReceiver self.new }
-        ensures exact { IfOk result (λ taken. IsExact self.new) }
-        ensures room { IfOk result (λ taken. length self.new.assembled ≤ self.new.limits.max_message) }
-        ensures kept { OnErr result ((self.new ≡ self.old) × (out.new.items ≡ out.old.items)) }
-        ensures owed { OnErr result (IsOwed replying.now (event_of_kept self.old content)) }
-    {
-        match content {
-            Content::Data { fin, kind, text } => self.on_data(used, fin, kind, text, replying, out),
-            Content::Ping(payload) => self.on_ping(used, payload, replying, out),
-            Content::Pong(payload) => {
-                self.frame.end();
-                Ok(Taken {
-                    used,
-                    event: Some(Event::Pong(payload)),
-                })
-            }
-            Content::Close(close) => self.on_close(used, close, replying, out),
-        }
-    }
-
-    /// A whole data frame has come with the first `used` bytes of a piece: a fragment, or a message that is handed out
-    /// as it stands in the assembly.
+    /// A whole data frame has come: a fragment, or a message that is told as it stands in the assembly.
     #[inline(always)]
     pub(super) fn on_data(
         &mut self,
-        used: usize,
         fin: bool,
         kind: Kind,
         text: Utf8Stream,
-        replying: &Replying,
+        status: &Status,
+        answering: Answering,
+        key: [u8; 4],
         out: &mut Vec<u8>,
-    ) -> Result<Taken, NoMemory>
+        room: &mut EventRoom,
+    ) -> Result<(), NoMemory>
         requires sound { IsSoundReceiver self.old }
         requires read { IsTextOf (kept_message self.old kind) text }
         requires fits { length self.old.assembled ≤ self.old.limits.max_message }
-        ensures told { IfOk result (λ taken. taken
-            ≡ telling used (if fin then Event.Message (kept_message self.old kind) else Event.Part)) }
-        ensures received { IfOk result (λ taken. HasReceived replying.now self.old self.new
+        requires nothing { room.old ≡ None }
+        ensures told { OnOk result (room.new
+            ≡ Some (if fin then Event.Message (kept_message self.old kind) else Event.Part)) }
+        ensures received { OnOk result (HasReceived
+            (record { role = self.old.role; status = status.now; answering = answering; key = key }) self.old self.new
             out.old.items out.new.items (if fin then Event.Message (kept_message self.old kind) else Event.Part)
             (if fin then None else Some (kept_message self.old kind))) }
         ensures sound { IsSoundReceiver self.new }
-        ensures exact { IfOk result (λ taken. IsExact self.new) }
-        ensures room { IfOk result (λ taken. length self.new.assembled ≤ self.new.limits.max_message) }
+        ensures exact { OnOk result (IsExact self.new) }
+        ensures room { OnOk result (length self.new.assembled ≤ self.new.limits.max_message) }
         ensures kept { OnErr result ((self.new ≡ self.old) × (out.new.items ≡ out.old.items)) }
-        ensures owed { OnErr result (IsOwed replying.now
+        ensures owed { OnErr result (IsOwed
+            (record { role = self.old.role; status = status.now; answering = answering; key = key })
             (if fin then Event.Message (kept_message self.old kind) else Event.Part)) }
     {
         if !fin {
             self.assembly.on_fragment(kind, text);
             self.frame.end();
-            return Ok(Taken {
-                used,
-                event: Some(Event::Part),
-            });
+            room.tell_part();
+            return Ok(());
         }
-        replying.reply_to_message(kind, self.assembly.payload(), out)?;
-        let message = self.assembly.on_message(kind);
+        if answering == Answering::Echoing {
+            self.send_back(kind, status, key, out)?;
+        }
+        self.assembly.on_message(kind, room);
         self.frame.end();
-        Ok(Taken {
-            used,
-            event: Some(Event::Message(message)),
-        })
+        Ok(())
     }
 
-    /// A ping has come.
+    /// Sends the message back that stands in the assembly.
+    #[inline(never)]
+    fn send_back(
+        &self,
+        kind: Kind,
+        status: &Status,
+        key: [u8; 4],
+        out: &mut Vec<u8>,
+    ) -> Result<(), NoMemory>
+        requires fits { length self.now.assembled ≤ self.now.limits.max_message }
+        requires limit { self.now.limits.max_message ≤ MAX_MESSAGE }
+        ensures put { OnOk result (out.new.items ≡ out.old.items ++ bytes_put
+            (record { role = self.now.role; status = status.now; answering = Echoing; key = key })
+            (reply_to_message Echoing (kept_message self.now kind))) }
+        ensures kept { OnErr result (out.new.items ≡ out.old.items) }
+        ensures owed { OnErr result (due_at status.now (reply_to_message Echoing (kept_message self.now kind)) ≢ []) }
+    {
+        let replying = Replying {
+            role: self.role,
+            status: *status,
+            answering: Answering::Echoing,
+            key,
+        };
+        replying.reply_to_message(kind, self.assembly.payload(), out)?;
+        Ok(())
+    }
+
+    /// A ping has come, whose payload lies in the room.
     pub(super) fn on_ping(
         &mut self,
-        used: usize,
-        payload: Small,
         replying: &Replying,
         out: &mut Vec<u8>,
-    ) -> Result<Taken, NoMemory>
+        room: &EventRoom,
+    ) -> Result<(), NoMemory>
         requires sound { IsSoundReceiver self.old }
         requires read { HasReadOpen self.old.opened self.old.text }
         requires exact { length self.old.assembled ≡ length (open_payload self.old.opened) }
-        ensures told { IfOk result (λ taken. taken ≡ telling used (Event.Ping payload)) }
-        ensures received { IfOk result (λ taken. HasReceived replying.now self.old self.new
-            out.old.items out.new.items (Event.Ping payload) self.old.opened) }
+        requires short { length (payload_in room.now) ≤ 125 }
+        ensures received { OnOk result (HasReceived replying.now self.old self.new
+            out.old.items out.new.items (Event.Ping (payload_in room.now)) self.old.opened) }
         ensures sound { IsSoundReceiver self.new }
-        ensures exact { IfOk result (λ taken. IsExact self.new) }
-        ensures room { IfOk result (λ taken. length self.new.assembled ≤ self.new.limits.max_message) }
+        ensures exact { OnOk result (IsExact self.new) }
+        ensures room { OnOk result (length self.new.assembled ≤ self.new.limits.max_message) }
         ensures kept { OnErr result ((self.new ≡ self.old) × (out.new.items ≡ out.old.items)) }
-        ensures owed { OnErr result (IsOwed replying.now (Event.Ping payload)) }
+        ensures owed { OnErr result (IsOwed replying.now (Event.Ping (payload_in room.now))) }
     {
-        replying.reply(PONG, payload.as_slice(), out)?;
+        replying.reply(PONG, room.payload(), out)?;
         self.frame.end();
-        Ok(Taken {
-            used,
-            event: Some(Event::Ping(payload)),
-        })
+        Ok(())
+    }
+
+    /// A pong has come.
+    pub(super) fn on_pong(&mut self)
+        requires sound { IsSoundReceiver self.old }
+        requires read { HasReadOpen self.old.opened self.old.text }
+        requires exact { length self.old.assembled ≡ length (open_payload self.old.opened) }
+        ensures opened { self.new.opened ≡ self.old.opened }
+        ensures partial { self.new.partial_frame ≡ [] }
+        ensures role { self.new.role ≡ self.old.role }
+        ensures limits { self.new.limits ≡ self.old.limits }
+        ensures sound { IsSoundReceiver self.new }
+        ensures exact { IsExact self.new }
+    {
+        self.frame.end();
     }
 
     /// The other's close frame has come.
-    fn on_close(
+    pub(super) fn on_close(
         &mut self,
-        used: usize,
-        close: Option<Close>,
+        close: &Option<Close>,
         replying: &Replying,
         out: &mut Vec<u8>,
-    ) -> Result<Taken, NoMemory>
+    ) -> Result<(), NoMemory>
         requires sound { IsSoundReceiver self.old }
-        ensures told { IfOk result (λ taken. taken ≡ telling used (Event.Close close)) }
-        ensures received { IfOk result (λ taken. HasReceived replying.now self.old self.new
-            out.old.items out.new.items (Event.Close close) None) }
+        ensures received { OnOk result (HasReceived replying.now self.old self.new
+            out.old.items out.new.items (Event.Close close.now) None) }
         ensures sound { IsSoundReceiver self.new }
-        ensures exact { IfOk result (λ taken. IsExact self.new) }
-        ensures room { IfOk result (λ taken. length self.new.assembled ≤ self.new.limits.max_message) }
+        ensures exact { OnOk result (IsExact self.new) }
+        ensures room { OnOk result (length self.new.assembled ≤ self.new.limits.max_message) }
         ensures kept { OnErr result ((self.new ≡ self.old) × (out.new.items ≡ out.old.items)) }
-        ensures owed { OnErr result (IsOwed replying.now (Event.Close close)) }
+        ensures owed { OnErr result (IsOwed replying.now (Event.Close close.now)) }
     {
-        match &close {
+        match close {
             None => replying.reply(CLOSE, &[], out)?,
             Some(given) => replying.reply(CLOSE, &given.code().to_be_bytes(), out)?,
         }
         self.end();
-        Ok(Taken {
-            used,
-            event: Some(Event::Close(close)),
-        })
+        Ok(())
     }
 
-    /// The bytes break a rule, at the last of the first `used` of a piece.
+    /// The bytes break a rule.
     #[cold]
     #[inline(never)]
     pub(super) fn on_fault(
         &mut self,
-        used: usize,
         reason: Reason,
         replying: &Replying,
         out: &mut Vec<u8>,
-    ) -> Result<Taken, NoMemory>
+    ) -> Result<(), NoMemory>
         requires sound { IsSoundReceiver self.old }
-        ensures told { IfOk result (λ taken. taken ≡ telling used (Event.Failed reason)) }
-        ensures received { IfOk result (λ taken. HasReceived replying.now self.old self.new
+        ensures received { OnOk result (HasReceived replying.now self.old self.new
             out.old.items out.new.items (Event.Failed reason) None) }
         ensures sound { IsSoundReceiver self.new }
-        ensures exact { IfOk result (λ taken. IsExact self.new) }
-        ensures room { IfOk result (λ taken. length self.new.assembled ≤ self.new.limits.max_message) }
+        ensures exact { OnOk result (IsExact self.new) }
+        ensures room { OnOk result (length self.new.assembled ≤ self.new.limits.max_message) }
         ensures kept { OnErr result ((self.new ≡ self.old) × (out.new.items ≡ out.old.items)) }
         ensures owed { OnErr result (IsOwed replying.now (Event.Failed reason)) }
     {
         replying.reply(CLOSE, &reason.close_code().to_be_bytes(), out)?;
         self.end();
-        Ok(Taken {
-            used,
-            event: Some(Event::Failed(reason)),
-        })
+        Ok(())
     }
 }

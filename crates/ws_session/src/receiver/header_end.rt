@@ -6,7 +6,10 @@ ghost use Rattle.ws_wire.specs.Reading.{Begins, BeginsNoHeader};
 ghost use Rattle.ws_session.specs.InnerReceiving.{CompletesHeader};
 
 use crate::control_payload::Small;
-use ws_wire::{Header, HeaderRead, laws, read_header};
+use ws_wire::{HeadBytes, Header, HeaderRead, laws, read_header};
+
+/// The most bytes of a header.
+pub(super) const MAX_HEADER: usize = 14;
 
 /// Where a header ends.
 #[derive(Clone, Copy)]
@@ -27,33 +30,33 @@ pub(super) fn complete_header(kept: &Small, piece: &[u8]) -> Option<HeaderEnd>
     if kept.as_slice().is_empty() {
         return header_at(piece);
     }
-    complete_by_byte(kept, piece)
+    complete_cut(kept, piece)
 }
 
-/// The same, where the header has begun in earlier pieces: byte by byte.
+/// The same, where the header has begun in earlier pieces: of these and this one as much is put together as a header
+/// takes.
 #[inline(never)]
-fn complete_by_byte(kept: &Small, piece: &[u8]) -> Option<HeaderEnd>
+fn complete_cut(kept: &Small, piece: &[u8]) -> Option<HeaderEnd>
     requires none { BeginsNoHeader kept.now }
     requires bytes { AreBytes kept.now }
     ensures { MatchOption result (BeginsNoHeader (kept.now ++ piece.now))
         (λ end. CompletesHeader kept.now piece.now end.header end.used) }
 {
-    let mut so_far = *kept;
-    for (i, byte) in piece.iter().enumerate() {
-        laws::fourteen_bytes_hold_a_header();
-        so_far.push(&[*byte]);
-        if let Some(end) = header_at(so_far.as_slice()) {
-            return Some(HeaderEnd {
-                header: end.header,
-                used: i + 1,
-            });
-        }
-    }
-    None
+    laws::fourteen_bytes_hold_a_header();
+    let came = kept.as_slice();
+    let front = piece.len().min(MAX_HEADER - came.len());
+    let mut bytes = HeadBytes::of(came);
+    bytes.push(&piece[..front]);
+    let end = header_at(bytes.as_slice())?;
+    Some(HeaderEnd {
+        header: end.header,
+        used: end.used - came.len(),
+    })
 }
 
 /// The header at the front of the bytes, and how many of them it takes. Whether its length is allowed is a rule of the
 /// session.
+#[inline(always)]
 fn header_at(bytes: &[u8]) -> Option<HeaderEnd>
     ensures { MatchOption result (BeginsNoHeader bytes.now) (λ end. Begins end.header end.used bytes.now) }
 {

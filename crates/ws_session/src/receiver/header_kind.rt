@@ -9,7 +9,7 @@ use ws_wire::{Header, Opcode};
 pub(super) fn is_data(header: &Header) -> bool
     ensures { IsTrue result ↔ (header.now.opcode ≤ 2) }
 {
-    match Opcode::of(header.opcode()) {
+    match header.kind() {
         Opcode::Continuation | Opcode::Text | Opcode::Binary => true,
         Opcode::Close | Opcode::Ping | Opcode::Pong | Opcode::Reserved(_) => false,
     }
@@ -19,7 +19,7 @@ pub(super) fn is_data(header: &Header) -> bool
 pub(super) fn is_control(header: &Header) -> bool
     ensures { IsTrue result ↔ IsControl header.now }
 {
-    match Opcode::of(header.opcode()) {
+    match header.kind() {
         Opcode::Close | Opcode::Ping | Opcode::Pong => true,
         Opcode::Continuation | Opcode::Text | Opcode::Binary | Opcode::Reserved(_) => false,
     }
@@ -29,7 +29,7 @@ pub(super) fn is_control(header: &Header) -> bool
 pub(super) fn is_close(header: &Header) -> bool
     ensures { IsTrue result ↔ (header.now.opcode ≡ 8) }
 {
-    matches!(Opcode::of(header.opcode()), Opcode::Close)
+    matches!(header.kind(), Opcode::Close)
 }
 
 /// Whether its opcode is reserved (section 5.2).
@@ -37,26 +37,26 @@ pub(super) fn is_reserved(header: &Header) -> bool
     ensures { IsTrue result
         ↔ (((3 ≤ header.now.opcode) × (header.now.opcode ≤ 7)) ⊎ (11 ≤ header.now.opcode)) }
 {
-    matches!(Opcode::of(header.opcode()), Opcode::Reserved(_))
+    matches!(header.kind(), Opcode::Reserved(_))
 }
 
 /// Whether it goes on with a message (section 5.4).
 pub(super) fn continues_message(header: &Header) -> bool
     ensures { IsTrue result ↔ (header.now.opcode ≡ 0) }
 {
-    matches!(Opcode::of(header.opcode()), Opcode::Continuation)
+    matches!(header.kind(), Opcode::Continuation)
 }
 
 /// Whether it begins a message (section 5.4).
 pub(super) fn begins_message(header: &Header) -> bool
     ensures { IsTrue result ↔ ((header.now.opcode ≡ 1) ⊎ (header.now.opcode ≡ 2)) }
 {
-    matches!(Opcode::of(header.opcode()), Opcode::Text | Opcode::Binary)
+    matches!(header.kind(), Opcode::Text | Opcode::Binary)
 }
 
 /// Whether it begins a text (section 5.6).
 pub(super) fn begins_text(header: &Header) -> bool
     ensures { IsTrue result ↔ (header.now.opcode ≡ 1) }
 {
-    matches!(Opcode::of(header.opcode()), Opcode::Text)
+    matches!(header.kind(), Opcode::Text)
 }

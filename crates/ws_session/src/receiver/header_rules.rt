@@ -32,6 +32,7 @@ const HEADER_REASONS: [Reason; 11] = [
 const BAD_LENGTH: u64 = 1 << 63;
 
 /// The lowest reason that applies at the end of a header.
+#[inline(always)]
 pub(super) fn reason_at_header(
     role: Role,
     limits: Limits,
@@ -41,9 +42,19 @@ pub(super) fn reason_at_header(
     ensures { MatchOption result (NoneAtHeader role limits assembly.now.opened header.now)
         (IsFirstAtHeader role limits assembly.now.opened header.now) }
 {
-    if is_fine_data(role, limits, assembly, header) {
+    if is_fine(role, limits, assembly, header) {
         return None;
     }
+    first_reason(role, limits, assembly, header)
+}
+
+/// The same, told by going through the reasons one by one.
+#[cold]
+#[inline(never)]
+fn first_reason(role: Role, limits: Limits, assembly: &Assembly, header: &Header) -> Option<Reason>
+    ensures { MatchOption result (NoneAtHeader role limits assembly.now.opened header.now)
+        (IsFirstAtHeader role limits assembly.now.opened header.now) }
+{
     for reason in HEADER_REASONS {
         if applies(role, limits, assembly, header, reason) {
             return Some(reason);
@@ -52,23 +63,31 @@ pub(super) fn reason_at_header(
     None
 }
 
-/// Whether it is the header of a data frame to which no reason applies, as most are: told without going through the
-/// reasons one by one.
-fn is_fine_data(role: Role, limits: Limits, assembly: &Assembly, header: &Header) -> bool
+/// Whether no reason applies to the header, as to most: told without going through the reasons one by one.
+#[inline(always)]
+fn is_fine(role: Role, limits: Limits, assembly: &Assembly, header: &Header) -> bool
     ensures { IsTrue result → NoneAtHeader role limits assembly.now.opened header.now }
 {
-    is_data(header)
-        && !applies(role, limits, assembly, header, Reason::ReservedBits)
-        && !applies(role, limits, assembly, header, Reason::MaskWrong)
-        && !applies(role, limits, assembly, header, Reason::NotShortest)
-        && !applies(role, limits, assembly, header, Reason::BadLength)
-        && !applies(role, limits, assembly, header, Reason::NothingToContinue)
-        && !applies(role, limits, assembly, header, Reason::MessageOpen)
-        && !applies(role, limits, assembly, header, Reason::TooBig)
-        && !applies(role, limits, assembly, header, Reason::FrameBig)
+    let breaks = applies(role, limits, assembly, header, Reason::ReservedBits)
+        || applies(role, limits, assembly, header, Reason::MaskWrong)
+        || applies(role, limits, assembly, header, Reason::NotShortest)
+        || applies(role, limits, assembly, header, Reason::BadLength);
+    if breaks {
+        return false;
+    }
+    if is_data(header) {
+        return !applies(role, limits, assembly, header, Reason::NothingToContinue)
+            && !applies(role, limits, assembly, header, Reason::MessageOpen)
+            && !applies(role, limits, assembly, header, Reason::TooBig)
+            && !applies(role, limits, assembly, header, Reason::FrameBig);
+    }
+    is_control(header)
+        && !applies(role, limits, assembly, header, Reason::ControlCut)
+        && !applies(role, limits, assembly, header, Reason::ControlLong)
 }
 
 /// Whether the reason applies at the end of the header. The reasons of a payload never do.
+#[inline(always)]
 fn applies(role: Role, limits: Limits, assembly: &Assembly, header: &Header, reason: Reason) -> bool
     ensures { IsTrue result ↔ AppliesAtHeader role limits assembly.now.opened header.now reason }
 {

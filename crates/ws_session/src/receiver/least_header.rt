@@ -10,10 +10,8 @@ ghost use Rattle.ws_session.specs.Limits.{LimitsValue};
 ghost use Rattle.ws_session.specs.Faults.{expects_key};
 ghost use Rattle.ws_session.specs.LeastHeader.{IsLeastHeader, AreLeastBytes, HasLeastLength};
 
+use crate::receiver::header_end::MAX_HEADER;
 use ws_wire::{Header, HeaderRead, Role, laws, read_header};
-
-/// The most bytes of a header.
-const MAX_HEADER: usize = 14;
 
 /// The bit of MASK in the second byte.
 const MASK_BIT: u8 = 0x80;

@@ -1,8 +1,9 @@
 //! The frame that has begun to come and isn't whole (RFC 6455 section 5.2).
 
-ghost use Rattle.std.specs.Prelude.{◌≡◌, ◌^◌, ◌≤◌, ◌<◌, [], length, false};
-ghost use Rattle.ws_session.specs.declared.receiver.under_way.UnderWay.TheVariants.{Data};
+ghost use Rattle.std.specs.Prelude.{◌≡◌, ◌^◌, ◌+◌, ◌≤◌, ◌<◌, ◌++◌, [], length, false};
+ghost use Rattle.ws_session.specs.declared.receiver.under_way.UnderWay.TheVariants.{Control, Data};
 ghost use Rattle.ws_wire.specs.Header.{header_bytes};
+ghost use Rattle.ws_session.specs.InnerMasked.{masked_from};
 ghost use Rattle.ws_session.specs.InnerReceiving.{came_of, control_payload_of};
 ghost use Rattle.ws_session.specs.InnerReceiver.{NotBegun, HasRoom, length_so_far};
 
@@ -57,6 +58,28 @@ impl UnderWay {
         };
     }
 
+    /// More of the payload of a control frame has come, which isn't whole with it.
+    #[inline(never)]
+    pub(super) fn go_on_control(&mut self, header: &Header, more: &[u8])
+        requires { length (control_payload_of self.old) + length more.now ≤ 125 }
+        ensures { self.new ≡ Control header.now (control_payload_of self.old
+            ++ masked_from header.now.key (length (control_payload_of self.old)) more.now) }
+    {
+        if let UnderWay::Control {
+            header: same,
+            payload,
+        } = self
+        {
+            *same = *header;
+            payload.push_masked(header.key(), more);
+            return;
+        }
+        *self = UnderWay::Control {
+            header: *header,
+            payload: Small::unmasked(header.key(), more),
+        };
+    }
+
     /// Whether a byte of it has come.
     fn has_begun(&self) -> bool
         ensures { result ≡ false → self.now ≡ NotBegun }
@@ -67,20 +90,14 @@ impl UnderWay {
         }
     }
 
-    /// Whether payload of a control frame may have come.
-    pub(super) fn holds_control(&self) -> bool
-        ensures { result ≡ false → control_payload_of self.now ≡ [] }
-    {
-        matches!(self, UnderWay::Control { .. })
-    }
-
     /// The payload of a control frame so far.
-    pub(super) fn control_payload(&self) -> Small
-        ensures { result ≡ control_payload_of self.now }
+    pub(super) fn control_payload(&self) -> &[u8]
+        ensures bytes { result.now ≡ control_payload_of self.now }
+        ensures bound { length result.now ≤ 125 }
     {
         match self {
-            UnderWay::Control { payload, .. } => *payload,
-            UnderWay::Header(_) | UnderWay::Data { .. } => Small::of(&[]),
+            UnderWay::Control { payload, .. } => payload.as_slice(),
+            UnderWay::Header(_) | UnderWay::Data { .. } => &[],
         }
     }
 

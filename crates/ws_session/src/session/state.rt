@@ -1,7 +1,7 @@
 //! What a session keeps, and the calls on it: each as the session's of that name.
 
 ghost use Rattle.std.specs.Prelude.{◌≡◌, ◌↔◌, ◌+◌, ◌≤◌, ◌<◌, ℕ, List, [], length, None, true, false, IfOk, OnOk};
-ghost use Rattle.std.specs.Prelude.{IsOkAnd};
+ghost use Rattle.std.specs.Prelude.{IsOkAnd, unwrap_or};
 ghost use Rattle.std.specs.Prelude.{OnErr, IsTrue};
 ghost use Rattle.ws_session.specs.declared.status.Status.TheVariants.{Open};
 ghost use Rattle.ws_session.specs.declared.session.Answering.{Answering};
@@ -10,14 +10,17 @@ ghost use Rattle.ws_session.specs.Faults.{open_payload};
 ghost use Rattle.ws_session.specs.Doomed.{IsDoomed};
 ghost use Rattle.ws_session.specs.Exchange.{is_over};
 ghost use Rattle.ws_session.specs.Taking.{HasTaken, TakesNothing};
+ghost use Rattle.ws_session.specs.Lent.{event_if_any, payload_in};
 ghost use Rattle.ws_session.specs.Memory.{WantsMemory, WantsMemoryToTell};
 ghost use Rattle.ws_session.specs.InnerInvariant.{CanAnswer, reply_by};
-ghost use Rattle.ws_session.specs.InnerNextFrame.{status_with};
+ghost use Rattle.ws_session.specs.InnerReceiver.{status_by};
 
+mod copying;
 mod sends;
 
-use crate::event::{Event, Taken};
+use crate::event_room::EventRoom;
 use crate::limits::Limits;
+use crate::payload_room::{EventKind, TakenInto};
 use crate::receiver::Receiver;
 use crate::sending::Sending;
 use crate::session::Answering;
@@ -70,6 +73,11 @@ impl State {
         }
     }
 
+    /// What it asks for memory.
+    pub(super) fn alloc(&self) -> Global {
+        self.receiver.alloc()
+    }
+
     pub(super) fn status(&self) -> Status
         ensures { result ≡ self.now.status }
     {
@@ -103,19 +111,26 @@ impl State {
         self.status = status;
     }
 
-    /// Takes the front of a piece, and where it is echoing sends each message back.
+    /// Takes the front of a piece, leaves what it tells in the room, and where it is echoing sends each message back.
     pub(super) fn take_by(
         &mut self,
         answering: Answering,
         piece: &[u8],
         key: [u8; 4],
         out: &mut Vec<u8>,
-    ) -> Result<Taken, NoMemory>
-        requires { CanAnswer answering self.old.sending }
+        room: &mut EventRoom,
+    ) -> Result<TakenInto, NoMemory>
+        requires can { CanAnswer answering self.old.sending }
+        requires nothing { room.old ≡ None }
         ensures taken { IfOk result (λ taken. HasTaken (reply_by answering) self.old self.new
-            (record { piece = piece.now; key = key; before = out.old.items; after = out.new.items }) taken) }
+            (record { piece = piece.now; key = key; before = out.old.items; after = out.new.items })
+            (record { used = taken.used; event = room.new })) }
         ensures over { is_over self.old.status ≡ true → IsOkAnd result (λ taken. TakesNothing self.old self.new
-            (record { piece = piece.now; key = key; before = out.old.items; after = out.new.items }) taken) }
+            (record { piece = piece.now; key = key; before = out.old.items; after = out.new.items })
+            (record { used = taken.used; event = room.new })) }
+        ensures kind { IfOk result (λ taken. event_if_any taken.event (payload_in room.new) ≡ room.new) }
+        ensures held { IfOk result (λ taken. length (payload_in room.new) + (length (open_payload self.new.opened)
+            + length self.new.partial_frame) ≤ self.new.limits.max_message + most_beside) }
         ensures role { self.new.role ≡ self.old.role }
         ensures limits { self.new.limits ≡ self.old.limits }
         ensures used { IfOk result (λ taken. (0 < length piece.now → 0 < taken.used)
@@ -125,42 +140,60 @@ impl State {
         ensures memory { OnErr result (WantsMemory (reply_by answering) self.old piece.now) }
     {
         if self.status.is_over() {
-            return Ok(Taken {
+            return Ok(TakenInto {
                 used: piece.len(),
                 event: None,
             });
         }
-        let taken = self.receiver.take(&self.status, answering, piece, key, out);
-        match &taken {
-            Ok(taken) => {
-                if let Some(event) = &taken.event {
-                    self.status = status_after(self.status, event);
+        match self
+            .receiver
+            .take(&self.status, answering, piece, key, out, room)
+        {
+            Ok(used) => {
+                if !room.tells() {
+                    return Ok(TakenInto { used, event: None });
                 }
+                let event = room.kind();
+                if let Some(status) = status_by_event(event) {
+                    self.status = status;
+                }
+                Ok(TakenInto { used, event })
             }
-            Err(_) => self.receiver.cut(),
+            Err(refused) => {
+                self.receiver.cut();
+                Err(refused)
+            }
         }
-        taken
     }
-}
 
-impl State {
-    /// Takes a piece that gives no event, whole. `NoMemory` where it would give one, or a growth was refused: then
+    /// Takes a piece that gives no event, whole. `false` where it would give one: then, and where a growth was refused,
     /// nothing has changed.
-    pub(super) fn take_quiet(&mut self, piece: &[u8]) -> Result<Taken, NoMemory>
-        requires { is_over self.old.status ≡ false }
-        ensures whole { IfOk result (λ taken. taken ≡ record { used = length piece.now; event = None }) }
+    pub(super) fn take_quiet(
+        &mut self,
+        piece: &[u8],
+        room: &mut EventRoom,
+    ) -> Result<bool, NoMemory>
+        requires going { is_over self.old.status ≡ false }
+        requires nothing { room.old ≡ None }
+        ensures nothing { room.new ≡ None }
         ensures taken { (answering : Answering) (key before : List ℕ) → CanAnswer answering self.old.sending
-            → OnOk result (HasTaken (reply_by answering) self.old self.new
+            → IfOk result (λ taken. taken ≡ true → HasTaken (reply_by answering) self.old self.new
             (record { piece = piece.now; key = key; before = before; after = before })
             (record { used = length piece.now; event = None })) }
+        ensures same { IfOk result (λ taken. taken ≡ false → self.new ≡ self.old) }
+        ensures tells { IfOk result (λ taken. taken ≡ false → WantsMemoryToTell self.old piece.now) }
         ensures role { self.new.role ≡ self.old.role }
         ensures limits { self.new.limits ≡ self.old.limits }
         ensures sending { self.new.sending ≡ self.old.sending }
         ensures kept { OnErr result (self.new ≡ self.old) }
         ensures memory { OnErr result (WantsMemoryToTell self.old piece.now) }
     {
-        match self.receiver.take_quiet(piece) {
-            Ok(taken) => Ok(taken),
+        match self.receiver.take_quiet(piece, room) {
+            Ok(true) => Ok(true),
+            Ok(false) => {
+                self.receiver.cut();
+                Ok(false)
+            }
             Err(refused) => {
                 self.receiver.cut();
                 Err(refused)
@@ -169,14 +202,17 @@ impl State {
     }
 }
 
-/// The status of a session that isn't over after an event.
-fn status_after(status: Status, event: &Event) -> Status
-    ensures { result ≡ status_with status event.now }
+/// The status that an event gives a session that isn't over, if it gives one.
+fn status_by_event(event: Option<EventKind>) -> Option<Status>
+    ensures { (old : Status) (payload : List ℕ) → status_by old (event_if_any event payload) ≡ unwrap_or result old }
 {
     match event {
-        Event::Failed(reason) => Status::Failed(*reason),
-        Event::Close(None) => Status::Clean(None),
-        Event::Close(Some(close)) => Status::Clean(Some(close.code())),
-        Event::Part | Event::Message(_) | Event::Ping(_) | Event::Pong(_) => status,
+        Some(EventKind::Failed(reason)) => Some(Status::Failed(reason)),
+        Some(EventKind::Close(code)) => Some(Status::Clean(code)),
+        None
+        | Some(EventKind::Part)
+        | Some(EventKind::Message(_))
+        | Some(EventKind::Ping)
+        | Some(EventKind::Pong) => None,
     }
 }

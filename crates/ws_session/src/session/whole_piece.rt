@@ -9,7 +9,8 @@ ghost use Rattle.ws_session.specs.Taking.{HasTaken, HasTakenAll, front_taken};
 ghost use Rattle.ws_session.specs.Memory.{WantsMemoryToTell};
 ghost use Rattle.ws_session.specs.InnerInvariant.{CanAnswer, HasTakenFront, reply_by};
 
-use crate::event::{PlacedEvent, TakeStop, Taken};
+use crate::event::{PlacedEvent, TakeStop};
+use crate::event_room::EventRoom;
 use crate::session::{Answering, Session};
 use ws_base::NoMemory;
 
@@ -61,9 +62,34 @@ impl Session {
         ensures memory { IfErr result (λ stop. WantsMemoryToTell self.new (drop stop.used piece.now)) }
         ensures sending { self.new.sending ≡ self.old.sending }
     {
+        let mut room = EventRoom::new(self.state.alloc());
+        self.take_all_through(answering, piece, key, out, events, &mut room)
+    }
+
+    /// The same, through a room for one event after the other.
+    fn take_all_through(
+        &mut self,
+        answering: Answering,
+        piece: &[u8],
+        key: [u8; 4],
+        out: &mut Vec<u8>,
+        events: &mut Vec<PlacedEvent>,
+        room: &mut EventRoom,
+    ) -> Result<(), TakeStop>
+        requires { CanAnswer answering self.old.sending }
+        ensures taken { HasTakenAll (reply_by answering) self.old self.new
+            (record { piece = front_taken piece.now result; key = key; before = out.old.items; after = out.new.items })
+            events.old.items events.new.items }
+        ensures over { is_over self.old.status ≡ true → IsOk result × (self.new ≡ self.old)
+            × (out.new.items ≡ out.old.items) × (events.new.items ≡ events.old.items) }
+        ensures used { IfErr result (λ stop. stop.used < length piece.now) }
+        ensures memory { IfErr result (λ stop. WantsMemoryToTell self.new (drop stop.used piece.now)) }
+        ensures sending { self.new.sending ≡ self.old.sending }
+    {
         let mut used = 0;
         while used < piece.len() && !self.status().is_over() {
-            match self.take_front(answering, &piece[used..], used, key, out, events) {
+            room.clear();
+            match self.take_front(answering, &piece[used..], used, key, out, events, room) {
                 Ok(more) => used += more,
                 Err(_) => return Err(TakeStop { used }),
             }
@@ -82,10 +108,12 @@ impl Session {
         key: [u8; 4],
         out: &mut Vec<u8>,
         events: &mut Vec<PlacedEvent>,
+        room: &mut EventRoom,
     ) -> Result<usize, NoMemory>
         requires answering { CanAnswer answering self.old.sending }
         requires going { is_over self.old.status ≡ false }
-        requires room { before + length piece.now < 2 ^ 64 }
+        requires end { before + length piece.now < 2 ^ 64 }
+        requires nothing { room.old ≡ None }
         ensures used { IfOk result (λ used. (0 < length piece.now → 0 < used) × (used ≤ length piece.now)) }
         ensures taken { IfOk result (λ used. HasTakenFront (reply_by answering) self.old self.new
             (record { piece = piece.now; key = key; before = out.old.items; after = out.new.items })
@@ -95,28 +123,24 @@ impl Session {
             × (events.new.items ≡ events.old.items)) }
         ensures memory { OnErr result (WantsMemoryToTell self.old piece.now) }
     {
-        match events.reserve(1) {
-            Ok(()) => {}
-            Err(_) => {
-                let taken = self.take_quiet(piece)?;
-                return Ok(taken.used);
-            }
+        if events.reserve(1).is_err() {
+            return self.take_unplaced(piece, room);
         }
-        let Taken { used, event } = self.take_by(answering, piece, key, out)?;
-        if let Some(event) = event {
+        let taken = self.take_by(answering, piece, key, out, room)?;
+        if let Some(event) = room.event() {
             events.push_reserved(PlacedEvent {
                 event,
-                end: before + used,
+                end: before + taken.used,
             });
         }
-        Ok(used)
+        Ok(taken.used)
     }
 
-    /// Takes a piece that gives no event, whole. `NoMemory` where it would give one, or a growth was refused: then
-    /// nothing has changed.
-    fn take_quiet(&mut self, piece: &[u8]) -> Result<Taken, NoMemory>
-        requires { is_over self.old.status ≡ false }
-        ensures whole { IfOk result (λ taken. taken ≡ record { used = length piece.now; event = None }) }
+    /// Takes a piece for whose event there is no room: whole, where it gives none, and else nothing.
+    fn take_unplaced(&mut self, piece: &[u8], room: &mut EventRoom) -> Result<usize, NoMemory>
+        requires going { is_over self.old.status ≡ false }
+        requires nothing { room.old ≡ None }
+        ensures whole { IfOk result (λ used. used ≡ length piece.now) }
         ensures taken { (answering : Answering) (key before : List ℕ) → CanAnswer answering self.old.sending
             → OnOk result (HasTaken (reply_by answering) self.old self.new
             (record { piece = piece.now; key = key; before = before; after = before })
@@ -127,7 +151,9 @@ impl Session {
         ensures kept { OnErr result (self.new ≡ self.old) }
         ensures memory { OnErr result (WantsMemoryToTell self.old piece.now) }
     {
-        let taken = self.state.take_quiet(piece)?;
-        Ok(taken)
+        if self.state.take_quiet(piece, room)? {
+            return Ok(piece.len());
+        }
+        Err(NoMemory)
     }
 }

@@ -1,20 +1,21 @@
 -- What a call of the receiving side takes: of each thing that the check of the piece tells.
-use Rattle.std.proofs.Common.{◌≡◌, Option, Some, None, ap, subst}
+use Rattle.std.proofs.Common.{Option, Some, None, ap, subst}
 use Rattle.ws_wire.specs.declared.role.Role.{Role}
+use Rattle.ws_session.specs.declared.event.Event.{Event}
 use Rattle.ws_session.specs.declared.event.Event.TheVariants as event
 use Rattle.ws_session.specs.declared.replying.Replying.{Replying}
-use Rattle.ws_session.specs.declared.receiver.frame_check.PieceCheck.{PieceCheck}
-use Rattle.ws_session.specs.declared.receiver.frame_check.PieceCheck.TheVariants as piece_check
-use Rattle.ws_session.specs.declared.receiver.frame_check.Content.TheVariants as content
+use Rattle.ws_session.specs.declared.receiver.piece_check.PieceCheck.{PieceCheck}
+use Rattle.ws_session.specs.declared.receiver.piece_check.PieceCheck.TheVariants as piece_check
+use Rattle.ws_session.specs.InnerContent as content
 use Rattle.ws_session.specs.InnerReceiving.{IsPieceCheck}
-use Rattle.ws_session.specs.InnerReceiver.{ReceiverValue, IsOwed, HasReceived, receiver_of, event_of_kept, opened_by, telling}
-use Rattle.ws_session.specs.InnerTaking.{Receives, WantsRoom}
+use Rattle.ws_session.specs.InnerReceiver.{ReceiverValue, IsOwed, HasReceived, receiver_of, event_of_kept, opened_by, taking}
+use Rattle.ws_session.specs.InnerTaking.{WantsRoom}
 use Rattle.ws_session.proofs.ReceivedCalls.{receives_frame, receives_fault, frame_wants, fault_wants, as_role}
-use Rattle.ws_session.proofs.Wants.{ok_so, err_so}
+use Rattle.ws_session.proofs.Wants.{on_err}
 use Rattle.ws_session.proofs.receiver.Receiver.take.Goals as goal
 
-pub returns-in-Whole-clause-takes : goal.returns-in-Whole-clause-takes
-returns-in-Whole-clause-takes c =
+pub returns-in_ok-on_data-in-Whole-clause-takes : goal.returns-in_ok-on_data-in-Whole-clause-takes
+returns-in_ok-on_data-in-Whole-clause-takes c =
     let i = c.self.inside in
     let v = c.args.self.now in
     let b = c.check_piece.new.assembly in
@@ -32,12 +33,13 @@ returns-in-Whole-clause-takes c =
     let before = c.args.out.now.items in
     let after = c.on_data.new.out.items in
     let e = event_of_kept n x in
-    ok_so c.on_data.result (λ t. t ≡ telling used e) (λ t. HasReceived (as_role i.role r) n new before after e (opened_by n x)) (Receives r v new piece before after)
-    (λ t is came. receives_frame o v c.self.view_is piece b g opened r used new before after x t told.1 is (subst (λ (role : Role). HasReceived (as_role role r) n new before after e (opened_by n x)) (ap (λ (w : ReceiverValue). w.role) c.self.view_is) came))
-    c.on_data.ensures.told c.on_data.ensures.received
+    let came = c.in_ok-on_data-in-Whole.ensures in
+    receives_frame o v c.self.view_is piece b g opened r used new before after x (record { used = used; event = c.on_data.new.room }) told.1
+    (ap (λ (t : Option Event). taking used t) came.told)
+    (subst (λ (role : Role). HasReceived (as_role role r) n new before after e (opened_by n x)) (ap (λ (w : ReceiverValue). w.role) c.self.view_is) came.received)
 
-pub returns-in-Whole-clause-wants : goal.returns-in-Whole-clause-wants
-returns-in-Whole-clause-wants c =
+pub returns-in_err-on_data-in-Whole-clause-wants : goal.returns-in_err-on_data-in-Whole-clause-wants
+returns-in_err-on_data-in-Whole-clause-wants c =
     let i = c.self.inside in
     let v = c.args.self.now in
     let b = c.check_piece.new.assembly in
@@ -51,10 +53,10 @@ returns-in-Whole-clause-wants c =
     let used = c.in-Whole.used in
     let x = content.Data c.in-Whole.fin c.in-Whole.kind c.in-Whole.text in
     let told : IsPieceCheck i.role i.limits i.assembly i.frame b g piece (Some (piece_check.Whole used c.in-Whole.fin c.in-Whole.kind c.in-Whole.text)) = subst (λ (y : PieceCheck). IsPieceCheck i.role i.limits i.assembly i.frame b g piece (Some y)) c.in-Whole.is found in
-    err_so c.on_data.result (IsOwed r (event_of_kept n x)) (WantsRoom (IsOwed r) v piece) (λ owed. frame_wants o v c.self.view_is piece b g opened (IsOwed r) used x told.1 owed) c.on_data.ensures.owed
+    on_err c.from_residual-in_err-on_data-in-Whole.result (WantsRoom (IsOwed r) v piece) (frame_wants o v c.self.view_is piece b g opened (IsOwed r) used x told.1 c.in_err-on_data-in-Whole.ensures.owed)
 
-pub returns-in-Fault-clause-takes : goal.returns-in-Fault-clause-takes
-returns-in-Fault-clause-takes c =
+pub returns-in_ok-on_fault-in-Fault-clause-takes : goal.returns-in_ok-on_fault-in-Fault-clause-takes
+returns-in_ok-on_fault-in-Fault-clause-takes c =
     let i = c.self.inside in
     let v = c.args.self.now in
     let b = c.check_piece.new.assembly in
@@ -72,12 +74,12 @@ returns-in-Fault-clause-takes c =
     let before = c.args.out.now.items in
     let after = c.on_fault.new.out.items in
     let e = event.Failed reason in
-    ok_so c.on_fault.result (λ t. t ≡ telling used e) (λ t. HasReceived (as_role i.role r) n new before after e None) (Receives r v new piece before after)
-    (λ t is came. receives_fault o v c.self.view_is piece b g opened r used new before after reason t c.check_piece.ensures.bytes told.1 is (subst (λ (role : Role). HasReceived (as_role role r) n new before after e None) (ap (λ (w : ReceiverValue). w.role) c.self.view_is) came))
-    c.on_fault.ensures.told c.on_fault.ensures.received
+    receives_fault o v c.self.view_is piece b g opened r used new before after reason (record { used = used; event = c.tell_fault.new.self }) c.check_piece.ensures.bytes told.1
+    (ap (λ (t : Option Event). taking used t) c.tell_fault.ensures)
+    (subst (λ (role : Role). HasReceived (as_role role r) n new before after e None) (ap (λ (w : ReceiverValue). w.role) c.self.view_is) c.in_ok-on_fault-in-Fault.ensures.received)
 
-pub returns-in-Fault-clause-wants : goal.returns-in-Fault-clause-wants
-returns-in-Fault-clause-wants c =
+pub returns-in_err-on_fault-in-Fault-clause-wants : goal.returns-in_err-on_fault-in-Fault-clause-wants
+returns-in_err-on_fault-in-Fault-clause-wants c =
     let i = c.self.inside in
     let v = c.args.self.now in
     let b = c.check_piece.new.assembly in
@@ -91,4 +93,4 @@ returns-in-Fault-clause-wants c =
     let used = c.in-Fault.used in
     let reason = c.in-Fault.reason in
     let told : IsPieceCheck i.role i.limits i.assembly i.frame b g piece (Some (piece_check.Fault reason used)) = subst (λ (y : PieceCheck). IsPieceCheck i.role i.limits i.assembly i.frame b g piece (Some y)) c.in-Fault.is found in
-    err_so c.on_fault.result (IsOwed r (event.Failed reason)) (WantsRoom (IsOwed r) v piece) (λ owed. fault_wants o v c.self.view_is piece b g opened (IsOwed r) used reason c.check_piece.ensures.bytes told.1 owed) c.on_fault.ensures.owed
+    on_err c.from_residual-in_err-on_fault-in-Fault.result (WantsRoom (IsOwed r) v piece) (fault_wants o v c.self.view_is piece b g opened (IsOwed r) used reason c.check_piece.ensures.bytes told.1 c.in_err-on_fault-in-Fault.ensures.owed)

@@ -1,18 +1,18 @@
 -- What a call that takes only what gives no event makes of each thing that the check of the piece tells.
-use Rattle.std.proofs.Common.{◌∙◌, ◌-◌, ◌++◌, length, take, drop, Option, Some, ap, sym, subst}
-use Rattle.ws_session.specs.declared.message.Message.{Message}
+use Rattle.std.proofs.Common.{◌≡◌, ◌∙◌, ◌+◌, ◌-◌, ◌++◌, ◌≤◌, length, take, drop, List, ℕ, Option, Some, ap, refl, sym, subst, arith}
+use Rattle.std.proofs.lemmas.List.{length-take-le}
 use Rattle.ws_session.specs.declared.receiver.under_way.UnderWay.{UnderWay}
-use Rattle.ws_session.specs.declared.receiver.frame_check.PieceCheck.{PieceCheck}
-use Rattle.ws_session.specs.declared.receiver.frame_check.PieceCheck.TheVariants as piece_check
-use Rattle.ws_session.specs.declared.receiver.frame_check.FrameCheck.{FrameCheck}
-use Rattle.ws_session.specs.declared.receiver.frame_check.FrameCheck.TheVariants as check
-use Rattle.ws_session.specs.InnerNextFrame.{IsPartOfFrame}
-use Rattle.ws_session.specs.InnerReceiving.{AssemblyValue, IsFrameCheck, IsPieceCheck, partial_of, came_of}
+use Rattle.ws_session.specs.declared.receiver.under_way.UnderWay.TheVariants as under_way
+use Rattle.ws_session.specs.declared.receiver.piece_check.PieceCheck.{PieceCheck}
+use Rattle.ws_session.specs.declared.receiver.piece_check.PieceCheck.TheVariants as piece_check
+use Rattle.ws_session.specs.InnerMasked.{masked_from}
+use Rattle.ws_session.specs.InnerReceiving.{AssemblyValue, IsPieceCheck, control_payload_of, partial_of, came_of}
 use Rattle.ws_session.specs.InnerReceiver.{ReceiverValue, receiver_of, IsReceiving}
+use Rattle.ws_session.specs.InnerTaking.{WantsRoom}
+use Rattle.ws_session.proofs.ControlTaken.{part_check, close_wants, other_wants, not_close}
 use Rattle.ws_session.proofs.Exact.{need_receives, shown_sound}
-use Rattle.ws_session.proofs.Pieces.{left_of, control_is, short_control, told_shows}
-use Rattle.ws_session.proofs.Owed.{next_is}
-use Rattle.ws_session.proofs.ReceivedCalls.{goes_on, piece_wants, check_wants}
+use Rattle.ws_session.proofs.Pieces.{left_of, short_control, told_shows}
+use Rattle.ws_session.proofs.ReceivedCalls.{goes_on, piece_wants}
 use Rattle.ws_session.proofs.receiver.Receiver.take_quiet.Goals as goal
 
 pub returns-in_default-check : goal.returns-in_default-check
@@ -28,20 +28,22 @@ returns-in_default-check c =
     let is = c.self.view_is in
     let same = told_shows i.role i.limits i.assembly b i.frame g piece c.in-Some.check found in
     record {
-      whole = tt;
-      goes_on = tt;
-      exact = tt;
-      kept = same.1 ∙ ap (λ (x : ReceiverValue). x.partial_frame) is;
-      came = ap (λ (f : UnderWay). came_of f) same.0 ∙ ap (λ (x : ReceiverValue). x.came) is;
+      nothing = c.in_ok-check.ensures.nothing;
+      goes_on = λ no. absurd cc;
+      exact = λ no. absurd cc;
+      kept = λ no. same.1 ∙ ap (λ (x : ReceiverValue). x.partial_frame) is;
+      came = λ no. ap (λ (f : UnderWay). came_of f) same.0 ∙ ap (λ (x : ReceiverValue). x.came) is;
+      tells = λ no. piece_wants i.role i.limits i.assembly b i.frame g v is piece opened c.in-Some.check c.check_piece.ensures.bytes found c.in_default-check.not-Control;
+      refused = tt;
       opened = opened ∙ ap (λ (x : ReceiverValue). x.opened) is;
       sound = shown_sound i.role i.limits i.assembly b i.frame g c.self.invariant.sound opened same.1 c.in_ok-check.ensures.room;
       role = ap (λ (x : ReceiverValue). x.role) is;
       limits = ap (λ (x : ReceiverValue). x.limits) is;
-      wants = piece_wants i.role i.limits i.assembly b i.frame g v is piece opened c.in-Some.check c.check_piece.ensures.bytes found c.in_default-check.not-Control;
+      wants = tt;
     }
 
-pub check_control-requires-clause-short : goal.check_control-requires-clause-short
-check_control-requires-clause-short c =
+pub go_on_control-requires : goal.go_on_control-requires
+go_on_control-requires c =
     let i = c.self.inside in
     let v = c.args.self.now in
     let b = c.check_piece.new.assembly in
@@ -54,10 +56,17 @@ check_control-requires-clause-short c =
     let start = c.in-Control.start in
     let told : IsPieceCheck i.role i.limits i.assembly i.frame b g piece (Some (piece_check.Control h start)) = subst (λ (y : PieceCheck). IsPieceCheck i.role i.limits i.assembly i.frame b g piece (Some y)) c.in-Control.is found in
     let at = told.2 in
-    short_control i.role i.limits i.assembly.opened h at.none at.control
+    let short : h.len ≤ 125 = short_control i.role i.limits i.assembly.opened h at.none at.control in
+    let rest = take (length piece - start) (drop start piece) in
+    let came = c.control_payload-before.result.now in
+    let came_is : came ≡ control_payload_of i.frame = c.control_payload-before.ensures.bytes ∙ ap (λ (f : UnderWay). control_payload_of f) told.1 in
+    let less : length came ≤ h.len = omega (arith, at.came, ap (λ (l : List ℕ). length l) came_is) in
+    let u = c.self.invariant.under_way in
+    let are = c.check_piece.ensures.bytes in
+    omega (arith, c.if-rest-left.true, less, short, c.payload_len.ensures.value, ap (λ (l : List ℕ). length l) came_is, ap (λ (f : UnderWay). length (control_payload_of f)) told.1)
 
-pub invariant_of-self-in-Ok : goal.invariant_of-self-in-Ok
-invariant_of-self-in-Ok c =
+pub invariant_of-self-then-rest-left : goal.invariant_of-self-then-rest-left
+invariant_of-self-then-rest-left c =
     let i = c.self.inside in
     let v = c.args.self.now in
     let b = c.check_piece.new.assembly in
@@ -69,17 +78,25 @@ invariant_of-self-in-Ok c =
     let h = c.in-Control.header in
     let start = c.in-Control.start in
     let told : IsPieceCheck i.role i.limits i.assembly i.frame b g piece (Some (piece_check.Control h start)) = subst (λ (y : PieceCheck). IsPieceCheck i.role i.limits i.assembly i.frame b g piece (Some y)) c.in-Control.is found in
-    let checked : IsFrameCheck i.role i.limits b (length o.partial_frame) (o.partial_frame ++ piece) c.check_control.result = control_is i.role i.limits i.assembly b i.frame g piece (take (length piece - start) (drop start piece)) c.control_payload-came.result h start c.check_control.result c.self.invariant.under_way c.check_piece.ensures.bytes told (left_of piece start) c.control_payload-came.ensures c.check_control.ensures in
-    let next = c.in-Ok.next in
-    let text = c.in-Ok.text in
-    let is : IsFrameCheck i.role i.limits b (length o.partial_frame) (o.partial_frame ++ piece) (check.Need next text) = subst (λ (j : FrameCheck). IsFrameCheck i.role i.limits b (length o.partial_frame) (o.partial_frame ++ piece) j) (next_is c.check_control.result next text (sym c.into_next.ensures ∙ c.in-Ok.is)) checked in
+    let at = told.2 in
+    let short : h.len ≤ 125 = short_control i.role i.limits i.assembly.opened h at.none at.control in
+    let rest = take (length piece - start) (drop start piece) in
+    let came = c.control_payload-before.result.now in
+    let came_is : came ≡ control_payload_of i.frame = c.control_payload-before.ensures.bytes ∙ ap (λ (f : UnderWay). control_payload_of f) told.1 in
+    let less : length came ≤ h.len = omega (arith, at.came, ap (λ (l : List ℕ). length l) came_is) in
+    let u = c.self.invariant.under_way in
+    let are = c.check_piece.ensures.bytes in
+    let payload = control_payload_of i.frame ++ masked_from h.key (length (control_payload_of i.frame)) rest in
+    let before : length (control_payload_of i.frame) ≡ length came = ap (λ (l : List ℕ). length l) (sym came_is) in
+    let is = part_check i.role i.limits i.assembly i.frame piece rest (control_payload_of i.frame) h start u are at (left_of piece start) refl payload refl (omega (arith, before, c.if-rest-left.true, less, c.payload_len.ensures.value)) in
     let sound = c.self.invariant.sound in
-    let receives : IsReceiving i.role i.limits c.go_on.new.self next = subst (λ (x : AssemblyValue). IsReceiving i.role i.limits x next) (sym c.go_on.ensures)
-    (need_receives i.role i.limits i.assembly b (length o.partial_frame) (o.partial_frame ++ piece) next text opened sound.limit sound.size c.in_ok-check.ensures.room is) in
+    let frame_is : c.go_on_control.new.self ≡ under_way.Control h payload = c.go_on_control.ensures ∙ ap (λ (f : UnderWay). under_way.Control h (control_payload_of f ++ masked_from h.key (length (control_payload_of f)) rest)) told.1 in
+    let receives : IsReceiving i.role i.limits b c.go_on_control.new.self = subst (λ (x : AssemblyValue). IsReceiving i.role i.limits x c.go_on_control.new.self) (sym told.0)
+    (subst (λ (f : UnderWay). IsReceiving i.role i.limits i.assembly f) (sym frame_is) (need_receives i.role i.limits i.assembly i.assembly (length (partial_of i.assembly i.frame)) (partial_of i.assembly i.frame ++ piece) (under_way.Control h payload) i.assembly.text refl sound.limit sound.size sound.room is)) in
     receives
 
-pub returns-in-Ok-clause-sound : goal.returns-in-Ok-clause-sound
-returns-in-Ok-clause-sound c =
+pub returns-then-rest-left-clause-goes_on : goal.returns-then-rest-left-clause-goes_on
+returns-then-rest-left-clause-goes_on c =
     let i = c.self.inside in
     let v = c.args.self.now in
     let b = c.check_piece.new.assembly in
@@ -91,17 +108,54 @@ returns-in-Ok-clause-sound c =
     let h = c.in-Control.header in
     let start = c.in-Control.start in
     let told : IsPieceCheck i.role i.limits i.assembly i.frame b g piece (Some (piece_check.Control h start)) = subst (λ (y : PieceCheck). IsPieceCheck i.role i.limits i.assembly i.frame b g piece (Some y)) c.in-Control.is found in
-    let checked : IsFrameCheck i.role i.limits b (length o.partial_frame) (o.partial_frame ++ piece) c.check_control.result = control_is i.role i.limits i.assembly b i.frame g piece (take (length piece - start) (drop start piece)) c.control_payload-came.result h start c.check_control.result c.self.invariant.under_way c.check_piece.ensures.bytes told (left_of piece start) c.control_payload-came.ensures c.check_control.ensures in
-    let next = c.in-Ok.next in
-    let text = c.in-Ok.text in
-    let is : IsFrameCheck i.role i.limits b (length o.partial_frame) (o.partial_frame ++ piece) (check.Need next text) = subst (λ (j : FrameCheck). IsFrameCheck i.role i.limits b (length o.partial_frame) (o.partial_frame ++ piece) j) (next_is c.check_control.result next text (sym c.into_next.ensures ∙ c.in-Ok.is)) checked in
+    let at = told.2 in
+    let short : h.len ≤ 125 = short_control i.role i.limits i.assembly.opened h at.none at.control in
+    let rest = take (length piece - start) (drop start piece) in
+    let came = c.control_payload-before.result.now in
+    let came_is : came ≡ control_payload_of i.frame = c.control_payload-before.ensures.bytes ∙ ap (λ (f : UnderWay). control_payload_of f) told.1 in
+    let less : length came ≤ h.len = omega (arith, at.came, ap (λ (l : List ℕ). length l) came_is) in
+    let u = c.self.invariant.under_way in
+    let are = c.check_piece.ensures.bytes in
+    let payload = control_payload_of i.frame ++ masked_from h.key (length (control_payload_of i.frame)) rest in
+    let before : length (control_payload_of i.frame) ≡ length came = ap (λ (l : List ℕ). length l) (sym came_is) in
+    let is = part_check i.role i.limits i.assembly i.frame piece rest (control_payload_of i.frame) h start u are at (left_of piece start) refl payload refl (omega (arith, before, c.if-rest-left.true, less, c.payload_len.ensures.value)) in
     let sound = c.self.invariant.sound in
-    let receives : IsReceiving i.role i.limits c.go_on.new.self next = subst (λ (x : AssemblyValue). IsReceiving i.role i.limits x next) (sym c.go_on.ensures)
-    (need_receives i.role i.limits i.assembly b (length o.partial_frame) (o.partial_frame ++ piece) next text opened sound.limit sound.size c.in_ok-check.ensures.room is) in
+    let frame_is : c.go_on_control.new.self ≡ under_way.Control h payload = c.go_on_control.ensures ∙ ap (λ (f : UnderWay). under_way.Control h (control_payload_of f ++ masked_from h.key (length (control_payload_of f)) rest)) told.1 in
+    λ yes. goes_on o v c.self.view_is piece (receiver_of i.role i.limits b c.go_on_control.new.self) is.0 opened
+    (ap (λ (x : AssemblyValue). partial_of x c.go_on_control.new.self) told.0 ∙ ap (λ (f : UnderWay). partial_of i.assembly f) frame_is ∙ is.2)
+
+pub returns-then-rest-left-clause-sound : goal.returns-then-rest-left-clause-sound
+returns-then-rest-left-clause-sound c =
+    let i = c.self.inside in
+    let v = c.args.self.now in
+    let b = c.check_piece.new.assembly in
+    let g = c.check_piece.new.frame in
+    let piece = c.args.piece.now in
+    let o : ReceiverValue = receiver_of i.role i.limits i.assembly i.frame in
+    let found : IsPieceCheck i.role i.limits i.assembly i.frame b g piece (Some c.in-Some.check) = subst (λ (x : Option PieceCheck). IsPieceCheck i.role i.limits i.assembly i.frame b g piece x) c.in-Some.is c.in_ok-check.ensures.checked in
+    let opened = c.in_ok-check.ensures.opened in
+    let h = c.in-Control.header in
+    let start = c.in-Control.start in
+    let told : IsPieceCheck i.role i.limits i.assembly i.frame b g piece (Some (piece_check.Control h start)) = subst (λ (y : PieceCheck). IsPieceCheck i.role i.limits i.assembly i.frame b g piece (Some y)) c.in-Control.is found in
+    let at = told.2 in
+    let short : h.len ≤ 125 = short_control i.role i.limits i.assembly.opened h at.none at.control in
+    let rest = take (length piece - start) (drop start piece) in
+    let came = c.control_payload-before.result.now in
+    let came_is : came ≡ control_payload_of i.frame = c.control_payload-before.ensures.bytes ∙ ap (λ (f : UnderWay). control_payload_of f) told.1 in
+    let less : length came ≤ h.len = omega (arith, at.came, ap (λ (l : List ℕ). length l) came_is) in
+    let u = c.self.invariant.under_way in
+    let are = c.check_piece.ensures.bytes in
+    let payload = control_payload_of i.frame ++ masked_from h.key (length (control_payload_of i.frame)) rest in
+    let before : length (control_payload_of i.frame) ≡ length came = ap (λ (l : List ℕ). length l) (sym came_is) in
+    let is = part_check i.role i.limits i.assembly i.frame piece rest (control_payload_of i.frame) h start u are at (left_of piece start) refl payload refl (omega (arith, before, c.if-rest-left.true, less, c.payload_len.ensures.value)) in
+    let sound = c.self.invariant.sound in
+    let frame_is : c.go_on_control.new.self ≡ under_way.Control h payload = c.go_on_control.ensures ∙ ap (λ (f : UnderWay). under_way.Control h (control_payload_of f ++ masked_from h.key (length (control_payload_of f)) rest)) told.1 in
+    let receives : IsReceiving i.role i.limits b c.go_on_control.new.self = subst (λ (x : AssemblyValue). IsReceiving i.role i.limits x c.go_on_control.new.self) (sym told.0)
+    (subst (λ (f : UnderWay). IsReceiving i.role i.limits i.assembly f) (sym frame_is) (need_receives i.role i.limits i.assembly i.assembly (length (partial_of i.assembly i.frame)) (partial_of i.assembly i.frame ++ piece) (under_way.Control h payload) i.assembly.text refl sound.limit sound.size sound.room is)) in
     receives.sound
 
-pub returns-in-Ok-clause-goes_on : goal.returns-in-Ok-clause-goes_on
-returns-in-Ok-clause-goes_on c =
+pub read_close-requires-clause-whole : goal.read_close-requires-clause-whole
+read_close-requires-clause-whole c =
     let i = c.self.inside in
     let v = c.args.self.now in
     let b = c.check_piece.new.assembly in
@@ -113,15 +167,21 @@ returns-in-Ok-clause-goes_on c =
     let h = c.in-Control.header in
     let start = c.in-Control.start in
     let told : IsPieceCheck i.role i.limits i.assembly i.frame b g piece (Some (piece_check.Control h start)) = subst (λ (y : PieceCheck). IsPieceCheck i.role i.limits i.assembly i.frame b g piece (Some y)) c.in-Control.is found in
-    let checked : IsFrameCheck i.role i.limits b (length o.partial_frame) (o.partial_frame ++ piece) c.check_control.result = control_is i.role i.limits i.assembly b i.frame g piece (take (length piece - start) (drop start piece)) c.control_payload-came.result h start c.check_control.result c.self.invariant.under_way c.check_piece.ensures.bytes told (left_of piece start) c.control_payload-came.ensures c.check_control.ensures in
-    let next = c.in-Ok.next in
-    let text = c.in-Ok.text in
-    let is : IsFrameCheck i.role i.limits b (length o.partial_frame) (o.partial_frame ++ piece) (check.Need next text) = subst (λ (j : FrameCheck). IsFrameCheck i.role i.limits b (length o.partial_frame) (o.partial_frame ++ piece) j) (next_is c.check_control.result next text (sym c.into_next.ensures ∙ c.in-Ok.is)) checked in
-    let part : IsPartOfFrame i.role i.limits i.assembly.opened (o.partial_frame ++ piece) = subst (λ (m : Option Message). IsPartOfFrame i.role i.limits m (o.partial_frame ++ piece)) opened is.0 in
-    goes_on o v c.self.view_is piece (receiver_of i.role i.limits c.go_on.new.self next) part (ap (λ (a : AssemblyValue). a.opened) c.go_on.ensures ∙ opened) (ap (λ (a : AssemblyValue). partial_of a next) c.go_on.ensures ∙ is.2)
+    let at = told.2 in
+    let short : h.len ≤ 125 = short_control i.role i.limits i.assembly.opened h at.none at.control in
+    let rest = take (length piece - start) (drop start piece) in
+    let came = c.control_payload-before.result.now in
+    let came_is : came ≡ control_payload_of i.frame = c.control_payload-before.ensures.bytes ∙ ap (λ (f : UnderWay). control_payload_of f) told.1 in
+    let less : length came ≤ h.len = omega (arith, at.came, ap (λ (l : List ℕ). length l) came_is) in
+    let u = c.self.invariant.under_way in
+    let are = c.check_piece.ensures.bytes in
+    let left = c.payload_len.result - length came in
+    let whole : length came + left ≡ h.len = omega (arith, less, c.payload_len.ensures.value) in
+    let enough : left ≤ length rest = omega (arith, c.if-rest-left.false) in
+    omega (arith, whole, length-take-le left rest enough)
 
-pub returns-in-Err-clause-wants : goal.returns-in-Err-clause-wants
-returns-in-Err-clause-wants c =
+pub read_close-requires-clause-short : goal.read_close-requires-clause-short
+read_close-requires-clause-short c =
     let i = c.self.inside in
     let v = c.args.self.now in
     let b = c.check_piece.new.assembly in
@@ -133,5 +193,84 @@ returns-in-Err-clause-wants c =
     let h = c.in-Control.header in
     let start = c.in-Control.start in
     let told : IsPieceCheck i.role i.limits i.assembly i.frame b g piece (Some (piece_check.Control h start)) = subst (λ (y : PieceCheck). IsPieceCheck i.role i.limits i.assembly i.frame b g piece (Some y)) c.in-Control.is found in
-    let checked : IsFrameCheck i.role i.limits b (length o.partial_frame) (o.partial_frame ++ piece) c.check_control.result = control_is i.role i.limits i.assembly b i.frame g piece (take (length piece - start) (drop start piece)) c.control_payload-came.result h start c.check_control.result c.self.invariant.under_way c.check_piece.ensures.bytes told (left_of piece start) c.control_payload-came.ensures c.check_control.ensures in
-    check_wants o v c.self.view_is piece b g opened c.check_control.result c.in-Err.field-0 c.check_piece.ensures.bytes checked (sym c.into_next.ensures ∙ c.in-Err.is)
+    let at = told.2 in
+    let short : h.len ≤ 125 = short_control i.role i.limits i.assembly.opened h at.none at.control in
+    let rest = take (length piece - start) (drop start piece) in
+    let came = c.control_payload-before.result.now in
+    let came_is : came ≡ control_payload_of i.frame = c.control_payload-before.ensures.bytes ∙ ap (λ (f : UnderWay). control_payload_of f) told.1 in
+    let less : length came ≤ h.len = omega (arith, at.came, ap (λ (l : List ℕ). length l) came_is) in
+    let u = c.self.invariant.under_way in
+    let are = c.check_piece.ensures.bytes in
+    short
+
+pub returns-in-Close-clause-tells : goal.returns-in-Close-clause-tells
+returns-in-Close-clause-tells c =
+    let i = c.self.inside in
+    let v = c.args.self.now in
+    let b = c.check_piece.new.assembly in
+    let g = c.check_piece.new.frame in
+    let piece = c.args.piece.now in
+    let o : ReceiverValue = receiver_of i.role i.limits i.assembly i.frame in
+    let found : IsPieceCheck i.role i.limits i.assembly i.frame b g piece (Some c.in-Some.check) = subst (λ (x : Option PieceCheck). IsPieceCheck i.role i.limits i.assembly i.frame b g piece x) c.in-Some.is c.in_ok-check.ensures.checked in
+    let opened = c.in_ok-check.ensures.opened in
+    let h = c.in-Control.header in
+    let start = c.in-Control.start in
+    let told : IsPieceCheck i.role i.limits i.assembly i.frame b g piece (Some (piece_check.Control h start)) = subst (λ (y : PieceCheck). IsPieceCheck i.role i.limits i.assembly i.frame b g piece (Some y)) c.in-Control.is found in
+    let at = told.2 in
+    let short : h.len ≤ 125 = short_control i.role i.limits i.assembly.opened h at.none at.control in
+    let rest = take (length piece - start) (drop start piece) in
+    let came = c.control_payload-before.result.now in
+    let came_is : came ≡ control_payload_of i.frame = c.control_payload-before.ensures.bytes ∙ ap (λ (f : UnderWay). control_payload_of f) told.1 in
+    let less : length came ≤ h.len = omega (arith, at.came, ap (λ (l : List ℕ). length l) came_is) in
+    let u = c.self.invariant.under_way in
+    let are = c.check_piece.ensures.bytes in
+    let left = c.payload_len.result - length came in
+    let whole : length came + left ≡ h.len = omega (arith, less, c.payload_len.ensures.value) in
+    let enough : left ≤ length rest = omega (arith, c.if-rest-left.false) in
+    let payload = came ++ masked_from h.key (length came) (take left rest) in
+    let put : payload ≡ came ++ masked_from h.key (length came) (take left rest) = refl in
+    λ no. subst (λ (w : ReceiverValue). WantsRoom (λ e. Unit {0}) w piece) c.self.view_is
+    (close_wants i.role i.limits i.assembly i.frame o refl piece rest came h start u are at (left_of piece start) came_is left payload whole enough put c.read_close.result (λ m. c.read_close.ensures m payload refl) c.in-Close.ensures)
+
+pub returns-in_default-kind : goal.returns-in_default-kind
+returns-in_default-kind c =
+    let i = c.self.inside in
+    let v = c.args.self.now in
+    let b = c.check_piece.new.assembly in
+    let g = c.check_piece.new.frame in
+    let piece = c.args.piece.now in
+    let o : ReceiverValue = receiver_of i.role i.limits i.assembly i.frame in
+    let found : IsPieceCheck i.role i.limits i.assembly i.frame b g piece (Some c.in-Some.check) = subst (λ (x : Option PieceCheck). IsPieceCheck i.role i.limits i.assembly i.frame b g piece x) c.in-Some.is c.in_ok-check.ensures.checked in
+    let opened = c.in_ok-check.ensures.opened in
+    let h = c.in-Control.header in
+    let start = c.in-Control.start in
+    let told : IsPieceCheck i.role i.limits i.assembly i.frame b g piece (Some (piece_check.Control h start)) = subst (λ (y : PieceCheck). IsPieceCheck i.role i.limits i.assembly i.frame b g piece (Some y)) c.in-Control.is found in
+    let at = told.2 in
+    let short : h.len ≤ 125 = short_control i.role i.limits i.assembly.opened h at.none at.control in
+    let rest = take (length piece - start) (drop start piece) in
+    let came = c.control_payload-before.result.now in
+    let came_is : came ≡ control_payload_of i.frame = c.control_payload-before.ensures.bytes ∙ ap (λ (f : UnderWay). control_payload_of f) told.1 in
+    let less : length came ≤ h.len = omega (arith, at.came, ap (λ (l : List ℕ). length l) came_is) in
+    let u = c.self.invariant.under_way in
+    let are = c.check_piece.ensures.bytes in
+    let left = c.payload_len.result - length came in
+    let whole : length came + left ≡ h.len = omega (arith, less, c.payload_len.ensures.value) in
+    let enough : left ≤ length rest = omega (arith, c.if-rest-left.false) in
+    let payload = came ++ masked_from h.key (length came) (take left rest) in
+    let is = c.self.view_is in
+    let same = told_shows i.role i.limits i.assembly b i.frame g piece c.in-Some.check found in
+    record {
+      nothing = c.in_ok-check.ensures.nothing;
+      goes_on = λ no. absurd cc;
+      exact = λ no. absurd cc;
+      kept = λ no. same.1 ∙ ap (λ (x : ReceiverValue). x.partial_frame) is;
+      came = λ no. ap (λ (f : UnderWay). came_of f) same.0 ∙ ap (λ (x : ReceiverValue). x.came) is;
+      tells = λ no. subst (λ (w : ReceiverValue). WantsRoom (λ e. Unit {0}) w piece) is
+          (other_wants i.role i.limits i.assembly i.frame o refl piece rest came h start u are at (left_of piece start) came_is left payload whole enough refl (λ eight. not_close c.kind.result h.opcode c.kind.ensures c.in_default-kind.not-Close eight));
+      refused = tt;
+      opened = opened ∙ ap (λ (x : ReceiverValue). x.opened) is;
+      sound = shown_sound i.role i.limits i.assembly b i.frame g c.self.invariant.sound opened same.1 c.in_ok-check.ensures.room;
+      role = ap (λ (x : ReceiverValue). x.role) is;
+      limits = ap (λ (x : ReceiverValue). x.limits) is;
+      wants = tt;
+    }

@@ -6,9 +6,9 @@ use Rattle.ws_wire.specs.Header.{AreBytes}
 use Rattle.ws_session.specs.Faults.{IsControl}
 use Rattle.ws_session.specs.declared.receiver.under_way.UnderWay.{UnderWay}
 use Rattle.ws_session.specs.declared.receiver.under_way.UnderWay.TheVariants as under_way
-use Rattle.ws_session.specs.declared.receiver.frame_check.PieceCheck.{PieceCheck}
-use Rattle.ws_session.specs.declared.receiver.frame_check.PieceCheck.TheVariants as piece_check
-use Rattle.ws_session.specs.declared.receiver.frame_check.FrameCheck.TheVariants as check
+use Rattle.ws_session.specs.declared.receiver.piece_check.PieceCheck.{PieceCheck}
+use Rattle.ws_session.specs.declared.receiver.piece_check.PieceCheck.TheVariants as piece_check
+use Rattle.ws_session.specs.InnerFrameCheck as check
 use Rattle.ws_session.specs.InnerReceiving.{IsUnderWay, IsDataCheck, IsFrameCheck, IsPieceCheck, IsPayloadCheck, frame_payload, partial_of}
 use Rattle.ws_session.proofs.ByteLists.{bytes_append}
 use Rattle.ws_session.proofs.Exact.{data_fits}

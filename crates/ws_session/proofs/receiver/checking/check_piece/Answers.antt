@@ -4,8 +4,8 @@ use Rattle.std.proofs.Common.{◌+◌, ◌++◌, length, Option, Some, None, ref
 use Rattle.ws_wire.specs.Header.{AreBytes}
 use Rattle.ws_session.specs.declared.receiver.under_way.UnderWay.{UnderWay}
 use Rattle.ws_session.specs.declared.receiver.under_way.UnderWay.TheVariants as under_way
-use Rattle.ws_session.specs.declared.receiver.frame_check.PieceCheck.{PieceCheck}
-use Rattle.ws_session.specs.declared.receiver.frame_check.FrameCheck.TheVariants as check
+use Rattle.ws_session.specs.declared.receiver.piece_check.PieceCheck.{PieceCheck}
+use Rattle.ws_session.specs.InnerFrameCheck as check
 use Rattle.ws_session.specs.InnerReceiving.{IsUnderWay, HasNewData, IsDataCheck, IsFrameCheck, IsPieceCheck, ShowsTheSame, partial_of}
 use Rattle.ws_session.proofs.ByteLists.{bytes_append}
 use Rattle.ws_session.proofs.Exact.{room_data}

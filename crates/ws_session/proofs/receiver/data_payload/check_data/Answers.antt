@@ -2,8 +2,8 @@
 use Rattle.std.proofs.Common.{◌≡◌, ◌∙◌, ◌+◌, ◌-◌, ◌++◌, ◌<◌, ◌≤◌, length, take, List, ℕ, Option, Some, None, ap, refl, sym, subst, arith}
 use Rattle.std.specs.Prelude.{min}
 use Rattle.ws_session.specs.declared.receiver.under_way.UnderWay.TheVariants as under_way
-use Rattle.ws_session.specs.declared.receiver.frame_check.PieceCheck.{PieceCheck}
-use Rattle.ws_session.specs.declared.receiver.frame_check.FrameCheck.TheVariants as check
+use Rattle.ws_session.specs.declared.receiver.piece_check.PieceCheck.{PieceCheck}
+use Rattle.ws_session.specs.InnerFrameCheck as check
 use Rattle.ws_session.specs.Messages.{kind_of}
 use Rattle.ws_session.specs.Faults.{IsOfText}
 use Rattle.ws_session.specs.InnerMasked.{masked_from}
