@@ -48,17 +48,6 @@ pong_kept tally replies r is h = record {
       ∙ last_joined None (pong_replies replies) (r ∷ []));
 }
 
--- one ping more, which counts for nothing
-pub ping_kept : (tally : ReplyTally) (replies : List (InTurn Reply)) (r : InTurn Reply) → is_message r.what ≡ false → is_pong r.what ≡ false → IsTallyOf tally replies → IsTallyOf tally (replies ++ r ∷ [])
-ping_kept tally replies r no_message no_pong h = record {
-  messages =
-      h.messages ∙ ap (λ (l : List (InTurn Reply)). length l)
-      (sym (append-nil (message_replies replies)) ∙ ap (λ (l : List (InTurn Reply)). message_replies replies ++ l) (sym (none_left (λ x. is_message x.what) r no_message)) ∙ sym (filter-append (λ x. is_message x.what) replies (r ∷ [])));
-  last_pong =
-      h.last_pong ∙ ap (λ (l : List (InTurn Reply)). last_or None l)
-      (sym (append-nil (pong_replies replies)) ∙ ap (λ (l : List (InTurn Reply)). pong_replies replies ++ l) (sym (none_left (λ x. is_pong x.what) r no_pong)) ∙ sym (filter-append (λ x. is_pong x.what) replies (r ∷ [])));
-}
-
 -- ---- what is kept tells whether what is due has come
 
 never_none : {X : Type 0} (x : X) (xs : List X) → last_or (Some x) xs ≡ None → ⊥

@@ -22,13 +22,20 @@ use Rattle.ws_suite.specs.declared.evidence.collecting.Way.{Way}
 use Rattle.ws_suite.specs.declared.evidence.collecting.Way.TheVariants.{Sent, Got, Told}
 use Rattle.ws_suite.specs.declared.evidence.collecting.Collected.{Collected}
 use Rattle.ws_suite.specs.Evidence.{IsDirectionOf, due_for, ending_in, got_in, got_turns, other_role, sent_turns}
+use Rattle.ws_suite.specs.declared.evidence.kept.ReplyKind.{ReplyKind}
 use Rattle.ws_suite.specs.Explanation.{told_in}
 use Rattle.ws_suite.specs.Growing.{HasTakenTurns}
+use Rattle.ws_suite.specs.Kept.{reply_of}
 
 abbrev pub found_by : Way → Event → List Reply
 found_by Sent e = due_for e
 found_by Got e = got_in e
 found_by Told e = told_in e
+
+-- the reply of this kind with this payload, if there is one
+abbrev pub reply_if_any : Option ReplyKind → List ℕ → List Reply
+reply_if_any None payload = []
+reply_if_any (Some kind) payload = reply_of kind payload ∷ []
 
 -- the bytes of a turn that go this way
 abbrev pub way_bytes : Way → Turn → List ℕ

@@ -15,3 +15,4 @@ pub mod InnerJudging
 pub mod InnerChosen
 pub mod InnerAnswered
 pub mod InnerInStep
+pub mod InnerTally

@@ -1,7 +1,7 @@
 //! What a transcript shows of the tested end: the events of both directions, each with its turn.
 
-ghost use Rattle.std.specs.Prelude.{◌≡◌, ◌≤◌, ◌↔◌, IsTrue};
-ghost use Rattle.ws_suite.specs.Matching.{ends_with_close, ends_with_fault, is_close_ending, is_message, is_pong};
+ghost use Rattle.std.specs.Prelude.{◌≡◌};
+ghost use Rattle.ws_suite.specs.Matching.{ends_with_close, ends_with_fault, is_close_ending};
 
 mod collecting;
 mod doom;
@@ -99,45 +99,4 @@ pub(crate) fn is_close_ending(ending: &Ending) -> bool
         Ending::Closed(_) => true,
         Ending::Failed(_) | Ending::Doomed => false,
     }
-}
-
-/// Whether a reply is a message.
-pub(crate) fn is_message(reply: &Reply) -> bool
-    ensures { result ≡ is_message reply.now }
-{
-    match reply {
-        Reply::Message(_) => true,
-        Reply::Pong(_) | Reply::Ping(_) => false,
-    }
-}
-
-/// Whether it is a pong.
-pub(crate) fn is_pong(reply: &Reply) -> bool
-    ensures { result ≡ is_pong reply.now }
-{
-    match reply {
-        Reply::Pong(_) => true,
-        Reply::Message(_) | Reply::Ping(_) => false,
-    }
-}
-
-/// Whether two replies are one: messages of one kind and payload, or pongs or pings of one payload.
-pub(crate) fn are_same(one: &Reply, other: &Reply) -> bool
-    ensures { IsTrue result ↔ (one.now ≡ other.now) }
-{
-    match (one, other) {
-        (Reply::Message(one), Reply::Message(other)) => {
-            one.kind == other.kind && one.payload.as_slice() == other.payload.as_slice()
-        }
-        (Reply::Pong(one), Reply::Pong(other)) => one.as_slice() == other.as_slice(),
-        (Reply::Ping(one), Reply::Ping(other)) => one.as_slice() == other.as_slice(),
-        _ => false,
-    }
-}
-
-/// Whether a reply that was got is the one that is due, and stands in no earlier turn than its cause.
-pub(crate) fn is_answer(due: &InTurn<Reply>, got: &InTurn<Reply>) -> bool
-    ensures { IsTrue result ↔ (got.now.what ≡ due.now.what) × (due.now.turn ≤ got.now.turn) }
-{
-    are_same(&got.what, &due.what) && due.turn <= got.turn
 }

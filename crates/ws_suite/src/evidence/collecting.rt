@@ -3,16 +3,16 @@
 ghost use Rattle.std.specs.Prelude.{◌≡◌, ◌<◌, ◌≤◌, ℕ, List, [], ◌∷◌, ◌++◌, length, take, true, IfOk, OnOk};
 ghost use Rattle.std.specs.Prelude.{option_to_list};
 ghost use Rattle.ws_wire.specs.declared.role.Role.{Role};
-ghost use Rattle.ws_session.specs.declared.event.Event.{Event};
 ghost use Rattle.ws_session.specs.Exchange.{is_over};
+ghost use Rattle.ws_session.specs.Lent.{event_if_any, event_in};
 ghost use Rattle.ws_suite.specs.Evidence.{ending_in};
-ghost use Rattle.ws_suite.specs.InnerCollecting.{AreCollected, EventLaws, HasTakenWay, found_by};
+ghost use Rattle.ws_suite.specs.InnerCollecting.{AreCollected, EventLaws, HasTakenWay, found_by, reply_if_any};
 
-use crate::evidence::{Ending, InTurn, KeepsReplies, Reply};
+use crate::evidence::{Ending, InTurn, KeepsReplies, Kept, ReplyKind};
 use crate::lemmas::session_laws;
 use std::alloc::Global;
 use ws_base::NoMemory;
-use ws_session::{Event, Limits, Session};
+use ws_session::{EventKind, Kind, Limits, PayloadRoom, Session};
 use ws_wire::{NO_KEY, Role};
 
 /// One of the two directions, and what is collected of it.
@@ -41,6 +41,23 @@ pub(super) struct Taken<K> {
     pub collected: Collected<K>,
 }
 
+/// The rooms for what sessions tell and put, one after the other: what one frame asked for serves the next.
+#[derive(Drop)]
+pub(super) struct Rooms {
+    told: PayloadRoom,
+    put: Vec<u8>,
+}
+
+impl Rooms {
+    /// Rooms that have asked for no memory.
+    pub(super) fn new(alloc: Global) -> Rooms {
+        Rooms {
+            told: PayloadRoom::new(alloc),
+            put: Vec::new(alloc),
+        }
+    }
+}
+
 /// A direction of which an end with this role has taken nothing.
 pub(super) fn nothing_taken<K: KeepsReplies>(alloc: Global, way: Way, role: Role) -> Taken<K>
     ensures { HasTakenWay K.keeps way role [] result.session result.collected }
@@ -62,10 +79,10 @@ pub(super) const AT_ONCE: usize = 4096;
 /// Takes a piece of the turn with this number, which is the last, and collects what it says. Each event is collected
 /// before more bytes are taken: so there is no list of them.
 pub(super) fn take_piece<K: KeepsReplies>(
-    alloc: Global,
     way: Way,
     number: usize,
     piece: &[u8],
+    rooms: &mut Rooms,
     taken: &mut Taken<K>,
 ) -> Result<(), NoMemory>
     ensures taken { (role : Role) (turns : List (List ℕ)) (last : List ℕ) → number ≡ length turns →
@@ -75,24 +92,23 @@ pub(super) fn take_piece<K: KeepsReplies>(
     ensures over { is_over taken.old.session.status ≡ true → taken.new.session ≡ taken.old.session }
 {
     session_laws();
-    let mut replies = Vec::new(alloc);
     let mut rest = piece;
     while !rest.is_empty() {
         let part = &rest[..rest.len().min(AT_ONCE)];
-        let used = take_front(way, number, part, &mut replies, taken)?;
-        replies.clear();
+        let used = take_front(way, number, part, rooms, taken)?;
         rest = &rest[used..];
     }
     Ok(())
 }
 
-/// Takes the front of a piece, up to its next event, and collects that: how many bytes these are. The session's replies
-/// go after those in `replies`; nobody reads them.
+/// Takes the front of a piece, up to its next event, and collects that: how many bytes these are. Nobody reads what the
+/// session puts.
+#[inline]
 fn take_front<K: KeepsReplies>(
     way: Way,
     number: usize,
     piece: &[u8],
-    replies: &mut Vec<u8>,
+    rooms: &mut Rooms,
     taken: &mut Taken<K>,
 ) -> Result<usize, NoMemory>
     requires { 0 < length piece.now }
@@ -103,77 +119,84 @@ fn take_front<K: KeepsReplies>(
         taken.new.session taken.new.collected) }
     ensures over { is_over taken.old.session.status ≡ true → taken.new.session ≡ taken.old.session }
 {
-    let front = taken.session.take(piece, NO_KEY, replies)?;
+    rooms.put.clear();
+    let front = taken
+        .session
+        .take_into(piece, NO_KEY, &mut rooms.put, &mut rooms.told)?;
     taken.collected.has_rest = front.event.is_none();
-    collect_found(way, number, front.event, &mut taken.collected)?;
+    let payload = rooms.told.as_slice();
+    collect_found(way, number, front.event, payload, &mut taken.collected)?;
     Ok(front.used)
 }
 
-/// Collects what an event says, if there is one.
+/// Collects what an event says, if there is one. Its payload is lent.
+#[inline]
 fn collect_found<K: KeepsReplies>(
     way: Way,
     turn: usize,
-    event: Option<Event>,
+    event: Option<EventKind>,
+    payload: &[u8],
     collected: &mut Collected<K>,
 ) -> Result<(), NoMemory>
-    ensures { OnOk result (AreCollected K.keeps way turn (option_to_list event) collected.old collected.new) }
+    ensures { OnOk result (AreCollected K.keeps way turn (option_to_list (event_if_any event payload.now))
+        collected.old collected.new) }
 {
     match event {
-        Some(event) => collect_event(way, turn, event, collected),
+        Some(event) => collect_event(way, turn, event, payload, collected),
         None => Ok(()),
     }
 }
 
 /// Collects what an event says.
+#[inline]
 fn collect_event<K: KeepsReplies>(
     way: Way,
     turn: usize,
-    event: Event,
+    event: EventKind,
+    payload: &[u8],
     collected: &mut Collected<K>,
 ) -> Result<(), NoMemory>
-    ensures { OnOk result (AreCollected K.keeps way turn (event ∷ []) collected.old collected.new) }
+    ensures { OnOk result (AreCollected K.keeps way turn (event_in event payload.now ∷ [])
+        collected.old collected.new) }
 {
-    if let Some(what) = ending_of(&event) {
+    if let Some(what) = ending_of(event) {
         collected.ending = Some(InTurn { turn, what });
     }
-    if let Some(what) = reply_of(way, event) {
-        collected.replies.keep(InTurn { turn, what })?;
+    if let Some(kind) = reply_of(way, event) {
+        collected.replies.keep(Kept {
+            turn,
+            kind,
+            payload,
+        })?;
     }
     Ok(())
 }
 
 /// The close or the fault that an event is.
-fn ending_of(event: &Event) -> Option<Ending>
-    ensures { ending_in event.now ≡ option_to_list result }
+#[inline]
+fn ending_of(event: EventKind) -> Option<Ending>
+    ensures { (payload : List ℕ) → ending_in (event_in event payload) ≡ option_to_list result }
 {
     match event {
-        Event::Part | Event::Message(_) | Event::Ping(_) | Event::Pong(_) => None,
-        Event::Close(None) => Some(Ending::Closed(None)),
-        Event::Close(Some(close)) => Some(Ending::Closed(Some(close.code()))),
-        Event::Failed(reason) => Some(Ending::Failed(*reason)),
+        EventKind::Part | EventKind::Message(_) | EventKind::Ping | EventKind::Pong => None,
+        EventKind::Close(code) => Some(Ending::Closed(code)),
+        EventKind::Failed(reason) => Some(Ending::Failed(reason)),
     }
 }
 
-/// The reply that is due for an event that was sent, or that an event that was got is, or what is told of it.
-fn reply_of(way: Way, event: Event) -> Option<Reply>
-    ensures { found_by way event ≡ option_to_list result }
+/// What the reply that is due for an event that was sent, or that an event that was got is, or what is told of it; its
+/// payload is that of the event.
+#[inline]
+fn reply_of(way: Way, event: EventKind) -> Option<ReplyKind>
+    ensures { (payload : List ℕ) → found_by way (event_in event payload) ≡ reply_if_any result payload }
 {
-    match way {
-        Way::Sent => match event {
-            Event::Message(message) => Some(Reply::Message(message)),
-            Event::Ping(payload) => Some(Reply::Pong(payload)),
-            Event::Part | Event::Pong(_) | Event::Close(_) | Event::Failed(_) => None,
-        },
-        Way::Got => match event {
-            Event::Message(message) => Some(Reply::Message(message)),
-            Event::Pong(payload) => Some(Reply::Pong(payload)),
-            Event::Part | Event::Ping(_) | Event::Close(_) | Event::Failed(_) => None,
-        },
-        Way::Told => match event {
-            Event::Message(message) => Some(Reply::Message(message)),
-            Event::Ping(payload) => Some(Reply::Ping(payload)),
-            Event::Pong(payload) => Some(Reply::Pong(payload)),
-            Event::Part | Event::Close(_) | Event::Failed(_) => None,
-        },
+    match (way, event) {
+        (_, EventKind::Message(Kind::Text)) => Some(ReplyKind::Text),
+        (_, EventKind::Message(Kind::Binary)) => Some(ReplyKind::Binary),
+        (Way::Sent, EventKind::Ping) | (Way::Got | Way::Told, EventKind::Pong) => {
+            Some(ReplyKind::Pong)
+        }
+        (Way::Told, EventKind::Ping) => Some(ReplyKind::Ping),
+        _ => None,
     }
 }

@@ -9,7 +9,7 @@ ghost use Rattle.ws_suite.specs.Evidence.{IsEvidenceOf, other_role};
 ghost use Rattle.ws_suite.specs.Growing.{AreAll, AreTurnsAnswered, EndInsideFrame, HasGrown, IsTallyOf};
 ghost use Rattle.ws_suite.specs.Growing.{is_clean, is_failed, new_turn, turn_with_got, turn_with_sent};
 
-use crate::evidence::collecting::{Collected, Taken, Way, nothing_taken, take_piece};
+use crate::evidence::collecting::{Collected, Rooms, Taken, Way, nothing_taken, take_piece};
 use crate::evidence::keeping::{AllReplies, KeepsReplies, ReplyTally};
 use crate::evidence::{Direction, Evidence};
 use crate::lemmas::session_laws;
@@ -25,7 +25,7 @@ use ws_wire::Role;
 /// nothing more.
 #[derive(Drop)]
 pub struct GrowingEvidence<K> {
-    alloc: Global,
+    rooms: Rooms,
     sent: Taken<K>,
     got: Taken<K>,
     turns: usize,
@@ -54,7 +54,7 @@ impl<K: KeepsReplies> GrowingEvidence<K> {
         ensures { HasGrown K.keeps tested [] result }
     {
         GrowingEvidence {
-            alloc,
+            rooms: Rooms::new(alloc),
             sent: nothing_taken(alloc, Way::Sent, tested),
             got: nothing_taken(alloc, Way::Got, other(tested)),
             turns: 0,
@@ -76,7 +76,7 @@ impl<K: KeepsReplies> GrowingEvidence<K> {
             OnOk result (HasGrown K.keeps tested (before ++ turn_with_sent turn bytes.now ∷ []) self.new) }
     {
         let number = self.turns.saturating_sub(1);
-        take_piece(self.alloc, Way::Sent, number, bytes, &mut self.sent)?;
+        take_piece(Way::Sent, number, bytes, &mut self.rooms, &mut self.sent)?;
         Ok(())
     }
 
@@ -90,7 +90,7 @@ impl<K: KeepsReplies> GrowingEvidence<K> {
         ensures over { is_over self.old.tester.status ≡ true → self.new.tester ≡ self.old.tester }
     {
         let number = self.turns.saturating_sub(1);
-        take_piece(self.alloc, Way::Got, number, bytes, &mut self.got)?;
+        take_piece(Way::Got, number, bytes, &mut self.rooms, &mut self.got)?;
         Ok(())
     }
 

@@ -1,13 +1,17 @@
 //! What is kept of the replies of a direction: all of them, or what a run asks about.
 
-ghost use Rattle.std.specs.Prelude.{◌≡◌, ◌↔◌, [], ◌∷◌, ◌++◌, List, IsTrue, OnOk};
+ghost use Rattle.std.specs.Prelude.{◌≡◌, ◌↔◌, [], ◌∷◌, ◌++◌, List, IsTrue, None, OnOk, Some};
 ghost use Rattle.ws_suite.specs.declared.evidence.InTurn.{InTurn};
 ghost use Rattle.ws_suite.specs.declared.evidence.Reply.{Reply};
 ghost use Rattle.ws_suite.specs.Growing.{AnswersTally, IsAnsweredPong};
+ghost use Rattle.ws_suite.specs.Kept.{reply_in};
+ghost use Rattle.ws_suite.specs.InnerTally.{pong_of};
 
-use crate::evidence::{InTurn, Replies, Reply, is_answer, is_message, is_pong};
+use crate::evidence::{Kept, Replies, ReplyKind};
 use std::alloc::Global;
+use std::marker::Model;
 use ws_base::NoMemory;
+use ws_text::{ControlBytes, MAX_CONTROL_PAYLOAD};
 
 /// Keeps the replies of a direction, which are told one after the other, or as much of them as will be asked about.
 pub trait KeepsReplies {
@@ -18,10 +22,10 @@ pub trait KeepsReplies {
     fn none(alloc: Global) -> Self
         ensures { keeps result [] };
 
-    /// One more reply is told. Answers `NoMemory` where it can't be kept.
-    fn keep(&mut self, reply: InTurn<Reply>) -> Result<(), NoMemory>
+    /// One more reply is told, whose payload is lent. Answers `NoMemory` where it can't be kept.
+    fn keep(&mut self, reply: Kept<'_>) -> Result<(), NoMemory>
         ensures { OnOk result ((replies : List (InTurn Reply)) → keeps self.old replies →
-            keeps self.new (replies ++ reply ∷ [])) };
+            keeps self.new (replies ++ reply_in reply.entry ∷ [])) };
 }
 
 /// All replies.
@@ -41,8 +45,8 @@ impl KeepsReplies for AllReplies {
         }
     }
 
-    fn keep(&mut self, reply: InTurn<Reply>) -> Result<(), NoMemory> {
-        self.list.push(&reply)?;
+    fn keep(&mut self, reply: Kept<'_>) -> Result<(), NoMemory> {
+        self.list.push(reply)?;
         Ok(())
     }
 }
@@ -52,7 +56,7 @@ impl KeepsReplies for AllReplies {
 #[derive(Drop)]
 pub struct ReplyTally {
     pub(crate) messages: u64,
-    pub(crate) last_pong: Option<InTurn<Reply>>,
+    pub(crate) last_pong: LastPong,
 }
 
 impl KeepsReplies for ReplyTally {
@@ -63,19 +67,21 @@ impl KeepsReplies for ReplyTally {
     fn none(_alloc: Global) -> ReplyTally {
         ReplyTally {
             messages: 0,
-            last_pong: None,
+            last_pong: LastPong::none(),
         }
     }
 
-    fn keep(&mut self, reply: InTurn<Reply>) -> Result<(), NoMemory> {
-        if is_message(&reply.what) {
-            // There is no room for a greater number, as there is none for a list of so many.
-            let Some(messages) = self.messages.checked_add(1) else {
-                return Err(NoMemory);
-            };
-            self.messages = messages;
-        } else if is_pong(&reply.what) {
-            self.last_pong = Some(reply);
+    fn keep(&mut self, reply: Kept<'_>) -> Result<(), NoMemory> {
+        match reply.kind {
+            ReplyKind::Text | ReplyKind::Binary => {
+                // There is no room for a greater number, as there is none for a list of so many.
+                let Some(messages) = self.messages.checked_add(1) else {
+                    return Err(NoMemory);
+                };
+                self.messages = messages;
+            }
+            ReplyKind::Pong => self.last_pong.keep(reply.turn, reply.payload)?,
+            ReplyKind::Ping => {}
         }
         Ok(())
     }
@@ -86,17 +92,62 @@ impl ReplyTally {
     pub(crate) fn answers(&self, due: &ReplyTally) -> bool
         ensures { IsTrue result ↔ AnswersTally due.now self.now }
     {
-        self.messages >= due.messages && has_last(&due.last_pong, &self.last_pong)
+        self.messages >= due.messages && self.last_pong.answers(&due.last_pong)
     }
 }
 
-/// Whether the last due pong is there, if there is one.
-fn has_last(due: &Option<InTurn<Reply>>, got: &Option<InTurn<Reply>>) -> bool
-    ensures { IsTrue result ↔ IsAnsweredPong due.now got.now }
-{
-    match (due, got) {
-        (None, _) => true,
-        (Some(_), None) => false,
-        (Some(due), Some(got)) => is_answer(due, got),
+/// The last pong, if there is one, kept in place. Contracts see it as that reply.
+#[derive(Drop)]
+pub(crate) struct LastPong {
+    turn: Option<usize>,
+    payload: ControlBytes,
+}
+
+impl Model for LastPong {
+    ghost use Rattle.std.specs.Prelude.{Option};
+    ghost use Rattle.ws_suite.specs.declared.evidence.InTurn.{InTurn};
+    ghost use Rattle.ws_suite.specs.declared.evidence.Reply.{Reply};
+    ghost use Rattle.ws_suite.specs.InnerTally.{pong_kept};
+
+    ghost Value = { Option (InTurn Reply) };
+
+    ghost view = { λ p. pong_kept p.turn p.payload };
+}
+
+impl LastPong {
+    /// There is none.
+    fn none() -> LastPong
+        ensures { result ≡ None }
+    {
+        LastPong {
+            turn: None,
+            payload: ControlBytes::new(),
+        }
+    }
+
+    /// One more pong has come.
+    fn keep(&mut self, turn: usize, payload: &[u8]) -> Result<(), NoMemory>
+        ensures { OnOk result (self.new ≡ Some (pong_of turn payload.now)) }
+    {
+        // No pong has a longer payload.
+        if payload.len() > MAX_CONTROL_PAYLOAD {
+            return Err(NoMemory);
+        }
+        self.turn = Some(turn);
+        self.payload = ControlBytes::of(payload);
+        Ok(())
+    }
+
+    /// Whether the last due pong is there, if there is one: this is it, and stands in no earlier turn.
+    fn answers(&self, due: &LastPong) -> bool
+        ensures { IsTrue result ↔ IsAnsweredPong due.now self.now }
+    {
+        match (due.turn, self.turn) {
+            (None, _) => true,
+            (Some(_), None) => false,
+            (Some(due_turn), Some(turn)) => {
+                self.payload.as_slice() == due.payload.as_slice() && due_turn <= turn
+            }
+        }
     }
 }

@@ -2,13 +2,11 @@
 
 ghost use Rattle.std.specs.Prelude.{◌≡◌, ◌↔◌, ◌≤◌, ◌∷◌, ◌++◌, [], length, IsTrue, OnOk};
 ghost use Rattle.ws_suite.specs.InnerAnswered.{AreAnsweredEach, AreHeadsAnswered};
-ghost use Rattle.ws_suite.specs.Kept.{first_of, reply_of, what_of};
+ghost use Rattle.ws_suite.specs.Kept.{first_of, reply_in, what_of};
 
-use crate::evidence::{InTurn, Reply};
 use std::alloc::Global;
 use std::marker::Model;
 use ws_base::NoMemory;
-use ws_session::Kind;
 
 /// What a reply is, but for its payload.
 #[derive(Clone, Copy)]
@@ -58,21 +56,20 @@ impl Replies {
         }
     }
 
-    /// One more reply.
-    pub(crate) fn push(&mut self, reply: &InTurn<Reply>) -> Result<(), NoMemory>
-        ensures { OnOk result (self.new ≡ self.old ++ reply.now ∷ []) }
+    /// One more reply, whose payload goes straight behind the others.
+    pub(crate) fn push(&mut self, reply: Kept<'_>) -> Result<(), NoMemory>
+        ensures { OnOk result (self.new ≡ self.old ++ reply_in reply.entry ∷ []) }
     {
-        let (kind, payload) = parts(&reply.what);
         // No payload is longer than the longest message.
-        let Ok(len) = u32::try_from(payload.len()) else {
+        let Ok(len) = u32::try_from(reply.payload.len()) else {
             return Err(NoMemory);
         };
         self.heads.reserve(1)?;
-        self.payloads.extend_from_slice(payload)?;
+        self.payloads.extend_from_slice(reply.payload)?;
         self.heads.push_reserved(Head {
             turn: reply.turn,
             len,
-            kind,
+            kind: reply.kind,
         });
         Ok(())
     }
@@ -137,21 +134,7 @@ fn are_one_kind(one: ReplyKind, other: ReplyKind) -> bool
     }
 }
 
-/// What a reply is, and its payload.
-fn parts(reply: &Reply) -> (ReplyKind, &[u8])
-    ensures { reply_of result.0 result.1.now ≡ reply.now }
-{
-    match reply {
-        Reply::Message(message) => match message.kind {
-            Kind::Text => (ReplyKind::Text, message.payload.as_slice()),
-            Kind::Binary => (ReplyKind::Binary, message.payload.as_slice()),
-        },
-        Reply::Pong(payload) => (ReplyKind::Pong, payload.as_slice()),
-        Reply::Ping(payload) => (ReplyKind::Ping, payload.as_slice()),
-    }
-}
-
-/// A reply that is kept.
+/// A reply, whose payload is lent.
 #[derive(Clone, Copy)]
 pub struct Kept<'a> {
     pub turn: usize,

@@ -6,7 +6,7 @@ ghost use Rattle.ws_suite.specs.Explanation.{IsBeyondBy, told_in};
 ghost use Rattle.ws_suite.specs.InnerCollecting.{IsToldEvidenceOf, first_beyond, found_by, way_bytes};
 ghost use Rattle.ws_suite.specs.Matching.{ends_with_close};
 
-use crate::evidence::collecting::{Collected, Taken, Way, nothing_taken, take_piece};
+use crate::evidence::collecting::{Collected, Rooms, Taken, Way, nothing_taken, take_piece};
 use crate::evidence::growing::{direction_of, other};
 use crate::evidence::keeping::AllReplies;
 use crate::evidence::{Direction, Evidence, ends_with_close};
@@ -67,13 +67,14 @@ fn direction_by(alloc: Global, way: Way, role: Role, turns: &[Turn]) -> Result<W
 {
     session_laws();
     let mut taken: Taken<AllReplies> = nothing_taken(alloc, way, role);
+    let mut rooms = Rooms::new(alloc);
     let mut beyond = None;
     for number in 0..turns.len() {
         take_piece(
-            alloc,
             way,
             number,
             bytes_of(way, &turns[number]),
+            &mut rooms,
             &mut taken,
         )?;
         beyond = first_beyond(beyond, number, goes_on(&taken.collected));
