@@ -11,7 +11,7 @@ use crate::lemmas::echo_laws;
 use std::alloc::Global;
 use std::io::{Read, Write};
 use ws_frame::{READ_SIZE, Watched, write_whole};
-use ws_session::{Echo, PlacedEvent, Status};
+use ws_session::{Echo, Status};
 
 /// How a run of `drive` ended.
 #[derive(Clone, Copy, PartialEq, Eq)]
@@ -27,14 +27,6 @@ pub enum DriveEnd {
     Budget,
     /// Memory ran out.
     NoMemory,
-}
-
-/// The room for the replies to a read and for what it tells. It is kept for the next read: given back, it would often
-/// be the top of the heap, which the system would take and have to bring again.
-#[derive(Drop)]
-struct Rooms {
-    replies: Vec<u8>,
-    events: Vec<PlacedEvent>,
 }
 
 /// Why nothing more is answered.
@@ -87,11 +79,10 @@ pub fn drive<R: Read, W: Write>(
         (watched R.remaining reader.old reader.new) (watched W.contents writer.old writer.new) }
 {
     echo_laws();
-    let mut rooms = Rooms {
-        replies: Vec::new(alloc),
-        events: Vec::new(alloc),
-    };
-    if let Err(stop) = answer(&mut rooms, first, writer, echo, key) {
+    // It is kept for the next read: given back, it would often be the top of the heap, which the system would take and
+    // have to bring again.
+    let mut replies = Vec::new(alloc);
+    if let Err(stop) = answer(&mut replies, first, writer, echo, key) {
         return stop.end();
     }
     let mut room = [0; READ_SIZE];
@@ -109,7 +100,7 @@ pub fn drive<R: Read, W: Write>(
                 return DriveEnd::Done(echo.status());
             }
             Ok(count) => {
-                if let Err(stop) = answer(&mut rooms, &buf[..count], writer, echo, key) {
+                if let Err(stop) = answer(&mut replies, &buf[..count], writer, echo, key) {
                     return stop.end();
                 }
                 left -= count as u64;
@@ -119,10 +110,9 @@ pub fn drive<R: Read, W: Write>(
     DriveEnd::Done(echo.status())
 }
 
-/// Feeds a piece to an echo, and writes what it replies. Nothing of it is written where memory ran out. Its messages
-/// are dropped before it is written.
+/// Feeds a piece to an echo, and writes what it replies. Nothing of it is written where memory ran out.
 fn answer<W: Write>(
-    rooms: &mut Rooms,
+    replies: &mut Vec<u8>,
     piece: &[u8],
     writer: &mut Watched<W>,
     echo: &mut Echo,
@@ -133,12 +123,10 @@ fn answer<W: Write>(
         AnswersPiece call bytes put piece.now echo.new (watched W.contents writer.old writer.new) result }
 {
     echo_laws();
-    rooms.replies.clear();
-    let taken = echo.take_all(piece, key, &mut rooms.replies, &mut rooms.events);
-    rooms.events.clear();
-    match taken {
+    replies.clear();
+    match echo.pass(piece, key, replies) {
         Err(_) => Err(Stop::NoMemory),
-        Ok(()) => match write_whole(writer, rooms.replies.as_slice()) {
+        Ok(()) => match write_whole(writer, replies.as_slice()) {
             Ok(()) => Ok(()),
             Err(_) => Err(Stop::WriteFault),
         },

@@ -19,7 +19,6 @@ use ws_wire::{NO_KEY, Role};
 /// An endpoint that sends each message back, answers what is owed, and ends the connection once its session is over.
 #[derive(Drop)]
 pub struct EchoPeer {
-    alloc: Global,
     echo: Echo,
     key: [u8; 4],
     is_spent: bool,
@@ -52,7 +51,6 @@ impl EchoPeer {
     {
         echo_laws();
         EchoPeer {
-            alloc,
             echo: Echo::new(alloc, Limits::largest(), role),
             key,
             is_spent: false,
@@ -72,8 +70,7 @@ impl Peer for EchoPeer {
             return Err(NoMemory);
         }
         echo_laws();
-        let mut events = Vec::new(self.alloc);
-        match self.echo.take_all(piece, self.key, out, &mut events) {
+        match self.echo.pass(piece, self.key, out) {
             Ok(()) => {
                 let going = going_after(&self.echo);
                 Ok(going)

@@ -9,14 +9,14 @@ pub returns-in-Err : goal.returns-in-Err
 returns-in-Err g c call bytes put e is =
     let piece = c.args.piece.now in
     let used = c.in-Err.field-0.used in
-    let after = c.take_all-taken.new.out.items in (
+    let after = c.pass.new.out.items in (
       c.requires,
       Appends-nil _,
       take used piece,
       drop used piece,
       after,
       sym (take-append-drop used piece),
-      piece_answered c.echo_laws.ensures call.role call.limits call.key c.args.key c.args.echo.now c.take_all-taken.new.self bytes put (take used piece) c.clear.new.self.items after after _ _ e is c.in-Err.ensures.taken c.clear.ensures.items refl,
+      piece_answered c.echo_laws.ensures call.role call.limits call.key c.args.key c.args.echo.now c.pass.new.self bytes put (take used piece) c.clear.new.self.items after after _ _ e is c.in-Err.ensures.taken.1 c.clear.ensures.items refl,
     )
 
 pub returns-in-Ok-write_whole : goal.returns-in-Ok-write_whole
@@ -24,19 +24,19 @@ returns-in-Ok-write_whole g c call bytes put e is = (
   search rules,
   c.as_slice.result.now,
   c.in-Ok-write_whole.ensures.written,
-  piece_answered c.echo_laws.ensures call.role call.limits call.key c.args.key c.args.echo.now c.take_all-taken.new.self bytes put c.args.piece.now c.clear.new.self.items c.take_all-taken.new.out.items c.as_slice.result.now _ _ e is
-      c.in-Ok.ensures.taken c.clear.ensures.items c.as_slice.ensures.value,
+  piece_answered c.echo_laws.ensures call.role call.limits call.key c.args.key c.args.echo.now c.pass.new.self bytes put c.args.piece.now c.clear.new.self.items c.pass.new.out.items c.as_slice.result.now _ _ e is
+      c.in-Ok.ensures.taken.1 c.clear.ensures.items c.as_slice.ensures.value,
 )
 
 pub returns-in-Err-write_whole : goal.returns-in-Err-write_whole
 returns-in-Err-write_whole g c call bytes put e is =
     let (front, more, parts, begun) = c.in-Err-write_whole.ensures.begun in
-    let stands : IsEchoOfCall call (bytes ++ c.args.piece.now) (put ++ c.as_slice.result.now) c.take_all-taken.new.self =
-    piece_answered c.echo_laws.ensures call.role call.limits call.key c.args.key c.args.echo.now c.take_all-taken.new.self bytes put c.args.piece.now c.clear.new.self.items c.take_all-taken.new.out.items c.as_slice.result.now _ _ e is
-    c.in-Ok.ensures.taken c.clear.ensures.items c.as_slice.ensures.value in (
+    let stands : IsEchoOfCall call (bytes ++ c.args.piece.now) (put ++ c.as_slice.result.now) c.pass.new.self =
+    piece_answered c.echo_laws.ensures call.role call.limits call.key c.args.key c.args.echo.now c.pass.new.self bytes put c.args.piece.now c.clear.new.self.items c.pass.new.out.items c.as_slice.result.now _ _ e is
+    c.in-Ok.ensures.taken.1 c.clear.ensures.items c.as_slice.ensures.value in (
       search rules,
       front,
       more,
       begun,
-      subst (λ (l : List ℕ). IsEchoOfCall call (bytes ++ c.args.piece.now) (put ++ l) c.take_all-taken.new.self) parts stands,
+      subst (λ (l : List ℕ). IsEchoOfCall call (bytes ++ c.args.piece.now) (put ++ l) c.pass.new.self) parts stands,
     )
