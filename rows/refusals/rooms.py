@@ -10,6 +10,8 @@ MARK = 7_340_033
 # The bytes of each frame that is put: its payload, a header and a key.
 PUT = [size + head + 4 for size, head in ((0, 2), (1, 2), (125, 2), (126, 4), (65_535, 4), (65_536, 10))]
 LONG = 50_000
+# The bytes of a large message that is lent, and the most that ten small ones after it ask for.
+LARGE, SMALL = 200_000, 1_000
 
 
 def log_of(folder, words):
@@ -41,9 +43,9 @@ def failures_of_rooms(folder, words):
     """A text for each part that is not right."""
     parts = parts_of(log_of(folder, words))
     puts = parts[3 : 3 + 2 * len(PUT) : 2]
-    (_, before), (taken, opened), (ended, after), (later, last) = parts[-4:]
+    (_, before), (taken, opened), (ended, after), (later, last), (_, idle), (_, large), (asked, small), (_, forgotten) = parts[-8:]
     failures = []
-    if len(parts) != 2 + 2 * len(PUT) + 4:
+    if len(parts) != 2 + 2 * len(PUT) + 8:
         failures.append(f"{len(parts)} parts")
     if parts[1][0] != 0:
         failures.append(f"a new session asks for {parts[1][0]}")
@@ -54,4 +56,10 @@ def failures_of_rooms(folder, words):
         failures.append(f"a session that is over holds {after - before}, {last - before}")
     if later != 0:
         failures.append(f"a session that is over asks for {later}")
+    if not LARGE <= large - idle <= 2 * LARGE:
+        failures.append(f"a message of {LARGE} bytes that is lent holds {large - idle}")
+    if asked > SMALL or small - idle > SMALL:
+        failures.append(f"after it ten small ones ask for {asked} and hold {small - idle}")
+    if forgotten != idle:
+        failures.append(f"a room that was given back holds {forgotten - idle}")
     return failures

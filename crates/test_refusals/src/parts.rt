@@ -13,6 +13,8 @@ use ws_base::NoMemory;
 pub enum Part {
     /// `Session::take`.
     Take(&'static Stream),
+    /// `Session::take_into`.
+    TakeInto(&'static Stream),
     /// `Echo::take`.
     EchoTake(&'static Stream),
     /// `feed_all`.
@@ -39,12 +41,17 @@ pub enum Part {
     Rooms,
 }
 
-pub const PARTS: [Part; 30] = [
+pub const PARTS: [Part; 35] = [
     Part::Take(&streams::HELLO),
     Part::Take(&streams::CUT_TEXT),
     Part::Take(&streams::OVERSIZED),
     Part::Take(&streams::CLOSED),
     Part::Take(&streams::FRAGMENTS),
+    Part::TakeInto(&streams::HELLO),
+    Part::TakeInto(&streams::CUT_TEXT),
+    Part::TakeInto(&streams::OVERSIZED),
+    Part::TakeInto(&streams::CLOSED),
+    Part::TakeInto(&streams::FRAGMENTS),
     Part::EchoTake(&streams::HELLO),
     Part::EchoTake(&streams::CUT_TEXT),
     Part::EchoTake(&streams::OVERSIZED),
@@ -77,6 +84,7 @@ impl Part {
     pub fn name(self) -> &'static str {
         match self {
             Part::Take(_) => "take",
+            Part::TakeInto(_) => "take_into",
             Part::EchoTake(_) => "Echo::take",
             Part::Feed(_) => "feed_all",
             Part::Sends(_) => "begin, more, ping, pong, close",
@@ -110,6 +118,7 @@ impl Part {
     fn play(self, alloc: Global, tally: &mut Tally) -> Result<(), NoMemory> {
         match self {
             Part::Take(stream) => taking::take(alloc, stream, tally),
+            Part::TakeInto(stream) => taking::take_into(alloc, stream, tally),
             Part::EchoTake(stream) => taking::take_as_echo(alloc, stream, tally),
             Part::Feed(stream) => feeding::feed(alloc, stream, tally),
             Part::Sends(list) => sending::send(alloc, list, tally),

@@ -3,7 +3,7 @@
 
 use std::alloc::Global;
 use ws_base::NoMemory;
-use ws_session::{Kind, Limits, SendFault, Session};
+use ws_session::{Kind, Limits, MAX_MESSAGE, PayloadRoom, SendFault, Session};
 use ws_wire::{NO_KEY, Role};
 
 /// The size of the requests that part the others.
@@ -16,6 +16,9 @@ const LIMIT: u32 = 100_000;
 
 /// A text of this many bytes begins, and a byte of it follows that no text has.
 const LONG: usize = 50_000;
+
+/// The payload bytes of a message that is lent, more than a room keeps.
+const LARGE: usize = 200_000;
 
 /// A new session puts a frame of each size, and another one takes a text that isn't over, a fault, and bytes behind it.
 pub fn play(alloc: Global) -> Result<(), NoMemory> {
@@ -33,7 +36,8 @@ pub fn play(alloc: Global) -> Result<(), NoMemory> {
         mark(alloc)?;
         sent_or_not(sent)?;
     }
-    take_to_the_end(alloc, limits)
+    take_to_the_end(alloc, limits)?;
+    lend_large_and_small(alloc)
 }
 
 /// A session takes a frame that leaves its message open, and then bytes that are none of a text.
@@ -50,6 +54,29 @@ fn take_to_the_end(alloc: Global, limits: Limits) -> Result<(), NoMemory> {
     let _ = session.take(b"\x80\x01\xff", NO_KEY, &mut out)?;
     mark(alloc)?;
     let _ = session.take(frame.as_slice(), NO_KEY, &mut out)?;
+    mark(alloc)?;
+    Ok(())
+}
+
+/// A session lends a large message, and then ten small ones; then the room is given back.
+fn lend_large_and_small(alloc: Global) -> Result<(), NoMemory> {
+    let Some(limits) = Limits::new(MAX_MESSAGE) else {
+        return Err(NoMemory);
+    };
+    let mut large = Vec::from_slice(alloc, b"\x82\x7f\0\0\0\0\0\x03\x0d\x40")?;
+    let payload = filled(alloc, LARGE)?;
+    large.extend_from_slice(payload.as_slice())?;
+    let mut out = Vec::new(alloc);
+    let mut room = PayloadRoom::new(alloc);
+    let mut session = Session::new(alloc, Role::Client, limits);
+    mark(alloc)?;
+    let _ = session.take_into(large.as_slice(), NO_KEY, &mut out, &mut room)?;
+    mark(alloc)?;
+    for _ in 0..10 {
+        let _ = session.take_into(b"\x81\x05hello", NO_KEY, &mut out, &mut room)?;
+    }
+    mark(alloc)?;
+    room.forget();
     mark(alloc)?;
     Ok(())
 }

@@ -1,26 +1,35 @@
-//! Streams that a session or an echo takes, by single calls of `take`.
+//! Streams that a session or an echo takes, by single calls of `take` or `take_into`.
 
 ghost use Rattle.std.specs.Prelude.{◌≤◌, length, IfOk};
 
-use crate::events::is_told_at;
+use crate::events::{Told, is_lent_at, is_told_at};
 use crate::streams::Stream;
 use crate::tally::Tally;
 use std::alloc::Global;
 use ws_base::NoMemory;
-use ws_session::{Echo, Limits, Session, Status, Taken};
+use ws_session::{Echo, Limits, PayloadRoom, Session, Status};
 use ws_wire::{NO_KEY, Role};
 
 /// An endpoint that takes bytes.
 #[derive(Drop)]
 enum Taker {
     Session(Session),
+    /// It lends what it read in the room.
+    Lending(Session, PayloadRoom),
     Echo(Echo),
+}
+
+/// What a call took: how many bytes, and where it told an event whether it is the one that the list says.
+#[derive(Clone, Copy)]
+struct Step {
+    used: usize,
+    right: Option<bool>,
 }
 
 impl Taker {
     fn status(&self) -> Status {
         match self {
-            Taker::Session(session) => session.status(),
+            Taker::Session(session) | Taker::Lending(session, _) => session.status(),
             Taker::Echo(echo) => echo.status(),
         }
     }
@@ -29,6 +38,7 @@ impl Taker {
     fn call(&self) -> &'static str {
         match self {
             Taker::Session(_) => "take",
+            Taker::Lending(..) => "take_into",
             Taker::Echo(_) => "Echo::take",
         }
     }
@@ -36,19 +46,47 @@ impl Taker {
     /// The bytes that a session keeps. An echo doesn't tell them.
     fn held(&self) -> usize {
         match self {
-            Taker::Session(session) => session.held(),
+            Taker::Session(session) | Taker::Lending(session, _) => session.held(),
             Taker::Echo(_) => 0,
         }
     }
 
-    fn take(&mut self, piece: &[u8], out: &mut Vec<u8>) -> Result<Taken, NoMemory>
-        ensures { IfOk result (λ taken. taken.used ≤ length piece.now) }
+    /// One call, whose event is compared with the one at this place of the list.
+    fn take(
+        &mut self,
+        piece: &[u8],
+        out: &mut Vec<u8>,
+        events: &[Told],
+        place: usize,
+    ) -> Result<Step, NoMemory>
+        ensures { IfOk result (λ step. step.used ≤ length piece.now) }
     {
-        let taken = match self {
-            Taker::Session(session) => session.take(piece, NO_KEY, out)?,
-            Taker::Echo(echo) => echo.take(piece, NO_KEY, out)?,
+        let (used, event) = match self {
+            Taker::Session(session) => {
+                let taken = session.take(piece, NO_KEY, out)?;
+                (taken.used, taken.event)
+            }
+            Taker::Echo(echo) => {
+                let taken = echo.take(piece, NO_KEY, out)?;
+                (taken.used, taken.event)
+            }
+            Taker::Lending(session, room) => {
+                let taken = session.take_into(piece, NO_KEY, out, room)?;
+                let right = match taken.event {
+                    Some(kind) => Some(is_lent_at(kind, room.as_slice(), events, place)),
+                    None => None,
+                };
+                return Ok(Step {
+                    used: taken.used,
+                    right,
+                });
+            }
         };
-        Ok(taken)
+        let right = match &event {
+            Some(event) => Some(is_told_at(event, events, place)),
+            None => None,
+        };
+        Ok(Step { used, right })
     }
 }
 
@@ -65,6 +103,18 @@ pub fn take(alloc: Global, stream: &Stream, tally: &mut Tally) -> Result<(), NoM
     match Limits::new(stream.limit) {
         Some(limits) => {
             let taker = Taker::Session(Session::new(alloc, Role::Server, limits));
+            take_stream(alloc, taker, stream, stream.put, tally)
+        }
+        None => Err(NoMemory),
+    }
+}
+
+/// A session takes a stream, and lends what it read.
+pub fn take_into(alloc: Global, stream: &Stream, tally: &mut Tally) -> Result<(), NoMemory> {
+    match Limits::new(stream.limit) {
+        Some(limits) => {
+            let session = Session::new(alloc, Role::Server, limits);
+            let taker = Taker::Lending(session, PayloadRoom::new(alloc));
             take_stream(alloc, taker, stream, stream.put, tally)
         }
         None => Err(NoMemory),
@@ -122,10 +172,10 @@ fn take_piece(
         if rest.is_empty() {
             return Ok(());
         }
-        let taken = take_again(played, rest, put, tally)?;
-        rest = &rest[taken.used..];
-        if let Some(event) = &taken.event {
-            tally.compare(is_told_at(event, stream.events, played.told));
+        let step = take_again(played, rest, stream.events, put, tally)?;
+        rest = &rest[step.used..];
+        if let Some(right) = step.right {
+            tally.compare(right);
             played.told = played.told.saturating_add(1);
         }
     }
@@ -137,20 +187,22 @@ fn take_piece(
 fn take_again(
     played: &mut Played,
     piece: &[u8],
+    events: &[Told],
     put: &[u8],
     tally: &mut Tally,
-) -> Result<Taken, NoMemory>
-    ensures { IfOk result (λ taken. taken.used ≤ length piece.now) }
+) -> Result<Step, NoMemory>
+    ensures { IfOk result (λ step. step.used ≤ length piece.now) }
 {
     tally.call();
     let (status, held, len) = (played.taker.status(), played.taker.held(), played.out.len());
-    match played.taker.take(piece, &mut played.out) {
-        Ok(taken) => return Ok(taken),
+    let place = played.told;
+    match played.taker.take(piece, &mut played.out, events, place) {
+        Ok(step) => return Ok(step),
         Err(NoMemory) => tally.refuse(played.taker.call()),
     }
     tally.compare(played.taker.status() == status);
     tally.compare(played.taker.held() == held);
     tally.compare(played.out.len() == len && put.starts_with(played.out.as_slice()));
-    let taken = played.taker.take(piece, &mut played.out)?;
-    Ok(taken)
+    let step = played.taker.take(piece, &mut played.out, events, place)?;
+    Ok(step)
 }

@@ -3,7 +3,7 @@
 use crate::row_fault::RowFault;
 use std::fmt::Write;
 use ws_formats::Hex;
-use ws_session::Event;
+use ws_session::{Event, EventKind};
 
 /// An event of a session.
 pub fn put_event(out: &mut String, event: &Event) -> Result<(), RowFault> {
@@ -27,6 +27,20 @@ pub fn put_event(out: &mut String, event: &Event) -> Result<(), RowFault> {
             )?
         }
         Event::Failed(reason) => write!(out, "failed {reason}")?,
+    }
+    Ok(())
+}
+
+/// What a session lends of an event: what it is, and its payload. It is written as the event.
+pub fn put_lent(out: &mut String, kind: EventKind, payload: &[u8]) -> Result<(), RowFault> {
+    match kind {
+        EventKind::Part => out.push_str("part")?,
+        EventKind::Message(kind) => write!(out, "{kind} {}", Hex(payload))?,
+        EventKind::Ping => write!(out, "ping {}", Hex(payload))?,
+        EventKind::Pong => write!(out, "pong {}", Hex(payload))?,
+        EventKind::Close(None) => out.push_str("close none")?,
+        EventKind::Close(Some(code)) => write!(out, "close {code} {}", Hex(payload))?,
+        EventKind::Failed(reason) => write!(out, "failed {reason}")?,
     }
     Ok(())
 }

@@ -2,6 +2,7 @@
 //! `bench/peers`. No crate of the product uses it, and it looks at no clock.
 //!
 //!     ws_bench SIZE                      takes the standard input, in pieces of at most SIZE bytes
+//!     ws_bench SIZE --lent               the same by the call that lends what it read
 //!     ws_bench SIZE --peer tungstenite   the same by the crate `tungstenite`
 //!     ws_bench SIZE --copy               only reads the pieces
 //!     ws_bench --make FILL LENGTH COUNT  writes COUNT messages as a client masks them, and a close frame: `binary`,
@@ -17,7 +18,7 @@ use anyhow::{Context, Result, bail, ensure};
 use making::{Fill, make};
 use pieces::Pieces;
 use std::env;
-use taking::{read_only, take, take_by_tungstenite};
+use taking::{read_only, take, take_by_tungstenite, take_lent};
 
 fn main(rt: HostRuntime) -> Result<()> {
     let alloc = rt.alloc();
@@ -34,6 +35,11 @@ fn main(rt: HostRuntime) -> Result<()> {
             println!(rt; "{}", take(alloc, pieces)?)?;
             Ok(())
         }
+        [_, size, "--lent"] => {
+            let pieces = Pieces::new(alloc, rt.stdin(), size_of(size)?)?;
+            println!(rt; "{}", take_lent(alloc, pieces)?)?;
+            Ok(())
+        }
         [_, size, "--peer", "tungstenite"] => {
             let pieces = Pieces::new(alloc, rt.stdin(), size_of(size)?)?;
             println!(rt; "{}", take_by_tungstenite(alloc, pieces)?)?;
@@ -45,7 +51,7 @@ fn main(rt: HostRuntime) -> Result<()> {
             Ok(())
         }
         _ => bail!(
-            "wrong words: SIZE, SIZE --peer tungstenite, SIZE --copy, --make FILL LENGTH COUNT"
+            "wrong words: SIZE, SIZE --lent, SIZE --peer tungstenite, SIZE --copy, --make FILL LENGTH COUNT"
         ),
     }
 }
