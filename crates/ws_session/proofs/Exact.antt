@@ -42,7 +42,7 @@ exact_data h came start more a b has c =
 pub exact_told : (h : HeaderFields) (came start more : ℕ) (a b : AssemblyValue) (next : UnderWay) (y : PieceCheck)
     → IsDataCheck h came start more a b (Some y) → IsExactPiece b next (Some y)
 exact_told h came start more a b next (piece_check.Whole used fin kind text) c = tt
-exact_told h came start more a b next (piece_check.Control same place) c = absurd c
+exact_told h came start more a b next (piece_check.Control place) c = absurd c
 exact_told h came start more a b next (piece_check.Fault reason used) c = tt
 
 -- where nothing that shows has changed the receiving side is as sound as before

@@ -152,46 +152,47 @@ control_checked role limits a (under_way.Control same payload) piece rest h star
 
 -- where something is told nothing that shows has changed
 pub told_shows : (role : Role) (limits : LimitsValue) (a b : AssemblyValue) (f g : UnderWay) (piece : List ℕ)
-    (y : PieceCheck) → IsPieceCheck role limits a f b g piece (Some y) → ShowsTheSame a f b g
-told_shows role limits a b f g piece (piece_check.Whole used fin kind text) is = is.0
-told_shows role limits a b f g piece (piece_check.Control h start) is =
+    (control : Option HeaderFields) (y : PieceCheck) → IsPieceCheck role limits a f b g piece control (Some y)
+    → ShowsTheSame a f b g
+told_shows role limits a b f g piece control (piece_check.Whole used fin kind text) is = is.0
+told_shows role limits a b f g piece control (piece_check.Control start) is =
     (is.1, ap (λ (x : AssemblyValue). partial_of x g) is.0 ∙ ap (λ (x : UnderWay). partial_of a x) is.1)
-told_shows role limits a b f g piece (piece_check.Fault reason used) is = is.0
+told_shows role limits a b f g piece control (piece_check.Fault reason used) is = is.0
 
 -- what is told of a data frame, behind a part of its payload and behind a header that the piece completes
 module _ (role : Role) (limits : LimitsValue) (a b : AssemblyValue) (h : HeaderFields) where
-  pub told_inside : (came : ℕ) (piece : List ℕ) (y : PieceCheck) → IsUnderWay role limits a (under_way.Data h came)
+  pub told_inside : (came : ℕ) (piece : List ℕ) (control : Option HeaderFields) (y : PieceCheck) → IsUnderWay role limits a (under_way.Data h came)
       → AreBytes (partial_of a (under_way.Data h came) ++ piece) → b.opened ≡ a.opened → IsJoined b
       → first_bytes b came ≡ first_bytes a came
       → frame_payload b ≡ arrived_payload h (take came (frame_payload a)) piece
       → IsDataCheck h came 0 (length piece) a b (Some y)
-      → IsPieceCheck role limits a (under_way.Data h came) b (under_way.Data h came) piece (Some y)
-  told_inside came piece (piece_check.Whole used fin kind text) u are opened joined first arrived c = (
+      → IsPieceCheck role limits a (under_way.Data h came) b (under_way.Data h came) piece control (Some y)
+  told_inside came piece control (piece_check.Whole used fin kind text) u are opened joined first arrived c = (
     (refl, same_partial role limits a h came u b opened first),
     piece_of_data role limits a h came u b piece (check.Whole used (content.Data fin kind text)) are opened joined
         arrived c.1,
   )
-  told_inside came piece (piece_check.Control same place) u are opened joined first arrived c = absurd c
-  told_inside came piece (piece_check.Fault reason used) u are opened joined first arrived c = (
+  told_inside came piece control (piece_check.Control place) u are opened joined first arrived c = absurd c
+  told_inside came piece control (piece_check.Fault reason used) u are opened joined first arrived c = (
     (refl, same_partial role limits a h came u b opened first),
     piece_of_data role limits a h came u b piece (check.Fault reason used) are opened joined arrived c.1,
   )
 
-  pub told_first : (kept piece rest : List ℕ) (used : ℕ) (y : PieceCheck)
+  pub told_first : (kept piece rest : List ℕ) (used : ℕ) (control : Option HeaderFields) (y : PieceCheck)
       → Begins h (length kept + used) (kept ++ piece) → AreBytes (kept ++ piece)
       → NoneAtHeader role limits a.opened h → b.opened ≡ a.opened → IsJoined b → rest ≡ drop used piece → h.opcode ≤ 2
       → frame_payload b ≡ arrived_payload h (take 0 (frame_payload a)) rest
       → IsDataCheck h 0 used (length rest) a b (Some y)
-      → IsPieceCheck role limits a (under_way.Header kept) b (under_way.Header kept) piece (Some y)
-  told_first kept piece rest used (piece_check.Whole end fin kind text) begins are none opened joined behind opcode
+      → IsPieceCheck role limits a (under_way.Header kept) b (under_way.Header kept) piece control (Some y)
+  told_first kept piece rest used control (piece_check.Whole end fin kind text) begins are none opened joined behind opcode
       arrived c = (
         (refl, refl),
         first_of_data role limits a b h kept piece rest used begins are none opened joined behind
             (check.Whole end (content.Data fin kind text)) opcode arrived c.1,
       )
-  told_first kept piece rest used (piece_check.Control same place) begins are none opened joined behind opcode arrived
+  told_first kept piece rest used control (piece_check.Control place) begins are none opened joined behind opcode arrived
       c = absurd c
-  told_first kept piece rest used (piece_check.Fault reason end) begins are none opened joined behind opcode arrived
+  told_first kept piece rest used control (piece_check.Fault reason end) begins are none opened joined behind opcode arrived
       c = (
         (refl, refl),
         first_of_data role limits a b h kept piece rest used begins are none opened joined behind (check.Fault reason end)
@@ -202,7 +203,7 @@ module _ (role : Role) (limits : LimitsValue) (a b : AssemblyValue) (h : HeaderF
 pub told_text : (a b : AssemblyValue) (h : HeaderFields) (came start more : ℕ) (y : PieceCheck)
     → IsDataCheck h came start more a b (Some y) → b.text ≡ a.text
 told_text a b h came start more (piece_check.Whole used fin kind text) c = c.0
-told_text a b h came start more (piece_check.Control same place) c = absurd c
+told_text a b h came start more (piece_check.Control place) c = absurd c
 told_text a b h came start more (piece_check.Fault reason used) c = c.0
 
 -- ---- new bytes of a data frame's payload

@@ -113,13 +113,13 @@ module _ (o v : ReceiverValue) (view : o ≡ v) (piece : List ℕ) where
 
 -- the same of a piece of which something is told that isn't left to be read
 pub piece_wants : (role : Role) (limits : LimitsValue) (a b : AssemblyValue) (f g : UnderWay) (v : ReceiverValue)
-    → receiver_of role limits a f ≡ v → (piece : List ℕ) → b.opened ≡ a.opened → (y : PieceCheck)
-    → AreBytes (partial_of a f ++ piece) → IsPieceCheck role limits a f b g piece (Some y)
-    → ((h : HeaderFields) (start : ℕ) → y ≡ piece_check.Control h start → ⊥) → WantsRoom (λ e. Unit {0}) v piece
-piece_wants role limits a b f g v view piece opened (piece_check.Whole used fin kind text) are is not_control =
+    → receiver_of role limits a f ≡ v → (piece : List ℕ) → b.opened ≡ a.opened → (control : Option HeaderFields) (y : PieceCheck)
+    → AreBytes (partial_of a f ++ piece) → IsPieceCheck role limits a f b g piece control (Some y)
+    → ((start : ℕ) → y ≡ piece_check.Control start → ⊥) → WantsRoom (λ e. Unit {0}) v piece
+piece_wants role limits a b f g v view piece opened control (piece_check.Whole used fin kind text) are is not_control =
     frame_wants (receiver_of role limits a f) v view piece b g opened (λ e. Unit {0}) used (content.Data fin kind text) is.1 tt
-piece_wants role limits a b f g v view piece opened (piece_check.Control h start) are is not_control = absurd (not_control h start refl)
-piece_wants role limits a b f g v view piece opened (piece_check.Fault reason used) are is not_control =
+piece_wants role limits a b f g v view piece opened control (piece_check.Control start) are is not_control = absurd (not_control start refl)
+piece_wants role limits a b f g v view piece opened control (piece_check.Fault reason used) are is not_control =
     fault_wants (receiver_of role limits a f) v view piece b g opened (λ e. Unit {0}) used reason are is.1 tt
 
 -- ---- what is taken

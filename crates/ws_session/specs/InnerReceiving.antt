@@ -7,6 +7,8 @@ use Rattle.ws_wire.specs.Header.{HeaderFields, IsHeader, AreBytes, header_bytes}
 use Rattle.ws_wire.specs.Masking.{masked_payload}
 use Rattle.ws_wire.specs.Frame.{Frame, KeyedFrame, FitsTheLayout, frame_bytes}
 use Rattle.ws_wire.specs.Reading.{Begins, BeginsNoHeader}
+use Rattle.ws_wire.specs.declared.reading.HeaderRead.{HeaderRead}
+use Rattle.ws_wire.specs.declared.reading.HeaderRead.TheVariants.{Need, Got, BadLength}
 use Rattle.ws_text.specs.Stream.{HasReadText}
 use Rattle.ws_session.specs.declared.message.Kind.{Kind}
 use Rattle.ws_session.specs.declared.message.Message.{Message}
@@ -120,6 +122,12 @@ pub record CompletesHeader (kept piece : List ℕ) (header : HeaderFields) (used
   pub begins : Begins header (length kept + used) (kept ++ piece)
   pub within : used ≤ length piece
 
+-- the piece completes a header, as it was read, or none
+abbrev pub IsHeaderEnd : List ℕ → List ℕ → HeaderRead → Type 0
+IsHeaderEnd kept piece Need = BeginsNoHeader (kept ++ piece)
+IsHeaderEnd kept piece (Got header used) = CompletesHeader kept piece header used
+IsHeaderEnd kept piece (BadLength header used) = CompletesHeader kept piece header used
+
 -- ---- payload of a data frame
 
 -- of these bytes, so many of which were kept, one that is new is of the payload of a data frame, whose header breaks no
@@ -189,7 +197,7 @@ IsDataCheck header came start more a b None =
     IsPayloadCheck header came start b (frame_payload b) (check.Need (under_way.Data header (came + more)) b.text)
 IsDataCheck header came start more a b (Some (piece_check.Whole used fin kind text)) = (b.text ≡ a.text)
     × IsPayloadCheck header came start b (frame_payload b) (check.Whole used (content.Data fin kind text))
-IsDataCheck header came start more a b (Some (piece_check.Control same place)) = ⊥
+IsDataCheck header came start more a b (Some (piece_check.Control place)) = ⊥
 IsDataCheck header came start more a b (Some (piece_check.Fault reason used)) = (b.text ≡ a.text)
     × IsPayloadCheck header came start b (frame_payload b) (check.Fault reason used)
 
@@ -247,6 +255,11 @@ pub record IsControlAt (role : Role) (limits : LimitsValue) (a : AssemblyValue) 
   pub control : IsControl header
   pub came : length (control_payload_of frame) ≤ header.len
 
+-- the header of that control frame was read
+abbrev pub IsControlRead : Role → LimitsValue → AssemblyValue → UnderWay → List ℕ → ℕ → Option HeaderFields → Type 0
+IsControlRead role limits a frame piece start None = ⊥
+IsControlRead role limits a frame piece start (Some header) = IsControlAt role limits a frame piece header start
+
 -- what shows of the frame under way is as it was
 abbrev pub ShowsTheSame : AssemblyValue → UnderWay → AssemblyValue → UnderWay → Type 0
 ShowsTheSame a frame b next = (next ≡ frame) × (partial_of b next ≡ partial_of a frame)
@@ -255,15 +268,15 @@ ShowsTheSame a frame b next = (next ≡ frame) × (partial_of b next ≡ partial
 -- its first fault is told, or the rest of the piece is for the payload of a control frame, and then nothing that shows
 -- has changed
 abbrev pub IsPieceCheck : Role → LimitsValue → AssemblyValue → UnderWay → AssemblyValue → UnderWay → List ℕ
-    → Option PieceCheck → Type 0
-IsPieceCheck role limits a frame b next piece None =
+    → Option HeaderFields → Option PieceCheck → Type 0
+IsPieceCheck role limits a frame b next piece control None =
     IsFrameCheck role limits b (length (partial_of a frame)) (partial_of a frame ++ piece) (check.Need next b.text)
-IsPieceCheck role limits a frame b next piece (Some (piece_check.Whole used fin kind text)) =
+IsPieceCheck role limits a frame b next piece control (Some (piece_check.Whole used fin kind text)) =
     ShowsTheSame a frame b next × IsFrameCheck role limits b (length (partial_of a frame)) (partial_of a frame ++ piece)
     (check.Whole used (content.Data fin kind text))
-IsPieceCheck role limits a frame b next piece (Some (piece_check.Control header start)) =
-    (b ≡ a) × (next ≡ frame) × IsControlAt role limits a frame piece header start
-IsPieceCheck role limits a frame b next piece (Some (piece_check.Fault reason used)) =
+IsPieceCheck role limits a frame b next piece control (Some (piece_check.Control start)) =
+    (b ≡ a) × (next ≡ frame) × IsControlRead role limits a frame piece start control
+IsPieceCheck role limits a frame b next piece control (Some (piece_check.Fault reason used)) =
     ShowsTheSame a frame b next × IsFrameCheck role limits b (length (partial_of a frame)) (partial_of a frame ++ piece)
     (check.Fault reason used)
 
@@ -271,5 +284,5 @@ IsPieceCheck role limits a frame b next piece (Some (piece_check.Fault reason us
 abbrev pub IsExactPiece : AssemblyValue → UnderWay → Option PieceCheck → Type 0
 IsExactPiece b next None = IsExactly b next
 IsExactPiece b next (Some (piece_check.Whole used fin kind text)) = Unit {0}
-IsExactPiece b next (Some (piece_check.Control header start)) = IsExactly b next
+IsExactPiece b next (Some (piece_check.Control start)) = IsExactly b next
 IsExactPiece b next (Some (piece_check.Fault reason used)) = Unit {0}

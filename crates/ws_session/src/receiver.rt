@@ -171,7 +171,10 @@ impl Receiver {
             in OnErr result (WantsRoom (IsOwed replying) self.old piece.now) }
     {
         let (assembly, frame) = (&mut self.assembly, &mut self.frame);
-        let Some(check) = check_piece(self.role, &self.limits, assembly, frame, piece, room)? else {
+        let mut control = None;
+        let (role, limits) = (self.role, &self.limits);
+        let Some(check) = check_piece(role, limits, assembly, frame, piece, room, &mut control)?
+        else {
             return Ok(piece.len());
         };
         match check {
@@ -184,14 +187,17 @@ impl Receiver {
                 self.on_data(fin, kind, text, status, answering, key, out, room)?;
                 Ok(used)
             }
-            PieceCheck::Control { header, start } => {
+            PieceCheck::Control { start } => {
+                let Some(header) = &control else {
+                    unreachable!()
+                };
                 let replying = Replying {
                     role: self.role,
                     status: *status,
                     answering,
                     key,
                 };
-                self.take_control(&header, start, piece, &replying, out, room)
+                self.take_control(header, start, piece, &replying, out, room)
             }
             PieceCheck::Fault { reason, used } => {
                 let replying = Replying {

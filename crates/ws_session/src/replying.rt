@@ -1,6 +1,6 @@
 //! What an endpoint puts of its own accord for what comes (RFC 6455 sections 5.5 and 7.1).
 
-ghost use Rattle.std.specs.Prelude.{◌≡◌, ◌≢◌, ◌≤◌, ◌<◌, ◌∷◌, [], ◌++◌, length, OnOk, OnErr};
+ghost use Rattle.std.specs.Prelude.{◌≡◌, ◌≢◌, ◌≤◌, ◌<◌, ◌∷◌, [], ◌++◌, length, OnOk, OnErr, true, None};
 ghost use Rattle.ws_wire.specs.Frame.{Frame, FitsTheLayout, frame_bytes};
 ghost use Rattle.ws_session.specs.declared.limits.TheConstants.{MAX_MESSAGE};
 ghost use Rattle.ws_session.specs.Replies.{control_frame, under_key};
@@ -15,6 +15,9 @@ use crate::status::Status;
 use ws_base::NoMemory;
 use ws_wire::{Header, Role, append_frame};
 
+/// The bit of a header's first byte that says that the frame is the last of its message (RFC 6455 section 5.2).
+const FIN: u8 = 0x80;
+
 /// How an endpoint replies while it takes a piece.
 #[derive(Clone, Copy)]
 pub(crate) struct Replying {
@@ -27,7 +30,7 @@ pub(crate) struct Replying {
 }
 
 impl Replying {
-    /// Puts a frame with FIN at the end of `out`, unless the endpoint's close was sent.
+    /// Puts a control frame at the end of `out`, unless the endpoint's close was sent.
     pub(crate) fn reply(
         &self,
         opcode: u8,
@@ -35,7 +38,7 @@ impl Replying {
         out: &mut Vec<u8>,
     ) -> Result<(), NoMemory>
         requires opcode { opcode < 16 }
-        requires short { length payload.now ≤ MAX_MESSAGE }
+        requires short { length payload.now ≤ 125 }
         ensures put { OnOk result (out.new.items
             ≡ out.old.items ++ bytes_put self.now (control_frame opcode payload.now ∷ [])) }
         ensures kept { OnErr result (out.new.items ≡ out.old.items) }
@@ -44,7 +47,10 @@ impl Replying {
         if self.status == Status::Closing {
             return Ok(());
         }
-        put_frame(self.role, true, opcode, payload, self.key, out)?;
+        match self.role {
+            Role::Client => put_frame(self.role, true, opcode, payload, self.key, out)?,
+            Role::Server => put_short_unmasked(opcode, payload, out)?,
+        }
         Ok(())
     }
 
@@ -63,10 +69,10 @@ impl Replying {
         ensures owed { let message : Message = record { kind = kind; payload = payload.now }
             in OnErr result (due_at self.now.status (reply_to_message self.now.answering message) ≢ []) }
     {
-        if self.answering == Answering::Plain {
+        if self.answering == Answering::Plain || self.status == Status::Closing {
             return Ok(());
         }
-        self.reply(kind.opcode(), payload, out)?;
+        put_frame(self.role, true, kind.opcode(), payload, self.key, out)?;
         Ok(())
     }
 }
@@ -95,5 +101,23 @@ pub(crate) fn put_frame(
         unreachable!()
     };
     append_frame(&header, payload, out)?;
+    Ok(())
+}
+
+/// Puts a frame of a server with FIN and at most 125 bytes of payload at the end of `out`: its header is two bytes. It
+/// stands apart since most of what an endpoint replies is this.
+fn put_short_unmasked(opcode: u8, payload: &[u8], out: &mut Vec<u8>) -> Result<(), NoMemory>
+    requires opcode { opcode < 16 }
+    requires short { length payload.now ≤ 125 }
+    ensures put { let frame : Frame = record { fin = true; rsv = 0; opcode = opcode; payload = payload.now }
+        in OnOk result (out.new.items ≡ out.old.items ++ frame_bytes (record { frame = frame; key = None })) }
+    ensures kept { OnErr result (out.new.items ≡ out.old.items) }
+{
+    let start = out.len();
+    out.extend_from_slice(&[FIN + opcode, payload.len() as u8])?;
+    if out.extend_from_slice(payload).is_err() {
+        out.truncate(start);
+        return Err(NoMemory);
+    }
     Ok(())
 }

@@ -3,7 +3,6 @@
 use crate::message::Kind;
 use crate::reason::Reason;
 use ws_text::Utf8Stream;
-use ws_wire::Header;
 
 /// What the piece makes of the frame under way, where it doesn't just go on: told in a few words, since the payload of
 /// a control frame isn't looked at yet.
@@ -19,7 +18,6 @@ pub(super) enum PieceCheck {
     },
     /// What the piece has after its first `start` bytes is for the payload of a control frame.
     Control {
-        header: Header,
         start: usize,
     },
     /// The first fault is told at the last of the first `used` bytes of the piece.

@@ -41,22 +41,28 @@ impl Receiver {
         ensures wants { OnErr result (WantsRoom (λ event. Unit) self.old piece.now) }
     {
         let (assembly, frame) = (&mut self.assembly, &mut self.frame);
-        let Some(check) = check_piece(self.role, &self.limits, assembly, frame, piece, room)? else {
+        let mut control = None;
+        let (role, limits) = (self.role, &self.limits);
+        let Some(check) = check_piece(role, limits, assembly, frame, piece, room, &mut control)?
+        else {
             return Ok(true);
         };
-        let PieceCheck::Control { header, start } = check else {
+        let PieceCheck::Control { start } = check else {
             return Ok(false);
+        };
+        let Some(header) = &control else {
+            unreachable!()
         };
         let rest = &piece[start..];
         let before = self.frame.control_payload();
         let left = header.payload_len() as usize - before.len();
         if rest.len() < left {
-            self.frame.go_on_control(&header, rest);
+            self.frame.go_on_control(header, rest);
             return Ok(true);
         }
         // A close is read, so that it is known to tell an event, be it right or wrong.
         if let Opcode::Close = header.kind() {
-            let _ = read_close(&header, before, &rest[..left]);
+            let _ = read_close(header, before, &rest[..left]);
         }
         Ok(false)
     }

@@ -24,11 +24,11 @@ returns-in_ok-on_data-in-Whole-clause-takes c =
     let o : ReceiverValue = receiver_of i.role i.limits i.assembly i.frame in
     let n : ReceiverValue = receiver_of i.role i.limits b g in
     let r : Replying = record { role = v.role; status = c.args.status.now; answering = c.args.answering; key = c.args.key } in
-    let found : IsPieceCheck i.role i.limits i.assembly i.frame b g piece (Some c.in-Some.check) = subst (λ (x : Option PieceCheck). IsPieceCheck i.role i.limits i.assembly i.frame b g piece x) c.in-Some.is c.in_ok-check.ensures.checked in
+    let found : IsPieceCheck i.role i.limits i.assembly i.frame b g piece c.check_piece.new.control (Some c.in-Some.check) = subst (λ (x : Option PieceCheck). IsPieceCheck i.role i.limits i.assembly i.frame b g piece c.check_piece.new.control x) c.in-Some.is c.in_ok-check.ensures.checked in
     let opened = c.in_ok-check.ensures.opened in
     let used = c.in-Whole.used in
     let x = content.Data c.in-Whole.fin c.in-Whole.kind c.in-Whole.text in
-    let told : IsPieceCheck i.role i.limits i.assembly i.frame b g piece (Some (piece_check.Whole used c.in-Whole.fin c.in-Whole.kind c.in-Whole.text)) = subst (λ (y : PieceCheck). IsPieceCheck i.role i.limits i.assembly i.frame b g piece (Some y)) c.in-Whole.is found in
+    let told : IsPieceCheck i.role i.limits i.assembly i.frame b g piece c.check_piece.new.control (Some (piece_check.Whole used c.in-Whole.fin c.in-Whole.kind c.in-Whole.text)) = subst (λ (y : PieceCheck). IsPieceCheck i.role i.limits i.assembly i.frame b g piece c.check_piece.new.control (Some y)) c.in-Whole.is found in
     let new = c.on_data.new.self in
     let before = c.args.out.now.items in
     let after = c.on_data.new.out.items in
@@ -48,11 +48,11 @@ returns-in_err-on_data-in-Whole-clause-wants c =
     let o : ReceiverValue = receiver_of i.role i.limits i.assembly i.frame in
     let n : ReceiverValue = receiver_of i.role i.limits b g in
     let r : Replying = record { role = v.role; status = c.args.status.now; answering = c.args.answering; key = c.args.key } in
-    let found : IsPieceCheck i.role i.limits i.assembly i.frame b g piece (Some c.in-Some.check) = subst (λ (x : Option PieceCheck). IsPieceCheck i.role i.limits i.assembly i.frame b g piece x) c.in-Some.is c.in_ok-check.ensures.checked in
+    let found : IsPieceCheck i.role i.limits i.assembly i.frame b g piece c.check_piece.new.control (Some c.in-Some.check) = subst (λ (x : Option PieceCheck). IsPieceCheck i.role i.limits i.assembly i.frame b g piece c.check_piece.new.control x) c.in-Some.is c.in_ok-check.ensures.checked in
     let opened = c.in_ok-check.ensures.opened in
     let used = c.in-Whole.used in
     let x = content.Data c.in-Whole.fin c.in-Whole.kind c.in-Whole.text in
-    let told : IsPieceCheck i.role i.limits i.assembly i.frame b g piece (Some (piece_check.Whole used c.in-Whole.fin c.in-Whole.kind c.in-Whole.text)) = subst (λ (y : PieceCheck). IsPieceCheck i.role i.limits i.assembly i.frame b g piece (Some y)) c.in-Whole.is found in
+    let told : IsPieceCheck i.role i.limits i.assembly i.frame b g piece c.check_piece.new.control (Some (piece_check.Whole used c.in-Whole.fin c.in-Whole.kind c.in-Whole.text)) = subst (λ (y : PieceCheck). IsPieceCheck i.role i.limits i.assembly i.frame b g piece c.check_piece.new.control (Some y)) c.in-Whole.is found in
     on_err c.from_residual-in_err-on_data-in-Whole.result (WantsRoom (IsOwed r) v piece) (frame_wants o v c.self.view_is piece b g opened (IsOwed r) used x told.1 c.in_err-on_data-in-Whole.ensures.owed)
 
 pub returns-in_ok-on_fault-in-Fault-clause-takes : goal.returns-in_ok-on_fault-in-Fault-clause-takes
@@ -65,11 +65,11 @@ returns-in_ok-on_fault-in-Fault-clause-takes c =
     let o : ReceiverValue = receiver_of i.role i.limits i.assembly i.frame in
     let n : ReceiverValue = receiver_of i.role i.limits b g in
     let r : Replying = record { role = v.role; status = c.args.status.now; answering = c.args.answering; key = c.args.key } in
-    let found : IsPieceCheck i.role i.limits i.assembly i.frame b g piece (Some c.in-Some.check) = subst (λ (x : Option PieceCheck). IsPieceCheck i.role i.limits i.assembly i.frame b g piece x) c.in-Some.is c.in_ok-check.ensures.checked in
+    let found : IsPieceCheck i.role i.limits i.assembly i.frame b g piece c.check_piece.new.control (Some c.in-Some.check) = subst (λ (x : Option PieceCheck). IsPieceCheck i.role i.limits i.assembly i.frame b g piece c.check_piece.new.control x) c.in-Some.is c.in_ok-check.ensures.checked in
     let opened = c.in_ok-check.ensures.opened in
     let used = c.in-Fault.used in
     let reason = c.in-Fault.reason in
-    let told : IsPieceCheck i.role i.limits i.assembly i.frame b g piece (Some (piece_check.Fault reason used)) = subst (λ (y : PieceCheck). IsPieceCheck i.role i.limits i.assembly i.frame b g piece (Some y)) c.in-Fault.is found in
+    let told : IsPieceCheck i.role i.limits i.assembly i.frame b g piece c.check_piece.new.control (Some (piece_check.Fault reason used)) = subst (λ (y : PieceCheck). IsPieceCheck i.role i.limits i.assembly i.frame b g piece c.check_piece.new.control (Some y)) c.in-Fault.is found in
     let new = c.on_fault.new.self in
     let before = c.args.out.now.items in
     let after = c.on_fault.new.out.items in
@@ -88,9 +88,9 @@ returns-in_err-on_fault-in-Fault-clause-wants c =
     let o : ReceiverValue = receiver_of i.role i.limits i.assembly i.frame in
     let n : ReceiverValue = receiver_of i.role i.limits b g in
     let r : Replying = record { role = v.role; status = c.args.status.now; answering = c.args.answering; key = c.args.key } in
-    let found : IsPieceCheck i.role i.limits i.assembly i.frame b g piece (Some c.in-Some.check) = subst (λ (x : Option PieceCheck). IsPieceCheck i.role i.limits i.assembly i.frame b g piece x) c.in-Some.is c.in_ok-check.ensures.checked in
+    let found : IsPieceCheck i.role i.limits i.assembly i.frame b g piece c.check_piece.new.control (Some c.in-Some.check) = subst (λ (x : Option PieceCheck). IsPieceCheck i.role i.limits i.assembly i.frame b g piece c.check_piece.new.control x) c.in-Some.is c.in_ok-check.ensures.checked in
     let opened = c.in_ok-check.ensures.opened in
     let used = c.in-Fault.used in
     let reason = c.in-Fault.reason in
-    let told : IsPieceCheck i.role i.limits i.assembly i.frame b g piece (Some (piece_check.Fault reason used)) = subst (λ (y : PieceCheck). IsPieceCheck i.role i.limits i.assembly i.frame b g piece (Some y)) c.in-Fault.is found in
+    let told : IsPieceCheck i.role i.limits i.assembly i.frame b g piece c.check_piece.new.control (Some (piece_check.Fault reason used)) = subst (λ (y : PieceCheck). IsPieceCheck i.role i.limits i.assembly i.frame b g piece c.check_piece.new.control (Some y)) c.in-Fault.is found in
     on_err c.from_residual-in_err-on_fault-in-Fault.result (WantsRoom (IsOwed r) v piece) (fault_wants o v c.self.view_is piece b g opened (IsOwed r) used reason c.check_piece.ensures.bytes told.1 c.in_err-on_fault-in-Fault.ensures.owed)

@@ -116,8 +116,8 @@ returns-in-Some-clause-checked c =
     let u : IsUnderWay role limits a (under_way.Data h came) = subst (λ (f : UnderWay). IsUnderWay role limits a f) c.in-Data.is c.requires.under_way in
     let are : AreBytes (partial_of a (under_way.Data h came) ++ piece) = bytes_append (partial_of a (under_way.Data h came)) piece u.bytes (λ i. omega (arith, c.type_inv.piece i)) in
     let checked : IsDataCheck h came 0 (length piece) a b (Some y) = subst (λ (x : Option PieceCheck). IsDataCheck h came 0 (length piece) a b x) c.in-Some.is c.in_ok-check-in-Data.ensures.checked in
-    subst (λ (f : UnderWay). IsPieceCheck role limits a f b (under_way.Data h came) piece (Some y)) (sym c.in-Data.is)
-    (told_inside role limits a b h came piece y u are e.opened e.joined e.first c.in_ok-check-in-Data.ensures.payload checked)
+    subst (λ (f : UnderWay). IsPieceCheck role limits a f b (under_way.Data h came) piece c.args.control.now (Some y)) (sym c.in-Data.is)
+    (told_inside role limits a b h came piece c.args.control.now y u are e.opened e.joined e.first c.in_ok-check-in-Data.ensures.payload checked)
 
 pub returns-in-Some-clause-under_way : goal.returns-in-Some-clause-under_way
 returns-in-Some-clause-under_way c =
