@@ -228,8 +228,8 @@ fn header_len(payload: usize, key: Option<[u8; 4]>) -> usize
     }
 }
 
-/// Puts the bytes of a step at the end of `out`.
-fn append_step(step: &Step, key: Option<[u8; 4]>, out: &mut Vec<u8>) -> Result<(), NoMemory>
+/// Puts what is sent for a step at the end of `out`, a frame masked with `key`, or plain where there is none.
+pub fn append_step(step: &Step, key: Option<[u8; 4]>, out: &mut Vec<u8>) -> Result<(), NoMemory>
     requires { FitsAHeader step.now }
     ensures { OnOk result (out.new.items ≡ out.old.items ++ step_bytes key step.now) }
 {

@@ -1,9 +1,9 @@
 -- What has a close or a fault keeps it, whatever step comes after it.
 use Rattle.std.proofs.Common.{◌≡◌, ◌∙◌, ℕ, zero, suc, ◌<◌, ◌^◌, Bool, true, false, List, [], ◌∷◌, ◌++◌, ◌&&◌, nat_lt}
-use Rattle.std.proofs.Common.{refl, sym, ap, subst, arith, append_assoc, append-nil, get_or, length, take, Option, Some}
+use Rattle.std.proofs.Common.{refl, sym, ap, subst, arith, append_assoc, append-nil, get_or, length, Option, Some}
 use Rattle.std.proofs.lemmas.Bool.Decides.{nat_tests}
 use Rattle.std.proofs.lemmas.Grind.{flat_map-append}
-use Rattle.std.proofs.lemmas.List.{map-append}
+use Rattle.std.proofs.lemmas.List.{map-append, same_from_push}
 use Rattle.std.proofs.lemmas.Option.{unwrap_or-slice_get}
 use Rattle.std.specs.List.{AllByRecursion, flat_map, list_all, onto_first}
 use Rattle.ws_wire.specs.declared.role.Role.{Role}
@@ -190,20 +190,41 @@ end_stays laws tested key is_key places place end =
     (sym parts ∙ sent_in_turns key (short_steps tested (places ++ place ∷ [])))
     (end_with_more laws tested (turn_bytes key steps) (turn_bytes key last) are here)
 
-front_steps : (tested : Role) (places : List ℕ) (place : ℕ)
-    → take (length places) (short_steps tested (places ++ place ∷ [])) ≡ short_steps tested places
-front_steps tested [] place = refl
-front_steps tested (first ∷ places) place =
-    ap (λ (l : List Step). (step_at tested first).step ∷ l) (front_steps tested places place)
-
+-- where the steps before the last have an end, all of them have it
 pub script_ends : EndLaws → (tested : Role) (key : Option (List ℕ)) → IsMaskingKey key → (steps : List Step)
-    (places before : List ℕ) (last : ℕ) → steps ≡ short_steps tested places → places ≡ before ++ last ∷ []
-    → HasEnd tested (bytes_sent (take (length before) steps) key) → HasEnd tested (bytes_sent steps key)
-script_ends laws tested key is_key steps places before last steps_are places_are end =
-    let whole : steps ≡ short_steps tested (before ++ last ∷ []) =
+    (places before : List ℕ) (place : ℕ) → steps ≡ short_steps tested places → places ≡ before ++ place ∷ []
+    → HasEnd tested (bytes_sent (short_steps tested before) key) → HasEnd tested (bytes_sent steps key)
+script_ends laws tested key is_key steps places before place steps_are places_are end =
+    let whole : steps ≡ short_steps tested (before ++ place ∷ []) =
     steps_are ∙ ap (λ (l : List ℕ). short_steps tested l) places_are in
-    let front : take (length before) steps ≡ short_steps tested before =
-    ap (λ (l : List Step). take (length before) l) whole ∙ front_steps tested before last in
     subst (λ (l : List Step). HasEnd tested (bytes_sent l key)) (sym whole)
-    (end_stays laws tested key is_key before last
-    (subst (λ (l : List Step). HasEnd tested (bytes_sent l key)) front end))
+    (end_stays laws tested key is_key before place end)
+
+-- ---- the last step alone
+
+-- what steps and one more send is what they send, and what that one sends
+pub sent_with : (key : Option (List ℕ)) (first : List Step) (last : Step)
+    → bytes_sent (first ++ last ∷ []) key ≡ bytes_sent first key ++ step_bytes key last
+sent_with key first last =
+    sym (sent_in_turns key (first ++ last ∷ [])) ∙ flat_map-append (step_bytes key) first (last ∷ [])
+    ∙ ap (λ (l : List ℕ). turn_bytes key first ++ l) (append-nil (step_bytes key last))
+    ∙ ap (λ (l : List ℕ). l ++ step_bytes key last) (sent_in_turns key first)
+
+-- the steps before the last are those of the places before the last
+pub before_last : (tested : Role) (places before : List ℕ) (place : ℕ) (steps first : List Step) (last : Step)
+    → steps ≡ short_steps tested places → places ≡ before ++ place ∷ [] → steps ≡ first ++ last ∷ []
+    → first ≡ short_steps tested before
+before_last tested places before place steps first last steps_are places_are parts =
+    let both : first ++ last ∷ [] ≡ short_steps tested before ++ (step_at tested place).step ∷ [] =
+    sym parts ∙ steps_are ∙ ap (λ (l : List ℕ). short_steps tested l) places_are
+    ∙ map-append (λ (p : ℕ). (step_at tested p).step) before (place ∷ []) in
+    (same_from_push first (short_steps tested before) last (step_at tested place).step both).0
+
+-- what they and the last send is what all send
+pub with_last : (tested : Role) (key : Option (List ℕ)) (places before : List ℕ) (place : ℕ) (steps first : List Step)
+    (last : Step) → steps ≡ short_steps tested places → places ≡ before ++ place ∷ [] → steps ≡ first ++ last ∷ []
+    → bytes_sent (short_steps tested before) key ++ step_bytes key last ≡ bytes_sent steps key
+with_last tested key places before place steps first last steps_are places_are parts =
+    let front = before_last tested places before place steps first last steps_are places_are parts in
+    ap (λ (l : List Step). bytes_sent l key ++ step_bytes key last) (sym front)
+    ∙ (sym (sent_with key first last) ∙ ap (λ (l : List Step). bytes_sent l key) (sym parts))

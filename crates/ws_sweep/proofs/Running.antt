@@ -1,7 +1,7 @@
 -- Each step of the alphabet can be run, and so can those of a script, with a close behind them or not.
 use Rattle.std.proofs.Common.{◌≡◌, ◌∙◌, ℕ, zero, suc, ◌<◌, Bool, true, false, List, [], ◌∷◌, ◌++◌, ◌&&◌, nat_lt, refl}
 use Rattle.std.proofs.Common.{sym, subst, arith}
-use Rattle.std.proofs.Common.{get_or, length, take}
+use Rattle.std.proofs.Common.{get_or, length}
 use Rattle.std.proofs.lemmas.Bool.Decides.{nat_tests}
 use Rattle.std.proofs.lemmas.Option.{unwrap_or-slice_get}
 use Rattle.std.specs.List.{AllByRecursion, list_all}
@@ -88,11 +88,14 @@ closed_steps_fit tested places are =
     all-append FitsAHeader (short_steps tested places) (close_step ∷ []) (steps_fit tested places are)
     (fits_by close_step refl, tt)
 
--- and so can the first of them
-pub first_fit : (n : ℕ) (steps : List Step) → FitHeaders steps → FitHeaders (take n steps)
-first_fit zero steps fit = tt
-first_fit (suc n) [] fit = tt
-first_fit (suc n) (step ∷ steps) fit = (fit.0, first_fit n steps fit.1)
+fit_both : (first : List Step) (last : Step) → FitHeaders (first ++ last ∷ []) → FitHeaders first × FitsAHeader last
+fit_both [] last fit = (tt, fit.0)
+fit_both (step ∷ first) last fit = let rest = fit_both first last fit.1 in ((fit.0, rest.0), rest.1)
+
+-- the steps before the last, and the last one, where all can
+pub fit_parts : (steps first : List Step) (last : Step) → steps ≡ first ++ last ∷ [] → FitHeaders steps
+    → FitHeaders first × FitsAHeader last
+fit_parts steps first last parts fit = fit_both first last (subst (λ (l : List Step). FitHeaders l) parts fit)
 
 cuts_whole : (chop : Chop) → chop ≡ Whole → CutsOff chop
 cuts_whole chop is = λ n other. let wrong : Whole ≡ Octets n = sym is ∙ other in absurd cc

@@ -1,5 +1,5 @@
 -- Whether bytes hold a close or a fault is what a session that has taken them tells.
-use Rattle.std.proofs.Common.{◌≡◌, ◌∙◌, ℕ, ◌↔◌, Bool, true, false, List, refl, ap, sym, subst, if◌then◌else◌}
+use Rattle.std.proofs.Common.{◌≡◌, ◌∙◌, ℕ, ◌↔◌, ◌++◌, [], Bool, true, false, List, refl, ap, sym, subst, if◌then◌else◌}
 use Rattle.std.proofs.Common.{Option, Some, None}
 use Rattle.ws_wire.specs.declared.role.Role.{Role}
 use Rattle.ws_wire.specs.Frame.{Frame as SentFrame}
@@ -9,8 +9,11 @@ use Rattle.ws_session.specs.declared.status.Status.TheVariants.{Closing, Open}
 use Rattle.ws_session.specs.Exchange.{HasExchanged, SessionValue, is_over, last_event, status_after}
 use Rattle.ws_session.specs.Limits.{LimitsValue}
 use Rattle.ws_session.specs.Events.{HasEvents}
-use Rattle.ws_session.specs.Replies.{has_close}
+use Rattle.ws_session.specs.declared.event.PlacedEvent.{PlacedEvent}
+use Rattle.ws_session.specs.Taking.{HasTakenAll, TakeCall, events_in}
+use Rattle.ws_session.specs.Replies.{has_close, replies_by, reply_to}
 use Rattle.ws_session.specs.Sends.{most_limits}
+use Rattle.ws_sweep.specs.InnerFronts.{IsSessionAfter}
 use Rattle.ws_sweep.specs.InnerLaws.{OneListOfEvents}
 use Rattle.ws_sweep.specs.ShortCases.{HasEnd, IsCloseOrFault}
 
@@ -62,3 +65,24 @@ over_at_end law v tested sent bytes h role limits =
           ∙ end_is_over sent (last_event h.events)
           (subst (λ (l : List Event). IsCloseOrFault (last_event l)) same ends.ends),
     )
+
+-- ---- a session that has taken them
+
+-- is over exactly where they hold one
+pub after_tells : OneListOfEvents → (tested : Role) (bytes : List ℕ) (v : SessionValue) (ends : Bool)
+    → IsSessionAfter tested bytes v → ends ≡ is_over v.status → (ends ≡ true) ↔ HasEnd tested bytes
+after_tells law tested bytes v ends after told =
+    let both = over_at_end law v tested after.sent bytes after.agrees after.role after.limits in
+    (λ t. both.0 (sym told ∙ t), λ h. told ∙ both.1 h)
+
+-- one that takes more
+pub after_more : (tested : Role) (bytes : List ℕ) (old new : SessionValue) (call : TakeCall) (told : List PlacedEvent)
+    → IsSessionAfter tested bytes old → HasTakenAll reply_to old new call [] told
+    → IsSessionAfter tested (bytes ++ call.piece) new
+after_more tested bytes old new call told after took =
+    let takes = took.takes (record { sent = after.sent; taken = bytes; ended = false }) refl after.agrees in record {
+      role = took.same.0 ∙ after.role;
+      limits = took.same.1 ∙ after.limits;
+      sent = after.sent ++ replies_by reply_to after.sent (events_in took.told);
+      agrees = takes.agrees;
+    }

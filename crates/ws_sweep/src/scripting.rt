@@ -3,6 +3,7 @@
 ghost use Rattle.std.specs.Prelude.{◌≡◌, ◌↔◌, ◌++◌, ◌∷◌, [], IfOk, IsTrue};
 ghost use Rattle.ws_scripts.specs.declared.script.Chop.TheVariants.{Whole};
 ghost use Rattle.ws_scripts.specs.Scripts.{CanBeRun, FitHeaders};
+ghost use Rattle.ws_sweep.specs.InnerFronts.{IsSessionAfter};
 ghost use Rattle.ws_sweep.specs.Order.{ArePlaces};
 ghost use Rattle.ws_sweep.specs.ShortCases.{HasEnd, IsShortCase, bytes_sent, close_step, short_steps};
 
@@ -107,20 +108,25 @@ pub(crate) fn steps_have_end(
     requires { FitHeaders steps.now }
     ensures { IfOk result (λ ends. IsTrue ends ↔ HasEnd tested (bytes_sent steps.now key)) }
 {
-    let bytes = bytes_with(alloc, steps, key)?;
-    let ends = is_over_after(alloc, tested, &bytes)?;
-    Ok(ends)
+    event_laws();
+    let session = session_after(alloc, tested, key, steps)?;
+    Ok(session.status().is_over())
 }
 
-/// Whether a session of this role that has taken these bytes is over, as it is by a close or a fault alone. Its events
-/// and replies are not read.
-fn is_over_after(alloc: Global, tested: Role, bytes: &[u8]) -> Result<bool, NoMemory>
-    ensures { IfOk result (λ ends. IsTrue ends ↔ HasEnd tested bytes.now) }
+/// A session of this role that has taken what steps send: it is over by a close or a fault alone. Nobody reads its
+/// events and replies.
+pub(crate) fn session_after(
+    alloc: Global,
+    tested: Role,
+    key: Option<[u8; 4]>,
+    steps: &[Step],
+) -> Result<Session, NoMemory>
+    requires { FitHeaders steps.now }
+    ensures { IfOk result (λ session. IsSessionAfter tested (bytes_sent steps.now key) session) }
 {
-    event_laws();
+    let bytes = bytes_with(alloc, steps, key)?;
     let mut session = Session::new(alloc, tested, Limits::largest());
-    let mut out = Vec::new(alloc);
-    let mut events = Vec::new(alloc);
-    session.take_all(bytes, NO_KEY, &mut out, &mut events)?;
-    Ok(session.status().is_over())
+    let mut replies = Vec::new(alloc);
+    session.pass(&bytes, NO_KEY, &mut replies)?;
+    Ok(session)
 }

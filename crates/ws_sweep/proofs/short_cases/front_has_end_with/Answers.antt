@@ -1,0 +1,1 @@
+-- The session that is kept has taken what the steps at these places send.
