@@ -1,24 +1,30 @@
--- What a session that took the turns says of their doom.
-use Rattle.std.proofs.Common.{◌≡◌, ◌∙◌, ℕ, zero, suc, ◌+◌, ◌-◌, ◌<◌, ◌≤◌, ◌↔◌, Bool, true, false, List, [], ◌∷◌, ◌++◌}
-use Rattle.std.proofs.Common.{length, get_or, min, ◌==◌, take, drop, ap, sym, refl, subst, arith, append_assoc, inl, inr}
+-- What the session that took the turns says of their doom, and in which of them a close was got.
+use Rattle.std.proofs.Common.{◌≡◌, ◌∙◌, ℕ, zero, suc, ◌+◌, ◌<◌, ◌↔◌, ◌⊎◌, Bool, true, false, List, [], ◌∷◌, ◌++◌}
+use Rattle.std.proofs.Common.{length, get_or, ◌==◌, take, flat_map, Option, Some, None, ap, sym, refl, subst, arith}
+use Rattle.std.proofs.Common.{inl, inr}
 use Rattle.std.proofs.lemmas.Bool.{cases_lt, eqb-true}
-use Rattle.std.proofs.lemmas.List.{get_or_past, length-drop, length-map, take-append-drop, take_all, take_min, take_more}
+use Rattle.std.proofs.lemmas.List.{get_or_past, length-append, length-map, take_all}
 use Rattle.std.specs.Prelude.{IsTrue, slice_index_or}
-use Rattle.std.specs.List.{concat}
+use Rattle.std.specs.List.{concat, last_or}
 use Rattle.ws_wire.specs.declared.role.Role.{Role}
 use Rattle.ws_wire.specs.Frame.{Frame, KeyedFrame}
-use Rattle.ws_session.specs.declared.event.Taken.{Taken}
+use Rattle.ws_session.specs.declared.event.Event.{Event}
 use Rattle.ws_session.specs.Limits.{LimitsValue}
 use Rattle.ws_session.specs.Doomed.{EndsDoomed}
 use Rattle.ws_session.specs.Exchange.{SessionValue, HasExchanged, is_over}
-use Rattle.ws_session.specs.Replies.{reply_to}
 use Rattle.ws_session.specs.Sends.{most_limits}
-use Rattle.ws_session.specs.Taking.{HasTaken}
 use Rattle.ws_scripts.specs.declared.transcript.Turn.{Turn}
-use Rattle.ws_suite.specs.Evidence.{sent_turns}
+use Rattle.ws_suite.specs.declared.evidence.InTurn.{InTurn}
+use Rattle.ws_suite.specs.declared.evidence.Reply.{Reply}
+use Rattle.ws_suite.specs.declared.evidence.Ending.{Ending}
+use Rattle.ws_suite.specs.declared.evidence.Direction.{Direction}
+use Rattle.ws_suite.specs.Evidence.{AreEventsByTurn, IsDirectionOf, by_turn, ending_in, sent_turns}
 use Rattle.ws_suite.specs.Doom.{IsDoomedAfter, IsLastWithBytes}
-use Rattle.ws_suite.specs.InnerDoom.{AreWithoutBytes, HasTakenBytes}
-use Rattle.ws_suite.proofs.EvidenceLemmas.{front_of_part, joined_more}
+use Rattle.ws_suite.specs.InnerCollecting.{EventLaws, at_turn}
+use Rattle.ws_suite.specs.InnerDoom.{AreWithoutBytes, HasTakenBytes, IsKnownAtClose}
+use Rattle.ws_suite.specs.Verdicts.{IsCloseInTurn}
+use Rattle.ws_suite.proofs.EvidenceLemmas.{by_turn_more, events_before, last_apart, last_joined}
+use Rattle.ws_suite.proofs.OneVerdict.{one_by_turn}
 
 -- what is doomed, after some frames
 abbrev pub EndsInDoom : Role → LimitsValue → List ℕ → Type 0
@@ -29,36 +35,7 @@ abbrev pub DoomLaw : Type 0
 DoomLaw = (v : SessionValue) (sent : List Frame) (bytes : List ℕ) (frames : List KeyedFrame) (rest : List ℕ)
     → HasExchanged v sent bytes false → EndsDoomed v.role v.limits bytes frames rest → is_over v.status ≡ false
 
--- ---- a session that took the turns
-
--- more bytes were taken, up to the next event
-pub more_taken : (role : Role) (before piece key x y : List ℕ) (front : Taken)
-    (old new : SessionValue) → HasTakenBytes role before old
-    → HasTaken reply_to old new (record { piece = piece; key = key; before = x; after = y }) front
-    → new.role ≡ old.role → new.limits ≡ old.limits → HasTakenBytes role (before ++ take front.used piece) new
-more_taken role before piece key x y front old new h taken same limits =
-    let takes = taken (record { sent = h.sent; taken = before; ended = false }) refl h.exchanged in
-    record { sent = _; exchanged = takes.agrees; same_role = same ∙ h.same_role; limits = limits ∙ h.limits }
-
--- the front of a part of what is left was taken, and is passed
-pub front_passed : (n : ℕ) (bytes done rest key x y : List ℕ) (front : Taken) (first old new : SessionValue) → bytes ≡ done ++ rest
-    → ((role : Role) (before : List ℕ) → HasTakenBytes role before first → HasTakenBytes role (before ++ done) old)
-    → HasTaken reply_to old new (record { piece = take n rest; key = key; before = x; after = y }) front
-    → front.used ≤ length (take n rest) → new.role ≡ old.role → new.limits ≡ old.limits
-    → (next : List ℕ) × (bytes ≡ next ++ take (length rest - front.used) (drop front.used rest))
-    × ((role : Role) (before : List ℕ) → HasTakenBytes role before first → HasTakenBytes role (before ++ next) new)
-front_passed n bytes done rest key x y front first old new parts so_far taken within same limits =
-    let part = take front.used rest in
-    let after = take (length rest - front.used) (drop front.used rest) in
-    let whole : after ≡ drop front.used rest = take_all (length rest - front.used) (drop front.used rest)
-    (omega (arith, length-drop front.used rest)) in
-    let split : rest ≡ part ++ after = sym (take-append-drop front.used rest) ∙ ap (λ (l : List ℕ). part ++ l) (sym whole) in (
-      done ++ part,
-      parts ∙ (ap (λ (l : List ℕ). done ++ l) split ∙ sym (append_assoc done part after)),
-      λ role before h. subst (λ (l : List ℕ). HasTakenBytes role l new)
-          (ap (λ (l : List ℕ). (before ++ done) ++ l) (front_of_part front.used n rest within) ∙ append_assoc before done part)
-          (more_taken role (before ++ done) (take n rest) key x y front old new (so_far role before h) taken same limits),
-    )
+-- ---- the session that took the turns
 
 -- what it tells is told of the bytes that it took
 pub told_of_bytes : DoomLaw → (role : Role) (bytes : List ℕ) (v : SessionValue) (r : Bool) → HasTakenBytes role bytes v
@@ -129,24 +106,64 @@ is_last turns i turn lt e some none = record {
   last = λ later after. none later (omega (arith, after));
 }
 
--- the bytes of one turn more
-pub one_turn : (turns : List Turn) (i : ℕ) (turn : Turn) → i < length turns → turn ≡ get_or turns i turn
-    → concat (take i (sent_turns turns)) ++ turn.sent ≡ concat (take (i + 1) (sent_turns turns))
-one_turn turns i turn lt e =
-    let more : take (i + 1) (sent_turns turns) ≡ take i (sent_turns turns) ++ turn.sent ∷ [] =
-    take_more (sent_turns turns) i [] (omega (arith, lt, length-map turns (λ (turn : Turn). turn.sent)))
-    ∙ ap (λ (l : List ℕ). take i (sent_turns turns) ++ l ∷ []) (sent_at turns i turn lt e) in
-    sym (ap (λ (l : List (List ℕ)). concat l) more ∙ joined_more (take i (sent_turns turns)) turn.sent)
-
 pub without_bytes : (l : List ℕ) → true ≡ (length l == 0) → l ≡ []
 without_bytes [] e = refl
 without_bytes (x ∷ l) e = absurd (omega (arith, eqb-true (suc (length l)) 0 (sym e)))
 
--- the first turns, as many as there are
-pub first_turns : (turns : List Turn) (count n : ℕ) → n ≡ min (length turns) count
-    → concat (take n (sent_turns turns)) ≡ concat (take count (sent_turns turns))
-first_turns turns count n e =
-    let size = length-map turns (λ (turn : Turn). turn.sent) in
-    let same : n ≡ min count (length (sent_turns turns)) = omega (arith, e, size) in
-    ap (λ (k : ℕ). concat (take k (sent_turns turns))) same
-    ∙ ap (λ (l : List (List ℕ)). concat l) (take_min count (sent_turns turns))
+-- ---- the turn of the close
+
+abbrev turn_of : Option (InTurn Ending) → ℕ
+turn_of None = 0
+turn_of (Some x) = x.turn
+
+-- the last turn adds an ending of its own, or none
+ending_from : (n : ℕ) (o : Option (InTurn Ending)) (xs : List Ending) (x : InTurn Ending)
+    → last_or o (at_turn n xs) ≡ Some x → (x.turn ≡ n) ⊎ (o ≡ Some x)
+ending_from n o [] x e = inr e
+ending_from n o (y ∷ xs) x e = elim (ending_from n (Some (record { turn = n; what = y })) xs x e) [
+  | inl at ↦ inl at
+  | inr same ↦ inl (sym (ap turn_of same))
+]
+
+module _ (laws : EventLaws) (role : Role) (found : Event → List Reply) (before : List (List ℕ)) (bytes : List ℕ)
+    (old new : Direction) (p : IsDirectionOf role found before old)
+    (q : IsDirectionOf role found (before ++ bytes ∷ []) new) where
+  ending_of_turn : (x : InTurn Ending) → new.ending ≡ Some x → (x.turn ≡ length before) ⊎ (old.ending ≡ Some x)
+  ending_of_turn x e =
+      let (front, told, apart) = last_apart q.events
+      (omega (arith, q.are_events.each, length-append before (bytes ∷ []))) in
+      let are = events_before role before front bytes told
+      (subst (λ (l : List (List Event)). AreEventsByTurn role (before ++ bytes ∷ []) l) apart q.are_events) in
+      let same : front ≡ p.events = one_by_turn laws role before front p.events are p.are_events in
+      let n = 0 + length front in
+      let last = at_turn n (flat_map ending_in told) in
+      let so_far : last_or None (by_turn ending_in 0 front) ≡ old.ending =
+      ap (λ (l : List (List Event)). last_or None (by_turn ending_in 0 l)) same ∙ sym p.ending in
+      let grown : new.ending ≡ last_or old.ending last =
+      q.ending ∙ ap (λ (l : List (List Event)). last_or None (by_turn ending_in 0 l)) apart
+      ∙ ap (λ (l : List (InTurn Ending)). last_or None l) (by_turn_more ending_in 0 front told)
+      ∙ last_joined None (by_turn ending_in 0 front) last
+      ∙ ap (λ (o : Option (InTurn Ending)). last_or o last) so_far in
+      elim (ending_from n old.ending (flat_map ending_in told) x (sym grown ∙ e)) [
+        | inl at ↦ inl (omega (arith, at, are.each))
+        | inr was ↦ inr was
+      ]
+
+  -- no close was got in the last turn: what was known is known
+  pub known_still : (tested : Role) (sent : List (List ℕ)) (r : Bool) (o : Option (InTurn Ending)) → new.ending ≡ o
+      → (IsCloseInTurn o (length before) → ⊥) → IsKnownAtClose tested sent old.ending r → IsKnownAtClose tested sent o r
+  known_still tested sent r None e none known = tt
+  known_still tested sent r (Some x) e none known = λ is. elim (ending_of_turn x e) [
+    | inl at ↦ absurd (none (is, at))
+    | inr was ↦
+        let here : IsKnownAtClose tested sent (Some x) r =
+        subst (λ (o : Option (InTurn Ending)). IsKnownAtClose tested sent o r) was known in
+        here is
+  ]
+
+-- one was, and it was asked
+pub known_now : (tested : Role) (sent : List (List ℕ)) (n : ℕ) (o : Option (InTurn Ending)) (r : Bool)
+    → IsCloseInTurn o n → (IsTrue r ↔ IsDoomedAfter tested sent (n + 1)) → IsKnownAtClose tested sent o r
+known_now tested sent n None r close tells = tt
+known_now tested sent n (Some x) r close tells = λ is.
+    subst (λ (k : ℕ). IsTrue r ↔ IsDoomedAfter tested sent (k + 1)) (sym close.1) tells

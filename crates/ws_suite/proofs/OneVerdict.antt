@@ -48,7 +48,8 @@ same_evidence a b due got turns ended doom =
     ∙ ap (λ (f : Bool). record { due = b.due; got = b.got; turns = b.turns; ended = b.ended; answers_doom = f }) doom)
 
 module _ (laws : EventLaws) where
-  one_by_turn : (role : Role) (turns : List (List ℕ)) (events others : List (List Event)) → AreEventsByTurn role turns events → AreEventsByTurn role turns others → events ≡ others
+  pub one_by_turn : (role : Role) (turns : List (List ℕ)) (events others : List (List Event))
+      → AreEventsByTurn role turns events → AreEventsByTurn role turns others → events ≡ others
   one_by_turn role turns events others p q =
       same_by_fronts events others (p.each ∙ sym q.each) (λ n less.
       laws.one_list role most_limits (concat (take n turns)) (joined_events (take n events)) (joined_events (take n others))

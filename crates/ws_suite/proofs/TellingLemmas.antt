@@ -1,12 +1,16 @@
 -- What is told of what came, and the evidence of it without the pings.
-use Rattle.std.proofs.Common.{◌≡◌, ◌∙◌, ℕ, zero, suc, ◌+◌, ◌<◌, ◌&&◌, Bool, true, false, if◌then◌else◌, List, [], ◌∷◌, ◌++◌, get_or, length, take, map, flat_map, Option, None, Some, inl, inr, ap, ap₂, sym, refl, subst, arith}
+use Rattle.std.proofs.Common.{◌≡◌, ◌∙◌, ℕ, zero, suc, ◌+◌, ◌<◌, ◌≤◌, ◌&&◌, Bool, true, false, if◌then◌else◌, List, []}
+use Rattle.std.proofs.Common.{◌∷◌, ◌++◌, get_or, length, take, map, flat_map, Option, None, Some, inl, inr, ap, ap₂}
+use Rattle.std.proofs.Common.{sym, refl, subst, arith, ◌↔◌}
 use Rattle.std.proofs.lemmas.Bool.{cases_lt}
-use Rattle.std.proofs.lemmas.List.{map-append, take_more}
+use Rattle.std.proofs.lemmas.List.{length-map, length-take-le, map-append, take_all, take_more}
 use Rattle.std.proofs.lemmas.List.Elements.{filter-append}
+use Rattle.std.specs.Prelude.{IsTrue}
 use Rattle.std.specs.List.{filter, last_or, take-map}
 use Rattle.ws_wire.specs.declared.role.Role.{Role}
 use Rattle.ws_session.specs.declared.event.Event.{Event}
 use Rattle.ws_session.specs.declared.event.Event.TheVariants as event
+use Rattle.ws_session.specs.Exchange.{SessionValue}
 use Rattle.ws_scripts.specs.declared.transcript.Transcript.{Transcript}
 use Rattle.ws_scripts.specs.declared.transcript.Turn.{Turn}
 use Rattle.ws_suite.specs.declared.evidence.InTurn.{InTurn}
@@ -16,14 +20,22 @@ use Rattle.ws_suite.specs.declared.evidence.Ending.{Ending}
 use Rattle.ws_suite.specs.declared.evidence.Direction.{Direction}
 use Rattle.ws_suite.specs.declared.evidence.Evidence.{Evidence}
 use Rattle.ws_suite.specs.declared.evidence.collecting.Way.{Way}
+use Rattle.ws_suite.specs.declared.evidence.collecting.Collected.{Collected}
+use Rattle.ws_suite.specs.declared.evidence.keeping.AllReplies.{AllReplies}
 use Rattle.ws_suite.specs.Evidence.{IsDirectionOf, IsEvidenceOf, by_turn, ending_in, got_in}
 use Rattle.ws_suite.specs.Explanation.{IsBeyondBy, told_in}
-use Rattle.ws_suite.specs.Doom.{HasDoomCounted}
-use Rattle.ws_suite.specs.InnerCollecting.{EventLaws, IsToldEvidenceOf, at_turn, first_beyond, way_bytes}
+use Rattle.ws_suite.specs.Doom.{HasDoomCounted, IsDoomedAfter}
+use Rattle.ws_suite.specs.Growing.{AreAll}
+use Rattle.ws_suite.specs.InnerCollecting.{EventLaws, HasTakenWay, IsToldEvidenceOf, at_turn, first_beyond}
+use Rattle.ws_suite.specs.InnerCollecting.{found_by, way_bytes}
+use Rattle.ws_suite.specs.InnerDoom.{IsKnownAtClose}
 use Rattle.ws_suite.specs.InnerJudging.{answers_among, is_answer, without_pings}
 use Rattle.ws_suite.specs.Matching.{ends_with_close, is_message, is_pong}
+use Rattle.ws_suite.specs.Verdicts.{IsCloseInTurn}
+use Rattle.ws_suite.proofs.DoomLemmas.{known_now, known_still}
 use Rattle.ws_suite.proofs.EvidenceLemmas.{no_items}
-use Rattle.ws_suite.proofs.OneVerdict.{one_direction}
+use Rattle.ws_suite.proofs.OneVerdict.{one_direction, same_direction}
+use Rattle.ws_suite.proofs.TurnsCollected.{turn_begun}
 
 -- ---- the pings left out
 
@@ -131,11 +143,95 @@ way_more way turns i turn less is =
     ∙ (ap (λ (l : List Turn). map (way_bytes way) l) (take_more turns i turn less ∙ ap (λ (t : Turn). take i turns ++ t ∷ []) (sym is))
     ∙ (map-append (way_bytes way) (take i turns) (turn ∷ []) ∙ ap (λ (l : List (List ℕ)). l ++ way_bytes way turn ∷ []) (sym (take-map (way_bytes way) i turns))))
 
+-- so many turns were taken this way
+abbrev pub HaveTaken : Way → Role → List Turn → ℕ → SessionValue → Collected AllReplies → Type 0
+HaveTaken way role turns i session collected =
+    HasTakenWay AreAll way role (take i (map (way_bytes way) turns)) session collected
+
+-- one turn more was taken this way
+pub turn_taken : (way : Way) (role : Role) (turns : List Turn) (i : ℕ) (turn : Turn) (bytes : List ℕ)
+    (s t : SessionValue) (a b : Collected AllReplies) → i < length turns → turn ≡ get_or turns i turn
+    → bytes ≡ way_bytes way turn
+    → ((before : List (List ℕ)) (last : List ℕ) → i ≡ length before
+    → HasTakenWay AreAll way role (before ++ last ∷ []) s a
+    → HasTakenWay AreAll way role (before ++ (last ++ bytes) ∷ []) t b)
+    → HaveTaken way role turns i s a → HaveTaken way role turns (i + 1) t b
+turn_taken way role turns i turn bytes s t a b less is same takes h =
+    let all = map (way_bytes way) turns in
+    let before = take i all in
+    let count : length before ≡ i =
+    length-take-le i all (omega (arith, less, length-map turns (way_bytes way))) in
+    let more = ap (λ (l : List ℕ). before ++ l ∷ []) same ∙ sym (way_more way turns i turn less is) in
+    subst (λ (l : List (List ℕ)). HasTakenWay AreAll way role l t b) more
+    (takes before [] (sym count) (turn_begun (found_by way) role before s a h))
+
+-- all turns were taken this way
+pub direction_taken : (way : Way) (role : Role) (turns : List Turn) (i : ℕ) (s : SessionValue)
+    (a : Collected AllReplies) (d : Direction) → length turns ≤ i → AreAll a.replies d.replies → d.ending ≡ a.ending
+    → d.has_rest ≡ a.has_rest → HaveTaken way role turns i s a
+    → IsDirectionOf role (found_by way) (map (way_bytes way) turns) d
+direction_taken way role turns i s a d past replies ending rest h =
+    let all = map (way_bytes way) turns in
+    let whole : take i all ≡ all = take_all i all (omega (arith, past, length-map turns (way_bytes way))) in
+    let same = same_direction d h.shown (sym replies ∙ h.replies) (ending ∙ h.ending) (rest ∙ h.has_rest) in
+    subst (λ (l : List (List ℕ)). IsDirectionOf role (found_by way) l d) whole
+    (subst (λ (x : Direction). IsDirectionOf role (found_by way) (take i all) x) (sym same) h.is_shown)
+
+-- in the turn no close was got: whether what was sent was doomed at the close is known as before
+still_known : EventLaws → (way : Way) (role : Role) (turns : List Turn) (i : ℕ) (turn : Turn)
+    (s t : SessionValue) (a b : Collected AllReplies) → i < length turns → turn ≡ get_or turns i turn
+    → HaveTaken way role turns i s a → HaveTaken way role turns (i + 1) t b
+    → (tested : Role) (sent : List (List ℕ)) (r : Bool) → (IsCloseInTurn b.ending i → ⊥)
+    → IsKnownAtClose tested sent a.ending r → IsKnownAtClose tested sent b.ending r
+still_known laws way role turns i turn s t a b less is h k tested sent r none known =
+    let all = map (way_bytes way) turns in
+    let before = take i all in
+    let count : length before ≡ i =
+    length-take-le i all (omega (arith, less, length-map turns (way_bytes way))) in
+    let grown = subst (λ (l : List (List ℕ)). IsDirectionOf role (found_by way) l k.shown)
+    (way_more way turns i turn less is) k.is_shown in
+    let none_there : IsCloseInTurn b.ending (length before) → ⊥ =
+    λ close. none (subst (λ (n : ℕ). IsCloseInTurn b.ending n) count close) in
+    known_still laws role (found_by way) before (way_bytes way turn) h.shown k.shown h.is_shown grown tested sent r
+    b.ending (sym k.ending) none_there
+    (subst (λ (o : Option (InTurn Ending)). IsKnownAtClose tested sent o r) h.ending known)
+
+-- one turn more was taken: it is asked in the turn of the close
+pub known_step : EventLaws → (way : Way) (role : Role) (turns : List Turn) (i : ℕ) (turn : Turn)
+    (s t : SessionValue) (a b : Collected AllReplies) → i < length turns → turn ≡ get_or turns i turn
+    → HaveTaken way role turns i s a → HaveTaken way role turns (i + 1) t b
+    → (tested : Role) (sent : List (List ℕ)) (closes old new : Bool) → (IsTrue closes ↔ IsCloseInTurn b.ending i)
+    → (closes ≡ true → (IsTrue new ↔ IsDoomedAfter tested sent (i + 1))) → (closes ≡ false → new ≡ old)
+    → IsKnownAtClose tested sent a.ending old → IsKnownAtClose tested sent b.ending new
+known_step laws way role turns i turn s t a b less is h k tested sent true old new tells asked kept known =
+    known_now tested sent i b.ending new (tells.0 refl) (asked refl)
+known_step laws way role turns i turn s t a b less is h k tested sent false old new tells asked kept known =
+    let none : IsCloseInTurn b.ending i → ⊥ =
+    λ close. absurd (let wrong : false ≡ true = tells.1 close in cc) in
+    subst (λ (r : Bool). IsKnownAtClose tested sent b.ending r) (sym (kept refl))
+    (still_known laws way role turns i turn s t a b less is h k tested sent old none known)
+
+-- at the start there is no ending
+none_at_start : (role : Role) (found : Event → List Reply) (d : Direction) → IsDirectionOf role found [] d
+    → d.ending ≡ None
+none_at_start role found d is =
+    is.ending ∙ ap (λ (l : List (List Event)). last_or None (by_turn ending_in 0 l))
+    (no_items is.events (omega (arith, is.are_events.each)))
+
+-- so nothing is asked yet
+pub known_at_start : (way : Way) (role : Role) (s : SessionValue) (a : Collected AllReplies)
+    → HasTakenWay AreAll way role [] s a → (tested : Role) (sent : List (List ℕ)) (r : Bool)
+    → IsKnownAtClose tested sent a.ending r
+known_at_start way role s a h tested sent r =
+    let none : a.ending ≡ None = h.ending ∙ none_at_start role (found_by way) h.shown h.is_shown in
+    subst (λ (o : Option (InTurn Ending)). IsKnownAtClose tested sent o r) (sym none) tt
+
 -- ---- bytes beyond a close
 
-no_ending : (role : Role) (found : Event → List Reply) (d : Direction) → IsDirectionOf role found [] d → ends_with_close d.ending ≡ true → ⊥
+no_ending : (role : Role) (found : Event → List Reply) (d : Direction) → IsDirectionOf role found [] d
+    → ends_with_close d.ending ≡ true → ⊥
 no_ending role found d is close =
-    let none : d.ending ≡ None = is.ending ∙ ap (λ (l : List (List Event)). last_or None (by_turn ending_in 0 l)) (no_items is.events (omega (arith, is.are_events.each))) in
+    let none : d.ending ≡ None = none_at_start role found d is in
     let wrong : false ≡ true = sym (ap (λ (o : Option (InTurn Ending)). ends_with_close o) none) ∙ close in
     cc
 

@@ -48,6 +48,14 @@ abbrev pub first_beyond : Option ℕ → ℕ → Bool → Option ℕ
 first_beyond (Some turn) number goes_on = Some turn
 first_beyond None number goes_on = if goes_on then Some number else None
 
+-- the evidence of a transcript, where what was got is told this way
+pub record IsEvidenceBy (way : Way) (tested : Role) (transcript : Transcript) (evidence : Evidence) : Type 0 where
+  pub due : IsDirectionOf tested due_for (sent_turns transcript.turns) evidence.due
+  pub got : IsDirectionOf (other_role tested) (found_by way) (map (way_bytes way) transcript.turns) evidence.got
+  pub turns : evidence.turns ≡ length transcript.turns
+  pub ended : evidence.ended ≡ transcript.ended
+  pub uncounted : evidence.answers_doom ≡ false
+
 -- the evidence of a transcript, but that the pings that were got stand among the replies
 pub record IsToldEvidenceOf (tested : Role) (transcript : Transcript) (evidence : Evidence) : Type 0 where
   pub due : IsDirectionOf tested due_for (sent_turns transcript.turns) evidence.due

@@ -1,9 +1,16 @@
 -- Inside the crate: how it is found out whether what was sent is doomed. A reader may skip this file.
-use Rattle.std.specs.Prelude.{◌≡◌, ℕ, ◌≤◌, false, List, [], slice_index_or}
+use Rattle.std.specs.Prelude.{◌≡◌, ℕ, ◌+◌, ◌≤◌, ◌↔◌, Bool, true, false, ⊤, List, [], length, slice_index_or}
+use Rattle.std.specs.Prelude.{Option, Some, None, IsTrue}
 use Rattle.ws_wire.specs.declared.role.Role.{Role}
-use Rattle.ws_wire.specs.Frame.{Frame}
+use Rattle.ws_wire.specs.Frame.{Frame, KeyedFrame}
+use Rattle.ws_session.specs.Doomed.{EndsDoomed}
 use Rattle.ws_session.specs.Exchange.{SessionValue, HasExchanged}
 use Rattle.ws_session.specs.Sends.{most_limits}
+use Rattle.ws_suite.specs.declared.evidence.InTurn.{InTurn}
+use Rattle.ws_suite.specs.declared.evidence.Ending.{Ending}
+use Rattle.ws_suite.specs.declared.evidence.doom.Dooms.{Dooms}
+use Rattle.ws_suite.specs.Doom.{IsDoomedAfter}
+use Rattle.ws_suite.specs.Matching.{is_close_ending}
 
 -- nothing was sent in this turn or after it
 abbrev pub AreWithoutBytes : ℕ → List (List ℕ) → Type 0
@@ -15,3 +22,23 @@ pub record HasTakenBytes (role : Role) (bytes : List ℕ) (session : SessionValu
   pub exchanged : HasExchanged session sent bytes false
   pub same_role : session.role ≡ role
   pub limits : session.limits ≡ most_limits
+
+-- these bytes are doomed at an end of this role
+abbrev pub AreDoomed : Role → List ℕ → Type 0
+AreDoomed role bytes = (frames : List KeyedFrame) × (rest : List ℕ) × EndsDoomed role most_limits bytes frames rest
+
+-- all that was sent is doomed
+abbrev pub IsDoomedAtEnd : Role → List (List ℕ) → Type 0
+IsDoomedAtEnd tested turns = IsDoomedAfter tested turns (length turns)
+
+-- it is known whether what was sent was doomed when the turn was over in which a close was got, if one was
+abbrev pub IsKnownAtClose : Role → List (List ℕ) → Option (InTurn Ending) → Bool → Type 0
+IsKnownAtClose tested turns None at_close = ⊤
+IsKnownAtClose tested turns (Some got) at_close = is_close_ending got.what ≡ true
+    → (IsTrue at_close ↔ IsDoomedAfter tested turns (got.turn + 1))
+
+-- so it is, and at the end
+pub record AreDooms (tested : Role) (turns : List (List ℕ)) (got : Option (InTurn Ending)) (dooms : Dooms)
+    : Type 0 where
+  pub at_end : IsTrue dooms.at_end ↔ IsDoomedAtEnd tested turns
+  pub at_close : IsKnownAtClose tested turns got dooms.at_close

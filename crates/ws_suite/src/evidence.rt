@@ -1,7 +1,8 @@
 //! What a transcript shows of the tested end: the events of both directions, each with its turn.
 
-ghost use Rattle.std.specs.Prelude.{◌≡◌};
+ghost use Rattle.std.specs.Prelude.{◌≡◌, ◌↔◌, IsTrue};
 ghost use Rattle.ws_suite.specs.Matching.{ends_with_close, ends_with_fault, is_close_ending};
+ghost use Rattle.ws_suite.specs.Verdicts.{IsCloseInTurn};
 
 mod collecting;
 mod doom;
@@ -11,12 +12,11 @@ mod kept;
 mod telling;
 
 pub(crate) use doom::with_doom;
-pub(crate) use growing::evidence_of;
 pub use growing::{GrowingEvidence, RunEvidence};
 pub use keeping::{KeepsReplies, ReplyTally};
 pub(crate) use kept::is_same;
 pub use kept::{Kept, Replies, ReplyKind, Walk};
-pub(crate) use telling::{ToldEvidence, told_evidence_of};
+pub(crate) use telling::{Shown, evidence_of, told_evidence_of};
 use ws_scripts::Ended;
 use ws_session::{Message, Reason, Small};
 
@@ -98,5 +98,15 @@ pub(crate) fn is_close_ending(ending: &Ending) -> bool
     match ending {
         Ending::Closed(_) => true,
         Ending::Failed(_) | Ending::Doomed => false,
+    }
+}
+
+/// Whether a close was got in this turn.
+pub(crate) fn is_close_in_turn(got: &Option<InTurn<Ending>>, turn: usize) -> bool
+    ensures { IsTrue result ↔ IsCloseInTurn got.now turn }
+{
+    match got {
+        Some(got) => is_close_ending(&got.what) && got.turn == turn,
+        None => false,
     }
 }

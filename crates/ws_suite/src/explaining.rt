@@ -3,7 +3,7 @@
 ghost use Rattle.std.specs.Prelude.{IfOk};
 ghost use Rattle.ws_suite.specs.Explanation.{IsExplanationOf};
 
-use crate::evidence::{Direction, Evidence, ToldEvidence, told_evidence_of, with_doom};
+use crate::evidence::{Direction, Evidence, Shown, told_evidence_of, with_doom};
 use crate::judging::verdict_on;
 use crate::verdict::Verdict;
 use std::alloc::Global;
@@ -38,8 +38,12 @@ pub fn explain(
     ensures { IfOk result (λ x. IsExplanationOf tested transcript.now x) }
 {
     let told = told_evidence_of(alloc, tested, transcript)?;
-    let ToldEvidence { evidence, beyond } = told;
-    let counted = with_doom(alloc, tested, transcript, evidence)?;
+    let Shown {
+        evidence,
+        dooms,
+        beyond,
+    } = told;
+    let counted = with_doom(tested, transcript, evidence, dooms);
     let verdict = verdict_on(alloc, tested, &counted)?;
     let Evidence {
         due,

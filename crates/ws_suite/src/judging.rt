@@ -39,7 +39,7 @@ pub fn judge_end(alloc: Global, tested: Role, transcript: &Transcript) -> Result
     ensures { IfOk result (λ verdict. IsVerdictOf tested transcript.now verdict) }
 {
     let shown = evidence_of(alloc, tested, transcript)?;
-    let counted = with_doom(alloc, tested, transcript, shown)?;
+    let counted = with_doom(tested, transcript, shown.evidence, shown.dooms);
     let verdict = verdict_on(alloc, tested, &counted)?;
     Ok(verdict)
 }

@@ -73,8 +73,8 @@ pub(super) fn nothing_taken<K: KeepsReplies>(alloc: Global, way: Way, role: Role
 }
 
 /// How many bytes of a piece are taken at once: so few that the room that a session asks for them doesn't count where
-/// one of them is at fault.
-pub(super) const AT_ONCE: usize = 4096;
+/// one of them is at fault. The piece is cut at multiples of it, wherever its events end.
+const AT_ONCE: usize = 4096;
 
 /// Takes a piece of the turn with this number, which is the last, and collects what it says. Each event is collected
 /// before more bytes are taken: so there is no list of them.
@@ -94,7 +94,8 @@ pub(super) fn take_piece<K: KeepsReplies>(
     session_laws();
     let mut rest = piece;
     while !rest.is_empty() {
-        let part = &rest[..rest.len().min(AT_ONCE)];
+        let block = AT_ONCE - (piece.len() - rest.len()) % AT_ONCE;
+        let part = &rest[..rest.len().min(block)];
         let used = take_front(way, number, part, rooms, taken)?;
         rest = &rest[used..];
     }
@@ -124,8 +125,7 @@ fn take_front<K: KeepsReplies>(
         .session
         .take_into(piece, NO_KEY, &mut rooms.put, &mut rooms.told)?;
     taken.collected.has_rest = front.event.is_none();
-    let payload = rooms.told.as_slice();
-    collect_found(way, number, front.event, payload, &mut taken.collected)?;
+    collect_found(way, number, front.event, &rooms.told, &mut taken.collected)?;
     Ok(front.used)
 }
 
@@ -135,14 +135,14 @@ fn collect_found<K: KeepsReplies>(
     way: Way,
     turn: usize,
     event: Option<EventKind>,
-    payload: &[u8],
+    told: &PayloadRoom,
     collected: &mut Collected<K>,
 ) -> Result<(), NoMemory>
-    ensures { OnOk result (AreCollected K.keeps way turn (option_to_list (event_if_any event payload.now))
+    ensures { OnOk result (AreCollected K.keeps way turn (option_to_list (event_if_any event told.now))
         collected.old collected.new) }
 {
     match event {
-        Some(event) => collect_event(way, turn, event, payload, collected),
+        Some(event) => collect_event(way, turn, event, told, collected),
         None => Ok(()),
     }
 }
@@ -153,10 +153,10 @@ fn collect_event<K: KeepsReplies>(
     way: Way,
     turn: usize,
     event: EventKind,
-    payload: &[u8],
+    told: &PayloadRoom,
     collected: &mut Collected<K>,
 ) -> Result<(), NoMemory>
-    ensures { OnOk result (AreCollected K.keeps way turn (event_in event payload.now ∷ [])
+    ensures { OnOk result (AreCollected K.keeps way turn (event_in event told.now ∷ [])
         collected.old collected.new) }
 {
     if let Some(what) = ending_of(event) {
@@ -166,7 +166,7 @@ fn collect_event<K: KeepsReplies>(
         collected.replies.keep(Kept {
             turn,
             kind,
-            payload,
+            payload: told.as_slice(),
         })?;
     }
     Ok(())

@@ -1,33 +1,69 @@
 //! What was sent and is certain to be at fault before the fault has come (RFC 6455 section 7.1.7): where it counts as
-//! one.
+//! one. The session that takes what was sent is asked for it.
 
-ghost use Rattle.std.specs.Prelude.{◌≡◌, ◌↔◌, ◌++◌, ℕ, List, IfOk, IsTrue, MatchOption, OnOk};
+ghost use Rattle.std.specs.Prelude.{◌≡◌, ◌↔◌, ℕ, List, IsTrue, MatchOption, false, true};
+ghost use Rattle.std.specs.List.{concat};
 ghost use Rattle.ws_wire.specs.declared.role.Role.{Role};
-ghost use Rattle.ws_suite.specs.Evidence.{sent_turns};
-ghost use Rattle.ws_suite.specs.Doom.{AnswersDoom, CountsAs, HasDoomCounted, IsDoomOf, IsDoomedAfter};
-ghost use Rattle.ws_suite.specs.Doom.{IsLastWithBytes, counts_doom};
-ghost use Rattle.ws_suite.specs.InnerDoom.{AreWithoutBytes, HasTakenBytes};
+ghost use Rattle.ws_suite.specs.Evidence.{due_for, sent_turns};
+ghost use Rattle.ws_suite.specs.Doom.{AnswersDoom, CountsAs, HasDoomCounted, IsDoomOf, IsLastWithBytes, counts_doom};
+ghost use Rattle.ws_suite.specs.Growing.{AreAll, HasTakenTurns};
+ghost use Rattle.ws_suite.specs.InnerDoom.{AreDoomed, AreDooms, AreWithoutBytes, IsDoomedAtEnd, IsKnownAtClose};
 
-use crate::evidence::collecting::AT_ONCE;
+use crate::evidence::collecting::Taken;
+use crate::evidence::keeping::AllReplies;
 use crate::evidence::{Direction, Ending, Evidence, InTurn, ends_with_close, is_close_ending};
-use std::alloc::Global;
-use ws_base::NoMemory;
 use ws_scripts::{Ended, Transcript, Turn};
-use ws_session::{Limits, Session, laws};
-use ws_wire::{NO_KEY, Role};
+use ws_session::laws;
+use ws_wire::Role;
+
+/// Whether what was sent is doomed.
+#[derive(Clone, Copy)]
+pub(crate) struct Dooms {
+    /// At the end of the turn in which a close was got.
+    pub at_close: bool,
+    /// At the end of the connection.
+    pub at_end: bool,
+}
+
+/// Whether all that the tested end has taken is doomed.
+pub(super) fn is_doomed(taken: &Taken<AllReplies>) -> bool
+    ensures { (role : Role) (turns : List (List ℕ)) →
+        HasTakenTurns AreAll due_for role turns taken.now.session taken.now.collected →
+        IsTrue result ↔ AreDoomed role (concat turns) }
+{
+    laws::doomed_streams_go_on();
+    taken.session.is_doomed()
+}
+
+/// Whether what the tested end has taken is doomed when the turn is over in which a close was got: it is asked where
+/// this is the turn, and else as it was known.
+pub(super) fn doom_at_close(closes: bool, known: bool, taken: &Taken<AllReplies>) -> bool
+    ensures asked { closes ≡ true → (role : Role) (turns : List (List ℕ)) →
+        HasTakenTurns AreAll due_for role turns taken.now.session taken.now.collected →
+        IsTrue result ↔ AreDoomed role (concat turns) }
+    ensures kept { closes ≡ false → result ≡ known }
+{
+    if closes { is_doomed(taken) } else { known }
+}
 
 /// The evidence, with what was doomed counted.
 pub(crate) fn with_doom(
-    alloc: Global,
     tested: Role,
     transcript: &Transcript,
     shown: Evidence,
-) -> Result<Evidence, NoMemory>
-    ensures { IfOk result (λ counted. HasDoomCounted tested transcript.now shown counted) }
+    dooms: Dooms,
+) -> Evidence
+    requires { AreDooms tested (sent_turns transcript.now.turns) shown.got.ending dooms }
+    ensures { HasDoomCounted tested transcript.now shown result }
 {
-    let turns = transcript.turns.as_slice();
-    let ending = counted_ending(alloc, tested, transcript, &shown)?;
-    let answers_doom = answers_doom(alloc, tested, turns, &shown.got.ending, &ending)?;
+    let ending = counted_ending(tested, transcript, &shown, dooms.at_end);
+    let answers_doom = answers_doom(
+        tested,
+        transcript,
+        &shown.got.ending,
+        &ending,
+        dooms.at_close,
+    );
     let Evidence {
         due,
         got,
@@ -40,7 +76,7 @@ pub(crate) fn with_doom(
         ending: _,
         has_rest,
     } = due;
-    Ok(Evidence {
+    Evidence {
         due: Direction {
             replies,
             ending,
@@ -50,31 +86,29 @@ pub(crate) fn with_doom(
         turns,
         ended,
         answers_doom,
-    })
+    }
 }
 
 /// How what was sent ends, as it counts.
 fn counted_ending(
-    alloc: Global,
     tested: Role,
     transcript: &Transcript,
     shown: &Evidence,
-) -> Result<Option<InTurn<Ending>>, NoMemory>
-    ensures { IfOk result (λ counted. CountsAs tested transcript.now
-        shown.now.got.ending shown.now.due.ending counted) }
+    at_end: bool,
+) -> Option<InTurn<Ending>>
+    requires { IsTrue at_end ↔ IsDoomedAtEnd tested (sent_turns transcript.now.turns) }
+    ensures { CountsAs tested transcript.now shown.now.got.ending shown.now.due.ending result }
 {
     if let Some(sent) = &shown.due.ending {
-        return Ok(Some(InTurn {
+        return Some(InTurn {
             turn: sent.turn,
             what: sent.what,
-        }));
+        });
     }
     if !counts_doom(tested, transcript.ended, &shown.got.ending) {
-        return Ok(None);
+        return None;
     }
-    let turns = transcript.turns.as_slice();
-    let doom = doom_of(alloc, tested, turns)?;
-    Ok(doom)
+    doom_of(tested, transcript.turns.as_slice(), at_end)
 }
 
 /// Whether what is doomed counts as a fault.
@@ -91,20 +125,20 @@ fn counts_doom(tested: Role, ended: Ended, got: &Option<InTurn<Ending>>) -> bool
 }
 
 /// Where all that was sent is doomed, that, in the last turn with bytes.
-fn doom_of(alloc: Global, tested: Role, turns: &[Turn]) -> Result<Option<InTurn<Ending>>, NoMemory>
-    ensures { IfOk result (λ doom. IsDoomOf tested (sent_turns turns.now) doom) }
+fn doom_of(tested: Role, turns: &[Turn], at_end: bool) -> Option<InTurn<Ending>>
+    requires { IsTrue at_end ↔ IsDoomedAtEnd tested (sent_turns turns.now) }
+    ensures { IsDoomOf tested (sent_turns turns.now) result }
 {
     let Some(turn) = last_with_bytes(turns) else {
-        return Ok(None);
+        return None;
     };
-    let doomed = is_doomed_after(alloc, tested, turns, turns.len())?;
-    if !doomed {
-        return Ok(None);
+    if !at_end {
+        return None;
     }
-    Ok(Some(InTurn {
+    Some(InTurn {
         turn,
         what: Ending::Doomed,
-    }))
+    })
 }
 
 /// The last turn in which bytes were sent, if there is one.
@@ -124,55 +158,22 @@ fn last_with_bytes(turns: &[Turn]) -> Option<usize>
 
 /// Whether the close that was got came before the fault, when what was sent was doomed.
 fn answers_doom(
-    alloc: Global,
     tested: Role,
-    turns: &[Turn],
+    transcript: &Transcript,
     got: &Option<InTurn<Ending>>,
     due: &Option<InTurn<Ending>>,
-) -> Result<bool, NoMemory>
-    ensures { IfOk result (λ answers. IsTrue answers ↔ AnswersDoom tested (sent_turns turns.now) got.now due.now) }
+    at_close: bool,
+) -> bool
+    requires { IsKnownAtClose tested (sent_turns transcript.now.turns) got.now at_close }
+    ensures { IsTrue result ↔ AnswersDoom tested (sent_turns transcript.now.turns) got.now due.now }
 {
     match (got, due) {
         (Some(got), Some(due)) => {
-            if !is_close_ending(&got.what) || is_close_ending(&due.what) || got.turn >= due.turn {
-                return Ok(false);
-            }
-            let doomed = is_doomed_after(alloc, tested, turns, got.turn + 1)?;
-            Ok(doomed)
+            is_close_ending(&got.what)
+                && !is_close_ending(&due.what)
+                && got.turn < due.turn
+                && at_close
         }
-        _ => Ok(false),
+        _ => false,
     }
-}
-
-/// Whether all that was sent in the first turns, so many, is doomed.
-fn is_doomed_after(
-    alloc: Global,
-    tested: Role,
-    turns: &[Turn],
-    count: usize,
-) -> Result<bool, NoMemory>
-    ensures { IfOk result (λ doomed. IsTrue doomed ↔ IsDoomedAfter tested (sent_turns turns.now) count) }
-{
-    laws::doomed_streams_go_on();
-    let mut session = Session::new(alloc, tested, Limits::largest());
-    for number in 0..turns.len().min(count) {
-        take_bytes(alloc, turns[number].sent.as_slice(), &mut session)?;
-    }
-    Ok(session.is_doomed())
-}
-
-/// Takes bytes, and drops what they say, event after event.
-fn take_bytes(alloc: Global, bytes: &[u8], session: &mut Session) -> Result<(), NoMemory>
-    ensures { (role : Role) (before : List ℕ) → HasTakenBytes role before session.old
-        → OnOk result (HasTakenBytes role (before ++ bytes.now) session.new) }
-{
-    let mut replies = Vec::new(alloc);
-    let mut rest = bytes;
-    while !rest.is_empty() {
-        let part = &rest[..rest.len().min(AT_ONCE)];
-        let front = session.take(part, NO_KEY, &mut replies)?;
-        replies.clear();
-        rest = &rest[front.used..];
-    }
-    Ok(())
 }

@@ -1,22 +1,20 @@
-//! Evidence that grows with a connection: turn by turn, and in a turn piece by piece, as bytes are sent and got. The
-//! judge builds its evidence so, and a run over a connection asks of it what has come.
+//! Evidence that grows with a connection: turn by turn, and in a turn piece by piece, as bytes are sent and got. A run
+//! over a connection asks of it what has come.
 
-ghost use Rattle.std.specs.Prelude.{◌≡◌, ◌+◌, ◌^◌, ◌<◌, ◌↔◌, List, [], ◌∷◌, ◌++◌, length, true, IfOk, IsTrue, OnOk};
+ghost use Rattle.std.specs.Prelude.{◌≡◌, ◌+◌, ◌^◌, ◌<◌, ◌↔◌, List, [], ◌∷◌, ◌++◌, length, true, IsTrue, OnOk};
 ghost use Rattle.ws_wire.specs.declared.role.Role.{Role};
 ghost use Rattle.ws_scripts.specs.declared.transcript.Turn.{Turn};
 ghost use Rattle.ws_session.specs.Exchange.{is_over};
-ghost use Rattle.ws_suite.specs.Evidence.{IsEvidenceOf, other_role};
-ghost use Rattle.ws_suite.specs.Growing.{AreAll, AreTurnsAnswered, EndInsideFrame, HasGrown, IsTallyOf};
+ghost use Rattle.ws_suite.specs.Evidence.{other_role};
+ghost use Rattle.ws_suite.specs.Growing.{AreTurnsAnswered, EndInsideFrame, HasGrown, IsTallyOf};
 ghost use Rattle.ws_suite.specs.Growing.{is_clean, is_failed, new_turn, turn_with_got, turn_with_sent};
 
-use crate::evidence::collecting::{Collected, Rooms, Taken, Way, nothing_taken, take_piece};
-use crate::evidence::keeping::{AllReplies, KeepsReplies, ReplyTally};
-use crate::evidence::{Direction, Evidence};
+use crate::evidence::collecting::{Rooms, Taken, Way, nothing_taken, take_piece};
+use crate::evidence::keeping::{KeepsReplies, ReplyTally};
 use crate::lemmas::session_laws;
 use std::alloc::Global;
 use std::marker::Model;
 use ws_base::NoMemory;
-use ws_scripts::{Ended, Transcript};
 use ws_session::Status;
 use ws_wire::Role;
 
@@ -146,46 +144,6 @@ impl GrowingEvidence<ReplyTally> {
     }
 }
 
-impl GrowingEvidence<AllReplies> {
-    /// All that it shows, where the connection has ended so.
-    fn into_evidence(self, ended: Ended) -> Evidence
-        ensures { (tested : Role) (turns : List Turn) → HasGrown AreAll tested turns self →
-            IsEvidenceOf tested (record { turns = turns; ended = ended }) result }
-    {
-        let GrowingEvidence {
-            sent,
-            got,
-            turns,
-            ..
-        } = self;
-        Evidence {
-            due: direction_of(sent.collected),
-            got: direction_of(got.collected),
-            turns,
-            ended,
-            answers_doom: false,
-        }
-    }
-}
-
-/// A direction as it was collected.
-pub(super) fn direction_of(collected: Collected<AllReplies>) -> Direction
-    ensures replies { AreAll collected.replies result.replies }
-    ensures ending { result.ending ≡ collected.ending }
-    ensures has_rest { result.has_rest ≡ collected.has_rest }
-{
-    let Collected {
-        replies,
-        ending,
-        has_rest,
-    } = collected;
-    Direction {
-        replies: replies.list,
-        ending,
-        has_rest,
-    }
-}
-
 /// The other end.
 pub(super) fn other(role: Role) -> Role
     ensures { result ≡ other_role role }
@@ -194,22 +152,4 @@ pub(super) fn other(role: Role) -> Role
         Role::Client => Role::Server,
         Role::Server => Role::Client,
     }
-}
-
-/// The evidence of a transcript, where the tested end has this role.
-pub(crate) fn evidence_of(
-    alloc: Global,
-    tested: Role,
-    transcript: &Transcript,
-) -> Result<Evidence, NoMemory>
-    ensures { IfOk result (λ evidence. IsEvidenceOf tested transcript.now evidence) }
-{
-    let mut growing: GrowingEvidence<AllReplies> = GrowingEvidence::new(alloc, tested);
-    let turns = transcript.turns.as_slice();
-    for turn in turns {
-        growing.begin_turn();
-        growing.on_sent(turn.sent.as_slice())?;
-        growing.on_got(turn.got.as_slice())?;
-    }
-    Ok(growing.into_evidence(transcript.ended))
 }

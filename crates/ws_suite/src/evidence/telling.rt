@@ -1,27 +1,46 @@
-//! The evidence of a transcript with all that came, also the pings: each direction is read once.
+//! What a transcript shows: both directions are read once, turn by turn.
 
 ghost use Rattle.std.specs.Prelude.{◌≡◌, ◌&&◌, IfOk, length, map};
-ghost use Rattle.ws_suite.specs.Evidence.{IsDirectionOf, got_turns, other_role};
+ghost use Rattle.ws_suite.specs.Evidence.{IsEvidenceOf, got_turns, other_role, sent_turns};
 ghost use Rattle.ws_suite.specs.Explanation.{IsBeyondBy, told_in};
-ghost use Rattle.ws_suite.specs.InnerCollecting.{IsToldEvidenceOf, first_beyond, found_by, way_bytes};
+ghost use Rattle.ws_suite.specs.Growing.{AreAll};
+ghost use Rattle.ws_suite.specs.InnerCollecting.{IsEvidenceBy, IsToldEvidenceOf, first_beyond, found_by, way_bytes};
+ghost use Rattle.ws_suite.specs.InnerDoom.{AreDooms};
 ghost use Rattle.ws_suite.specs.Matching.{ends_with_close};
 
 use crate::evidence::collecting::{Collected, Rooms, Taken, Way, nothing_taken, take_piece};
-use crate::evidence::growing::{direction_of, other};
+use crate::evidence::doom::{Dooms, doom_at_close, is_doomed};
+use crate::evidence::growing::other;
 use crate::evidence::keeping::AllReplies;
-use crate::evidence::{Direction, Evidence, ends_with_close};
+use crate::evidence::{Direction, Evidence, ends_with_close, is_close_in_turn};
 use crate::lemmas::session_laws;
 use std::alloc::Global;
 use ws_base::NoMemory;
 use ws_scripts::{Transcript, Turn};
 use ws_wire::Role;
 
-/// The evidence of a transcript, with the pings that were got.
+/// What a transcript shows.
 #[derive(Drop)]
-pub(crate) struct ToldEvidence {
+pub(crate) struct Shown {
     pub evidence: Evidence,
+    /// Whether what was sent is doomed.
+    pub dooms: Dooms,
     /// The turn of the first byte behind the close that was got.
     pub beyond: Option<usize>,
+}
+
+/// The evidence of a transcript.
+pub(crate) fn evidence_of(
+    alloc: Global,
+    tested: Role,
+    transcript: &Transcript,
+) -> Result<Shown, NoMemory>
+    ensures evidence { IfOk result (λ shown. IsEvidenceOf tested transcript.now shown.evidence) }
+    ensures dooms { IfOk result (λ shown. AreDooms tested (sent_turns transcript.now.turns)
+        shown.evidence.got.ending shown.dooms) }
+{
+    let shown = shown_by(alloc, Way::Got, tested, transcript)?;
+    Ok(shown)
 }
 
 /// The evidence of a transcript, with the pings that were got.
@@ -29,60 +48,81 @@ pub(crate) fn told_evidence_of(
     alloc: Global,
     tested: Role,
     transcript: &Transcript,
-) -> Result<ToldEvidence, NoMemory>
-    ensures evidence { IfOk result (λ told. IsToldEvidenceOf tested transcript.now told.evidence) }
-    ensures beyond { IfOk result (λ told. IsBeyondBy (other_role tested) told_in (got_turns transcript.now.turns)
-        (length transcript.now.turns) told.beyond) }
+) -> Result<Shown, NoMemory>
+    ensures evidence { IfOk result (λ shown. IsToldEvidenceOf tested transcript.now shown.evidence) }
+    ensures dooms { IfOk result (λ shown. AreDooms tested (sent_turns transcript.now.turns)
+        shown.evidence.got.ending shown.dooms) }
+    ensures beyond { IfOk result (λ shown. IsBeyondBy (other_role tested) told_in (got_turns transcript.now.turns)
+        (length transcript.now.turns) shown.beyond) }
 {
-    let turns = transcript.turns.as_slice();
-    let due = direction_by(alloc, Way::Sent, tested, turns)?;
-    let got = direction_by(alloc, Way::Told, other(tested), turns)?;
-    let evidence = Evidence {
-        due: due.direction,
-        got: got.direction,
-        turns: turns.len(),
-        ended: transcript.ended,
-        answers_doom: false,
-    };
-    Ok(ToldEvidence {
-        evidence,
-        beyond: got.beyond,
-    })
+    let shown = shown_by(alloc, Way::Told, tested, transcript)?;
+    Ok(shown)
 }
 
-/// A direction that was read.
-#[derive(Drop)]
-struct Walked {
-    direction: Direction,
-    /// The turn of the first byte behind its close.
-    beyond: Option<usize>,
-}
-
-/// What goes this way in the turns, as an end with this role takes it.
-fn direction_by(alloc: Global, way: Way, role: Role, turns: &[Turn]) -> Result<Walked, NoMemory>
-    ensures direction { IfOk result (λ walked.
-        IsDirectionOf role (found_by way) (map (way_bytes way) turns.now) walked.direction) }
-    ensures beyond { IfOk result (λ walked.
-        IsBeyondBy role (found_by way) (map (way_bytes way) turns.now) (length turns.now) walked.beyond) }
+/// What a transcript shows, where what was got is told this way.
+fn shown_by(
+    alloc: Global,
+    way: Way,
+    tested: Role,
+    transcript: &Transcript,
+) -> Result<Shown, NoMemory>
+    ensures evidence { IfOk result (λ shown. IsEvidenceBy way tested transcript.now shown.evidence) }
+    ensures dooms { IfOk result (λ shown. AreDooms tested (sent_turns transcript.now.turns)
+        shown.evidence.got.ending shown.dooms) }
+    ensures beyond { IfOk result (λ shown. IsBeyondBy (other_role tested) (found_by way)
+        (map (way_bytes way) transcript.now.turns) (length transcript.now.turns) shown.beyond) }
 {
     session_laws();
-    let mut taken: Taken<AllReplies> = nothing_taken(alloc, way, role);
+    let turns = transcript.turns.as_slice();
     let mut rooms = Rooms::new(alloc);
+    let mut sent: Taken<AllReplies> = nothing_taken(alloc, Way::Sent, tested);
+    let mut got: Taken<AllReplies> = nothing_taken(alloc, way, other(tested));
     let mut beyond = None;
+    let mut at_close = false;
     for number in 0..turns.len() {
+        let turn = &turns[number];
         take_piece(
-            way,
+            Way::Sent,
             number,
-            bytes_of(way, &turns[number]),
+            turn.sent.as_slice(),
             &mut rooms,
-            &mut taken,
+            &mut sent,
         )?;
-        beyond = first_beyond(beyond, number, goes_on(&taken.collected));
+        take_piece(way, number, bytes_of(way, turn), &mut rooms, &mut got)?;
+        beyond = first_beyond(beyond, number, goes_on(&got.collected));
+        let closes = is_close_in_turn(&got.collected.ending, number);
+        at_close = doom_at_close(closes, at_close, &sent);
     }
-    Ok(Walked {
-        direction: direction_of(taken.collected),
+    let at_end = is_doomed(&sent);
+    Ok(Shown {
+        evidence: Evidence {
+            due: direction_of(sent.collected),
+            got: direction_of(got.collected),
+            turns: turns.len(),
+            ended: transcript.ended,
+            answers_doom: false,
+        },
+        dooms: Dooms { at_close, at_end },
         beyond,
     })
+}
+
+/// A direction as it was collected.
+fn direction_of(collected: Collected<AllReplies>) -> Direction
+    ensures replies { AreAll collected.replies result.replies }
+    ensures ending { result.ending ≡ collected.ending }
+    ensures has_rest { result.has_rest ≡ collected.has_rest }
+{
+    let Collected {
+        replies,
+        ending,
+        has_rest,
+    } = collected;
+    Direction {
+        replies: replies.list,
+        ending,
+        has_rest,
+    }
 }
 
 /// The bytes of a turn that go this way.

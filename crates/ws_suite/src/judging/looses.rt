@@ -3,9 +3,9 @@
 ghost use Rattle.std.specs.Prelude.{◌≡◌, ◌↔◌, IsTrue};
 ghost use Rattle.ws_suite.specs.InnerJudging.{AreFindingsOf, IsFirstLoose, without_pings};
 ghost use Rattle.ws_suite.specs.Matching.{IsCodeFor};
-ghost use Rattle.ws_suite.specs.Verdicts.{EchoesShort, EndsLate, HasOtherCode, IsCloseInTurn, SkipsPongs};
+ghost use Rattle.ws_suite.specs.Verdicts.{EchoesShort, EndsLate, HasOtherCode, SkipsPongs};
 
-use crate::evidence::{Ending, Evidence, InTurn, ends_with_fault, is_close_ending};
+use crate::evidence::{Ending, Evidence, ends_with_fault, is_close_in_turn};
 use crate::judging::findings::Findings;
 use crate::verdict::LooseWhy;
 use ws_scripts::Ended;
@@ -81,16 +81,6 @@ fn ends_late(tested: Role, x: &Evidence) -> bool
                 && due.turn + 1 < x.turns
                 && (tested == Role::Server || !is_close_in_turn(&x.got.ending, due.turn))
         }
-        None => false,
-    }
-}
-
-/// Whether a close was got in this turn.
-fn is_close_in_turn(got: &Option<InTurn<Ending>>, turn: usize) -> bool
-    ensures { IsTrue result ↔ IsCloseInTurn got.now turn }
-{
-    match got {
-        Some(got) => is_close_ending(&got.what) && got.turn == turn,
         None => false,
     }
 }

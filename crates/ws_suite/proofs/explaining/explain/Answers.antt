@@ -11,15 +11,17 @@ pub returns : goal.returns
 returns c =
     let transcript = c.args.transcript.now in
     let told = c.in_ok-told in
-    let counted = c.in_ok-counted in
+    let counted = c.with_doom-counted.result in
+    let is_counted = c.with_doom-counted.ensures in
     record {
       evidence = without_pings told.told.evidence;
       is_evidence = told_is_evidence c.args.tested transcript told.told.evidence told.ensures.evidence;
-      counted = without_pings counted.counted;
-      is_counted = counted_without c.args.tested transcript told.told.evidence counted.counted counted.ensures;
+      counted = without_pings counted;
+      is_counted = counted_without c.args.tested transcript told.told.evidence counted is_counted;
       is_verdict = c.in_ok-verdict.ensures;
       due = refl;
-      got = subst (λ (d : Direction). IsDirectionOf (other_role c.args.tested) told_in (got_turns transcript.turns) d) (sym counted.ensures.got) told.ensures.evidence.got;
+      got = subst (λ (d : Direction). IsDirectionOf (other_role c.args.tested) told_in (got_turns transcript.turns) d)
+          (sym is_counted.got) told.ensures.evidence.got;
       beyond = told.ensures.beyond;
       turns = refl;
       ended = refl;

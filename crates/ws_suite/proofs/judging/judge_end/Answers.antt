@@ -8,12 +8,15 @@ use Rattle.ws_suite.proofs.judging.judge_end.Goals as goal
 pub returns : goal.returns
 returns c =
     let shown = c.in_ok-shown in
-    let counted = c.in_ok-counted in
+    let evidence = shown.shown.evidence in
+    let counted = c.with_doom-counted.result in
+    let is_counted = c.with_doom-counted.ensures in
     record {
-      evidence = shown.shown;
-      is_evidence = shown.ensures;
-      counted = counted.counted;
-      is_counted = counted.ensures;
+      evidence = evidence;
+      is_evidence = shown.ensures.evidence;
+      counted = counted;
+      is_counted = is_counted;
       is_verdict = subst (λ (x : Evidence). IsVerdictOn c.args.tested x c.in_ok-verdict.verdict)
-          (no_pings c.args.tested c.args.transcript.now shown.shown counted.counted shown.ensures counted.ensures) c.in_ok-verdict.ensures;
+          (no_pings c.args.tested c.args.transcript.now evidence counted shown.ensures.evidence is_counted)
+          c.in_ok-verdict.ensures;
     }

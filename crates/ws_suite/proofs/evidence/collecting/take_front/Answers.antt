@@ -23,9 +23,11 @@ returns-clause-taken g c = λ laws role turns last number h.
     let some : 0 < length c.args.piece.now = search rules in
     let none : c.is_none-taken.result ≡ is_none front.event = search rules in
     let rest = none ∙ as_told front.event payload in
-    let are : AreCollected g.K.KeepsReplies.keeps c.args.way c.args.number (option_to_list (event_if_any front.event c.as_slice-payload.result.now)) (make_collected old c.is_none-taken.result) new = c.in_ok-collect_found.ensures in
-    let lent = subst (λ (l : List ℕ). AreCollected g.K.KeepsReplies.keeps c.args.way c.args.number (option_to_list (event_if_any front.event l)) (make_collected old c.is_none-taken.result) new) c.as_slice-payload.ensures are in
-    let there = subst (λ (n : ℕ). AreCollected g.K.KeepsReplies.keeps c.args.way n (option_to_list told.event) (make_collected old c.is_none-taken.result) new) number lent in
-    let kept = subst (λ (b : Bool). AreCollected g.K.KeepsReplies.keeps c.args.way (length turns) (option_to_list told.event) (make_collected old b) new) rest there in
+    let are : AreCollected g.K.KeepsReplies.keeps c.args.way c.args.number (option_to_list told.event)
+    (make_collected old c.is_none-taken.result) new = c.in_ok-collect_found.ensures in
+    let there = subst (λ (n : ℕ). AreCollected g.K.KeepsReplies.keeps c.args.way n (option_to_list told.event)
+    (make_collected old c.is_none-taken.result) new) number are in
+    let kept = subst (λ (b : Bool). AreCollected g.K.KeepsReplies.keeps c.args.way (length turns)
+    (option_to_list told.event) (make_collected old b) new) rest there in
     front_taken_too c.args.piece.now _ _ _ c.args.taken.now.session c.take_into.new.self told took.used.1 took.taken took.role took.limits
     laws c.args.way role turns last old new (took.used.0 some) h kept
