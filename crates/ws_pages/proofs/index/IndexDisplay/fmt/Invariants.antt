@@ -1,0 +1,15 @@
+-- The peers so far are written, and what is left follows.
+use denote.Shadow.{shadow}
+use denote.Text.{Utf8}
+use Rattle.std.proofs.Common.{drop}
+use Rattle.std.specs.Fmt.{IsPlainFormatter}
+use Rattle.ws_pages.specs.Json.{peers_from, index_json}
+use Rattle.ws_pages.specs.Views.{result_values}
+use Rattle.ws_pages.proofs.Marked.{Goes}
+use Rattle.ws_pages.proofs.index.IndexDisplay.fmt.Given as goal
+
+abbrev pub invariant-loop-peer : goal.invariant-loop-peer
+invariant-loop-peer g l = shadow (Utf8 l.mark) × (IsPlainFormatter l.initial.f
+    → Goes g.W.Write.write_str_gives l.initial.f l.f
+    (peers_from (result_values l.self.results.now) l.self.ids.now (drop l.peer-index l.peer-items) l.mark)
+    (index_json (result_values l.self.results.now) l.self.ids.now l.peer-items))

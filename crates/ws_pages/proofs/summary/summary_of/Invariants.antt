@@ -1,0 +1,10 @@
+-- The summaries of the peers so far.
+use Rattle.std.proofs.Common.{◌≡◌, map, string_bytes, take}
+use Rattle.std.specs.List.{flat_map}
+use Rattle.ws_pages.specs.Summary.{peer_summary}
+use Rattle.ws_pages.specs.Views.{result_values}
+use Rattle.ws_pages.proofs.summary.summary_of.Given as goal
+
+abbrev pub invariant-loop-peer : goal.invariant-loop-peer
+invariant-loop-peer l = string_bytes l.text
+    ≡ flat_map (peer_summary (map string_bytes l.listed) (result_values l.results) l.ids) (take l.peer-index l.peers)

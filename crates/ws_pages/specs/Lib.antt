@@ -1,0 +1,10 @@
+pub mod RunLines
+pub mod Cells
+pub mod Table
+pub mod Marks
+pub mod Escaping
+pub mod Page
+pub mod Json
+pub mod Summary
+pub mod Examples
+pub mod Views
