@@ -1,5 +1,7 @@
--- The lemmas behind the commands: the cases that words stand for, what is delivered, and how a verdict is explained.
+-- The lemmas behind the commands: the cases that words stand for, what is delivered, how a verdict is
+-- explained, and the scripts of all cases.
 pub mod CaseLemmas
 pub mod Delivering
 pub mod LastGot
 pub mod Explained
+pub mod NamedScripts

@@ -11,6 +11,7 @@ use Rattle.wst_commands.specs.declared.fault.Fault.TheVariants.{BadLimits, BadPr
 use Rattle.wst_commands.specs.declared.fault.Fault.TheVariants.{NotACall, NotACapture, NotAMove, NotAStep, NotAVerdict}
 use Rattle.wst_commands.specs.declared.fault.Fault.TheVariants.{NotListening, StreamWithCapture}
 use Rattle.wst_commands.specs.declared.fault.Fault.TheVariants.{NoText, NoTask, NoMemory, RoleWithoutCapture}
+use Rattle.wst_commands.specs.declared.fault.Fault.TheVariants.{SummaryWithJson}
 use Rattle.wst_commands.specs.declared.fault.ListenFault.{ListenFault}
 use Rattle.wst_commands.specs.declared.fault.ListenFault.TheVariants as why
 
@@ -41,6 +42,7 @@ TellsFault BadTimeout exit faults = (exit ≡ WrongWords) × Tells (codes "bad t
 TellsFault StreamWithCapture exit faults =
     (exit ≡ WrongWords) × Tells (codes "--capture takes no --from or --budget\n") faults
 TellsFault RoleWithoutCapture exit faults = (exit ≡ WrongWords) × Tells (codes "--role takes --capture\n") faults
+TellsFault SummaryWithJson exit faults = (exit ≡ WrongWords) × Tells (codes "--summary takes no --json\n") faults
 TellsFault HeadIsCut exit faults = (exit ≡ Damaged) × Tells (codes "head is cut\n") faults
 TellsFault (NotAMove number) exit faults = TellsLine number (codes "not a move") exit faults
 TellsFault (NotACall number) exit faults = TellsLine number (codes "not a call") exit faults

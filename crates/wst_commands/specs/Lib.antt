@@ -11,6 +11,7 @@ pub mod Pairs
 pub mod Session
 pub mod Judge
 pub mod Convert
+pub mod Report
 pub mod GivenCases
 pub mod Cases
 pub mod InnerExplaining

@@ -39,6 +39,8 @@ pub enum Fault {
     StreamWithCapture,
     /// The tested end is named without a capture.
     RoleWithoutCapture,
+    /// A summary and an index are asked for.
+    SummaryWithJson,
     /// The input ends inside a head, or is empty.
     HeadIsCut,
     /// The first line that is damaged in a script of moves, counted from 1.
@@ -113,6 +115,10 @@ pub fn tell_fault<F: Write>(alloc: Global, fault: Fault, faults: &mut Watched<F>
         }
         Fault::RoleWithoutCapture => {
             tell(b"--role takes --capture\n", faults);
+            Exit::WrongWords
+        }
+        Fault::SummaryWithJson => {
+            tell(b"--summary takes no --json\n", faults);
             Exit::WrongWords
         }
         Fault::HeadIsCut => {

@@ -3,7 +3,8 @@
 //! stands here.
 //!
 //! The layer above uses a call for each command, each with one clause, what a run of that command is (`RunsShow` and
-//! its like): `run_show`, `run_moves` (of `pair`), `run_head`, `run_session`, `run_judge`, `run_convert`, `run_cases`;
+//! its like): `run_show`, `run_moves` (of `pair`), `run_head`, `run_session`, `run_judge`, `run_convert`, `run_cases`,
+//! `run_report`;
 //! `cases_of`, `ids_for` and `is_glob`, which say for which cases words stand; `end_run`, `tell_fault` and
 //! `tell_no_cases`, which tell a fault; `read_whole`, which reads an input to its end; `deliver` and `tell`, which
 //! write a text; `limits_given`, `timeout_given`, `judgement_of`, the verdict on a transcript and the lines below it;
@@ -22,6 +23,7 @@ mod judge;
 mod limits;
 mod pair;
 mod reading_whole;
+mod report;
 mod session;
 mod show;
 mod telling;
@@ -38,6 +40,7 @@ pub use judge::{exit_of, run_judge};
 pub use limits::limits_given;
 pub use pair::run_moves;
 pub use reading_whole::{ReadStop, read_whole};
+pub use report::run_report;
 pub use session::run_session;
 pub use show::run_show;
 pub use telling::{deliver, tell};

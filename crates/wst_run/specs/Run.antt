@@ -6,7 +6,7 @@ use Rattle.clap.specs.declared.error.kind.ErrorKind.TheVariants.{DisplayHelp, Di
 use Rattle.ws_frame.specs.Devices.{Device, IsUntouched}
 use Rattle.wst_words.specs.Words.{AsksFor, RefusesWords}
 use Rattle.wst_words.specs.declared.words.Task.{Task}
-use Rattle.wst_words.specs.declared.words.Task.TheVariants.{Cases, Convert, Head, Judge, Pair, Serve}
+use Rattle.wst_words.specs.declared.words.Task.TheVariants.{Cases, Convert, Head, Judge, Pair, Report, Serve}
 use Rattle.wst_words.specs.declared.words.Task.TheVariants.{Send, Session, Show, Sweep, Tap, Test}
 use Rattle.wst_words.specs.declared.words.WordsFault.{WordsFault}
 use Rattle.wst_words.specs.declared.words.WordsFault.TheVariants as words
@@ -16,6 +16,7 @@ use Rattle.wst_commands.specs.Faults.{Ends, TellsFault}
 use Rattle.wst_commands.specs.Head.{RunsHead}
 use Rattle.wst_commands.specs.Judge.{RunsJudge}
 use Rattle.wst_commands.specs.Pairs.{RunsPair}
+use Rattle.wst_commands.specs.Report.{RunsReport}
 use Rattle.wst_run.specs.Send.{RunsSend}
 use Rattle.wst_sockets.specs.Serve.{RunsServe}
 use Rattle.wst_run.specs.Sweep.{RunsSweep}
@@ -49,6 +50,8 @@ RunsTask (Cases options) exit input output faults = IsUntouched input × ListsCa
 RunsTask (Test options) exit input output faults = RunsTest options exit input output faults
 RunsTask (Send options) exit input output faults = RunsSend options exit input output faults
 RunsTask (Sweep options) exit input output faults = IsUntouched input × RunsSweep options exit output faults
+RunsTask (Report options) exit input output faults =
+    RunsCommand (λ ended. RunsReport options ended input output) exit faults
 RunsTask (Serve options) exit input output faults = IsUntouched input × RunsServe options exit output faults
 RunsTask (Tap options) exit input output faults = IsUntouched input × RunsTap options exit output faults
 

@@ -26,8 +26,8 @@ use std::net::Net;
 use ws_frame::Watched;
 use ws_reports::Report;
 use wst_commands::{
-    Exit, Fault, end_run, run_cases, run_convert, run_head, run_judge, run_moves, run_session,
-    run_show, tell_fault,
+    Exit, Fault, end_run, run_cases, run_convert, run_head, run_judge, run_moves, run_report,
+    run_session, run_show, tell_fault,
 };
 use wst_sockets::{plan_serve, run_serve};
 use wst_testing::{known_given, tell_known_stop, tell_refusal};
@@ -90,6 +90,7 @@ fn run_task<N: Net, R: Read, W: Write, F: Write>(
         Task::Test(options) => run_test(alloc, &options, net, reader, writer, faults),
         Task::Send(options) => run_send(alloc, &options, net, reader, writer, faults),
         Task::Sweep(options) => run_sweep(alloc, &options, net, writer, faults),
+        Task::Report(options) => end_run(alloc, run_report(alloc, options, reader, writer), faults),
         Task::Serve(options) => serve_as_asked(alloc, &options, net, writer, faults),
         Task::Tap(options) => run_tap(alloc, &options, net, writer, faults),
     }

@@ -8,6 +8,7 @@ use Rattle.wst_words.specs.Options.{GivesNoNumberOr, GivesNumberIfAny, LacksOneO
 use Rattle.wst_words.specs.Pair.{AsksToPair, pair_command}
 use Rattle.wst_words.specs.Arguments.{ArgumentRow, argument, argument_or}
 use Rattle.wst_words.specs.RunOptions.{AsksForRun, run_arguments_without_timeout}
+use Rattle.wst_words.specs.Report.{AsksToReport, report_command}
 use Rattle.wst_words.specs.Send.{AsksToSend, send_command}
 use Rattle.wst_words.specs.declared.arguments.ArgumentKind.TheVariants.{Flag, Number, Words}
 use Rattle.wst_words.specs.Serve.{AsksToServe, serve_command}
@@ -19,6 +20,7 @@ use Rattle.wst_words.specs.Test.{AsksToTest, test_command}
 use Rattle.wst_words.specs.Words.{CommandAsks, CommandAsksNothing}
 use Rattle.wst_words.specs.declared.judge.JudgeOptions.{JudgeOptions}
 use Rattle.wst_words.specs.declared.pair.PairOptions.{PairOptions}
+use Rattle.wst_words.specs.declared.report.ReportOptions.{ReportOptions}
 use Rattle.wst_words.specs.declared.run_options.RunOptions.{RunOptions}
 use Rattle.wst_words.specs.declared.send.SendOptions.{SendOptions}
 use Rattle.wst_words.specs.declared.serve.ServeOptions.{ServeOptions}
@@ -29,7 +31,7 @@ use Rattle.wst_words.specs.declared.tap.TapOptions.{TapOptions}
 use Rattle.wst_words.specs.declared.test.TestOptions.{TestOptions}
 use Rattle.wst_words.specs.declared.words.Task.{Task}
 use Rattle.wst_words.specs.declared.words.Task.TheVariants.{Cases, Convert, Head, Judge, Pair, Serve, Session, Show}
-use Rattle.wst_words.specs.declared.words.Task.TheVariants.{Send, Sweep, Tap, Test}
+use Rattle.wst_words.specs.declared.words.Task.TheVariants.{Report, Send, Sweep, Tap, Test}
 use Rattle.wst_words.proofs.WordLemmas.{no_word}
 
 -- the command that a task is asked for by
@@ -44,6 +46,7 @@ task_name (Cases options) = codes "cases"
 task_name (Test options) = codes "test"
 task_name (Send options) = codes "send"
 task_name (Sweep options) = codes "sweep"
+task_name (Report options) = codes "report"
 task_name (Serve options) = codes "serve"
 task_name (Tap options) = codes "tap"
 
@@ -58,6 +61,7 @@ called name rows (Cases options) asks = asks.0
 called name rows (Test options) asks = asks.0
 called name rows (Send options) asks = asks.0
 called name rows (Sweep options) asks = asks.0
+called name rows (Report options) asks = asks.0
 called name rows (Serve options) asks = asks.0
 called name rows (Tap options) asks = asks.0
 
@@ -215,6 +219,20 @@ no_tap name rows is lacks = refuses
     refuses : (task : Task) → CommandAsks (Some (name, rows)) task → ⊥
     refuses (Tap options) asks = tap_lacks rows options lacks asks.1
     refuses task asks = differs (codes "tap") (task_name task) name refl refl is (called name rows task asks)
+
+report_lacks : (rows : List Row) (options : ReportOptions) → LacksOneOf rows report_command.arguments
+    → AsksToReport rows options → ⊥
+report_lacks rows options (inl json) asks = json options.json asks.0
+report_lacks rows options (inr (inl summary)) asks = summary options.summary asks.1
+report_lacks rows options (inr (inr none)) asks = absurd none
+
+pub no_report : (name : Text) (rows : List Row) → name ≡ codes "report" → LacksOneOf rows report_command.arguments
+    → CommandAsksNothing (Some (name, rows))
+no_report name rows is lacks = refuses
+  where
+    refuses : (task : Task) → CommandAsks (Some (name, rows)) task → ⊥
+    refuses (Report options) asks = report_lacks rows options lacks asks.1
+    refuses task asks = differs (codes "report") (task_name task) name refl refl is (called name rows task asks)
 
 send_lacks : (rows : List Row) (options : SendOptions) → LacksOneOf rows send_command.arguments
     → AsksToSend rows options → ⊥

@@ -11,6 +11,7 @@ pub mod RunOptions
 pub mod Test
 pub mod Send
 pub mod Sweep
+pub mod Report
 pub mod Serve
 pub mod Tap
 pub mod Words

@@ -9,6 +9,7 @@ use Rattle.wst_words.specs.Commands.{CommandRow, with_commands}
 use Rattle.wst_words.specs.Head.{AsksForHead, head_command}
 use Rattle.wst_words.specs.Judge.{AsksToJudge, judge_command}
 use Rattle.wst_words.specs.Pair.{AsksToPair, pair_command}
+use Rattle.wst_words.specs.Report.{AsksToReport, report_command}
 use Rattle.wst_words.specs.Send.{AsksToSend, send_command}
 use Rattle.wst_words.specs.Serve.{AsksToServe, serve_command}
 use Rattle.wst_words.specs.Session.{AsksForSession, session_command}
@@ -19,7 +20,7 @@ use Rattle.wst_words.specs.Test.{AsksToTest, test_command}
 use Rattle.wst_words.specs.declared.commands.CommandName.{CommandName}
 use Rattle.wst_words.specs.declared.commands.CommandName.TheVariants as name
 use Rattle.wst_words.specs.declared.words.Task.{Task}
-use Rattle.wst_words.specs.declared.words.Task.TheVariants.{Cases, Convert, Head, Judge, Pair, Serve}
+use Rattle.wst_words.specs.declared.words.Task.TheVariants.{Cases, Convert, Head, Judge, Pair, Report, Serve}
 use Rattle.wst_words.specs.declared.words.Task.TheVariants.{Send, Session, Show, Sweep, Tap, Test}
 use Rattle.wst_words.specs.declared.words.WordsFault.{WordsFault}
 use Rattle.wst_words.specs.declared.words.WordsFault.TheVariants.{Clap, NoTask}
@@ -42,13 +43,14 @@ row_of name.Cases = cases_command
 row_of name.Test = test_command
 row_of name.Send = send_command
 row_of name.Sweep = sweep_command
+row_of name.Report = report_command
 row_of name.Serve = serve_command
 row_of name.Tap = tap_command
 
 -- the commands, in the order in which help lists them
 abbrev pub all_commands : List CommandRow
 all_commands = map row_of (name.Show ∷ name.Head ∷ name.Pair ∷ name.Session ∷ name.Judge ∷ name.Convert ∷ name.Cases
-    ∷ name.Test ∷ name.Send ∷ name.Sweep ∷ name.Serve ∷ name.Tap ∷ [])
+    ∷ name.Test ∷ name.Send ∷ name.Sweep ∷ name.Report ∷ name.Serve ∷ name.Tap ∷ [])
 
 -- `wst` itself: a command may not be left out, and there is a version
 abbrev pub bare_app : App
@@ -73,6 +75,7 @@ CommandAsks (Some (name, rows)) (Cases options) = (name ≡ codes "cases") × As
 CommandAsks (Some (name, rows)) (Test options) = (name ≡ codes "test") × AsksToTest rows options
 CommandAsks (Some (name, rows)) (Send options) = (name ≡ codes "send") × AsksToSend rows options
 CommandAsks (Some (name, rows)) (Sweep options) = (name ≡ codes "sweep") × AsksToSweep rows options
+CommandAsks (Some (name, rows)) (Report options) = (name ≡ codes "report") × AsksToReport rows options
 CommandAsks (Some (name, rows)) (Serve options) = (name ≡ codes "serve") × AsksToServe rows options
 CommandAsks (Some (name, rows)) (Tap options) = (name ≡ codes "tap") × AsksToTap rows options
 

@@ -8,7 +8,9 @@ ghost use Rattle.wst_words.specs.Arguments.{Places, argument_row};
 ghost use Rattle.wst_words.specs.Words.{row_of, wst_app};
 
 use crate::arguments::{Argument, arg_of};
-use crate::{cases, convert, head, judge, pair, send, serve, session, show, sweep, tap, test};
+use crate::{
+    cases, convert, head, judge, pair, report, send, serve, session, show, sweep, tap, test,
+};
 use clap::Command;
 use clap::builder::ValueParser;
 use std::alloc::{AllocError, Global};
@@ -26,6 +28,7 @@ pub(crate) enum CommandName {
     Test,
     Send,
     Sweep,
+    Report,
     Serve,
     Tap,
 }
@@ -42,7 +45,7 @@ pub(crate) struct HelpText<'a> {
 }
 
 /// All commands, in the order in which help lists them.
-static COMMANDS: [CommandName; 12] = [
+static COMMANDS: [CommandName; 13] = [
     CommandName::Show,
     CommandName::Head,
     CommandName::Pair,
@@ -53,6 +56,7 @@ static COMMANDS: [CommandName; 12] = [
     CommandName::Test,
     CommandName::Send,
     CommandName::Sweep,
+    CommandName::Report,
     CommandName::Serve,
     CommandName::Tap,
 ];
@@ -72,6 +76,7 @@ fn name_of<'a>(command: CommandName) -> &'a str
         CommandName::Test => "test",
         CommandName::Send => "send",
         CommandName::Sweep => "sweep",
+        CommandName::Report => "report",
         CommandName::Serve => "serve",
         CommandName::Tap => "tap",
     }
@@ -92,6 +97,7 @@ fn arguments_of(command: CommandName) -> &'static [Argument]
         CommandName::Test => test::arguments(),
         CommandName::Send => send::arguments(),
         CommandName::Sweep => sweep::arguments(),
+        CommandName::Report => report::arguments(),
         CommandName::Serve => serve::arguments(),
         CommandName::Tap => tap::arguments(),
     }
@@ -110,6 +116,7 @@ fn help_of<'a>(command: CommandName) -> HelpText<'a> {
         CommandName::Test => test::help(),
         CommandName::Send => send::help(),
         CommandName::Sweep => sweep::help(),
+        CommandName::Report => report::help(),
         CommandName::Serve => serve::help(),
         CommandName::Tap => tap::help(),
     }

@@ -12,6 +12,7 @@ use crate::commands::wst_command;
 use crate::head::{HeadOptions, head_options};
 use crate::judge::{JudgeOptions, judge_options};
 use crate::pair::{PairOptions, pair_options};
+use crate::report::{ReportOptions, report_options};
 use crate::send::{SendOptions, send_options};
 use crate::serve::{ServeOptions, serve_options};
 use crate::session::{SessionOptions, session_options};
@@ -45,6 +46,8 @@ pub enum Task<'a> {
     Send(SendOptions<'a>),
     /// The verdicts on a server in every short script.
     Sweep(SweepOptions<'a>),
+    /// What the lines of runs tell, side by side.
+    Report(ReportOptions),
     /// Connections to serve.
     Serve(ServeOptions<'a>),
     /// Connections between clients and a server to tap.
@@ -172,6 +175,7 @@ fn plain_task<'a>(name: &str, options: &ArgMatches<'a>) -> Option<Task<'a>>
         "judge" => Some(Task::Judge(judge_options(options)?)),
         "convert" => Some(Task::Convert),
         "cases" => Some(Task::Cases(cases_options(options))),
+        "report" => Some(Task::Report(report_options(options)?)),
         "serve" => Some(Task::Serve(serve_options(options)?)),
         "tap" => Some(Task::Tap(tap_options(options)?)),
         _ => None,
