@@ -15,7 +15,7 @@ HEADING = "## Many servers, many machines\n"
 
 
 def blocks():
-    """The commands of that part of the page: of parts, of their totals, of servers, of machines and of a matrix."""
+    """The commands of that part of the page: of parts, their totals, servers, a page of them, machines and a matrix."""
     return re.findall(r"(?ms)^```sh\n(.*?)^```$", PAGE.read_text().partition(HEADING)[2])
 
 
@@ -82,12 +82,16 @@ def servers(prefix):
         status, out, faults = run_block(prefix, folder, text)
         wanted = sorted(f"127.0.0.1:{port} {passed()}" for port in (one, other))
         assert (status, sorted(out.splitlines(True)), faults) == (0, wanted, ""), (status, out, faults)
+        ran = run_block(prefix, folder, blocks()[3])
+        assert ran == (0, "", ""), ran
+        columns = re.findall(r'class="end"><span>(.*?)</span>', (Path(folder) / "report.html").read_text())
+        assert sorted(columns) == sorted(f"127.0.0.1:{port}" for port in (one, other)), columns
 
 
 def machines(prefix):
     if "GNU parallel" not in run("parallel", "--version")[1]:
         raise Lacking("GNU parallel")
-    _, totals, _, machines, _ = blocks()
+    _, totals, _, _, machines, _ = blocks()
     with tempfile.TemporaryDirectory() as folder, echo(prefix) as port:
         status, out, _ = run_block(prefix, folder, machines.replace(":9001", f":{port}"))
         assert (status, out) == (0, ""), (status, out)
@@ -96,7 +100,7 @@ def machines(prefix):
 
 
 def a_matrix(prefix):
-    text = blocks()[4]
+    text = blocks()[5]
     with tempfile.TemporaryDirectory() as folder, echo(prefix) as port:
         text = text.replace("./server 9001 & sleep 1; ", "").replace(":9001", f":{port}")
         status, out, faults = run_block(prefix, folder, text, GROUP="2")

@@ -2,6 +2,7 @@
 failure."""
 
 import os
+import re
 import subprocess
 import tempfile
 from itertools import takewhile
@@ -14,23 +15,29 @@ WORKFLOW = WST.parents[3] / "examples/ci/workflow.yml"
 
 
 def commands_of(workflow):
-    """The lines below `- run: |`, up to the next step."""
-    lines = workflow.read_text().split("- run: |\n")[1].splitlines()
+    """The lines below each `run: |`, up to the next step."""
+    return [lines_below(part.splitlines()) for part in re.split(r"run: \|.*\n", workflow.read_text())[1:]]
+
+
+def lines_below(lines):
     margin = lines[0][: -len(lines[0].lstrip())]
     return "\n".join(line.removeprefix(margin) for line in takewhile(lambda line: line.startswith(margin), lines))
 
 
 def runs(known, folder):
-    """The status of the lines where this is known, and the failures in the report that they leave."""
-    commands = commands_of(WORKFLOW).replace("9001", str(free_port()))
-    assert "--known --junit" in commands, commands
+    """The status of the first lines where this is known, and the failures in the report that they leave; the lines of
+    the next step leave a page."""
+    port = str(free_port())
+    test, page = [commands.replace("9001", port) for commands in commands_of(WORKFLOW)]
+    assert "--known --junit" in test, test
     (folder / "known.txt").write_text(known)
     (folder / "wst").unlink(missing_ok=True)
     (folder / "wst").symlink_to(WST)
     # (a runner of workflows ends what was started by itself)
-    command = f"set -e\ntrap 'kill $(jobs -p)' EXIT\n{commands}\n"
+    command = f"trap 'kill $(jobs -p)' EXIT\n{test}\nstatus=$?\nset -e\n{page}\nexit $status\n"
     path = {**os.environ, "PATH": f"{folder}:{os.environ['PATH']}"}
     ran = subprocess.run(["bash", "-c", command], cwd=folder, env=path, capture_output=True, timeout=3 * SECONDS)
+    assert (folder / "report.html").read_text().endswith("</html>\n")
     report = ElementTree.parse(folder / "report.xml").getroot()
     return ran.returncode, [case.get("name") for case in report[0] if case.find("failure") is not None]
 

@@ -95,6 +95,7 @@ fn answer_of_scripts(
         "scripts_kept" => scripts::count_kept(alloc, words, out),
         "alphabet" => sweeps::count_read(alloc, words, out),
         "short_script" => sweeps::tell_script(alloc, words, out),
+        "short_cases" => sweeps::tell_cases(alloc, words, out),
         "paths" => paths::tell_purposes(alloc, words, out),
         "case_count" => paths::tell_count(alloc, words, out),
         "case_info" => paths::tell_info(alloc, words, out),

@@ -5,12 +5,15 @@ ghost use Rattle.ws_sweep.specs.Order.{alphabet_size};
 
 use crate::row_fault::RowFault;
 use crate::scripts::put_short_step;
-use crate::words::{number_of, role_of};
+use crate::words::{header_key_of, number_of, role_of};
 use std::alloc::Global;
 use std::fmt::Write;
 use ws_formats::Hex;
+use ws_scripts::bytes_with;
 use ws_suite::{Case, read_script};
-use ws_sweep::{MAX_STEPS, STEPS, ShortScript, script_count, short_case, step_line, tell_steps};
+use ws_sweep::{
+    MAX_STEPS, STEPS, ShortCases, ShortScript, script_count, short_case, step_line, tell_steps,
+};
 use ws_wire::Role;
 
 /// `alphabet client|server`: how many lines of the alphabet for such a tested end are read as what they send.
@@ -63,5 +66,40 @@ pub fn tell_script(alloc: Global, words: &[&str], out: &mut String) -> Result<()
     }
     let steps = tell_steps(alloc, tested, &ShortScript::at(number))?;
     write!(out, "{}", Hex(steps.as_bytes()))?;
+    Ok(())
+}
+
+/// `short_cases client|server KEY|- NUMBER..`: what is sent in the cases of the scripts of these numbers, made one
+/// after the other for such a tested end, their frames masked with the key, or plain: the digits of each, parted by
+/// spaces.
+pub fn tell_cases(alloc: Global, words: &[&str], out: &mut String) -> Result<(), RowFault> {
+    let [end, key, numbers @ ..] = words else {
+        return Err(RowFault::NotARow);
+    };
+    let (tested, key) = (role_of(end)?, header_key_of(key)?);
+    let mut cases = ShortCases::new(tested, key);
+    for (place, number) in numbers.iter().enumerate() {
+        if place > 0 {
+            out.push_str(" ")?;
+        }
+        put_case(alloc, key, number_of(number)? as usize, &mut cases, out)?;
+    }
+    Ok(())
+}
+
+/// Puts the digits of what is sent in the case of the script of this number.
+fn put_case(
+    alloc: Global,
+    key: Option<[u8; 4]>,
+    number: usize,
+    cases: &mut ShortCases,
+    out: &mut String,
+) -> Result<(), RowFault> {
+    if number >= script_count(MAX_STEPS) {
+        return Err(RowFault::NotARow);
+    }
+    let case = cases.case_of(alloc, &ShortScript::at(number))?;
+    let sent = bytes_with(alloc, case.steps.as_slice(), key)?;
+    write!(out, "{}", Hex(sent.as_slice()))?;
     Ok(())
 }

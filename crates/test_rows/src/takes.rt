@@ -98,7 +98,8 @@ fn take_once<'a>(
     Ok(&piece[taken.used..])
 }
 
-/// The call of `take_into`, which has to use as much, and to tell, put and hold the same.
+/// The call of `take_into`, which has to use as much, and to tell, put and hold the same. A copy of the session takes
+/// it, so that a copy is seen to go on as what it was made of.
 fn lend_once(
     taker: &mut Taker,
     piece: &[u8],
@@ -107,6 +108,7 @@ fn lend_once(
     told: &str,
     out: &mut String,
 ) -> Result<(), RowFault> {
+    taker.lending = taker.lending.copy()?;
     let lent = taker
         .lending
         .take_into(piece, key, &mut taker.also_put, &mut taker.room)?;
