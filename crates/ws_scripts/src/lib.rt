@@ -1,5 +1,5 @@
 //! Scripts that test a peer (RFC 6455 sections 5 to 8): what to send, in which turns and pieces; the transcript of what
-//! was sent and got; and scripts, and captures of transcripts, as text.
+//! was sent and got; what is expected of the tested end; and scripts, and captures of transcripts, as text.
 //!
 //! The layers above use nine contracts: `case` has a script for each name of the table and no other, which can be
 //! run, `all_ids` lists these names in their order, `turns_with` cuts a script as its definition says, `bytes_with`
@@ -11,6 +11,7 @@
 mod capture;
 mod cases;
 mod cutting;
+mod expectation;
 pub mod laws;
 mod script;
 mod script_text;
@@ -21,6 +22,7 @@ pub use capture::{
 };
 pub use cases::{all_ids, case, ids};
 pub use cutting::{append_step, bytes_with, turns, turns_with};
+pub use expectation::Expectation;
 pub use script::{Case, Chop, Step};
 pub use script_text::{read_script, write_script};
 pub use transcript::{Ended, Transcript, Turn};
