@@ -88,7 +88,7 @@ over_by_end sent (e ∷ f ∷ es) h = over_by (is_end e) (is_over (status_of sen
 
 -- ---- what is told of an answer
 
-abbrev close_with : ℕ → Event
+abbrev pub close_with : ℕ → Event
 close_with code = event.Close (Some (record { code = code; reason = [] }))
 
 -- the event of what answers an event: a message the message, a ping a pong, a close or a fault a close with its code
@@ -128,7 +128,7 @@ pub not_a_close : (kind : Kind) (payload : List ℕ) → is_close (message_frame
 not_a_close Text payload = refl
 not_a_close Binary payload = refl
 
-close_is : (before : List Frame) (code : ℕ) → event_of before (close_frame code) ≡ close_with code
+pub close_is : (before : List Frame) (code : ℕ) → event_of before (close_frame code) ≡ close_with code
 close_is before code =
     let same : 256 * (code / 256) + code % 256 ≡ code = omega arith in
     ap (λ n. close_with n) same

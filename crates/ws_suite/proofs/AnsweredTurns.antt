@@ -166,7 +166,7 @@ one_end_in (event.Pong payload ∷ events) only e = one_end_in events only.1 e
 one_end_in (event.Close close ∷ events) only e = (_, ap (λ (l : List Event). flat_map ending_in (event.Close close ∷ l)) (only.0 refl))
 one_end_in (event.Failed reason ∷ events) only e = (Failed reason, ap (λ (l : List Event). flat_map ending_in (event.Failed reason ∷ l)) (only.0 refl))
 
-end_of_both : (a b : List Event) → has_end (a ++ b) ≡ has_end a || has_end b
+pub end_of_both : (a b : List Event) → has_end (a ++ b) ≡ has_end a || has_end b
 end_of_both [] b = refl
 end_of_both (event.Part ∷ a) b = end_of_both a b
 end_of_both (event.Message message ∷ a) b = end_of_both a b
@@ -192,6 +192,7 @@ pub record EndsIn (turn : ℕ) (turns : List (List Event)) : Type 0 where
   pub there : later < length turns
   pub ending : Ending
   pub found : by_turn ending_in turn turns ≡ record { turn = turn + later; what = ending } ∷ []
+  pub before : has_end (joined_events (take later turns)) ≡ false
   pub by_then : has_end (joined_events (take (later + 1) turns)) ≡ true
 
 ends_here : (turn : ℕ) (events : List Event) (turns : List (List Event)) → OnlyLastEnds (events ++ joined_events turns) → has_end events ≡ true → EndsIn turn (events ∷ turns)
@@ -204,6 +205,7 @@ ends_here turn events turns only ends =
       there = omega arith;
       ending = one.0;
       found = ap₂ (λ (x : List Ending) (xs : List (InTurn Ending)). at_turn turn x ++ xs) one.1 (ends_nowhere (turn + 1) turns none) ∙ ap (λ (n : ℕ). ending_at n one.0 ∷ []) same;
+      before = refl;
       by_then = ap (λ (l : List Event). has_end l) (append-nil events) ∙ ends;
     }
 
@@ -216,6 +218,8 @@ ends_later turn events turns goes tail =
       there = omega (arith, tail.there);
       ending = tail.ending;
       found = ap₂ (λ (x : List Ending) (xs : List (InTurn Ending)). at_turn turn x ++ xs) (no_end_in events goes) tail.found ∙ ap (λ (n : ℕ). ending_at n tail.ending ∷ []) same;
+      before = ap (λ (n : ℕ). has_end (joined_events (take n (events ∷ turns)))) (let e : tail.later + 1 ≡ suc tail.later = omega arith in e)
+          ∙ (end_of_both events (joined_events (take tail.later turns)) ∙ (ap (λ b. b || has_end (joined_events (take tail.later turns))) goes ∙ tail.before));
       by_then = ap (λ (n : ℕ). has_end (joined_events (take n (events ∷ turns)))) next
           ∙ (end_of_both events (joined_events (take (tail.later + 1) turns)) ∙ (ap (λ b. b || has_end (joined_events (take (tail.later + 1) turns))) goes ∙ tail.by_then));
     }

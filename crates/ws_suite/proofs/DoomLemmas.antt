@@ -21,8 +21,7 @@ use Rattle.ws_suite.specs.declared.evidence.Direction.{Direction}
 use Rattle.ws_suite.specs.Evidence.{AreEventsByTurn, IsDirectionOf, by_turn, ending_in, sent_turns}
 use Rattle.ws_suite.specs.Doom.{IsDoomedAfter, IsLastWithBytes}
 use Rattle.ws_suite.specs.InnerCollecting.{EventLaws, at_turn}
-use Rattle.ws_suite.specs.InnerDoom.{AreWithoutBytes, HasTakenBytes, IsKnownAtClose}
-use Rattle.ws_suite.specs.Verdicts.{IsCloseInTurn}
+use Rattle.ws_suite.specs.InnerDoom.{AreWithoutBytes, HasEndedInTurn, HasTakenBytes, IsKnownAtClose}
 use Rattle.ws_suite.proofs.EvidenceLemmas.{by_turn_more, events_before, last_apart, last_joined}
 use Rattle.ws_suite.proofs.OneVerdict.{one_by_turn}
 
@@ -149,21 +148,19 @@ module _ (laws : EventLaws) (role : Role) (found : Event → List Reply) (before
         | inr was ↦ inr was
       ]
 
-  -- no close was got in the last turn: what was known is known
+  -- neither a close nor a fault was got in the last turn: what was known is known
   pub known_still : (tested : Role) (sent : List (List ℕ)) (r : Bool) (o : Option (InTurn Ending)) → new.ending ≡ o
-      → (IsCloseInTurn o (length before) → ⊥) → IsKnownAtClose tested sent old.ending r → IsKnownAtClose tested sent o r
+      → (HasEndedInTurn o (length before) → ⊥) → IsKnownAtClose tested sent old.ending r
+      → IsKnownAtClose tested sent o r
   known_still tested sent r None e none known = tt
-  known_still tested sent r (Some x) e none known = λ is. elim (ending_of_turn x e) [
-    | inl at ↦ absurd (none (is, at))
-    | inr was ↦
-        let here : IsKnownAtClose tested sent (Some x) r =
-        subst (λ (o : Option (InTurn Ending)). IsKnownAtClose tested sent o r) was known in
-        here is
+  known_still tested sent r (Some x) e none known = elim (ending_of_turn x e) [
+    | inl at ↦ absurd (none at)
+    | inr was ↦ subst (λ (o : Option (InTurn Ending)). IsKnownAtClose tested sent o r) was known
   ]
 
 -- one was, and it was asked
 pub known_now : (tested : Role) (sent : List (List ℕ)) (n : ℕ) (o : Option (InTurn Ending)) (r : Bool)
-    → IsCloseInTurn o n → (IsTrue r ↔ IsDoomedAfter tested sent (n + 1)) → IsKnownAtClose tested sent o r
-known_now tested sent n None r close tells = tt
-known_now tested sent n (Some x) r close tells = λ is.
-    subst (λ (k : ℕ). IsTrue r ↔ IsDoomedAfter tested sent (k + 1)) (sym close.1) tells
+    → HasEndedInTurn o n → (IsTrue r ↔ IsDoomedAfter tested sent (n + 1)) → IsKnownAtClose tested sent o r
+known_now tested sent n None r ends tells = tt
+known_now tested sent n (Some x) r ends tells =
+    subst (λ (k : ℕ). IsTrue r ↔ IsDoomedAfter tested sent (k + 1)) (sym ends) tells

@@ -139,6 +139,14 @@ module _ (tested : Role) (replies : List (InTurn Reply)) (has_rest : Bool) (turn
   nowhere_loose due right loose.EchoShort (fault, inr short) = omega (arith, short.0)
   nowhere_loose None right loose.BrokenEnd h = absurd (let no = sym right ∙ h in cc)
   nowhere_loose (Some due) right loose.BrokenEnd h = absurd (let no = sym right.0 ∙ h in cc)
+  nowhere_loose due right loose.OwnFault h = absurd h
+  nowhere_loose due right loose.OwnClose h = absurd h
+  nowhere_loose due right loose.OwnEnd h = absurd h
+  nowhere_loose due right loose.LateFault h = absurd h
+  nowhere_loose due right loose.Tolerated h = absurd h
+  nowhere_loose due right loose.NoClose h = absurd h
+  nowhere_loose due right loose.BehindClose h = absurd h
+  nowhere_loose due right loose.TooBig h = absurd h
 
   pub fully_answered_passes : (due : Option (InTurn Ending)) → EndsRightly due turns ended → IsVerdictOn tested (fully_answered replies due has_rest turns ended) Pass
   fully_answered_passes due right = (fails_nowhere due right, nowhere_loose due right)

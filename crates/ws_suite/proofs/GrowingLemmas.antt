@@ -63,12 +63,12 @@ with_last [] x e = absurd cc
 with_last (y ∷ xs) x e = omega arith
 
 module _ (dues gots : List (InTurn Reply)) where
-  pong_there : (o p : Option (InTurn Reply)) → last_or None dues ≡ o → last_or None gots ≡ p → IsAnsweredPong o p → 0 < length dues → IsLastPong dues gots
+  pub pong_there : (o p : Option (InTurn Reply)) → last_or None dues ≡ o → last_or None gots ≡ p → IsAnsweredPong o p → 0 < length dues → IsLastPong dues gots
   pong_there None p is_due is_got h some = absurd (without_last dues is_due some)
   pong_there (Some due) None is_due is_got h some = absurd h
   pong_there (Some due) (Some got) is_due is_got h some = record { due = due; is_due = is_due; got = got; is_got = is_got; same = h.0; turn = h.1 }
 
-  there_pong : (o p : Option (InTurn Reply)) → last_or None dues ≡ o → last_or None gots ≡ p → (0 < length dues → IsLastPong dues gots) → IsAnsweredPong o p
+  pub there_pong : (o p : Option (InTurn Reply)) → last_or None dues ≡ o → last_or None gots ≡ p → (0 < length dues → IsLastPong dues gots) → IsAnsweredPong o p
   there_pong None p is_due is_got h = tt
   there_pong (Some due) None is_due is_got h =
       let last = h (with_last dues due is_due) in
@@ -77,7 +77,7 @@ module _ (dues gots : List (InTurn Reply)) where
       let last = h (with_last dues due is_due) in
       (last_same dues gots due got is_due is_got last, last_turns dues gots due got is_due is_got last)
 
-tallies_tell : (x : Evidence) (due got : ReplyTally) → IsTallyOf due x.due.replies → IsTallyOf got x.got.replies → AnswersTally due got ↔ IsAnswered x
+pub tallies_tell : (x : Evidence) (due got : ReplyTally) → IsTallyOf due x.due.replies → IsTallyOf got x.got.replies → AnswersTally due got ↔ IsAnswered x
 tallies_tell x due got d g = (
   λ h. (
     λ short. omega (arith, short, h.0, d.messages, g.messages),

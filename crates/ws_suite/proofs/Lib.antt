@@ -1,14 +1,20 @@
--- The lemmas behind verdicts: a transcript's evidence, the replies in it, its one verdict, and that an echo passes.
+-- The lemmas behind verdicts: a transcript's evidence, the replies in it, its one verdict, that an echo passes, and that
+-- an application which keeps the protocol has no Fail.
 mod EvidenceLemmas
 mod TurnsCollected
+mod QuietStreams
+mod ToldStreams
 mod JudgeLemmas
 mod PlaceLemmas
+mod LastTurns
+mod OwedLemmas
 mod TellingLemmas
 mod GrowingLemmas
 mod DoomLemmas
 mod LastBytes
 mod OneVerdict
 mod ValidDirections
+mod WaitingLemmas
 mod WorkedFrames
 mod WorkedVerdicts
 mod AnsweredEvents
@@ -16,6 +22,33 @@ mod AnsweredTurns
 mod FairVerdict
 mod TurnsAdded
 mod FairEvidence
+mod TestLemmas
+mod OneFault
+mod FrameEvents
+mod TurnEnds
+mod AppDirections
+mod AppPongs
+mod AppVerdicts
+mod CloseReplies
+mod AppLooses
+mod AppFairness
+mod MarkLemmas
+mod ValidEvidence
+mod AppPasses
+mod OneVerdictBy
+mod WorkedProtocol
 mod KeptLemmas
 mod ChosenLemmas
 mod AnsweredLemmas
+mod TurnBytes
+mod StreamEndLemmas
+mod ToldLemmas
+mod FrontFrames
+mod FoundFrames
+mod HiddenFaults
+mod UndefinedCodes
+mod RightControls
+mod RightStreams
+mod LaterLooses
+mod CountedLemmas
+mod MarkedStreams

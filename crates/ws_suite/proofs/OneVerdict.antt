@@ -36,12 +36,12 @@ same_by_fronts (x ∷ xs) (y ∷ ys) len same =
     (same (suc n) (omega (arith, less)) ∙ ap (λ (l : List Event). l ++ joined_events (take n ys)) (sym head))) in
     ap₂ (λ (z : List Event) (zs : List (List Event)). z ∷ zs) head tail
 
-same_flags : (x y : Bool) → (x ≡ true → y ≡ true) → (y ≡ true → x ≡ true) → x ≡ y
+pub same_flags : (x y : Bool) → (x ≡ true → y ≡ true) → (y ≡ true → x ≡ true) → x ≡ y
 same_flags true y on back = sym (on refl)
 same_flags false true on back = back refl
 same_flags false false on back = refl
 
-same_evidence : (a b : Evidence) → a.due ≡ b.due → a.got ≡ b.got → a.turns ≡ b.turns → a.ended ≡ b.ended → a.answers_doom ≡ b.answers_doom → a ≡ b
+pub same_evidence : (a b : Evidence) → a.due ≡ b.due → a.got ≡ b.got → a.turns ≡ b.turns → a.ended ≡ b.ended → a.answers_doom ≡ b.answers_doom → a ≡ b
 same_evidence a b due got turns ended doom =
     ap₂ (λ (d g : Direction). record { due = d; got = g; turns = a.turns; ended = a.ended; answers_doom = a.answers_doom }) due got
     ∙ (ap₂ (λ (n : ℕ) (e : Ended). record { due = b.due; got = b.got; turns = n; ended = e; answers_doom = a.answers_doom }) turns ended
@@ -104,7 +104,7 @@ same_direction a b replies ending rest =
     ap₂ (λ (r : List (InTurn Reply)) (e : Option (InTurn Ending)). record { replies = r; ending = e; has_rest = a.has_rest }) replies ending
     ∙ ap (λ (f : Bool). record { replies = b.replies; ending = b.ending; has_rest = f }) rest
 
-one_counted : (tested : Role) (transcript : Transcript) (shown a b : Evidence) → HasDoomCounted tested transcript shown a → HasDoomCounted tested transcript shown b → a ≡ b
+pub one_counted : (tested : Role) (transcript : Transcript) (shown a b : Evidence) → HasDoomCounted tested transcript shown a → HasDoomCounted tested transcript shown b → a ≡ b
 one_counted tested transcript shown a b p q =
     let ending = one_count tested transcript shown.got.ending shown.due.ending a.due.ending b.due.ending p.ending q.ending in
     let answers : (a.answers_doom ≡ true) ↔ AnswersDoom tested (sent_turns transcript.turns) shown.got.ending b.due.ending =
@@ -114,7 +114,7 @@ one_counted tested transcript shown a b p q =
 
 -- ---- one verdict
 
-abbrev fail_with : ℕ → FailWhy
+abbrev pub fail_with : ℕ → FailWhy
 fail_with zero = fail.End
 fail_with (suc zero) = fail.NotFrames
 fail_with (suc (suc zero)) = fail.Early
@@ -123,7 +123,7 @@ fail_with (suc (suc (suc (suc zero)))) = fail.Pongs
 fail_with (suc (suc (suc (suc (suc zero))))) = fail.Close
 fail_with (suc (suc (suc (suc (suc (suc n)))))) = fail.End
 
-fail_is : (why : FailWhy) → fail_with (fail_number why) ≡ why
+pub fail_is : (why : FailWhy) → fail_with (fail_number why) ≡ why
 fail_is fail.NotFrames = refl
 fail_is fail.Early = refl
 fail_is fail.Messages = refl
@@ -131,22 +131,39 @@ fail_is fail.Pongs = refl
 fail_is fail.Close = refl
 fail_is fail.End = refl
 
-abbrev loose_with : ℕ → LooseWhy
+abbrev pub loose_with : ℕ → LooseWhy
 loose_with zero = loose.BrokenEnd
 loose_with (suc zero) = loose.PongsSkipped
 loose_with (suc (suc zero)) = loose.PongElsewhere
 loose_with (suc (suc (suc zero))) = loose.OtherCode
 loose_with (suc (suc (suc (suc zero)))) = loose.LateEnd
 loose_with (suc (suc (suc (suc (suc zero))))) = loose.EchoShort
-loose_with (suc (suc (suc (suc (suc (suc n)))))) = loose.BrokenEnd
+loose_with (suc (suc (suc (suc (suc (suc zero)))))) = loose.BrokenEnd
+loose_with (suc (suc (suc (suc (suc (suc (suc zero))))))) = loose.OwnFault
+loose_with (suc (suc (suc (suc (suc (suc (suc (suc zero)))))))) = loose.OwnClose
+loose_with (suc (suc (suc (suc (suc (suc (suc (suc (suc zero))))))))) = loose.OwnEnd
+loose_with (suc (suc (suc (suc (suc (suc (suc (suc (suc (suc zero)))))))))) = loose.LateFault
+loose_with (suc (suc (suc (suc (suc (suc (suc (suc (suc (suc (suc zero))))))))))) = loose.Tolerated
+loose_with (suc (suc (suc (suc (suc (suc (suc (suc (suc (suc (suc (suc zero)))))))))))) = loose.NoClose
+loose_with (suc (suc (suc (suc (suc (suc (suc (suc (suc (suc (suc (suc (suc zero))))))))))))) = loose.BehindClose
+loose_with (suc (suc (suc (suc (suc (suc (suc (suc (suc (suc (suc (suc (suc (suc zero)))))))))))))) = loose.TooBig
+loose_with (suc (suc (suc (suc (suc (suc (suc (suc (suc (suc (suc (suc (suc (suc (suc n))))))))))))))) = loose.BrokenEnd
 
-loose_is : (why : LooseWhy) → loose_with (loose_number why) ≡ why
+pub loose_is : (why : LooseWhy) → loose_with (loose_number why) ≡ why
 loose_is loose.PongsSkipped = refl
 loose_is loose.PongElsewhere = refl
 loose_is loose.OtherCode = refl
 loose_is loose.LateEnd = refl
 loose_is loose.EchoShort = refl
 loose_is loose.BrokenEnd = refl
+loose_is loose.OwnFault = refl
+loose_is loose.OwnClose = refl
+loose_is loose.OwnEnd = refl
+loose_is loose.LateFault = refl
+loose_is loose.Tolerated = refl
+loose_is loose.NoClose = refl
+loose_is loose.BehindClose = refl
+loose_is loose.TooBig = refl
 
 one_lowest_fail : (tested : Role) (x : Evidence) (a b : FailWhy) → IsLowestFail tested x a → IsLowestFail tested x b → a ≡ b
 one_lowest_fail tested x a b p q = elim (cases_lt (fail_number a) (fail_number b)) [

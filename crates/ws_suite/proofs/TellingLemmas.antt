@@ -28,10 +28,9 @@ use Rattle.ws_suite.specs.Doom.{HasDoomCounted, IsDoomedAfter}
 use Rattle.ws_suite.specs.Growing.{AreAll}
 use Rattle.ws_suite.specs.InnerCollecting.{EventLaws, HasTakenWay, IsToldEvidenceOf, at_turn, first_beyond}
 use Rattle.ws_suite.specs.InnerCollecting.{found_by, way_bytes}
-use Rattle.ws_suite.specs.InnerDoom.{IsKnownAtClose}
+use Rattle.ws_suite.specs.InnerDoom.{HasEndedInTurn, IsKnownAtClose}
 use Rattle.ws_suite.specs.InnerJudging.{answers_among, is_answer, without_pings}
 use Rattle.ws_suite.specs.Matching.{ends_with_close, is_message, is_pong}
-use Rattle.ws_suite.specs.Verdicts.{IsCloseInTurn}
 use Rattle.ws_suite.proofs.DoomLemmas.{known_now, known_still}
 use Rattle.ws_suite.proofs.EvidenceLemmas.{no_items}
 use Rattle.ws_suite.proofs.OneVerdict.{one_direction, same_direction}
@@ -63,7 +62,7 @@ got_turn turn (event.Pong payload ∷ events) = ap (λ (l : List (InTurn Reply))
 got_turn turn (event.Close close ∷ events) = got_turn turn events
 got_turn turn (event.Failed reason ∷ events) = got_turn turn events
 
-all_answers : (turn : ℕ) (events : List (List Event)) → answers_among (by_turn got_in turn events) ≡ by_turn got_in turn events
+pub all_answers : (turn : ℕ) (events : List (List Event)) → answers_among (by_turn got_in turn events) ≡ by_turn got_in turn events
 all_answers turn [] = refl
 all_answers turn (first ∷ events) =
     filter-append (λ x. is_answer x.what) (at_turn turn (flat_map got_in first)) (by_turn got_in (turn + 1) events)
@@ -177,11 +176,11 @@ direction_taken way role turns i s a d past replies ending rest h =
     subst (λ (l : List (List ℕ)). IsDirectionOf role (found_by way) l d) whole
     (subst (λ (x : Direction). IsDirectionOf role (found_by way) (take i all) x) (sym same) h.is_shown)
 
--- in the turn no close was got: whether what was sent was doomed at the close is known as before
+-- in the turn neither a close nor a fault was got: whether what was sent was doomed at it is known as before
 still_known : EventLaws → (way : Way) (role : Role) (turns : List Turn) (i : ℕ) (turn : Turn)
     (s t : SessionValue) (a b : Collected AllReplies) → i < length turns → turn ≡ get_or turns i turn
     → HaveTaken way role turns i s a → HaveTaken way role turns (i + 1) t b
-    → (tested : Role) (sent : List (List ℕ)) (r : Bool) → (IsCloseInTurn b.ending i → ⊥)
+    → (tested : Role) (sent : List (List ℕ)) (r : Bool) → (HasEndedInTurn b.ending i → ⊥)
     → IsKnownAtClose tested sent a.ending r → IsKnownAtClose tested sent b.ending r
 still_known laws way role turns i turn s t a b less is h k tested sent r none known =
     let all = map (way_bytes way) turns in
@@ -190,24 +189,24 @@ still_known laws way role turns i turn s t a b less is h k tested sent r none kn
     length-take-le i all (omega (arith, less, length-map turns (way_bytes way))) in
     let grown = subst (λ (l : List (List ℕ)). IsDirectionOf role (found_by way) l k.shown)
     (way_more way turns i turn less is) k.is_shown in
-    let none_there : IsCloseInTurn b.ending (length before) → ⊥ =
-    λ close. none (subst (λ (n : ℕ). IsCloseInTurn b.ending n) count close) in
+    let none_there : HasEndedInTurn b.ending (length before) → ⊥ =
+    λ ends. none (subst (λ (n : ℕ). HasEndedInTurn b.ending n) count ends) in
     known_still laws role (found_by way) before (way_bytes way turn) h.shown k.shown h.is_shown grown tested sent r
     b.ending (sym k.ending) none_there
     (subst (λ (o : Option (InTurn Ending)). IsKnownAtClose tested sent o r) h.ending known)
 
--- one turn more was taken: it is asked in the turn of the close
+-- one turn more was taken: it is asked in the turn of the close or the fault
 pub known_step : EventLaws → (way : Way) (role : Role) (turns : List Turn) (i : ℕ) (turn : Turn)
     (s t : SessionValue) (a b : Collected AllReplies) → i < length turns → turn ≡ get_or turns i turn
     → HaveTaken way role turns i s a → HaveTaken way role turns (i + 1) t b
-    → (tested : Role) (sent : List (List ℕ)) (closes old new : Bool) → (IsTrue closes ↔ IsCloseInTurn b.ending i)
-    → (closes ≡ true → (IsTrue new ↔ IsDoomedAfter tested sent (i + 1))) → (closes ≡ false → new ≡ old)
+    → (tested : Role) (sent : List (List ℕ)) (ends old new : Bool) → (IsTrue ends ↔ HasEndedInTurn b.ending i)
+    → (ends ≡ true → (IsTrue new ↔ IsDoomedAfter tested sent (i + 1))) → (ends ≡ false → new ≡ old)
     → IsKnownAtClose tested sent a.ending old → IsKnownAtClose tested sent b.ending new
 known_step laws way role turns i turn s t a b less is h k tested sent true old new tells asked kept known =
     known_now tested sent i b.ending new (tells.0 refl) (asked refl)
 known_step laws way role turns i turn s t a b less is h k tested sent false old new tells asked kept known =
-    let none : IsCloseInTurn b.ending i → ⊥ =
-    λ close. absurd (let wrong : false ≡ true = tells.1 close in cc) in
+    let none : HasEndedInTurn b.ending i → ⊥ =
+    λ at. absurd (let wrong : false ≡ true = tells.1 at in cc) in
     subst (λ (r : Bool). IsKnownAtClose tested sent b.ending r) (sym (kept refl))
     (still_known laws way role turns i turn s t a b less is h k tested sent old none known)
 

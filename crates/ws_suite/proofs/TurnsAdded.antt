@@ -1,5 +1,5 @@
 -- What turns add to bytes and events, where events end, and whether bytes stand after the last of them.
-use Rattle.std.proofs.Common.{◌≡◌, ◌∙◌, ℕ, zero, suc, ◌+◌, ◌-◌, ◌<◌, ◌≤◌, ◌↔◌, Bool, true, false, List, [], ◌∷◌, ◌++◌, length, map, take, drop, Option, Some, ap, ap₂, sym, refl, subst, arith, append_assoc, append-nil, inl, inr}
+use Rattle.std.proofs.Common.{◌≡◌, ◌∙◌, ℕ, zero, suc, ◌+◌, ◌-◌, ◌<◌, ◌≤◌, ◌↔◌, Bool, true, false, List, [], ◌∷◌, ◌++◌, length, map, take, drop, flat_map, Option, Some, ap, ap₂, sym, refl, subst, arith, append_assoc, append-nil, inl, inr}
 use Rattle.std.proofs.lemmas.Bool.{cases_lt}
 use Rattle.std.proofs.lemmas.List.{append_cancel_left, length-append, length-take-le, take-append-drop, take-append-le}
 use Rattle.std.specs.List.{concat, last_or}
@@ -11,7 +11,7 @@ use Rattle.ws_session.specs.Events.{HasEvents}
 use Rattle.ws_session.specs.Sends.{most_limits}
 use Rattle.ws_suite.specs.declared.evidence.InTurn.{InTurn}
 use Rattle.ws_suite.specs.declared.evidence.Ending.{Ending}
-use Rattle.ws_suite.specs.Evidence.{HasRest, joined_events}
+use Rattle.ws_suite.specs.Evidence.{HasRest}
 use Rattle.ws_suite.specs.InnerEchoReplyLaws.{EchoReplyLaws}
 use Rattle.ws_suite.proofs.AnsweredEvents.{OnlyLastEnds, is_end}
 use Rattle.ws_suite.proofs.AnsweredTurns.{answer_in_turn}
@@ -38,27 +38,50 @@ one_turn_more (suc n) (x ∷ turns) =
     let rest = one_turn_more n turns in
     (rest.0, ap (λ (l : List ℕ). x ++ l) rest.1 ∙ sym (append_assoc x (concat (take n turns)) rest.0))
 
-abbrev pub Grows : (ℕ → List Event) → ℕ → Type 0
+abbrev pub Grows : {X : Type 0} → (ℕ → List X) → ℕ → Type 0
 Grows f n = f (n + 1) ≡ f n ++ drop (length (f n)) (f (n + 1))
 
 -- what each turn adds, from this one on
-abbrev pub added_from : (ℕ → List Event) → ℕ → List (List ℕ) → List (List Event)
+abbrev pub added_from : {X : Type 0} → (ℕ → List X) → ℕ → List (List ℕ) → List (List X)
 added_from f n [] = []
 added_from f n (turn ∷ turns) = drop (length (f n)) (f (n + 1)) ∷ added_from f (n + 1) turns
 
-pub length-added : (f : ℕ → List Event) (n : ℕ) (turns : List (List ℕ)) → length (added_from f n turns) ≡ length turns
+pub length-added : {X : Type 0} (f : ℕ → List X) (n : ℕ) (turns : List (List ℕ)) → length (added_from f n turns) ≡ length turns
 length-added f n [] = refl
 length-added f n (turn ∷ turns) = ap suc (length-added f (n + 1) turns)
 
-pub added_so_far : (f : ℕ → List Event) (n : ℕ) (turns : List (List ℕ)) (m : ℕ) → ((i : ℕ) → i < length turns → Grows f (n + i)) → m ≤ length turns → f n ++ joined_events (take m (added_from f n turns)) ≡ f (n + m)
+pub added_so_far : {X : Type 0} (f : ℕ → List X) (n : ℕ) (turns : List (List ℕ)) (m : ℕ) → ((i : ℕ) → i < length turns → Grows f (n + i)) → m ≤ length turns
+    → f n ++ flat_map (λ (l : List X). l) (take m (added_from f n turns)) ≡ f (n + m)
 added_so_far f n turns zero grow less = append-nil (f n) ∙ ap (λ k. f k) (let e : n ≡ n + 0 = omega arith in e)
 added_so_far f n [] (suc m) grow less = absurd (omega (arith, less))
-added_so_far f n (turn ∷ turns) (suc m) grow less =
+added_so_far {X} f n (turn ∷ turns) (suc m) grow less =
     let new = drop (length (f n)) (f (n + 1)) in
-    let rest = joined_events (take m (added_from f (n + 1) turns)) in
+    let rest = flat_map (λ (l : List X). l) (take m (added_from f (n + 1) turns)) in
     let here : Grows f n = subst (λ k. Grows f k) (let e : n + 0 ≡ n = omega arith in e) (grow 0 (omega arith)) in
     let later = added_so_far f (n + 1) turns m (λ i short. subst (λ k. Grows f k) (let e : n + suc i ≡ (n + 1) + i = omega arith in e) (grow (suc i) (omega (arith, short)))) (omega (arith, less)) in
-    sym (append_assoc (f n) new rest) ∙ (ap (λ (l : List Event). l ++ rest) (sym here) ∙ (later ∙ ap (λ k. f k) (let e : (n + 1) + m ≡ n + suc m = omega arith in e)))
+    sym (append_assoc (f n) new rest) ∙ (ap (λ (l : List X). l ++ rest) (sym here) ∙ (later ∙ ap (λ k. f k) (let e : (n + 1) + m ≡ n + suc m = omega arith in e)))
+
+-- the things of this turn, counted from 0
+abbrev pub turn_at : {X : Type 0} → List (List X) → ℕ → List X
+turn_at [] n = []
+turn_at (first ∷ turns) zero = first
+turn_at (first ∷ turns) (suc n) = turn_at turns n
+
+-- one turn more adds them
+pub one_more_turn : {X : Type 0} (turns : List (List X)) (n : ℕ) → flat_map (λ (l : List X). l) (take (suc n) turns) ≡ flat_map (λ (l : List X). l) (take n turns) ++ turn_at turns n
+one_more_turn [] zero = refl
+one_more_turn [] (suc n) = refl
+one_more_turn (first ∷ turns) zero = append-nil first
+one_more_turn {X} (first ∷ turns) (suc n) =
+    ap (λ (l : List X). first ++ l) (one_more_turn turns n) ∙ sym (append_assoc first (flat_map (λ (l : List X). l) (take n turns)) (turn_at turns n))
+
+-- so what lists of all so far grow by in a turn stands in it
+pub grows_by_turn : {X : Type 0} (turns : List (List X)) (f : ℕ → List X) (n : ℕ) (more : List X) → flat_map (λ (l : List X). l) (take n turns) ≡ f n
+    → flat_map (λ (l : List X). l) (take (n + 1) turns) ≡ f (n + 1) → f (n + 1) ≡ f n ++ more → turn_at turns n ≡ more
+grows_by_turn {X} turns f n more now then grown =
+    let next : suc n ≡ n + 1 = omega arith in
+    append_cancel_left (f n) (turn_at turns n) more
+    (ap (λ (l : List X). l ++ turn_at turns n) (sym now) ∙ (sym (one_more_turn turns n) ∙ (ap (λ k. flat_map (λ (l : List X). l) (take k turns)) next ∙ (then ∙ grown))))
 
 pub last_of_map : (o : Option (InTurn Ending)) (xs : List (InTurn Ending)) → last_or (answered_end o) (map answer_in_turn xs) ≡ answered_end (last_or o xs)
 last_of_map o [] = refl

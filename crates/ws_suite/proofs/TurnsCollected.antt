@@ -30,7 +30,7 @@ abbrev pub make_collected : {K : Type 0} → Collected K → Bool → Collected 
 make_collected c rest = record { replies = c.replies; ending = c.ending; has_rest = rest }
 
 -- all turns so far have all events so far
-whole_events : (role : Role) (turns : List (List ℕ)) (events : List (List Event)) → AreEventsByTurn role turns events → HasEvents role most_limits (concat turns) (joined_events events)
+pub whole_events : (role : Role) (turns : List (List ℕ)) (events : List (List Event)) → AreEventsByTurn role turns events → HasEvents role most_limits (concat turns) (joined_events events)
 whole_events role turns events are =
     subst (λ (l : List (List ℕ)). HasEvents role most_limits (concat l) (joined_events events)) (take_all (length turns) turns (omega arith))
     (subst (λ (l : List (List Event)). HasEvents role most_limits (concat (take (length turns) turns)) (joined_events l)) (take_all (length turns) events (omega (arith, are.each))) (are.so_far (length turns) (omega arith)))
@@ -286,7 +286,7 @@ none_after [] b x e = absurd cc
 none_after (y ∷ a) b x e = absurd cc
 
 -- no bytes have no events
-no_events : (role : Role) (limits : LimitsValue) → HasEvents role limits [] []
+pub no_events : (role : Role) (limits : LimitsValue) → HasEvents role limits [] []
 no_events role limits = record {
   frames = [];
   rest = [];

@@ -27,13 +27,13 @@ abbrev pub events_by : List Frame → List (List KeyedFrame) → List (List Even
 events_by before [] = []
 events_by before (frames ∷ turns) = events_after before (frames_of frames) ∷ events_by (before ++ frames_of frames) turns
 
-later_events : (before fs gs : List Frame) → events_after before (fs ++ gs) ≡ events_after before fs ++ events_after (before ++ fs) gs
+pub later_events : (before fs gs : List Frame) → events_after before (fs ++ gs) ≡ events_after before fs ++ events_after (before ++ fs) gs
 later_events before [] gs = ap (λ (b : List Frame). events_after b gs) (sym (append-nil before))
 later_events before (f ∷ fs) gs =
     ap (λ (l : List Event). event_of before f ∷ l) (later_events (before ++ f ∷ []) fs gs
     ∙ ap (λ (b : List Frame). events_after (before ++ f ∷ []) fs ++ events_after b gs) (append_assoc before (f ∷ []) fs))
 
-events_of_turns : (n : ℕ) (before : List Frame) (turns : List (List KeyedFrame)) → joined_events (take n (events_by before turns)) ≡ events_after before (frames_of (joined_frames (take n turns)))
+pub events_of_turns : (n : ℕ) (before : List Frame) (turns : List (List KeyedFrame)) → joined_events (take n (events_by before turns)) ≡ events_after before (frames_of (joined_frames (take n turns)))
 events_of_turns zero before turns = refl
 events_of_turns (suc n) before [] = refl
 events_of_turns (suc n) before (frames ∷ turns) =
@@ -41,7 +41,7 @@ events_of_turns (suc n) before (frames ∷ turns) =
     ∙ (sym (later_events before (frames_of frames) (frames_of (joined_frames (take n turns))))
     ∙ ap (λ (l : List Frame). events_after before l) (sym (map-append (λ (x : KeyedFrame). x.frame) frames (joined_frames (take n turns)))))
 
-length-events_by : (before : List Frame) (turns : List (List KeyedFrame)) → length (events_by before turns) ≡ length turns
+pub length-events_by : (before : List Frame) (turns : List (List KeyedFrame)) → length (events_by before turns) ≡ length turns
 length-events_by before [] = refl
 length-events_by before (frames ∷ turns) = ap suc (length-events_by (before ++ frames_of frames) turns)
 
@@ -127,13 +127,13 @@ module _ (laws : FrameLaws) (role : Role) (turns : List (List KeyedFrame)) (layo
       subst (λ (l : List ℕ). HasEvents role most_limits l (joined_events (take n (events_by [] turns)))) bytes
       (subst (λ (l : List Event). HasEvents role most_limits (take size (stream_bytes (joined_frames turns))) l) events (first_events size))
 
-  are_by_turn : AreEventsByTurn role (map stream_bytes turns) (events_by [] turns)
+  pub are_by_turn : AreEventsByTurn role (map stream_bytes turns) (events_by [] turns)
   are_by_turn = record {
     each = length-events_by [] turns ∙ sym (length-map turns stream_bytes);
     so_far = λ n less. turns_so_far n;
   }
 
-  all_bytes : concat (map stream_bytes turns) ≡ stream_bytes (joined_frames turns)
+  pub all_bytes : concat (map stream_bytes turns) ≡ stream_bytes (joined_frames turns)
   all_bytes =
       ap (λ (l : List (List ℕ)). concat l) (sym (take_all (length turns) (map stream_bytes turns) (omega (arith, length-map turns stream_bytes))))
       ∙ (bytes_of_turns (length turns) turns ∙ ap (λ (l : List (List KeyedFrame)). stream_bytes (joined_frames l)) (take_all (length turns) turns (omega arith)))
@@ -144,7 +144,7 @@ module _ (laws : FrameLaws) (role : Role) (turns : List (List KeyedFrame)) (layo
       ∙ (events_of_turns (length turns) [] turns ∙ ap (λ (l : List (List KeyedFrame)). events_after [] (frames_of (joined_frames l))) (take_all (length turns) turns (omega arith)))
 
   -- no bytes stand after the last frame
-  no_rest : HasRest role (concat (map stream_bytes turns)) (joined_events (events_by [] turns)) → ⊥
+  pub no_rest : HasRest role (concat (map stream_bytes turns)) (joined_events (events_by [] turns)) → ⊥
   no_rest rest =
       let all = joined_frames turns in
       let less : rest.n < length (stream_bytes all) = omega (arith, rest.fewer, ap (λ (l : List ℕ). length l) all_bytes) in

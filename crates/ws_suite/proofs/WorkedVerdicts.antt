@@ -95,6 +95,14 @@ nothing_loose loose.OtherCode (got, due, code, e, f, g, other) = absurd cc
 nothing_loose loose.LateEnd (due, e, less, rest) = absurd cc
 nothing_loose loose.EchoShort h = absurd (let wrong : false ≡ true = h.0 in cc)
 nothing_loose loose.BrokenEnd h = absurd (let wrong : Tester ≡ Broken = h in cc)
+nothing_loose loose.OwnFault h = absurd h
+nothing_loose loose.OwnClose h = absurd h
+nothing_loose loose.OwnEnd h = absurd h
+nothing_loose loose.LateFault h = absurd h
+nothing_loose loose.Tolerated h = absurd h
+nothing_loose loose.NoClose h = absurd h
+nothing_loose loose.BehindClose h = absurd h
+nothing_loose loose.TooBig h = absurd h
 
 below_end : (lower : FailWhy) → fail_number lower < 6 → Fails Server (answered Peer) lower → ⊥
 below_end fail.NotFrames less h = answered_fails Peer fail.NotFrames (λ e. absurd cc) h
@@ -149,6 +157,14 @@ below_skipped loose.OtherCode less h = absurd (omega (arith, less))
 below_skipped loose.LateEnd less h = absurd (omega (arith, less))
 below_skipped loose.EchoShort less h = absurd (omega (arith, less))
 below_skipped loose.BrokenEnd less h = absurd (omega (arith, less))
+below_skipped loose.OwnFault less h = absurd h
+below_skipped loose.OwnClose less h = absurd h
+below_skipped loose.OwnEnd less h = absurd h
+below_skipped loose.LateFault less h = absurd h
+below_skipped loose.Tolerated less h = absurd h
+below_skipped loose.NoClose less h = absurd h
+below_skipped loose.BehindClose less h = absurd h
+below_skipped loose.TooBig less h = absurd h
 
 -- ---- the five transcripts
 

@@ -49,7 +49,7 @@ ended_by_a_close = refl
 pub not_ended_by_a_ping : ends_echo (event.Ping [] ∷ []) ≡ false
 not_ended_by_a_ping = refl
 
--- ---- transcripts for `worked_verdicts`
+-- ---- transcripts for `worked_verdicts` and `worked_protocol_verdicts`
 
 -- an empty ping under a key of zeros, and the pong that answers it
 abbrev pub ping_sent : List ℕ
@@ -57,6 +57,23 @@ ping_sent = 0x89 ∷ 0x80 ∷ 0x00 ∷ 0x00 ∷ 0x00 ∷ 0x00 ∷ []
 
 abbrev pub pong_got : List ℕ
 pong_got = 0x8a ∷ 0x00 ∷ []
+
+-- an empty text, and a close with code 1000, both masked
+abbrev pub text_sent : List ℕ
+text_sent = 0x81 ∷ 0x80 ∷ 0x37 ∷ 0xfa ∷ 0x21 ∷ 0x3d ∷ []
+
+abbrev pub close_sent : List ℕ
+close_sent = 0x88 ∷ 0x82 ∷ 0x37 ∷ 0xfa ∷ 0x21 ∷ 0x3d ∷ 0x34 ∷ 0x12 ∷ []
+
+-- the text "a", a close with code 1000, and one with code 1008
+abbrev pub text_got : List ℕ
+text_got = 0x81 ∷ 0x01 ∷ 0x61 ∷ []
+
+abbrev pub close_got : List ℕ
+close_got = 0x88 ∷ 0x02 ∷ 0x03 ∷ 0xe8 ∷ []
+
+abbrev pub policy_got : List ℕ
+policy_got = 0x88 ∷ 0x02 ∷ 0x03 ∷ 0xf0 ∷ []
 
 abbrev pub in_one_turn : List ℕ → List ℕ → Ended → Transcript
 in_one_turn sent got ended = record { turns = turn_of sent got ∷ []; ended = ended }

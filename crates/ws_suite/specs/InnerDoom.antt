@@ -1,5 +1,5 @@
 -- Inside the crate: how it is found out whether what was sent is doomed. A reader may skip this file.
-use Rattle.std.specs.Prelude.{◌≡◌, ℕ, ◌+◌, ◌≤◌, ◌↔◌, Bool, true, false, ⊤, List, [], length, slice_index_or}
+use Rattle.std.specs.Prelude.{◌≡◌, ℕ, ◌+◌, ◌≤◌, ◌↔◌, Bool, false, ⊤, List, [], length, slice_index_or}
 use Rattle.std.specs.Prelude.{Option, Some, None, IsTrue}
 use Rattle.ws_wire.specs.declared.role.Role.{Role}
 use Rattle.ws_wire.specs.Frame.{Frame, KeyedFrame}
@@ -10,7 +10,6 @@ use Rattle.ws_suite.specs.declared.evidence.InTurn.{InTurn}
 use Rattle.ws_suite.specs.declared.evidence.Ending.{Ending}
 use Rattle.ws_suite.specs.declared.evidence.doom.Dooms.{Dooms}
 use Rattle.ws_suite.specs.Doom.{IsDoomedAfter}
-use Rattle.ws_suite.specs.Matching.{is_close_ending}
 
 -- nothing was sent in this turn or after it
 abbrev pub AreWithoutBytes : ℕ → List (List ℕ) → Type 0
@@ -31,11 +30,16 @@ AreDoomed role bytes = (frames : List KeyedFrame) × (rest : List ℕ) × EndsDo
 abbrev pub IsDoomedAtEnd : Role → List (List ℕ) → Type 0
 IsDoomedAtEnd tested turns = IsDoomedAfter tested turns (length turns)
 
--- it is known whether what was sent was doomed when the turn was over in which a close was got, if one was
+-- a close or a fault was got in this turn
+abbrev pub HasEndedInTurn : Option (InTurn Ending) → ℕ → Type 0
+HasEndedInTurn None turn = ⊥
+HasEndedInTurn (Some got) turn = got.turn ≡ turn
+
+-- It is known whether what was sent was doomed when the turn was over in which a close or a fault was got, if one was.
+-- A fault that was got may count as a close.
 abbrev pub IsKnownAtClose : Role → List (List ℕ) → Option (InTurn Ending) → Bool → Type 0
 IsKnownAtClose tested turns None at_close = ⊤
-IsKnownAtClose tested turns (Some got) at_close = is_close_ending got.what ≡ true
-    → (IsTrue at_close ↔ IsDoomedAfter tested turns (got.turn + 1))
+IsKnownAtClose tested turns (Some got) at_close = IsTrue at_close ↔ IsDoomedAfter tested turns (got.turn + 1)
 
 -- so it is, and at the end
 pub record AreDooms (tested : Role) (turns : List (List ℕ)) (got : Option (InTurn Ending)) (dooms : Dooms)

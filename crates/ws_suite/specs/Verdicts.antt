@@ -142,6 +142,15 @@ IsLoose tested x loose.OtherCode = HasOtherCode x
 IsLoose tested x loose.LateEnd = EndsLate tested x
 IsLoose tested x loose.EchoShort = EchoesShort x
 IsLoose tested x loose.BrokenEnd = IsBroken x
+-- the others are told by the protocol alone
+IsLoose tested x loose.OwnFault = ⊥
+IsLoose tested x loose.OwnClose = ⊥
+IsLoose tested x loose.OwnEnd = ⊥
+IsLoose tested x loose.LateFault = ⊥
+IsLoose tested x loose.Tolerated = ⊥
+IsLoose tested x loose.NoClose = ⊥
+IsLoose tested x loose.BehindClose = ⊥
+IsLoose tested x loose.TooBig = ⊥
 
 -- ---- the verdict
 
@@ -161,6 +170,14 @@ loose_number loose.OtherCode = 3
 loose_number loose.LateEnd = 4
 loose_number loose.EchoShort = 5
 loose_number loose.BrokenEnd = 6
+loose_number loose.OwnFault = 7
+loose_number loose.OwnClose = 8
+loose_number loose.OwnEnd = 9
+loose_number loose.LateFault = 10
+loose_number loose.Tolerated = 11
+loose_number loose.NoClose = 12
+loose_number loose.BehindClose = 13
+loose_number loose.TooBig = 14
 
 -- this Fail applies, and none with a lower number
 abbrev pub IsLowestFail : Role → Evidence → FailWhy → Type 0

@@ -2,6 +2,8 @@
 use Rattle.std.specs.Prelude.{ℕ, List, ◌++◌, codes, Option, None, Some}
 use Rattle.ws_wire.specs.declared.role.Role.{Role}
 use Rattle.ws_wire.specs.declared.role.Role.TheVariants.{Client, Server}
+use Rattle.ws_scripts.specs.declared.expectation.Expectation.{Expectation}
+use Rattle.ws_scripts.specs.declared.expectation.Expectation.TheVariants.{Echo, Protocol}
 use Rattle.ws_suite.specs.declared.verdict.Verdict.{Verdict}
 use Rattle.ws_suite.specs.declared.verdict.Verdict.TheVariants.{Pass, Loose, Fail}
 use Rattle.ws_suite.specs.declared.verdict.FailWhy.{FailWhy}
@@ -24,6 +26,14 @@ loose_name loose.OtherCode = codes "OtherCode"
 loose_name loose.LateEnd = codes "LateEnd"
 loose_name loose.EchoShort = codes "EchoShort"
 loose_name loose.BrokenEnd = codes "BrokenEnd"
+loose_name loose.OwnFault = codes "OwnFault"
+loose_name loose.OwnClose = codes "OwnClose"
+loose_name loose.OwnEnd = codes "OwnEnd"
+loose_name loose.LateFault = codes "LateFault"
+loose_name loose.Tolerated = codes "Tolerated"
+loose_name loose.NoClose = codes "NoClose"
+loose_name loose.BehindClose = codes "BehindClose"
+loose_name loose.TooBig = codes "TooBig"
 
 abbrev pub verdict_words : Verdict → List ℕ
 verdict_words Pass = codes "PASS"
@@ -78,9 +88,57 @@ loose_rule tested loose.EchoShort =
 loose_rule tested loose.BrokenEnd =
     codes "A connection is closed cleanly where that can be done (RFC 6455 section 7.1.1): a read or a "
     ++ codes "write failed"
+loose_rule tested loose.OwnFault =
+    codes "A close frame with the code 1002 or 1007 says that the other end broke a rule (RFC 6455 "
+    ++ codes "section 7.4.1), and it broke none"
+loose_rule tested loose.OwnClose = codes "An end may send a close frame at any time (RFC 6455 section 7.1.2)"
+loose_rule tested loose.OwnEnd =
+    codes "An end that wants to end the connection sends a close frame first (RFC 6455 section 7.1.2), "
+    ++ codes "though a server may do without (section 7.3)"
+loose_rule tested loose.LateFault =
+    codes "An end fails the connection once it has read what breaks a rule (RFC 6455 section 7.1.7): the "
+    ++ codes "frame, or the message with text that is none, was not sent whole"
+loose_rule tested loose.Tolerated =
+    codes "A sender keeps the rules of forms, fragments and control frames (RFC 6455 sections 5.2, 5.4 "
+    ++ codes "and 5.5), and the standard does not order the other end to fail where it doesn't"
+loose_rule tested loose.NoClose =
+    codes "An end that gets a close frame sends one (RFC 6455 section 5.5.1), unless it ended the "
+    ++ codes "connection before it had read it"
+loose_rule tested loose.BehindClose =
+    codes "No data frame follows a close frame (RFC 6455 section 5.5.1); that no control frame does "
+    ++ codes "either is ours"
+loose_rule tested loose.TooBig =
+    codes "A message has at most 16777216 bytes (ours; RFC 6455 section 10.4 leaves it to each end)"
+
+-- the rule of the standard that an end broke which needn't echo; it has no rule that an echo alone keeps
+abbrev pub protocol_rule : Role → FailWhy → List ℕ
+protocol_rule Server fail.NotFrames =
+    codes "A server sends whole frames by the rules of RFC 6455 section 5, unmasked (section 5.1), with "
+    ++ codes "text in UTF-8 (section 8.1), and no data frame behind its close frame (section 5.5.1)"
+protocol_rule Client fail.NotFrames =
+    codes "A client sends whole frames by the rules of RFC 6455 section 5, masked (section 5.1), with "
+    ++ codes "text in UTF-8 (section 8.1)"
+protocol_rule tested fail.Early = fail_rule tested fail.Early
+protocol_rule tested fail.Messages = fail_rule tested fail.Messages
+protocol_rule tested fail.Pongs =
+    codes "An end that gets a ping sends a pong with its payload, unless it has already got a close frame "
+    ++ codes "(RFC 6455 section 5.5.2); one for the latest ping may stand for all (section 5.5.3)"
+protocol_rule tested fail.Close =
+    codes "An end that gets a close frame, and sent none, sends one (RFC 6455 section 5.5.1)"
+protocol_rule Server fail.End =
+    codes "A server that has sent and got a close frame closes the connection at once (RFC 6455 section "
+    ++ codes "5.5.1), and so does one that has to fail it (sections 5.1, 5.2, 7.1.7 and 8.1)"
+protocol_rule Client fail.End =
+    codes "A client that has to fail the connection closes it (RFC 6455 sections 5.1, 5.2, 7.1.7 and 8.1) "
+    ++ codes "or sends a close frame (section 7.1.7), which also answers one that it gets (section 5.5.1)"
+
+-- the rule that was broken by an end of which this is expected
+abbrev pub fail_rule_by : Expectation → Role → FailWhy → List ℕ
+fail_rule_by Echo tested why = fail_rule tested why
+fail_rule_by Protocol tested why = protocol_rule tested why
 
 -- no rule is behind a Pass
-abbrev pub rule_words : Role → Verdict → Option (List ℕ)
-rule_words tested Pass = None
-rule_words tested (Loose why) = Some (loose_rule tested why)
-rule_words tested (Fail why) = Some (fail_rule tested why)
+abbrev pub rule_words : Role → Expectation → Verdict → Option (List ℕ)
+rule_words tested expected Pass = None
+rule_words tested expected (Loose why) = Some (loose_rule tested why)
+rule_words tested expected (Fail why) = Some (fail_rule_by expected tested why)

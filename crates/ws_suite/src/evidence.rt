@@ -1,6 +1,7 @@
 //! What a transcript shows of the tested end: the events of both directions, each with its turn.
 
 ghost use Rattle.std.specs.Prelude.{◌≡◌, ◌↔◌, IsTrue};
+ghost use Rattle.ws_suite.specs.InnerDoom.{HasEndedInTurn};
 ghost use Rattle.ws_suite.specs.Matching.{ends_with_close, ends_with_fault, is_close_ending};
 ghost use Rattle.ws_suite.specs.Verdicts.{IsCloseInTurn};
 
@@ -9,14 +10,18 @@ mod doom;
 mod growing;
 mod keeping;
 mod kept;
+mod marks;
 mod telling;
+mod wire_frames;
 
 pub(crate) use doom::with_doom;
 pub use growing::{GrowingEvidence, RunEvidence};
 pub use keeping::{KeepsReplies, ReplyTally};
 pub(crate) use kept::is_same;
 pub use kept::{Kept, Replies, ReplyKind, Walk};
+pub(crate) use marks::{MarkedEvidence, Marks, marked};
 pub(crate) use telling::{Shown, evidence_of, told_evidence_of};
+pub(crate) use wire_frames::is_undefined_code;
 use ws_scripts::Ended;
 use ws_session::{Message, Reason, Small};
 
@@ -98,6 +103,16 @@ pub(crate) fn is_close_ending(ending: &Ending) -> bool
     match ending {
         Ending::Closed(_) => true,
         Ending::Failed(_) | Ending::Doomed => false,
+    }
+}
+
+/// Whether a close or a fault was got in this turn.
+pub(crate) fn ends_in_turn(got: &Option<InTurn<Ending>>, turn: usize) -> bool
+    ensures { IsTrue result ↔ HasEndedInTurn got.now turn }
+{
+    match got {
+        Some(got) => got.turn == turn,
+        None => false,
     }
 }
 

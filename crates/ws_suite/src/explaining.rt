@@ -1,14 +1,14 @@
 //! Why a verdict is told: what was owed and what came.
 
 ghost use Rattle.std.specs.Prelude.{IfOk};
-ghost use Rattle.ws_suite.specs.Explanation.{IsExplanationOf};
+ghost use Rattle.ws_suite.specs.Explanation.{IsExplanationBy, IsExplanationOf, IsProtocolExplanationOf};
 
-use crate::evidence::{Direction, Evidence, Shown, told_evidence_of, with_doom};
-use crate::judging::verdict_on;
+use crate::evidence::{Direction, Evidence, MarkedEvidence, Shown, told_evidence_of, with_doom};
+use crate::judging::{marked_with_doom, owed_among, verdict_by_protocol, verdict_on};
 use crate::verdict::Verdict;
 use std::alloc::Global;
 use ws_base::NoMemory;
-use ws_scripts::{Ended, Transcript};
+use ws_scripts::{Ended, Expectation, Transcript};
 use ws_wire::Role;
 
 /// A verdict, and what it is told on.
@@ -55,6 +55,65 @@ pub fn explain(
     Ok(Explanation {
         verdict,
         due,
+        got,
+        beyond,
+        turns,
+        ended,
+    })
+}
+
+/// The verdict of `judge_with` on a tested end of this role, and why it is told. Of an end that needn't echo no message
+/// is owed, and a pong only for a ping that it was sent in an earlier turn than what ends the connection.
+pub fn explain_with(
+    alloc: Global,
+    tested: Role,
+    expectation: Expectation,
+    transcript: &Transcript,
+) -> Result<Explanation, NoMemory>
+    ensures { IfOk result (λ x. IsExplanationBy expectation tested transcript.now x) }
+{
+    match expectation {
+        Expectation::Echo => explain(alloc, tested, transcript),
+        Expectation::Protocol => explain_by_protocol(alloc, tested, transcript),
+    }
+}
+
+/// The verdict by RFC 6455 alone, and why it is told.
+fn explain_by_protocol(
+    alloc: Global,
+    tested: Role,
+    transcript: &Transcript,
+) -> Result<Explanation, NoMemory>
+    ensures { IfOk result (λ x. IsProtocolExplanationOf tested transcript.now x) }
+{
+    let told = told_evidence_of(alloc, tested, transcript)?;
+    let marked = marked_with_doom(alloc, tested, transcript, told)?;
+    let verdict = verdict_by_protocol(alloc, tested, &marked)?;
+    let owed = owed_among(alloc, &marked.evidence)?;
+    let MarkedEvidence {
+        evidence,
+        marks: _,
+        beyond,
+    } = marked;
+    let Evidence {
+        due,
+        got,
+        turns,
+        ended,
+        answers_doom: _,
+    } = evidence;
+    let Direction {
+        replies: _,
+        ending,
+        has_rest,
+    } = due;
+    Ok(Explanation {
+        verdict,
+        due: Direction {
+            replies: owed,
+            ending,
+            has_rest,
+        },
         got,
         beyond,
         turns,

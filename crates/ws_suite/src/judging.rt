@@ -5,22 +5,34 @@ mod fails;
 mod findings;
 mod in_step;
 mod looses;
+mod owed;
 mod pongs;
+mod protocol;
 mod replies;
 
 ghost use Rattle.std.specs.Prelude.{IfOk};
 ghost use Rattle.ws_wire.specs.declared.role.Role.TheVariants.{Server};
+ghost use Rattle.ws_suite.specs.declared.evidence.Evidence.{Evidence};
+ghost use Rattle.ws_suite.specs.Doom.{HasDoomCounted};
+ghost use Rattle.ws_suite.specs.Evidence.{got_turns, other_role, sent_turns};
+ghost use Rattle.ws_suite.specs.Explanation.{IsBeyondClose};
+ghost use Rattle.ws_suite.specs.InnerDoom.{AreDooms};
 ghost use Rattle.ws_suite.specs.InnerJudging.{without_pings};
+ghost use Rattle.ws_suite.specs.InnerMarks.{IsEndingByTurn};
+ghost use Rattle.ws_suite.specs.Marks.{AreMarksOf, HasUndefinedCodeCounted};
+ghost use Rattle.ws_suite.specs.Protocol.{IsProtocolVerdictOf, IsVerdictBy};
 ghost use Rattle.ws_suite.specs.Verdicts.{IsVerdictOf, IsVerdictOn};
 
-use crate::evidence::{Evidence, evidence_of, with_doom};
+use crate::evidence::{Evidence, MarkedEvidence, Shown, evidence_of, marked, with_doom};
 use crate::judging::fails::first_fail;
 use crate::judging::findings::findings_of;
 use crate::judging::looses::first_loose;
+pub(crate) use crate::judging::owed::owed_among;
+pub(crate) use crate::judging::protocol::verdict_by_protocol;
 use crate::verdict::Verdict;
 use std::alloc::Global;
 use ws_base::NoMemory;
-use ws_scripts::Transcript;
+use ws_scripts::{Expectation, Transcript};
 use ws_wire::Role;
 
 /// Whether a server kept the rules, by all that went over a connection from a client: the verdict of `judge_end` on the
@@ -42,6 +54,71 @@ pub fn judge_end(alloc: Global, tested: Role, transcript: &Transcript) -> Result
     let counted = with_doom(tested, transcript, shown.evidence, shown.dooms);
     let verdict = verdict_on(alloc, tested, &counted)?;
     Ok(verdict)
+}
+
+/// Whether the tested end, which has this role, did what is expected of it: where that is an echo, the verdict of
+/// `judge_end`, and else that by RFC 6455 alone, whatever messages the end sent and whenever it closed.
+pub fn judge_with(
+    alloc: Global,
+    tested: Role,
+    expectation: Expectation,
+    transcript: &Transcript,
+) -> Result<Verdict, NoMemory>
+    ensures { IfOk result (λ verdict. IsVerdictBy expectation tested transcript.now verdict) }
+{
+    match expectation {
+        Expectation::Echo => judge_end(alloc, tested, transcript),
+        Expectation::Protocol => judge_by_protocol(alloc, tested, transcript),
+    }
+}
+
+/// The verdict by RFC 6455 alone.
+fn judge_by_protocol(
+    alloc: Global,
+    tested: Role,
+    transcript: &Transcript,
+) -> Result<Verdict, NoMemory>
+    ensures { IfOk result (λ verdict. IsProtocolVerdictOf tested transcript.now verdict) }
+{
+    let shown = evidence_of(alloc, tested, transcript)?;
+    let marked = marked_with_doom(alloc, tested, transcript, shown)?;
+    let verdict = verdict_by_protocol(alloc, tested, &marked)?;
+    Ok(verdict)
+}
+
+/// The evidence as it counts by the protocol: a close whose code the standard leaves undefined counts as one, and then
+/// what was doomed.
+pub(crate) fn marked_with_doom(
+    alloc: Global,
+    tested: Role,
+    transcript: &Transcript,
+    shown: Shown,
+) -> Result<MarkedEvidence, NoMemory>
+    requires ending { IsEndingByTurn (other_role tested) (got_turns transcript.now.turns) shown.evidence.got.ending }
+    requires dooms { AreDooms tested (sent_turns transcript.now.turns) shown.evidence.got.ending shown.dooms }
+    ensures { IfOk result (λ marked. (closed : Evidence)
+        × HasUndefinedCodeCounted tested transcript.now shown.evidence closed
+        × HasDoomCounted tested transcript.now closed marked.evidence
+        × AreMarksOf tested transcript.now marked.marks
+        × IsBeyondClose (other_role tested) (got_turns transcript.now.turns) closed.got.ending marked.beyond) }
+{
+    let Shown {
+        evidence,
+        dooms,
+        beyond: _,
+    } = shown;
+    let closed = marked(alloc, tested, transcript, evidence)?;
+    let MarkedEvidence {
+        evidence,
+        marks,
+        beyond,
+    } = closed;
+    let counted = with_doom(tested, transcript, evidence, dooms);
+    Ok(MarkedEvidence {
+        evidence: counted,
+        marks,
+        beyond,
+    })
 }
 
 /// The verdict on the evidence, in which pings that were got count for nothing.

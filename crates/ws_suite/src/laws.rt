@@ -7,14 +7,19 @@ ghost use Rattle.ws_wire.specs.declared.role.Role.TheVariants.{Client, Server};
 ghost use Rattle.ws_session.specs.declared.event.Event.{Event};
 ghost use Rattle.ws_scripts.specs.declared.transcript.Ended.TheVariants.{Peer, Tester};
 ghost use Rattle.ws_scripts.specs.declared.transcript.Transcript.{Transcript};
+ghost use Rattle.ws_scripts.specs.declared.expectation.Expectation.{Expectation};
+ghost use Rattle.ws_suite.specs.declared.verdict.FailWhy.{FailWhy};
 ghost use Rattle.ws_suite.specs.declared.verdict.FailWhy.TheVariants as fail;
 ghost use Rattle.ws_suite.specs.declared.verdict.LooseWhy.TheVariants as loose;
 ghost use Rattle.ws_suite.specs.declared.verdict.Verdict.{Verdict};
 ghost use Rattle.ws_suite.specs.declared.verdict.Verdict.TheVariants.{Fail, Loose, Pass};
+ghost use Rattle.ws_suite.specs.AppFairness.{IsAppTranscript, SendsNoClose};
 ghost use Rattle.ws_suite.specs.Evidence.{AreEventsByTurn, EndsWithByte, StandsInTurn, HoldsByte};
-ghost use Rattle.ws_suite.specs.Examples.{in_one_turn, in_two_turns, ping_sent, pong_got};
+ghost use Rattle.ws_suite.specs.Examples.{close_got, close_sent, in_one_turn, in_two_turns, ping_sent, policy_got};
+ghost use Rattle.ws_suite.specs.Examples.{pong_got, text_got, text_sent};
 ghost use Rattle.ws_suite.specs.Fairness.{IsEchoTranscript};
 ghost use Rattle.ws_suite.specs.Growing.{AreTurnsAnswered};
+ghost use Rattle.ws_suite.specs.Protocol.{IsProtocolVerdictOf, IsVerdictBy};
 ghost use Rattle.ws_suite.specs.Verdicts.{IsVerdictOf};
 
 use crate::lemmas::{echo_reply_laws, frame_laws, session_laws};
@@ -27,11 +32,36 @@ pub fn one_verdict()
     session_laws();
 }
 
+/// By whatever is expected of the tested end, an echo or the protocol alone, it has one verdict.
+pub fn one_verdict_by()
+    ensures { (expected : Expectation) (tested : Role) (transcript : Transcript) (one other : Verdict) →
+        IsVerdictBy expected tested transcript one → IsVerdictBy expected tested transcript other → one ≡ other }
+{
+    session_laws();
+}
+
 /// Whatever was sent, lawful or not, in whatever turns: the transcript of a tester and an echo, be it a server or a
 /// client, has the verdict Pass.
 pub fn an_echos_transcript_passes()
     ensures { (tested : Role) (transcript : Transcript) → IsEchoTranscript tested transcript →
         IsVerdictOf tested transcript Pass }
+{
+    echo_reply_laws();
+}
+
+/// Whatever was sent, lawful or not, in whatever turns: the transcript of a tester and an application that keeps the
+/// protocol, be it a server or a client, has no Fail by the protocol.
+pub fn an_apps_transcript_fails_nowhere()
+    ensures { (tested : Role) (transcript : Transcript) (why : FailWhy) → IsAppTranscript tested transcript →
+        ¬ (IsProtocolVerdictOf tested transcript (Fail why)) }
+{
+    echo_reply_laws();
+}
+
+/// Where the application sends no close of its own, it passes.
+pub fn an_apps_transcript_passes()
+    ensures { (tested : Role) (transcript : Transcript) (app : IsAppTranscript tested transcript) →
+        SendsNoClose tested transcript app → IsProtocolVerdictOf tested transcript Pass }
 {
     echo_reply_laws();
 }
@@ -56,6 +86,21 @@ pub fn worked_verdicts()
         (Loose loose.PongsSkipped) }
 {
     frame_laws();
+}
+
+/// Worked examples of verdicts by the protocol alone: a server sends a message of its own, and then ends the
+/// connection, or closes it; it answers a close, and not the ping before it; and it ends the connection at a close.
+pub fn worked_protocol_verdicts()
+    ensures own_message { IsProtocolVerdictOf Server (in_one_turn text_sent text_got Tester) Pass }
+    ensures own_end { IsProtocolVerdictOf Server (in_one_turn text_sent text_got Peer) (Loose loose.OwnEnd) }
+    ensures own_close { IsProtocolVerdictOf Server (in_one_turn text_sent (text_got ++ policy_got) Peer)
+        (Loose loose.OwnClose) }
+    ensures no_pong { IsProtocolVerdictOf Server (in_two_turns ping_sent [] close_sent close_got Peer)
+        (Fail fail.Pongs) }
+    ensures no_close { IsProtocolVerdictOf Server (in_one_turn close_sent [] Peer) (Fail fail.Close) }
+{
+    frame_laws();
+    session_laws();
 }
 
 /// Worked examples of what has come for a ping: its pong in its turn answers it; none doesn't, nor does one that comes

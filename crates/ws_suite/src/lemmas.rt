@@ -1,5 +1,6 @@
 //! The laws of the layer below, for proofs.
 
+ghost use Rattle.ws_wire.specs.Header.{AreBytes};
 ghost use Rattle.ws_suite.specs.InnerCollecting.{FrameLaws, EventLaws};
 ghost use Rattle.ws_suite.specs.InnerEchoReplyLaws.{EchoReplyLaws};
 
@@ -37,3 +38,8 @@ pub(crate) fn echo_reply_laws()
     laws::echo_replies_can_be_sent();
     laws::keys_fit_the_other_role();
 }
+
+/// Each of these bytes is one. Nothing runs.
+pub(crate) fn are_bytes(bytes: &[u8])
+    ensures { AreBytes bytes.now }
+{}

@@ -1,20 +1,33 @@
 //! The rule behind a verdict, as a sentence.
 
 ghost use Rattle.std.specs.Prelude.{◌≡◌, option_map};
-ghost use Rattle.ws_suite.specs.Words.{fail_rule, loose_rule, rule_words};
+ghost use Rattle.ws_scripts.specs.declared.expectation.Expectation.TheVariants.{Echo};
+ghost use Rattle.ws_suite.specs.Words.{fail_rule, loose_rule, protocol_rule, rule_words};
 
 use crate::verdict::{FailWhy, LooseWhy, Verdict};
+use ws_scripts::Expectation;
 use ws_wire::Role;
 
 /// The rule that the verdict on an end of this role speaks of, in one line of ASCII that names its section of RFC 6455,
-/// or says that the rule is ours. `None` of a Pass.
+/// or says that the rule is ours: `rule_with` of an end that is to echo. `None` of a Pass.
 pub fn rule(tested: Role, verdict: Verdict) -> Option<&'static str>
-    ensures { option_map (λ words. words.now) result ≡ rule_words tested verdict }
+    ensures { option_map (λ words. words.now) result ≡ rule_words tested Echo verdict }
+{
+    rule_with(tested, Expectation::Echo, verdict)
+}
+
+/// The same of an end of which this is expected. By the protocol each Fail has the sentence of the standard that orders
+/// it.
+pub fn rule_with(tested: Role, expected: Expectation, verdict: Verdict) -> Option<&'static str>
+    ensures { option_map (λ words. words.now) result ≡ rule_words tested expected verdict }
 {
     match verdict {
         Verdict::Pass => None,
         Verdict::Loose(why) => Some(loose_rule(tested, why)),
-        Verdict::Fail(why) => Some(fail_rule(tested, why)),
+        Verdict::Fail(why) => Some(match expected {
+            Expectation::Echo => fail_rule(tested, why),
+            Expectation::Protocol => protocol_rule(tested, why),
+        }),
     }
 }
 
@@ -79,6 +92,58 @@ fn loose_rule(tested: Role, why: LooseWhy) -> &'static str
             "An end that fails the connection may drop what it has read (RFC 6455 section 7.1.7); an echo \
              that is fed turn by turn answers it (ours)",
         LooseWhy::BrokenEnd =>
-            "A connection is closed cleanly where that can be done (RFC 6455 section 7.1.1): a read or a write failed",
+            "A connection is closed cleanly where that can be done (RFC 6455 section 7.1.1): a read or a \
+             write failed",
+        LooseWhy::OwnFault =>
+            "A close frame with the code 1002 or 1007 says that the other end broke a rule (RFC 6455 section \
+             7.4.1), and it broke none",
+        LooseWhy::OwnClose => "An end may send a close frame at any time (RFC 6455 section 7.1.2)",
+        LooseWhy::OwnEnd =>
+            "An end that wants to end the connection sends a close frame first (RFC 6455 section 7.1.2), \
+             though a server may do without (section 7.3)",
+        LooseWhy::LateFault =>
+            "An end fails the connection once it has read what breaks a rule (RFC 6455 section 7.1.7): the \
+             frame, or the message with text that is none, was not sent whole",
+        LooseWhy::Tolerated =>
+            "A sender keeps the rules of forms, fragments and control frames (RFC 6455 sections 5.2, 5.4 and \
+             5.5), and the standard does not order the other end to fail where it doesn't",
+        LooseWhy::NoClose =>
+            "An end that gets a close frame sends one (RFC 6455 section 5.5.1), unless it ended the \
+             connection before it had read it",
+        LooseWhy::BehindClose =>
+            "No data frame follows a close frame (RFC 6455 section 5.5.1); that no control frame does either \
+             is ours",
+        LooseWhy::TooBig =>
+            "A message has at most 16777216 bytes (ours; RFC 6455 section 10.4 leaves it to each end)",
+    }
+}
+
+/// The rule of the standard that an end broke which needn't echo. It has no rule that an echo alone keeps.
+fn protocol_rule(tested: Role, why: FailWhy) -> &'static str
+    ensures { result.now ≡ protocol_rule tested why }
+{
+    match why {
+        FailWhy::NotFrames => match tested {
+            Role::Server =>
+                "A server sends whole frames by the rules of RFC 6455 section 5, unmasked (section 5.1), with \
+                 text in UTF-8 (section 8.1), and no data frame behind its close frame (section 5.5.1)",
+            Role::Client =>
+                "A client sends whole frames by the rules of RFC 6455 section 5, masked (section 5.1), with text \
+                 in UTF-8 (section 8.1)",
+        },
+        FailWhy::Early | FailWhy::Messages => fail_rule(tested, why),
+        FailWhy::Pongs =>
+            "An end that gets a ping sends a pong with its payload, unless it has already got a close frame \
+             (RFC 6455 section 5.5.2); one for the latest ping may stand for all (section 5.5.3)",
+        FailWhy::Close =>
+            "An end that gets a close frame, and sent none, sends one (RFC 6455 section 5.5.1)",
+        FailWhy::End => match tested {
+            Role::Server =>
+                "A server that has sent and got a close frame closes the connection at once (RFC 6455 section \
+                 5.5.1), and so does one that has to fail it (sections 5.1, 5.2, 7.1.7 and 8.1)",
+            Role::Client =>
+                "A client that has to fail the connection closes it (RFC 6455 sections 5.1, 5.2, 7.1.7 and 8.1) \
+                 or sends a close frame (section 7.1.7), which also answers one that it gets (section 5.5.1)",
+        },
     }
 }

@@ -50,6 +50,22 @@ pub enum LooseWhy {
     EchoShort = 5,
     /// The connection broke.
     BrokenEnd = 6,
+    /// The tested end closed by itself and blames a fault, and none was sent.
+    OwnFault = 7,
+    /// It closed by itself.
+    OwnClose = 8,
+    /// It ended the connection by itself, without a close.
+    OwnEnd = 9,
+    /// A fault was sent, and so that it needn't have been seen.
+    LateFault = 10,
+    /// A fault was sent for which the standard doesn't order an end to fail, and the connection went on.
+    Tolerated = 11,
+    /// A close was sent and none was got, and it may have been read too late.
+    NoClose = 12,
+    /// Pings, pongs or closes came behind the close.
+    BehindClose = 13,
+    /// A message that was got is above the limit, which the standard doesn't bound.
+    TooBig = 14,
 }
 
 impl fmt::Display for Verdict {
@@ -90,6 +106,14 @@ impl fmt::Display for LooseWhy {
             LooseWhy::LateEnd => write!(f, "LateEnd"),
             LooseWhy::EchoShort => write!(f, "EchoShort"),
             LooseWhy::BrokenEnd => write!(f, "BrokenEnd"),
+            LooseWhy::OwnFault => write!(f, "OwnFault"),
+            LooseWhy::OwnClose => write!(f, "OwnClose"),
+            LooseWhy::OwnEnd => write!(f, "OwnEnd"),
+            LooseWhy::LateFault => write!(f, "LateFault"),
+            LooseWhy::Tolerated => write!(f, "Tolerated"),
+            LooseWhy::NoClose => write!(f, "NoClose"),
+            LooseWhy::BehindClose => write!(f, "BehindClose"),
+            LooseWhy::TooBig => write!(f, "TooBig"),
         }
     }
 }

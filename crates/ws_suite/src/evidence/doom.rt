@@ -19,7 +19,7 @@ use ws_wire::Role;
 /// Whether what was sent is doomed.
 #[derive(Clone, Copy)]
 pub(crate) struct Dooms {
-    /// At the end of the turn in which a close was got.
+    /// At the end of the turn in which a close was got, or a fault, which may count as a close.
     pub at_close: bool,
     /// At the end of the connection.
     pub at_end: bool,
@@ -35,15 +35,15 @@ pub(super) fn is_doomed(taken: &Taken<AllReplies>) -> bool
     taken.session.is_doomed()
 }
 
-/// Whether what the tested end has taken is doomed when the turn is over in which a close was got: it is asked where
-/// this is the turn, and else as it was known.
-pub(super) fn doom_at_close(closes: bool, known: bool, taken: &Taken<AllReplies>) -> bool
-    ensures asked { closes ≡ true → (role : Role) (turns : List (List ℕ)) →
+/// Whether what the tested end has taken is doomed when the turn is over in which a close or a fault was got: it is
+/// asked where this is the turn, and else as it was known.
+pub(super) fn doom_at_close(ends: bool, known: bool, taken: &Taken<AllReplies>) -> bool
+    ensures asked { ends ≡ true → (role : Role) (turns : List (List ℕ)) →
         HasTakenTurns AreAll due_for role turns taken.now.session taken.now.collected →
         IsTrue result ↔ AreDoomed role (concat turns) }
-    ensures kept { closes ≡ false → result ≡ known }
+    ensures kept { ends ≡ false → result ≡ known }
 {
-    if closes { is_doomed(taken) } else { known }
+    if ends { is_doomed(taken) } else { known }
 }
 
 /// The evidence, with what was doomed counted.

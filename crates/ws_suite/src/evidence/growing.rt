@@ -8,6 +8,7 @@ ghost use Rattle.ws_session.specs.Exchange.{is_over};
 ghost use Rattle.ws_suite.specs.Evidence.{other_role};
 ghost use Rattle.ws_suite.specs.Growing.{AreTurnsAnswered, EndInsideFrame, HasGrown, IsTallyOf};
 ghost use Rattle.ws_suite.specs.Growing.{is_clean, is_failed, new_turn, turn_with_got, turn_with_sent};
+ghost use Rattle.ws_suite.specs.Waiting.{AreTurnsAnsweredBy, AreTurnsSeenAnswered};
 
 use crate::evidence::collecting::{Rooms, Taken, Way, nothing_taken, take_piece};
 use crate::evidence::keeping::{KeepsReplies, ReplyTally};
@@ -15,6 +16,7 @@ use crate::lemmas::session_laws;
 use std::alloc::Global;
 use std::marker::Model;
 use ws_base::NoMemory;
+use ws_scripts::Expectation;
 use ws_session::Status;
 use ws_wire::Role;
 
@@ -132,6 +134,24 @@ impl GrowingEvidence<ReplyTally> {
             .collected
             .replies
             .answers(&self.sent.collected.replies)
+    }
+
+    /// Whether what a turn is waited for has come, by what is expected of the tested end: of an echo as `is_answered`
+    /// tells it; by the protocol, under which no message is owed, that the last pong that was got answers the last ping
+    /// that was sent, if there is one. It takes the same time whatever went over the connection. A tested end may send
+    /// pongs of its own. One that came behind the pong that is waited for hides it: the answer is `false` though the
+    /// ping is answered, and who waits goes on to its time limit.
+    pub fn is_answered_by(&self, expected: Expectation) -> bool
+        ensures seen { (tested : Role) (turns : List Turn) → HasGrown IsTallyOf tested turns self.now →
+            IsTrue result ↔ AreTurnsSeenAnswered expected tested turns }
+        ensures answered { (tested : Role) (turns : List Turn) → HasGrown IsTallyOf tested turns self.now →
+            result ≡ true → AreTurnsAnsweredBy expected tested turns }
+    {
+        session_laws();
+        self.got
+            .collected
+            .replies
+            .answers_by(expected, &self.sent.collected.replies)
     }
 
     /// Whether what was got ends inside a frame: bytes came behind the last that said something.

@@ -6,11 +6,13 @@ ghost use Rattle.ws_suite.specs.declared.evidence.Reply.{Reply};
 ghost use Rattle.ws_suite.specs.Growing.{AnswersTally, IsAnsweredPong};
 ghost use Rattle.ws_suite.specs.Kept.{reply_in};
 ghost use Rattle.ws_suite.specs.InnerTally.{pong_of};
+ghost use Rattle.ws_suite.specs.Waiting.{AnswersTallyBy};
 
 use crate::evidence::{Kept, Replies, ReplyKind};
 use std::alloc::Global;
 use std::marker::Model;
 use ws_base::NoMemory;
+use ws_scripts::Expectation;
 use ws_text::{ControlBytes, MAX_CONTROL_PAYLOAD};
 
 /// Keeps the replies of a direction, which are told one after the other, or as much of them as will be asked about.
@@ -93,6 +95,16 @@ impl ReplyTally {
         ensures { IsTrue result ↔ AnswersTally due.now self.now }
     {
         self.messages >= due.messages && self.last_pong.answers(&due.last_pong)
+    }
+
+    /// Whether these replies are what is waited for: what an echo owes, or by the protocol the last due pong alone.
+    pub(crate) fn answers_by(&self, expected: Expectation, due: &ReplyTally) -> bool
+        ensures { IsTrue result ↔ AnswersTallyBy expected due.now self.now }
+    {
+        match expected {
+            Expectation::Echo => self.answers(due),
+            Expectation::Protocol => self.last_pong.answers(&due.last_pong),
+        }
     }
 }
 

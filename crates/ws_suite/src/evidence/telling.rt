@@ -12,7 +12,7 @@ use crate::evidence::collecting::{Collected, Rooms, Taken, Way, nothing_taken, t
 use crate::evidence::doom::{Dooms, doom_at_close, is_doomed};
 use crate::evidence::growing::other;
 use crate::evidence::keeping::AllReplies;
-use crate::evidence::{Direction, Evidence, ends_with_close, is_close_in_turn};
+use crate::evidence::{Direction, Evidence, ends_in_turn, ends_with_close};
 use crate::lemmas::session_laws;
 use std::alloc::Global;
 use ws_base::NoMemory;
@@ -90,8 +90,8 @@ fn shown_by(
         )?;
         take_piece(way, number, bytes_of(way, turn), &mut rooms, &mut got)?;
         beyond = first_beyond(beyond, number, goes_on(&got.collected));
-        let closes = is_close_in_turn(&got.collected.ending, number);
-        at_close = doom_at_close(closes, at_close, &sent);
+        let ends = ends_in_turn(&got.collected.ending, number);
+        at_close = doom_at_close(ends, at_close, &sent);
     }
     let at_end = is_doomed(&sent);
     Ok(Shown {

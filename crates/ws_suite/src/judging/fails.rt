@@ -59,7 +59,7 @@ fn is_early(x: &Evidence, found: Findings) -> bool
 }
 
 /// Whether a close was got before the close or the fault was sent.
-fn is_early_close(got: &Option<InTurn<Ending>>, due: &Option<InTurn<Ending>>) -> bool
+pub(super) fn is_early_close(got: &Option<InTurn<Ending>>, due: &Option<InTurn<Ending>>) -> bool
     ensures { IsTrue result ↔ IsEarlyClose got.now due.now }
 {
     match (got, due) {

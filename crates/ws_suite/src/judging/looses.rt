@@ -46,7 +46,7 @@ fn skips_pongs(x: &Evidence, found: Findings) -> bool
 }
 
 /// Whether a close was got with another code than is due or right.
-fn has_other_code(x: &Evidence) -> bool
+pub(super) fn has_other_code(x: &Evidence) -> bool
     ensures { IsTrue result ↔ HasOtherCode (without_pings x.now) }
 {
     match (&x.got.ending, &x.due.ending) {
@@ -72,7 +72,7 @@ fn is_code_for(ending: &Ending, code: Option<u16>) -> bool
 
 /// Whether the close or the fault that was sent stands in a turn before the last. Of a client that answered it by a
 /// close in its turn no more is asked.
-fn ends_late(tested: Role, x: &Evidence) -> bool
+pub(super) fn ends_late(tested: Role, x: &Evidence) -> bool
     ensures { IsTrue result ↔ EndsLate tested (without_pings x.now) }
 {
     match &x.due.ending {

@@ -57,7 +57,7 @@ loop-number-preserved c =
     let tells : c.goes_on.result ≡ (ends_with_close got.shown.ending && got.shown.has_rest) = c.goes_on.ensures
     ∙ ap₂ (λ (o : Option (InTurn Ending)) (b : Bool). ends_with_close o && b) got.ending got.has_rest in
     let all = map (way_bytes way) turns in
-    let closes = c.is_close_in_turn-closes in
+    let ends = c.ends_in_turn-ends in
     let asked = c.doom_at_close-at_close in
     record {
       sent = sent;
@@ -67,8 +67,8 @@ loop-number-preserved c =
           (beyond_step c.session_laws.ensures tester (found_by way) all i got.shown got.is_shown loop.beyond
           c.goes_on.result tells old.beyond);
       known = known_step c.session_laws.ensures way tester turns i turn loop.got.session new.session
-          loop.got.collected new.collected less is old.got got tested (sent_turns turns) closes.result loop.at_close
-          asked.result closes.ensures
+          loop.got.collected new.collected less is old.got got tested (sent_turns turns) ends.result loop.at_close
+          asked.result ends.ensures
           (λ yes. asked.ensures.asked yes tested (take (i + 1) (sent_turns turns)) sent) asked.ensures.kept old.known;
     }
 

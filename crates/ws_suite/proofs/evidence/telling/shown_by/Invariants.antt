@@ -1,5 +1,5 @@
 -- Turn after turn: the turns so far were taken both ways; it is known in which of them bytes first follow a close, and
--- whether what was sent was doomed when a close was got.
+-- whether what was sent was doomed when a close or a fault was got.
 use Rattle.std.proofs.Common.{map, take}
 use Rattle.ws_suite.specs.declared.evidence.collecting.Way.TheVariants.{Sent}
 use Rattle.ws_suite.specs.Evidence.{other_role, sent_turns}

@@ -1,0 +1,8 @@
+-- Turn after turn: what is left of the place, with the bytes of the turns so far.
+use Rattle.std.proofs.Common.{◌≡◌, ◌+◌, length}
+use Rattle.ws_scripts.specs.declared.transcript.Turn.{Turn}
+use Rattle.ws_suite.proofs.TurnBytes.{bytes_before}
+use Rattle.ws_suite.proofs.evidence.marks.got_turn.Given as goal
+
+abbrev pub invariant-loop-number : goal.invariant-loop-number
+invariant-loop-number l = l.left + length (bytes_before (λ (turn : Turn). turn.got) l.turns l.number) ≡ l.place

@@ -1,0 +1,131 @@
+//! The pongs that RFC 6455 asks of any end (sections 5.5.2 and 5.5.3): for the pings that it was sent in an earlier
+//! turn than what ends the connection, at the latest for the last of them.
+
+ghost use Rattle.std.specs.Prelude.{◌≡◌, ◌&&◌, nat_le, IfOk, List};
+ghost use Rattle.std.specs.List.{list_any};
+ghost use Rattle.ws_suite.specs.declared.evidence.InTurn.{InTurn};
+ghost use Rattle.ws_suite.specs.declared.evidence.Reply.{Reply};
+ghost use Rattle.ws_suite.specs.InnerJudging.{without_pings};
+ghost use Rattle.ws_suite.specs.InnerMarks.{AreLastTurns, AreOwedFindings, latest};
+ghost use Rattle.ws_suite.specs.Kept.{reply_in};
+ghost use Rattle.ws_suite.specs.Matching.{has_payload_of};
+ghost use Rattle.ws_suite.specs.Protocol.{close_of, is_before_end, is_owed, owed_pongs};
+
+use crate::evidence::{Ending, Evidence, InTurn, Kept, Replies, is_close_ending};
+use crate::judging::chosen::{Chosen, Wanted};
+use crate::judging::in_step::either;
+use std::alloc::Global;
+use std::collections::BTreeMap;
+use ws_base::NoMemory;
+
+/// What comes of the pings that had to be answered.
+#[derive(Clone, Copy)]
+pub(super) struct OwedPongs {
+    /// There is a last one, and neither it nor a later ping is answered.
+    pub lacks_last: bool,
+    /// One before the last isn't answered.
+    pub skips_one: bool,
+}
+
+/// The last turn in which a pong of each payload was got.
+type LastTurns<'a> = BTreeMap<&'a [u8], usize>;
+
+/// Which pings had to be answered, and whether they were. Each is looked up once.
+pub(super) fn owed_pongs(alloc: Global, x: &Evidence) -> Result<OwedPongs, NoMemory>
+    ensures { IfOk result (λ found. AreOwedFindings (without_pings x.now) found) }
+{
+    let turns = last_turns(alloc, Chosen::among(&x.got.replies, Wanted::Pongs))?;
+    let mut pings = Chosen::among(&x.due.replies, Wanted::Pongs);
+    let mut lacks_last = false;
+    let mut skips_one = false;
+    let mut later_is_answered = false;
+    while let Some(ping) = pings.next() {
+        let is_answered = is_answered(&ping, &turns);
+        if is_owed(x, ping.turn) {
+            skips_one = either(skips_one, lacks_last);
+            lacks_last = !is_answered;
+        } else {
+            later_is_answered = either(later_is_answered, is_answered);
+        }
+    }
+    Ok(OwedPongs {
+        lacks_last: lacks_last && !later_is_answered,
+        skips_one,
+    })
+}
+
+/// The pongs for the pings that had to be answered.
+pub(crate) fn owed_among(alloc: Global, x: &Evidence) -> Result<Replies, NoMemory>
+    ensures { IfOk result (λ owed. owed ≡ owed_pongs x.now) }
+{
+    let mut pings = Chosen::among(&x.due.replies, Wanted::Pongs);
+    let mut owed = Replies::new(alloc);
+    while let Some(ping) = pings.next() {
+        if is_owed(x, ping.turn) {
+            owed.push(ping)?;
+        }
+    }
+    Ok(owed)
+}
+
+/// The last turns of the pongs.
+fn last_turns<'a>(alloc: Global, pongs: Chosen<'a>) -> Result<LastTurns<'a>, NoMemory>
+    ensures { IfOk result (λ turns. AreLastTurns pongs.entry turns) }
+{
+    let mut left = pongs;
+    let mut turns = BTreeMap::new(alloc);
+    while let Some(pong) = left.next() {
+        let last = latest(pong.turn, turns.get(&pong.payload).copied());
+        turns.insert(pong.payload, last)?;
+    }
+    Ok(turns)
+}
+
+/// The later of two turns, where there is another one.
+fn latest(turn: usize, other: Option<usize>) -> usize
+    ensures { result ≡ latest turn other }
+{
+    match other {
+        Some(other) => turn.max(other),
+        None => turn,
+    }
+}
+
+/// Whether a pong with the payload of this ping was got in no earlier turn.
+fn is_answered<'a>(ping: &Kept<'a>, turns: &LastTurns<'a>) -> bool
+    ensures { (gots : List (InTurn Reply)) → AreLastTurns gots turns.now → result ≡
+        list_any (λ got. has_payload_of got (reply_in ping.now) && nat_le ping.now.turn got.turn) gots }
+{
+    match turns.get(&ping.payload) {
+        Some(last) => ping.turn <= *last,
+        None => false,
+    }
+}
+
+/// Whether a ping of this turn has to be answered: neither the close or the fault that was sent nor the close that was
+/// got is of this turn or an earlier one.
+fn is_owed(x: &Evidence, turn: usize) -> bool
+    ensures { (pong : InTurn Reply) → pong.turn ≡ turn → result ≡ is_owed x.now pong }
+{
+    is_before(turn, &x.due.ending) && is_before_close(turn, &x.got.ending)
+}
+
+/// Whether a turn is before the one of what ends a direction, if there is such.
+fn is_before(turn: usize, ending: &Option<InTurn<Ending>>) -> bool
+    ensures { (pong : InTurn Reply) → pong.turn ≡ turn → result ≡ is_before_end ending.now pong }
+{
+    match ending {
+        Some(ending) => turn < ending.turn,
+        None => true,
+    }
+}
+
+/// Whether a turn is before that of a close, if there is one.
+fn is_before_close(turn: usize, ending: &Option<InTurn<Ending>>) -> bool
+    ensures { (pong : InTurn Reply) → pong.turn ≡ turn → result ≡ is_before_end (close_of ending.now) pong }
+{
+    match ending {
+        Some(ending) => !is_close_ending(&ending.what) || turn < ending.turn,
+        None => true,
+    }
+}

@@ -1,0 +1,346 @@
+//! The verdict by RFC 6455 alone: what it orders of any end, whether it echoes or not. The Fails and the Looses are in
+//! their order.
+
+ghost use Rattle.std.specs.Prelude.{◌≡◌, ◌↔◌, IsTrue, IfOk, MatchOption};
+ghost use Rattle.ws_session.specs.Faults.{IsLowest};
+ghost use Rattle.ws_suite.specs.declared.evidence.Ending.TheVariants.{Closed};
+ghost use Rattle.ws_wire.specs.declared.role.Role.TheVariants.{Server};
+ghost use Rattle.ws_suite.specs.declared.verdict.FailWhy.{FailWhy};
+ghost use Rattle.ws_suite.specs.declared.verdict.LooseWhy.{LooseWhy};
+ghost use Rattle.ws_suite.specs.InnerJudging.{without_pings};
+ghost use Rattle.ws_suite.specs.InnerMarks.{AreOwedFindings, IsLaterLoose, IsOwnLoose};
+ghost use Rattle.ws_suite.specs.Protocol.{BlamesFault, BreaksFrames, FailsProtocol, HasOwnClose, HasSameCode, HasToEnd};
+ghost use Rattle.ws_suite.specs.Protocol.{HasUndefinedCode, IsLooseByProtocol, IsProtocolVerdictOn, IsStill};
+ghost use Rattle.ws_suite.specs.Protocol.{IsUndefinedClose, LacksClose, LeavesClose, LeavesPing, StaysOpen};
+ghost use Rattle.ws_suite.specs.Protocol.{WaitsForEnd, is_tolerable, is_tolerable_reason, is_too_big};
+ghost use Rattle.ws_suite.specs.Verdicts.{fail_number, loose_number};
+
+use crate::evidence::{
+    Ending, Evidence, InTurn, MarkedEvidence, Marks, ends_with_close, ends_with_fault,
+    is_undefined_code,
+};
+use crate::judging::fails::is_early_close;
+use crate::judging::looses::{ends_late, has_other_code};
+use crate::judging::owed::{OwedPongs, owed_pongs};
+use crate::verdict::{FailWhy, LooseWhy, Verdict};
+use std::alloc::Global;
+use ws_base::NoMemory;
+use ws_scripts::Ended;
+use ws_session::Reason;
+use ws_wire::Role;
+
+/// The verdict on the evidence by the protocol.
+pub(crate) fn verdict_by_protocol(
+    alloc: Global,
+    tested: Role,
+    marked: &MarkedEvidence,
+) -> Result<Verdict, NoMemory>
+    ensures { IfOk result (λ verdict.
+        IsProtocolVerdictOn tested (without_pings marked.now.evidence) marked.now.marks verdict) }
+{
+    let x = &marked.evidence;
+    let pongs = owed_pongs(alloc, x)?;
+    if let Some(why) = first_fail(tested, x, marked.marks, pongs) {
+        return Ok(Verdict::Fail(why));
+    }
+    match first_loose(tested, x, marked.marks, pongs) {
+        Some(why) => Ok(Verdict::Loose(why)),
+        None => Ok(Verdict::Pass),
+    }
+}
+
+// ---- words
+
+/// Whether the close that was got is the tested end's own: it came in an earlier turn than the close or the fault that
+/// was sent, or neither was sent.
+fn has_own_close(x: &Evidence) -> bool
+    ensures { IsTrue result ↔ HasOwnClose (without_pings x.now) }
+{
+    if x.due.ending.is_none() {
+        return ends_with_close(&x.got.ending);
+    }
+    is_early_close(&x.got.ending, &x.due.ending) && !x.answers_doom
+}
+
+/// Whether what was got holds a message above the limit, which the standard doesn't bound.
+fn is_too_big(got: &Option<InTurn<Ending>>) -> bool
+    ensures { result ≡ is_too_big got.now }
+{
+    match got {
+        Some(got) => matches!(got.what, Ending::Failed(Reason::TooBig | Reason::FrameBig)),
+        None => false,
+    }
+}
+
+/// Whether the fault that was sent is one of those for which the standard doesn't order an end to fail.
+fn is_tolerable(due: &Option<InTurn<Ending>>) -> bool
+    ensures { result ≡ is_tolerable due.now }
+{
+    match due {
+        Some(due) => match due.what {
+            Ending::Failed(reason) => is_tolerable_reason(reason),
+            Ending::Closed(_) | Ending::Doomed => false,
+        },
+        None => false,
+    }
+}
+
+/// Whether the standard doesn't order the end that takes this fault to fail the connection.
+fn is_tolerable_reason(reason: Reason) -> bool
+    ensures { result ≡ is_tolerable_reason reason }
+{
+    match reason {
+        Reason::NotShortest
+        | Reason::BadLength
+        | Reason::ControlCut
+        | Reason::ControlLong
+        | Reason::NothingToContinue
+        | Reason::MessageOpen
+        | Reason::TooBig
+        | Reason::FrameBig => true,
+        Reason::ReservedBits
+        | Reason::Opcode
+        | Reason::MaskWrong
+        | Reason::NotText
+        | Reason::TextCut
+        | Reason::CloseOneByte
+        | Reason::CloseCode
+        | Reason::CloseReason => false,
+    }
+}
+
+/// Whether a close was got with the code, or the want of one, of the close that was sent.
+fn has_same_code(x: &Evidence) -> bool
+    ensures { IsTrue result ↔ HasSameCode (without_pings x.now) }
+{
+    match (&x.got.ending, &x.due.ending) {
+        (Some(got), Some(due)) => match got.what {
+            Ending::Closed(code) => is_close_of(&due.what, code),
+            Ending::Failed(_) | Ending::Doomed => false,
+        },
+        _ => false,
+    }
+}
+
+/// Whether it is a close of this code, or of none.
+fn is_close_of(ending: &Ending, code: Option<u16>) -> bool
+    ensures { IsTrue result ↔ (ending.now ≡ Closed code) }
+{
+    match ending {
+        Ending::Closed(sent) => *sent == code,
+        Ending::Failed(_) | Ending::Doomed => false,
+    }
+}
+
+/// Whether nothing keeps the tested end from being judged by what is missing: nothing that was got is too big, and no
+/// message of it is open.
+fn is_still(x: &Evidence, marks: Marks) -> bool
+    ensures { IsTrue result ↔ IsStill (without_pings x.now) marks }
+{
+    !is_too_big(&x.got.ending) && !marks.is_open
+}
+
+// ---- the Fails
+
+/// The lowest Fail that applies.
+fn first_fail(tested: Role, x: &Evidence, marks: Marks, pongs: OwedPongs) -> Option<FailWhy>
+    requires { AreOwedFindings (without_pings x.now) pongs }
+    ensures { MatchOption result ((why : FailWhy) → FailsProtocol tested (without_pings x.now) marks why → ⊥)
+        (IsLowest FailWhy fail_number (FailsProtocol tested (without_pings x.now) marks)) }
+{
+    if breaks_frames(tested, x, marks) {
+        return Some(FailWhy::NotFrames);
+    }
+    if leaves_ping(x, marks, pongs) {
+        return Some(FailWhy::Pongs);
+    }
+    if leaves_close(x, marks) {
+        return Some(FailWhy::Close);
+    }
+    if stays_open(tested, x, marks) {
+        return Some(FailWhy::End);
+    }
+    None
+}
+
+/// Whether what was got breaks a rule of frames.
+fn breaks_frames(tested: Role, x: &Evidence, marks: Marks) -> bool
+    ensures { IsTrue result ↔ BreaksFrames tested (without_pings x.now) marks }
+{
+    if ends_with_fault(&x.got.ending) {
+        return !is_too_big(&x.got.ending);
+    }
+    if ends_with_close(&x.got.ending) {
+        return tested == Role::Server && x.got.has_rest && !marks.has_controls;
+    }
+    x.got.has_rest && x.ended == Ended::Peer && !ends_with_fault(&x.due.ending)
+}
+
+/// Whether the last ping that had to be answered wasn't.
+fn leaves_ping(x: &Evidence, marks: Marks, pongs: OwedPongs) -> bool
+    requires { AreOwedFindings (without_pings x.now) pongs }
+    ensures { IsTrue result ↔ LeavesPing (without_pings x.now) marks }
+{
+    if !pongs.lacks_last || ends_with_fault(&x.due.ending) || is_too_big(&x.got.ending) {
+        return false;
+    }
+    if ends_with_close(&x.got.ending) {
+        return has_same_code(x) && !has_own_close(x);
+    }
+    x.ended == Ended::Tester && !marks.ends_in_data
+}
+
+/// Whether a close had to be answered and wasn't.
+fn leaves_close(x: &Evidence, marks: Marks) -> bool
+    ensures { IsTrue result ↔ LeavesClose (without_pings x.now) marks }
+{
+    if !lacks_close(x) || !is_still(x, marks) {
+        return false;
+    }
+    match x.ended {
+        Ended::Tester => true,
+        Ended::Peer => !marks.sends_data,
+        Ended::Broken => false,
+    }
+}
+
+/// Whether a close was sent and none was got.
+fn lacks_close(x: &Evidence) -> bool
+    ensures { IsTrue result ↔ LacksClose (without_pings x.now) }
+{
+    ends_with_close(&x.due.ending) && !ends_with_close(&x.got.ending)
+}
+
+/// Whether the tested end had to end the connection and didn't.
+fn stays_open(tested: Role, x: &Evidence, marks: Marks) -> bool
+    ensures { IsTrue result ↔ StaysOpen tested (without_pings x.now) marks }
+{
+    if x.ended != Ended::Tester || !must_end(x, marks) || !is_still(x, marks) {
+        return false;
+    }
+    match tested {
+        Role::Server => !waits_for_end(x),
+        Role::Client => !ends_with_close(&x.got.ending),
+    }
+}
+
+/// Whether a server waits for an answer to its own close; or its close has a code that the standard leaves undefined,
+/// at which a tester over a connection ends it at once.
+fn waits_for_end(x: &Evidence) -> bool
+    ensures { IsTrue result ↔ WaitsForEnd Server (without_pings x.now) }
+{
+    let waits = has_own_close(x) && !ends_with_close(&x.due.ending);
+    waits || is_undefined_close(&x.got.ending)
+}
+
+/// Whether what was got ends with a close whose code the standard leaves undefined.
+fn is_undefined_close(ending: &Option<InTurn<Ending>>) -> bool
+    ensures { IsTrue result ↔ IsUndefinedClose ending.now }
+{
+    match ending {
+        Some(ending) => has_undefined_code(&ending.what),
+        None => false,
+    }
+}
+
+/// Whether it is a close with such a code.
+fn has_undefined_code(ending: &Ending) -> bool
+    ensures { IsTrue result ↔ HasUndefinedCode ending.now }
+{
+    match ending {
+        Ending::Closed(code) => match code {
+            Some(code) => is_undefined_code(*code),
+            None => false,
+        },
+        Ending::Failed(_) => false,
+        Ending::Doomed => false,
+    }
+}
+
+/// Whether a close was sent, or a fault for which the standard orders the end to fail the connection.
+fn must_end(x: &Evidence, marks: Marks) -> bool
+    ensures { IsTrue result ↔ HasToEnd (without_pings x.now) marks }
+{
+    if ends_with_fault(&x.due.ending) {
+        return !marks.is_late && !is_tolerable(&x.due.ending);
+    }
+    ends_with_close(&x.due.ending)
+}
+
+// ---- the Looses
+
+/// The lowest Loose that applies.
+fn first_loose(tested: Role, x: &Evidence, marks: Marks, pongs: OwedPongs) -> Option<LooseWhy>
+    requires { AreOwedFindings (without_pings x.now) pongs }
+    ensures { MatchOption result ((why : LooseWhy) → IsLooseByProtocol tested (without_pings x.now) marks why → ⊥)
+        (IsLowest LooseWhy loose_number (IsLooseByProtocol tested (without_pings x.now) marks)) }
+{
+    if pongs.skips_one || pongs.lacks_last {
+        return Some(LooseWhy::PongsSkipped);
+    }
+    if has_other_code(x) && !has_own_close(x) {
+        return Some(LooseWhy::OtherCode);
+    }
+    if ends_late(tested, x) && !has_own_close(x) {
+        return Some(LooseWhy::LateEnd);
+    }
+    if x.ended == Ended::Broken {
+        return Some(LooseWhy::BrokenEnd);
+    }
+    if has_own_close(x) {
+        return Some(own_close(x));
+    }
+    loose_end(tested, x, marks)
+}
+
+/// What is told of an own close: whether it blames a fault where none was sent.
+fn own_close(x: &Evidence) -> LooseWhy
+    requires { HasOwnClose (without_pings x.now) }
+    ensures { IsOwnLoose (without_pings x.now) result }
+{
+    if blames_fault(x) && !ends_with_fault(&x.due.ending) {
+        LooseWhy::OwnFault
+    } else {
+        LooseWhy::OwnClose
+    }
+}
+
+/// Whether the close that was got blames a broken rule.
+fn blames_fault(x: &Evidence) -> bool
+    ensures { IsTrue result ↔ BlamesFault (without_pings x.now) }
+{
+    match &x.got.ending {
+        Some(got) => match got.what {
+            Ending::Closed(code) => code == Some(1002) || code == Some(1007),
+            Ending::Failed(_) | Ending::Doomed => false,
+        },
+        None => false,
+    }
+}
+
+/// The lowest of the Looses that stand behind those of an own close.
+fn loose_end(tested: Role, x: &Evidence, marks: Marks) -> Option<LooseWhy>
+    ensures { MatchOption result ((why : LooseWhy) → IsLaterLoose tested (without_pings x.now) marks why → ⊥)
+        (IsLowest LooseWhy loose_number (IsLaterLoose tested (without_pings x.now) marks)) }
+{
+    let is_closed = ends_with_close(&x.got.ending);
+    if x.due.ending.is_none() && !is_closed && x.ended == Ended::Peer {
+        return Some(LooseWhy::OwnEnd);
+    }
+    if marks.is_late && !is_closed && x.ended == Ended::Tester {
+        return Some(LooseWhy::LateFault);
+    }
+    if is_tolerable(&x.due.ending) && x.ended == Ended::Tester {
+        return Some(LooseWhy::Tolerated);
+    }
+    if lacks_close(x) {
+        return Some(LooseWhy::NoClose);
+    }
+    if tested == Role::Server && is_closed && x.got.has_rest && marks.has_controls {
+        return Some(LooseWhy::BehindClose);
+    }
+    if is_too_big(&x.got.ending) {
+        return Some(LooseWhy::TooBig);
+    }
+    None
+}
