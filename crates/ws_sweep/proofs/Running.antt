@@ -8,6 +8,8 @@ use Rattle.std.specs.List.{AllByRecursion, list_all}
 use Rattle.ws_wire.proofs.Splits.{all-append}
 use Rattle.ws_wire.specs.declared.role.Role.{Role}
 use Rattle.ws_wire.specs.declared.role.Role.TheVariants.{Client, Server}
+use Rattle.ws_scripts.specs.declared.expectation.Expectation.{Expectation}
+use Rattle.ws_scripts.specs.declared.expectation.Expectation.TheVariants.{Echo, Protocol}
 use Rattle.ws_scripts.specs.declared.script.Case.{Case}
 use Rattle.ws_scripts.specs.declared.script.Chop.{Chop}
 use Rattle.ws_scripts.specs.declared.script.Chop.TheVariants.{Octets, Whole}
@@ -16,7 +18,7 @@ use Rattle.ws_scripts.specs.declared.script.Step.TheVariants.{Frame, Raw, Wait}
 use Rattle.ws_scripts.specs.Scripts.{CanBeRun, CutsOff, FitHeaders, FitsAHeader}
 use Rattle.ws_sweep.specs.Alphabet.{AlphabetStep, alphabet, no_step, step_at}
 use Rattle.ws_sweep.specs.Order.{ArePlaces}
-use Rattle.ws_sweep.specs.ShortCases.{close_step, short_steps}
+use Rattle.ws_sweep.specs.ShortCases.{close_step, end_steps, short_steps}
 
 -- ---- by a look at each
 
@@ -81,12 +83,16 @@ pub steps_fit : (tested : Role) (places : List ℕ) → ArePlaces places → Fit
 steps_fit tested [] are = tt
 steps_fit tested (place ∷ places) are = (step_fits_at tested place are.0, steps_fit tested places are.1)
 
-pub closed_steps_fit : (tested : Role) (places : List ℕ) → ArePlaces places
-    → FitHeaders (short_steps tested places ++ close_step ∷ [])
+ends_fit : (expected : Expectation) → FitHeaders (end_steps expected)
 unfolding step_fits
-closed_steps_fit tested places are =
-    all-append FitsAHeader (short_steps tested places) (close_step ∷ []) (steps_fit tested places are)
-    (fits_by close_step refl, tt)
+ends_fit Echo = (fits_by close_step refl, tt)
+ends_fit Protocol = (fits_by Wait refl, (fits_by close_step refl, tt))
+
+pub closed_steps_fit : (tested : Role) (expected : Expectation) (places : List ℕ) → ArePlaces places
+    → FitHeaders (short_steps tested places ++ end_steps expected)
+closed_steps_fit tested expected places are =
+    all-append FitsAHeader (short_steps tested places) (end_steps expected) (steps_fit tested places are)
+    (ends_fit expected)
 
 fit_both : (first : List Step) (last : Step) → FitHeaders (first ++ last ∷ []) → FitHeaders first × FitsAHeader last
 fit_both [] last fit = (tt, fit.0)

@@ -6,9 +6,12 @@ use Rattle.ws_session.specs.declared.event.Event.TheVariants as event
 use Rattle.ws_session.specs.Events.{HasEvents}
 use Rattle.ws_session.specs.Exchange.{last_event}
 use Rattle.ws_session.specs.Sends.{most_limits}
+use Rattle.ws_scripts.specs.declared.expectation.Expectation.{Expectation}
+use Rattle.ws_scripts.specs.declared.expectation.Expectation.TheVariants.{Echo, Protocol}
 use Rattle.ws_scripts.specs.declared.script.Case.{Case}
 use Rattle.ws_scripts.specs.declared.script.Chop.TheVariants.{Whole}
 use Rattle.ws_scripts.specs.declared.script.Step.{Step}
+use Rattle.ws_scripts.specs.declared.script.Step.TheVariants.{Wait}
 use Rattle.ws_scripts.specs.Scripts.{turn_bytes, turns_of}
 use Rattle.ws_sweep.specs.Alphabet.{step_at, whole}
 
@@ -45,21 +48,29 @@ short_steps tested places = map (λ place. (step_at tested place).step) places
 abbrev pub close_step : Step
 close_step = whole 8 (0x03 ∷ 0xe8 ∷ [])
 
--- the steps alone, where what they send holds a close or a fault; else with a close behind them
-abbrev pub AreCaseSteps : Role → Option (List ℕ) → List ℕ → List Step → Type 0
-AreCaseSteps tested key places steps =
+-- what stands behind steps that send neither a close nor a fault: a close; and of an end that needn't echo a wait
+-- before that, since a ping in the turn of the close asks for no pong (section 5.5.2)
+abbrev pub end_steps : Expectation → List Step
+end_steps Echo = close_step ∷ []
+end_steps Protocol = Wait ∷ close_step ∷ []
+
+-- the steps alone, where what they send holds a close or a fault; else with that behind them
+abbrev pub AreCaseSteps : Role → Expectation → Option (List ℕ) → List ℕ → List Step → Type 0
+AreCaseSteps tested expected key places steps =
     (HasEnd tested (bytes_sent (short_steps tested places) key) × (steps ≡ short_steps tested places))
     ⊎ ((¬ (HasEnd tested (bytes_sent (short_steps tested places) key)))
-    × (steps ≡ short_steps tested places ++ close_step ∷ []))
+    × (steps ≡ short_steps tested places ++ end_steps expected))
 
 -- the case of the script for a tested end of this role, under this key or none: its turns are sent whole
-pub record IsShortCase (tested : Role) (key : Option (List ℕ)) (places : List ℕ) (case : Case) : Type 0 where
-  pub steps : AreCaseSteps tested key places case.steps
+pub record IsShortCase (tested : Role) (expected : Expectation) (key : Option (List ℕ)) (places : List ℕ) (case : Case)
+    : Type 0 where
+  pub steps : AreCaseSteps tested expected key places case.steps
   pub whole : case.chop ≡ Whole
 
 -- ---- one case after the other
 
--- the role of the tested ends and the key for which cases are made
+-- the role of the tested ends, what is expected of them, and the key for which cases are made
 pub record CaseRules : Type 0 where
   pub tested : Role
+  pub expected : Expectation
   pub key : Option (List ℕ)

@@ -1,18 +1,18 @@
 //! The case of a short script.
 
-ghost use Rattle.std.specs.Prelude.{◌≡◌, ◌↔◌, ◌++◌, ◌∷◌, [], IfOk, IsTrue};
+ghost use Rattle.std.specs.Prelude.{◌≡◌, ◌↔◌, ◌++◌, IfOk, IsTrue};
 ghost use Rattle.ws_scripts.specs.declared.script.Chop.TheVariants.{Whole};
 ghost use Rattle.ws_scripts.specs.Scripts.{CanBeRun, FitHeaders};
 ghost use Rattle.ws_sweep.specs.InnerFronts.{IsSessionAfter};
 ghost use Rattle.ws_sweep.specs.Order.{ArePlaces};
-ghost use Rattle.ws_sweep.specs.ShortCases.{HasEnd, IsShortCase, bytes_sent, close_step, short_steps};
+ghost use Rattle.ws_sweep.specs.ShortCases.{HasEnd, IsShortCase, bytes_sent, end_steps, short_steps};
 
 use crate::alphabet::{Sends, letter_at, step_of};
 use crate::lemmas::event_laws;
 use crate::short_script::ShortScript;
 use std::alloc::Global;
 use ws_base::{NoMemory, Sequence};
-use ws_scripts::{Case, Chop, Step, bytes_with};
+use ws_scripts::{Case, Chop, Expectation, Step, bytes_with};
 use ws_session::{Limits, Session};
 use ws_wire::{NO_KEY, Role};
 
@@ -23,16 +23,17 @@ const NO_NAME: &str = "-";
 const CLOSE: Sends = Sends::Frame(true, 0, 8, b"\x03\xe8");
 
 /// The case of a script that tests an end of this role, its frames masked with `key`, or plain where there is none: its
-/// steps, and behind them, where what they send has neither a close nor a fault, a close with code 1000. `turns_with`
-/// takes it.
+/// steps, and behind them, where what they send has neither a close nor a fault, a close with code 1000. Of an end that
+/// needn't echo what is due is waited for before that close. `turns_with` takes it.
 pub fn short_case(
     alloc: Global,
     tested: Role,
+    expected: Expectation,
     key: Option<[u8; 4]>,
     script: &ShortScript,
 ) -> Result<Case, NoMemory>
     requires { ArePlaces script.now }
-    ensures is { IfOk result (λ case. IsShortCase tested key script.now case) }
+    ensures is { IfOk result (λ case. IsShortCase tested expected key script.now case) }
     ensures runs { IfOk result (λ case. CanBeRun case) }
 {
     let steps = steps_of(alloc, tested, script)?;
@@ -40,7 +41,7 @@ pub fn short_case(
     if has_end(alloc, tested, key, &case)? {
         return Ok(case);
     }
-    let closed = with_close(alloc, case)?;
+    let closed = with_close(alloc, expected, case)?;
     Ok(closed)
 }
 
@@ -74,13 +75,18 @@ pub(crate) fn whole_case(alloc: Global, steps: Vec<Step>) -> Result<Case, NoMemo
     })
 }
 
-/// The case with a close behind its steps.
-pub(crate) fn with_close(alloc: Global, case: Case) -> Result<Case, NoMemory>
-    ensures steps { IfOk result (λ closed. closed.steps ≡ case.steps ++ close_step ∷ []) }
+/// The case with a close behind its steps, and before it what is expected of the end asks for.
+pub(crate) fn with_close(alloc: Global, expected: Expectation, case: Case) -> Result<Case, NoMemory>
+    ensures steps { IfOk result (λ closed. closed.steps ≡ case.steps ++ end_steps expected) }
     ensures chop { IfOk result (λ closed. closed.chop ≡ case.chop) }
 {
     let Case { id, steps, chop } = case;
     let mut steps = steps.into_vec();
+    match expected {
+        Expectation::Echo => {}
+        // A ping in the turn of the close asks for no pong.
+        Expectation::Protocol => steps.push(Step::Wait)?,
+    }
     steps.push(step_of(alloc, CLOSE)?)?;
     Ok(Case {
         id,

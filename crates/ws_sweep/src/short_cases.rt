@@ -13,7 +13,7 @@ use crate::short_script::ShortScript;
 use std::alloc::Global;
 use std::marker::Model;
 use ws_base::{NoMemory, ShortBytes};
-use ws_scripts::{Case, Step, append_step};
+use ws_scripts::{Case, Expectation, Step, append_step};
 use ws_session::Session;
 use ws_wire::{NO_KEY, Role};
 
@@ -69,7 +69,8 @@ impl Front {
     }
 }
 
-/// Makes the case of a short script, and then of another, each that of `short_case` for one role and one key.
+/// Makes the case of a short script, and then of another, each that of `short_case` for one role, one expectation and
+/// one key.
 ///
 /// Most scripts share all steps but the last with the one before them in the order. A session takes what these send
 /// once; where that has a close or a fault, the script has it too, else a copy of the session takes what the last step
@@ -77,6 +78,7 @@ impl Front {
 #[derive(Drop)]
 pub struct ShortCases {
     tested: Role,
+    expected: Expectation,
     key: Option<[u8; 4]>,
     /// What was read last.
     front: Option<Front>,
@@ -88,19 +90,22 @@ impl Model for ShortCases {
 
     ghost Value = { CaseRules };
 
-    ghost view = { λ s. record { tested = s.tested; key = s.key } };
+    ghost view = { λ s. record { tested = s.tested; expected = s.expected; key = s.key } };
 
     ghost invariant = { λ s. IsFrontOf s.tested s.key s.front };
 }
 
 impl ShortCases {
-    /// For tested ends of this role, the frames masked with `key`, or plain where there is none.
-    pub fn new(tested: Role, key: Option<[u8; 4]>) -> ShortCases
+    /// For tested ends of this role, of which this is expected, the frames masked with `key`, or plain where there is
+    /// none.
+    pub fn new(tested: Role, expected: Expectation, key: Option<[u8; 4]>) -> ShortCases
         ensures tested { result.tested ≡ tested }
+        ensures expected { result.expected ≡ expected }
         ensures key { result.key ≡ key }
     {
         ShortCases {
             tested,
+            expected,
             key,
             front: None,
         }
@@ -109,9 +114,11 @@ impl ShortCases {
     /// The case of a script. After an error the next one is made as ever.
     pub fn case_of(&mut self, alloc: Global, script: &ShortScript) -> Result<Case, NoMemory>
         requires { ArePlaces script.now }
-        ensures is { IfOk result (λ case. IsShortCase self.old.tested self.old.key script.now case) }
+        ensures is { IfOk result (λ case.
+            IsShortCase self.old.tested self.old.expected self.old.key script.now case) }
         ensures runs { IfOk result (λ case. CanBeRun case) }
         ensures tested { self.new.tested ≡ self.old.tested }
+        ensures expected { self.new.expected ≡ self.old.expected }
         ensures key { self.new.key ≡ self.old.key }
     {
         script.law_few_steps();
@@ -122,7 +129,7 @@ impl ShortCases {
         if script_has_end(alloc, self.tested, self.key, &mut self.front, places, steps)? {
             return Ok(case);
         }
-        let closed = with_close(alloc, case)?;
+        let closed = with_close(alloc, self.expected, case)?;
         Ok(closed)
     }
 }
