@@ -6,9 +6,11 @@ use Rattle.std.specs.Io.{StartsWith}
 use Rattle.std.proofs.lemmas.Bool.{cases_lt}
 use Rattle.std.proofs.lemmas.List.{take_all, take-append-le, take-append-drop}
 use Rattle.std.proofs.Math.Seq.{take-append_seam, drop-append_seam}
+use Rattle.ws_session.specs.declared.event.Event.{Event}
 use Rattle.ws_session.specs.declared.event.PlacedEvent.{PlacedEvent}
 use Rattle.ws_wire.specs.declared.role.Role.{Role}
 use Rattle.ws_wire.specs.declared.role.Role.TheVariants.{Client, Server}
+use Rattle.ws_wire.specs.Frame.{Frame}
 use Rattle.ws_wire.specs.Header.{IsMaskingKey}
 use Rattle.ws_session.specs.Replies.{echo_reply_to, key_for}
 use Rattle.ws_session.specs.Exchange.{SessionValue, HasExchanged, is_over}
@@ -36,7 +38,7 @@ begun_by after before h = sym (take-append-drop (length before) after) ∙ ap (�
 pub begins_with : (after before more : List ℕ) → after ≡ before ++ more → StartsWith after before
 begins_with after before more e = ap (λ (l : List ℕ). take (length before) l) e ∙ take-append_seam before more
 
-the_rest : (after before more : List ℕ) → after ≡ before ++ more → more ≡ drop (length before) after
+pub the_rest : (after before more : List ℕ) → after ≡ before ++ more → more ≡ drop (length before) after
 the_rest after before more e = sym (ap (λ (l : List ℕ). drop (length before) l) e ∙ drop-append_seam before more)
 
 -- where a key masks, the key with which an end sends does
@@ -44,25 +46,25 @@ pub sending_key : (role : Role) (key : List ℕ) → IsMaskingKey (Some key) →
 sending_key Client key is = is
 sending_key Server key is = tt
 
--- ---- what an echo took
+-- ---- what a session took, whatever it replies
 
 -- a new session has taken something: nothing
 pub taken_nothing : (session : SessionValue) → HasExchanged session [] [] false → HasTakenSomething session
 taken_nothing session h = record { exchange = record { sent = []; taken = []; ended = false }; goes_on = refl; exchanged = h }
 
-at_some : (old new : SessionValue) (piece key before after : List ℕ) (told_before told_after : List PlacedEvent) → (h : HasTakenSomething old)
-    → (t : HasTakenAll echo_reply_to old new (call_of piece key before after) told_before told_after) → TakesAll echo_reply_to old new h.exchange (call_of piece key before after) t.told
+at_some : {reply : Event → List Frame} (old new : SessionValue) (piece key before after : List ℕ) (told_before told_after : List PlacedEvent) → (h : HasTakenSomething old)
+    → (t : HasTakenAll reply old new (call_of piece key before after) told_before told_after) → TakesAll reply old new h.exchange (call_of piece key before after) t.told
 at_some old new piece key before after told_before told_after h t = t.takes h.exchange h.goes_on h.exchanged
 
-pub taken_more : (old new : SessionValue) (piece key before after : List ℕ) (told_before told_after : List PlacedEvent) → HasTakenSomething old
-    → HasTakenAll echo_reply_to old new (call_of piece key before after) told_before told_after → HasTakenSomething new
+pub taken_more : {reply : Event → List Frame} (old new : SessionValue) (piece key before after : List ℕ) (told_before told_after : List PlacedEvent) → HasTakenSomething old
+    → HasTakenAll reply old new (call_of piece key before after) told_before told_after → HasTakenSomething new
 taken_more old new piece key before after told_before told_after h t =
     let s = at_some old new piece key before after told_before told_after h t in
     record { exchange = record { sent = _; taken = _; ended = h.exchange.ended }; goes_on = h.goes_on; exchanged = s.agrees }
 
 -- what is put is put after what was there
-pub put_after : (old new : SessionValue) (piece key before after : List ℕ) (told_before told_after : List PlacedEvent) → HasTakenSomething old
-    → HasTakenAll echo_reply_to old new (call_of piece key before after) told_before told_after → StartsWith after before
+pub put_after : {reply : Event → List Frame} (old new : SessionValue) (piece key before after : List ℕ) (told_before told_after : List PlacedEvent) → HasTakenSomething old
+    → HasTakenAll reply old new (call_of piece key before after) told_before told_after → StartsWith after before
 put_after old new piece key before after told_before told_after h t =
     let s = at_some old new piece key before after told_before told_after h t in
     begins_with after before _ s.put

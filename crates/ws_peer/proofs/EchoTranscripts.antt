@@ -28,22 +28,22 @@ use Rattle.ws_peer.proofs.EchoTalkLemmas.{last_more}
 
 -- ---- what was said in the first turns
 
-sent_so_far : (n : ℕ) (parts : List (List Entry)) → concat (take n (sent_turns (map turn_of parts))) ≡ fed_in (joined_talk (take n parts))
+pub sent_so_far : (n : ℕ) (parts : List (List Entry)) → concat (take n (sent_turns (map turn_of parts))) ≡ fed_in (joined_talk (take n parts))
 sent_so_far zero parts = refl
 sent_so_far (suc n) [] = refl
 sent_so_far (suc n) (part ∷ parts) = ap (λ (l : List ℕ). fed_in part ++ l) (sent_so_far n parts) ∙ sym (flat_map-append fed_by part (joined_talk (take n parts)))
 
-got_so_far : (n : ℕ) (parts : List (List Entry)) → concat (take n (got_turns (map turn_of parts))) ≡ appended_in (joined_talk (take n parts))
+pub got_so_far : (n : ℕ) (parts : List (List Entry)) → concat (take n (got_turns (map turn_of parts))) ≡ appended_in (joined_talk (take n parts))
 got_so_far zero parts = refl
 got_so_far (suc n) [] = refl
 got_so_far (suc n) (part ∷ parts) = ap (λ (l : List ℕ). appended_in part ++ l) (got_so_far n parts) ∙ sym (flat_map-append appended_by part (joined_talk (take n parts)))
 
-all_sent : (parts : List (List Entry)) → concat (sent_turns (map turn_of parts)) ≡ fed_in (joined_talk parts)
+pub all_sent : (parts : List (List Entry)) → concat (sent_turns (map turn_of parts)) ≡ fed_in (joined_talk parts)
 all_sent [] = refl
 all_sent (part ∷ parts) = ap (λ (l : List ℕ). fed_in part ++ l) (all_sent parts) ∙ sym (flat_map-append fed_by part (joined_talk parts))
 
 -- the calls of the first turns begin those of all
-talk_parts : (n : ℕ) (parts : List (List Entry)) → joined_talk parts ≡ joined_talk (take n parts) ++ joined_talk (drop n parts)
+pub talk_parts : (n : ℕ) (parts : List (List Entry)) → joined_talk parts ≡ joined_talk (take n parts) ++ joined_talk (drop n parts)
 talk_parts zero parts = refl
 talk_parts (suc n) [] = refl
 talk_parts (suc n) (part ∷ parts) =
@@ -80,7 +80,7 @@ still_goes laws end (first ∷ talk) h goes =
 
 -- ---- the transcript of turns
 
-abbrev recorded : List (List Entry) → HowEnded → Transcript
+abbrev pub recorded : List (List Entry) → HowEnded → Transcript
 recorded parts ended = record { turns = map turn_of parts; ended = ended }
 
 of_parts : EchoLaws → (end : PeerEnd) → IsMaskingKey (key_for end.role end.key) → (parts : List (List Entry)) (ended : HowEnded) → AreBytes (fed_in (joined_talk parts)) → (echoed : (n : ℕ) → HasEchoedTalk end (joined_talk (take n parts)))
@@ -105,7 +105,7 @@ same_transcript end transcript parts ended turns how is =
 
 -- ---- the tester ends it
 
-finish_nothing : (turns : List Turn) → with_finish turns [] ≡ turns
+pub finish_nothing : (turns : List Turn) → with_finish turns [] ≡ turns
 finish_nothing [] = refl
 finish_nothing (turn ∷ []) = ap (λ (l : List ℕ). record { sent = turn.sent; got = l } ∷ []) (append-nil turn.got)
 finish_nothing (turn ∷ next ∷ turns) = ap (λ (l : List Turn). turn ∷ l) (finish_nothing (next ∷ turns))
@@ -115,7 +115,7 @@ all_taken zero talk h = tt
 all_taken (suc n) [] h = tt
 all_taken (suc n) (entry ∷ talk) h = (h.0, all_taken n talk h.1)
 
-front_goes : (n : ℕ) (parts : List (List Entry)) → AllByRecursion PeerGoesOn (joined_talk parts) → AllByRecursion PeerGoesOn (joined_talk (take n parts))
+pub front_goes : (n : ℕ) (parts : List (List Entry)) → AllByRecursion PeerGoesOn (joined_talk parts) → AllByRecursion PeerGoesOn (joined_talk (take n parts))
 front_goes n parts h =
     let front = joined_talk (take n parts) in
     let later = joined_talk (drop n parts) in
@@ -144,7 +144,7 @@ some_calls [] some = absurd (omega arith)
 some_calls (entry ∷ part) some = omega arith
 
 -- where the last turn has a piece, the turns before it have fewer calls
-fewer_calls : (n : ℕ) (parts : List (List Entry)) (before : List (List (List ℕ))) (first : List (List ℕ)) → pieces_by_turn parts ≡ before ++ first ∷ [] → 0 < length first → n < length parts
+pub fewer_calls : (n : ℕ) (parts : List (List Entry)) (before : List (List (List ℕ))) (first : List (List ℕ)) → pieces_by_turn parts ≡ before ++ first ∷ [] → 0 < length first → n < length parts
     → length (joined_talk (take n parts)) < length (joined_talk parts)
 fewer_calls n [] before first e some less = absurd (omega (arith, less))
 fewer_calls n (part ∷ parts) [] first e some less =
@@ -162,7 +162,7 @@ fewer_calls (suc n) (part ∷ parts) (y ∷ before) first e some less =
     omega (arith, fewer_calls n parts before first tail some (omega (arith, less)), length-append part (joined_talk parts), length-append part (joined_talk (take n parts)))
 
 -- in the turns before the last one it went on
-goes_before : (n : ℕ) (parts : List (List Entry)) (before : List Entry) (last : Entry) → joined_talk parts ≡ before ++ last ∷ [] → length (joined_talk (take n parts)) < length (joined_talk parts) → AllByRecursion PeerGoesOn before
+pub goes_before : (n : ℕ) (parts : List (List Entry)) (before : List Entry) (last : Entry) → joined_talk parts ≡ before ++ last ∷ [] → length (joined_talk (take n parts)) < length (joined_talk parts) → AllByRecursion PeerGoesOn before
     → AllByRecursion PeerGoesOn (joined_talk (take n parts))
 goes_before n parts before last is less goes =
     let front = joined_talk (take n parts) in

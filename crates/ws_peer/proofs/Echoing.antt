@@ -37,7 +37,7 @@ put_more : (role : Role) (key : List ℕ) (fs gs : List Frame) → stream_bytes 
 put_more role key fs gs = ap (λ (l : List KeyedFrame). stream_bytes l) (map-append (under_key role key) fs gs) ∙ flat_map-append frame_bytes (map (under_key role key) fs) (map (under_key role key) gs)
 
 -- the same events at an equal role and equal limits
-at_equal : (r s : Role) (l m : LimitsValue) → r ≡ s → l ≡ m → (bytes : List ℕ) (events : List Event) → HasEvents r l bytes events → HasEvents s m bytes events
+pub at_equal : (r s : Role) (l m : LimitsValue) → r ≡ s → l ≡ m → (bytes : List ℕ) (events : List Event) → HasEvents r l bytes events → HasEvents s m bytes events
 at_equal r s l m e f bytes events has = subst (λ (k : LimitsValue). HasEvents s k bytes events) f (subst (λ (k : Role). HasEvents k l bytes events) e has)
 
 -- before the first piece

@@ -1,5 +1,5 @@
 -- The run of a script over an echo: RFC 6455 sections 5.4 to 5.6 and 7.1.
-use Rattle.std.specs.Prelude.{ℕ, List}
+use Rattle.std.specs.Prelude.{ℕ, List, []}
 use Rattle.ws_wire.specs.declared.role.Role.{Role}
 use Rattle.ws_session.specs.Replies.{key_for}
 use Rattle.ws_scripts.specs.Scripts.{AreTurns}
@@ -12,7 +12,7 @@ use Rattle.ws_peer.specs.Runs.{IsRunOf}
 
 -- the end that an echo of this role is, with this key
 abbrev pub echo_end : Role → List ℕ → PeerEnd
-echo_end role key = record { role = role; key = key }
+echo_end role key = record { role = role; key = key; plan = [] }
 
 -- The transcript of a script over a new echo of this role, where the client, be it the tester or the echo, masks with
 -- this key: it is that of a run of the script's pieces, in a talk of an echo.

@@ -1,5 +1,5 @@
 -- Talks of a tester with a peer: what the peer was fed, what it sent for that, and whether it went on.
-use Rattle.std.specs.Prelude.{◌≡◌, ℕ, List, [], ◌∷◌, ◌++◌}
+use Rattle.std.specs.Prelude.{◌≡◌, ℕ, Bool, List, [], ◌∷◌, ◌++◌}
 use Rattle.std.specs.List.{flat_map}
 use Rattle.ws_wire.specs.declared.role.Role.{Role}
 use Rattle.ws_peer.specs.declared.peer.Going.{Going}
@@ -29,10 +29,17 @@ appended_in talk = flat_map appended_by talk
 
 -- ---- calls
 
--- which end of the connection a peer is, and the key with which it masks what it sends where it is the client
+-- a step of a plan: how many of the bytes that it was fed a peer takes at most, and whether it may close by itself
+pub record PlannedStep : Type 0 where
+  pub takes : ℕ
+  pub closes : Bool
+
+-- which end of the connection a peer is, the key with which it masks what it sends where it is the client, and its
+-- plan: a step for each time that it is fed, and none where it takes all and sends nothing by itself
 pub record PeerEnd : Type 0 where
   pub role : Role
   pub key : List ℕ
+  pub plan : List PlannedStep
 
 -- one call of a peer: it appends some bytes, and each talk that the peer may have had as some end, followed by the
 -- entry of the call, is one that it may have had afterwards as the same end

@@ -2,6 +2,7 @@
 
 ghost use Rattle.std.specs.Prelude.{Some};
 ghost use Rattle.ws_wire.specs.Header.{IsMaskingKey};
+ghost use Rattle.ws_peer.specs.InnerAppLaws.{AppLaws};
 ghost use Rattle.ws_peer.specs.InnerEchoLaws.{EchoLaws};
 
 use ws_session::laws;
@@ -14,6 +15,19 @@ pub(crate) fn echo_laws()
     laws::events_go_on();
     laws::replies_go_on();
     laws::valid_frames_are_told();
+}
+
+/// The laws of the layer below on what an endpoint is told and what it replies.
+pub(crate) fn app_laws()
+    ensures { AppLaws }
+{
+    laws::every_stream_has_events();
+    laws::one_list_of_events();
+    laws::events_go_on();
+    laws::the_end_comes_last();
+    laws::valid_frames_are_told();
+    laws::replies_stay_valid();
+    laws::replies_can_be_sent();
 }
 
 /// A key is four bytes, as its type says.

@@ -7,6 +7,8 @@
 //! verdict Pass, and that of `drive`.
 #![tactic(auto)]
 
+mod app_peer;
+mod app_run;
 mod driving;
 mod echo_peer;
 mod echo_run;
@@ -16,6 +18,8 @@ mod peer;
 mod running;
 mod tung_peer;
 
+pub use app_peer::{AppPeer, AppStep};
+pub use app_run::run_over_app;
 pub use driving::{DriveEnd, drive};
 pub use echo_peer::EchoPeer;
 pub use echo_run::{run_over_echo, run_over_echo_as, tester_key};
