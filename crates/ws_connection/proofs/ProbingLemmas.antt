@@ -9,6 +9,7 @@ use Rattle.std.specs.Prelude.{None, Some, map}
 use Rattle.std.specs.List.{AllZip, concat}
 use Rattle.std.specs.Io.KnownBytes.{Appends, Consumes, IsAtEnd, Keeps}
 use Rattle.ws_session.specs.Exchange.{SessionValue, is_over}
+use Rattle.ws_scripts.specs.declared.expectation.Expectation.{Expectation}
 use Rattle.ws_scripts.specs.declared.script.Chop.{Chop}
 use Rattle.ws_scripts.specs.declared.script.Step.{Step}
 use Rattle.ws_scripts.specs.declared.transcript.Ended.{Ended}
@@ -18,7 +19,8 @@ use Rattle.ws_scripts.specs.declared.transcript.Transcript.{Transcript}
 use Rattle.ws_wire.specs.declared.role.Role.{Role}
 use Rattle.ws_wire.specs.declared.role.Role.TheVariants.{Client, Server}
 use Rattle.ws_suite.specs.Evidence.{other_role, sent_turns}
-use Rattle.ws_suite.specs.Growing.{AreTurnsAnswered, new_turn, turn_with_got}
+use Rattle.ws_suite.specs.Growing.{new_turn, turn_with_got}
+use Rattle.ws_suite.specs.Waiting.{AreTurnsAnsweredBy}
 use Rattle.ws_scripts.specs.Scripts.{ArePieces, turn_bytes}
 use Rattle.ws_peer.specs.Runs.{with_finish}
 use Rattle.ws_connection.specs.ConnectionValues.{InputValue, ConnectionRun, ConnectionValue, OutputValue}
@@ -497,9 +499,9 @@ pub waited_on : (x y z w : ConnectionValue) → (x.input.waited ≡ true → y.i
 waited_on x y z w before same is e = waited_either z.input.waited (waited_in_vain w.input.state) w.input.waited is (waited_through x y z before same e)
 
 -- no more is read before a read
-pub sees_before : (tested : Role) (waits : Bool) (stop : TurnStop) (standing : Standing) (turns : List Turn) (seen : RunValue) (x y z : ConnectionValue) → HasSeen tested turns seen → (x.input.waited ≡ true → y.input.waited ≡ true)
-    → StopsBefore tested (Some stop) waits standing (between y z) → (Some stop ≡ Some IsThere → (turns : List Turn) → HasSeen tested turns seen → AreTurnsAnswered tested turns) → SeesTurn tested stop turns seen (between x z)
-sees_before tested waits stop standing turns seen x y z h before s due = record {
+pub sees_before : (expected : Expectation) (tested : Role) (waits : Bool) (stop : TurnStop) (standing : Standing) (turns : List Turn) (seen : RunValue) (x y z : ConnectionValue) → HasSeen tested turns seen → (x.input.waited ≡ true → y.input.waited ≡ true)
+    → StopsBefore tested (Some stop) waits standing (between y z) → (Some stop ≡ Some IsThere → (turns : List Turn) → HasSeen tested turns seen → AreTurnsAnsweredBy expected tested turns) → SeesTurn expected tested stop turns seen (between x z)
+sees_before expected tested waits stop standing turns seen x y z h before s due = record {
   shown = h;
   due = λ e. due (ap (λ (t : TurnStop). Some t) e) turns h;
   waited_before = waited_through x y z before s.input;
@@ -507,9 +509,9 @@ sees_before tested waits stop standing turns seen x y z h before s due = record 
 }
 
 -- no more is read after a read that brought nothing
-pub sees_after : (tested : Role) (stop : TurnStop) (read_stop : Option TurnStop) (got next : List ℕ) (turns : List Turn) (seen after : RunValue) (x y z w : ConnectionValue) → read_stop ≡ Some stop → HasSeen tested turns after
-    → (x.input.waited ≡ true → y.input.waited ≡ true) → z.input ≡ y.input → ReadsPiece read_stop got next seen after (between z w) → SeesTurn tested stop turns after (between x w)
-sees_after tested stop read_stop got next turns seen after x y z w e h before same r = record {
+pub sees_after : (expected : Expectation) (tested : Role) (stop : TurnStop) (read_stop : Option TurnStop) (got next : List ℕ) (turns : List Turn) (seen after : RunValue) (x y z w : ConnectionValue) → read_stop ≡ Some stop → HasSeen tested turns after
+    → (x.input.waited ≡ true → y.input.waited ≡ true) → z.input ≡ y.input → ReadsPiece read_stop got next seen after (between z w) → SeesTurn expected tested stop turns after (between x w)
+sees_after expected tested stop read_stop got next turns seen after x y z w e h before same r = record {
   shown = h;
   due = λ there. absurd (subst (λ (t : TurnStop). IsReadStop (Some t) r.piece w) there stopped);
   waited_before = waited_on x y z w before same r.waited;
@@ -537,9 +539,9 @@ goes_on_by true ended more End e = absurd cc
 goes_on_by failed ended more Failed e = absurd cc
 goes_on_by failed ended more Budget e = absurd cc
 
-pub sees_run : (tested : Role) (failed ended more : Bool) (stop : TurnStop) (end : Option Ended) (past : List Turn) (sent got : List ℕ) (turn : Turn) (seen : RunValue) (x y z : ConnectionValue) → end ≡ end_of_turn failed ended more stop → turn.sent ≡ sent
-    → turn.got ≡ got → y.input ≡ x.input → SeesTurn tested stop (then_turn past sent got) seen (between y z) → SeesRun tested end (past ++ turn ∷ []) seen (between x z)
-sees_run tested failed ended more stop end past sent got turn seen x y z is s g same t = record {
+pub sees_run : (expected : Expectation) (tested : Role) (failed ended more : Bool) (stop : TurnStop) (end : Option Ended) (past : List Turn) (sent got : List ℕ) (turn : Turn) (seen : RunValue) (x y z : ConnectionValue) → end ≡ end_of_turn failed ended more stop → turn.sent ≡ sent
+    → turn.got ≡ got → y.input ≡ x.input → SeesTurn expected tested stop (then_turn past sent got) seen (between y z) → SeesRun expected tested end (past ++ turn ∷ []) seen (between x z)
+sees_run expected tested failed ended more stop end past sent got turn seen x y z is s g same t = record {
   shown = subst (λ (l : List Turn). HasSeen tested l seen) turns t.shown;
   follows = λ none. pick (goes_on_by failed ended more stop (sym is ∙ none));
   waited_before = λ e. t.waited_before (ap (λ (i : InputValue). i.waited) same ∙ e);
@@ -548,17 +550,17 @@ sees_run tested failed ended more stop end past sent got turn seen x y z is s g 
     turns : then_turn past sent got ≡ past ++ turn ∷ []
     turns = ap₂ (λ (a b : List ℕ). then_turn past a b) (sym s) (sym g)
 
-    pick : (stop ≡ IsThere) ⊎ (stop ≡ Waited) → AreTurnsAnswered tested (past ++ turn ∷ []) ⊎ (z.input.waited ≡ true)
-    pick (inl there) = inl (subst (λ (l : List Turn). AreTurnsAnswered tested l) turns (t.due there))
+    pick : (stop ≡ IsThere) ⊎ (stop ≡ Waited) → AreTurnsAnsweredBy expected tested (past ++ turn ∷ []) ⊎ (z.input.waited ≡ true)
+    pick (inl there) = inl (subst (λ (l : List Turn). AreTurnsAnsweredBy expected tested l) turns (t.due there))
     pick (inr waited) = inr (t.waited waited)
 
 -- in the last turn to a client that has nothing to end for all has come
-pub all_come : (tested : Role) (past : List Turn) (sent before got : List ℕ) (turn : Turn) (after_sent seen : RunValue) (stop : TurnStop) (y z : ConnectionValue) (over : Bool) → (tested ≡ Client) × (over ≡ false) → over ≡ is_over after_sent.tested.status
-    → HasSeen tested (then_turn past sent before) after_sent → SeesTurn tested stop (then_turn past sent got) seen (between y z) → IsWholeBy tested seen → stop ≡ IsThere → turn.sent ≡ sent → turn.got ≡ got → (tested ≡ Client) × HasAllCome tested (past ++ turn ∷ [])
-all_come tested past sent before got turn after_sent seen stop y z over (client, on) is shown sees whole there s g =
+pub all_come : (expected : Expectation) (tested : Role) (past : List Turn) (sent before got : List ℕ) (turn : Turn) (after_sent seen : RunValue) (stop : TurnStop) (y z : ConnectionValue) (over : Bool) → (tested ≡ Client) × (over ≡ false) → over ≡ is_over after_sent.tested.status
+    → HasSeen tested (then_turn past sent before) after_sent → SeesTurn expected tested stop (then_turn past sent got) seen (between y z) → IsWholeBy tested seen → stop ≡ IsThere → turn.sent ≡ sent → turn.got ≡ got → (tested ≡ Client) × HasAllCome expected tested (past ++ turn ∷ [])
+all_come expected tested past sent before got turn after_sent seen stop y z over (client, on) is shown sees whole there s g =
     let turns : then_turn past sent got ≡ past ++ turn ∷ [] = ap₂ (λ (a b : List ℕ). then_turn past a b) (sym s) (sym g) in
     let goes = subst (λ (l : List ℕ). Stands tested Going l) (same_sent past sent before got) (sends_on tested (then_turn past sent before) after_sent shown (sym is ∙ on)) in
-    (client, subst (λ (l : List Turn). HasAllCome tested l) turns (sees.due there, whole (then_turn past sent got) sees.shown, goes))
+    (client, subst (λ (l : List Turn). HasAllCome expected tested l) turns (sees.due there, whole (then_turn past sent got) sees.shown, goes))
 
 -- the first turn has begun, and has got what came with the head
 pub first_seen : (tested : Role) (done : List Turn) (bytes first : List ℕ) (seen : RunValue) → done ≡ [] → bytes ≡ first → HasSeen tested (turn_with_got new_turn bytes ∷ []) seen → HasSeen tested (then_turn done [] first) seen
@@ -571,30 +573,30 @@ next_seen tested done turn all got seen is none h =
     subst (λ (l : List Turn). HasSeen tested (then_turn l [] got) seen) (sym is) (subst (λ (l : List ℕ). HasSeen tested (then_turn (done ++ turn ∷ []) [] l) seen) (sym none) h)
 
 -- one turn more was waited for
-pub waited_for_more : (tested : Role) (done all : List Turn) (turn : Turn) (y z : ConnectionValue) → AreWaitedFor tested done y → (y.input.waited ≡ true → z.input.waited ≡ true) → AreTurnsAnswered tested (done ++ turn ∷ []) ⊎ (z.input.waited ≡ true)
-    → all ≡ done ++ turn ∷ [] → AreWaitedFor tested all z
-waited_for_more tested done all turn y z h before last is = subst (λ (l : List Turn). AreWaitedFor tested l z) (sym is) (λ n some less. pick n some less)
+pub waited_for_more : (expected : Expectation) (tested : Role) (done all : List Turn) (turn : Turn) (y z : ConnectionValue) → AreWaitedFor expected tested done y → (y.input.waited ≡ true → z.input.waited ≡ true) → AreTurnsAnsweredBy expected tested (done ++ turn ∷ []) ⊎ (z.input.waited ≡ true)
+    → all ≡ done ++ turn ∷ [] → AreWaitedFor expected tested all z
+waited_for_more expected tested done all turn y z h before last is = subst (λ (l : List Turn). AreWaitedFor expected tested l z) (sym is) (λ n some less. pick n some less)
   where
-    kept : (l : List Turn) → AreTurnsAnswered tested l ⊎ (y.input.waited ≡ true) → AreTurnsAnswered tested l ⊎ (z.input.waited ≡ true)
+    kept : (l : List Turn) → AreTurnsAnsweredBy expected tested l ⊎ (y.input.waited ≡ true) → AreTurnsAnsweredBy expected tested l ⊎ (z.input.waited ≡ true)
     kept l (inl a) = inl a
     kept l (inr w) = inr (before w)
 
-    pick : (n : ℕ) → 0 < n → n ≤ length (done ++ turn ∷ []) → AreTurnsAnswered tested (take n (done ++ turn ∷ [])) ⊎ (z.input.waited ≡ true)
+    pick : (n : ℕ) → 0 < n → n ≤ length (done ++ turn ∷ []) → AreTurnsAnsweredBy expected tested (take n (done ++ turn ∷ [])) ⊎ (z.input.waited ≡ true)
     pick n some less = elim (cases_lt (length done) n) [
-      | inl more ↦ subst (λ (l : List Turn). AreTurnsAnswered tested l ⊎ (z.input.waited ≡ true)) (sym (take_all n (done ++ turn ∷ []) (omega (arith, more, length-append done (turn ∷ []))))) last
+      | inl more ↦ subst (λ (l : List Turn). AreTurnsAnsweredBy expected tested l ⊎ (z.input.waited ≡ true)) (sym (take_all n (done ++ turn ∷ []) (omega (arith, more, length-append done (turn ∷ []))))) last
       | inr fewer ↦
-          subst (λ (l : List Turn). AreTurnsAnswered tested l ⊎ (z.input.waited ≡ true)) (sym (take-append-le n done (turn ∷ []) fewer)) (kept (take n done) (h n some fewer))
+          subst (λ (l : List Turn). AreTurnsAnsweredBy expected tested l ⊎ (z.input.waited ≡ true)) (sym (take-append-le n done (turn ∷ []) fewer)) (kept (take n done) (h n some fewer))
     ]
 
-pub waited_for_still : (tested : Role) (done : List Turn) (y z : ConnectionValue) → AreWaitedFor tested done y → (y.input.waited ≡ true → z.input.waited ≡ true) → AreWaitedFor tested done z
-waited_for_still tested done y z h before = λ n some less. kept (h n some less)
+pub waited_for_still : (expected : Expectation) (tested : Role) (done : List Turn) (y z : ConnectionValue) → AreWaitedFor expected tested done y → (y.input.waited ≡ true → z.input.waited ≡ true) → AreWaitedFor expected tested done z
+waited_for_still expected tested done y z h before = λ n some less. kept (h n some less)
   where
     kept : {X : Type 0} → X ⊎ (y.input.waited ≡ true) → X ⊎ (z.input.waited ≡ true)
     kept (inl a) = inl a
     kept (inr w) = inr (before w)
 
-pub none_waited_for : (tested : Role) (done : List Turn) (x : ConnectionValue) → done ≡ [] → AreWaitedFor tested done x
-none_waited_for tested done x none = λ n some less. absurd (omega (arith, some, less, ap (λ (l : List Turn). length l) none))
+pub none_waited_for : (expected : Expectation) (tested : Role) (done : List Turn) (x : ConnectionValue) → done ≡ [] → AreWaitedFor expected tested done x
+none_waited_for expected tested done x none = λ n some less. absurd (omega (arith, some, less, ap (λ (l : List Turn). length l) none))
 
 -- ---- all turns
 
@@ -611,7 +613,7 @@ may_follow tested first [] turn h = h
 may_follow tested first (t ∷ turns) turn h = h
 
 -- these turns were run, all bytes of them were sent, and there is one more
-pub record HasRunTurns (tested : Role) (script : List (List (List ℕ))) (first got : List ℕ) (done : List Turn) (i : ℕ) (run : ConnectionRun) : Type 0 where
+pub record HasRunTurns (expected : Expectation) (tested : Role) (script : List (List (List ℕ))) (first got : List ℕ) (done : List Turn) (i : ℕ) (run : ConnectionRun) : Type 0 where
   pub read : List ℕ
   pub has_got : ReadsBytes read run
   pub spent : run.old.input.allowance ≡ length read + run.new.input.allowance
@@ -622,13 +624,13 @@ pub record HasRunTurns (tested : Role) (script : List (List (List ℕ))) (first 
   pub count : length done ≡ i
   pub more : i < length script
   pub ready : IsReady run.new
-  pub waited_for : AreWaitedFor tested done run.new
+  pub waited_for : AreWaitedFor expected tested done run.new
   pub none_faulty : MayGoOn tested (all_got done ++ got)
   pub behind : MayFollow tested first done
 
-pub runs_none : (tested : Role) (script : List (List (List ℕ))) (first got : List ℕ) (done : List Turn) (x : ConnectionValue) → got ≡ first → done ≡ [] → 0 < length script → IsReady x
-    → MayGoOn tested first → HasRunTurns tested script first got done 0 (between x x)
-runs_none tested script first got done x e none some ready none_faulty = record {
+pub runs_none : (expected : Expectation) (tested : Role) (script : List (List (List ℕ))) (first got : List ℕ) (done : List Turn) (x : ConnectionValue) → got ≡ first → done ≡ [] → 0 < length script → IsReady x
+    → MayGoOn tested first → HasRunTurns expected tested script first got done 0 (between x x)
+runs_none expected tested script first got done x e none some ready none_faulty = record {
   read = [];
   has_got = Consumes-nil x.input.left;
   spent = none_spent x.input.allowance;
@@ -639,7 +641,7 @@ runs_none tested script first got done x e none some ready none_faulty = record 
   count = ap (λ (l : List Turn). length l) none;
   more = some;
   ready = ready;
-  waited_for = none_waited_for tested done x none;
+  waited_for = none_waited_for expected tested done x none;
   none_faulty = subst (λ (l : List ℕ). MayGoOn tested l) (sym same) none_faulty;
   behind = subst (λ (l : List Turn). MayFollow tested first l) (sym none) none_faulty;
 }
@@ -669,8 +671,8 @@ none_left script n h = nothing (drop n script) (omega (arith, length-drop n scri
     nothing (x ∷ xs) h = absurd (omega arith)
 
 -- one turn more, and what is known of it
-module _ (tested : Role) (script : List (List (List ℕ))) (pieces : List (List ℕ)) (first got : List ℕ) (done all : List Turn) (turn : Turn) (i : ℕ) (more : Bool) (after : RunValue) (x y z : ConnectionValue) (end : Option Ended)
-    (h : HasRunTurns tested script first got done i (between x y)) (t : RunsTurn tested (concat pieces) (all_got done) got more (HasAllCome tested (done ++ turn ∷ [])) turn end after.tester (between y z)) (shown : SeesRun tested end (done ++ turn ∷ []) after (between y z))
+module _ (expected : Expectation) (tested : Role) (script : List (List (List ℕ))) (pieces : List (List ℕ)) (first got : List ℕ) (done all : List Turn) (turn : Turn) (i : ℕ) (more : Bool) (after : RunValue) (x y z : ConnectionValue) (end : Option Ended)
+    (h : HasRunTurns expected tested script first got done i (between x y)) (t : RunsTurn tested (concat pieces) (all_got done) got more (HasAllCome expected tested (done ++ turn ∷ [])) turn end after.tester (between y z)) (shown : SeesRun expected tested end (done ++ turn ∷ []) after (between y z))
     (pushed : all ≡ done ++ turn ∷ []) where
   all_now : all_got all ≡ all_got done ++ turn.got
   all_now = ap (λ (l : List Turn). all_got l) pushed ∙ got_more done turn
@@ -686,9 +688,9 @@ module _ (tested : Role) (script : List (List (List ℕ))) (pieces : List (List 
   all_first : HasGotFirst first all
   all_first = subst (λ (l : List Turn). HasGotFirst first l) (sym pushed) (got_first_after first got t.read done turn h.first_got t.got)
 
-  pub goes_on : (next : List ℕ) → end ≡ None → next ≡ [] → take (i + 1) script ≡ take i script ++ pieces ∷ [] → (more ≡ true → i + 1 < length script) → HasRunTurns tested script first next all (i + 1) (between x z)
+  pub goes_on : (next : List ℕ) → end ≡ None → next ≡ [] → take (i + 1) script ≡ take i script ++ pieces ∷ [] → (more ≡ true → i + 1 < length script) → HasRunTurns expected tested script first next all (i + 1) (between x z)
   goes_on next e none taken left =
-      let (goes, whole, ready, stands) = subst (λ (o : Option Ended). GoesOnOrEnds tested o (concat pieces) more (HasAllCome tested (done ++ turn ∷ [])) turn.sent (all_got done ++ turn.got) z) e t.ends in
+      let (goes, whole, ready, stands) = subst (λ (o : Option Ended). GoesOnOrEnds tested o (concat pieces) more (HasAllCome expected tested (done ++ turn ∷ [])) turn.sent (all_got done ++ turn.got) z) e t.ends in
       let same : all_got all ++ next ≡ all_got done ++ turn.got = ap (λ (l : List ℕ). all_got all ++ l) none ∙ append-nil (all_got all) ∙ all_now in
       record {
         read = h.read ++ t.read;
@@ -703,15 +705,15 @@ module _ (tested : Role) (script : List (List (List ℕ))) (pieces : List (List 
         count = ap (λ (l : List Turn). length l) pushed ∙ length-append done (turn ∷ []) ∙ ap (λ (n : ℕ). n + 1) h.count;
         more = left goes;
         ready = ready;
-        waited_for = waited_for_more tested done all turn y z h.waited_for shown.waited_before (shown.follows e) pushed;
+        waited_for = waited_for_more expected tested done all turn y z h.waited_for shown.waited_before (shown.follows e) pushed;
         none_faulty = subst (λ (l : List ℕ). MayGoOn tested l) (sym same) (so_stands is_final false tested Going (all_got done ++ turn.got) refl stands);
         behind = subst (λ (l : List Turn). MayFollow tested first l) (sym pushed) (may_follow tested first done turn (subst (λ (l : List ℕ). Stands (other_role tested) Going l) (sym (got_more done turn)) stands));
       }
 
   pub ended_in : (ended : Ended) (transcript : Transcript) → end ≡ Some ended → script ≡ take i script ++ pieces ∷ drop (i + 1) script → transcript.turns ≡ all → transcript.ended ≡ ended
-      → (more ≡ false → length script ≤ i + 1) → Records tested (bytes_of script) first transcript (between x z)
+      → (more ≡ false → length script ≤ i + 1) → Records expected tested (bytes_of script) first transcript (between x z)
   ended_in ended transcript e cut turns is last =
-      let (ends, closed, sends) = subst (λ (o : Option Ended). GoesOnOrEnds tested o (concat pieces) more (HasAllCome tested (done ++ turn ∷ [])) turn.sent (all_got done ++ turn.got) z) e t.ends in
+      let (ends, closed, sends) = subst (λ (o : Option Ended). GoesOnOrEnds tested o (concat pieces) more (HasAllCome expected tested (done ++ turn ∷ [])) turn.sent (all_got done ++ turn.got) z) e t.ends in
       let same : all_got transcript.turns ≡ all_got done ++ turn.got = ap (λ (l : List Turn). all_got l) turns ∙ all_now in
       record {
         read = h.read ++ t.read;
@@ -725,7 +727,7 @@ module _ (tested : Role) (script : List (List (List ℕ))) (pieces : List (List 
           last = turn;
           recorded = turns ∙ pushed;
           behind = h.behind;
-          waited_for = waited_for_still tested done y z h.waited_for shown.waited_before;
+          waited_for = waited_for_still expected tested done y z h.waited_for shown.waited_before;
           bytes = concat pieces;
           others = bytes_of (drop (i + 1) script);
           sent =
@@ -733,16 +735,16 @@ module _ (tested : Role) (script : List (List (List ℕ))) (pieces : List (List 
               ∙ ap (λ (l : List (List ℕ)). l ++ concat pieces ∷ bytes_of (drop (i + 1) script)) (sym h.sent);
           sent_last = sends;
           ends =
-              subst (λ (o : Ended). EndsTurn tested o (bytes_of (drop (i + 1) script) ≡ []) (HasAllCome tested transcript.turns) (concat pieces) turn.sent (all_got transcript.turns) z) (sym is)
-              (subst (λ (l : List ℕ). EndsTurn tested ended (bytes_of (drop (i + 1) script) ≡ []) (HasAllCome tested transcript.turns) (concat pieces) turn.sent l z) (sym same)
-              (as_last ended (λ m. none_left script (i + 1) (last m)) (λ come. subst (λ (l : List Turn). HasAllCome tested l) (sym (turns ∙ pushed)) come) (all_got done ++ turn.got) ends));
+              subst (λ (o : Ended). EndsTurn tested o (bytes_of (drop (i + 1) script) ≡ []) (HasAllCome expected tested transcript.turns) (concat pieces) turn.sent (all_got transcript.turns) z) (sym is)
+              (subst (λ (l : List ℕ). EndsTurn tested ended (bytes_of (drop (i + 1) script) ≡ []) (HasAllCome expected tested transcript.turns) (concat pieces) turn.sent l z) (sym same)
+              (as_last ended (λ m. none_left script (i + 1) (last m)) (λ come. subst (λ (l : List Turn). HasAllCome expected tested l) (sym (turns ∙ pushed)) come) (all_got done ++ turn.got) ends));
           half_closed = subst (λ (l : List ℕ). (z.output.ended ≡ true) ↔ HalfCloses tested l) (sym same) closed;
         });
       }
     where
-      as_last : (ended : Ended) → (more ≡ false → bytes_of (drop (i + 1) script) ≡ []) → (HasAllCome tested (done ++ turn ∷ []) → HasAllCome tested transcript.turns) → (got : List ℕ)
-          → EndsTurn tested ended (more ≡ false) (HasAllCome tested (done ++ turn ∷ [])) (concat pieces) turn.sent got z
-          → EndsTurn tested ended (bytes_of (drop (i + 1) script) ≡ []) (HasAllCome tested transcript.turns) (concat pieces) turn.sent got z
+      as_last : (ended : Ended) → (more ≡ false → bytes_of (drop (i + 1) script) ≡ []) → (HasAllCome expected tested (done ++ turn ∷ []) → HasAllCome expected tested transcript.turns) → (got : List ℕ)
+          → EndsTurn tested ended (more ≡ false) (HasAllCome expected tested (done ++ turn ∷ [])) (concat pieces) turn.sent got z
+          → EndsTurn tested ended (bytes_of (drop (i + 1) script) ≡ []) (HasAllCome expected tested transcript.turns) (concat pieces) turn.sent got z
       as_last Tester f come got (inl final) = inl final
       as_last Tester f come got (inr (inl (all, works, waited, none, inl m))) = inr (inl (all, works, waited, none, inl (f m)))
       as_last Tester f come got (inr (inl (all, works, waited, none, inr c))) = inr (inl (all, works, waited, none, inr c))
@@ -755,9 +757,9 @@ no_pieces [] h = refl
 no_pieces (x ∷ xs) h = absurd (omega (arith, h))
 
 -- a script without turns, or a fault that came with the head
-pub without_turns : (tested : Role) (script : List (List (List ℕ))) (first : List ℕ) (transcript : Transcript) (turns : List Turn) (x : ConnectionValue) → (script ≡ []) ⊎ EndsRun tested first → transcript.turns ≡ turns → turns ≡ with_finish [] first
-    → transcript.ended ≡ Tester → IsReady x → Records tested (bytes_of script) first transcript (between x x)
-without_turns tested script first transcript turns x none is e ended ready = record {
+pub without_turns : (expected : Expectation) (tested : Role) (script : List (List (List ℕ))) (first : List ℕ) (transcript : Transcript) (turns : List Turn) (x : ConnectionValue) → (script ≡ []) ⊎ EndsRun tested first → transcript.turns ≡ turns → turns ≡ with_finish [] first
+    → transcript.ended ≡ Tester → IsReady x → Records expected tested (bytes_of script) first transcript (between x x)
+without_turns expected tested script first transcript turns x none is e ended ready = record {
   read = [];
   has_got = Consumes-nil x.input.left;
   spent = none_spent x.input.allowance;
@@ -794,10 +796,10 @@ may_after y z may input works ended = (ap (λ (i : InputValue). takes_part i.sta
 -- ---- the head of the answer
 
 -- what came of a connection once the request was written, where the answer accepts
-pub runs_after : {protocol : Option ℕ} (turns offers : List (List ℕ)) (transcript : Transcript) (head first : List ℕ) (used : ℕ) (x y z : ConnectionValue)
+pub runs_after : {protocol : Option ℕ} (expected : Expectation) (turns offers : List (List ℕ)) (transcript : Transcript) (head first : List ℕ) (used : ℕ) (x y z : ConnectionValue)
     → ReadsHeadOver (NeedsResponse probe_nonce offers) (DecidesResponse probe_nonce offers) (Decided (Accepted used protocol)) head (between x y)
-    → first ≡ drop used head → Records Server turns first transcript (between y z) → AnswersBehind turns offers (Ran transcript) (between x z)
-runs_after {protocol} turns offers transcript head first used x y z h behind r =
+    → first ≡ drop used head → Records expected Server turns first transcript (between y z) → AnswersBehind expected turns offers (Ran transcript) (between x z)
+runs_after {protocol} expected turns offers transcript head first used x y z h behind r =
     let (read, bound, no_further, (decides, works)) = h.reads in
     record {
       head = head;
@@ -809,7 +811,7 @@ runs_after {protocol} turns offers transcript head first used x y z h behind r =
       budget = sym h.allowance ∙ r.spent;
       got = r.got ∙ ap (λ (l : List ℕ). l ++ r.read) behind;
       has_put = subst (λ (o : OutputValue). Appends o.held z.output.held (all_sent transcript.turns)) h.output r.has_put;
-      ends = subst (λ (l : List ℕ). EndsScript Server turns l transcript z) behind r.ends;
+      ends = subst (λ (l : List ℕ). EndsScript expected Server turns l transcript z) behind r.ends;
     }
 
 -- ---- the request
@@ -832,9 +834,9 @@ StopsFrom offers head z i =
     ⊎ ReadsHead (NeedsResponse probe_nonce offers) (DecidesResponse probe_nonce offers) ReadFault head (record { failed = read_failed z.input.state; old = i.left; new = z.input.left })
 
 -- after the request, which was written between x and y
-pub answers : (turns offers : List (List ℕ)) (text request : List ℕ) (probe : Probe) (x y z : ConnectionValue) → text ≡ request → WritesBytes text (between x y) → y.input ≡ x.input
-    → AnswersBehind turns offers probe (between y z) → AnswersProbe turns offers request probe (between x z)
-answers turns offers text request (Ran transcript) x y z is wrote same run = record {
+pub answers : (expected : Expectation) (turns offers : List (List ℕ)) (text request : List ℕ) (probe : Probe) (x y z : ConnectionValue) → text ≡ request → WritesBytes text (between x y) → y.input ≡ x.input
+    → AnswersBehind expected turns offers probe (between y z) → AnswersProbe expected turns offers request probe (between x z)
+answers expected turns offers text request (Ran transcript) x y z is wrote same run = record {
   head = run.head;
   used = run.used;
   protocol = run.protocol;
@@ -848,7 +850,7 @@ answers turns offers text request (Ran transcript) x y z is wrote same run = rec
       (Appends-trans x.output.held y.output.held z.output.held text (all_sent transcript.turns) wrote run.has_put);
   ends = run.ends;
 }
-answers turns offers text request (Refused refusal) x y z is wrote same run = record {
+answers expected turns offers text request (Refused refusal) x y z is wrote same run = record {
   head = run.head;
   is_head = run.is_head;
   status = run.status;
@@ -857,16 +859,16 @@ answers turns offers text request (Refused refusal) x y z is wrote same run = re
   works = run.works;
   both_open = run.both_open;
 }
-answers turns offers text request NoConnection x y z is wrote same (put, works, (head, stops)) =
+answers expected turns offers text request NoConnection x y z is wrote same (put, works, (head, stops)) =
     inr (put_then text request x y z is wrote put, works, (head, subst (λ (i : InputValue). StopsFrom offers head z i) same stops))
 
 pub put_whole : (text : List ℕ) (taken : ℕ) (x y : ConnectionValue) → length text ≤ taken → WritesBytes (take taken text) (between x y) → WritesBytes text (between x y)
 put_whole text taken x y all put = subst (λ (l : List ℕ). WritesBytes l (between x y)) (take_all taken text all) put
 
 -- a write of the request failed
-pub not_asked : (turns offers : List (List ℕ)) (text request : List ℕ) (taken : ℕ) (x y : ConnectionValue) → IsNewConnection x → text ≡ request → WritesBytes (take taken text) (between x y) → y.output.failed ≡ true → y.input ≡ x.input
-    → AnswersProbe turns offers request NoConnection (between x y)
-not_asked turns offers text request taken x y new is wrote failed same = inl (
+pub not_asked : (expected : Expectation) (turns offers : List (List ℕ)) (text request : List ℕ) (taken : ℕ) (x y : ConnectionValue) → IsNewConnection x → text ≡ request → WritesBytes (take taken text) (between x y) → y.output.failed ≡ true → y.input ≡ x.input
+    → AnswersProbe expected turns offers request NoConnection (between x y)
+not_asked expected turns offers text request taken x y new is wrote failed same = inl (
   failed,
   subst (λ (l : List ℕ). AppendsFront x.output.held y.output.held l) is (take taken text, drop taken text, sym (take-append-drop taken text), wrote),
   subst (λ (i : InputValue). Keeps x.input.left i.left) (sym same) (Keeps-refl x.input.left),

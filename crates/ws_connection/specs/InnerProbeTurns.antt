@@ -6,12 +6,14 @@ use Rattle.ws_wire.specs.declared.role.Role.{Role}
 use Rattle.ws_wire.specs.declared.role.Role.TheVariants.{Client, Server}
 use Rattle.ws_suite.specs.Evidence.{other_role}
 use Rattle.ws_session.specs.Exchange.{SessionValue, is_over}
+use Rattle.ws_scripts.specs.declared.expectation.Expectation.{Expectation}
 use Rattle.ws_scripts.specs.declared.transcript.Ended.{Ended}
 use Rattle.ws_scripts.specs.declared.transcript.Ended.TheVariants.{Tester, Peer, Broken}
 use Rattle.ws_scripts.specs.declared.transcript.Turn.{Turn}
 use Rattle.ws_connection.specs.ConnectionValues.{ConnectionRun, ConnectionValue}
 use Rattle.ws_suite.specs.declared.evidence.keeping.ReplyTally.{ReplyTally}
-use Rattle.ws_suite.specs.Growing.{AreTurnsAnswered, EndInsideFrame, GrowingValue, HasGrown, IsTallyOf, turn_with_got}
+use Rattle.ws_suite.specs.Growing.{EndInsideFrame, GrowingValue, HasGrown, IsTallyOf, turn_with_got}
+use Rattle.ws_suite.specs.Waiting.{AreTurnsAnsweredBy}
 use Rattle.ws_connection.specs.Connections.{IsReady, ReadsBytes, WritesBytes, is_open, waited_in_vain}
 use Rattle.ws_connection.specs.Standings.{HalfCloses, HasHeard, MayGoOn, Stands, half_closes, is_final}
 use Rattle.ws_connection.specs.Probing.{max_piece, EndsAtOnce, EndsTurn, HasEnded, HasSentOf}
@@ -138,12 +140,12 @@ pub record ReadsTurn (tested : Role) (waits : Bool) (stop : TurnStop) (past old_
   pub got : IsGotAtStop tested stop (past ++ new_got)
   pub half_closed : (run.new.output.ended ≡ true) ↔ HalfCloses tested (past ++ new_got)
 
--- What is shown where no more is read: where that is because what is due has come, it has; and whether some read has
--- waited in vain is known.
-pub record SeesTurn (tested : Role) (stop : TurnStop) (turns : List Turn) (seen : RunValue) (run : ConnectionRun)
-    : Type 0 where
+-- What is shown where no more is read: where that is because what is waited for has come, it has; and whether some read
+-- has waited in vain is known.
+pub record SeesTurn (expected : Expectation) (tested : Role) (stop : TurnStop) (turns : List Turn) (seen : RunValue)
+    (run : ConnectionRun) : Type 0 where
   pub shown : HasSeen tested turns seen
-  pub due : stop ≡ IsThere → AreTurnsAnswered tested turns
+  pub due : stop ≡ IsThere → AreTurnsAnsweredBy expected tested turns
   pub waited_before : run.old.input.waited ≡ true → run.new.input.waited ≡ true
   pub waited : stop ≡ Waited → run.new.input.waited ≡ true
 
@@ -195,18 +197,18 @@ pub record RunsTurn (tested : Role) (bytes past before : List ℕ) (more : Bool)
   pub heard : HasHeard (other_role tested) tester (past ++ turn.got)
   pub ends : GoesOnOrEnds tested end bytes more has_come turn.sent (past ++ turn.got) run.new
 
--- What is shown after a turn: where the script goes on, what is due has come, or some read has waited in vain.
-pub record SeesRun (tested : Role) (end : Option Ended) (turns : List Turn) (seen : RunValue) (run : ConnectionRun)
-    : Type 0 where
+-- What is shown after a turn: where the script goes on, what is waited for has come, or some read has waited in vain.
+pub record SeesRun (expected : Expectation) (tested : Role) (end : Option Ended) (turns : List Turn) (seen : RunValue)
+    (run : ConnectionRun) : Type 0 where
   pub shown : HasSeen tested turns seen
-  pub follows : end ≡ None → AreTurnsAnswered tested turns ⊎ (run.new.input.waited ≡ true)
+  pub follows : end ≡ None → AreTurnsAnsweredBy expected tested turns ⊎ (run.new.input.waited ≡ true)
   pub waited_before : run.old.input.waited ≡ true → run.new.input.waited ≡ true
 
 -- ---- all turns
 
 -- what came of a connection, once the request with these offers was written
-abbrev pub AnswersBehind : List (List ℕ) → List (List ℕ) → Probe → ConnectionRun → Type 0
-AnswersBehind turns offers (Ran transcript) run = RunsScript turns offers [] transcript run
-AnswersBehind turns offers (Refused refusal) run = RefusesResponse offers [] refusal run
-AnswersBehind turns offers NoConnection run =
+abbrev pub AnswersBehind : Expectation → List (List ℕ) → List (List ℕ) → Probe → ConnectionRun → Type 0
+AnswersBehind expected turns offers (Ran transcript) run = RunsScript expected turns offers [] transcript run
+AnswersBehind expected turns offers (Refused refusal) run = RefusesResponse offers [] refusal run
+AnswersBehind expected turns offers NoConnection run =
     WritesBytes [] run × (run.new.output.failed ≡ false) × StopsInResponse offers run

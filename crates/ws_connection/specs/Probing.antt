@@ -9,6 +9,7 @@ use Rattle.ws_wire.specs.declared.role.Role.{Role}
 use Rattle.ws_wire.specs.declared.role.Role.TheVariants.{Client, Server}
 use Rattle.ws_upgrade.specs.Accept.{key_of}
 use Rattle.ws_upgrade.specs.Reading.{HasStatusCode, LacksStatusCode, max_head}
+use Rattle.ws_scripts.specs.declared.expectation.Expectation.{Expectation}
 use Rattle.ws_scripts.specs.declared.script.Case.{Case}
 use Rattle.ws_scripts.specs.declared.transcript.Ended.{Ended}
 use Rattle.ws_scripts.specs.declared.transcript.Ended.TheVariants.{Tester, Peer, Broken}
@@ -16,7 +17,8 @@ use Rattle.ws_scripts.specs.declared.transcript.Turn.{Turn}
 use Rattle.ws_scripts.specs.declared.transcript.Transcript.{Transcript}
 use Rattle.ws_scripts.specs.Scripts.{turns_of, turn_bytes}
 use Rattle.ws_suite.specs.Evidence.{other_role, sent_turns, got_turns}
-use Rattle.ws_suite.specs.Growing.{AreTurnsAnswered, EndInsideFrame}
+use Rattle.ws_suite.specs.Growing.{EndInsideFrame}
+use Rattle.ws_suite.specs.Waiting.{AreTurnsAnsweredBy}
 use Rattle.ws_peer.specs.Runs.{with_finish}
 use Rattle.ws_connection.specs.ConnectionValues.{ConnectionRun, ConnectionValue}
 use Rattle.ws_connection.specs.Connections.{ReadsBytes, WritesBytes, HasWorked, input_of, output_of}
@@ -89,10 +91,10 @@ abbrev pub WaitsInVain : Role → Type 0 → List ℕ → List ℕ → List ℕ 
 WaitsInVain tested is_last bytes sent got connection = (sent ≡ bytes) × HasWorked connection
     × (connection.input.state ≡ Waited) × MayGoOn tested got × (is_last ⊎ HalfCloses tested got)
 
--- Of these turns what is due has come, what they got doesn't end inside a frame, and what they sent has neither a close
--- nor a fault, so that nothing else is waited for.
-abbrev pub HasAllCome : Role → List Turn → Type 0
-HasAllCome tested turns = AreTurnsAnswered tested turns × (¬ (EndInsideFrame tested turns))
+-- Of these turns what is waited for has come, by what is expected of the tested end, what they got doesn't end inside a
+-- frame, and what they sent has neither a close nor a fault, so that nothing else is waited for.
+abbrev pub HasAllCome : Expectation → Role → List Turn → Type 0
+HasAllCome expected tested turns = AreTurnsAnsweredBy expected tested turns × (¬ (EndInsideFrame tested turns))
     × Stands tested Going (all_sent turns)
 
 -- the last turn to a client, which has nothing to end for: all of its bytes were sent, and all has come
@@ -122,28 +124,29 @@ abbrev pub MayFollow : Role → List ℕ → List Turn → Type 0
 MayFollow tested first [] = MayGoOn tested first
 MayFollow tested first (turn ∷ turns) = Stands (other_role tested) Going (all_got (turn ∷ turns))
 
--- Behind each of these turns another one was sent: what was due by then had come, or some read has waited in vain.
-abbrev pub AreWaitedFor : Role → List Turn → ConnectionValue → Type 0
-AreWaitedFor tested turns connection = (n : ℕ) → 0 < n → n ≤ length turns
-    → AreTurnsAnswered tested (take n turns) ⊎ (connection.input.waited ≡ true)
+-- Behind each of these turns another one was sent: what is waited for by then had come, by what is expected of the
+-- tested end, or some read has waited in vain.
+abbrev pub AreWaitedFor : Expectation → Role → List Turn → ConnectionValue → Type 0
+AreWaitedFor expected tested turns connection = (n : ℕ) → 0 < n → n ≤ length turns
+    → AreTurnsAnsweredBy expected tested (take n turns) ⊎ (connection.input.waited ≡ true)
 
 -- The script ended in the turn that is recorded last: those before it sent all of their bytes and were waited for, that
 -- one sent all of its bytes too or a write failed, none was sent after it, and what came with the head was got in the
 -- first. The tester's own direction was ended just where what was got from a server has a close.
-pub record EndsInTurn (tested : Role) (turns : List (List ℕ)) (first : List ℕ) (transcript : Transcript)
-    (connection : ConnectionValue) : Type 0 where
+pub record EndsInTurn (expected : Expectation) (tested : Role) (turns : List (List ℕ)) (first : List ℕ)
+    (transcript : Transcript) (connection : ConnectionValue) : Type 0 where
   pub with_head : HasGotFirst first transcript.turns
   pub before : List Turn
   pub last : Turn
   pub recorded : transcript.turns ≡ before ++ last ∷ []
   pub behind : MayFollow tested first before
-  pub waited_for : AreWaitedFor tested before connection
+  pub waited_for : AreWaitedFor expected tested before connection
   pub bytes : List ℕ
   pub others : List (List ℕ)
   pub sent : turns ≡ sent_turns before ++ bytes ∷ others
   pub sent_last : HasSentOf bytes connection.output.failed last.sent
-  pub ends : EndsTurn tested transcript.ended (others ≡ []) (HasAllCome tested transcript.turns) bytes last.sent
-      (all_got transcript.turns) connection
+  pub ends : EndsTurn tested transcript.ended (others ≡ []) (HasAllCome expected tested transcript.turns) bytes
+      last.sent (all_got transcript.turns) connection
   pub half_closed : (connection.output.ended ≡ true) ↔ HalfCloses tested (all_got transcript.turns)
 
 -- The script has no turns, or what came with the head ends the run: the tester ended it, nothing was sent, and what
@@ -156,20 +159,22 @@ pub record EndsWithoutTurns (tested : Role) (turns : List (List ℕ)) (first : L
   pub works : HasWorked connection
   pub both_open : connection.output.ended ≡ false
 
-abbrev pub EndsScript : Role → List (List ℕ) → List ℕ → Transcript → ConnectionValue → Type 0
-EndsScript tested turns first transcript connection =
-    EndsWithoutTurns tested turns first transcript connection ⊎ EndsInTurn tested turns first transcript connection
+abbrev pub EndsScript : Expectation → Role → List (List ℕ) → List ℕ → Transcript → ConnectionValue → Type 0
+EndsScript expected tested turns first transcript connection =
+    EndsWithoutTurns tested turns first transcript connection
+    ⊎ EndsInTurn expected tested turns first transcript connection
 
--- A script was run over a connection to an end of this role, whose turns have these bytes, and of which the first has
--- got `first`: just what the turns sent was written, and just what they got besides was read, no more than the budget.
-pub record Records (tested : Role) (turns : List (List ℕ)) (first : List ℕ) (transcript : Transcript)
-    (run : ConnectionRun) : Type 0 where
+-- A script was run over a connection to an end of this role, of which this is expected. Its turns have these bytes, and
+-- the first has got `first`: just what the turns sent was written, and just what they got besides was read, no more
+-- than the budget.
+pub record Records (expected : Expectation) (tested : Role) (turns : List (List ℕ)) (first : List ℕ)
+    (transcript : Transcript) (run : ConnectionRun) : Type 0 where
   pub read : List ℕ
   pub has_got : ReadsBytes read run
   pub spent : run.old.input.allowance ≡ length read + run.new.input.allowance
   pub got : all_got transcript.turns ≡ first ++ read
   pub has_put : WritesBytes (all_sent transcript.turns) run
-  pub ends : EndsScript tested turns first transcript run.new
+  pub ends : EndsScript expected tested turns first transcript run.new
 
 -- ---- a connection to a server
 
@@ -190,11 +195,11 @@ StopsInResponse offers run = (head : List ℕ)
     × (ReadsHead (NeedsResponse probe_nonce offers) (DecidesResponse probe_nonce offers) Cut head (input_of run)
     ⊎ ReadsHead (NeedsResponse probe_nonce offers) (DecidesResponse probe_nonce offers) ReadFault head (input_of run))
 
--- The request was accepted, which has these offers, and a script run whose turns have these bytes. After the request,
--- `request`, just the bytes that the turns sent were written, and just those that they got were read behind the head:
--- no more than the budget.
-pub record RunsScript (turns offers : List (List ℕ)) (request : List ℕ) (transcript : Transcript)
-    (run : ConnectionRun) : Type 0 where
+-- The request was accepted, which has these offers, and a script run whose turns have these bytes, with a server of
+-- which this is expected. After the request, `request`, just the bytes that the turns sent were written, and just those
+-- that they got were read behind the head: no more than the budget.
+pub record RunsScript (expected : Expectation) (turns offers : List (List ℕ)) (request : List ℕ)
+    (transcript : Transcript) (run : ConnectionRun) : Type 0 where
   pub head : List ℕ
   pub used : ℕ
   pub protocol : Option ℕ
@@ -204,7 +209,7 @@ pub record RunsScript (turns offers : List (List ℕ)) (request : List ℕ) (tra
   pub budget : run.old.input.allowance ≡ length read + run.new.input.allowance
   pub got : all_got transcript.turns ≡ drop used head ++ read
   pub has_put : WritesBytes (request ++ all_sent transcript.turns) run
-  pub ends : EndsScript Server turns (drop used head) transcript run.new
+  pub ends : EndsScript expected Server turns (drop used head) transcript run.new
 
 -- The answer was read to where it is to be refused, and nothing else; and it is told which status it has.
 pub record RefusesResponse (offers : List (List ℕ)) (request : List ℕ) (refusal : HeadRefusal)
@@ -225,12 +230,14 @@ HasNoAnswer offers request run =
     ⊎ (WritesBytes request run × (run.new.output.failed ≡ false) × StopsInResponse offers run)
 
 -- what came of a connection, over which this request with these offers was put before what the turns sent
-abbrev pub AnswersProbe : List (List ℕ) → List (List ℕ) → List ℕ → Probe → ConnectionRun → Type 0
-AnswersProbe turns offers request (Ran transcript) run = RunsScript turns offers request transcript run
-AnswersProbe turns offers request (Refused refusal) run = RefusesResponse offers request refusal run
-AnswersProbe turns offers request NoConnection run = HasNoAnswer offers request run
+abbrev pub AnswersProbe : Expectation → List (List ℕ) → List (List ℕ) → List ℕ → Probe → ConnectionRun → Type 0
+AnswersProbe expected turns offers request (Ran transcript) run =
+    RunsScript expected turns offers request transcript run
+AnswersProbe expected turns offers request (Refused refusal) run = RefusesResponse offers request refusal run
+AnswersProbe expected turns offers request NoConnection run = HasNoAnswer offers request run
 
--- what came of a connection over which a server was asked for an upgrade by this request, and this script was to be run
-abbrev pub Probes : Case → List ℕ → RequestValue → Probe → ConnectionRun → Type 0
-Probes case key request probe run =
-    AnswersProbe (bytes_by_turn case (Some key)) request.offers (text_of_request request (key_of probe_nonce)) probe run
+-- what came of a connection over which a server, of which this is expected, was asked for an upgrade by this request,
+-- and this script was to be run
+abbrev pub Probes : Expectation → Case → List ℕ → RequestValue → Probe → ConnectionRun → Type 0
+Probes expected case key request probe run = AnswersProbe expected (bytes_by_turn case (Some key)) request.offers
+    (text_of_request request (key_of probe_nonce)) probe run

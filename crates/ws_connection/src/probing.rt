@@ -26,7 +26,7 @@ pub use run::{ScriptRun, run_script};
 use std::alloc::Global;
 use std::io::Read;
 use ws_base::{NoMemory, Payload, Sequence};
-use ws_suite::{Case, turns};
+use ws_suite::{Case, Expectation, turns};
 use ws_upgrade::{AddedHeaders, HeadFault, Host, Offers, Path, request_of, status_of};
 use ws_wire::Role;
 
@@ -40,6 +40,8 @@ pub struct Asked<'a> {
     pub request: UpgradeRequest<'a>,
     /// The key of each frame.
     pub key: [u8; 4],
+    /// What is expected of the server: by that it is told what a turn is waited for.
+    pub expected: Expectation,
     /// Whether reads can wait in vain: then a turn that holds the close or fault of what is sent is waited for as the
     /// last one is.
     pub has_timeouts: bool,
@@ -47,7 +49,8 @@ pub struct Asked<'a> {
 
 /// Asks a server for an upgrade, runs a script against it, and records what went over the connection. The pieces of
 /// each turn are sent in one write each where the writer takes them so. After each turn but the last it is read until
-/// what is owed has come or a read has waited in vain, and after the last to the end of the stream or a wait in vain.
+/// what is waited for has come (`RunEvidence::is_answered_by`) or a read has waited in vain, and after the last to the
+/// end of the stream or a wait in vain.
 ///
 /// Once what was got has a close nothing more is sent: its own direction is ended, and it is read on to the end. Once
 /// that has a fault the script ends. A turn's `sent` is what the writer took. After a failed write nothing more is
@@ -66,7 +69,8 @@ pub fn probe<R: Read, W: EndsDirection, O: Observer>(
     requires runs { CanBeRun case.now }
     requires request { CanBeAsked (request_value asked.now.request) }
     requires hearing { IsHearing O.heard observer.old }
-    ensures probes { IfOk result (λ probe. Probes case.now asked.now.key (request_value asked.now.request) probe
+    ensures probes { IfOk result (λ probe.
+        Probes asked.now.expected case.now asked.now.key (request_value asked.now.request) probe
         (record { old = connection.old; new = connection.new })) }
     ensures told { IfOk result (HearsProbe O.heard O.heard_all observer.old observer.new) }
     ensures borrow { O.borrow observer.new ≡ O.borrow observer.old }
@@ -105,7 +109,7 @@ fn after_request<R: Read, W: EndsDirection, O: Observer>(
 ) -> Result<Probe, O::Fault>
     requires new { IsNewConnection connection.old }
     requires hearing { IsHearing O.heard observer.old }
-    ensures answers { IfOk result (λ probe. AnswersBehind (map concat script.now)
+    ensures answers { IfOk result (λ probe. AnswersBehind asked.now.expected (map concat script.now)
         (map (λ name. name.now) asked.now.request.protocols.now) probe
         (record { old = connection.old; new = connection.new })) }
     ensures told { IfOk result (HearsProbe O.heard O.heard_all observer.old observer.new) }
@@ -119,9 +123,16 @@ fn after_request<R: Read, W: EndsDirection, O: Observer>(
     match connection.read_head(&mut room, &decider) {
         HeadEnd::Decided(ResponseDecision::Accepted { used, .. }) => {
             let first = bytes_behind(alloc, room.as_slice(), used)?;
-            let waits = asked.has_timeouts;
-            let tested = Role::Server;
-            let transcript = run_turns(alloc, tested, script, first, waits, connection, observer)?;
+            let transcript = run_turns(
+                alloc,
+                Role::Server,
+                asked.expected,
+                script,
+                first,
+                asked.has_timeouts,
+                connection,
+                observer,
+            )?;
             observer.ended(transcript.ended)?;
             Ok(Probe::Ran(transcript))
         }

@@ -12,7 +12,7 @@ use crate::observer::Observer;
 use crate::probing::script::run_turns;
 use std::alloc::Global;
 use std::io::Read;
-use ws_suite::{Case, Transcript, turns_with};
+use ws_suite::{Case, Expectation, Transcript, turns_with};
 use ws_wire::Role;
 
 /// How a script is run over a connection whose handshake is done.
@@ -20,6 +20,8 @@ use ws_wire::Role;
 pub struct ScriptRun {
     /// The tested end.
     pub tested: Role,
+    /// What is expected of it: by that it is told what a turn is waited for.
+    pub expected: Expectation,
     /// The key of each frame that the tester sends, if it is the client (RFC 6455 section 5.1).
     pub key: Option<[u8; 4]>,
     /// Whether reads can wait in vain: then a turn that holds the close or fault of what is sent is waited for as the
@@ -46,7 +48,7 @@ pub fn run_script<R: Read, W: EndsDirection, O: Observer>(
     requires can { CanBeRun case.now }
     requires hearing { IsHearing O.heard observer.old }
     ensures runs { IfOk result (λ transcript.
-        Records plan.tested (bytes_by_turn case.now plan.key) first.items transcript
+        Records plan.expected plan.tested (bytes_by_turn case.now plan.key) first.items transcript
         (record { old = connection.old; new = connection.new })) }
     ensures told { IfOk result (λ transcript.
         HearsProbe O.heard O.heard_all observer.old observer.new (Ran transcript)) }
@@ -57,6 +59,7 @@ pub fn run_script<R: Read, W: EndsDirection, O: Observer>(
     let transcript = run_turns(
         alloc,
         plan.tested,
+        plan.expected,
         turns,
         first,
         waits,

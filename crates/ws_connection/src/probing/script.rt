@@ -14,14 +14,15 @@ use crate::standing::{is_final, standing_of};
 use std::alloc::Global;
 use std::io::Read;
 use ws_base::{NoMemory, Payload, Sequence};
-use ws_suite::{Ended, RunEvidence, Transcript, Turn};
+use ws_suite::{Ended, Expectation, RunEvidence, Transcript, Turn};
 use ws_wire::Role;
 
 /// Sends the turns to a tested end and reads what comes for each. `first` came with the head: where it ends the run,
-/// nothing is sent. `waits_at_end` is that of each turn. The observer is told of each turn.
+/// nothing is sent. `expected` and `waits_at_end` are those of each turn. The observer is told of each turn.
 pub fn run_turns<R: Read, W: EndsDirection, O: Observer>(
     alloc: Global,
     tested: Role,
+    expected: Expectation,
     script: &[Sequence<Payload>],
     first: Vec<u8>,
     waits_at_end: bool,
@@ -30,7 +31,7 @@ pub fn run_turns<R: Read, W: EndsDirection, O: Observer>(
 ) -> Result<Transcript, O::Fault>
     requires ready { IsReady connection.old }
     requires hearing { IsHearing O.heard observer.old }
-    ensures runs { IfOk result (λ transcript. Records tested (map concat script.now) first.items transcript
+    ensures runs { IfOk result (λ transcript. Records expected tested (map concat script.now) first.items transcript
         (record { old = connection.old; new = connection.new })) }
     ensures told { IfOk result (λ transcript. HearsTurns O.heard observer.old observer.new transcript.turns) }
     ensures borrow { O.borrow observer.new ≡ O.borrow observer.old }
@@ -53,6 +54,7 @@ pub fn run_turns<R: Read, W: EndsDirection, O: Observer>(
         let bytes = pieces.as_slice();
         let plan = TurnPlan {
             tested,
+            expected,
             pieces: bytes,
             more,
             waits_at_end,

@@ -5,7 +5,7 @@ ghost use Rattle.std.specs.List.{concat};
 ghost use Rattle.ws_connection.specs.Connections.{IsReady, MayRead, is_open};
 ghost use Rattle.ws_wire.specs.declared.role.Role.TheVariants.{Client};
 ghost use Rattle.ws_scripts.specs.declared.transcript.Turn.{Turn};
-ghost use Rattle.ws_suite.specs.Growing.{AreTurnsAnswered};
+ghost use Rattle.ws_suite.specs.Waiting.{AreTurnsAnsweredBy};
 ghost use Rattle.ws_connection.specs.Observing.{HasHeardGot, HearsTurns, IsHearing, KeepsUp};
 ghost use Rattle.ws_connection.specs.Probing.{HasAllCome, all_got};
 ghost use Rattle.ws_connection.specs.Standings.{MayGoOn, standing_by};
@@ -23,7 +23,7 @@ use std::io::Read;
 use ws_base::{NoMemory, Payload};
 use ws_frame::READ_SIZE;
 use ws_session::laws::one_list_of_events;
-use ws_suite::{Ended, RunEvidence, Turn};
+use ws_suite::{Ended, Expectation, RunEvidence, Turn};
 use ws_wire::Role;
 
 /// What is sent in a turn, and how long is read in it.
@@ -31,6 +31,8 @@ use ws_wire::Role;
 pub struct TurnPlan<'a> {
     /// The tested end.
     pub tested: Role,
+    /// What is expected of it.
+    pub expected: Expectation,
     /// What is sent, one after the other.
     pub pieces: &'a [Payload],
     /// Whether there is a turn after it.
@@ -59,11 +61,11 @@ impl TurnPlan<'_> {
 }
 
 /// Sends the pieces of a turn and reads what comes for it: in the last one, as after a failed write, to the end of the
-/// stream, and in others, as in the last one to a client that has nothing to end for, until what is owed has come or a
-/// read has waited in vain; a frame that has begun by the end of that last one is read to its end. `before` came before
-/// it. Once what was got from a server has a close, it ends its own direction and reads on to the end; once it has a
-/// close from a client, or a fault, no more is read. Answers the turn, and how the script ended, if it did. The
-/// observer is told of the turn once it was sent, and of what it has got as it comes.
+/// stream, and in others, as in the last one to a client that has nothing to end for, until what is waited for has come
+/// (`RunEvidence::is_answered_by`) or a read has waited in vain; a frame that has begun by the end of that last one is
+/// read to its end. `before` came before it. Once what was got from a server has a close, it ends its own direction and
+/// reads on to the end; once it has a close from a client, or a fault, no more is read. Answers the turn, and how the
+/// script ended, if it did. The observer is told of the turn once it was sent, and of what it has got as it comes.
 pub fn run_turn<R: Read, W: EndsDirection, O: Observer>(
     alloc: Global,
     plan: TurnPlan<'_>,
@@ -78,9 +80,9 @@ pub fn run_turn<R: Read, W: EndsDirection, O: Observer>(
         HasSeen plan.entry.tested (then_turn past [] before.items) evidence.old
         → MayGoOn plan.entry.tested (all_got past ++ before.items)
         → RunsTurn plan.entry.tested (concat plan.entry.pieces.now) (all_got past) before.items plan.entry.more
-        (HasAllCome plan.entry.tested (past ++ run.0 ∷ [])) run.0 run.1 evidence.new.tester
+        (HasAllCome plan.entry.expected plan.entry.tested (past ++ run.0 ∷ [])) run.0 run.1 evidence.new.tester
         (record { old = connection.old; new = connection.new })
-        × SeesRun plan.entry.tested run.1 (past ++ run.0 ∷ []) evidence.new
+        × SeesRun plan.entry.expected plan.entry.tested run.1 (past ++ run.0 ∷ []) evidence.new
         (record { old = connection.old; new = connection.new })) }
     ensures told { IfOk result (λ run. HearsTurns O.heard observer.old observer.new (run.0 ∷ [])) }
     ensures borrow { O.borrow observer.new ≡ O.borrow observer.old }
@@ -95,6 +97,7 @@ pub fn run_turn<R: Read, W: EndsDirection, O: Observer>(
     let mut got = before;
     let stop = read_turn(
         plan.tested,
+        plan.expected,
         connection,
         waits,
         plan.more,
@@ -174,6 +177,7 @@ fn end_of_turn<R: Read, W: EndsDirection>(
 /// after it, to the end of the frame that has begun by then.
 fn read_turn<R: Read, W: EndsDirection, O: Observer>(
     tested: Role,
+    expected: Expectation,
     connection: &mut Connection<R, W>,
     waits: bool,
     more: bool,
@@ -189,7 +193,7 @@ fn read_turn<R: Read, W: EndsDirection, O: Observer>(
         → MayGoOn tested (all_got past ++ got.old.items)
         → ReadsTurn tested waits stop (all_got past) got.old.items got.new.items evidence.new.tester
         (record { old = connection.old; new = connection.new })
-        × SeesTurn tested stop (then_turn past sent got.new.items) evidence.new
+        × SeesTurn expected tested stop (then_turn past sent got.new.items) evidence.new
         (record { old = connection.old; new = connection.new })) }
     ensures whole { IfOk result (λ stop. stop ≡ IsThere → more ≡ false → IsWholeBy tested evidence.new) }
     ensures told { IfOk result (λ stop. KeepsUp O.heard observer.old observer.new got.old.items got.new.items) }
@@ -198,7 +202,7 @@ fn read_turn<R: Read, W: EndsDirection, O: Observer>(
     one_list_of_events();
     let mut room = [0; READ_SIZE];
     'reads: loop {
-        match stop_before(tested, connection, waits, more, evidence) {
+        match stop_before(tested, expected, connection, waits, more, evidence) {
             Some(stop) => return Ok(stop),
             None => {}
         }
@@ -214,6 +218,7 @@ fn read_turn<R: Read, W: EndsDirection, O: Observer>(
 /// of it.
 fn stop_before<R: Read, W: EndsDirection>(
     tested: Role,
+    expected: Expectation,
     connection: &mut Connection<R, W>,
     waits: bool,
     more: bool,
@@ -222,7 +227,7 @@ fn stop_before<R: Read, W: EndsDirection>(
     ensures stops { StopsBefore tested result waits (standing_by evidence.now.tester.status)
         (record { old = connection.old; new = connection.new }) }
     ensures due { result ≡ Some IsThere → (turns : List Turn) → HasSeen tested turns evidence.now →
-        AreTurnsAnswered tested turns }
+        AreTurnsAnsweredBy expected tested turns }
     ensures whole { result ≡ Some IsThere → more ≡ false → IsWholeBy tested evidence.now }
 {
     let standing = standing_of(evidence);
@@ -236,7 +241,7 @@ fn stop_before<R: Read, W: EndsDirection>(
         return Some(TurnStop::Budget);
     }
     let may_go = standing == Standing::Going && !waits && !connection.has_write_failed();
-    if may_go && evidence.is_answered() && (more || !evidence.ends_inside_frame()) {
+    if may_go && evidence.is_answered_by(expected) && (more || !evidence.ends_inside_frame()) {
         return Some(TurnStop::IsThere);
     }
     None

@@ -14,7 +14,7 @@ returns-in_ok-ended-in-Decided-Accepted-clause-answers g c =
     let first = c.in_ok-first-in-Decided-Accepted.first.items in
     let behind : first ≡ drop used c.read_head.new.room =
     c.in_ok-first-in-Decided-Accepted.ensures ∙ ap (λ (l : List ℕ). drop used l) c.as_slice.ensures.bytes in
-    runs_after (map (λ (pieces : List (List ℕ)). concat pieces) c.args.script.now) (map (λ (name : Bor (List ℕ)). name.now) c.args.asked.now.request.protocols.now) c.in_ok-transcript-in-Decided-Accepted.transcript
+    runs_after c.args.asked.now.expected (map (λ (pieces : List (List ℕ)). concat pieces) c.args.script.now) (map (λ (name : Bor (List ℕ)). name.now) c.args.asked.now.request.protocols.now) c.in_ok-transcript-in-Decided-Accepted.transcript
     c.read_head.new.room first used c.args.connection.now c.read_head.new.self c.run_turns.new.connection reads behind c.in_ok-transcript-in-Decided-Accepted.ensures.runs
 
 pub returns-in_ok-ended-in-Decided-Accepted-clause-told : goal.returns-in_ok-ended-in-Decided-Accepted-clause-told

@@ -18,7 +18,7 @@ returns-then-taken-bytes-clause-probes g c =
     let asked = text_of_request request (key_of probe_nonce) in
     let text : c.as_slice-bytes.result.now ≡ asked = c.as_slice-bytes.ensures.value ∙ c.in_ok-text.ensures in
     let fails : c.write-taken.new.self.output.failed ≡ true = grind (c.write-taken.ensures.failed, arith, nat_tests) in
-    not_asked (bytes_by_turn c.args.case.now (Some c.args.asked.now.key)) offers c.as_slice-bytes.result.now asked c.write-taken.result c.args.connection.now c.write-taken.new.self
+    not_asked c.args.asked.now.expected (bytes_by_turn c.args.case.now (Some c.args.asked.now.key)) offers c.as_slice-bytes.result.now asked c.write-taken.result c.args.connection.now c.write-taken.new.self
     c.requires.new text c.write-taken.ensures.put fails c.write-taken.ensures.input
 
 pub returns-clause-probes : goal.returns-clause-probes
@@ -34,6 +34,6 @@ returns-clause-probes g c =
     let same : script ≡ c.in_ok-script.script = search rules in
     let bytes : map (λ (pieces : List (List ℕ)). concat pieces) script ≡ bytes_by_turn case key =
     ap (λ (l : List (List (List ℕ))). map (λ (pieces : List (List ℕ)). concat pieces) l) same ∙ bytes_are case.chop key (turns_of case.steps) c.in_ok-script.script c.in_ok-script.ensures in
-    answers (bytes_by_turn case key) offers c.as_slice-bytes.result.now asked c.in_ok-came.came c.args.connection.now c.write-taken.new.self c.after_request.new.connection
+    answers c.args.asked.now.expected (bytes_by_turn case key) offers c.as_slice-bytes.result.now asked c.in_ok-came.came c.args.connection.now c.write-taken.new.self c.after_request.new.connection
     text (put_whole c.as_slice-bytes.result.now c.write-taken.result c.args.connection.now c.write-taken.new.self all c.write-taken.ensures.put) c.write-taken.ensures.input
-    (subst (λ (l : List (List ℕ)). AnswersBehind l offers c.in_ok-came.came (between c.write-taken.new.self c.after_request.new.connection)) bytes c.in_ok-came.ensures.answers)
+    (subst (λ (l : List (List ℕ)). AnswersBehind c.args.asked.now.expected l offers c.in_ok-came.came (between c.write-taken.new.self c.after_request.new.connection)) bytes c.in_ok-came.ensures.answers)

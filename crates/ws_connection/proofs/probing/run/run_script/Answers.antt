@@ -16,7 +16,7 @@ returns-clause-runs g c =
     let same : script ≡ c.in_ok-script.script = search rules in
     let bytes : map (λ (pieces : List (List ℕ)). concat pieces) script ≡ bytes_by_turn case key =
     ap (λ (l : List (List (List ℕ))). map (λ (pieces : List (List ℕ)). concat pieces) l) same ∙ bytes_are case.chop key (turns_of case.steps) c.in_ok-script.script c.in_ok-script.ensures in
-    subst (λ (l : List (List ℕ)). Records c.args.plan.tested l c.args.first.items c.in_ok-transcript.transcript (between c.args.connection.now c.run_turns.new.connection)) bytes c.in_ok-transcript.ensures.runs
+    subst (λ (l : List (List ℕ)). Records c.args.plan.expected c.args.plan.tested l c.args.first.items c.in_ok-transcript.transcript (between c.args.connection.now c.run_turns.new.connection)) bytes c.in_ok-transcript.ensures.runs
 
 pub returns-clause-told : goal.returns-clause-told
 returns-clause-told g c =

@@ -14,7 +14,7 @@ use Rattle.ws_connection.proofs.probing.script.run_turns.Goals as goal
 pub returns-then-is_empty-clause-runs : goal.returns-then-is_empty-clause-runs
 returns-then-is_empty-clause-runs g c =
     let none : length c.args.script.now ≤ 0 = search rules in
-    without_turns c.args.tested c.args.script.now c.args.first.items c.transcript_of.result c.in_ok-turns.turns.items c.args.connection.now (inl (no_pieces c.args.script.now none))
+    without_turns c.args.expected c.args.tested c.args.script.now c.args.first.items c.transcript_of.result c.in_ok-turns.turns.items c.args.connection.now (inl (no_pieces c.args.script.now none))
     c.transcript_of.ensures.turns c.in_ok-turns.ensures.turns c.transcript_of.ensures.ended c.requires.ready
 
 -- what came with the head was got in the first turn
@@ -25,7 +25,7 @@ returns-then-is_final-clause-runs g c =
     let begun = c.begin_turn.ensures c.args.tested [] (omega arith) c.new-evidence.ensures in
     let seen = first_seen c.args.tested [] c.as_slice.result.now c.args.first.items c.on_got.new.self refl c.as_slice.ensures.value (c.in_ok-on_got.ensures.grown c.args.tested [] new_turn begun) in
     let heard = heard_in_turn c.args.tested [] [] c.args.first.items c.on_got.new.self seen in
-    without_turns c.args.tested c.args.script.now c.args.first.items c.transcript_of-then-is_final.result c.in_ok-turns-2.turns.items c.args.connection.now
+    without_turns c.args.expected c.args.tested c.args.script.now c.args.first.items c.transcript_of-then-is_final.result c.in_ok-turns-2.turns.items c.args.connection.now
     (inr (so_stands is_final true c.args.tested (standing_by c.on_got.new.self.tester.status) c.args.first.items final (heard_stands (other_role c.args.tested) c.on_got.new.self.tester c.args.first.items heard)))
     c.transcript_of-then-is_final.ensures.turns c.in_ok-turns-2.ensures.turns c.transcript_of-then-is_final.ensures.ended c.requires.ready
 
@@ -38,7 +38,7 @@ loop-pieces-init g c =
     let grown = c.in_ok-on_got.ensures.grown c.args.tested [] new_turn begun in
     let seen = first_seen c.args.tested [] c.as_slice.result.now c.args.first.items c.on_got.new.self refl c.as_slice.ensures.value grown in
     let heard = heard_in_turn c.args.tested [] [] c.args.first.items c.on_got.new.self seen in (
-      runs_none c.args.tested c.args.script.now c.args.first.items c.args.first.items c.new-done.result.items c.args.connection.now refl c.new-done.ensures.items some c.requires.ready
+      runs_none c.args.expected c.args.tested c.args.script.now c.args.first.items c.args.first.items c.new-done.result.items c.args.connection.now refl c.new-done.ensures.items some c.requires.ready
           (so_stands is_final false c.args.tested (standing_by c.on_got.new.self.tester.status) c.args.first.items clean (heard_stands (other_role c.args.tested) c.on_got.new.self.tester c.args.first.items heard)),
       first_seen c.args.tested c.new-done.result.items c.as_slice.result.now c.args.first.items c.on_got.new.self c.new-done.ensures.items c.as_slice.ensures.value grown,
       hears_none g.O.Observer.heard c.args.observer.now c.new-done.result.items c.new-done.ensures.items,
@@ -55,7 +55,7 @@ returns-in-Some-clause-runs g c =
     let end : c.in_ok-turn.end ≡ Some c.in-Some.ended = search rules in
     let pushed : c.push_turn.new.done.items ≡ c.loop-pieces.done.items ++ c.in_ok-turn.turn ∷ [] = search rules in
     let (runs, sees) = c.in_ok-turn.ensures.runs c.loop-pieces.done.items seen h.none_faulty in
-    ended_in c.args.tested script pieces c.args.first.items c.loop-pieces.got.items c.loop-pieces.done.items c.push_turn.new.done.items c.in_ok-turn.turn i _ _ _ _ _ c.in_ok-turn.end
+    ended_in c.args.expected c.args.tested script pieces c.args.first.items c.loop-pieces.got.items c.loop-pieces.done.items c.push_turn.new.done.items c.in_ok-turn.turn i _ _ _ _ _ c.in_ok-turn.end
     h runs sees pushed c.in-Some.ended c.transcript_of-in-Some.result end (cut_of script i pieces c.pieces-item.result c.loop-pieces-test.true is c.pieces-item.is)
     c.transcript_of-in-Some.ensures.turns c.transcript_of-in-Some.ensures.ended
     (λ last. none_more c.len.result i (length script) (c.len.ensures ∙ c.loop-pieces.done.ok.0 ∙ h.count) last)
@@ -73,7 +73,7 @@ loop-pieces-preserved g c =
     let empty : c.new-got.result.items ≡ [] = search rules in
     let (runs, sees) = c.in_ok-turn.ensures.runs done seen h.none_faulty in
     let next =
-    goes_on c.args.tested script pieces c.args.first.items c.loop-pieces.got.items done c.push_turn.new.done.items c.in_ok-turn.turn i _ _ _ _ _ c.in_ok-turn.end
+    goes_on c.args.expected c.args.tested script pieces c.args.first.items c.loop-pieces.got.items done c.push_turn.new.done.items c.in_ok-turn.turn i _ _ _ _ _ c.in_ok-turn.end
     h runs sees pushed c.new-got.result.items end empty (next_of script i pieces c.pieces-item.result c.loop-pieces-test.true is c.pieces-item.is)
     (λ more. more_left c.len.result i (length script) (c.len.ensures ∙ c.loop-pieces.done.ok.0 ∙ h.count) more) in
     let left : i + 1 < length script = next.more in

@@ -2,7 +2,7 @@
 use Rattle.std.proofs.Common.{◌≡◌, ◌∙◌, List, Option, ap, refl, rules, subst}
 use Rattle.std.specs.Prelude.{None, Some}
 use Rattle.ws_scripts.specs.declared.transcript.Turn.{Turn}
-use Rattle.ws_suite.specs.Growing.{AreTurnsAnswered}
+use Rattle.ws_suite.specs.Waiting.{AreTurnsAnsweredBy}
 use Rattle.ws_connection.specs.Probing.{all_got}
 use Rattle.ws_connection.specs.Standings.{standing_by}
 use Rattle.ws_connection.specs.InnerProbeTurns.{HasSeen, StopsBefore}
@@ -28,11 +28,11 @@ pub returns-in-Some-clause-reads : goal.returns-in-Some-clause-reads
 returns-in-Some-clause-reads g c = λ past sent seen none.
     let is : c.stop_before.result ≡ Some c.in-Some.stop = search rules in
     let stops = subst (λ (o : Option TurnStop). StopsBefore c.args.tested o c.args.waits (standing_by c.reads.evidence.tester.status) (between c.reads.connection c.stop_before.new.connection)) is c.stop_before.ensures.stops in
-    let due = subst (λ (o : Option TurnStop). o ≡ Some IsThere → (turns : List Turn) → HasSeen c.args.tested turns c.reads.evidence → AreTurnsAnswered c.args.tested turns) is c.stop_before.ensures.due in
+    let due = subst (λ (o : Option TurnStop). o ≡ Some IsThere → (turns : List Turn) → HasSeen c.args.tested turns c.reads.evidence → AreTurnsAnsweredBy c.args.expected c.args.tested turns) is c.stop_before.ensures.due in
     let (so_far, shown) = c.reads.invariant.1 past sent seen none in (
       stopped_before c.one_list_of_events.ensures c.args.tested c.args.waits c.in-Some.stop (all_got past) c.args.got.now.items c.reads.got.items c.reads.evidence.tester c.args.connection.now c.reads.connection
           c.stop_before.new.connection c.reads.invariant.0 so_far stops,
-      sees_before c.args.tested c.args.waits c.in-Some.stop (standing_by c.reads.evidence.tester.status) _ c.reads.evidence c.args.connection.now c.reads.connection c.stop_before.new.connection shown c.reads.invariant.2 stops due,
+      sees_before c.args.expected c.args.tested c.args.waits c.in-Some.stop (standing_by c.reads.evidence.tester.status) _ c.reads.evidence c.args.connection.now c.reads.connection c.stop_before.new.connection shown c.reads.invariant.2 stops due,
     )
 
 pub returns-in-Some-2-clause-reads : goal.returns-in-Some-2-clause-reads
@@ -45,7 +45,7 @@ returns-in-Some-2-clause-reads g c = λ past sent seen none.
     let after = seen_more c.args.tested past sent c.reads.got.items c.read_piece.new.got.items piece.piece c.reads.evidence c.read_piece.new.evidence piece.grown piece.seen shown in (
       stopped_at_read c.one_list_of_events.ensures c.args.tested (all_got past) c.args.got.now.items c.reads.got.items c.read_piece.new.got.items c.reads.evidence c.read_piece.new.evidence c.args.connection.now c.reads.connection
           c.stop_before.new.connection c.read_piece.new.connection c.args.waits c.in_ok-stop.field-0 so_far stops piece (heard_in_turn c.args.tested past sent c.read_piece.new.got.items c.read_piece.new.evidence after) c.in-Some-2.stop is,
-      sees_after c.args.tested c.in-Some-2.stop c.in_ok-stop.field-0 c.reads.got.items c.read_piece.new.got.items _ c.reads.evidence c.read_piece.new.evidence c.args.connection.now c.reads.connection c.stop_before.new.connection
+      sees_after c.args.expected c.args.tested c.in-Some-2.stop c.in_ok-stop.field-0 c.reads.got.items c.read_piece.new.got.items _ c.reads.evidence c.read_piece.new.evidence c.args.connection.now c.reads.connection c.stop_before.new.connection
           c.read_piece.new.connection is after c.reads.invariant.2 stops.input piece,
     )
 

@@ -14,15 +14,16 @@ returns-clause-runs g c = λ past seen none.
     let sent = c.in_ok-sent.sent.items in
     let before = c.args.before.items in
     let tested = c.args.plan.tested in
+    let expected = c.args.plan.expected in
     let shown = c.in_ok-on_sent.ensures tested past (record { sent = []; got = before }) seen in
     let there = subst (λ (l : List ℕ). HasSeen tested (then_turn past l before) c.on_sent.new.self) c.as_slice.ensures.value shown in
     let (reads, sees) = c.in_ok-stop.ensures.reads past sent there none in (
-      turn_run c.one_list_of_events.ensures tested (HasAllCome tested (past ++ turn ∷ [])) (concat c.args.plan.pieces.now) (all_got past) before sent c.read_turn.new.got.items c.args.plan.more c.wait-waits.result c.in_ok-stop.stop
+      turn_run c.one_list_of_events.ensures tested (HasAllCome expected tested (past ++ turn ∷ [])) (concat c.args.plan.pieces.now) (all_got past) before sent c.read_turn.new.got.items c.args.plan.more c.wait-waits.result c.in_ok-stop.stop
           turn c.end_of_turn.result c.read_turn.new.evidence.tester c.args.connection.now c.send.new.connection c.read_turn.new.connection
           c.in_ok-sent.ensures reads
-          (λ last goes stop. all_come tested past sent before c.read_turn.new.got.items turn c.on_sent.new.self c.read_turn.new.evidence c.in_ok-stop.stop _ _ c.has_sent_end.result (c.wait-waits.ensures.last last goes) c.has_sent_end.ensures there sees (c.in_ok-stop.ensures.whole stop last) stop c.from_vec.ensures c.from_vec-2.ensures)
+          (λ last goes stop. all_come expected tested past sent before c.read_turn.new.got.items turn c.on_sent.new.self c.read_turn.new.evidence c.in_ok-stop.stop _ _ c.has_sent_end.result (c.wait-waits.ensures.last last goes) c.has_sent_end.ensures there sees (c.in_ok-stop.ensures.whole stop last) stop c.from_vec.ensures c.from_vec-2.ensures)
           c.from_vec.ensures c.from_vec-2.ensures c.end_of_turn.ensures,
-      sees_run tested _ _ c.args.plan.more c.in_ok-stop.stop c.end_of_turn.result past sent c.read_turn.new.got.items turn c.read_turn.new.evidence c.args.connection.now c.send.new.connection c.read_turn.new.connection
+      sees_run expected tested _ _ c.args.plan.more c.in_ok-stop.stop c.end_of_turn.result past sent c.read_turn.new.got.items turn c.read_turn.new.evidence c.args.connection.now c.send.new.connection c.read_turn.new.connection
           c.end_of_turn.ensures c.from_vec.ensures c.from_vec-2.ensures c.in_ok-sent.ensures.input sees,
     )
 
