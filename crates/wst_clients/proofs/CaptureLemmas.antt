@@ -12,6 +12,7 @@ use Rattle.ws_connection.specs.declared.admitting.Admission.TheVariants as admis
 use Rattle.ws_connection.specs.declared.probe_end.Probe.TheVariants as probe
 use Rattle.ws_paths.specs.Standings.{StandingValue, none_run}
 use Rattle.ws_paths.specs.declared.behavior.Behavior.TheVariants.{Unimplemented}
+use Rattle.ws_scripts.specs.declared.expectation.Expectation.{Expectation}
 use Rattle.ws_scripts.specs.declared.script.Case.{Case}
 use Rattle.ws_scripts.specs.declared.transcript.Transcript.{Transcript}
 use Rattle.wst_commands.specs.declared.exit.Exit.{Exit}
@@ -138,13 +139,17 @@ passed_lack Meets rules f g a b c so still (next, some, told) = (
 )
 
 -- the capture of a run by rules for a client is that of the last one
-pub last_captured : (rules : RunRules) (case : Case) (came : Visit) (purpose : Purpose) (transcript : Transcript)
-    (exit : Exit) (output : Device) → rules.tested ≡ Client → came ≡ visit.Ran purpose transcript
-    → WritesCapture rules.tested (run_capture rules.tested rules.key transcript) exit output
-    → WritesLast case came exit output
-last_captured rules case came purpose transcript exit output client is writes =
-    subst (λ (v : Visit). WritesLast case v exit output) (sym is)
-    (subst (λ (r : Role). WritesCapture r (run_capture r rules.key transcript) exit output) client writes)
+pub last_captured : (rules : RunRules) (expected : Expectation) (case : Case) (came : Visit) (purpose : Purpose)
+    (transcript : Transcript) (exit : Exit) (output : Device) → rules.tested ≡ Client → rules.expected ≡ expected
+    → came ≡ visit.Ran purpose transcript
+    → WritesCapture rules.tested rules.expected (run_capture rules.tested rules.key transcript) exit output
+    → WritesLast expected case came exit output
+last_captured rules expected case came purpose transcript exit output client same is writes =
+    subst (λ (v : Visit). WritesLast expected case v exit output) (sym is)
+    (subst (λ (r : Role). WritesCapture r expected (run_capture r rules.key transcript) exit output) client
+    (subst
+    (λ (x : Expectation). WritesCapture rules.tested x (run_capture rules.tested rules.key transcript) exit output)
+    same writes))
 
 pub is_last : (count : ℕ) (next : Visit) → ends_capture count next ≡ true → IsLast next
 is_last count visit.Lost ends = absurd (let wrong : false ≡ true = ends in cc)
@@ -155,11 +160,11 @@ is_last count (visit.Ran purpose transcript) ends = tt
 -- ---- a script
 
 -- it was run behind the head of an accepted request
-pub scripted_so : (known : List (List ℕ)) (case : Case) (transcript : Transcript) (request : AcceptedRequest)
-    (x y z : ConnectionValue) → Admits known (admission.Accepted request) (record { old = x; new = y })
-    → RunsOver case request.behind.items transcript (record { old = y; new = z })
-    → Scripts known case (scripted.Ran transcript) (record { old = x; new = z })
-scripted_so known case transcript request x y z accepts runs =
+pub scripted_so : (expected : Expectation) (known : List (List ℕ)) (case : Case) (transcript : Transcript)
+    (request : AcceptedRequest) (x y z : ConnectionValue) → Admits known (admission.Accepted request) (record { old = x; new = y })
+    → RunsOver expected case request.behind.items transcript (record { old = y; new = z })
+    → Scripts expected known case (scripted.Ran transcript) (record { old = x; new = z })
+scripted_so expected known case transcript request x y z accepts runs =
     record { behind = y; request = request; accepted = accepts; runs = runs }
 
 -- one over which it was not run

@@ -11,6 +11,7 @@ use Rattle.ws_paths.specs.Paths.{IsPurpose}
 use Rattle.ws_paths.specs.Standings.{StandingValue}
 use Rattle.ws_paths.specs.Telling.{IsToldBy}
 use Rattle.ws_paths.specs.declared.purpose.Purpose.{Purpose}
+use Rattle.ws_scripts.specs.declared.expectation.Expectation.{Expectation}
 use Rattle.ws_scripts.specs.declared.script.Case.{Case}
 use Rattle.ws_scripts.specs.declared.transcript.Transcript.{Transcript}
 use Rattle.ws_wire.specs.declared.role.Role.TheVariants.{Client}
@@ -60,81 +61,83 @@ visited rules standing purpose (visit.Ran other transcript) request x y z accept
 pub plays_told : (rules : VisitRules) (standing : StandingValue) (purpose : Purpose) (first : List ℕ)
     (text : Option (String Global)) (script : Case) (transcript : Transcript) (run : ConnectionRun)
     → case_for rules.cases.now purpose ≡ None → IsTextFor rules standing purpose text → IsToldBy text script
-    → RunsOver script first transcript run → PlaysTo rules standing purpose first (visit.Told purpose) run
+    → RunsOver rules.expected script first transcript run → PlaysTo rules standing purpose first (visit.Told purpose) run
 plays_told rules standing purpose first text script transcript run none is told runs =
     (refl, none, (script, transcript, (text, is, told), runs))
 
 pub plays_ran : (rules : VisitRules) (standing : StandingValue) (purpose : Purpose) (first : List ℕ) (case : Case)
     (transcript : Transcript) (run : ConnectionRun) → case_for rules.cases.now purpose ≡ Some case
-    → RunsOver case first transcript run → PlaysTo rules standing purpose first (visit.Ran purpose transcript) run
+    → RunsOver rules.expected case first transcript run → PlaysTo rules standing purpose first (visit.Ran purpose transcript) run
 plays_ran rules standing purpose first case transcript run is runs = (refl, (case, is, runs))
 
 -- ---- what is told of it
 
 -- of a case that was run: the verdict on the client
-pub ran_told : (explains : Bool) (came : Visit) (purpose : Purpose) (transcript : Transcript) (told : Judgement)
-    → came ≡ visit.Ran purpose transcript → IsJudgementOf explains Client transcript told
-    → IsVisitOutcome explains came (Ran purpose (Judged told))
-ran_told explains came purpose transcript told is judged =
-    subst (λ (v : Visit). IsVisitOutcome explains v (Ran purpose (Judged told))) (sym is) (refl, (told, refl, judged))
+pub ran_told : (explains : Bool) (expected : Expectation) (came : Visit) (purpose : Purpose) (transcript : Transcript)
+    (told : Judgement) → came ≡ visit.Ran purpose transcript → IsJudgementOf explains Client expected transcript told
+    → IsVisitOutcome explains expected came (Ran purpose (Judged told))
+ran_told explains expected came purpose transcript told is judged =
+    subst (λ (v : Visit). IsVisitOutcome explains expected v (Ran purpose (Judged told))) (sym is)
+    (refl, (told, refl, judged))
 
-inside_of : (explains : Bool) (rules : VisitRules) (came : Visit) (told : VisitOutcome)
-    → IsVisitOutcome explains came told → IsInside rules came → AsksInside rules told
-inside_of explains rules visit.Lost Lost is within = tt
-inside_of explains rules visit.Lost (Refused fault) is within = absurd is
-inside_of explains rules visit.Lost (Told purpose) is within = absurd is
-inside_of explains rules visit.Lost (Ran purpose outcome) is within = absurd is
-inside_of explains rules (visit.Refused f) Lost is within = absurd is
-inside_of explains rules (visit.Refused f) (Refused fault) is within = tt
-inside_of explains rules (visit.Refused f) (Told purpose) is within = absurd is
-inside_of explains rules (visit.Refused f) (Ran purpose outcome) is within = absurd is
-inside_of explains rules (visit.Told p) Lost is within = absurd is
-inside_of explains rules (visit.Told p) (Refused fault) is within = absurd is
-inside_of explains rules (visit.Told p) (Told purpose) is within =
+inside_of : (explains : Bool) (expected : Expectation) (rules : VisitRules) (came : Visit) (told : VisitOutcome)
+    → IsVisitOutcome explains expected came told → IsInside rules came → AsksInside rules told
+inside_of explains expected rules visit.Lost Lost is within = tt
+inside_of explains expected rules visit.Lost (Refused fault) is within = absurd is
+inside_of explains expected rules visit.Lost (Told purpose) is within = absurd is
+inside_of explains expected rules visit.Lost (Ran purpose outcome) is within = absurd is
+inside_of explains expected rules (visit.Refused f) Lost is within = absurd is
+inside_of explains expected rules (visit.Refused f) (Refused fault) is within = tt
+inside_of explains expected rules (visit.Refused f) (Told purpose) is within = absurd is
+inside_of explains expected rules (visit.Refused f) (Ran purpose outcome) is within = absurd is
+inside_of explains expected rules (visit.Told p) Lost is within = absurd is
+inside_of explains expected rules (visit.Told p) (Refused fault) is within = absurd is
+inside_of explains expected rules (visit.Told p) (Told purpose) is within =
     subst (λ (q : Purpose). IsInside rules (visit.Told q)) (sym is) within
-inside_of explains rules (visit.Told p) (Ran purpose outcome) is within = absurd is
-inside_of explains rules (visit.Ran p transcript) Lost is within = absurd is
-inside_of explains rules (visit.Ran p transcript) (Refused fault) is within = absurd is
-inside_of explains rules (visit.Ran p transcript) (Told purpose) is within = absurd is
-inside_of explains rules (visit.Ran p transcript) (Ran purpose outcome) is within =
+inside_of explains expected rules (visit.Told p) (Ran purpose outcome) is within = absurd is
+inside_of explains expected rules (visit.Ran p transcript) Lost is within = absurd is
+inside_of explains expected rules (visit.Ran p transcript) (Refused fault) is within = absurd is
+inside_of explains expected rules (visit.Ran p transcript) (Told purpose) is within = absurd is
+inside_of explains expected rules (visit.Ran p transcript) (Ran purpose outcome) is within =
     subst (λ (q : Purpose). IsInside rules (visit.Told q)) (sym is.0) within
 
 pub comes : (Meets : StandingValue → Visit → Type 0) (rules : VisitRules) (standing : StandingValue) (came : Visit)
-    (told : VisitOutcome) → Meets standing came → IsVisitOutcome rules.explains came told → IsInside rules came
+    (told : VisitOutcome) → Meets standing came → IsVisitOutcome rules.explains rules.expected came told
+    → IsInside rules came
     → ComesTo Meets rules standing told
 comes Meets rules standing came told met is within = record {
   visit = came;
   visited = met;
   told = is;
-  inside = inside_of rules.explains rules came told is within;
+  inside = inside_of rules.explains rules.expected rules came told is within;
 }
 
-pub same_notes : (explains : Bool) (rules : VisitRules) (came : Visit) (told : VisitOutcome)
-    → IsVisitOutcome explains came told → visit_notes rules came ≡ outcome_notes rules told
-same_notes explains rules visit.Lost Lost is = refl
-same_notes explains rules visit.Lost (Refused fault) is = absurd is
-same_notes explains rules visit.Lost (Told purpose) is = absurd is
-same_notes explains rules visit.Lost (Ran purpose outcome) is = absurd is
-same_notes explains rules (visit.Refused f) Lost is = absurd is
-same_notes explains rules (visit.Refused f) (Refused fault) is =
+pub same_notes : (explains : Bool) (expected : Expectation) (rules : VisitRules) (came : Visit) (told : VisitOutcome)
+    → IsVisitOutcome explains expected came told → visit_notes rules came ≡ outcome_notes rules told
+same_notes explains expected rules visit.Lost Lost is = refl
+same_notes explains expected rules visit.Lost (Refused fault) is = absurd is
+same_notes explains expected rules visit.Lost (Told purpose) is = absurd is
+same_notes explains expected rules visit.Lost (Ran purpose outcome) is = absurd is
+same_notes explains expected rules (visit.Refused f) Lost is = absurd is
+same_notes explains expected rules (visit.Refused f) (Refused fault) is =
     ap (λ (x : HeadFault). refused_line x ∷ []) (sym is)
-same_notes explains rules (visit.Refused f) (Told purpose) is = absurd is
-same_notes explains rules (visit.Refused f) (Ran purpose outcome) is = absurd is
-same_notes explains rules (visit.Told p) Lost is = absurd is
-same_notes explains rules (visit.Told p) (Refused fault) is = absurd is
-same_notes explains rules (visit.Told p) (Told purpose) is = refl
-same_notes explains rules (visit.Told p) (Ran purpose outcome) is = absurd is
-same_notes explains rules (visit.Ran p transcript) Lost is = absurd is
-same_notes explains rules (visit.Ran p transcript) (Refused fault) is = absurd is
-same_notes explains rules (visit.Ran p transcript) (Told purpose) is = absurd is
-same_notes explains rules (visit.Ran p transcript) (Ran purpose outcome) is =
+same_notes explains expected rules (visit.Refused f) (Told purpose) is = absurd is
+same_notes explains expected rules (visit.Refused f) (Ran purpose outcome) is = absurd is
+same_notes explains expected rules (visit.Told p) Lost is = absurd is
+same_notes explains expected rules (visit.Told p) (Refused fault) is = absurd is
+same_notes explains expected rules (visit.Told p) (Told purpose) is = refl
+same_notes explains expected rules (visit.Told p) (Ran purpose outcome) is = absurd is
+same_notes explains expected rules (visit.Ran p transcript) Lost is = absurd is
+same_notes explains expected rules (visit.Ran p transcript) (Refused fault) is = absurd is
+same_notes explains expected rules (visit.Ran p transcript) (Told purpose) is = absurd is
+same_notes explains expected rules (visit.Ran p transcript) (Ran purpose outcome) is =
     ap (λ (q : Purpose). case_notes rules.progress (case_for rules.cases.now q)) (sym is.0)
 
 -- what is told of it is told of some connection
 pub some_of_outcome : (Meets : StandingValue → Visit → Type 0) (rules : VisitRules) (standing : StandingValue)
     (told : VisitOutcome) → ComesTo Meets rules standing told → AreSomeNotes rules (outcome_notes rules told)
 some_of_outcome Meets rules standing told is =
-    inr (is.visit, sym (same_notes rules.explains rules is.visit told is.told))
+    inr (is.visit, sym (same_notes rules.explains rules.expected rules is.visit told is.told))
 
 -- where memory runs out
 

@@ -14,6 +14,7 @@ use Rattle.wst_commands.specs.declared.fault.Fault.{Fault}
 use Rattle.wst_commands.specs.declared.fault.Fault.TheVariants.{NoMemory}
 use Rattle.wst_testing.specs.Notes.{TellsEach}
 use Rattle.wst_testing.specs.Testing.{WritesCapture, test_line}
+use Rattle.ws_scripts.specs.declared.expectation.Expectation.{Expectation}
 use Rattle.wst_clients.specs.Visits.{AreSomeNotes, visit_notes}
 use Rattle.wst_testing.specs.declared.outcome.Outcome.TheVariants.{NotRun}
 use Rattle.wst_clients.specs.declared.visiting.Visit.{Visit}
@@ -32,11 +33,12 @@ abbrev pub client_capture : Transcript → Capture
 client_capture transcript = record { key = None; transcript = transcript }
 
 -- what is written with the connection that ends the run: the capture of the case; or the line of one that was not run
-abbrev pub WritesLast : Case → Visit → Exit → Device → Type 0
-WritesLast case (Ran purpose transcript) exit output = WritesCapture Client (client_capture transcript) exit output
-WritesLast case (Told purpose) exit output = Delivers Damaged (test_line (case, NotRun)) exit output
-WritesLast case Lost exit output = ⊥
-WritesLast case (Refused fault) exit output = ⊥
+abbrev pub WritesLast : Expectation → Case → Visit → Exit → Device → Type 0
+WritesLast expected case (Ran purpose transcript) exit output =
+    WritesCapture Client expected (client_capture transcript) exit output
+WritesLast expected case (Told purpose) exit output = Delivers Damaged (test_line (case, NotRun)) exit output
+WritesLast expected case Lost exit output = ⊥
+WritesLast expected case (Refused fault) exit output = ⊥
 
 -- such connections came while the one case was not run, none of which ends the run
 abbrev pub PassOn : (StandingValue → Visit → Type 0) → VisitRules → List Visit → Type 0
@@ -74,7 +76,7 @@ LacksPassing Visits rules faults =
 abbrev pub CapturesClient : (StandingValue → Visit → Type 0) → VisitRules → Case → Result Exit Fault → Device →
     Device → Type 0
 CapturesClient Visits rules case (Ok exit) output faults =
-    ((last : Visit) × EndsWithVisit Visits rules last faults × WritesLast case last exit output)
+    ((last : Visit) × EndsWithVisit Visits rules last faults × WritesLast rules.expected case last exit output)
     ⊎ ((exit ≡ Failed) × HavePassed Visits rules [] faults × IsUntouched output)
 CapturesClient Visits rules case (Err fault) output faults = (fault ≡ NoMemory) × IsUntouched output
     × (LacksPassing Visits rules faults ⊎ ((last : Visit) × EndsWithVisit Visits rules last faults))

@@ -8,6 +8,7 @@ use Rattle.ws_connection.specs.declared.admitting.AcceptedRequest.{AcceptedReque
 use Rattle.ws_connection.specs.declared.admitting.Admission.TheVariants as admission
 use Rattle.ws_connection.specs.declared.probe_end.Probe.{Probe}
 use Rattle.ws_connection.specs.declared.probe_end.Probe.TheVariants as probe
+use Rattle.ws_scripts.specs.declared.expectation.Expectation.{Expectation}
 use Rattle.ws_scripts.specs.declared.script.Case.{Case}
 use Rattle.ws_scripts.specs.declared.transcript.Transcript.{Transcript}
 use Rattle.wst_testing.specs.Notes.{TellsEach}
@@ -19,18 +20,18 @@ use Rattle.wst_clients.specs.declared.scripting.Scripted.TheVariants.{Lost, Ran,
 -- ---- one connection
 
 -- The request was accepted, whatever it asks for, and the script run behind it.
-pub record IsScripted (known : List (List ℕ)) (case : Case) (transcript : Transcript) (run : ConnectionRun)
-    : Type 0 where
+pub record IsScripted (expected : Expectation) (known : List (List ℕ)) (case : Case) (transcript : Transcript)
+    (run : ConnectionRun) : Type 0 where
   pub behind : ConnectionValue
   pub request : AcceptedRequest
   pub accepted : Admits known (admission.Accepted request) (record { old = run.old; new = behind })
-  pub runs : RunsOver case request.behind.items transcript (record { old = behind; new = run.new })
+  pub runs : RunsOver expected case request.behind.items transcript (record { old = behind; new = run.new })
 
 -- what came of it
-abbrev pub Scripts : List (List ℕ) → Case → Scripted → ConnectionRun → Type 0
-Scripts known case Lost run = Admits known admission.Lost run
-Scripts known case (Refused fault) run = Admits known (admission.Refused fault) run
-Scripts known case (Ran transcript) run = IsScripted known case transcript run
+abbrev pub Scripts : Expectation → List (List ℕ) → Case → Scripted → ConnectionRun → Type 0
+Scripts expected known case Lost run = Admits known admission.Lost run
+Scripts expected known case (Refused fault) run = Admits known (admission.Refused fault) run
+Scripts expected known case (Ran transcript) run = IsScripted expected known case transcript run
 
 abbrev pub protocols_known : ScriptRules → List (List ℕ)
 protocols_known rules = map (λ name. name.now) rules.protocols.now
@@ -38,7 +39,7 @@ protocols_known rules = map (λ name. name.now) rules.protocols.now
 -- There is a connection with this budget of which this came.
 abbrev pub IsScriptedSo : ScriptRules → Case → Scripted → Type 0
 IsScriptedSo rules case scripted = (run : ConnectionRun) × (run.old.input.allowance ≡ rules.budget)
-    × Scripts (protocols_known rules) case scripted run
+    × Scripts rules.expected (protocols_known rules) case scripted run
 
 -- what an observer is told of it
 abbrev pub scripted_probe : Scripted → Probe

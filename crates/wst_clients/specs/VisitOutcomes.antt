@@ -17,6 +17,7 @@ use Rattle.wst_clients.specs.Visits.{case_for, case_notes, refused_line}
 use Rattle.wst_testing.specs.declared.outcome.Outcome.{Outcome}
 use Rattle.wst_testing.specs.declared.outcome.Outcome.TheVariants.{HeadRefused, Judged, NoConnection, NotRun}
 use Rattle.wst_testing.specs.declared.outcome.Tally.{Tally}
+use Rattle.ws_scripts.specs.declared.expectation.Expectation.{Expectation}
 use Rattle.wst_clients.specs.declared.visiting.Visit.{Visit}
 use Rattle.wst_clients.specs.declared.visiting.Visit.TheVariants as visit
 use Rattle.wst_clients.specs.declared.visiting.VisitRules.{VisitRules}
@@ -26,18 +27,18 @@ use Rattle.wst_clients.specs.declared.visit_outcome.VisitOutcome.TheVariants.{Lo
 -- ---- what is told of a connection
 
 -- the verdict on the client by the transcript of its case, with why it is told where that is asked for
-abbrev pub IsClientOutcome : Bool → Transcript → Outcome → Type 0
-IsClientOutcome explains transcript outcome =
-    (told : Judgement) × (outcome ≡ Judged told) × IsJudgementOf explains Client transcript told
+abbrev pub IsClientOutcome : Bool → Expectation → Transcript → Outcome → Type 0
+IsClientOutcome explains expected transcript outcome =
+    (told : Judgement) × (outcome ≡ Judged told) × IsJudgementOf explains Client expected transcript told
 
 -- this is told of what came of a connection
-abbrev pub IsVisitOutcome : Bool → Visit → VisitOutcome → Type 0
-IsVisitOutcome explains visit.Lost Lost = ⊤
-IsVisitOutcome explains (visit.Refused fault) (Refused other) = other ≡ fault
-IsVisitOutcome explains (visit.Told purpose) (Told other) = other ≡ purpose
-IsVisitOutcome explains (visit.Ran purpose transcript) (Ran other outcome) =
-    (other ≡ purpose) × IsClientOutcome explains transcript outcome
-IsVisitOutcome explains _ _ = ⊥
+abbrev pub IsVisitOutcome : Bool → Expectation → Visit → VisitOutcome → Type 0
+IsVisitOutcome explains expected visit.Lost Lost = ⊤
+IsVisitOutcome explains expected (visit.Refused fault) (Refused other) = other ≡ fault
+IsVisitOutcome explains expected (visit.Told purpose) (Told other) = other ≡ purpose
+IsVisitOutcome explains expected (visit.Ran purpose transcript) (Ran other outcome) =
+    (other ≡ purpose) × IsClientOutcome explains expected transcript outcome
+IsVisitOutcome explains expected _ _ = ⊥
 
 -- the case that is run is one of those that are given
 abbrev pub AsksInside : VisitRules → VisitOutcome → Type 0
@@ -51,7 +52,7 @@ pub record ComesTo (Visits : StandingValue → Visit → Type 0) (rules : VisitR
     (outcome : VisitOutcome) : Type 0 where
   pub visit : Visit
   pub visited : Visits standing visit
-  pub told : IsVisitOutcome rules.explains visit outcome
+  pub told : IsVisitOutcome rules.explains rules.expected visit outcome
   pub inside : AsksInside rules outcome
 
 -- ---- its line and its notes

@@ -21,7 +21,7 @@ use std::io::Write;
 use ws_base::NoMemory;
 use ws_frame::Watched;
 use ws_paths::Standing;
-use ws_suite::Case;
+use ws_suite::{Case, Expectation};
 use ws_wire::{NO_KEY, Role};
 use wst_commands::{Exit, Fault};
 use wst_testing::{Outcome, RunRules, tell_capture, tell_case};
@@ -46,7 +46,7 @@ pub fn capture_client<C: TestedClients, W: Write, F: Write>(
 {
     match last_visit(alloc, clients, rules, faults)? {
         Some((visit, client)) => {
-            let told = tell_last(alloc, case, visit, writer)?;
+            let told = tell_last(alloc, rules.expected, case, visit, writer)?;
             clients.leave(client);
             Ok(told)
         }
@@ -101,6 +101,7 @@ fn ends_capture(standing: &Standing, visit: &Visit) -> bool
 /// Writes the capture of a case that was run, or the line of one that was not, with the connection that ends the run.
 fn tell_last<W: Write>(
     alloc: Global,
+    expected: Expectation,
     case: &Case,
     visit: Visit,
     writer: &mut Watched<W>,
@@ -108,12 +109,12 @@ fn tell_last<W: Write>(
     requires works { has_failed writer.old ≡ false }
     requires last { IsLast visit }
     ensures { MatchResult result
-        (λ exit. WritesLast case.now visit exit (watched W.contents writer.old writer.new))
+        (λ exit. WritesLast expected case.now visit exit (watched W.contents writer.old writer.new))
         (λ fault. (fault ≡ variant.NoMemory) × (writer.new ≡ writer.old)) }
 {
     match visit {
         Visit::Ran(_, transcript) => {
-            let told = tell_capture(alloc, client_rules(), transcript, writer)?;
+            let told = tell_capture(alloc, client_rules(expected), transcript, writer)?;
             Ok(told)
         }
         Visit::Told(_) => tell_case(alloc, case, &Outcome::NotRun, Exit::Damaged, writer),
@@ -123,11 +124,13 @@ fn tell_last<W: Write>(
 }
 
 /// How a client is captured.
-fn client_rules() -> RunRules
-    ensures { result.tested ≡ Client }
+fn client_rules(expected: Expectation) -> RunRules
+    ensures tested { result.tested ≡ Client }
+    ensures expected { result.expected ≡ expected }
 {
     RunRules {
         tested: Role::Client,
+        expected,
         key: NO_KEY,
         explains: false,
         progress: false,

@@ -10,7 +10,7 @@ ghost use Rattle.wst_clients.specs.ClientSends.{Scripts, protocols_known, script
 use std::alloc::Global;
 use std::io::Read;
 use ws_connection::{Admission, Connection, EndsDirection, Observer, ScriptRun, admit, run_script};
-use ws_suite::{Case, Transcript};
+use ws_suite::{Case, Expectation, Transcript};
 use ws_upgrade::HeadFault;
 use ws_wire::Role;
 
@@ -23,6 +23,8 @@ pub struct ScriptRules<'a> {
     pub budget: u64,
     /// Whether reads can wait in vain.
     pub has_timeouts: bool,
+    /// What is expected of it.
+    pub expected: Expectation,
 }
 
 /// What came of a connection to which a script was to be sent.
@@ -49,7 +51,7 @@ pub(crate) fn script_over<R: Read, W: EndsDirection, O: Observer>(
     requires can { CanBeRun case.now }
     requires known { AreOffers (protocols_known rules.now) }
     requires hearing { IsHearing O.heard observer.old }
-    ensures scripts { IfOk result (λ scripted. Scripts (protocols_known rules.now) case.now scripted
+    ensures scripts { IfOk result (λ scripted. Scripts rules.now.expected (protocols_known rules.now) case.now scripted
         (record { old = connection.old; new = connection.new })) }
     ensures told { IfOk result (λ scripted.
         HearsProbe O.heard O.heard_all observer.old observer.new (scripted_probe scripted)) }
@@ -59,6 +61,7 @@ pub(crate) fn script_over<R: Read, W: EndsDirection, O: Observer>(
         Admission::Accepted(request) => {
             let run = ScriptRun {
                 tested: Role::Client,
+                expected: rules.expected,
                 key: None,
                 has_timeouts: rules.has_timeouts,
             };

@@ -19,7 +19,7 @@ use std::io::Write;
 use ws_base::NoMemory;
 use ws_frame::Watched;
 use ws_paths::{Behavior, Purpose, Standing};
-use ws_suite::{Case, Verdict};
+use ws_suite::{Case, Expectation, Verdict};
 use ws_upgrade::HeadFault;
 use ws_wire::Role;
 use wst_commands::judgement_of;
@@ -56,21 +56,26 @@ pub(crate) fn outcome_of_client<C: TestedClients, F: Write>(
     ensures still { StaysFailed faults.old faults.new }
 {
     let visit = clients.visit(alloc, client, rules, standing, faults)?;
-    let outcome = outcome_of_visit(alloc, rules.explains, visit)?;
+    let outcome = outcome_of_visit(alloc, rules.explains, rules.expected, visit)?;
     Ok(outcome)
 }
 
 /// What is told of it.
 #[tactic(auto, using(crate::proofs::VisitLemmas::ran_told))]
-fn outcome_of_visit(alloc: Global, explains: bool, visit: Visit) -> Result<VisitOutcome, NoMemory>
-    ensures { IfOk result (λ outcome. IsVisitOutcome explains visit outcome) }
+fn outcome_of_visit(
+    alloc: Global,
+    explains: bool,
+    expected: Expectation,
+    visit: Visit,
+) -> Result<VisitOutcome, NoMemory>
+    ensures { IfOk result (λ outcome. IsVisitOutcome explains expected visit outcome) }
 {
     match visit {
         Visit::Lost => Ok(VisitOutcome::Lost),
         Visit::Refused(fault) => Ok(VisitOutcome::Refused(fault)),
         Visit::Told(purpose) => Ok(VisitOutcome::Told(purpose)),
         Visit::Ran(purpose, transcript) => {
-            let told = judgement_of(alloc, explains, Role::Client, &transcript)?;
+            let told = judgement_of(alloc, explains, Role::Client, expected, &transcript)?;
             Ok(VisitOutcome::Ran(purpose, Outcome::Judged(told)))
         }
     }

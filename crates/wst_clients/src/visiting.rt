@@ -24,7 +24,7 @@ use ws_connection::{Admission, Connection, EndsDirection, ScriptRun, Silent, adm
 use ws_frame::Watched;
 use ws_paths::{Purpose, Standing, count_text, info_text, script_of, status_text};
 use ws_reports::Report;
-use ws_suite::{Case, Transcript, turns_with};
+use ws_suite::{Case, Expectation, Transcript, turns_with};
 use ws_upgrade::HeadFault;
 use ws_wire::Role;
 use wst_commands::tell;
@@ -51,6 +51,8 @@ pub struct VisitRules<'a> {
     pub budget: u64,
     /// Whether reads can wait in vain.
     pub has_timeouts: bool,
+    /// What is expected of them.
+    pub expected: Expectation,
     /// Below a verdict other than Pass it is told why.
     pub explains: bool,
     /// The name of each case is told before it runs.
@@ -192,11 +194,13 @@ fn run_over<R: Read, W: EndsDirection>(
 ) -> Result<Transcript, NoMemory>
     requires ready { IsReady connection.old }
     requires can { CanBeRun script.now }
-    ensures { IfOk result (λ transcript. Records Client (bytes_by_turn script.now None) behind.items transcript
+    ensures { IfOk result (λ transcript.
+        Records rules.now.expected Client (bytes_by_turn script.now None) behind.items transcript
         (record { old = connection.old; new = connection.new })) }
 {
     let run = ScriptRun {
         tested: Role::Client,
+        expected: rules.expected,
         key: None,
         has_timeouts: rules.has_timeouts,
     };

@@ -11,8 +11,9 @@ use Rattle.ws_scripts.specs.declared.transcript.Turn.{Turn}
 use Rattle.ws_scripts.specs.declared.transcript.Ended.{Ended}
 use Rattle.ws_scripts.specs.declared.transcript.Ended.TheVariants.{Tester, Peer, Broken}
 use Rattle.ws_scripts.specs.declared.transcript.Transcript.{Transcript}
-use Rattle.ws_suite.specs.Explanation.{IsExplanationOf}
-use Rattle.ws_suite.specs.Verdicts.{IsVerdictOf}
+use Rattle.ws_suite.specs.Explanation.{IsExplanationBy}
+use Rattle.ws_suite.specs.Protocol.{IsVerdictBy}
+use Rattle.ws_scripts.specs.declared.expectation.Expectation.{Expectation}
 use Rattle.ws_suite.specs.Words.{rule_words}
 use Rattle.ws_suite.specs.declared.evidence.Direction.{Direction}
 use Rattle.ws_suite.specs.declared.evidence.Ending.{Ending}
@@ -94,10 +95,10 @@ rule_line (Some sentence) = concat (codes "  rule " ∷ sentence ∷ codes "\n" 
 
 -- The lines of an explanation: what was owed, what came, where bytes follow the close that came, where the bytes that
 -- came end inside a frame, who ended it, and the rule.
-abbrev pub explanation_lines : Role → Option ℕ → Explanation → List ℕ
-explanation_lines tested cut x = concat (
+abbrev pub explanation_lines : Role → Expectation → Option ℕ → Explanation → List ℕ
+explanation_lines tested expected cut x = concat (
     direction_lines Due x.due ∷ direction_lines Got x.got ∷ note_line (codes "beyond") x.beyond
-    ∷ note_line (codes "cut") cut ∷ ended_line x.ended x.turns ∷ rule_line (rule_words tested x.verdict) ∷ [])
+    ∷ note_line (codes "cut") cut ∷ ended_line x.ended x.turns ∷ rule_line (rule_words tested expected x.verdict) ∷ [])
 
 -- ---- where what came is cut
 
@@ -131,29 +132,31 @@ IsCutIn true turns cut = IsLastGot turns cut
 IsCutIn false turns cut = cut ≡ None
 
 -- the text is the lines of the explanation of a verdict on this transcript
-abbrev pub IsExplanationText : Role → Transcript → Explanation → List ℕ → Type 0
-IsExplanationText tested transcript x text =
-    (cut : Option ℕ) × IsCutIn (is_cut x.got) transcript.turns cut × (text ≡ explanation_lines tested cut x)
+abbrev pub IsExplanationText : Role → Expectation → Transcript → Explanation → List ℕ → Type 0
+IsExplanationText tested expected transcript x text =
+    (cut : Option ℕ) × IsCutIn (is_cut x.got) transcript.turns cut × (text ≡ explanation_lines tested expected cut x)
 
 -- ---- what stands below a verdict
 
 -- why it is told
-abbrev pub Explains : Role → Transcript → Verdict → List ℕ → Type 0
-Explains tested transcript verdict below = (x : Explanation) × IsExplanationOf tested transcript x
-    × (x.verdict ≡ verdict) × IsExplanationText tested transcript x below
+abbrev pub Explains : Role → Expectation → Transcript → Verdict → List ℕ → Type 0
+Explains tested expected transcript verdict below = (x : Explanation)
+    × IsExplanationBy expected tested transcript x × (x.verdict ≡ verdict)
+    × IsExplanationText tested expected transcript x below
 
 -- nothing below a Pass
-abbrev pub IsExplained : Role → Transcript → Verdict → List ℕ → Type 0
-IsExplained tested transcript Pass below = below ≡ []
-IsExplained tested transcript (Loose why) below = Explains tested transcript (Loose why) below
-IsExplained tested transcript (Fail why) below = Explains tested transcript (Fail why) below
+abbrev pub IsExplained : Role → Expectation → Transcript → Verdict → List ℕ → Type 0
+IsExplained tested expected transcript Pass below = below ≡ []
+IsExplained tested expected transcript (Loose why) below = Explains tested expected transcript (Loose why) below
+IsExplained tested expected transcript (Fail why) below = Explains tested expected transcript (Fail why) below
 
 -- nor where that isn't asked for
-abbrev pub StandsBelow : Bool → Role → Transcript → Verdict → List ℕ → Type 0
-StandsBelow false tested transcript verdict below = below ≡ []
-StandsBelow true tested transcript verdict below = IsExplained tested transcript verdict below
+abbrev pub StandsBelow : Bool → Role → Expectation → Transcript → Verdict → List ℕ → Type 0
+StandsBelow false tested expected transcript verdict below = below ≡ []
+StandsBelow true tested expected transcript verdict below = IsExplained tested expected transcript verdict below
 
 -- the verdict on the transcript, and what stands below it
-pub record IsJudgementOf (explains : Bool) (tested : Role) (transcript : Transcript) (told : Judgement) : Type 0 where
-  pub verdict : IsVerdictOf tested transcript told.verdict
-  pub below : StandsBelow explains tested transcript told.verdict (string_bytes told.below)
+pub record IsJudgementOf (explains : Bool) (tested : Role) (expected : Expectation) (transcript : Transcript)
+    (told : Judgement) : Type 0 where
+  pub verdict : IsVerdictBy expected tested transcript told.verdict
+  pub below : StandsBelow explains tested expected transcript told.verdict (string_bytes told.below)

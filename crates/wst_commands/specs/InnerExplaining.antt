@@ -15,7 +15,7 @@ use Rattle.wst_commands.specs.declared.explanation_lines.Shown.{Shown}
 use Rattle.wst_commands.specs.declared.explanation_lines.SideLines.{SideLines}
 
 abbrev pub printed_explanation : ExplanationLines → List ℕ
-printed_explanation lines = explanation_lines lines.tested lines.cut lines.explanation.now
+printed_explanation lines = explanation_lines lines.tested lines.expected lines.cut lines.explanation.now
 
 abbrev pub printed_side : SideLines → List ℕ
 printed_side lines = direction_lines lines.side lines.direction.now

@@ -3,7 +3,7 @@ use Rattle.std.specs.Prelude.{◌≡◌, ◌⊎◌, ℕ, List, ◌++◌, Result,
 use Rattle.ws_frame.specs.Devices.{Device, IsUntouched}
 use Rattle.ws_scripts.specs.Captures.{DamagesCapture}
 use Rattle.ws_scripts.specs.Captures2.{IsAnyCaptureOf}
-use Rattle.ws_suite.specs.Verdicts.{IsVerdictOf}
+use Rattle.ws_suite.specs.Protocol.{IsVerdictBy}
 use Rattle.ws_suite.specs.Words.{verdict_words}
 use Rattle.ws_scripts.specs.declared.capture.Capture.{Capture}
 use Rattle.ws_scripts.specs.declared.capture.CaptureFault.{CaptureFault}
@@ -34,8 +34,8 @@ exit_of (Fail why) = Damaged
 -- memory ran out, and nothing was written
 abbrev pub TellsVerdict : JudgeOptions → Transcript → Result Exit Fault → Device → Type 0
 TellsVerdict options transcript ended output = MatchResult ended
-    (λ exit. (verdict : Verdict) × (below : List ℕ) × IsVerdictOf options.role transcript verdict
-    × StandsBelow options.explain options.role transcript verdict below
+    (λ exit. (verdict : Verdict) × (below : List ℕ) × IsVerdictBy options.expect options.role transcript verdict
+    × StandsBelow options.explain options.role options.expect transcript verdict below
     × Delivers (exit_of verdict) (verdict_line verdict ++ below) exit output)
     (λ fault. (fault ≡ NoMemory) × IsUntouched output)
 

@@ -1,5 +1,5 @@
 -- A run of `report`: the lines of runs are read whole, and a page, an index or a summary of them is written.
-use Rattle.std.specs.Prelude.{◌≡◌, ◌⊎◌, ℕ, Bool, true, false, List, [], ◌∷◌, ◌++◌, map}
+use Rattle.std.specs.Prelude.{◌≡◌, ◌⊎◌, ℕ, Bool, true, false, List, [], ◌∷◌, ◌++◌, codes, map}
 use Rattle.std.specs.Prelude.{unwrap_or, Result, Ok, Err, MatchResult, string_bytes, if◌then◌else◌}
 use Rattle.std.specs.Str.{bytes_eq}
 use Rattle.ws_wire.specs.declared.role.Role.{Role}
@@ -7,6 +7,8 @@ use Rattle.ws_wire.specs.declared.role.Role.TheVariants.{Client, Server}
 use Rattle.ws_scripts.specs.CaseNames.{case_names, listed_names}
 use Rattle.ws_scripts.specs.ScriptTexts.{written_script}
 use Rattle.ws_scripts.specs.Scripts.{CanBeRun}
+use Rattle.ws_scripts.specs.declared.expectation.Expectation.{Expectation}
+use Rattle.ws_scripts.specs.declared.expectation.Expectation.TheVariants.{Echo, Protocol}
 use Rattle.ws_scripts.specs.declared.script.Case.{Case}
 use Rattle.ws_suite.specs.Words.{fail_name, loose_name, rule_words}
 use Rattle.ws_suite.specs.declared.verdict.Verdict.{Verdict}
@@ -55,19 +57,28 @@ why_name verdict.Pass = []
 why_name (verdict.Loose why) = loose_name why
 why_name (verdict.Fail why) = fail_name why
 
--- the rule of a verdict on an end of this role; empty if it has none
-abbrev pub rule_of : Role → Verdict → List ℕ
-rule_of tested verdict = unwrap_or (rule_words tested verdict) []
+-- the rule of a verdict on an end of this role, of which this is expected; empty if it has none
+abbrev pub rule_of : Role → Expectation → Verdict → List ℕ
+rule_of tested expected verdict = unwrap_or (rule_words tested expected verdict) []
 
 -- the rule of a server, and in a second line that of a client, if it is different
 abbrev pub both_rules : List ℕ → List ℕ → List ℕ
 both_rules server client = if bytes_eq server client then server else server ++ 10 ∷ client
 
+-- the rule of a verdict on an end of which this is expected, be it a server or a client
+abbrev pub rules_by : Expectation → Verdict → List ℕ
+rules_by expected verdict = both_rules (rule_of Server expected verdict) (rule_of Client expected verdict)
+
+-- the rule of an end that is to echo, and in a further line that by the protocol alone, if it is different
+abbrev pub with_protocol : List ℕ → List ℕ → List ℕ
+with_protocol echo protocol =
+    if bytes_eq echo protocol then echo else echo ++ (codes "\nWith --expect protocol: " ++ protocol)
+
 -- the rule of a verdict, with its name
 abbrev pub rule_text : Verdict → NamedText
 rule_text verdict = record {
   name = why_name verdict;
-  text = both_rules (rule_of Server verdict) (rule_of Client verdict);
+  text = with_protocol (rules_by Echo verdict) (rules_by Protocol verdict);
 }
 
 -- the verdicts that have a rule
@@ -75,7 +86,10 @@ abbrev pub ruled_verdicts : List Verdict
 ruled_verdicts = verdict.Fail fail.NotFrames ∷ verdict.Fail fail.Early ∷ verdict.Fail fail.Messages
     ∷ verdict.Fail fail.Pongs ∷ verdict.Fail fail.Close ∷ verdict.Fail fail.End ∷ verdict.Loose loose.PongsSkipped
     ∷ verdict.Loose loose.PongElsewhere ∷ verdict.Loose loose.OtherCode ∷ verdict.Loose loose.LateEnd
-    ∷ verdict.Loose loose.EchoShort ∷ verdict.Loose loose.BrokenEnd ∷ []
+    ∷ verdict.Loose loose.EchoShort ∷ verdict.Loose loose.BrokenEnd ∷ verdict.Loose loose.OwnFault
+    ∷ verdict.Loose loose.OwnClose ∷ verdict.Loose loose.OwnEnd ∷ verdict.Loose loose.LateFault
+    ∷ verdict.Loose loose.Tolerated ∷ verdict.Loose loose.NoClose ∷ verdict.Loose loose.BehindClose
+    ∷ verdict.Loose loose.TooBig ∷ []
 
 -- the rules of verdicts
 abbrev pub rule_texts : List NamedText

@@ -1,14 +1,16 @@
 //! A verdict, and why it is told. The lines stand in docs/FORMATS.md.
 
 ghost use Rattle.std.specs.Prelude.{◌≡◌, IfOk, string_bytes};
-ghost use Rattle.ws_suite.specs.Explanation.{IsExplanationOf};
+ghost use Rattle.ws_suite.specs.Explanation.{IsExplanationBy};
 ghost use Rattle.wst_commands.specs.Explaining.{IsCutIn, IsExplained, IsExplanationText, IsJudgementOf, IsLastGot};
 ghost use Rattle.wst_commands.specs.Explaining.{is_cut, last_after};
 
 use crate::explanation_lines::ExplanationLines;
 use std::alloc::Global;
 use ws_base::NoMemory;
-use ws_suite::{Direction, Explanation, Transcript, Turn, Verdict, explain, judge_end};
+use ws_suite::{
+    Direction, Expectation, Explanation, Transcript, Turn, Verdict, explain_with, judge_with,
+};
 use ws_wire::Role;
 
 /// The verdict on a transcript, and the lines below its own.
@@ -21,23 +23,25 @@ pub struct Judgement {
 
 /// The verdict on a tested end of this role by all that went over a connection; with `explains` set also why it is
 /// told, if it isn't Pass.
+#[tactic(auto, using(crate::proofs::Explained::verdict_explained))]
 pub fn judgement_of(
     alloc: Global,
     explains: bool,
     tested: Role,
+    expected: Expectation,
     transcript: &Transcript,
 ) -> Result<Judgement, NoMemory>
-    ensures { IfOk result (λ told. IsJudgementOf explains tested transcript.now told) }
+    ensures { IfOk result (λ told. IsJudgementOf explains tested expected transcript.now told) }
 {
     if !explains {
-        let verdict = judge_end(alloc, tested, transcript)?;
+        let verdict = judge_with(alloc, tested, expected, transcript)?;
         return Ok(Judgement {
             verdict,
             below: String::new(alloc),
         });
     }
-    let explanation = explain(alloc, tested, transcript)?;
-    let below = lines_below(alloc, tested, transcript, &explanation)?;
+    let explanation = explain_with(alloc, tested, expected, transcript)?;
+    let below = lines_below(alloc, tested, expected, transcript, &explanation)?;
     Ok(Judgement {
         verdict: explanation.verdict,
         below,
@@ -48,21 +52,22 @@ pub fn judgement_of(
 fn lines_below(
     alloc: Global,
     tested: Role,
+    expected: Expectation,
     transcript: &Transcript,
     explanation: &Explanation,
 ) -> Result<String, NoMemory>
-    requires { IsExplanationOf tested transcript.now explanation.now }
+    requires { IsExplanationBy expected tested transcript.now explanation.now }
     ensures { IfOk result (λ below.
-        IsExplained tested transcript.now explanation.now.verdict (string_bytes below)) }
+        IsExplained tested expected transcript.now explanation.now.verdict (string_bytes below)) }
 {
     match explanation.verdict {
         Verdict::Pass => Ok(String::new(alloc)),
         Verdict::Loose(_) => {
-            let below = write_explanation(alloc, tested, transcript, explanation)?;
+            let below = write_explanation(alloc, tested, expected, transcript, explanation)?;
             Ok(below)
         }
         Verdict::Fail(_) => {
-            let below = write_explanation(alloc, tested, transcript, explanation)?;
+            let below = write_explanation(alloc, tested, expected, transcript, explanation)?;
             Ok(below)
         }
     }
@@ -72,13 +77,16 @@ fn lines_below(
 pub fn write_explanation(
     alloc: Global,
     tested: Role,
+    expected: Expectation,
     transcript: &Transcript,
     explanation: &Explanation,
 ) -> Result<String, NoMemory>
-    ensures { IfOk result (λ text. IsExplanationText tested transcript.now explanation.now (string_bytes text)) }
+    ensures { IfOk result (λ text.
+        IsExplanationText tested expected transcript.now explanation.now (string_bytes text)) }
 {
     let lines = ExplanationLines {
         tested,
+        expected,
         explanation,
         cut: cut_in(&explanation.got, transcript.turns.as_slice()),
     };

@@ -8,7 +8,7 @@ ghost use Rattle.wst_commands.specs.InnerExplaining.{printed_note, printed_reply
 use std::fmt;
 use ws_formats::HexDigits;
 use ws_scripts::Ended;
-use ws_suite::{Direction, Ending, Explanation, InTurn, Kept, ReplyKind, rule};
+use ws_suite::{Direction, Ending, Expectation, Explanation, InTurn, Kept, ReplyKind, rule_with};
 use ws_wire::Role;
 
 /// A payload is shown up to so many bytes.
@@ -47,6 +47,7 @@ impl Side {
 #[derive(Drop)]
 pub(crate) struct ExplanationLines<'a> {
     pub(crate) tested: Role,
+    pub(crate) expected: Expectation,
     pub(crate) explanation: &'a Explanation,
     /// The turn, from 0, in which what came ends inside a frame.
     pub(crate) cut: Option<usize>,
@@ -75,7 +76,7 @@ impl fmt::Display for ExplanationLines<'_> {
             note: "cut",
         };
         let ended = ended_word(self.explanation.ended);
-        let rule = RuleLine(rule(self.tested, self.explanation.verdict));
+        let rule = RuleLine(rule_with(self.tested, self.expected, self.explanation.verdict));
         write!(f, "{due}{got}{beyond}{cut}")?;
         writeln!(f, "  end {ended} {}", self.explanation.turns)?;
         write!(f, "{rule}")

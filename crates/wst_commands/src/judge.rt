@@ -73,7 +73,13 @@ fn tell_verdict<W: Write>(
     requires { has_failed writer.old ≡ false }
     ensures { TellsVerdict options transcript.now result (watched W.contents writer.old writer.new) }
 {
-    let Ok(told) = judgement_of(alloc, options.explain, options.role, transcript) else {
+    let Ok(told) = judgement_of(
+        alloc,
+        options.explain,
+        options.role,
+        options.expect,
+        transcript,
+    ) else {
         return Err(Fault::NoMemory);
     };
     match format!(in alloc; "{}\n{}", told.verdict, told.below) {

@@ -10,7 +10,7 @@ ghost use Rattle.wst_commands.specs.ReadingWhole.{AnswersInput};
 ghost use Rattle.wst_commands.specs.Report.{AreScripts, IsPageWithScripts, IsRunReport, IsScriptOf, ReportsLines};
 ghost use Rattle.wst_commands.specs.Report.{ReportsText, RunsReport};
 ghost use Rattle.wst_commands.specs.Report.{both_rules, report_kind, rule_of, rule_text, rule_texts, ruled_verdicts};
-ghost use Rattle.wst_commands.specs.Report.{run_fault, why_name};
+ghost use Rattle.wst_commands.specs.Report.{rules_by, run_fault, why_name, with_protocol};
 
 use crate::exit::Exit;
 use crate::fault::Fault;
@@ -22,7 +22,7 @@ use ws_base::{NoMemory, Payload, TextFault};
 use ws_frame::Watched;
 use ws_pages::{NamedText, RunLine, index_text, page_text, read_runs, summary_text};
 use ws_scripts::{all_ids, ids};
-use ws_suite::{FailWhy, LooseWhy, Verdict, case, rule, write_script};
+use ws_suite::{Expectation, FailWhy, LooseWhy, Verdict, case, rule_with, write_script};
 use ws_wire::Role;
 use wst_words::ReportOptions;
 
@@ -187,7 +187,7 @@ fn rule_texts(alloc: Global) -> Result<Vec<NamedText>, NoMemory>
 }
 
 /// The verdicts that have a rule.
-static VERDICTS: [Verdict; 12] = [
+static VERDICTS: [Verdict; 20] = [
     Verdict::Fail(FailWhy::NotFrames),
     Verdict::Fail(FailWhy::Early),
     Verdict::Fail(FailWhy::Messages),
@@ -200,6 +200,14 @@ static VERDICTS: [Verdict; 12] = [
     Verdict::Loose(LooseWhy::LateEnd),
     Verdict::Loose(LooseWhy::EchoShort),
     Verdict::Loose(LooseWhy::BrokenEnd),
+    Verdict::Loose(LooseWhy::OwnFault),
+    Verdict::Loose(LooseWhy::OwnClose),
+    Verdict::Loose(LooseWhy::OwnEnd),
+    Verdict::Loose(LooseWhy::LateFault),
+    Verdict::Loose(LooseWhy::Tolerated),
+    Verdict::Loose(LooseWhy::NoClose),
+    Verdict::Loose(LooseWhy::BehindClose),
+    Verdict::Loose(LooseWhy::TooBig),
 ];
 
 /// The same.
@@ -214,22 +222,44 @@ fn rule_text(alloc: Global, verdict: Verdict) -> Result<NamedText, NoMemory>
     ensures { IfOk result (λ text. text ≡ rule_text verdict) }
 {
     let name = why_name(alloc, verdict)?;
-    let text = both_rules(
-        alloc,
-        rule_of(Role::Server, verdict),
-        rule_of(Role::Client, verdict),
-    )?;
+    let echo = rules_by(alloc, Expectation::Echo, verdict)?;
+    let protocol = rules_by(alloc, Expectation::Protocol, verdict)?;
+    let text = with_protocol(alloc, echo.as_str(), protocol.as_str())?;
     Ok(NamedText {
         name: Payload::from_vec(name.into_bytes()),
         text: Payload::from_vec(text.into_bytes()),
     })
 }
 
-/// The rule of a verdict on an end of this role. Empty if it has none.
-fn rule_of(tested: Role, verdict: Verdict) -> &'static str
-    ensures { result.now ≡ rule_of tested verdict }
+/// The rule of a verdict on an end of which this is expected, be it a server or a client.
+fn rules_by(alloc: Global, expected: Expectation, verdict: Verdict) -> Result<String, NoMemory>
+    ensures { IfOk result (λ text. string_bytes text ≡ rules_by expected verdict) }
 {
-    match rule(tested, verdict) {
+    let text = both_rules(
+        alloc,
+        rule_of(Role::Server, expected, verdict),
+        rule_of(Role::Client, expected, verdict),
+    )?;
+    Ok(text)
+}
+
+/// The rule of an end that is to echo, and in a further line that by the protocol alone, if it is different.
+fn with_protocol(alloc: Global, echo: &str, protocol: &str) -> Result<String, NoMemory>
+    ensures { IfOk result (λ text. string_bytes text ≡ with_protocol echo.now protocol.now) }
+{
+    if echo == protocol {
+        let text = format!(in alloc; "{echo}")?;
+        return Ok(text);
+    }
+    let text = format!(in alloc; "{echo}\nWith --expect protocol: {protocol}")?;
+    Ok(text)
+}
+
+/// The rule of a verdict on an end of this role, of which this is expected. Empty if it has none.
+fn rule_of(tested: Role, expected: Expectation, verdict: Verdict) -> &'static str
+    ensures { result.now ≡ rule_of tested expected verdict }
+{
+    match rule_with(tested, expected, verdict) {
         Some(rule) => rule,
         None => "",
     }

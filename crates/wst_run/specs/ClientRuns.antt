@@ -64,6 +64,7 @@ pub record AreRulesOf (plan : TestPlan) (report : ReportValue) (rules : VisitRul
   pub protocols : known_by rules ≡ plan.run.protocols
   pub budget : rules.budget ≡ plan.run.budget
   pub has_timeouts : rules.has_timeouts ≡ is_limited plan.run.timeout
+  pub expected : rules.expected ≡ plan.run.expected
   pub explains : rules.explains ≡ plan.explain
   pub progress : rules.progress ≡ plan.progress
   pub telling : TellsBy report rules.telling
@@ -132,6 +133,7 @@ pub record AreScriptRulesOf (plan : SendPlan) (rules : ScriptRules) : Type 0 whe
   pub protocols : protocols_known rules ≡ plan.run.protocols
   pub budget : rules.budget ≡ plan.run.budget
   pub has_timeouts : rules.has_timeouts ≡ is_limited plan.run.timeout
+  pub expected : rules.expected ≡ plan.run.expected
 
 -- the lines of the run were written, flushed, or its capture
 abbrev pub WritesClientRun : Bool → Transcript → Device → Type 0

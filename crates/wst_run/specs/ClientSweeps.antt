@@ -12,6 +12,7 @@ use Rattle.wst_commands.specs.declared.fault.Fault.{Fault}
 use Rattle.wst_run.specs.ClientRuns.{EndsBehind, TestsBehind, TestsNone}
 use Rattle.wst_sockets.specs.Listening.{IsToldFor}
 use Rattle.wst_clients.specs.Visits.{known_by}
+use Rattle.ws_scripts.specs.declared.expectation.Expectation.{Expectation}
 use Rattle.wst_run.specs.declared.sweep.SweepPlan.{SweepPlan}
 use Rattle.wst_clients.specs.declared.visiting.Telling.TheVariants.{Scripts}
 use Rattle.wst_clients.specs.declared.visiting.VisitRules.{VisitRules}
@@ -19,18 +20,19 @@ use Rattle.wst_clients.specs.declared.visiting.VisitRules.{VisitRules}
 -- ---- the cases
 
 -- the case of a script for a client, no frame of which is masked, named by its steps
-abbrev pub IsNamedCase : List ℕ → Case → Type 0
-IsNamedCase places case = IsShortCase Client None places case × (string_bytes case.id ≡ steps_text Client places)
+abbrev pub IsNamedCase : Expectation → List ℕ → Case → Type 0
+IsNamedCase expected places case = IsShortCase Client expected None places case
+    × (string_bytes case.id ≡ steps_text Client places)
 
 -- these are the cases of scripts one after the other in their order, from the one of this number on
-abbrev pub AreNamedCases : ℕ → List Case → Type 0
-AreNamedCases number [] = ⊤
-AreNamedCases number (case ∷ cases) = ((places : List ℕ) × ArePlaces places × (script_number places ≡ number)
-    × IsNamedCase places case) × AreNamedCases (number + 1) cases
+abbrev pub AreNamedCases : Expectation → ℕ → List Case → Type 0
+AreNamedCases expected number [] = ⊤
+AreNamedCases expected number (case ∷ cases) = ((places : List ℕ) × ArePlaces places × (script_number places ≡ number)
+    × IsNamedCase expected places case) × AreNamedCases expected (number + 1) cases
 
 -- those of all scripts of at most so many steps
-abbrev pub AreShortCases : ℕ → List Case → Type 0
-AreShortCases steps cases = AreNamedCases 0 cases × (length cases ≡ count_of_scripts steps)
+abbrev pub AreShortCases : Expectation → ℕ → List Case → Type 0
+AreShortCases expected steps cases = AreNamedCases expected 0 cases × (length cases ≡ count_of_scripts steps)
 
 -- ---- a run
 
@@ -40,6 +42,7 @@ pub record AreSweepRulesOf (plan : SweepPlan) (given : List Case) (rules : Visit
   pub protocols : known_by rules ≡ plan.run.protocols
   pub budget : rules.budget ≡ plan.run.budget
   pub has_timeouts : rules.has_timeouts ≡ is_limited plan.run.timeout
+  pub expected : rules.expected ≡ plan.run.expected
   pub explains : rules.explains ≡ false
   pub progress : rules.progress ≡ plan.progress
   pub telling : rules.telling ≡ Scripts plan.all
@@ -47,7 +50,7 @@ pub record AreSweepRulesOf (plan : SweepPlan) (given : List Case) (rules : Visit
 -- what is told of the address is told, and then clients are tested, whose cases are the short scripts; or nothing is
 abbrev pub SweepsAt : List ℕ → SweepPlan → Result Exit Fault → Device → Device → Type 0
 SweepsAt address plan ended output faults =
-    ((told : List ℕ) × IsToldFor address told × ((cases : List Case) × AreShortCases plan.steps cases
+    ((told : List ℕ) × IsToldFor address told × ((cases : List Case) × AreShortCases plan.run.expected plan.steps cases
     × ((rules : VisitRules) × AreSweepRulesOf plan cases rules × TestsBehind told rules ended output faults)))
     ⊎ TestsNone ended output faults
 

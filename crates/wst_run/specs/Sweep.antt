@@ -53,6 +53,7 @@ TellsSweepRefusal (Other why) exit faults = TellsRefusal why exit faults
 abbrev pub sweep_rules_of : SweepPlan → SweepRules
 sweep_rules_of plan = record {
   tested = tested_role plan.run.tested;
+  expected = plan.run.expected;
   steps = plan.steps;
   all = plan.all;
   progress = plan.progress;

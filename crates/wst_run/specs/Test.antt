@@ -94,6 +94,7 @@ RefusesTest options other = CanReport options × CanNotRun options.run other
 abbrev pub rules_of : TestPlan → RunRules
 rules_of plan = record {
   tested = tested_role plan.run.tested;
+  expected = plan.run.expected;
   key = plan.run.key;
   explains = plan.explain;
   progress = plan.progress;

@@ -196,6 +196,7 @@ fn visit_rules<'a>(plan: &'a TestPlan<'_>, report: &'a Report) -> VisitRules<'a>
         protocols: plan.run.protocols.as_slice(),
         budget: plan.run.budget,
         has_timeouts: plan.run.timeout.is_limited(),
+        expected: plan.run.expected,
         explains: plan.explain,
         progress: plan.progress,
         telling: Telling::Cases(report),
@@ -392,5 +393,6 @@ fn script_rules<'a>(plan: &'a SendPlan<'_>) -> ScriptRules<'a>
         protocols: plan.run.protocols.as_slice(),
         budget: plan.run.budget,
         has_timeouts: plan.run.timeout.is_limited(),
+        expected: plan.run.expected,
     }
 }

@@ -131,6 +131,7 @@ fn rules_of(plan: &SweepPlan<'_>) -> SweepRules
 {
     SweepRules {
         tested: plan.run.tested.role(),
+        expected: plan.run.expected,
         steps: plan.steps,
         all: plan.all,
         progress: plan.progress,

@@ -18,7 +18,7 @@ use std::io::Write;
 use std::net::Net;
 use ws_base::NoMemory;
 use ws_frame::Watched;
-use ws_suite::Case;
+use ws_suite::{Case, Expectation};
 use ws_sweep::{ShortScript, ShortScripts, short_case, tell_steps};
 use ws_wire::Role;
 use wst_clients::{Telling, VisitRules};
@@ -60,7 +60,7 @@ fn sweep_at<N: Net, W: Write, F: Write>(
         (watched F.contents faults.old faults.new) }
     ensures still { StaysFailed faults.old faults.new }
 {
-    let cases = short_cases(alloc, plan.steps)?;
+    let cases = short_cases(alloc, plan.run.expected, plan.steps)?;
     let listener = match listen(net, address) {
         Ok(listener) => listener,
         Err(why) => return Err(Fault::NotListening(why)),
@@ -81,6 +81,7 @@ fn sweep_rules<'a>(plan: &'a SweepPlan<'_>, cases: &'a [Case]) -> VisitRules<'a>
         protocols: plan.run.protocols.as_slice(),
         budget: plan.run.budget,
         has_timeouts: plan.run.timeout.is_limited(),
+        expected: plan.run.expected,
         explains: false,
         progress: plan.progress,
         telling: Telling::Scripts { all: plan.all },
@@ -88,27 +89,27 @@ fn sweep_rules<'a>(plan: &'a SweepPlan<'_>, cases: &'a [Case]) -> VisitRules<'a>
 }
 
 /// The cases of the scripts of at most so many steps, in their order.
-fn short_cases(alloc: Global, steps: usize) -> Result<Vec<Case>, NoMemory>
+fn short_cases(alloc: Global, expected: Expectation, steps: usize) -> Result<Vec<Case>, NoMemory>
     requires { steps ≤ max_steps }
-    ensures cases { IfOk result (λ cases. AreShortCases steps cases.items) }
+    ensures cases { IfOk result (λ cases. AreShortCases expected steps cases.items) }
     ensures runs { IfOk result (λ cases. All CanBeRun cases.items) }
 {
     let mut cases = Vec::new(alloc);
     let mut scripts = ShortScripts::up_to(steps);
     while let Some(script) = scripts.next() {
-        let case = named_case(alloc, &script)?;
+        let case = named_case(alloc, expected, &script)?;
         cases.push(case)?;
     }
     Ok(cases)
 }
 
 /// The case of a script, named by its steps.
-fn named_case(alloc: Global, script: &ShortScript) -> Result<Case, NoMemory>
+fn named_case(alloc: Global, expected: Expectation, script: &ShortScript) -> Result<Case, NoMemory>
     requires { ArePlaces script.now }
-    ensures named { IfOk result (IsNamedCase script.now) }
+    ensures named { IfOk result (IsNamedCase expected script.now) }
     ensures runs { IfOk result CanBeRun }
 {
     let id = tell_steps(alloc, Role::Client, script)?;
-    let Case { steps, chop, .. } = short_case(alloc, Role::Client, None, script)?;
+    let Case { steps, chop, .. } = short_case(alloc, Role::Client, expected, None, script)?;
     Ok(Case { id, steps, chop })
 }

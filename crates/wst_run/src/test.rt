@@ -147,6 +147,7 @@ fn rules_of(plan: &TestPlan<'_>) -> RunRules
 {
     RunRules {
         tested: plan.run.tested.role(),
+        expected: plan.run.expected,
         key: plan.run.key,
         explains: plan.explain,
         progress: plan.progress,

@@ -10,6 +10,7 @@ use Rattle.std.proofs.lemmas.List.Filters.{length-filter_both}
 use Rattle.std.specs.Io.KnownBytes.{Appends, Keeps}
 use Rattle.ws_frame.specs.Devices.{Device}
 use Rattle.ws_frame.specs.Watching.{AppendsFront}
+use Rattle.ws_scripts.specs.declared.expectation.Expectation.{Expectation}
 use Rattle.ws_scripts.specs.declared.script.Case.{Case}
 use Rattle.ws_wire.specs.declared.role.Role.{Role}
 use Rattle.ws_session.specs.Replies.{key_for}
@@ -166,16 +167,17 @@ tested_so Meets rules asked case outcome same tested =
 
 -- the case is made for the role and the key of the rules
 pub short_so : (rules : SweepRules) (cases : CaseRules) (places : List ℕ) (case : Case) → MakesCasesOf rules cases
-    → IsShortCase cases.tested cases.key places case
-    → IsShortCase rules.tested (key_for (other_role rules.tested) rules.key) places case
+    → IsShortCase cases.tested cases.expected cases.key places case
+    → IsShortCase rules.tested rules.expected (key_for (other_role rules.tested) rules.key) places case
 short_so rules cases places case of_rules short =
-    subst (λ (k : Option (List ℕ)). IsShortCase rules.tested k places case) of_rules.1
-    (subst (λ (r : Role). IsShortCase r cases.key places case) of_rules.0 short)
+    subst (λ (k : Option (List ℕ)). IsShortCase rules.tested rules.expected k places case) of_rules.2
+    (subst (λ (x : Expectation). IsShortCase rules.tested x cases.key places case) of_rules.1
+    (subst (λ (r : Role). IsShortCase r cases.expected cases.key places case) of_rules.0 short))
 
 -- there is no connection to it
 pub script_misses : (Meets : Case → Meeting → Type 0) (rules : SweepRules) (places : List ℕ) (case : Case)
     (outcome : Outcome) (why : SweepStop) (ended : Result Outcome SweepStop) (held : Option (List ℕ)) (f : Bool)
-    → IsShortCase rules.tested (key_for (other_role rules.tested) rules.key) places case
+    → IsShortCase rules.tested rules.expected (key_for (other_role rules.tested) rules.key) places case
     → IsTested Meets (case_rules rules) case outcome
     → IsConnected outcome (Err why)
     → IsErrAnd ended (λ stopped. stopped ≡ why)

@@ -10,10 +10,10 @@ use Rattle.wst_sockets.specs.declared.meeting.Meeting.{Meeting}
 
 -- the connection has this budget, and the probe is this one
 pub probed_so : (server : AddressValue) (key : List ℕ) (case : Case) (given told : Probe) (run : ConnectionRun)
-    → Probes case key server.request given run → given ≡ told → run.old.input.allowance ≡ server.budget
+    → Probes server.expected case key server.request given run → given ≡ told → run.old.input.allowance ≡ server.budget
     → IsProbedSo server key case told
 probed_so server key case given told run probes same has =
-    (run, has, subst (λ (p : Probe). Probes case key server.request p run) same probes)
+    (run, has, subst (λ (p : Probe). Probes server.expected case key server.request p run) same probes)
 
 -- the server was probed
 pub meets_probed : {E : Type 0} (server : AddressValue) (key : List ℕ) (case : Case) (r : Result Meeting E)

@@ -102,6 +102,7 @@ pub record IsRunPlan (options : RunOptions) (plan : RunPlan) : Type 0 where
   pub named : NamesEnd options.role options.target.now
   pub can_connect : CanConnect options.connect
   pub tested : IsEndOf options.role options.target.now options.connect plan.tested
+  pub expected : plan.expected ≡ options.expect
   pub budget : plan.budget ≡ options.budget
 
 -- ---- what they can't ask for

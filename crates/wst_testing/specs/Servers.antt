@@ -11,6 +11,7 @@ use Rattle.ws_peer.specs.Talks.{Entry}
 use Rattle.ws_scripts.specs.Scripts.{AreTurns}
 use Rattle.ws_suite.specs.Verdicts.{IsVerdictOf}
 use Rattle.ws_suite.specs.declared.verdict.Verdict.TheVariants.{Pass}
+use Rattle.ws_scripts.specs.declared.expectation.Expectation.{Expectation}
 use Rattle.ws_scripts.specs.declared.script.Case.{Case}
 use Rattle.ws_scripts.specs.declared.transcript.Transcript.{Transcript}
 use Rattle.wst_testing.specs.declared.case_server.MemoryEnd.{MemoryEnd}
@@ -46,17 +47,18 @@ MeetsInMemory end key case (Ran transcript) = IsMemoryRun end.peer end.role key 
 MeetsInMemory end key case (Refused fault) = ⊥
 MeetsInMemory end key case (NoConnection why) = ⊥
 
--- a server that is met over a network: what it is asked for, and how many bytes are read of it at most in one case
--- behind the head of its answer
+-- a server that is met over a network: what it is asked for, what is expected of it, and how many bytes are read of it
+-- at most in one case behind the head of its answer
 pub record AddressValue : Type 0 where
   pub request : RequestValue
+  pub expected : Expectation
   pub budget : ℕ
 
 -- There is a connection with this budget over which the server was asked for an upgrade so, and the case run. Where its
 -- bytes are not known, this binds the turns of the transcript and its end alone, and not the request.
 abbrev pub IsProbedSo : AddressValue → List ℕ → Case → Probe → Type 0
 IsProbedSo server key case probe = (run : ConnectionRun) × (run.old.input.allowance ≡ server.budget)
-    × Probes case key server.request probe run
+    × Probes server.expected case key server.request probe run
 
 -- there is no connection to the server, or one that was probed so; why there is none is not said
 abbrev pub MeetsAtAddress : AddressValue → List ℕ → Case → Meeting → Type 0
@@ -67,6 +69,7 @@ MeetsAtAddress server key case meeting =
 abbrev pub asked_by : RunPlan → TargetValue → AddressValue
 asked_by plan target = record {
   request = record { host = target.host; path = target.path; offers = plan.protocols; headers = plan.headers };
+  expected = plan.expected;
   budget = plan.budget;
 }
 

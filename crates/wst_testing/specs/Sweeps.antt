@@ -71,12 +71,19 @@ missed_by NotRun = None
 -- how its case is run: why a verdict is told isn't asked for
 abbrev pub case_rules : SweepRules → RunRules
 case_rules rules =
-    record { tested = rules.tested; key = rules.key; explains = false; progress = false; is_limited = false }
+    record {
+      tested = rules.tested;
+      expected = rules.expected;
+      key = rules.key;
+      explains = false;
+      progress = false;
+      is_limited = false;
+    }
 
 -- this is told of one of the ends that meet cases so, in the script's case
 abbrev pub IsSwept : (Case → Meeting → Type 0) → SweepRules → SweptScript → Type 0
 IsSwept Meets rules script = (case : Case)
-    × IsShortCase rules.tested (key_for (other_role rules.tested) rules.key) script.0 case
+    × IsShortCase rules.tested rules.expected (key_for (other_role rules.tested) rules.key) script.0 case
     × IsTested Meets (case_rules rules) case script.1
 
 -- ---- scripts
@@ -186,10 +193,11 @@ SweepsScript Meets rules places ended output = MatchResult ended
     × HasWritten (script_line rules (places, outcome)) output × (output.failed ≡ false))
     (λ why. StopsAtScript Meets rules places why output)
 
--- the cases are made for the tested ends of these rules and the key of their tester
+-- the cases are made for the tested ends of these rules, what is expected of them, and the key of their tester
 abbrev pub MakesCasesOf : SweepRules → CaseRules → Type 0
 MakesCasesOf rules cases =
-    (cases.tested ≡ rules.tested) × (cases.key ≡ key_for (other_role rules.tested) rules.key)
+    (cases.tested ≡ rules.tested) × (cases.expected ≡ rules.expected)
+    × (cases.key ≡ key_for (other_role rules.tested) rules.key)
 
 -- the first so many scripts were run and counted, and their lines written
 pub record HasSwept (Meets : Case → Meeting → Type 0) (rules : SweepRules) (count : ℕ) (tally : Tally)

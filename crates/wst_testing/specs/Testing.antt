@@ -11,7 +11,8 @@ use Rattle.ws_session.specs.Replies.{key_for}
 use Rattle.ws_suite.specs.Evidence.{other_role}
 use Rattle.ws_scripts.specs.declared.transcript.Transcript.{Transcript}
 use Rattle.ws_scripts.specs.declared.capture.Capture.{Capture}
-use Rattle.ws_suite.specs.Verdicts.{IsVerdictOf}
+use Rattle.ws_suite.specs.Protocol.{IsVerdictBy}
+use Rattle.ws_scripts.specs.declared.expectation.Expectation.{Expectation}
 use Rattle.ws_scripts.specs.declared.script.Case.{Case}
 use Rattle.ws_suite.specs.declared.verdict.Verdict.{Verdict}
 use Rattle.wst_commands.specs.Devices.{Delivers}
@@ -37,7 +38,7 @@ use Rattle.wst_testing.specs.declared.testing.RunRules.{RunRules}
 -- where that is asked for; that the head of the answer is to be refused, or that there is no connection
 abbrev pub IsOutcomeOf : RunRules → Meeting → Outcome → Type 0
 IsOutcomeOf rules (meeting.Ran transcript) (outcome.Judged told) =
-    IsJudgementOf rules.explains rules.tested transcript told
+    IsJudgementOf rules.explains rules.tested rules.expected transcript told
 IsOutcomeOf rules (meeting.Refused refusal) (outcome.HeadRefused told) = told ≡ told_refusal rules.explains refusal
 IsOutcomeOf rules (meeting.NoConnection why) (outcome.NoConnection told) = told ≡ why
 IsOutcomeOf rules _ _ = ⊥
@@ -149,14 +150,15 @@ abbrev pub run_capture : Role → List ℕ → Transcript → Capture
 run_capture tested key transcript = record { key = key_for (other_role tested) key; transcript = transcript }
 
 -- a capture was written, and the exit is that of the verdict on the tested end by its transcript
-abbrev pub WritesCapture : Role → Capture → Exit → Device → Type 0
-WritesCapture tested capture exit output = (verdict : Verdict) × IsVerdictOf tested capture.transcript verdict
+abbrev pub WritesCapture : Role → Expectation → Capture → Exit → Device → Type 0
+WritesCapture tested expected capture exit output = (verdict : Verdict)
+    × IsVerdictBy expected tested capture.transcript verdict
     × Delivers (exit_of verdict) (written_capture2 capture) exit output
 
 -- the capture was written; or in its place the line of a case that has none
 abbrev pub TellsMeeting : RunRules → Case → Meeting → Exit → Device → Type 0
 TellsMeeting rules case (meeting.Ran transcript) exit output =
-    WritesCapture rules.tested (run_capture rules.tested rules.key transcript) exit output
+    WritesCapture rules.tested rules.expected (run_capture rules.tested rules.key transcript) exit output
 TellsMeeting rules case (meeting.Refused refusal) exit output =
     Delivers Damaged (test_line (case, outcome.HeadRefused (told_refusal false refusal))) exit output
 TellsMeeting rules case (meeting.NoConnection why) exit output =

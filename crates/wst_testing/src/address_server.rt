@@ -16,7 +16,7 @@ use std::marker::Model;
 use std::net::{Net, OpenStream};
 use ws_base::NoMemory;
 use ws_connection::{Asked, Connection, Observer, Probe, Silent, UpgradeRequest, probe};
-use ws_suite::Case;
+use ws_suite::{Case, Expectation};
 use ws_targets::Target;
 use wst_commands::TimeLimit;
 use wst_sockets::{ConnectFault, Meeting, Noted, Side, connect, connect_fault, shared};
@@ -30,12 +30,14 @@ pub struct Bounds {
     pub timeout: TimeLimit,
 }
 
-/// A server that is met over a network, at an address. Contracts see what it is asked for, and the budget.
+/// A server that is met over a network, at an address. Contracts see what it is asked for, what is expected of it, and
+/// the budget.
 #[derive(Drop)]
 pub struct AddressServer<'a, N> {
     net: &'a N,
     address: &'a str,
     request: UpgradeRequest<'a>,
+    expected: Expectation,
     bounds: Bounds,
 }
 
@@ -45,7 +47,11 @@ impl<'a, N> Model for AddressServer<'a, N> {
 
     ghost Value = { AddressValue };
 
-    ghost view = { λ server. record { request = request_value server.request; budget = server.bounds.budget } };
+    ghost view = { λ server. record {
+      request = request_value server.request;
+      expected = server.expected;
+      budget = server.bounds.budget;
+    } };
 
     ghost invariant = { λ server. CanBeAsked (request_value server.request) };
 }
@@ -64,6 +70,7 @@ impl<'a, N> AddressServer<'a, N> {
                 protocols: plan.protocols.as_slice(),
                 headers: plan.headers.as_slice(),
             },
+            expected: plan.expected,
             bounds: Bounds {
                 budget: plan.budget,
                 timeout: plan.timeout,
@@ -91,6 +98,7 @@ impl<N: Net> CaseServer for AddressServer<'_, N> {
                 let asked = Asked {
                     request: self.request,
                     key,
+                    expected: self.expected,
                     has_timeouts: self.bounds.timeout.is_limited(),
                 };
                 meet_over(alloc, case, &asked, stream, self.bounds, observer)
@@ -113,8 +121,8 @@ fn meet_over<S: Read + Write + OpenStream + Drop, O: Observer>(
     requires request { CanBeAsked (request_value asked.now.request) }
     requires hearing { IsHearing O.heard observer.old }
     ensures probed { IfOk result (λ meeting. IsProbedSo
-        (record { request = request_value asked.now.request; budget = bounds.budget }) asked.now.key case.now
-        (probe_of meeting)) }
+        (record { request = request_value asked.now.request; expected = asked.now.expected; budget = bounds.budget })
+        asked.now.key case.now (probe_of meeting)) }
     ensures told { IfOk result (λ meeting.
         HearsProbe O.heard O.heard_all observer.old observer.new (probe_of meeting)) }
     ensures borrow { O.borrow observer.new ≡ O.borrow observer.old }

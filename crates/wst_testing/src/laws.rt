@@ -1,6 +1,7 @@
 //! Laws over the definitions, each the contract of a function that does nothing.
 
 ghost use Rattle.std.specs.Prelude.{◌≡◌, Bool, None, true};
+ghost use Rattle.ws_scripts.specs.declared.expectation.Expectation.TheVariants.{Echo};
 ghost use Rattle.ws_scripts.specs.declared.script.Case.{Case};
 ghost use Rattle.wst_testing.specs.Outcomes.{is_fail, is_pass};
 ghost use Rattle.wst_testing.specs.Reporting.{fails_in};
@@ -12,10 +13,11 @@ ghost use Rattle.wst_testing.specs.declared.sweeping.SweepRules.{SweepRules};
 
 use ws_suite::laws::one_verdict;
 
-/// Whatever a short script sends, what is told of our echo in it, be it a server or a client, is Pass: the judge is
-/// fair, and gives one verdict.
+/// Whatever a short script sends, what is told of our echo in it, be it a server or a client, is Pass where an echo is
+/// expected: the judge is fair, and gives one verdict.
 pub fn our_echo_passes_every_script()
     ensures { (rules : SweepRules) (script : SweptScript) →
+        rules.expected ≡ Echo →
         IsSwept (MeetsInMemory (record { peer = Own; role = rules.tested }) rules.key) rules script →
         is_pass script.1 ≡ true }
 {

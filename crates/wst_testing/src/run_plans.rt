@@ -19,6 +19,7 @@ use ws_base::NoMemory;
 use ws_connection::{Protocols, RequestHeaders, headers_of, protocols_of};
 use ws_formats::read_key;
 use ws_frame::Watched;
+use ws_suite::Expectation;
 use ws_targets::{Target, TargetFault, asks_for_tls, is_address, read_target};
 use ws_upgrade::is_host;
 use ws_wire::Role;
@@ -55,6 +56,8 @@ pub struct RunPlan<'a> {
     /// The masking key of the client's frames that have none of their own.
     pub key: [u8; 4],
     pub tested: TestedEnd<'a>,
+    /// What is expected of it.
+    pub expected: Expectation,
     /// How long an end that is not in memory is waited for.
     pub timeout: TimeLimit,
     /// At most so many bytes are read of such an end in one script behind its head.
@@ -133,6 +136,7 @@ pub fn plan_run<'a>(alloc: Global, options: &RunOptions<'a>) -> Result<RunPlan<'
     Ok(RunPlan {
         key,
         tested,
+        expected: options.expect,
         timeout,
         budget: options.budget,
         protocols,

@@ -19,7 +19,7 @@ use std::io::Write;
 use ws_base::NoMemory;
 use ws_frame::{Watched, WriteFault, write_whole};
 use ws_peer::tester_key;
-use ws_suite::Verdict;
+use ws_suite::{Expectation, Verdict};
 use ws_sweep::{ShortCases, ShortScript, ShortScripts, script_count, tell_steps};
 use ws_wire::Role;
 use wst_commands::{Exit, Fault, tell, tell_fault};
@@ -30,6 +30,8 @@ use wst_sockets::ConnectFault;
 pub struct SweepRules {
     /// The role of the tested end.
     pub tested: Role,
+    /// What is expected of it.
+    pub expected: Expectation,
     /// Those of at most so many steps.
     pub steps: usize,
     /// What is Loose is told too.
@@ -103,7 +105,7 @@ fn run_scripts<S: CaseServer, W: Write, F: Write>(
     ensures { CountsScripts (S.meets server.now rules.key) rules result (watched W.contents writer.old writer.new) }
 {
     let key = tester_key(rules.tested, rules.key);
-    let mut cases = ShortCases::new(rules.tested, key);
+    let mut cases = ShortCases::new(rules.tested, rules.expected, key);
     let mut tally = Tally::new();
     let mut scripts = ShortScripts::up_to(rules.steps);
     while let Some(script) = scripts.next() {
@@ -145,6 +147,7 @@ fn case_rules(rules: SweepRules) -> RunRules
     let key = rules.key;
     RunRules {
         tested: rules.tested,
+        expected: rules.expected,
         key,
         explains: false,
         progress: false,

@@ -24,7 +24,7 @@ use ws_connection::HeadRefusal;
 use ws_frame::Watched;
 use ws_peer::tester_key;
 use ws_reports::Report;
-use ws_suite::{Capture, Case, Transcript, judge_end, write_capture2};
+use ws_suite::{Capture, Case, Expectation, Transcript, judge_with, write_capture2};
 use ws_upgrade::HeadFault;
 use ws_wire::Role;
 use wst_commands::{Exit, Fault, deliver, exit_of, judgement_of, tell};
@@ -35,6 +35,8 @@ use wst_sockets::Meeting;
 pub struct RunRules {
     /// The role of the tested end.
     pub tested: Role,
+    /// What is expected of it.
+    pub expected: Expectation,
     /// The masking key of the client's frames.
     pub key: [u8; 4],
     /// Below a verdict other than Pass it is told why.
@@ -146,7 +148,8 @@ pub(crate) fn outcome_of<S: CaseServer>(
 {
     match server.run(alloc, case, rules.key)? {
         Meeting::Ran(transcript) => {
-            let told = judgement_of(alloc, rules.explains, rules.tested, &transcript)?;
+            let tested = rules.tested;
+            let told = judgement_of(alloc, rules.explains, tested, rules.expected, &transcript)?;
             Ok(Outcome::Judged(told))
         }
         Meeting::Refused(refusal) => {
@@ -238,11 +241,11 @@ pub fn tell_capture<W: Write>(
 ) -> Result<Exit, Fault>
     requires { has_failed writer.old ≡ false }
     ensures { MatchResult result
-        (λ exit. WritesCapture rules.tested (run_capture rules.tested rules.key transcript) exit
+        (λ exit. WritesCapture rules.tested rules.expected (run_capture rules.tested rules.key transcript) exit
         (watched W.contents writer.old writer.new))
         (λ fault. (fault ≡ variant.NoMemory) × (writer.new ≡ writer.old)) }
 {
-    let verdict = judge_end(alloc, rules.tested, &transcript)?;
+    let verdict = judge_with(alloc, rules.tested, rules.expected, &transcript)?;
     let text = capture_text(alloc, rules.tested, rules.key, transcript)?;
     Ok(deliver(exit_of(verdict), text.as_slice(), writer))
 }

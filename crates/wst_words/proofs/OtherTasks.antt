@@ -96,8 +96,9 @@ no_show name rows is lacks = refuses
 judge_lacks : (rows : List Row) (options : JudgeOptions) → LacksOneOf rows judge_command.arguments
     → AsksToJudge rows options → ⊥
 judge_lacks rows options (inl role) asks = role options.role asks.0
-judge_lacks rows options (inr (inl explain)) asks = explain options.explain asks.1
-judge_lacks rows options (inr (inr none)) asks = absurd none
+judge_lacks rows options (inr (inl expect)) asks = expect options.expect asks.1
+judge_lacks rows options (inr (inr (inl explain))) asks = explain options.explain asks.2
+judge_lacks rows options (inr (inr (inr none))) asks = absurd none
 
 pub no_judge : (name : Text) (rows : List Row) → name ≡ codes "judge" → LacksOneOf rows judge_command.arguments
     → CommandAsksNothing (Some (name, rows))
@@ -142,15 +143,16 @@ no_session name rows is lacks = refuses
 run_lacks : (rows : List Row) (options : RunOptions) (more : List ArgumentRow)
     → (LacksOneOf rows more → ⊥) → LacksOneOf rows (run_arguments_without_timeout ++ more) → AsksForRun rows options → ⊥
 run_lacks rows options more none (inl role) asks = role options.role asks.role
-run_lacks rows options more none (inr (inl key)) asks = no_word rows (codes "key") options.key.now key asks.key
-run_lacks rows options more none (inr (inr (inl timeout))) asks = absurd timeout
-run_lacks rows options more none (inr (inr (inr (inl budget)))) asks = budget options.budget asks.budget
-run_lacks rows options more none (inr (inr (inr (inr (inl protocols))))) asks = absurd protocols
-run_lacks rows options more none (inr (inr (inr (inr (inr (inl header)))))) asks = absurd header
-run_lacks rows options more none (inr (inr (inr (inr (inr (inr (inl connect))))))) asks = absurd connect
-run_lacks rows options more none (inr (inr (inr (inr (inr (inr (inr (inl target)))))))) asks =
+run_lacks rows options more none (inr (inl expect)) asks = expect options.expect asks.expect
+run_lacks rows options more none (inr (inr (inl key))) asks = no_word rows (codes "key") options.key.now key asks.key
+run_lacks rows options more none (inr (inr (inr (inl timeout)))) asks = absurd timeout
+run_lacks rows options more none (inr (inr (inr (inr (inl budget))))) asks = budget options.budget asks.budget
+run_lacks rows options more none (inr (inr (inr (inr (inr (inl protocols)))))) asks = absurd protocols
+run_lacks rows options more none (inr (inr (inr (inr (inr (inr (inl header))))))) asks = absurd header
+run_lacks rows options more none (inr (inr (inr (inr (inr (inr (inr (inl connect)))))))) asks = absurd connect
+run_lacks rows options more none (inr (inr (inr (inr (inr (inr (inr (inr (inl target))))))))) asks =
     no_word rows (codes "target") options.target.now target asks.target
-run_lacks rows options more none (inr (inr (inr (inr (inr (inr (inr (inr rest)))))))) asks = none rest
+run_lacks rows options more none (inr (inr (inr (inr (inr (inr (inr (inr (inr rest))))))))) asks = none rest
 
 -- what `test`, `send` and `sweep` have beside them
 abbrev sweep_own : List ArgumentRow
@@ -237,10 +239,11 @@ no_report name rows is lacks = refuses
 send_lacks : (rows : List Row) (options : SendOptions) → LacksOneOf rows send_command.arguments
     → AsksToSend rows options → ⊥
 send_lacks rows options (inl role) asks = role options.run.role asks.0.role
-send_lacks rows options (inr (inl key)) asks = no_word rows (codes "key") options.run.key.now key asks.0.key
-send_lacks rows options (inr (inr (inl timeout))) asks = no_word rows (codes "timeout") asks.2.0 timeout asks.2.1
-send_lacks rows options (inr (inr (inr more))) asks =
-    run_lacks rows options.run send_own none (inr (inr (inr more))) asks.0
+send_lacks rows options (inr (inl expect)) asks = expect options.run.expect asks.0.expect
+send_lacks rows options (inr (inr (inl key))) asks = no_word rows (codes "key") options.run.key.now key asks.0.key
+send_lacks rows options (inr (inr (inr (inl timeout)))) asks = no_word rows (codes "timeout") asks.2.0 timeout asks.2.1
+send_lacks rows options (inr (inr (inr (inr more)))) asks =
+    run_lacks rows options.run send_own none (inr (inr (inr (inr more)))) asks.0
   where
     none : LacksOneOf rows send_own → ⊥
     none (inl capture) = capture options.capture asks.1

@@ -12,31 +12,38 @@ use Rattle.clap.specs.declared.parser.matches.ArgMatches.TheViews.{out-SubComman
 use Rattle.clap.specs.declared.parser.matches.SubCommand.{SubCommand}
 use Rattle.clap.specs.declared.error.Error.{Error}
 use Rattle.clap.specs.declared.error.kind.ErrorKind.TheVariants.{OutOfMemory}
-use Rattle.wst_words.specs.Arguments.{Places, end_names}
-use Rattle.wst_words.specs.Options.{GivesFlag, GivesNoEnd, GivesNoFlag, GivesNoNumber, GivesNoNumberOr, GivesNumber}
-use Rattle.wst_words.specs.Options.{GivesNumberOf, GivesNumberOr}
+use Rattle.wst_words.specs.Options.{GivesFlag, GivesNoEnd, GivesNoExpectation, GivesNoFlag, GivesNoNumber}
+use Rattle.wst_words.specs.Options.{GivesNoNumberOr, GivesNumber, GivesNumberOf, GivesNumberOr}
 use Rattle.wst_words.specs.Words.{AsksFor, AsksForNothing, CommandAsks, CommandAsksNothing, IsOfClap, IsRead}
 use Rattle.wst_words.specs.Words.{RefusesWords}
 use Rattle.wst_words.specs.declared.words.Task.{Task}
 use Rattle.wst_words.specs.declared.words.WordsFault.{WordsFault}
 use Rattle.wst_words.specs.declared.words.WordsFault.TheVariants.{Clap, NoTask}
 
--- a list of the two names is that of some places
-pub places_of : (list : ℕ × ℕ) (names : List (Bor Text)) → map (λ s. s.now) names ≡ codes "client" ∷ codes "server" ∷ []
-    → (places : Places) × (record { ref_ptr = list; now = names } ≡ end_names places)
-places_of list [] e =
+-- two names in memory, in a list that lies there too
+abbrev pub two_names : ℕ × ℕ → (ℕ × ℕ) × (ℕ × ℕ) → Text → Text → Bor (List (Bor Text))
+two_names list places one other = record {
+  ref_ptr = list;
+  now = record { ref_ptr = places.0; now = one } ∷ record { ref_ptr = places.1; now = other } ∷ [];
+}
+
+-- a list of two names has them in two places
+pub places_of : (one other : Text) (list : ℕ × ℕ) (names : List (Bor Text))
+    → map (λ s. s.now) names ≡ one ∷ other ∷ []
+    → (places : (ℕ × ℕ) × (ℕ × ℕ)) × (record { ref_ptr = list; now = names } ≡ two_names list places one other)
+places_of one other list [] e =
     let bad : zero ≡ suc (suc zero) = ap (λ (l : List Text). length l) e in
     absurd (omega arith)
-places_of list (a ∷ []) e =
+places_of one other list (a ∷ []) e =
     let bad : suc zero ≡ suc (suc zero) = ap (λ (l : List Text). length l) e in
     absurd (omega arith)
-places_of list (a ∷ b ∷ []) e =
-    let first : a.now ≡ codes "client" = ap (λ (l : List Text). slice_index_or l 0 []) e in
-    let second : b.now ≡ codes "server" = ap (λ (l : List Text). slice_index_or l 1 []) e in (
-      record { list = list; client = a.ref_ptr; server = b.ref_ptr },
+places_of one other list (a ∷ b ∷ []) e =
+    let first : a.now ≡ one = ap (λ (l : List Text). slice_index_or l 0 []) e in
+    let second : b.now ≡ other = ap (λ (l : List Text). slice_index_or l 1 []) e in (
+      (a.ref_ptr, b.ref_ptr),
       λ i. record { ref_ptr = list; now = record { ref_ptr = a.ref_ptr; now = first i } ∷ record { ref_ptr = b.ref_ptr; now = second i } ∷ [] },
     )
-places_of list (a ∷ b ∷ x ∷ rest) e =
+places_of one other list (a ∷ b ∷ x ∷ rest) e =
     let bad : suc (suc (suc (length (map (λ s. s.now) rest)))) ≡ suc (suc zero) = ap (λ (l : List Text). length l) e in
     absurd (omega arith)
 
@@ -94,6 +101,12 @@ flag_given E rows name (Some text) (Some false) there none some = sym there ∙ 
 -- without a text no end is given
 pub no_end_given : (rows : List Row) (name : Text) → first_of name rows ≡ None → GivesNoEnd rows name
 no_end_given rows name none = λ role given.
+    let bad : Some given.word ≡ None = sym given.has_word ∙ none in
+    absurd (cc)
+
+-- without a word nothing is said of what is expected
+pub no_expectation_given : (rows : List Row) (name : Text) → first_of name rows ≡ None → GivesNoExpectation rows name
+no_expectation_given rows name none = λ expected given.
     let bad : Some given.word ≡ None = sym given.has_word ∙ none in
     absurd (cc)
 

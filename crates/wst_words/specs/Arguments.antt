@@ -3,12 +3,12 @@ use Rattle.std.specs.Prelude.{ℕ, List, [], ◌∷◌, Option, Some, None, code
 use Rattle.std.specs.Borrow.{Bor}
 use Rattle.clap.specs.Words.{Rule, Text, new_rule}
 use Rattle.clap.specs.declared.builder.action.ArgAction.TheVariants.{Append, Set, SetTrue}
-use Rattle.clap.specs.declared.builder.value_parser.ValueParser.{ValueParser}
 use Rattle.clap.specs.declared.builder.value_parser.ValueParser.TheVariants.{Names, Signed, Unsigned}
 use Rattle.wst_words.specs.declared.arguments.Argument.{Argument}
 use Rattle.wst_words.specs.declared.arguments.ArgumentKind.{ArgumentKind}
-use Rattle.wst_words.specs.declared.arguments.ArgumentKind.TheVariants.{EachWord, End, Flag, FreeWord, NeededCount}
-use Rattle.wst_words.specs.declared.arguments.ArgumentKind.TheVariants.{NeededWord, Number, Word, Words}
+use Rattle.wst_words.specs.declared.arguments.ArgumentKind.TheVariants.{EachWord, End, Expected, Flag, FreeWord}
+use Rattle.wst_words.specs.declared.arguments.ArgumentKind.TheVariants.{NeededCount, NeededWord, Number, Word, Words}
+use Rattle.wst_words.specs.declared.arguments.NameParsers.{NameParsers}
 
 -- an argument: its name, its kind, and its value where it is left out
 pub record ArgumentRow : Type 0 where
@@ -30,11 +30,15 @@ argument_row a = record { name = a.name.now; kind = a.kind; default = option_map
 
 -- ---- clap's data
 
--- where the names of the two ends lie in memory, which clap's data of a list of names holds beside the names
+-- where the names of the two ends, and of what is expected, lie in memory, which clap's data of a list of names holds
+-- beside the names
 pub record Places : Type 0 where
   pub list : ℕ × ℕ
   pub client : ℕ × ℕ
   pub server : ℕ × ℕ
+  pub expectations : ℕ × ℕ
+  pub echo : ℕ × ℕ
+  pub protocol : ℕ × ℕ
 
 -- the names of the ends
 abbrev pub end_names : Places → Bor (List (Bor Text))
@@ -44,9 +48,17 @@ end_names places = record {
       ∷ record { ref_ptr = places.server; now = codes "server" } ∷ [];
 }
 
+-- the names of what is expected
+abbrev pub expectation_names : Places → Bor (List (Bor Text))
+expectation_names places = record {
+  ref_ptr = places.expectations;
+  now = record { ref_ptr = places.echo; now = codes "echo" }
+      ∷ record { ref_ptr = places.protocol; now = codes "protocol" } ∷ [];
+}
+
 -- what takes them alone
-abbrev pub end_parser : Places → ValueParser
-end_parser places = Names (end_names places)
+abbrev pub name_parsers : Places → NameParsers
+name_parsers places = record { ends = Names (end_names places); expectations = Names (expectation_names places) }
 
 -- an option that takes one value
 abbrev pub option_rule : Text → Rule
@@ -64,18 +76,20 @@ needed_rule name = record (free_rule name) { required = true }
 abbrev pub each_rule : Text → Rule
 each_rule name = record (new_rule name) { long = Some name; action = Some Append; value_names = 1 }
 
--- an argument of this kind: an end as it is parsed, a number of 64 bits, any word, any word each time that it is given,
--- a flag, a word and a number of 32 bits that may not be left out, a word that may, as many words as there are
-abbrev pub kind_rule : ValueParser → ArgumentKind → Text → Rule
-kind_rule ends End name = record (option_rule name) { parser = Some ends }
-kind_rule ends Number name = record (option_rule name) { parser = Some (Unsigned 0 18446744073709551615) }
-kind_rule ends Word name = option_rule name
-kind_rule ends EachWord name = each_rule name
-kind_rule ends Flag name = record (new_rule name) { long = Some name; action = Some SetTrue }
-kind_rule ends NeededWord name = needed_rule name
-kind_rule ends FreeWord name = free_rule name
-kind_rule ends NeededCount name = record (needed_rule name) { parser = Some (Signed (pos 0) (pos 4294967295)) }
-kind_rule ends Words name = record (new_rule name) { action = Some Append; value_names = 1 }
+-- an argument of this kind: an end or an expectation as it is parsed, a number of 64 bits, any word, any word each time
+-- that it is given, a flag, a word and a number of 32 bits that may not be left out, a word that may, as many words as
+-- there are
+abbrev pub kind_rule : NameParsers → ArgumentKind → Text → Rule
+kind_rule names End name = record (option_rule name) { parser = Some names.ends }
+kind_rule names Expected name = record (option_rule name) { parser = Some names.expectations }
+kind_rule names Number name = record (option_rule name) { parser = Some (Unsigned 0 18446744073709551615) }
+kind_rule names Word name = option_rule name
+kind_rule names EachWord name = each_rule name
+kind_rule names Flag name = record (new_rule name) { long = Some name; action = Some SetTrue }
+kind_rule names NeededWord name = needed_rule name
+kind_rule names FreeWord name = free_rule name
+kind_rule names NeededCount name = record (needed_rule name) { parser = Some (Signed (pos 0) (pos 4294967295)) }
+kind_rule names Words name = record (new_rule name) { action = Some Append; value_names = 1 }
 
 -- a rule with this value where the argument is left out
 abbrev pub with_default : Option Text → Rule → Rule
@@ -83,5 +97,5 @@ with_default None rule = rule
 with_default (Some value) rule = record rule { defaults = value ∷ [] }
 
 -- the argument of this row
-abbrev pub argument_rule : ValueParser → ArgumentRow → Rule
-argument_rule ends row = with_default row.default (kind_rule ends row.kind row.name)
+abbrev pub argument_rule : NameParsers → ArgumentRow → Rule
+argument_rule names row = with_default row.default (kind_rule names row.kind row.name)

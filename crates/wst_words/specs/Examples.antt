@@ -13,6 +13,7 @@ use Rattle.clap.specs.Takes.{flags_pass, walk_passes}
 use Rattle.clap.specs.Faults.{defaults_fault, flags_fault, walk_fault}
 use Rattle.clap.specs.declared.builder.value_parser.ValueParser.TheVariants.{Unsigned}
 use Rattle.ws_wire.specs.declared.role.Role.TheVariants.{Client, Server}
+use Rattle.ws_scripts.specs.declared.expectation.Expectation.TheVariants.{Echo, Protocol}
 use Rattle.wst_words.specs.Arguments.{Places}
 use Rattle.wst_words.specs.Options.{GivesNumber, given_words}
 use Rattle.wst_words.specs.Words.{AsksFor, wst_app}
@@ -165,18 +166,57 @@ abbrev judge_words : List Text
 judge_words = words (codes "judge" ∷ [])
 
 pub plain_judge : (places : Places)
-    → AsksFor (wst_app places) judge_words (Judge (record { role = Server; explain = false }))
+    → AsksFor (wst_app places) judge_words (Judge (record { role = Server; expect = Echo; explain = false }))
 unfolding on_words
-plain_judge places = (refl, (refl, (record { word = codes "server"; has_word = refl; value = refl }, refl)))
+plain_judge places = (
+  refl,
+  (
+    refl,
+    (
+      record { word = codes "server"; has_word = refl; value = refl },
+      record { word = codes "echo"; has_word = refl; value = refl },
+      refl,
+    ),
+  ),
+)
 
 -- and `wst judge --role client --explain` one of a client, and tells why
 abbrev explain_words : List Text
 explain_words = words (codes "judge" ∷ codes "--role" ∷ codes "client" ∷ codes "--explain" ∷ [])
 
 pub explained_judge : (places : Places)
-    → AsksFor (wst_app places) explain_words (Judge (record { role = Client; explain = true }))
+    → AsksFor (wst_app places) explain_words (Judge (record { role = Client; expect = Echo; explain = true }))
 unfolding on_words
-explained_judge places = (refl, (refl, (record { word = codes "client"; has_word = refl; value = refl }, refl)))
+explained_judge places = (
+  refl,
+  (
+    refl,
+    (
+      record { word = codes "client"; has_word = refl; value = refl },
+      record { word = codes "echo"; has_word = refl; value = refl },
+      refl,
+    ),
+  ),
+)
+
+-- and `wst judge --expect protocol` one of an end that needn't echo
+abbrev unechoed_words : List Text
+unechoed_words = words (codes "judge" ∷ codes "--expect" ∷ codes "protocol" ∷ [])
+
+pub protocol_judge : (places : Places)
+    → AsksFor (wst_app places) unechoed_words (Judge (record { role = Server; expect = Protocol; explain = false }))
+unfolding on_words
+protocol_judge places = (
+  refl,
+  (
+    refl,
+    (
+      record { word = codes "server"; has_word = refl; value = refl },
+      record { word = codes "protocol"; has_word = refl; value = refl },
+      refl,
+    ),
+  ),
+)
 
 -- `wst convert` writes a capture in format 2
 abbrev convert_words : List Text

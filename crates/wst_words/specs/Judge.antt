@@ -3,17 +3,19 @@ use Rattle.std.specs.Prelude.{List, [], ◌∷◌, codes}
 use Rattle.clap.specs.Words.{Row}
 use Rattle.wst_words.specs.Arguments.{argument, argument_or}
 use Rattle.wst_words.specs.Commands.{CommandRow}
-use Rattle.wst_words.specs.declared.arguments.ArgumentKind.TheVariants.{End, Flag}
-use Rattle.wst_words.specs.Options.{GivesEnd, GivesFlag}
+use Rattle.wst_words.specs.declared.arguments.ArgumentKind.TheVariants.{End, Expected, Flag}
+use Rattle.wst_words.specs.Options.{GivesEnd, GivesExpectation, GivesFlag}
 use Rattle.wst_words.specs.declared.judge.JudgeOptions.{JudgeOptions}
 
 -- its arguments
 abbrev pub judge_command : CommandRow
 judge_command = record {
   name = codes "judge";
-  arguments = argument_or (codes "role") End (codes "server") ∷ argument (codes "explain") Flag ∷ [];
+  arguments = argument_or (codes "role") End (codes "server") ∷ argument_or (codes "expect") Expected (codes "echo")
+      ∷ argument (codes "explain") Flag ∷ [];
 }
 
 -- the options give these
 abbrev pub AsksToJudge : List Row → JudgeOptions → Type 0
-AsksToJudge rows options = GivesEnd rows (codes "role") options.role × GivesFlag rows (codes "explain") options.explain
+AsksToJudge rows options = GivesEnd rows (codes "role") options.role
+    × GivesExpectation rows (codes "expect") options.expect × GivesFlag rows (codes "explain") options.explain

@@ -9,7 +9,10 @@ use Rattle.ws_wire.specs.declared.role.Role.{Role}
 use Rattle.ws_wire.specs.declared.role.Role.TheVariants.{Client, Server}
 use Rattle.wst_words.specs.Arguments.{ArgumentRow}
 use Rattle.wst_words.specs.declared.arguments.ArgumentKind.{ArgumentKind}
-use Rattle.wst_words.specs.declared.arguments.ArgumentKind.TheVariants.{EachWord, End, Flag, FreeWord, NeededCount}
+use Rattle.ws_scripts.specs.declared.expectation.Expectation.{Expectation}
+use Rattle.ws_scripts.specs.declared.expectation.Expectation.TheVariants.{Echo, Protocol}
+use Rattle.wst_words.specs.declared.arguments.ArgumentKind.TheVariants.{EachWord, End, Expected, Flag, FreeWord}
+use Rattle.wst_words.specs.declared.arguments.ArgumentKind.TheVariants.{NeededCount}
 use Rattle.wst_words.specs.declared.arguments.ArgumentKind.TheVariants.{NeededWord, Number, Word, Words}
 
 -- ---- an end of the connection
@@ -31,6 +34,22 @@ GivesEndIfAny rows name role = role ≡ option_map role_named (first_of name row
 -- and it gives none
 abbrev pub GivesNoEnd : List Row → Text → Type 0
 GivesNoEnd rows name = (role : Role) → GivesEnd rows name role → ⊥
+
+-- ---- what is expected of the tested end
+
+-- what a word names
+abbrev pub expectation_named : Text → Expectation
+expectation_named word = if bytes_eq word (codes "protocol") then Protocol else Echo
+
+-- the option of this name says that this is expected
+pub record GivesExpectation (rows : List Row) (name : Text) (expected : Expectation) : Type 0 where
+  pub word : Text
+  pub has_word : first_of name rows ≡ Some word
+  pub value : expected ≡ expectation_named word
+
+-- and it says nothing
+abbrev pub GivesNoExpectation : List Row → Text → Type 0
+GivesNoExpectation rows name = (expected : Expectation) → GivesExpectation rows name expected → ⊥
 
 -- ---- a word
 
@@ -100,6 +119,8 @@ GivesNoFlag rows name = (set : Bool) → GivesFlag rows name set → ⊥
 abbrev pub LacksValueOf : List Row → Text → ArgumentKind → Option Text → Type 0
 LacksValueOf rows name End None = ⊥
 LacksValueOf rows name End (Some end) = GivesNoEnd rows name
+LacksValueOf rows name Expected None = ⊥
+LacksValueOf rows name Expected (Some expected) = GivesNoExpectation rows name
 LacksValueOf rows name Number None = GivesNoNumberOr rows name
 LacksValueOf rows name Number (Some number) = GivesNoNumber rows name
 LacksValueOf rows name Word None = ⊥

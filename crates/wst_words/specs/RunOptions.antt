@@ -2,13 +2,15 @@
 use Rattle.std.specs.Prelude.{◌≡◌, List, [], ◌∷◌, Some, codes, map}
 use Rattle.clap.specs.Words.{Row, first_of}
 use Rattle.wst_words.specs.Arguments.{ArgumentRow, argument, argument_or}
-use Rattle.wst_words.specs.declared.arguments.ArgumentKind.TheVariants.{EachWord, End, NeededWord, Number, Word}
-use Rattle.wst_words.specs.Options.{GivesEnd, GivesNumber, GivesProtocols, GivesWord, given_words}
+use Rattle.wst_words.specs.declared.arguments.ArgumentKind.TheVariants.{EachWord, End, Expected, NeededWord, Number}
+use Rattle.wst_words.specs.declared.arguments.ArgumentKind.TheVariants.{Word}
+use Rattle.wst_words.specs.Options.{GivesEnd, GivesExpectation, GivesNumber, GivesProtocols, GivesWord, given_words}
 use Rattle.wst_words.specs.declared.run_options.RunOptions.{RunOptions}
 
 -- the arguments, with this one for how long the tested end is waited for
 abbrev pub run_arguments : ArgumentRow → List ArgumentRow
 run_arguments timeout = argument_or (codes "role") End (codes "server")
+    ∷ argument_or (codes "expect") Expected (codes "echo")
     ∷ argument_or (codes "key") Word (codes "37fa213d")
     ∷ timeout
     ∷ argument_or (codes "budget") Number (codes "67108864")
@@ -24,6 +26,7 @@ run_arguments_without_timeout = run_arguments (argument (codes "timeout") Word)
 -- the words give these
 pub record AsksForRun (rows : List Row) (options : RunOptions) : Type 0 where
   pub role : GivesEnd rows (codes "role") options.role
+  pub expect : GivesExpectation rows (codes "expect") options.expect
   pub key : first_of (codes "key") rows ≡ Some options.key.now
   pub timeout : GivesWord rows (codes "timeout") options.timeout
   pub budget : GivesNumber rows (codes "budget") options.budget

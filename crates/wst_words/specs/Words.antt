@@ -3,7 +3,7 @@ use Rattle.std.specs.Prelude.{◌≡◌, true, List, [], ◌∷◌, Option, Some
 use Rattle.clap.specs.Words.{App, HasKind, Row, Text, fault_of, new_app, subcommand_of}
 use Rattle.clap.specs.Simple.{on_top}
 use Rattle.clap.specs.declared.error.Error.{Error}
-use Rattle.wst_words.specs.Arguments.{Places, end_parser}
+use Rattle.wst_words.specs.Arguments.{Places, name_parsers}
 use Rattle.wst_words.specs.Cases.{AsksForCases, cases_command}
 use Rattle.wst_words.specs.Commands.{CommandRow, with_commands}
 use Rattle.wst_words.specs.Head.{AsksForHead, head_command}
@@ -58,7 +58,7 @@ bare_app = on_top (λ s. record s { subcommand_required = true; has_version = tr
 
 -- `wst` with its commands
 abbrev pub wst_app : Places → App
-wst_app places = with_commands (end_parser places) bare_app all_commands
+wst_app places = with_commands (name_parsers places) bare_app all_commands
 
 -- ---- what the words ask for
 

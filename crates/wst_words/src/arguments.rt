@@ -14,6 +14,8 @@ use std::alloc::Global;
 pub(crate) enum ArgumentKind {
     /// An option that takes the name of an end of the connection.
     End,
+    /// An option that takes the name of what is expected of the tested end.
+    Expected,
     /// An option that takes a number of 64 bits.
     Number,
     /// An option that takes any word.
@@ -45,12 +47,21 @@ pub(crate) struct Argument {
     pub(crate) help: &'static str,
 }
 
-/// What `clap` is told of an argument. `ends` reads the name of an end.
-pub(crate) fn arg_of<'a>(alloc: Global, argument: &Argument, ends: ValueParser<'a>) -> Arg<'a>
-    ensures rule { rule_of result ≡ argument_rule ends.entry (argument_row argument.now) }
+/// What reads the names that an option may take.
+#[derive(Clone, Copy)]
+pub(crate) struct NameParsers<'a> {
+    /// Those of the ends of a connection.
+    pub(crate) ends: ValueParser<'a>,
+    /// Those of what is expected of the tested end.
+    pub(crate) expectations: ValueParser<'a>,
+}
+
+/// What `clap` is told of an argument.
+pub(crate) fn arg_of<'a>(alloc: Global, argument: &Argument, names: NameParsers<'a>) -> Arg<'a>
+    ensures rule { rule_of result ≡ argument_rule names.entry (argument_row argument.now) }
     ensures local { result.global ≡ false }
 {
-    let arg = arg_of_kind(alloc, argument, ends);
+    let arg = arg_of_kind(alloc, argument, names);
     match argument.default {
         Some(default) => arg.default_value(default),
         None => arg,
@@ -58,12 +69,13 @@ pub(crate) fn arg_of<'a>(alloc: Global, argument: &Argument, ends: ValueParser<'
 }
 
 /// What it is told but for a default value.
-fn arg_of_kind<'a>(alloc: Global, argument: &Argument, ends: ValueParser<'a>) -> Arg<'a>
-    ensures rule { rule_of result ≡ kind_rule ends.entry argument.now.kind argument.now.name.now }
+fn arg_of_kind<'a>(alloc: Global, argument: &Argument, names: NameParsers<'a>) -> Arg<'a>
+    ensures rule { rule_of result ≡ kind_rule names.entry argument.now.kind argument.now.name.now }
     ensures local { result.global ≡ false }
 {
     match argument.kind {
-        ArgumentKind::End => option_arg(alloc, argument).value_parser(ends),
+        ArgumentKind::End => option_arg(alloc, argument).value_parser(names.ends),
+        ArgumentKind::Expected => option_arg(alloc, argument).value_parser(names.expectations),
         ArgumentKind::Number => option_arg(alloc, argument).value_parser(clap::value_parser!(u64)),
         ArgumentKind::Word => option_arg(alloc, argument),
         ArgumentKind::EachWord => each_arg(alloc, argument),

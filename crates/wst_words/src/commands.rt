@@ -7,7 +7,7 @@ ghost use Rattle.wst_words.specs.Commands.{command_shape, with_arguments, with_c
 ghost use Rattle.wst_words.specs.Arguments.{Places, argument_row};
 ghost use Rattle.wst_words.specs.Words.{row_of, wst_app};
 
-use crate::arguments::{Argument, arg_of};
+use crate::arguments::{Argument, NameParsers, arg_of};
 use crate::{
     cases, convert, head, judge, pair, report, send, serve, session, show, sweep, tap, test,
 };
@@ -130,14 +130,17 @@ const VERSION: &str = "0.2.0 (rattle logic dac8208d650f15bf)";
 pub(crate) fn wst_command<'a>(alloc: Global) -> Result<Command<'a>, AllocError>
     ensures { IfOk result (λ command. (places : Places) × (app_of command ≡ wst_app places)) }
 {
-    let ends = ValueParser::from(["client", "server"].as_slice());
+    let names = NameParsers {
+        ends: ValueParser::from(["client", "server"].as_slice()),
+        expectations: ValueParser::from(["echo", "protocol"].as_slice()),
+    };
     let named = Command::new(alloc, "wst").bin_name("wst")?;
     let wst = named
         .version(VERSION)
         .about("Tests WebSocket endpoints frame by frame (RFC 6455)")
         .after_help(AFTER_HELP)
         .subcommand_required(true);
-    let command = with_commands(alloc, wst, &COMMANDS, ends)?;
+    let command = with_commands(alloc, wst, &COMMANDS, names)?;
     Ok(command)
 }
 
@@ -146,14 +149,14 @@ fn with_commands<'a>(
     alloc: Global,
     above: Command<'a>,
     commands: &[CommandName],
-    ends: ValueParser<'a>,
+    names: NameParsers<'a>,
 ) -> Result<Command<'a>, AllocError>
     ensures { IfOk result (λ command. app_of command
-        ≡ with_commands ends.entry (app_of above.entry) (map row_of commands.now)) }
+        ≡ with_commands names.entry (app_of above.entry) (map row_of commands.now)) }
 {
     let mut command = above;
     for name in commands {
-        let subcommand = command_of(alloc, *name, ends)?;
+        let subcommand = command_of(alloc, *name, names)?;
         command = command.subcommand(subcommand)?;
     }
     Ok(command)
@@ -163,9 +166,9 @@ fn with_commands<'a>(
 fn command_of<'a>(
     alloc: Global,
     name: CommandName,
-    ends: ValueParser<'a>,
+    names: NameParsers<'a>,
 ) -> Result<Command<'a>, AllocError>
-    ensures shape { IfOk result (λ command. shape_of command ≡ command_shape ends.entry (row_of name)) }
+    ensures shape { IfOk result (λ command. shape_of command ≡ command_shape names.entry (row_of name)) }
     ensures local { IfOk result (λ command. (fields_of command).has_globals ≡ false) }
 {
     let help = help_of(name);
@@ -173,7 +176,7 @@ fn command_of<'a>(
         .about(help.about)
         .long_about(help.long_about)
         .after_help(help.after_help);
-    let command = with_arguments(alloc, bare, arguments_of(name), ends)?;
+    let command = with_arguments(alloc, bare, arguments_of(name), names)?;
     Ok(command)
 }
 
@@ -182,16 +185,16 @@ fn with_arguments<'a>(
     alloc: Global,
     bare: Command<'a>,
     arguments: &[Argument],
-    ends: ValueParser<'a>,
+    names: NameParsers<'a>,
 ) -> Result<Command<'a>, AllocError>
     requires { (fields_of bare).has_globals ≡ false }
     ensures app { IfOk result (λ command. app_of command
-        ≡ with_arguments ends.entry (app_of bare.entry) (map argument_row arguments.now)) }
+        ≡ with_arguments names.entry (app_of bare.entry) (map argument_row arguments.now)) }
     ensures local { IfOk result (λ command. (fields_of command).has_globals ≡ false) }
 {
     let mut command = bare;
     for argument in arguments {
-        command = command.arg(arg_of(alloc, argument, ends))?;
+        command = command.arg(arg_of(alloc, argument, names))?;
     }
     Ok(command)
 }

@@ -9,8 +9,10 @@ ghost use Rattle.wst_words.specs.Arguments.{argument_row};
 use crate::arguments::Argument;
 use crate::arguments::ArgumentKind::{End, Flag};
 use crate::commands::HelpText;
-use crate::options::{end_of, flag_of};
+use crate::options::{end_of, expectation_of, flag_of};
+use crate::run_options::EXPECT;
 use clap::ArgMatches;
+use ws_scripts::Expectation;
 use ws_wire::Role;
 
 /// The options of `judge`.
@@ -18,12 +20,14 @@ use ws_wire::Role;
 pub struct JudgeOptions {
     /// The tested end.
     pub role: Role,
+    /// What is expected of it.
+    pub expect: Expectation,
     /// Below a verdict other than PASS it is told why.
     pub explain: bool,
 }
 
 /// Its arguments.
-static ARGUMENTS: [Argument; 2] = [
+static ARGUMENTS: [Argument; 3] = [
     Argument {
         name: "role",
         kind: End,
@@ -31,6 +35,7 @@ static ARGUMENTS: [Argument; 2] = [
         value_name: "END",
         help: "The end that was tested",
     },
+    EXPECT,
     Argument {
         name: "explain",
         kind: Flag,
@@ -53,8 +58,13 @@ pub(crate) fn judge_options(options: &ArgMatches<'_>) -> Option<JudgeOptions>
         (AsksToJudge (rows_of (found_of options.now))) }
 {
     let role = end_of(options, "role")?;
+    let expect = expectation_of(options, "expect")?;
     let explain = flag_of(options, "explain")?;
-    Some(JudgeOptions { role, explain })
+    Some(JudgeOptions {
+        role,
+        expect,
+        explain,
+    })
 }
 
 /// What help says of `judge`.
@@ -96,6 +106,19 @@ one line, the first of these that applies:
   LOOSE EchoShort      messages or pongs that are due before a fault did not come
   LOOSE BrokenEnd      the connection broke, which only format 2 tells
   PASS                 none of these
+
+With --expect protocol the end needn't echo: it may send messages, pings and pongs of its own, and
+close when it likes, and only what RFC 6455 orders of any end is a FAIL: NotFrames, Pongs, Close or
+End. Then these are told too, behind LOOSE BrokenEnd:
+
+  LOOSE OwnFault       it closed by itself and blames a fault, and none was sent
+  LOOSE OwnClose       it closed by itself
+  LOOSE OwnEnd         it ended the connection by itself, without a close
+  LOOSE LateFault      it let a fault pass of which not all was sent
+  LOOSE Tolerated      it let a fault pass for which the standard doesn't order an end to fail
+  LOOSE NoClose        a close was not answered, and may not have been read
+  LOOSE BehindClose    pings, pongs or closes are behind its close
+  LOOSE TooBig         a message has more than 16777216 bytes
 
 A damaged capture is told as `line N: not a capture`, and nothing is written.
 

@@ -4,10 +4,12 @@ ghost use Rattle.std.specs.Prelude.{◌≡◌, IfOk, MatchOption, map, option_ma
 ghost use Rattle.clap.specs.Words.{first_of, found_of, rows_of};
 ghost use Rattle.wst_words.specs.Options.{GivesCount, GivesEnd, GivesFlag, GivesNumber, GivesNumberOr};
 ghost use Rattle.wst_words.specs.Options.{GivesNoCount, GivesNoEnd, GivesNoFlag, GivesNoNumber, GivesNoNumberOr};
-ghost use Rattle.wst_words.specs.Options.{GivesEndIfAny, GivesNumberIfAny, given_words, role_named};
+ghost use Rattle.wst_words.specs.Options.{GivesEndIfAny, GivesExpectation, GivesNoExpectation, GivesNumberIfAny};
+ghost use Rattle.wst_words.specs.Options.{expectation_named, given_words, role_named};
 
 use clap::ArgMatches;
 use std::alloc::{AllocError, Global};
+use ws_scripts::Expectation;
 use ws_wire::Role;
 
 /// The end that the option of this name gives. `None` where it gives none.
@@ -27,6 +29,15 @@ pub(crate) fn end_if_any(options: &ArgMatches<'_>, name: &str) -> Option<Role>
         None => None,
         Some(word) => Some(role_of(word)),
     }
+}
+
+/// What the option of this name expects of the tested end. `None` where it gives none.
+pub(crate) fn expectation_of(options: &ArgMatches<'_>, name: &str) -> Option<Expectation>
+    ensures { MatchOption result (GivesNoExpectation (rows_of (found_of options.now)) name.now)
+        (GivesExpectation (rows_of (found_of options.now)) name.now) }
+{
+    let word = word_of(options, name)?;
+    Some(expectation_named(word))
 }
 
 /// The number that the option of this name gives. `None` where it gives none.
@@ -110,5 +121,15 @@ fn role_of(word: &str) -> Role
     match word {
         "client" => Role::Client,
         _ => Role::Server,
+    }
+}
+
+/// What a word expects of the tested end.
+fn expectation_named(word: &str) -> Expectation
+    ensures { result ≡ expectation_named word.now }
+{
+    match word {
+        "protocol" => Expectation::Protocol,
+        _ => Expectation::Echo,
     }
 }

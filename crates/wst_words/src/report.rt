@@ -79,7 +79,7 @@ same NAME are one column. If a case has several lines for a peer, the last one c
 With --json it writes an index like that of Autobahn's test suite:
   {\"NAME\":{\"ID\":{\"behavior\":B,\"behaviorClose\":C}}}
 B is OK, NON-STRICT, FAILED, or UNIMPLEMENTED for a case without a verdict. C is WRONG CODE for
-OtherCode, UNCLEAN for LateEnd and BrokenEnd, FAILED for Close and End, else OK.
+OtherCode, UNCLEAN for LateEnd, BrokenEnd and OwnEnd, FAILED for Close, NoClose and End, else OK.
 
 With --summary it writes for each peer a line per verdict but PASS, the most frequent first, with
 the cases that have it, and then the total. --json and --summary don't go together.

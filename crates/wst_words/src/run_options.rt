@@ -6,10 +6,11 @@ ghost use Rattle.wst_words.specs.Options.{LacksOneOf, given_words};
 ghost use Rattle.wst_words.specs.RunOptions.{AsksForRun, run_arguments_without_timeout};
 
 use crate::arguments::Argument;
-use crate::arguments::ArgumentKind::{EachWord, End, NeededWord, Number, Word};
-use crate::options::{end_of, number_of, word_of, words_of};
+use crate::arguments::ArgumentKind::{EachWord, End, Expected, NeededWord, Number, Word};
+use crate::options::{end_of, expectation_of, number_of, word_of, words_of};
 use clap::ArgMatches;
 use std::alloc::{AllocError, Global};
+use ws_scripts::Expectation;
 use ws_wire::Role;
 
 /// Over which end scripts are run, and how.
@@ -17,6 +18,8 @@ use ws_wire::Role;
 pub struct RunOptions<'a> {
     /// The tested end.
     pub role: Role,
+    /// What is expected of it.
+    pub expect: Expectation,
     /// The masking key of the client's frames that have none of their own, as a word.
     pub key: &'a str,
     /// For so many seconds, as a word, a byte is waited for, where that is given.
@@ -39,6 +42,14 @@ pub(crate) const ROLE: Argument = Argument {
     default: Some("server"),
     value_name: "END",
     help: "The tested end",
+};
+
+pub(crate) const EXPECT: Argument = Argument {
+    name: "expect",
+    kind: Expected,
+    default: Some("echo"),
+    value_name: "WHAT",
+    help: "What it is judged by",
 };
 
 pub(crate) const KEY: Argument = Argument {
@@ -117,11 +128,13 @@ fn options_with<'a>(options: &ArgMatches<'a>, headers: Vec<&'a str>) -> Option<R
         (AsksForRun (rows_of (found_of options.now))) }
 {
     let role = end_of(options, "role")?;
+    let expect = expectation_of(options, "expect")?;
     let key = word_of(options, "key")?;
     let budget = number_of(options, "budget")?;
     let target = word_of(options, "target")?;
     Some(RunOptions {
         role,
+        expect,
         key,
         timeout: word_of(options, "timeout"),
         budget,

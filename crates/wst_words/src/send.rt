@@ -12,7 +12,7 @@ use crate::arguments::ArgumentKind::Flag;
 use crate::commands::HelpText;
 use crate::options::{flag_of, word_of};
 use crate::run_options::{
-    BUDGET, CONNECT, HEADER, KEY, PROTOCOLS, ROLE, RunOptions, TARGET, TIMEOUT, run_options,
+    BUDGET, CONNECT, EXPECT, HEADER, KEY, PROTOCOLS, ROLE, RunOptions, TARGET, TIMEOUT, run_options,
 };
 use clap::ArgMatches;
 use std::alloc::{AllocError, Global};
@@ -27,8 +27,9 @@ pub struct SendOptions<'a> {
 }
 
 /// Its arguments.
-static ARGUMENTS: [Argument; 9] = [
+static ARGUMENTS: [Argument; 10] = [
     ROLE,
+    EXPECT,
     KEY,
     Argument {
         default: Some("2"),

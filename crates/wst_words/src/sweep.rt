@@ -12,7 +12,7 @@ use crate::arguments::ArgumentKind::{Flag, Number};
 use crate::commands::HelpText;
 use crate::options::{flag_of, number_of};
 use crate::run_options::{
-    BUDGET, CONNECT, HEADER, KEY, PROTOCOLS, ROLE, RunOptions, TARGET, TIMEOUT, run_options,
+    BUDGET, CONNECT, EXPECT, HEADER, KEY, PROTOCOLS, ROLE, RunOptions, TARGET, TIMEOUT, run_options,
 };
 use clap::ArgMatches;
 use std::alloc::{AllocError, Global};
@@ -31,8 +31,9 @@ pub struct SweepOptions<'a> {
 }
 
 /// Its arguments.
-static ARGUMENTS: [Argument; 11] = [
+static ARGUMENTS: [Argument; 12] = [
     ROLE,
+    EXPECT,
     KEY,
     TIMEOUT,
     BUDGET,
@@ -132,8 +133,9 @@ The steps are these 27, which `wst cases --help` describes; to a client the last
 
 Scripts come in the order of their lengths, and then of this list: so the first one that is told is
 among the shortest that show a fault. Behind a script that has sent neither a close nor a fault goes
-`close=1000`, which isn't told. There are 1, 28, 757, 20440 or 551881 of at most 0 to 4 steps. As
-soon as a script is judged there is a line for it, where there is something to tell:
+`close=1000`, which isn't told; with --expect protocol, which judges an end that needn't echo, a
+`wait` before it. There are 1, 28, 757, 20440 or 551881 of at most 0 to 4 steps. As soon as a script
+is judged there is a line for it, where there is something to tell:
 
   FAIL WHY: STEP; STEP; ..         it broke this rule; `-` is the script without steps
   LOOSE WHY: STEP; STEP; ..        with --all: it answered otherwise than an echo that is fed turn

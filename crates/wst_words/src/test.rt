@@ -12,7 +12,7 @@ use crate::arguments::ArgumentKind::{Flag, Words};
 use crate::commands::HelpText;
 use crate::options::{flag_of, words_of};
 use crate::run_options::{
-    BUDGET, CONNECT, HEADER, KEY, PROTOCOLS, ROLE, RunOptions, TARGET, TIMEOUT, run_options,
+    BUDGET, CONNECT, EXPECT, HEADER, KEY, PROTOCOLS, ROLE, RunOptions, TARGET, TIMEOUT, run_options,
 };
 use clap::ArgMatches;
 use std::alloc::{AllocError, Global};
@@ -37,8 +37,9 @@ pub struct TestOptions<'a> {
 }
 
 /// Its arguments.
-static ARGUMENTS: [Argument; 14] = [
+static ARGUMENTS: [Argument; 15] = [
     ROLE,
+    EXPECT,
     KEY,
     TIMEOUT,
     BUDGET,
@@ -180,6 +181,10 @@ is Head, Version, Status, Upgrade, Connection, Accept, Extension, Protocol or To
 written in place of the lines, and the status is that of its verdict. With --explain the lines that
 `wst judge --help` tells follow LOOSE and FAIL, and `  status NNN`, with the three digits that came,
 follows FAIL Head Status.
+
+With --expect protocol the tested end needn't echo, so a server can be tested as it is shipped: it
+may send and close as it likes, and only what RFC 6455 orders of any end is a FAIL. `wst judge
+--help` says which rules these are.
 
 With --known the input has the lines of an earlier run, of which the last of each case counts. What
 is otherwise is told behind a verdict: ` (was VERDICT)` where the known one has other words, and

@@ -5,6 +5,7 @@ use Rattle.wst_clients.proofs.capturing_client.tell_last.Goals as goal
 
 pub returns-in_ok-told-in-Ran : goal.returns-in_ok-told-in-Ran
 returns-in_ok-told-in-Ran g c =
-    last_captured c.client_rules.result c.args.case.now c.args.visit c.in-Ran.field-0 c.in-Ran.transcript
-    c.in_ok-told-in-Ran.told (watched g.W.Write.contents c.args.writer.now c.tell_capture.new.writer)
-    c.client_rules.ensures c.in-Ran.is c.in_ok-told-in-Ran.ensures
+    last_captured c.client_rules.result c.args.expected c.args.case.now c.args.visit c.in-Ran.field-0
+    c.in-Ran.transcript c.in_ok-told-in-Ran.told
+    (watched g.W.Write.contents c.args.writer.now c.tell_capture.new.writer) c.client_rules.ensures.tested
+    c.client_rules.ensures.expected c.in-Ran.is c.in_ok-told-in-Ran.ensures

@@ -16,8 +16,8 @@ loop-script-preserved c =
     let many = at.invariant.many in
     let grown : c.push.new.self.items ≡ at.cases.items ++ case ∷ [] = c.in_ok-push.ensures.items in
     let long = ap (λ (l : List Case). length l) grown ∙ length-append at.cases.items (case ∷ []) in record {
-      named = named_pushed at.cases.items c.push.new.self.items c.in-Some.script case grown at.invariant.named given.0
-          (given.1 ∙ sym many) c.in_ok-case.ensures.named;
+      named = named_pushed c.args.expected at.cases.items c.push.new.self.items c.in-Some.script case grown
+          at.invariant.named given.0 (given.1 ∙ sym many) c.in_ok-case.ensures.named;
       many = omega (arith, long, many, given.2);
       place = omega (arith, place, given.2, given.3);
       runs = subst (λ (l : List Case). All CanBeRun l) (sym grown)

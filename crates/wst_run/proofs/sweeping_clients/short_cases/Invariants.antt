@@ -7,7 +7,7 @@ use Rattle.wst_run.proofs.sweeping_clients.short_cases.Given as goal
 
 abbrev pub invariant-loop-script : goal.invariant-loop-script
 invariant-loop-script l = record {
-  named : AreNamedCases 0 l.cases.items;
+  named : AreNamedCases l.expected 0 l.cases.items;
   many : length l.cases.items ≡ l.scripts.next;
   place : l.scripts.next + l.scripts.left ≡ count_of_scripts l.steps;
   runs : All CanBeRun l.cases.items;

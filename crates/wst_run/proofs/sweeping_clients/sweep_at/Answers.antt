@@ -1,5 +1,7 @@
 -- What is told of the address is told, and then the short scripts are tested.
-use Rattle.std.proofs.Common.{◌≡◌, ℕ, List, inl, subst, sym}
+use Rattle.std.proofs.Common.{◌≡◌, ℕ, List, inl, inr, refl, subst, sym}
+use Rattle.std.proofs.KnownBytes.{Keeps-refl}
+use Rattle.ws_frame.specs.Watching.{inner_of}
 use Rattle.ws_scripts.specs.declared.script.Case.{Case}
 use Rattle.wst_run.specs.ClientSweeps.{AreShortCases}
 use Rattle.wst_sockets.specs.Listening.{IsToldFor}
@@ -9,8 +11,9 @@ pub returns-clause-sweeps : goal.returns-clause-sweeps
 returns-clause-sweeps g c =
     let told : IsToldFor c.args.address.now c.as_slice-2.result.now = subst
     (λ (l : List ℕ). IsToldFor c.args.address.now l) (sym c.as_slice-2.ensures.value) c.in_ok-told.ensures in
-    let cases : AreShortCases c.args.plan.now.steps c.as_slice.result.now = subst
-    (λ (l : List Case). AreShortCases c.args.plan.now.steps l) (sym c.as_slice.ensures.value)
+    let plan = c.args.plan.now in
+    let cases : AreShortCases plan.run.expected plan.steps c.as_slice.result.now = subst
+    (λ (l : List Case). AreShortCases plan.run.expected plan.steps l) (sym c.as_slice.ensures.value)
     c.in_ok-cases.ensures.cases in
     inl (
       c.as_slice-2.result.now,
@@ -21,3 +24,11 @@ returns-clause-sweeps g c =
         (c.sweep_rules-rules.result, c.sweep_rules-rules.ensures.rules, c.test_all.ensures.tests),
       ),
     )
+
+-- nothing can be listened at: nothing is told
+pub returns-in-Err-clause-sweeps : goal.returns-in-Err-clause-sweeps
+returns-in-Err-clause-sweeps g c = inr (
+  inl (c.in-Err.why, refl),
+  Keeps-refl (g.W.Write.contents (inner_of c.args.writer.now)),
+  Keeps-refl (g.F.Write.contents (inner_of c.args.faults.now)),
+)

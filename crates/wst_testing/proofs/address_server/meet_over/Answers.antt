@@ -12,7 +12,11 @@ use Rattle.wst_testing.proofs.address_server.meet_over.Goals as goal
 pub returns-in-Ran-clause-probed : goal.returns-in-Ran-clause-probed
 returns-in-Ran-clause-probed g c =
     let asked = c.args.asked.now in
-    let server : AddressValue = record { request = request_value asked.request; budget = c.args.bounds.budget } in
+    let server : AddressValue = record {
+      request = request_value asked.request;
+      expected = asked.expected;
+      budget = c.args.bounds.budget;
+    } in
     let run : ConnectionRun = record { old = c.new-connection.result; new = c.probe.new.connection } in
     probed_so server asked.key c.args.case.now
     c.in_ok-transcript.field-0 (Ran c.in-Ran.transcript) run c.in_ok-transcript.ensures.probes c.in-Ran.is
@@ -21,7 +25,11 @@ returns-in-Ran-clause-probed g c =
 pub returns-in-Refused-clause-probed : goal.returns-in-Refused-clause-probed
 returns-in-Refused-clause-probed g c =
     let asked = c.args.asked.now in
-    let server : AddressValue = record { request = request_value asked.request; budget = c.args.bounds.budget } in
+    let server : AddressValue = record {
+      request = request_value asked.request;
+      expected = asked.expected;
+      budget = c.args.bounds.budget;
+    } in
     let run : ConnectionRun = record { old = c.new-connection.result; new = c.probe.new.connection } in
     probed_so server asked.key c.args.case.now
     c.in_ok-transcript.field-0 (Refused c.in-Refused.refusal) run c.in_ok-transcript.ensures.probes c.in-Refused.is
@@ -30,7 +38,11 @@ returns-in-Refused-clause-probed g c =
 pub returns-clause-probed : goal.returns-clause-probed
 returns-clause-probed g c =
     let asked = c.args.asked.now in
-    let server : AddressValue = record { request = request_value asked.request; budget = c.args.bounds.budget } in
+    let server : AddressValue = record {
+      request = request_value asked.request;
+      expected = asked.expected;
+      budget = c.args.bounds.budget;
+    } in
     let run : ConnectionRun = record { old = c.new-connection.result; new = c.probe.new.connection } in
     probed_so server asked.key c.args.case.now
     c.in_ok-transcript.field-0 NoConnection run c.in_ok-transcript.ensures.probes c.in-NoConnection.is

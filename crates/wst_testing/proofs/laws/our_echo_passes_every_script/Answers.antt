@@ -1,7 +1,10 @@
 -- The verdict on an echo's transcript is Pass, and there is one.
-use Rattle.std.proofs.Common.{◌≡◌, true, ap}
+use Rattle.std.proofs.Common.{◌≡◌, true, ap, subst}
+use Rattle.ws_scripts.specs.declared.expectation.Expectation.{Expectation}
+use Rattle.ws_scripts.specs.declared.expectation.Expectation.TheVariants.{Echo}
 use Rattle.ws_scripts.specs.declared.script.Case.{Case}
 use Rattle.ws_scripts.specs.declared.transcript.Transcript.{Transcript}
+use Rattle.ws_suite.specs.Protocol.{IsVerdictBy}
 use Rattle.ws_suite.specs.Verdicts.{IsVerdictOf}
 use Rattle.ws_suite.specs.declared.verdict.Verdict.{Verdict}
 use Rattle.ws_suite.specs.declared.verdict.Verdict.TheVariants as verdict
@@ -22,17 +25,18 @@ abbrev OneVerdict : Type 0
 OneVerdict = (tested : Role) (transcript : Transcript) (one other : Verdict) → IsVerdictOf tested transcript one
     → IsVerdictOf tested transcript other → one ≡ other
 
-met_passes : OneVerdict → (rules : RunRules) (case : Case) (met : Meeting) (told : Outcome)
+met_passes : OneVerdict → (rules : RunRules) (case : Case) (met : Meeting) (told : Outcome) → rules.expected ≡ Echo
     → MeetsInMemory (record { peer = Own; role = rules.tested }) rules.key case met → IsOutcomeOf rules met told
     → is_pass told ≡ true
-met_passes law rules case (meeting.Ran transcript) (outcome.Judged told) is so =
-    ap passes (law rules.tested transcript told.verdict verdict.Pass so.verdict is.1)
-met_passes law rules case (meeting.Ran transcript) (outcome.HeadRefused fault) is so = absurd so
-met_passes law rules case (meeting.Ran transcript) (outcome.NoConnection why) is so = absurd so
-met_passes law rules case (meeting.Ran transcript) outcome.NotRun is so = absurd so
-met_passes law rules case (meeting.Refused fault) told is so = absurd is
-met_passes law rules case (meeting.NoConnection why) told is so = absurd is
+met_passes law rules case (meeting.Ran transcript) (outcome.Judged told) echo is so =
+    ap passes (law rules.tested transcript told.verdict verdict.Pass
+    (subst (λ (x : Expectation). IsVerdictBy x rules.tested transcript told.verdict) echo so.verdict) is.1)
+met_passes law rules case (meeting.Ran transcript) (outcome.HeadRefused fault) echo is so = absurd so
+met_passes law rules case (meeting.Ran transcript) (outcome.NoConnection why) echo is so = absurd so
+met_passes law rules case (meeting.Ran transcript) outcome.NotRun echo is so = absurd so
+met_passes law rules case (meeting.Refused fault) told echo is so = absurd is
+met_passes law rules case (meeting.NoConnection why) told echo is so = absurd is
 
 pub returns : goal.returns
-returns c = λ rules script (case, short, tested).
-    met_passes c.one_verdict.ensures (case_rules rules) case tested.meeting script.1 tested.met tested.told
+returns c = λ rules script echo (case, short, tested).
+    met_passes c.one_verdict.ensures (case_rules rules) case tested.meeting script.1 echo tested.met tested.told

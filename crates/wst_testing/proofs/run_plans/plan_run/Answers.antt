@@ -22,6 +22,7 @@ returns c =
       named = (c.in_ok-named.named, c.in_ok-named.ensures);
       can_connect = can;
       tested = c.in_ok-tested.ensures options.role options.target.now c.in_ok-named.ensures;
+      expected = refl;
       budget = refl;
     }
 

@@ -14,4 +14,4 @@ returns-clause-shape c =
     ∙ ap app_of_fields c.about.ensures ∙ c.new.ensures.app in
     let named : app_of c.after_help-bare.result ≡ new_app row.name = texts ∙ ap new_app c.name_of.ensures in
     ap (λ (a : App). a.top)
-    (c.in_ok-command.ensures.app ∙ (λ i. with_arguments c.args.ends (named i) (c.arguments_of.ensures i)))
+    (c.in_ok-command.ensures.app ∙ (λ i. with_arguments c.args.names (named i) (c.arguments_of.ensures i)))

@@ -3,9 +3,10 @@ use Rattle.std.proofs.Common.{rules, ◌≡◌, ◌∙◌, ap, map, codes, [], �
 use Rattle.clap.specs.Words.{App, app_of, new_app}
 use Rattle.clap.specs.Simple.{app_of_fields, on_top}
 use Rattle.clap.specs.declared.builder.value_parser.ValueParser.TheVariants.{Names}
-use Rattle.wst_words.specs.Arguments.{end_parser}
+use Rattle.wst_words.specs.Arguments.{Places, name_parsers}
 use Rattle.wst_words.specs.Commands.{with_commands}
 use Rattle.wst_words.specs.Words.{bare_app, all_commands}
+use Rattle.wst_words.specs.declared.arguments.NameParsers.{NameParsers}
 use Rattle.wst_words.proofs.WordLemmas.{places_of}
 use Rattle.wst_words.proofs.commands.wst_command.Goals as goal
 
@@ -15,8 +16,23 @@ versioned = on_top (λ s. record s { has_version = true }) (new_app (codes "wst"
 pub returns : goal.returns
 returns c =
     let two : map (λ s. s.now) c.as_slice.result.now ≡ codes "client" ∷ codes "server" ∷ [] = search rules in
-    let places = places_of c.as_slice.result.ref_ptr c.as_slice.result.now two in
-    let ends : c.from-ends.result ≡ end_parser places.0 = c.from-ends.ensures ∙ ap (λ n. Names n) places.1 in
+    let both : map (λ s. s.now) c.as_slice-2.result.now ≡ codes "echo" ∷ codes "protocol" ∷ [] = search rules in
+    let of_ends = places_of (codes "client") (codes "server") c.as_slice.result.ref_ptr c.as_slice.result.now two in
+    let of_others =
+    places_of (codes "echo") (codes "protocol") c.as_slice-2.result.ref_ptr c.as_slice-2.result.now both in
+    let places : Places = record {
+      list = c.as_slice.result.ref_ptr;
+      client = of_ends.0.0;
+      server = of_ends.0.1;
+      expectations = c.as_slice-2.result.ref_ptr;
+      echo = of_others.0.0;
+      protocol = of_others.0.1;
+    } in
+    let parsers : NameParsers = record { ends = c.from.result; expectations = c.from-2.result } in
+    let names : parsers ≡ name_parsers places = λ i. record {
+      ends = (c.from.ensures ∙ ap (λ n. Names n) of_ends.1) i;
+      expectations = (c.from-2.ensures ∙ ap (λ n. Names n) of_others.1) i;
+    } in
     let called : app_of c.in_ok-named.named ≡ new_app (codes "wst") =
     ap app_of_fields c.in_ok-named.ensures.0 ∙ c.new.ensures.app in
     let named : app_of c.version.result ≡ versioned = ap app_of_fields c.version.ensures
@@ -26,4 +42,4 @@ returns c =
     let required : app_of c.subcommand_required-wst.result ≡ bare_app =
     ap app_of_fields c.subcommand_required-wst.ensures
     ∙ ap (λ (a : App). on_top (λ s. record s { subcommand_required = true }) a) texts in
-    (places.0, c.in_ok-command.ensures ∙ (λ i. with_commands (ends i) (required i) all_commands))
+    (places, c.in_ok-command.ensures ∙ (λ i. with_commands (names i) (required i) all_commands))

@@ -8,7 +8,14 @@ use Rattle.wst_words.proofs.WordLemmas.{fault_read, memory_read, nothing_read, t
 use Rattle.wst_words.proofs.words.read_words.Goals as goal
 
 nowhere : Places
-nowhere = record { list = (0, 0); client = (0, 0); server = (0, 0) }
+nowhere = record {
+  list = (0, 0);
+  client = (0, 0);
+  server = (0, 0);
+  expectations = (0, 0);
+  echo = (0, 0);
+  protocol = (0, 0);
+}
 
 pub returns-in_err-command : goal.returns-in_err-command
 returns-in_err-command c = record { read = (nowhere, memory_read (wst_app nowhere) (map string_bytes c.args.words.now) c.from_residual.result c.from_residual.ensures.1) }

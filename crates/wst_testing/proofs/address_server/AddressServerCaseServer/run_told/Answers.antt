@@ -8,8 +8,11 @@ use Rattle.wst_testing.proofs.address_server.AddressServerCaseServer.run_told.Go
 pub returns-in-Ok-clause-meets : goal.returns-in-Ok-clause-meets
 returns-in-Ok-clause-meets g c =
     let inside = c.self.inside in
-    let server : AddressValue =
-    record { request = request_value inside.request; budget = inside.bounds.budget } in
+    let server : AddressValue = record {
+      request = request_value inside.request;
+      expected = inside.expected;
+      budget = inside.bounds.budget;
+    } in
     subst (λ (s : AddressValue). IfOk c.meet_over.result (λ meeting. MeetsAtAddress s c.args.key c.args.case.now
     meeting))
     c.self.view_is
