@@ -21,7 +21,7 @@ and the printing of lines. A reader may skip them.
 - Worked examples are theorems in the file `Examples` of each crate. Three kinds are elsewhere, because their proofs
 need lemmas of the crate: what is not text is in [NoTexts]({root}crates/ws_text/proofs/NoTexts.antt), a first fault, an
 exchange and a taken piece are in [WorkedExamples]({root}crates/ws_session/proofs/WorkedExamples.antt), and verdicts are
-the law `worked_verdicts` of `ws_suite`.
+the laws `worked_verdicts` and `worked_protocol_verdicts` of `ws_suite`.
 """
 
 

@@ -18,8 +18,9 @@ def lines():
         "wst conv": ["convert"],
         "wst ": [*commands(), "help"],
         "wst help ses": ["session"],
-        "wst judge --e": ["--explain"],
+        "wst judge --e": ["--expect", "--explain"],
         "wst show --role s": ["server"],
+        "wst test --expect p": ["protocol"],
         "wst show --from ": ["client", "server"],
         "wst test ": ["own", "tung"],
         "wst send --capture t": ["tung"],
@@ -97,7 +98,7 @@ def zsh_offers(prefix):
         places = {"COMPLETIONS": str(prefix / "share/zsh/site-functions"), "NOTES": str(notes), "ZDOTDIR": home}
         told = at_terminal(["zsh", "-i"], typed, notes, len(wanted), **places)
     for (line, names), offered in zip(wanted.items(), told.split("--end\n"), strict=False):
-        assert offered.split() == names, (line, offered, names)
+        assert sorted(offered.split()) == sorted(names), (line, offered, names)  # in zsh's own order
 
 
 def at_terminal(words, typed, notes, ends, **variables):

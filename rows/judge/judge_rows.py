@@ -20,6 +20,7 @@ class Row:
     tested: str
     is_written: bool
     wanted: str
+    expected: str = "echo"
 
     def size(self):
         return len(self.text or b"") + sum(len(sent) + len(got) for sent, got in (self.transcript or ([],))[0])
@@ -45,7 +46,7 @@ def row_of_run(run):
     explains, tested = "--explain" in words, role_of(words)
     if words[0] != "judge" or (below and not explains) or run.wanted["status"] != (not wanted.startswith(("PASS", "LOOSE"))):
         raise BadFile(f"{run.where}: no row of judge, or not the status of its verdict")
-    return Row(run.where, run.name, run.input, None, tested, False, wanted)
+    return Row(run.where, run.name, run.input, None, tested, False, wanted, expected_by(words))
 
 
 def role_of(words):
@@ -53,16 +54,31 @@ def role_of(words):
     return CLIENT if "--role" in words and words[words.index("--role") + 1] == "client" else SERVER
 
 
+def expected_by(words):
+    """What the words of a run of `judge` say that is expected of it."""
+    return words[words.index("--expect") + 1] if "--expect" in words else "echo"
+
+
+# The calls that judge, the end that each of them tests, and what it expects of that.
+JUDGES = {
+    "judge": (SERVER, "echo"),
+    "judge_client": (CLIENT, "echo"),
+    "protocol": (SERVER, "protocol"),
+    "protocol_client": (CLIENT, "protocol"),
+}
+
+
 def row_of_call(entry, number, call, wanted):
-    """A call `judge END SENT GOT ..`, `judge_client` with the same, `capture TEXT`, or `written END SENT GOT ..`."""
+    """A call `judge END SENT GOT ..` or one that judges otherwise, `capture TEXT`, or `written END SENT GOT ..`."""
     where, (name, *words) = f"{entry.file}:{number}", call.split(" ")
     if name == "capture":
         return Row(where, call, bytes_of(words[0]), None, SERVER, True, wanted)
-    if name not in ("judge", "judge_client", "written"):
-        raise BadFile(f"{where}: none of judge, judge_client, capture and written")
+    if name not in (*JUDGES, "written"):
+        raise BadFile(f"{where}: none of {', '.join(JUDGES)}, capture and written")
     pieces = [bytes_of(word) for word in words[1:]]
-    tested = CLIENT if name == "judge_client" else SERVER
-    return Row(where, call, None, (list(zip(pieces[::2], pieces[1::2])), words[0]), tested, name == "written", wanted)
+    tested, expected = JUDGES.get(name, (SERVER, "echo"))
+    transcript = (list(zip(pieces[::2], pieces[1::2])), words[0])
+    return Row(where, call, None, transcript, tested, name == "written", wanted, expected)
 
 
 def bytes_of(word):
@@ -82,7 +98,7 @@ def read(captures, row):
 
 
 def answer(captures, twin, row, transcript):
-    """What is answered to a row that was read so."""
+    """What is answered to a row that was read so, by the twin of what the row expects."""
     if isinstance(transcript, str):
         return transcript
     return captures.written(*transcript).hex() if row.is_written else twin.verdict(*transcript, row.tested)

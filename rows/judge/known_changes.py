@@ -271,4 +271,79 @@ EQUAL = {
     "echoes_short: is_short(pongs, x) and not has_last_pong(x) -> ((is_short(pongs, x)))": (
         "fewer pongs with the last one are told before as PongsSkipped"
     ),
+    "protocol, frames_before: x.end <= ended.place -> x.end < ended.place": (
+        "no fault is told at the first byte of a frame"
+    ),
+    "protocol, is_undefined: 5000 -> 4999": "this code may stand in a close frame, and is no fault",
+    "protocol, undefined_code: ended is None or ended.kind != FAULT -> False": (
+        "what ends with a close or with nothing has no code that a close may not have"
+    ),
+    "protocol, undefined_code: ended is None or ended.kind != FAULT -> ((ended is None))": (
+        "what ends with a close or with nothing has no code that a close may not have"
+    ),
+    "protocol, is_right_control: 0 -> 1 (2)": "a form has none, two or eight further bytes",
+    "protocol, is_late: ended is None or ended.kind != FAULT -> ((ended is None))": (
+        "a close frame has FIN, and is whole"
+    ),
+    "protocol, is_late: 1: -> :": "the frame at fault has no FIN, and is no close",
+    "protocol, is_late: 1 -> 0": "the frame at fault has no FIN, and is no close",
+    (
+        "protocol, evidence_of: close and fault_of(due) and is_doomed_after(tested, pieces[: close.turn + "
+        "1]) -> ((close) and (is_doomed_after(tested, pieces[: close.turn + 1])))"
+    ): (
+        "what was sent and is doomed comes to a fault, or to nothing"
+    ),
+    "protocol, evidence_of: fault_of -> ending_of": "what was sent and is doomed comes to a fault, or to nothing",
+    "protocol, evidence_of: behind and not ending_of(got) -> ((behind))": (
+        "of what was got and ends with a close or a fault it isn't asked what is open"
+    ),
+    "protocol, evidence_of: ending_of -> close_of": (
+        "of what was got and ends with a close or a fault it isn't asked what is open"
+    ),
+    "protocol, evidence_of: ending_of -> fault_of": (
+        "of what was got and ends with a close or a fault it isn't asked what is open"
+    ),
+    "protocol, is_not_frames: close_of -> ending_of": "a fault that was got, or sent, is told before",
+    "protocol, leaves_ping: close_of -> ending_of": "a fault that was got, or sent, is told before",
+    "protocol, leaves_ping: close_of -> ending_of (2)": "a fault that was got, or sent, is told before",
+    "protocol, stays_open: fault_of -> ending_of": "a fault that was got, or sent, is told before",
+    "protocol, stays_open: close_of -> ending_of (2)": "a fault that was got, or sent, is told before",
+    "protocol, has_own_fault: close_of -> ending_of": "an own close is a close",
+    "protocol, has_undefined_close: close_of -> ending_of": "a fault that was got is told before, or is too big",
+    (
+        "protocol, has_own_end: not ending_of(x.due) and not close_of(x.got) and x.end == PEER -> ((not "
+        "ending_of(x.due)) and (x.end == PEER))"
+    ): (
+        "a close that was got is told before as OwnClose"
+    ),
+    (
+        'protocol, top: ("OwnClose", has_own_close), ("OwnEnd", has_own_end) -> ("OwnEnd", has_own_end), '
+        '("OwnClose", has_own_close)'
+    ): (
+        "a close that was got is told before as OwnClose"
+    ),
+    (
+        'protocol, top: ("OwnEnd", has_own_end), ("LateFault", has_late_fault) -> ("LateFault", '
+        'has_late_fault), ("OwnEnd", has_own_end)'
+    ): (
+        "a close that was got is told before as OwnClose"
+    ),
+    (
+        'protocol, top: ("Tolerated", is_tolerated), ("NoClose", lacks_close) -> ("NoClose", lacks_close), '
+        '("Tolerated", is_tolerated)'
+    ): (
+        "the one is told of a fault, the other of a close"
+    ),
+    (
+        'protocol, top: ("NoClose", lacks_close), ("BehindClose", goes_on_behind) -> ("BehindClose", '
+        'goes_on_behind), ("NoClose", lacks_close)'
+    ): (
+        "the one is told without a close that was got, the other with one"
+    ),
+    (
+        'protocol, top: ("BehindClose", goes_on_behind), ("TooBig", is_too_big) -> ("TooBig", is_too_big), '
+        '("BehindClose", goes_on_behind)'
+    ): (
+        "the one is told of a close that was got, the other of a fault"
+    ),
 }

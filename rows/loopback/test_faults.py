@@ -270,7 +270,8 @@ def floods_a_case():
             most = max_resident(server.process.pid)
     except OSError:
         client.close()
-    assert 16_777_216 < most < 80_000_000, most
+    # On a busy machine it may end before it is looked at once more, so the last of the bytes aren't seen.
+    assert 12_000_000 < most < 80_000_000, most
     server.ends("1.1.1 FAIL Messages\n0 pass, 0 loose, 1 fail\n", status=1)
 
 

@@ -12,8 +12,9 @@ use std::fmt::Write;
 use ws_base::Sequence;
 use ws_connection::{Asked, Connection, NONCE, Probe, Silent, UpgradeRequest, probe, protocols_of};
 use ws_formats::Hex;
-use ws_suite::{Case, Chop, Ended, Transcript, case, judge};
+use ws_suite::{Case, Chop, Ended, Expectation, Transcript, case, judge_with};
 use ws_upgrade::request_for;
+use ws_wire::Role;
 
 /// The host that is asked.
 const HOST: &[u8] = b"localhost:9001";
@@ -25,9 +26,10 @@ const KEY: [u8; 4] = [0x37, 0xfa, 0x21, 0x3d];
 const BUDGET: u64 = 100_000;
 
 /// `probe SETTING .. PIECE ..`, with `case=`, which is without steps where it is missing, `budget=`, `offers=` for
-/// subprotocols joined by commas, and `+timeouts` where reads can wait in vain; the pieces are what the server sends:
-/// what came of it, how often both devices were asked, and how many bytes were written and are left to be read; with
-/// `+verdict` the verdict, with `+notes` their calls, and with `+written` what was written.
+/// subprotocols joined by commas, `+timeouts` where reads can wait in vain, and `+protocol` where no echo is expected;
+/// the pieces are what the server sends: what came of it, how often both devices were asked, and how many bytes were
+/// written and are left to be read; with `+verdict` the verdict, with `+notes` their calls, and with `+written` what
+/// was written.
 pub fn probe_server(alloc: Global, words: &[&str], out: &mut String) -> Result<(), RowFault> {
     let Some(offers) = protocols_of(alloc, value_of(words, "offers="))? else {
         return Err(RowFault::NotARow);
@@ -51,6 +53,7 @@ pub fn probe_server(alloc: Global, words: &[&str], out: &mut String) -> Result<(
             headers: &[],
         },
         key: KEY,
+        expected: expectation_of(words),
         has_timeouts: asks_for(words, "+timeouts"),
     };
     let ran = probe(alloc, &case, &asked, &mut connection, &mut Silent)?;
@@ -58,6 +61,15 @@ pub fn probe_server(alloc: Global, words: &[&str], out: &mut String) -> Result<(
     let (reader, writer) = connection.into_parts();
     put_parts(words, &reader, &writer, out)?;
     put_notes(words, &notes, out)
+}
+
+/// What is expected of the server: an echo, or by `+protocol` what RFC 6455 orders of any end.
+fn expectation_of(words: &[&str]) -> Expectation {
+    if asks_for(words, "+protocol") {
+        Expectation::Protocol
+    } else {
+        Expectation::Echo
+    }
 }
 
 /// The case of this name, or one without steps.
@@ -94,7 +106,9 @@ fn put_probe(
     match probe {
         Probe::Ran(transcript) => {
             if asks_for(words, "+verdict") {
-                write!(out, "{}, ", judge(alloc, transcript)?)?;
+                let expected = expectation_of(words);
+                let verdict = judge_with(alloc, Role::Server, expected, transcript)?;
+                write!(out, "{verdict}, ")?;
             }
             put_transcript(alloc, transcript, out)
         }

@@ -7,7 +7,8 @@ use std::fmt::Write;
 use ws_base::Sequence;
 use ws_formats::Hex;
 use ws_suite::{
-    CaptureFault, Ended, Transcript, Turn, judge, judge_end, read_capture, write_capture,
+    CaptureFault, Ended, Expectation, Transcript, Turn, judge, judge_end, judge_with, read_capture,
+    write_capture,
 };
 use ws_wire::Role;
 
@@ -47,6 +48,20 @@ pub fn judge_turns(alloc: Global, words: &[&str], out: &mut String) -> Result<()
 pub fn judge_client_turns(alloc: Global, words: &[&str], out: &mut String) -> Result<(), RowFault> {
     let transcript = transcript_of(alloc, words)?;
     write!(out, "{}", judge_end(alloc, Role::Client, &transcript)?)?;
+    Ok(())
+}
+
+/// `protocol END SENT GOT ..`, `protocol_client ..`: the verdict by the protocol alone where an end of this role is
+/// tested.
+pub fn judge_by_protocol(
+    alloc: Global,
+    tested: Role,
+    words: &[&str],
+    out: &mut String,
+) -> Result<(), RowFault> {
+    let transcript = transcript_of(alloc, words)?;
+    let verdict = judge_with(alloc, tested, Expectation::Protocol, &transcript)?;
+    write!(out, "{verdict}")?;
     Ok(())
 }
 

@@ -28,6 +28,7 @@ use row_fault::RowFault;
 use std::alloc::Global;
 use std::io;
 use std::process::ExitCode;
+use ws_wire::Role;
 
 fn main(rt: HostRuntime) -> io::Result<ExitCode> {
     let rows = io::read_to_string(rt.alloc(), rt.stdin())?;
@@ -116,8 +117,11 @@ fn answer_of_verdicts(
         "capture_fault" => captures::tell_no_memory(words, out),
         "judge" => captures::judge_turns(alloc, words, out),
         "judge_client" => captures::judge_client_turns(alloc, words, out),
+        "protocol" => captures::judge_by_protocol(alloc, Role::Server, words, out),
+        "protocol_client" => captures::judge_by_protocol(alloc, Role::Client, words, out),
         "explain" => explanations::explain_turns(alloc, words, out),
         "written" => captures::write_turns(alloc, words, out),
+        "app" => peers::judge_app(alloc, words, out),
         "verdict" => peers::tell_verdict(alloc, words, out),
         "verdict_client" => peers::tell_client_verdict(alloc, words, out),
         "verdict_of" => peers::tell_script_verdict(alloc, words, out),

@@ -7,8 +7,11 @@ use crate::words::{bytes_of, mask_key_of, role_of};
 use std::alloc::Global;
 use std::fmt::Write;
 use ws_base::NoMemory;
-use ws_peer::{Peer, TungPeer, run_case_with, run_over_echo_as, tester_key};
-use ws_suite::{Case, Chop, Step, Verdict, case, ids, judge_end, read_script};
+use ws_peer::{AppStep, Peer, TungPeer, run_case_with, run_over_app, run_over_echo_as, tester_key};
+use ws_sends::{KeyedSend, read_send};
+use ws_suite::{
+    Case, Chop, Expectation, Step, Verdict, case, ids, judge_end, judge_with, read_script,
+};
 use ws_wire::Role;
 
 /// The key of the cases where none is given.
@@ -169,4 +172,65 @@ fn verdict_on<P: Peer>(
 {
     let transcript = run_case_with(alloc, case, peer, tester_key(tested, KEY))?;
     judge_end(alloc, tested, &transcript)
+}
+
+/// `app ROLE SCRIPT TAKES SENDS ..`: the verdict by the protocol on an application in this role, to which the script
+/// that the text tells is run. Of each of its steps it is said how many bytes it takes at most, and what it sends:
+/// lines, each ended by LF.
+pub fn judge_app(alloc: Global, words: &[&str], out: &mut String) -> Result<(), RowFault> {
+    let [role, text, plan @ ..] = words else {
+        return Err(RowFault::NotARow);
+    };
+    let tested = role_of(role)?;
+    let text = bytes_of(alloc, text)?;
+    let Ok(case) = read_script(alloc, text.as_slice()) else {
+        return Err(RowFault::NotARow);
+    };
+    let transcript = run_over_app(alloc, tested, &case, KEY, plan_of(alloc, plan)?)?;
+    let verdict = judge_with(alloc, tested, Expectation::Protocol, &transcript)?;
+    write!(out, "{verdict}")?;
+    Ok(())
+}
+
+/// The steps of an application, two words each.
+fn plan_of(alloc: Global, words: &[&str]) -> Result<Vec<AppStep>, RowFault> {
+    let mut plan = Vec::new(alloc);
+    let mut takes = None;
+    for word in words {
+        match takes {
+            None => {
+                let Ok(count) = word.parse::<usize>() else {
+                    return Err(RowFault::NotARow);
+                };
+                takes = Some(count);
+            }
+            Some(count) => {
+                let sends = sends_of(alloc, word)?;
+                plan.push(AppStep {
+                    takes: count,
+                    sends,
+                })?;
+                takes = None;
+            }
+        }
+    }
+    Ok(plan)
+}
+
+/// What an application sends at a step.
+fn sends_of(alloc: Global, word: &str) -> Result<Vec<KeyedSend>, RowFault> {
+    let text = bytes_of(alloc, word)?;
+    let mut sends = Vec::new(alloc);
+    for line in text.as_slice().split(|byte| *byte == b'\n') {
+        let words: Vec<&[u8]> = line.split(|byte| *byte == b' ').collect(alloc)?;
+        if let [name, fields @ ..] = words.as_slice() {
+            if !name.is_empty() {
+                let Ok(send) = read_send(alloc, name, fields) else {
+                    return Err(RowFault::NotARow);
+                };
+                sends.push(send)?;
+            }
+        }
+    }
+    Ok(sends)
 }

@@ -9,7 +9,7 @@ use crate::words::{header_key_of, number_of, role_of};
 use std::alloc::Global;
 use std::fmt::Write;
 use ws_formats::Hex;
-use ws_scripts::bytes_with;
+use ws_scripts::{Expectation, bytes_with};
 use ws_suite::{Case, read_script};
 use ws_sweep::{
     MAX_STEPS, STEPS, ShortCases, ShortScript, script_count, short_case, step_line, tell_steps,
@@ -40,7 +40,13 @@ fn is_read(alloc: Global, tested: Role, place: usize) -> Result<bool, RowFault>
     let Ok(read) = read_script(alloc, text.as_bytes()) else {
         return Ok(false);
     };
-    let sent = short_case(alloc, tested, None, &ShortScript::at(place + 1))?;
+    let sent = short_case(
+        alloc,
+        tested,
+        Expectation::Echo,
+        None,
+        &ShortScript::at(place + 1),
+    )?;
     let (read, sent) = (first_step(alloc, &read)?, first_step(alloc, &sent)?);
     Ok(!read.is_empty() && read.as_str() == sent.as_str())
 }
@@ -77,7 +83,7 @@ pub fn tell_cases(alloc: Global, words: &[&str], out: &mut String) -> Result<(),
         return Err(RowFault::NotARow);
     };
     let (tested, key) = (role_of(end)?, header_key_of(key)?);
-    let mut cases = ShortCases::new(tested, key);
+    let mut cases = ShortCases::new(tested, Expectation::Echo, key);
     for (place, number) in numbers.iter().enumerate() {
         if place > 0 {
             out.push_str(" ")?;
