@@ -46,7 +46,7 @@ class Peer:
         return self.source(part).exists()
 
     def source(self, part):
-        """The file of its `server` or `client`."""
+        """The file of its `server`, `application` or `client`."""
         return FOLDER / self.name / f"{part}.{self.ending}"
 
     def version(self):
@@ -58,7 +58,7 @@ class Peer:
         return version if status == "installed" else None
 
     def command(self, part):
-        """The words that run its `server` or `client`; it is built first where its folder has changed."""
+        """The words that run its part of this name; it is built first where its folder has changed."""
         if self.runs:
             return [*self.runs, str(self.source(part))]
         program = OUT / f"{self.name}-{part}"
@@ -129,10 +129,10 @@ class Running:
 
 
 @contextmanager
-def listening(peer):
+def listening(peer, part="server"):
     """The port of a server of this peer, which ends with the block."""
     port = free_port()
-    with Running([*peer.command("server"), str(port)], f"{peer.name}-server.log") as server:
+    with Running([*peer.command(part), str(port)], f"{peer.name}-{part}.log") as server:
         if server.line(START_SECONDS) is None:
             raise OSError(f"{peer.name} ended before it listened")
         yield port

@@ -9,14 +9,14 @@ PAGE = OUT / "report.html"
 
 
 def write(parts):
-    """Writes the page of what was tried: for each part, of servers or of clients, (peer, score) of each peer."""
+    """Writes the page of what was tried: for each part, servers, applications or clients, (peer, score) of each peer."""
     lines = "".join(f"# {name_of(peer, part)}\n{lines_of(score)}" for part, tried in parts for peer, score in tried)
     page = subprocess.run([PROGRAM, "report"], input=lines, stdout=subprocess.PIPE, text=True, check=True, timeout=60)
     PAGE.write_text(page.stdout)
 
 
 def name_of(peer, part):
-    return peer.name if part == "server" else f"{peer.name} (client)"
+    return peer.name if part == "server" else f"{peer.name} ({part})"
 
 
 def lines_of(score):

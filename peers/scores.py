@@ -4,7 +4,7 @@ from fnmatch import fnmatchcase
 from itertools import groupby
 
 from peer import FOLDER
-from tester import TIMEOUT
+from tester import PROTOCOL, TIMEOUT
 
 REMARKS, SWEEPS = FOLDER / "remarks.txt", FOLDER / "sweeps.txt"
 NO_SENTENCE = "(no sentence in peers/ yet)"
@@ -16,7 +16,10 @@ packages it, over loopback, without compression, with messages of 16777216 bytes
 [peers/README.md](../peers/README.md) says how it is run, [VERDICTS.md](VERDICTS.md) what the words mean, and \
 [CASES.md](CASES.md) what a case sends. It is the measurement of one day, which no test compares.
 
-A FAIL breaks a rule of RFC 6455 or one of ours for an echo; its sentence says which. A LOOSE is no fault: the \
+Applications don't echo: each greets, sends a ping, and answers messages with others; they are tested with \
+`{protocol}`.
+
+A FAIL breaks a rule of RFC 6455 or, at an echo, one of ours; its sentence says which. A LOOSE is no fault: the \
 standard allows it, or what went over the connection can't decide. Where a case sends single bytes the last frame \
 of a peer may be lost in the reset that they meet, so that it can be PASS in one run and LOOSE in the next. `A to B` \
 are all cases from A to B in the order of `wst cases`. The longest case is that after which its line took longest to \
@@ -43,11 +46,13 @@ fault. Of each sort of FAIL it is told in how many scripts it shows, and the fir
 def page_of(version, build, order, parts, sweeps):
     """The page: of which version the program is, and how it was built. Parts are (kind, list of (peer, Score)), sweeps (peer, Sweep), the order is that of all cases."""
     timeout = " ".join(TIMEOUT)
-    told = HEAD.format(version=version, build=build, timeout=timeout, count=len(order))
+    told = HEAD.format(
+        version=version, build=build, timeout=timeout, protocol=" ".join(PROTOCOL), count=len(order)
+    )
     for kind, scores in parts:
         told += TABLE.format(kind=kind.capitalize())
         told += "".join(row_of(peer, score) for peer, score in scores)
-        told += "".join(part_of(peer, score, order) for peer, score in scores)
+        told += "".join(part_of(peer, remarked(peer, kind), score, order) for peer, score in scores)
     told += SWEEP_TABLE.format(timeout=timeout)
     told += "".join(sweep_row_of(peer, sweep) for peer, sweep in sweeps)
     told += "\n"
@@ -61,12 +66,17 @@ def row_of(peer, score):
     return f"| {' | '.join(map(str, cells))} | {score.seconds:.1f} | {seconds:.2f} s, {case} |\n"
 
 
-def part_of(peer, score, order):
-    """What isn't PASS of a peer: a line for each verdict and sentence."""
+def remarked(peer, kind):
+    """The name of a peer in the remarks: what is said of an echo isn't said of an application."""
+    return f"{peer.name}-application" if kind == "application" else peer.name
+
+
+def part_of(peer, name, score, order):
+    """What isn't PASS of a peer, which has this name in the remarks: a line for each verdict and sentence."""
     found = {}
     for case, verdict, _ in score.lines:
         if verdict != "PASS":
-            found.setdefault((verdict, sentence_of(REMARKS, peer.name, verdict, case)), []).append(case)
+            found.setdefault((verdict, sentence_of(REMARKS, name, verdict, case)), []).append(case)
     ordered = sorted(found.items(), key=lambda item: item[0][0])
     lines = [f"- `{verdict}` at {in_short(cases, order)}: {told}\n" for (verdict, told), cases in ordered]
     return f"\n### {peer.name}\n\n" + ("".join(lines) or "All pass.\n")
@@ -90,12 +100,17 @@ def sweep_part_of(peer, sweep):
 
 def without_sentence(parts, sweeps):
     """(peer, case or script) of each FAIL about which no sentence is told."""
-    fails = [(REMARKS, peer, line[1], line[0]) for _, tried in parts for peer, score in tried for line in score.lines]
-    fails += [(SWEEPS, peer, *fail) for peer, sweep in sweeps for fail in sweep.fails]
+    fails = [
+        (REMARKS, remarked(peer, kind), verdict, case)
+        for kind, tried in parts
+        for peer, score in tried
+        for case, verdict, _ in score.lines
+    ]
+    fails += [(SWEEPS, peer.name, *fail) for peer, sweep in sweeps for fail in sweep.fails]
     return [
-        (peer.name, what)
-        for file, peer, verdict, what in fails
-        if verdict.startswith("FAIL") and sentence_of(file, peer.name, verdict, what) == NO_SENTENCE
+        (name, what)
+        for file, name, verdict, what in fails
+        if verdict.startswith("FAIL") and sentence_of(file, name, verdict, what) == NO_SENTENCE
     ]
 
 

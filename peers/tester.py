@@ -12,6 +12,7 @@ from peer import ROOT, START_SECONDS, Running, listening
 LAUNCHER, PROGRAM = str(ROOT / "wst"), str(ROOT / "crates/wst/out/wst")
 MAKE_SECONDS = 7200  # the launcher proves and builds the program where it isn't built
 TIMEOUT = ["--timeout", "2"]
+PROTOCOL = ["--expect", "protocol", "--timeout", "1"]
 SILENCE = 15  # seconds: a case that has no line by then has no verdict
 MOST_SECONDS = 900  # of one peer
 MOST_RUNS = 50  # of `wst test` for one peer: a case without a verdict ends one
@@ -80,6 +81,10 @@ def try_server(peer, cases):
     return try_peer(peer, cases, run_server)
 
 
+def try_application(peer, cases):
+    return try_peer(peer, cases, run_application)
+
+
 def try_client(peer, cases):
     return try_peer(peer, cases, run_client)
 
@@ -98,8 +103,16 @@ def try_peer(peer, cases, run):
 
 
 def run_server(score, peer, cases):
-    with listening(peer) as port:
-        with Running([PROGRAM, "test", *TIMEOUT, f"127.0.0.1:{port}", *cases], "tester.log") as tester:
+    run_listener(score, peer, "server", TIMEOUT, cases)
+
+
+def run_application(score, peer, cases):
+    run_listener(score, peer, "application", PROTOCOL, cases)
+
+
+def run_listener(score, peer, part, options, cases):
+    with listening(peer, part) as port:
+        with Running([PROGRAM, "test", *options, f"127.0.0.1:{port}", *cases], "tester.log") as tester:
             read_verdicts(score, tester, cases)
 
 
