@@ -274,7 +274,6 @@ EQUAL = {
     "protocol, frames_before: x.end <= ended.place -> x.end < ended.place": (
         "no fault is told at the first byte of a frame"
     ),
-    "protocol, is_undefined: 5000 -> 4999": "this code may stand in a close frame, and is no fault",
     "protocol, undefined_code: ended is None or ended.kind != FAULT -> False": (
         "what ends with a close or with nothing has no code that a close may not have"
     ),
