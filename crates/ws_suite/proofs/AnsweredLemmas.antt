@@ -1,6 +1,8 @@
 -- Replies that are answered one for one: what is found in them.
-use Rattle.std.proofs.Common.{◌≡◌, ◌∙◌, ◌↔◌, ℕ, ◌<◌, ◌≤◌, nat_lt, Bool, true, false, ◌||◌, if◌then◌else◌, List, [], ◌∷◌, ◌++◌, length}
+use Rattle.std.proofs.Common.{◌≡◌, ◌∙◌, ◌↔◌, ℕ, ◌<◌, ◌≤◌, nat_le, nat_lt, Bool, true, false, ◌&&◌, ◌||◌}
+use Rattle.std.proofs.Common.{if◌then◌else◌, List, [], ◌∷◌, ◌++◌, length}
 use Rattle.std.proofs.Common.{Option, Some, None, drop, take, ap, ap₂, sym, refl, subst, inl, inr, arith, append-nil}
+use Rattle.std.proofs.lemmas.Bool.{and_from, le-leb, or_left, or_right}
 use Rattle.std.proofs.lemmas.Bool.Decides.{nat_tests}
 use Rattle.std.proofs.lemmas.List.{length-drop, length-map, length-take-le, take-append-drop}
 use Rattle.std.proofs.lemmas.Slice.Eq.{bytes_eq-Decides}
@@ -15,6 +17,7 @@ use Rattle.ws_suite.specs.declared.evidence.Reply.TheVariants as reply
 use Rattle.ws_suite.specs.declared.evidence.kept.ReplyKind.{ReplyKind}
 use Rattle.ws_suite.specs.declared.evidence.kept.ReplyKind.TheVariants.{Text, Binary, Pong, Ping}
 use Rattle.ws_suite.specs.InnerAnswered.{AreAnsweredEach, AreHeadsAnswered}
+use Rattle.ws_suite.specs.InnerMarks.{AreMet, is_answered_by}
 use Rattle.ws_suite.specs.InnerJudging.{AreFindingsOf, answers_among, is_answer, without_pings}
 use Rattle.ws_suite.specs.Kept.{kept_replies, payloads_len, reply_of}
 use Rattle.ws_suite.specs.Matching.{IsBeginningOf, IsLastPong, IsWithSomeLeftOut, bare, has_payload_of, is_message, is_pong}
@@ -23,6 +26,7 @@ use Rattle.ws_suite.specs.Verdicts.{is_before, is_before_match, is_unmatched}
 use Rattle.ws_suite.proofs.JudgeLemmas.{found_first, left_of_match}
 use Rattle.ws_suite.proofs.KeptLemmas.{payload_kept}
 use Rattle.ws_suite.proofs.TellingLemmas.{same_messages, same_pongs}
+use Rattle.ws_suite.proofs.TestLemmas.{all_so}
 
 -- ---- by their heads
 
@@ -125,6 +129,23 @@ answered_late (due ∷ dues) (got ∷ gots) (same, turn, later) =
 
 own_payload : (due got : InTurn Reply) → got.what ≡ due.what → has_payload_of got due ≡ true
 own_payload due got same = (bytes_eq-Decides (payload_of due.what) (payload_of got.what)).1 (ap (λ (r : Reply). payload_of r) (sym same))
+
+-- the pong answers the ping
+abbrev answers : InTurn Reply → InTurn Reply → Bool
+answers got due = has_payload_of got due && nat_le due.turn got.turn
+
+-- each has its answer
+pub each_is_answered : (dues gots : List (InTurn Reply)) → AreAnsweredEach dues gots → AreMet dues gots
+each_is_answered [] [] h = tt
+each_is_answered [] (got ∷ gots) h = absurd h
+each_is_answered (due ∷ dues) [] h = absurd h
+each_is_answered (due ∷ dues) (got ∷ gots) (same, turn, later) = (
+  or_left (answers got due) (is_answered_by gots due)
+      (and_from (has_payload_of got due) (nat_le due.turn got.turn) (own_payload due got same)
+      (le-leb due.turn got.turn turn)),
+  all_so (λ d. is_answered_by gots d ≡ true) (λ d. is_answered_by (got ∷ gots) d ≡ true)
+      (λ d e. or_right (answers got d) (is_answered_by gots d) e) dues (each_is_answered dues gots later),
+)
 
 answered_matches : (f : InTurn Reply × Option (InTurn Reply) → Bool)
     → ((due got : InTurn Reply) → due.turn ≤ got.turn → f (got, Some due) ≡ false)

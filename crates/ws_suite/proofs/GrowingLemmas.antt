@@ -1,5 +1,5 @@
 -- Evidence that grows: what is kept of the replies, and the turns with one turn or one piece more.
-use Rattle.std.proofs.Common.{◌≡◌, ◌∙◌, ℕ, ◌+◌, ◌-◌, ◌^◌, ◌<◌, ◌≤◌, ◌↔◌, min, Bool, true, false, if◌then◌else◌, List, [], ◌∷◌, ◌++◌, get_or, length, take, Option, None, Some, inl, inr, ap, sym, refl, subst, arith, append-nil, length-append}
+use Rattle.std.proofs.Common.{◌≡◌, ◌∙◌, ℕ, ◌+◌, ◌-◌, ◌^◌, ◌<◌, ◌≤◌, ◌↔◌, min, Bool, true, false, if◌then◌else◌, List, [], ◌∷◌, ◌++◌, get_or, length, take, Option, None, Some, inl, inr, ap, sym, refl, subst, arith, append_assoc, append-nil, length-append, ◌⊎◌}
 use Rattle.std.proofs.lemmas.Bool.{cases_lt}
 use Rattle.std.proofs.lemmas.List.{map-append, take_more}
 use Rattle.std.proofs.lemmas.List.Elements.{filter-append}
@@ -15,7 +15,7 @@ use Rattle.ws_suite.specs.declared.evidence.Evidence.{Evidence}
 use Rattle.ws_suite.specs.declared.evidence.collecting.Collected.{Collected}
 use Rattle.ws_suite.specs.declared.evidence.keeping.ReplyTally.{ReplyTally}
 use Rattle.ws_suite.specs.Evidence.{IsEvidenceOf, due_for, got_in, got_turns, other_role, sent_turns}
-use Rattle.ws_suite.specs.Growing.{AnswersTally, AreTurnsAnswered, EndInsideFrame, GrowingValue, HasGrown, HasTakenTurns, IsAnswered, IsAnsweredPong, IsTallyOf, new_turn, turn_with_got, turn_with_sent}
+use Rattle.ws_suite.specs.Growing.{AnswersTally, AreTurnsAnswered, EndInsideFrame, GrowingValue, HasGrown, HasTakenTurns, IsAmong, IsAnswered, IsAnsweredPong, IsTallyOf, new_turn, turn_with_got, turn_with_sent}
 use Rattle.ws_suite.specs.InnerCollecting.{EventLaws}
 use Rattle.ws_suite.specs.Matching.{IsLastPong, is_message, is_pong, message_replies, pong_replies}
 use Rattle.ws_suite.proofs.EvidenceLemmas.{last_joined}
@@ -36,17 +36,63 @@ one_left test r e = ap (λ (b : Bool). if b then r ∷ [] else []) e
 none_left : (test : InTurn Reply → Bool) (r : InTurn Reply) → test r ≡ false → filter test (r ∷ []) ≡ []
 none_left test r e = ap (λ (b : Bool). if b then r ∷ [] else []) e
 
--- one pong more
-pub pong_kept : (tally : ReplyTally) (replies : List (InTurn Reply)) (r : InTurn Reply) → is_pong r.what ≡ true → IsTallyOf tally replies
-    → IsTallyOf (record { messages = tally.messages; last_pong = Some r }) (replies ++ r ∷ [])
-pong_kept tally replies r is h = record {
+-- ---- a pong that is among others
+
+-- with one pong more it stays there
+among_more : (o : Option (InTurn Reply)) (gots : List (InTurn Reply)) (r : InTurn Reply) → IsAmong o gots
+    → IsAmong o (gots ++ r ∷ [])
+among_more None gots r h = tt
+among_more (Some due) gots r h = record {
+  before = h.before;
+  got = h.got;
+  after = h.after ++ r ∷ [];
+  is_got = ap (λ (l : List (InTurn Reply)). l ++ r ∷ []) h.is_got ∙ append_assoc h.before (h.got ∷ h.after) (r ∷ []);
+  same = h.same;
+  turn = h.turn;
+}
+
+-- one that answers it is it
+pub among_last : (o : Option (InTurn Reply)) (gots : List (InTurn Reply)) (r : InTurn Reply)
+    → IsAnsweredPong o (Some r) → IsAmong o (gots ++ r ∷ [])
+among_last None gots r h = tt
+among_last (Some due) gots r h =
+    record { before = gots; got = r; after = []; is_got = refl; same = h.0; turn = h.1 }
+
+-- what is answered by one that is there is there
+pub among_so : (o w : Option (InTurn Reply)) (gots : List (InTurn Reply)) → IsAnsweredPong o w → IsAmong w gots
+    → IsAmong o gots
+among_so None w gots h there = tt
+among_so (Some due) None gots h there = absurd h
+among_so (Some due) (Some wanted) gots h there = record {
+  before = there.before;
+  got = there.got;
+  after = there.after;
+  is_got = there.is_got;
+  same = there.same ∙ h.0;
+  turn = omega (arith, there.turn, h.1);
+}
+
+-- one pong more, which may be the one that is wanted
+pub pong_kept : (tally : ReplyTally) (replies : List (InTurn Reply)) (r : InTurn Reply) (there : Bool)
+    → is_pong r.what ≡ true → (there ≡ true → (tally.has_wanted ≡ true) ⊎ IsAnsweredPong tally.wanted (Some r))
+    → IsTallyOf tally replies
+    → IsTallyOf (record { messages = tally.messages; last_pong = Some r; wanted = tally.wanted; has_wanted = there })
+    (replies ++ r ∷ [])
+pong_kept tally replies r there is by h = record {
   messages =
       h.messages ∙ ap (λ (l : List (InTurn Reply)). length l)
       (sym (append-nil (message_replies replies)) ∙ ap (λ (l : List (InTurn Reply)). message_replies replies ++ l) (sym (none_left (λ x. is_message x.what) r (pong_is_no_message r.what is))) ∙ sym (filter-append (λ x. is_message x.what) replies (r ∷ [])));
-  last_pong =
-      sym (ap (λ (l : List (InTurn Reply)). last_or None l) (filter-append (λ x. is_pong x.what) replies (r ∷ []) ∙ ap (λ (l : List (InTurn Reply)). pong_replies replies ++ l) (one_left (λ x. is_pong x.what) r is))
-      ∙ last_joined None (pong_replies replies) (r ∷ []));
+  last_pong = sym (ap (λ (l : List (InTurn Reply)). last_or None l) pongs ∙ last_joined None (pong_replies replies) (r ∷ []));
+  wanted = λ e. subst (λ (l : List (InTurn Reply)). IsAmong tally.wanted l) (sym pongs) (pick (by e));
 }
+  where
+    pongs : pong_replies (replies ++ r ∷ []) ≡ pong_replies replies ++ r ∷ []
+    pongs = filter-append (λ x. is_pong x.what) replies (r ∷ [])
+        ∙ ap (λ (l : List (InTurn Reply)). pong_replies replies ++ l) (one_left (λ x. is_pong x.what) r is)
+
+    pick : (tally.has_wanted ≡ true) ⊎ IsAnsweredPong tally.wanted (Some r) → IsAmong tally.wanted (pong_replies replies ++ r ∷ [])
+    pick (inl e) = among_more tally.wanted (pong_replies replies) r (h.wanted e)
+    pick (inr a) = among_last tally.wanted (pong_replies replies) r a
 
 -- ---- what is kept tells whether what is due has come
 
@@ -150,11 +196,24 @@ module _ {K : Type 0} {keeps : K → List (InTurn Reply) → Type 0} (tested : R
     same_count : (other : Turn) → x.turns ≡ length (before ++ other ∷ [])
     same_count other = omega (arith, h.count, length-append before (turn ∷ []), length-append before (other ∷ []))
 
-    pub more_sent : (bytes : List ℕ) (session : SessionValue) (due : Collected K) → HasTakenTurns keeps due_for tested (sent_turns before ++ (turn.sent ++ bytes) ∷ []) session due
-        → HasGrown keeps tested (before ++ turn_with_sent turn bytes ∷ []) (record { due = due; got = x.got; tested = session; tester = x.tester; turns = x.turns })
-    more_sent bytes session due t = record {
+    -- what was got is kept for the same replies, whatever is wanted of them from here on
+    pub more_sent : (bytes : List ℕ) (session : SessionValue) (due : Collected K) (replies : K)
+        → ((l : List (InTurn Reply)) → keeps x.got.replies l → keeps replies l) → HasTakenTurns keeps due_for tested (sent_turns before ++ (turn.sent ++ bytes) ∷ []) session due
+        → HasGrown keeps tested (before ++ turn_with_sent turn bytes ∷ []) (record { due = due; got = record { replies = replies; ending = x.got.ending; has_rest = x.got.has_rest }; tested = session; tester = x.tester; turns = x.turns })
+    more_sent bytes session due replies same_replies t = record {
       due = subst (λ (l : List (List ℕ)). HasTakenTurns keeps due_for tested l session due) (sym (sent_last before (turn_with_sent turn bytes))) t;
-      got = subst (λ (l : List (List ℕ)). HasTakenTurns keeps got_in (other_role tested) l x.tester x.got) (sym (got_last before (turn_with_sent turn bytes))) got_so_far;
+      got = subst (λ (l : List (List ℕ)). HasTakenTurns keeps got_in (other_role tested) l x.tester (record { replies = replies; ending = x.got.ending; has_rest = x.got.has_rest })) (sym (got_last before (turn_with_sent turn bytes)))
+          (record {
+            shown = got_so_far.shown;
+            is_shown = got_so_far.is_shown;
+            replies = same_replies got_so_far.shown.replies got_so_far.replies;
+            ending = got_so_far.ending;
+            has_rest = got_so_far.has_rest;
+            sent = got_so_far.sent;
+            exchanged = got_so_far.exchanged;
+            same_role = got_so_far.same_role;
+            limits = got_so_far.limits;
+          });
       count = same_count (turn_with_sent turn bytes);
     }
 

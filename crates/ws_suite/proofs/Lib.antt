@@ -3,7 +3,7 @@
 mod EvidenceLemmas
 mod TurnsCollected
 mod QuietStreams
-mod ToldStreams
+mod SeenStreams
 mod JudgeLemmas
 mod PlaceLemmas
 mod LastTurns

@@ -22,11 +22,12 @@ use Rattle.ws_suite.specs.declared.evidence.Ending.{Ending}
 use Rattle.ws_suite.specs.declared.evidence.Ending.TheVariants.{Failed}
 use Rattle.ws_suite.specs.declared.evidence.Evidence.{Evidence}
 use Rattle.ws_suite.specs.declared.evidence.marks.Marks.{Marks}
-use Rattle.ws_suite.specs.declared.evidence.marks.Told.{Told}
+use Rattle.ws_suite.specs.declared.evidence.streams.Seen.{Seen}
 use Rattle.ws_suite.specs.Evidence.{HoldsByte, by_turn, ending_in, got_turns, joined_events, other_role, sent_turns}
 use Rattle.ws_suite.specs.Explanation.{IsBeyondClose}
 use Rattle.ws_suite.specs.InnerCollecting.{at_turn}
-use Rattle.ws_suite.specs.InnerMarks.{IsEndingByTurn, IsToldStream, IsTurnOfPlace, closed_with, evidence_closed}
+use Rattle.ws_suite.specs.InnerMarks.{IsEndingByTurn, IsSeen, IsTurnOfPlace, closed_with, evidence_closed}
+use Rattle.ws_suite.specs.InnerMarks.{left_open}
 use Rattle.ws_suite.specs.Marks.{AreControls, AreMarksOf, CountsUndefinedCode, EndsInDataFrame, FailsByUndefinedCode}
 use Rattle.ws_suite.specs.Marks.{HasControlsBehind, HasOpenMessage, HasUndefinedCodeCounted, HoldData, IsLate}
 use Rattle.ws_suite.specs.Marks.{StandBehind, leaves_open}
@@ -37,30 +38,38 @@ use Rattle.ws_suite.proofs.TurnsCollected.{whole_events}
 
 -- ---- what is told of the bytes of one direction
 
-module _ (role : Role) (bytes : List ℕ) (told : Told) (h : IsToldStream role told)
-    (same : told.bytes.items ≡ bytes) where
+-- something came where there is a last
+some_last : (b : Bool) (xs : List Bool) → last_or (Some b) xs ≡ None → ⊥
+some_last b [] e = absurd cc
+some_last b (x ∷ xs) e = some_last x xs e
+
+some_came : (xs : List Bool) → xs ≢ [] → last_or None xs ≢ None
+some_came [] some e = some refl
+some_came (x ∷ xs) some e = some_last x xs e
+
+module _ (role : Role) (bytes : List ℕ) (seen : Seen) (h : IsSeen role bytes seen) where
   abbrev behind : List ℕ
-  behind = drop told.after told.bytes.items
-
-  events_are : HasEvents role most_limits bytes h.events
-  events_are = subst (λ (l : List ℕ). HasEvents role most_limits l h.events) same h.are_events
-
-  stands_behind : StandBehind role bytes h.events behind
-  stands_behind = subst (λ (l : List ℕ). StandBehind role l h.events behind) same h.behind
+  behind = drop seen.after bytes
 
   events_told : (events : List Event) → HasEvents role most_limits bytes events → events ≡ h.events
-  events_told events are = one_events role most_limits bytes events h.events are events_are
+  events_told events are = one_events role most_limits bytes events h.events are h.are_events
 
   behind_told : (events : List Event) (others : List ℕ) → HasEvents role most_limits bytes events
       → StandBehind role bytes events others → others ≡ behind
   behind_told events others are stand = one_behind role bytes h.events others behind
-      (subst (λ (l : List Event). StandBehind role bytes l others) (events_told events are) stand) stands_behind
+      (subst (λ (l : List Event). StandBehind role bytes l others) (events_told events are) stand) h.behind
 
-  pub holds_data : (told.has_data ≡ true) ↔ HoldData role bytes
-  holds_data = (
-    λ yes. record { events = h.events; are_events = events_are; some = h.has_data.0 yes },
-    λ d. h.has_data.1 (subst (λ (l : List Event). flat_map leaves_open l ≢ []) (events_told d.events d.are_events)
-        d.some),
+  pub holds_data : (came : Bool) → ((came ≡ true) ↔ (left_open seen.frame ≢ None))
+      → (came ≡ true) ↔ HoldData role bytes
+  holds_data came tells = (
+    λ yes. record {
+      events = h.events;
+      are_events = h.are_events;
+      some = λ none. tells.0 yes (h.left ∙ ap (λ (l : List Bool). last_or None l) none);
+    },
+    λ d. tells.1 (λ none. some_came (flat_map leaves_open h.events)
+        (subst (λ (l : List Event). flat_map leaves_open l ≢ []) (events_told d.events d.are_events) d.some)
+        (sym h.left ∙ none)),
   )
 
   pub controls_behind : (right : Bool) → ((right ≡ true) ↔ AreControls role behind)
@@ -68,9 +77,9 @@ module _ (role : Role) (bytes : List ℕ) (told : Told) (h : IsToldStream role t
   controls_behind right tells = (
     λ yes. record {
       events = h.events;
-      are_events = events_are;
+      are_events = h.are_events;
       behind = behind;
-      stand_behind = stands_behind;
+      stand_behind = h.behind;
       controls = tells.0 yes;
     },
     λ c. tells.1 (subst (λ (l : List ℕ). AreControls role l) (behind_told c.events c.behind c.are_events c.stand_behind)
@@ -86,32 +95,29 @@ module _ (role : Role) (bytes : List ℕ) (told : Told) (h : IsToldStream role t
       omega (arith, front_within n turns, length-append x (concat (take n turns)), length-append x (concat turns))
 
   pub beyond_close : (turns : List (List ℕ)) → concat turns ≡ bytes → (ending : Option (InTurn Ending))
-      → ends_with_close ending ≡ true → (found : Option ℕ) → IsTurnOfPlace turns told.after found
+      → ends_with_close ending ≡ true → (found : Option ℕ) → IsTurnOfPlace turns seen.after found
       → IsBeyondClose role turns ending found
   beyond_close turns all ending closes None beyond =
-      let none : behind ≡ [] = drop_of_length-le told.bytes.items
-      (omega (arith, beyond, ap (λ (l : List ℕ). length l) same, ap (λ (l : List ℕ). length l) all)) in
+      let none : behind ≡ [] = drop_of_length-le bytes (omega (arith, beyond, ap (λ (l : List ℕ). length l) all)) in
       inr (λ turn goes.
       goes.some (behind_told goes.events goes.behind
       (subst (λ (l : List ℕ). HasEvents role most_limits l goes.events) all goes.are_events)
       (subst (λ (l : List ℕ). StandBehind role l goes.events goes.behind) all goes.stand_behind) ∙ none))
   beyond_close turns all ending closes (Some turn) holds =
-      let size = ap (λ (l : List ℕ). length l) same in
       let whole = ap (λ (l : List ℕ). length l) all in
-      let left = length-drop told.after told.bytes.items in
-      let place : told.after + 1 ≡ length (concat turns) - length behind + 1 =
-      omega (arith, size, whole, left, h.within.1) in (
+      let left = length-drop seen.after bytes in
+      let place : seen.after + 1 ≡ length (concat turns) - length behind + 1 =
+      omega (arith, whole, left, h.within) in (
         closes,
         record {
           events = h.events;
-          are_events = subst (λ (l : List ℕ). HasEvents role most_limits l h.events) (sym all) events_are;
+          are_events = subst (λ (l : List ℕ). HasEvents role most_limits l h.events) (sym all) h.are_events;
           behind = behind;
-          stand_behind = subst (λ (l : List ℕ). StandBehind role l h.events behind) (sym all) stands_behind;
+          stand_behind = subst (λ (l : List ℕ). StandBehind role l h.events behind) (sym all) h.behind;
           some = λ none. omega (
             arith,
             ap (λ (l : List ℕ). length l) none,
             left,
-            size,
             whole,
             holds.1,
             front_within (turn + 1) turns,
@@ -202,19 +208,16 @@ code_counted role turns ending is (Some code) fails =
     let failed = fails_in_turn role turns ending is fails.place CloseCode fails.is_first in
     inl (failed.0, code, failed.1, fails, ap (λ (o : Option (InTurn Ending)). closed_with o (Some code)) failed.1)
 
-pub evidence_counted : (tested : Role) (transcript : Transcript) (shown : Evidence) (code : Option ℕ) (got : Told)
-    → got.bytes.items ≡ concat (got_turns transcript.turns)
+pub evidence_counted : (tested : Role) (transcript : Transcript) (shown : Evidence) (code : Option ℕ)
     → IsEndingByTurn (other_role tested) (got_turns transcript.turns) shown.got.ending
-    → MatchOption code ((n : ℕ) → FailsByUndefinedCode (other_role tested) got.bytes.items n → ⊥)
-    (FailsByUndefinedCode (other_role tested) got.bytes.items)
+    → MatchOption code ((n : ℕ) → FailsByUndefinedCode (other_role tested) (concat (got_turns transcript.turns)) n → ⊥)
+    (FailsByUndefinedCode (other_role tested) (concat (got_turns transcript.turns)))
     → (counted : Evidence) → counted ≡ evidence_closed shown code
     → HasUndefinedCodeCounted tested transcript shown counted
-evidence_counted tested transcript shown code got bytes is found counted so =
+evidence_counted tested transcript shown code is found counted so =
     let role = other_role tested in
     let turns = got_turns transcript.turns in
-    let fails = subst (λ (l : List ℕ). MatchOption code ((n : ℕ) → FailsByUndefinedCode role l n → ⊥)
-    (FailsByUndefinedCode role l)) bytes found in
-    let ending = code_counted role turns shown.got.ending is code fails in
+    let ending = code_counted role turns shown.got.ending is code found in
     subst (λ (x : Evidence). HasUndefinedCodeCounted tested transcript shown x) (sym so)
     (record {
       due = refl;
@@ -228,25 +231,29 @@ evidence_counted tested transcript shown code got bytes is found counted so =
 
 -- ---- all marks
 
--- what is told of the bytes of both directions
-module _ (tested : Role) (transcript : Transcript) (sent got : Told) (is_sent : IsToldStream tested sent)
-    (is_got : IsToldStream (other_role tested) got) (sends : sent.bytes.items ≡ concat (sent_turns transcript.turns))
-    (gets : got.bytes.items ≡ concat (got_turns transcript.turns)) where
-  pub marks_are : (marks : Marks) → marks.sends_data ≡ sent.has_data
-      → ((marks.is_late ≡ true) ↔ IsLate tested sent.bytes.items)
-      → ((marks.is_open ≡ true) ↔ HasOpenMessage (other_role tested) got.bytes.items)
-      → ((marks.ends_in_data ≡ true) ↔ EndsInDataFrame (other_role tested) got.bytes.items)
-      → ((marks.has_controls ≡ true) ↔ AreControls (other_role tested) (drop got.after got.bytes.items))
+-- what is seen of the bytes of both directions
+module _ (tested : Role) (transcript : Transcript) (sent got : Seen)
+    (is_sent : IsSeen tested (concat (sent_turns transcript.turns)) sent)
+    (is_got : IsSeen (other_role tested) (concat (got_turns transcript.turns)) got) where
+  abbrev role : Role
+  role = other_role tested
+
+  abbrev sent_bytes : List ℕ
+  sent_bytes = concat (sent_turns transcript.turns)
+
+  abbrev got_bytes : List ℕ
+  got_bytes = concat (got_turns transcript.turns)
+
+  pub marks_are : (marks : Marks) → ((marks.sends_data ≡ true) ↔ (left_open sent.frame ≢ None))
+      → ((marks.is_late ≡ true) ↔ IsLate tested sent_bytes)
+      → ((marks.is_open ≡ true) ↔ HasOpenMessage role got_bytes)
+      → ((marks.ends_in_data ≡ true) ↔ EndsInDataFrame role got_bytes)
+      → ((marks.has_controls ≡ true) ↔ AreControls role (drop got.after got_bytes))
       → AreMarksOf tested transcript marks
-  marks_are marks came late begun inside controls =
-      let role = other_role tested in
-      let bytes = concat (sent_turns transcript.turns) in
-      record {
-        sends_data = subst (λ (b : Bool). (b ≡ true) ↔ HoldData tested bytes) (sym came)
-            (holds_data tested bytes sent is_sent sends);
-        is_late = subst (λ (l : List ℕ). (marks.is_late ≡ true) ↔ IsLate tested l) sends late;
-        is_open = subst (λ (l : List ℕ). (marks.is_open ≡ true) ↔ HasOpenMessage role l) gets begun;
-        ends_in_data = subst (λ (l : List ℕ). (marks.ends_in_data ≡ true) ↔ EndsInDataFrame role l) gets inside;
-        has_controls = controls_behind role (concat (got_turns transcript.turns)) got is_got gets marks.has_controls
-            controls;
-      }
+  marks_are marks came late begun inside controls = record {
+    sends_data = holds_data tested sent_bytes sent is_sent marks.sends_data came;
+    is_late = late;
+    is_open = begun;
+    ends_in_data = inside;
+    has_controls = controls_behind role got_bytes got is_got marks.has_controls controls;
+  }

@@ -6,15 +6,16 @@ use Rattle.std.proofs.Math.Seq.{take-append_seam}
 use Rattle.std.proofs.lemmas.List.{append-nil, length-append}
 use Rattle.std.proofs.lemmas.List.Elements.{filter-append}
 use Rattle.std.proofs.lemmas.List.Folds.{list_any-append}
-use Rattle.std.specs.List.{last_or, list_any}
+use Rattle.std.specs.List.{AllByRecursion, last_or, list_any}
 use Rattle.ws_suite.specs.declared.evidence.InTurn.{InTurn}
 use Rattle.ws_suite.specs.declared.evidence.Reply.{Reply}
 use Rattle.ws_suite.specs.declared.evidence.Evidence.{Evidence}
 use Rattle.ws_suite.specs.declared.judging.owed.OwedPongs.{OwedPongs}
-use Rattle.ws_suite.specs.InnerMarks.{AreOwedFindings}
-use Rattle.ws_suite.specs.Matching.{due_pongs}
+use Rattle.ws_suite.specs.InnerMarks.{AreMet, AreOwedFindings}
+use Rattle.ws_suite.specs.Matching.{due_pongs, got_pongs}
 use Rattle.ws_suite.specs.Protocol.{IsLastAnswered, OwesPongs, is_answered, is_owed, later_pongs, owed_pongs}
 use Rattle.ws_suite.proofs.EvidenceLemmas.{last_joined}
+use Rattle.ws_suite.proofs.TestLemmas.{all_filtered, all_so, last_of_all, none_fails}
 
 -- ---- one more behind a list
 
@@ -198,3 +199,28 @@ found_of_all x lacks skips later found i lacking skipping =
       lacks_last = (λ t. (lacks_last x).0 (sym both ∙ t), λ h. both ∙ (lacks_last x).1 h);
       skips_one = (λ t. sym skipped ∙ t, λ h. skipped ∙ h);
     }
+
+-- where each ping is answered, neither is found
+pub found_of_met : (x : Evidence) (found : OwedPongs) → AreMet (due_pongs x) (got_pongs x)
+    → found.lacks_last ≡ false → found.skips_one ≡ false → AreOwedFindings x found
+found_of_met x found all last one =
+    let skipped = none_fails (is_answered x) (length (owed_pongs x) - 1) (owed_pongs x) owed in
+    record {
+      lacks_last = (λ t. absurd (not_both found.lacks_last t last), λ h. absurd (h.1 (answered h.0)));
+      skips_one = (
+        λ t. absurd (not_both found.skips_one t one),
+        λ h. absurd (not_both (list_any (is_unanswered x) (all_but_last (owed_pongs x))) h skipped),
+      );
+    }
+  where
+    Answered : InTurn Reply → Type 0
+    Answered due = is_answered x due ≡ true
+
+    owed : AllByRecursion Answered (owed_pongs x)
+    owed = all_filtered Answered (is_owed x) (due_pongs x)
+        (all_so Answered (λ due. is_owed x due ≡ true → Answered due) (λ due e t. e) (due_pongs x) all)
+
+    answered : OwesPongs x → IsLastAnswered x
+    answered some =
+        let h = last_of_all Answered (owed_pongs x) some owed in
+        record { last = h.0; is_last = h.1; answered = inl h.2 }

@@ -3,7 +3,7 @@ use Rattle.std.proofs.Common.{◌≡◌, ◌∙◌, ℕ, ◌+◌, ◌<◌, ◌�
 use Rattle.std.proofs.Common.{Option, Some, None, sym, ap, refl, subst, arith, inl, inr, append_assoc, append-nil}
 use Rattle.std.proofs.Common.{get_or}
 use Rattle.std.proofs.lemmas.Bool.{cases_lt}
-use Rattle.std.proofs.lemmas.List.{length-append, take-append-le, take-append-drop}
+use Rattle.std.proofs.lemmas.List.{length-append, take-append-le}
 use Rattle.std.proofs.lemmas.Grind.{flat_map-append}
 use Rattle.std.proofs.Math.Seq.{take-append_seam, drop-append_seam}
 use Rattle.std.specs.Prelude.{IsTrue, MatchOption, ⊤}
@@ -31,8 +31,8 @@ use Rattle.ws_session.proofs.Next.{place_is, two_bytes}
 use Rattle.ws_session.proofs.Places.{compare_frames, fault_parts}
 use Rattle.ws_suite.specs.declared.evidence.Ending.{Ending}
 use Rattle.ws_suite.specs.declared.evidence.Ending.TheVariants.{Failed}
-use Rattle.ws_suite.specs.declared.evidence.marks.StreamEnd.{StreamEnd}
-use Rattle.ws_suite.specs.declared.evidence.marks.StreamEnd.TheVariants as stream
+use Rattle.ws_suite.specs.declared.evidence.streams.StreamEnd.{StreamEnd}
+use Rattle.ws_suite.specs.declared.evidence.streams.StreamEnd.TheVariants as stream
 use Rattle.ws_suite.specs.Evidence.{ending_in}
 use Rattle.ws_suite.specs.InnerMarks.{EndsSo, fault_of}
 use Rattle.ws_suite.specs.Marks.{EndsInFrame, FailsByUndefinedCode, HideFault, HoldsUndefinedCode, IsLate, StandBehind}

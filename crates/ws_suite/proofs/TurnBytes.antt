@@ -1,7 +1,11 @@
 -- The bytes of the turns so far that go one way, with those of one turn more, and of all turns.
-use Rattle.std.proofs.Common.{◌≡◌, ◌∙◌, ℕ, ◌+◌, ◌<◌, ◌≤◌, List, [], ◌∷◌, ◌++◌, length, take, map, get_or, sym, ap}
-use Rattle.std.proofs.Common.{append-nil, arith}
-use Rattle.std.proofs.lemmas.List.{length-append, length-map, map-append, take_all, take_more}
+use Rattle.std.proofs.Common.{◌≡◌, ◌∙◌, ℕ, ◌+◌, ◌-◌, ◌<◌, ◌≤◌, List, [], ◌∷◌, ◌++◌, length, take, drop, map, min}
+use Rattle.std.proofs.Common.{append-nil, arith, get_or, sym, ap, inl, inr}
+use Rattle.std.proofs.lemmas.Bool.{cases_lt}
+use Rattle.std.proofs.Math.ListN.{drop_of_length-le}
+use Rattle.std.proofs.Math.Nat.{min-eq_left, min-eq_right}
+use Rattle.std.proofs.Math.Seq.{drop-append-add}
+use Rattle.std.proofs.lemmas.List.{drop-append-le, length-append, length-map, map-append, take_all, take_more}
 use Rattle.std.proofs.lemmas.List.Folds.{concat-append}
 use Rattle.std.specs.List.{concat, take-map}
 use Rattle.ws_scripts.specs.declared.transcript.Turn.{Turn}
@@ -36,3 +40,29 @@ pub bytes_of_all : (bytes_of : Turn → List ℕ) (turns : List Turn) (i : ℕ) 
     → bytes_before bytes_of turns i ≡ concat (map bytes_of turns)
 bytes_of_all bytes_of turns i all = ap (λ (l : List (List ℕ)). concat l)
     (take_all i (map bytes_of turns) (omega (arith, all, length-map turns bytes_of)))
+
+-- all but the first bytes, of two lists one after the other
+pub drop_more : (n : ℕ) (a b : List ℕ) → drop n (a ++ b) ≡ drop n a ++ drop (n - length a) b
+drop_more n a b = elim (cases_lt (length a) n) [
+  | inr early ↦
+      let none : n - length a ≡ 0 = omega (arith, early) in
+      drop-append-le n a b early ∙ ap (λ (k : ℕ). drop n a ++ drop k b) (sym none)
+  | inl late ↦
+      let k = n - length a in
+      let n_is : n ≡ length a + k = omega (arith, late) in
+      let past : length a ≤ n = omega (arith, late) in
+      ap (λ (m : ℕ). drop m (a ++ b)) n_is ∙ drop-append-add a b k
+      ∙ ap (λ (l : List ℕ). l ++ drop k b) (sym (drop_of_length-le a past))
+]
+
+-- no more are left out than there are
+pub drop_least : (n m : ℕ) (l : List ℕ) → n ≡ min m (length l) → drop n l ≡ drop m l
+drop_least n m l least = elim (cases_lt m (length l)) [
+  | inl fewer ↦
+      let at_most : m ≤ length l = omega (arith, fewer) in
+      ap (λ (k : ℕ). drop k l) (least ∙ min-eq_left at_most)
+  | inr all ↦
+      let same : n ≡ length l = least ∙ min-eq_right all in
+      let past : length l ≤ n = omega (arith, same) in
+      drop_of_length-le l past ∙ sym (drop_of_length-le l all)
+]

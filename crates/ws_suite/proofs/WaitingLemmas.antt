@@ -1,10 +1,11 @@
--- What a run waits for by the protocol: where the last pong answers the last ping, the last ping for which a pong is
--- owed is answered too, or a later one is.
+-- What a run waits for by the protocol: where a pong that was got answers the last ping, the last ping for which a pong
+-- is owed is answered too, or a later one is.
 use Rattle.std.proofs.Common.{◌≡◌, ◌∙◌, ℕ, ◌<◌, ◌≤◌, ◌↔◌, not, nat_le, Bool, true, false, ◌&&◌, ◌||◌, List, [], ◌∷◌, ◌++◌}
 use Rattle.std.proofs.Common.{length, filter, Option, None, Some, ◌⊎◌, inl, inr, ap, ap₂, sym, refl, subst, arith}
 use Rattle.std.proofs.Math.Bool.{or-true}
 use Rattle.std.proofs.lemmas.Bool.Decides.{nat_tests}
 use Rattle.std.proofs.lemmas.Slice.Eq.{bytes_eq-Decides}
+use Rattle.std.proofs.lemmas.List.Folds.{list_any-append}
 use Rattle.std.specs.List.{last_or, list_any}
 use Rattle.ws_wire.specs.declared.role.Role.{Role}
 use Rattle.ws_scripts.specs.declared.expectation.Expectation.{Expectation}
@@ -16,14 +17,14 @@ use Rattle.ws_suite.specs.declared.evidence.Reply.{Reply}
 use Rattle.ws_suite.specs.declared.evidence.Evidence.{Evidence}
 use Rattle.ws_suite.specs.declared.evidence.keeping.ReplyTally.{ReplyTally}
 use Rattle.ws_suite.specs.Evidence.{IsEvidenceOf}
-use Rattle.ws_suite.specs.Growing.{GrowingValue, HasGrown, IsTallyOf}
+use Rattle.ws_suite.specs.Growing.{GrowingValue, HasGrown, IsAmong, IsAnsweredIn, IsAnsweredPong, IsTallyOf}
 use Rattle.ws_suite.specs.InnerCollecting.{EventLaws}
-use Rattle.ws_suite.specs.Matching.{HasLastPong, due_pongs, got_pongs, has_payload_of, payload_of}
+use Rattle.ws_suite.specs.Matching.{due_pongs, got_pongs, has_payload_of, payload_of}
 use Rattle.ws_suite.specs.Protocol.{IsLastAnswered, OwesPongs, is_answered, is_owed, later_pongs, owed_pongs}
 use Rattle.ws_suite.specs.Waiting.{AnswersTallyBy, AreTurnsAnsweredBy, AreTurnsSeenAnswered, MeetsExpectation}
 use Rattle.ws_suite.specs.Waiting.{IsSeenAnswered}
 use Rattle.ws_suite.proofs.EvidenceLemmas.{last_joined}
-use Rattle.ws_suite.proofs.GrowingLemmas.{pong_there, tallies_tell, there_pong}
+use Rattle.ws_suite.proofs.GrowingLemmas.{among_last, among_so, tallies_tell, there_pong}
 use Rattle.ws_suite.proofs.OneVerdict.{one_evidence}
 use Rattle.ws_suite.proofs.OwedLemmas.{all_but_last, any_or_last, is_later, last_passes, none_there, nothing_or_more}
 use Rattle.ws_suite.proofs.OwedLemmas.{passed_more, some_passes, some_same}
@@ -58,40 +59,62 @@ last_passed {X} test xs x is passes = pick (nothing_or_more xs)
 
 -- ---- the last ping for which a pong is owed
 
--- the last ping is answered
-last_answered : (x : Evidence) (h : HasLastPong x) → is_answered x h.due ≡ true
-last_answered x h =
-    let payload : has_payload_of h.got h.due ≡ true =
-    (bytes_eq-Decides (payload_of h.due.what) (payload_of h.got.what)).1
-    (ap (λ (r : Reply). payload_of r) (sym h.same)) in
-    let turn : nat_le h.due.turn h.got.turn ≡ true = no_earlier h.due.turn h.got.turn h.turn in
-    any_by_last (λ got. has_payload_of got h.due && nat_le h.due.turn got.turn) (got_pongs x) h.got h.is_got
-    (ap₂ (λ (a b : Bool). a && b) payload turn)
+-- a ping whose pong is among those that were got is answered
+among_answered : (x : Evidence) (due : InTurn Reply) → IsAmong (Some due) (got_pongs x) → is_answered x due ≡ true
+among_answered x due h =
+    ap (λ (l : List (InTurn Reply)). list_any test l) h.is_got ∙ (list_any-append test h.before (h.got ∷ h.after)
+    ∙ (ap (λ (b : Bool). list_any test h.before || (b || list_any test h.after)) passes
+    ∙ or-true (list_any test h.before)))
   where
+    test : InTurn Reply → Bool
+    test got = has_payload_of got due && nat_le due.turn got.turn
+
     no_earlier : (n m : ℕ) → n ≤ m → nat_le n m ≡ true
     no_earlier n m less = grind (arith, nat_tests)
 
--- so is the last one for which a pong is owed, or a later one
-owed_answered : (x : Evidence) → HasLastPong x → OwesPongs x → IsLastAnswered x
-owed_answered x h owes = pick (is_owed x h.due) refl
-  where
-    answered : is_answered x h.due ≡ true
-    answered = last_answered x h
+    payload : has_payload_of h.got due ≡ true
+    payload = (bytes_eq-Decides (payload_of due.what) (payload_of h.got.what)).1
+        (ap (λ (r : Reply). payload_of r) (sym h.same))
 
+    passes : test h.got ≡ true
+    passes = ap₂ (λ (a b : Bool). a && b) payload (no_earlier due.turn h.got.turn h.turn)
+
+-- the last pong of those that were got is among them
+last_among : (o : Option (InTurn Reply)) (gots : List (InTurn Reply)) → IsAnsweredPong o (last_or None gots)
+    → IsAmong o gots
+last_among None gots h = tt
+last_among (Some due) gots h = pick (nothing_or_more gots)
+  where
+    Last : List (InTurn Reply) → Type 0
+    Last l = IsAnsweredPong (Some due) (last_or None l)
+
+    pick : (gots ≡ []) ⊎ ((ys : List (InTurn Reply)) × (y : InTurn Reply) × (gots ≡ ys ++ y ∷ []))
+        → IsAnsweredIn due gots
+    pick (inl e) = absurd (subst Last e h)
+    pick (inr (ys, y, e)) =
+        subst (λ (l : List (InTurn Reply)). IsAnsweredIn due l) (sym e)
+        (among_last (Some due) ys y (subst (λ (o : Option (InTurn Reply)). IsAnsweredPong (Some due) o)
+        (last_joined None ys (y ∷ [])) (subst Last e h)))
+
+-- so is the last one for which a pong is owed, or a later one
+owed_answered : (x : Evidence) (due : InTurn Reply) → last_or None (due_pongs x) ≡ Some due
+    → is_answered x due ≡ true → OwesPongs x → IsLastAnswered x
+owed_answered x due is_due answered owes = pick (is_owed x due) refl
+  where
     owed : (o : Option (InTurn Reply)) → last_or None (owed_pongs x) ≡ o
         → list_any (is_answered x) (later_pongs x) ≡ true → IsLastAnswered x
     owed None e later = absurd (none_there (owed_pongs x) e owes)
     owed (Some last) e later = record { last = last; is_last = e; answered = inr later }
 
-    pick : (b : Bool) → is_owed x h.due ≡ b → IsLastAnswered x
+    pick : (b : Bool) → is_owed x due ≡ b → IsLastAnswered x
     pick true e = record {
-      last = h.due;
-      is_last = last_passed (is_owed x) (due_pongs x) h.due h.is_due e;
+      last = due;
+      is_last = last_passed (is_owed x) (due_pongs x) due is_due e;
       answered = inl answered;
     }
     pick false e = owed (last_or None (owed_pongs x)) refl
-        (any_by_last (is_answered x) (later_pongs x) h.due
-        (last_passed (is_later x) (due_pongs x) h.due h.is_due (ap not e)) answered)
+        (any_by_last (is_answered x) (later_pongs x) due
+        (last_passed (is_later x) (due_pongs x) due is_due (ap not e)) answered)
 
 -- where a pong is owed, some ping was sent
 some_due : (x : Evidence) → OwesPongs x → 0 < length (due_pongs x)
@@ -101,54 +124,71 @@ some_due x owes = some (due_pongs x) owes
     some [] owes = owes
     some (first ∷ l) owes = omega arith
 
--- what a run sees has come
-pub seen_answered : (expected : Expectation) (x : Evidence) → IsSeenAnswered expected x → MeetsExpectation expected x
-seen_answered Echo x h = h
-seen_answered Protocol x h = λ owes. owed_answered x (h (some_due x owes)) owes
+-- what is among the pongs that were got has come
+among_meets : (x : Evidence) (o : Option (InTurn Reply)) → last_or None (due_pongs x) ≡ o → IsAmong o (got_pongs x)
+    → MeetsExpectation Protocol x
+among_meets x None e h = λ owes. absurd (none_there (due_pongs x) e (some_due x owes))
+among_meets x (Some due) e h = owed_answered x due e (among_answered x due h)
 
 -- ---- what is kept tells it
 
+-- what is kept tells that it has come
 tallies_tell_by : (expected : Expectation) (x : Evidence) (due got : ReplyTally) → IsTallyOf due x.due.replies
-    → IsTallyOf got x.got.replies → AnswersTallyBy expected due got ↔ IsSeenAnswered expected x
-tallies_tell_by Echo x due got d g = tallies_tell x due got d g
-tallies_tell_by Protocol x due got d g = (
-  λ h. λ some. pong_there (due_pongs x) (got_pongs x) due.last_pong got.last_pong (sym d.last_pong) (sym g.last_pong)
-      h some,
-  λ h. there_pong (due_pongs x) (got_pongs x) due.last_pong got.last_pong (sym d.last_pong) (sym g.last_pong) h,
-)
+    → IsTallyOf got x.got.replies → AnswersTallyBy expected due got → MeetsExpectation expected x
+tallies_tell_by Echo x due got d g h = (tallies_tell x due got d g).0 h
+tallies_tell_by Protocol x due got d g h = among_meets x due.last_pong (sym d.last_pong) (pick h)
+  where
+    pick : IsAnsweredPong due.last_pong got.last_pong ⊎ ((got.has_wanted ≡ true) × IsAnsweredPong due.last_pong got.wanted)
+        → IsAmong due.last_pong (got_pongs x)
+    pick (inl last) = last_among due.last_pong (got_pongs x)
+        (subst (λ (o : Option (InTurn Reply)). IsAnsweredPong due.last_pong o) g.last_pong last)
+    pick (inr (there, wanted)) = among_so due.last_pong got.wanted (got_pongs x) wanted (g.wanted there)
 
-pub tells_seen : EventLaws → (expected : Expectation) (tested : Role) (turns : List Turn)
-    (x v : GrowingValue ReplyTally) (r : Bool) → x ≡ v
-    → ((r ≡ true) ↔ AnswersTallyBy expected x.due.replies x.got.replies) → HasGrown IsTallyOf tested turns v
-    → ((r ≡ true) ↔ AreTurnsSeenAnswered expected tested turns)
-tells_seen laws expected tested turns x v r same tells grown =
-    let h = subst (λ (y : GrowingValue ReplyTally). HasGrown IsTallyOf tested turns y) (sym same) grown in
-    let shown : Evidence = record {
-      due = h.due.shown;
-      got = h.got.shown;
-      turns = length turns;
-      ended = Tester;
-      answers_doom = false;
-    } in
-    let is : IsEvidenceOf tested (record { turns = turns; ended = Tester }) shown = record {
-      due = h.due.is_shown;
-      got = h.got.is_shown;
-      turns = refl;
-      ended = refl;
-      uncounted = refl;
-    } in
-    let both = tallies_tell_by expected shown x.due.replies x.got.replies h.due.replies h.got.replies in (
-      λ e. record { evidence = shown; is_evidence = is; answered = both.0 (tells.0 e) },
-      λ a. tells.1 (both.1 (subst (λ (v : Evidence). IsSeenAnswered expected v)
-          (one_evidence laws tested (record { turns = turns; ended = Tester }) a.evidence shown a.is_evidence is)
-          a.answered)),
-    )
+-- and it tells what a run sees
+tallies_see : (expected : Expectation) (x : Evidence) (due got : ReplyTally) → IsTallyOf due x.due.replies
+    → IsTallyOf got x.got.replies → IsSeenAnswered expected x → AnswersTallyBy expected due got
+tallies_see Echo x due got d g h = (tallies_tell x due got d g).1 h
+tallies_see Protocol x due got d g h =
+    inl (there_pong (due_pongs x) (got_pongs x) due.last_pong got.last_pong (sym d.last_pong) (sym g.last_pong) h)
 
--- what a run sees in these turns has come
-pub turns_answered : (expected : Expectation) (tested : Role) (turns : List Turn)
-    → AreTurnsSeenAnswered expected tested turns → AreTurnsAnsweredBy expected tested turns
-turns_answered expected tested turns h = record {
-  evidence = h.evidence;
-  is_evidence = h.is_evidence;
-  answered = seen_answered expected h.evidence h.answered;
-}
+module _ (laws : EventLaws) (expected : Expectation) (tested : Role) (turns : List Turn)
+    (x v : GrowingValue ReplyTally) (r : Bool) (same : x ≡ v)
+    (tells : (r ≡ true) ↔ AnswersTallyBy expected x.due.replies x.got.replies)
+    (grown : HasGrown IsTallyOf tested turns v) where
+  h : HasGrown IsTallyOf tested turns x
+  h = subst (λ (y : GrowingValue ReplyTally). HasGrown IsTallyOf tested turns y) (sym same) grown
+
+  shown : Evidence
+  shown = record {
+    due = h.due.shown;
+    got = h.got.shown;
+    turns = length turns;
+    ended = Tester;
+    answers_doom = false;
+  }
+
+  is : IsEvidenceOf tested (record { turns = turns; ended = Tester }) shown
+  unfolding shown h
+  is = record {
+    due = h.due.is_shown;
+    got = h.got.is_shown;
+    turns = refl;
+    ended = refl;
+    uncounted = refl;
+  }
+
+  -- what a run sees in these turns is told
+  pub tells_seen : AreTurnsSeenAnswered expected tested turns → r ≡ true
+  unfolding shown h
+  tells_seen a = tells.1 (tallies_see expected shown x.due.replies x.got.replies h.due.replies h.got.replies
+      (subst (λ (v : Evidence). IsSeenAnswered expected v)
+      (one_evidence laws tested (record { turns = turns; ended = Tester }) a.evidence shown a.is_evidence is) a.answered))
+
+  -- what is told has come
+  pub tells_come : r ≡ true → AreTurnsAnsweredBy expected tested turns
+  unfolding shown h
+  tells_come e = record {
+    evidence = shown;
+    is_evidence = is;
+    answered = tallies_tell_by expected shown x.due.replies x.got.replies h.due.replies h.got.replies (tells.0 e);
+  }

@@ -1,5 +1,5 @@
 -- Evidence that grows with a connection: what went over it so far, turn by turn, and in a turn piece by piece.
-use Rattle.std.specs.Prelude.{◌≡◌, ℕ, ◌<◌, ◌≤◌, Bool, true, false, ⊤, List, [], ◌++◌, length, Option, Some, None}
+use Rattle.std.specs.Prelude.{◌≡◌, ℕ, ◌<◌, ◌≤◌, Bool, true, false, ⊤, List, [], ◌∷◌, ◌++◌, length, Option, Some, None}
 use Rattle.std.specs.List.{concat, last_or}
 use Rattle.ws_wire.specs.declared.role.Role.{Role}
 use Rattle.ws_wire.specs.Frame.{Frame}
@@ -58,10 +58,26 @@ pub record EndInsideFrame (tested : Role) (turns : List Turn) : Type 0 where
 abbrev pub AreAll : AllReplies → List (InTurn Reply) → Type 0
 AreAll kept replies = kept.list ≡ replies
 
--- how many messages there are among the replies, and the last pong are kept
+-- one of these pongs that were got has the payload of the due one, and stands in no earlier turn
+pub record IsAnsweredIn (due : InTurn Reply) (gots : List (InTurn Reply)) : Type 0 where
+  pub before : List (InTurn Reply)
+  pub got : InTurn Reply
+  pub after : List (InTurn Reply)
+  pub is_got : gots ≡ before ++ got ∷ after
+  pub same : got.what ≡ due.what
+  pub turn : due.turn ≤ got.turn
+
+-- so it is, if there is a due one
+abbrev pub IsAmong : Option (InTurn Reply) → List (InTurn Reply) → Type 0
+IsAmong None gots = ⊤
+IsAmong (Some due) gots = IsAnsweredIn due gots
+
+-- How many messages there are among the replies, and the last pong are kept. Where it is told that the pong that is
+-- wanted is there, it is among them; those that came before it was wanted needn't be looked at.
 pub record IsTallyOf (tally : ReplyTally) (replies : List (InTurn Reply)) : Type 0 where
   pub messages : tally.messages ≡ length (message_replies replies)
   pub last_pong : tally.last_pong ≡ last_or None (pong_replies replies)
+  pub wanted : tally.has_wanted ≡ true → IsAmong tally.wanted (pong_replies replies)
 
 -- the last due pong, if there is one, is the last that was got, and stands in no later turn
 abbrev pub IsAnsweredPong : Option (InTurn Reply) → Option (InTurn Reply) → Type 0

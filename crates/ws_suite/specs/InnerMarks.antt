@@ -1,23 +1,26 @@
 -- Inside the crate: how the marks of a connection are found, and what its pings come to. A reader may skip this file.
 use Rattle.std.specs.Prelude.{◌≡◌, ◌≢◌, ℕ, ◌+◌, ◌<◌, ◌≤◌, ◌⊎◌, ◌↔◌, ◌&&◌, nat_le, Bool, true, false, List, []}
-use Rattle.std.specs.Prelude.{◌++◌, length, drop, flat_map, max, not, Option, Some, None}
+use Rattle.std.specs.Prelude.{◌++◌, length, drop, take, flat_map, map, max, not, Option, Some, None}
 use Rattle.std.specs.Borrow.{Bor}
 use Rattle.std.specs.BTreeMap.{BTreeMap, get_by}
 use Rattle.std.specs.Cmp.Lexicographic.{slice_cmp}
-use Rattle.std.specs.List.{concat, last_or, list_any}
+use Rattle.std.specs.List.{AllByRecursion, concat, last_or, list_any}
 use Rattle.std.specs.Ordering.{nat_cmp}
 use Rattle.ws_wire.specs.declared.role.Role.{Role}
-use Rattle.ws_wire.specs.Frame.{IsWireFrame, WireFrame, stream_bytes, wire_bytes}
+use Rattle.ws_wire.specs.Frame.{Frame, IsWireFrame, KeyedFrame, WireFrame, stream_bytes, wire_bytes}
 use Rattle.ws_wire.specs.Header.{HeaderFields, is_longer_than_needed, is_masked}
 use Rattle.ws_wire.specs.Masking.{masked_payload}
+use Rattle.ws_wire.specs.Stream.{SplitsInto}
 use Rattle.ws_text.specs.Close.{CloseValue, IsClosePayload}
 use Rattle.ws_session.specs.declared.event.Event.{Event}
 use Rattle.ws_session.specs.declared.payload_room.EventKind.{EventKind}
 use Rattle.ws_session.specs.declared.payload_room.EventKind.TheVariants as lent
 use Rattle.ws_session.specs.declared.reason.Reason.{Reason}
 use Rattle.ws_session.specs.Events.{HasEvents}
+use Rattle.ws_session.specs.Exchange.{HasExchanged, SessionValue, is_over}
 use Rattle.ws_session.specs.Faults.{IsFirstFault, expects_key}
 use Rattle.ws_session.specs.Sends.{most_limits}
+use Rattle.ws_scripts.specs.declared.transcript.Transcript.{Transcript}
 use Rattle.ws_suite.specs.declared.evidence.InTurn.{InTurn}
 use Rattle.ws_suite.specs.declared.evidence.Reply.{Reply}
 use Rattle.ws_suite.specs.declared.evidence.Ending.{Ending}
@@ -25,13 +28,19 @@ use Rattle.ws_suite.specs.declared.evidence.Ending.TheVariants.{Closed}
 use Rattle.ws_suite.specs.declared.evidence.Evidence.{Evidence}
 use Rattle.ws_suite.specs.declared.evidence.marks.Marks.{Marks}
 use Rattle.ws_suite.specs.declared.evidence.marks.Told.{Told}
-use Rattle.ws_suite.specs.declared.evidence.marks.StreamEnd.{StreamEnd}
-use Rattle.ws_suite.specs.declared.evidence.marks.StreamEnd.TheVariants as stream
+use Rattle.ws_suite.specs.declared.evidence.collecting.Way.{Way}
+use Rattle.ws_suite.specs.declared.evidence.streams.LastFrame.{LastFrame}
+use Rattle.ws_suite.specs.declared.evidence.streams.LastFrame.TheVariants as frame
+use Rattle.ws_suite.specs.declared.evidence.streams.Seen.{Seen}
+use Rattle.ws_suite.specs.declared.evidence.streams.StreamEnd.{StreamEnd}
+use Rattle.ws_suite.specs.declared.evidence.streams.StreamEnd.TheVariants as stream
+use Rattle.ws_suite.specs.declared.evidence.streams.Streams.{Streams}
 use Rattle.ws_suite.specs.declared.evidence.wire_frames.WholeFrame.{WholeFrame}
 use Rattle.ws_suite.specs.declared.judging.owed.OwedPongs.{OwedPongs}
 use Rattle.ws_suite.specs.declared.verdict.LooseWhy.{LooseWhy}
 use Rattle.ws_suite.specs.declared.verdict.LooseWhy.TheVariants as loose
-use Rattle.ws_suite.specs.Evidence.{AreEventsByTurn, HoldsByte, by_turn, ending_in}
+use Rattle.ws_suite.specs.Evidence.{AreEventsByTurn, HoldsByte, by_turn, ending_in, got_turns, other_role, sent_turns}
+use Rattle.ws_suite.specs.InnerCollecting.{way_bytes}
 use Rattle.ws_suite.specs.Marks.{HoldsUndefinedCode, StandBehind, leaves_open}
 use Rattle.ws_suite.specs.Matching.{has_payload_of, payload_of}
 use Rattle.ws_suite.specs.Protocol.{HasOwnClose, HasOwnFault, IsLastAnswered, IsLooseByProtocol, OwesPongs}
@@ -78,46 +87,124 @@ fault_of None = None
 fault_of (Some stream.Closed) = None
 fault_of (Some (stream.Failed reason)) = Some reason
 
--- the frame of the last event, and the bytes behind that, begin within the bytes
-abbrev pub IsWithinBytes : Told → Type 0
-IsWithinBytes told = (told.last ≤ told.after) × (told.after ≤ length told.bytes.items)
+-- whether the last frame of a message that came leaves that open, if one did
+abbrev pub left_open : LastFrame → Option Bool
+left_open frame.Nothing = None
+left_open frame.Fragment = Some true
+left_open frame.Message = Some false
 
--- what a session of this role tells of the bytes
-pub record IsToldStream (role : Role) (told : Told) : Type 0 where
+-- the place of the first byte that is asked about
+abbrev pub first_asked_by : Option StreamEnd → ℕ → ℕ → ℕ
+first_asked_by None last after = after
+first_asked_by (Some end) last after = last
+
+abbrev pub first_asked : Seen → ℕ
+first_asked seen = first_asked_by seen.end seen.last seen.after
+
+-- what a session of this role tells of the bytes is seen
+pub record IsSeen (role : Role) (bytes : List ℕ) (seen : Seen) : Type 0 where
   pub events : List Event
-  pub are_events : HasEvents role most_limits told.bytes.items events
-  pub has_data : (told.has_data ≡ true) ↔ (flat_map leaves_open events ≢ [])
-  pub is_begun : (told.is_begun ≡ true) ↔ (last_or None (flat_map leaves_open events) ≡ Some true)
-  pub ends : EndsSo role told.bytes.items events told.end told.last
-  pub within : IsWithinBytes told
-  pub behind : StandBehind role told.bytes.items events (drop told.after told.bytes.items)
+  pub are_events : HasEvents role most_limits bytes events
+  pub left : left_open seen.frame ≡ last_or None (flat_map leaves_open events)
+  pub ends : EndsSo role bytes events seen.end seen.last
+  pub order : seen.last ≤ seen.after
+  pub within : seen.after ≤ length bytes
+  pub behind : StandBehind role bytes events (drop seen.after bytes)
 
--- what one event more changes: whether a message came, or a part of one
-abbrev pub data_after : Bool → EventKind → Bool
-data_after before lent.Part = true
-data_after before (lent.Message kind) = true
-data_after before lent.Ping = before
-data_after before lent.Pong = before
-data_after before (lent.Close code) = before
-data_after before (lent.Failed reason) = before
+-- so it is of both directions
+pub record AreStreamsOf (tested : Role) (transcript : Transcript) (streams : Streams) : Type 0 where
+  pub sent : IsSeen tested (concat (sent_turns transcript.turns)) streams.sent
+  pub got : IsSeen (other_role tested) (concat (got_turns transcript.turns)) streams.got
 
--- whether a message has begun and isn't whole
-abbrev pub begun_after : Bool → EventKind → Bool
-begun_after before lent.Part = true
-begun_after before (lent.Message kind) = false
-begun_after before lent.Ping = before
-begun_after before lent.Pong = before
-begun_after before (lent.Close code) = before
-begun_after before (lent.Failed reason) = before
+-- or of what was sent and what goes this way
+pub record AreStreamsBy (way : Way) (tested : Role) (transcript : Transcript) (streams : Streams) : Type 0 where
+  pub sent : IsSeen tested (concat (sent_turns transcript.turns)) streams.sent
+  pub got : IsSeen (other_role tested) (concat (map (way_bytes way) transcript.turns)) streams.got
 
--- what ends the stream
-abbrev pub end_after : Option StreamEnd → EventKind → Option StreamEnd
-end_after before lent.Part = before
-end_after before (lent.Message kind) = before
-end_after before lent.Ping = before
-end_after before lent.Pong = before
-end_after before (lent.Close code) = Some stream.Closed
-end_after before (lent.Failed reason) = Some (stream.Failed reason)
+-- this was seen of the bytes, and those that are asked about are there
+abbrev pub IsTold : Seen → List ℕ → Told → Type 0
+IsTold seen bytes told = (told.seen ≡ seen) × (told.bytes.items ≡ drop (first_asked seen) bytes)
+
+pub record IsToldStream (role : Role) (bytes : List ℕ) (told : Told) : Type 0 where
+  pub is_seen : IsSeen role bytes told.seen
+  pub asked : told.bytes.items ≡ drop (first_asked told.seen) bytes
+
+-- the bytes behind the last event are among them
+abbrev pub HasAllAsked : Told → Type 0
+HasAllAsked told = (first_asked told.seen ≤ told.seen.after)
+    × (told.seen.after ≤ first_asked told.seen + length told.bytes.items)
+
+-- A session of this role has taken the bytes, and what it told is seen of them. While they go on those up to the last
+-- event are whole frames; from their end on the session is over.
+pub record HasSeenBytes (role : Role) (session : SessionValue) (bytes : List ℕ) (seen : Seen) : Type 0 where
+  pub sent : List Frame
+  pub events : List Event
+  pub exchanged : HasExchanged session sent bytes false
+  pub same_role : session.role ≡ role
+  pub limits : session.limits ≡ most_limits
+  pub place : seen.place ≡ length bytes
+  pub left : left_open seen.frame ≡ last_or None (flat_map leaves_open events)
+  pub ends : EndsSo role (take seen.after bytes) events seen.end seen.last
+  pub order : seen.last ≤ seen.after
+  pub within : seen.after ≤ length bytes
+  pub quiet : (n : ℕ) → seen.after ≤ n → HasEvents role most_limits (take n bytes) events
+  pub fewest : (n : ℕ) → n < seen.after → ¬ (HasEvents role most_limits (take n bytes) events)
+  pub whole : seen.end ≡ None → (frames : List KeyedFrame) × SplitsInto (take seen.after bytes) frames []
+  pub over : (seen.end ≡ None) ⊎ (is_over session.status ≡ true)
+
+-- nothing is seen of no bytes
+abbrev pub nothing_seen : Seen
+nothing_seen = record { place = 0; after = 0; last = 0; end = None; frame = frame.Nothing }
+
+-- what is seen with so many bytes more
+abbrev pub seen_more : Seen → ℕ → Seen
+seen_more seen used = record {
+  place = seen.place + used;
+  after = seen.after;
+  last = seen.last;
+  end = seen.end;
+  frame = seen.frame;
+}
+
+-- and with an event that ends with the last byte: of a message, another one, and one that ends the stream
+abbrev pub seen_frame : Seen → LastFrame → Seen
+seen_frame seen last = record {
+  place = seen.place;
+  after = seen.place;
+  last = seen.last;
+  end = seen.end;
+  frame = last;
+}
+
+abbrev pub seen_control : Seen → Seen
+seen_control seen = record {
+  place = seen.place;
+  after = seen.place;
+  last = seen.last;
+  end = seen.end;
+  frame = seen.frame;
+}
+
+abbrev pub seen_end : Seen → StreamEnd → Seen
+seen_end seen end = record {
+  place = seen.place;
+  after = seen.place;
+  last = seen.after;
+  end = Some end;
+  frame = seen.frame;
+}
+
+abbrev pub seen_with : Seen → EventKind → Seen
+seen_with seen lent.Part = seen_frame seen frame.Fragment
+seen_with seen (lent.Message kind) = seen_frame seen frame.Message
+seen_with seen lent.Ping = seen_control seen
+seen_with seen lent.Pong = seen_control seen
+seen_with seen (lent.Close code) = seen_end seen stream.Closed
+seen_with seen (lent.Failed reason) = seen_end seen (stream.Failed reason)
+
+abbrev pub seen_if_any : Seen → Option EventKind → Seen
+seen_if_any seen None = seen
+seen_if_any seen (Some event) = seen_with seen event
 
 -- ---- the evidence with a close counted
 
@@ -178,6 +265,14 @@ IsLaterLoose tested x marks why = (loose_number loose.OwnClose < loose_number wh
 pub record AreOwedFindings (x : Evidence) (found : OwedPongs) : Type 0 where
   pub lacks_last : (found.lacks_last ≡ true) ↔ (OwesPongs x × ¬ (IsLastAnswered x))
   pub skips_one : (found.skips_one ≡ true) ↔ (list_any (λ due. not (is_answered x due)) (earlier_pongs x) ≡ true)
+
+-- some of these pongs answers the ping
+abbrev pub is_answered_by : List (InTurn Reply) → InTurn Reply → Bool
+is_answered_by gots due = list_any (λ got. has_payload_of got due && nat_le due.turn got.turn) gots
+
+-- each of these pings is answered by some of these pongs
+abbrev pub AreMet : List (InTurn Reply) → List (InTurn Reply) → Type 0
+AreMet dues gots = AllByRecursion (λ due. is_answered_by gots due ≡ true) dues
 
 -- which pings some of these pongs answer is known by the last turn of each payload
 abbrev pub AreLastTurns : List (InTurn Reply) → BTreeMap (Bor (List ℕ)) ℕ → Type 0

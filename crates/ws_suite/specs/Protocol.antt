@@ -99,8 +99,9 @@ is_too_big None = false
 is_too_big (Some x) = is_size x.what
 
 -- The standard doesn't order the end that takes this fault to fail the connection: what it says of forms, lengths,
--- fragments and control frames (sections 5.2, 5.4 and 5.5) binds the sender. Of the others it does (sections 5.1, 5.2,
--- 5.5.1, 7.4 and 8.1)
+-- fragments and control frames (sections 5.2, 5.4 and 5.5) binds the sender. At reserved bits, opcodes, masks and text
+-- it does (sections 5.1, 5.2 and 8.1); and behind a close frame, whatever is its payload, the connection ends in any
+-- case (section 5.5.1)
 abbrev pub is_tolerable_reason : Reason → Bool
 is_tolerable_reason ReservedBits = false
 is_tolerable_reason Opcode = false
@@ -223,9 +224,9 @@ HasOwnFault x = HasOwnClose x × BlamesFault x × (ends_with_fault x.due.ending 
 
 -- this Loose applies. Each is told by its number:
 -- 3 and 4 as with an echo, without an own close; 8, another own close; 9, neither close nor fault was sent, no close
--- was got, and the tested end ended the connection (section 7.3); 10, a fault was sent that needn't have been seen, no
--- close was got, and the tester ended it; 11, a fault was sent for which the standard doesn't order an end to fail, and
--- the tester ended it; 12, a close isn't answered; 13, of a server, right control frames are behind its close; 14,
+-- was got, and the tested end ended the connection (section 7.1.1); 10, a fault was sent that needn't have been seen,
+-- no close was got, and the tester ended it; 11, a fault was sent for which the standard doesn't order an end to fail,
+-- and the tester ended it; 12, a close isn't answered; 13, of a server, right control frames are behind its close; 14,
 -- something is too big.
 abbrev pub IsLooseByProtocol : Role → Evidence → Marks → LooseWhy → Type 0
 IsLooseByProtocol tested x marks loose.PongsSkipped = SkipsOwedPong x

@@ -1,5 +1,5 @@
 -- What a run waits for before the next turn is sent, by what is expected of the tested end.
-use Rattle.std.specs.Prelude.{◌<◌, List, length}
+use Rattle.std.specs.Prelude.{◌≡◌, ◌<◌, ◌⊎◌, true, List, length}
 use Rattle.ws_wire.specs.declared.role.Role.{Role}
 use Rattle.ws_scripts.specs.declared.expectation.Expectation.{Expectation}
 use Rattle.ws_scripts.specs.declared.expectation.Expectation.TheVariants.{Echo, Protocol}
@@ -28,8 +28,10 @@ pub record AreTurnsAnsweredBy (expected : Expectation) (tested : Role) (turns : 
 
 -- ---- what a run looks at
 
--- By the protocol a run looks at the last pong that was got: it answers the last ping, if a ping was sent. Where the
--- tested end sent another pong behind that, the run doesn't see that the ping is answered.
+-- What a run sees whatever came between: of an echo that nothing is missing; by the protocol that the last pong that
+-- was got answers the last ping, if a ping was sent. By the protocol it also sees a pong with the payload of that ping
+-- behind which others came, where it came since that ping was sent. One of the same turn that came before the ping, and
+-- behind which others came, it doesn't see: that would take a room for each pong of a turn.
 abbrev pub IsSeenAnswered : Expectation → Evidence → Type 0
 IsSeenAnswered Echo x = IsAnswered x
 IsSeenAnswered Protocol x = 0 < length (due_pongs x) → HasLastPong x
@@ -44,3 +46,4 @@ pub record AreTurnsSeenAnswered (expected : Expectation) (tested : Role) (turns 
 abbrev pub AnswersTallyBy : Expectation → ReplyTally → ReplyTally → Type 0
 AnswersTallyBy Echo due got = AnswersTally due got
 AnswersTallyBy Protocol due got = IsAnsweredPong due.last_pong got.last_pong
+    ⊎ ((got.has_wanted ≡ true) × IsAnsweredPong due.last_pong got.wanted)

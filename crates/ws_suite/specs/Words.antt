@@ -90,11 +90,11 @@ loose_rule tested loose.BrokenEnd =
     ++ codes "write failed"
 loose_rule tested loose.OwnFault =
     codes "A close frame with the code 1002 or 1007 says that the other end broke a rule (RFC 6455 "
-    ++ codes "section 7.4.1), and it broke none"
+    ++ codes "section 7.4.1), and nothing that breaks one was sent whole before it"
 loose_rule tested loose.OwnClose = codes "An end may send a close frame at any time (RFC 6455 section 7.1.2)"
 loose_rule tested loose.OwnEnd =
     codes "An end that wants to end the connection sends a close frame first (RFC 6455 section 7.1.2), "
-    ++ codes "though a server may do without (section 7.3)"
+    ++ codes "though it may end it by any means when necessary (section 7.1.1)"
 loose_rule tested loose.LateFault =
     codes "An end fails the connection once it has read what breaks a rule (RFC 6455 section 7.1.7): the "
     ++ codes "frame, or the message with text that is none, was not sent whole"
@@ -113,11 +113,11 @@ loose_rule tested loose.TooBig =
 -- the rule of the standard that an end broke which needn't echo; it has no rule that an echo alone keeps
 abbrev pub protocol_rule : Role → FailWhy → List ℕ
 protocol_rule Server fail.NotFrames =
-    codes "A server sends whole frames by the rules of RFC 6455 section 5, unmasked (section 5.1), with "
-    ++ codes "text in UTF-8 (section 8.1), and no data frame behind its close frame (section 5.5.1)"
+    codes "A server sends whole unmasked frames by RFC 6455 section 5, with text in UTF-8 (section 8.1), "
+    ++ codes "close codes that may be sent (section 7.4) and no data frame behind its close (section 5.5.1)"
 protocol_rule Client fail.NotFrames =
-    codes "A client sends whole frames by the rules of RFC 6455 section 5, masked (section 5.1), with "
-    ++ codes "text in UTF-8 (section 8.1)"
+    codes "A client sends whole masked frames by RFC 6455 section 5, with text in UTF-8 (section 8.1) "
+    ++ codes "and close codes that may be sent (section 7.4)"
 protocol_rule tested fail.Early = fail_rule tested fail.Early
 protocol_rule tested fail.Messages = fail_rule tested fail.Messages
 protocol_rule tested fail.Pongs =
@@ -137,8 +137,20 @@ abbrev pub fail_rule_by : Expectation → Role → FailWhy → List ℕ
 fail_rule_by Echo tested why = fail_rule tested why
 fail_rule_by Protocol tested why = protocol_rule tested why
 
+-- the rule that allows what an end did which needn't echo: it may also leave out the pong for the last ping
+abbrev pub protocol_loose_rule : Role → LooseWhy → List ℕ
+protocol_loose_rule tested loose.PongsSkipped =
+    codes "A ping needs no answer where a later one has one (RFC 6455 section 5.5.3), or where the end may "
+    ++ codes "not have read it or was sending a data frame"
+protocol_loose_rule tested why = loose_rule tested why
+
+-- the rule that asks or allows otherwise, of an end of which this is expected
+abbrev pub loose_rule_by : Expectation → Role → LooseWhy → List ℕ
+loose_rule_by Echo tested why = loose_rule tested why
+loose_rule_by Protocol tested why = protocol_loose_rule tested why
+
 -- no rule is behind a Pass
 abbrev pub rule_words : Role → Expectation → Verdict → Option (List ℕ)
 rule_words tested expected Pass = None
-rule_words tested expected (Loose why) = Some (loose_rule tested why)
+rule_words tested expected (Loose why) = Some (loose_rule_by expected tested why)
 rule_words tested expected (Fail why) = Some (fail_rule_by expected tested why)

@@ -11,6 +11,7 @@ mod growing;
 mod keeping;
 mod kept;
 mod marks;
+mod streams;
 mod telling;
 mod wire_frames;
 

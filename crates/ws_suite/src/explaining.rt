@@ -42,6 +42,7 @@ pub fn explain(
         evidence,
         dooms,
         beyond,
+        streams: _,
     } = told;
     let counted = with_doom(tested, transcript, evidence, dooms);
     let verdict = verdict_on(alloc, tested, &counted)?;

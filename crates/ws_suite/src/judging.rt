@@ -18,7 +18,7 @@ ghost use Rattle.ws_suite.specs.Evidence.{got_turns, other_role, sent_turns};
 ghost use Rattle.ws_suite.specs.Explanation.{IsBeyondClose};
 ghost use Rattle.ws_suite.specs.InnerDoom.{AreDooms};
 ghost use Rattle.ws_suite.specs.InnerJudging.{without_pings};
-ghost use Rattle.ws_suite.specs.InnerMarks.{IsEndingByTurn};
+ghost use Rattle.ws_suite.specs.InnerMarks.{AreStreamsOf, IsEndingByTurn};
 ghost use Rattle.ws_suite.specs.Marks.{AreMarksOf, HasUndefinedCodeCounted};
 ghost use Rattle.ws_suite.specs.Protocol.{IsProtocolVerdictOf, IsVerdictBy};
 ghost use Rattle.ws_suite.specs.Verdicts.{IsVerdictOf, IsVerdictOn};
@@ -96,6 +96,7 @@ pub(crate) fn marked_with_doom(
 ) -> Result<MarkedEvidence, NoMemory>
     requires ending { IsEndingByTurn (other_role tested) (got_turns transcript.now.turns) shown.evidence.got.ending }
     requires dooms { AreDooms tested (sent_turns transcript.now.turns) shown.evidence.got.ending shown.dooms }
+    requires streams { AreStreamsOf tested transcript.now shown.streams }
     ensures { IfOk result (λ marked. (closed : Evidence)
         × HasUndefinedCodeCounted tested transcript.now shown.evidence closed
         × HasDoomCounted tested transcript.now closed marked.evidence
@@ -106,8 +107,9 @@ pub(crate) fn marked_with_doom(
         evidence,
         dooms,
         beyond: _,
+        streams,
     } = shown;
-    let closed = marked(alloc, tested, transcript, evidence)?;
+    let closed = marked(alloc, tested, transcript, evidence, streams)?;
     let MarkedEvidence {
         evidence,
         marks,

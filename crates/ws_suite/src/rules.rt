@@ -2,7 +2,7 @@
 
 ghost use Rattle.std.specs.Prelude.{◌≡◌, option_map};
 ghost use Rattle.ws_scripts.specs.declared.expectation.Expectation.TheVariants.{Echo};
-ghost use Rattle.ws_suite.specs.Words.{fail_rule, loose_rule, protocol_rule, rule_words};
+ghost use Rattle.ws_suite.specs.Words.{fail_rule, loose_rule, protocol_loose_rule, protocol_rule, rule_words};
 
 use crate::verdict::{FailWhy, LooseWhy, Verdict};
 use ws_scripts::Expectation;
@@ -17,13 +17,16 @@ pub fn rule(tested: Role, verdict: Verdict) -> Option<&'static str>
 }
 
 /// The same of an end of which this is expected. By the protocol each Fail has the sentence of the standard that orders
-/// it.
+/// it, and so has the Loose of a pong that is missing, which may be that for the last ping.
 pub fn rule_with(tested: Role, expected: Expectation, verdict: Verdict) -> Option<&'static str>
     ensures { option_map (λ words. words.now) result ≡ rule_words tested expected verdict }
 {
     match verdict {
         Verdict::Pass => None,
-        Verdict::Loose(why) => Some(loose_rule(tested, why)),
+        Verdict::Loose(why) => Some(match expected {
+            Expectation::Echo => loose_rule(tested, why),
+            Expectation::Protocol => protocol_loose_rule(tested, why),
+        }),
         Verdict::Fail(why) => Some(match expected {
             Expectation::Echo => fail_rule(tested, why),
             Expectation::Protocol => protocol_rule(tested, why),
@@ -96,11 +99,11 @@ fn loose_rule(tested: Role, why: LooseWhy) -> &'static str
              write failed",
         LooseWhy::OwnFault =>
             "A close frame with the code 1002 or 1007 says that the other end broke a rule (RFC 6455 section \
-             7.4.1), and it broke none",
+             7.4.1), and nothing that breaks one was sent whole before it",
         LooseWhy::OwnClose => "An end may send a close frame at any time (RFC 6455 section 7.1.2)",
         LooseWhy::OwnEnd =>
             "An end that wants to end the connection sends a close frame first (RFC 6455 section 7.1.2), \
-             though a server may do without (section 7.3)",
+             though it may end it by any means when necessary (section 7.1.1)",
         LooseWhy::LateFault =>
             "An end fails the connection once it has read what breaks a rule (RFC 6455 section 7.1.7): the \
              frame, or the message with text that is none, was not sent whole",
@@ -125,11 +128,11 @@ fn protocol_rule(tested: Role, why: FailWhy) -> &'static str
     match why {
         FailWhy::NotFrames => match tested {
             Role::Server =>
-                "A server sends whole frames by the rules of RFC 6455 section 5, unmasked (section 5.1), with \
-                 text in UTF-8 (section 8.1), and no data frame behind its close frame (section 5.5.1)",
+                "A server sends whole unmasked frames by RFC 6455 section 5, with text in UTF-8 (section 8.1), \
+                 close codes that may be sent (section 7.4) and no data frame behind its close (section 5.5.1)",
             Role::Client =>
-                "A client sends whole frames by the rules of RFC 6455 section 5, masked (section 5.1), with text \
-                 in UTF-8 (section 8.1)",
+                "A client sends whole masked frames by RFC 6455 section 5, with text in UTF-8 (section 8.1) and \
+                 close codes that may be sent (section 7.4)",
         },
         FailWhy::Early | FailWhy::Messages => fail_rule(tested, why),
         FailWhy::Pongs =>
@@ -145,5 +148,18 @@ fn protocol_rule(tested: Role, why: FailWhy) -> &'static str
                 "A client that has to fail the connection closes it (RFC 6455 sections 5.1, 5.2, 7.1.7 and 8.1) \
                  or sends a close frame (section 7.1.7), which also answers one that it gets (section 5.5.1)",
         },
+    }
+}
+
+/// The rule that allows what an end did which needn't echo. It is another than that of an echo only where a pong is
+/// missing.
+fn protocol_loose_rule(tested: Role, why: LooseWhy) -> &'static str
+    ensures { result.now ≡ protocol_loose_rule tested why }
+{
+    match why {
+        LooseWhy::PongsSkipped =>
+            "A ping needs no answer where a later one has one (RFC 6455 section 5.5.3), or where the end may \
+             not have read it or was sending a data frame",
+        _ => loose_rule(tested, why),
     }
 }

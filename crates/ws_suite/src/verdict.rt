@@ -38,7 +38,7 @@ pub enum FailWhy {
 /// What was otherwise: of several, the one with the lowest number.
 #[derive(Clone, Copy, Debug, PartialEq, Eq)]
 pub enum LooseWhy {
-    /// Not every ping was answered, but the last one was.
+    /// Not every ping was answered, but the last one was; by the protocol the last one, too, may not have been.
     PongsSkipped = 1,
     /// Messages and pongs came in another order than what they answer.
     PongElsewhere = 2,
@@ -50,7 +50,7 @@ pub enum LooseWhy {
     EchoShort = 5,
     /// The connection broke.
     BrokenEnd = 6,
-    /// The tested end closed by itself and blames a fault, and none was sent.
+    /// The tested end closed by itself and blames a fault, and none was sent whole.
     OwnFault = 7,
     /// It closed by itself.
     OwnClose = 8,

@@ -7,7 +7,9 @@ ghost use Rattle.ws_session.specs.Exchange.{is_over};
 ghost use Rattle.ws_session.specs.Lent.{event_if_any, event_in};
 ghost use Rattle.ws_suite.specs.Evidence.{ending_in};
 ghost use Rattle.ws_suite.specs.InnerCollecting.{AreCollected, EventLaws, HasTakenWay, found_by, reply_if_any};
+ghost use Rattle.ws_suite.specs.InnerMarks.{HasSeenBytes, seen_if_any, seen_with};
 
+use crate::evidence::streams::{LastFrame, Seen, StreamEnd};
 use crate::evidence::{Ending, InTurn, KeepsReplies, Kept, ReplyKind};
 use crate::lemmas::session_laws;
 use std::alloc::Global;
@@ -34,11 +36,12 @@ pub(super) struct Collected<K> {
     pub has_rest: bool,
 }
 
-/// A direction: the session of the end that takes it, and what is collected.
+/// A direction: the session of the end that takes it, what is collected, and what is seen of its bytes.
 #[derive(Drop)]
 pub(super) struct Taken<K> {
     pub session: Session,
     pub collected: Collected<K>,
+    pub seen: Seen,
 }
 
 /// The rooms for what sessions tell and put, one after the other: what one frame asked for serves the next.
@@ -60,7 +63,8 @@ impl Rooms {
 
 /// A direction of which an end with this role has taken nothing.
 pub(super) fn nothing_taken<K: KeepsReplies>(alloc: Global, way: Way, role: Role) -> Taken<K>
-    ensures { HasTakenWay K.keeps way role [] result.session result.collected }
+    ensures taken { HasTakenWay K.keeps way role [] result.session result.collected }
+    ensures seen { HasSeenBytes role result.session [] result.seen }
 {
     Taken {
         session: Session::new(alloc, role, Limits::largest()),
@@ -69,6 +73,7 @@ pub(super) fn nothing_taken<K: KeepsReplies>(alloc: Global, way: Way, role: Role
             ending: None,
             has_rest: false,
         },
+        seen: Seen::nothing(),
     }
 }
 
@@ -89,6 +94,8 @@ pub(super) fn take_piece<K: KeepsReplies>(
         HasTakenWay K.keeps way role (turns ++ last ∷ []) taken.old.session taken.old.collected →
         OnOk result (HasTakenWay K.keeps way role (turns ++ (last ++ piece.now) ∷ [])
         taken.new.session taken.new.collected) }
+    ensures seen { (role : Role) (bytes : List ℕ) → HasSeenBytes role taken.old.session bytes taken.old.seen →
+        OnOk result (HasSeenBytes role taken.new.session (bytes ++ piece.now) taken.new.seen) }
     ensures over { is_over taken.old.session.status ≡ true → taken.new.session ≡ taken.old.session }
 {
     session_laws();
@@ -118,18 +125,28 @@ fn take_front<K: KeepsReplies>(
         HasTakenWay K.keeps way role (turns ++ last ∷ []) taken.old.session taken.old.collected →
         IfOk result (λ used. HasTakenWay K.keeps way role (turns ++ (last ++ take used piece.now) ∷ [])
         taken.new.session taken.new.collected) }
+    ensures seen { (role : Role) (bytes : List ℕ) → HasSeenBytes role taken.old.session bytes taken.old.seen →
+        IfOk result (λ used. HasSeenBytes role taken.new.session (bytes ++ take used piece.now) taken.new.seen) }
     ensures over { is_over taken.old.session.status ≡ true → taken.new.session ≡ taken.old.session }
 {
     rooms.put.clear();
     let front = taken
         .session
         .take_into(piece, NO_KEY, &mut rooms.put, &mut rooms.told)?;
+    taken.seen.take(front.used)?;
     taken.collected.has_rest = front.event.is_none();
-    collect_found(way, number, front.event, &rooms.told, &mut taken.collected)?;
+    collect_found(
+        way,
+        number,
+        front.event,
+        &rooms.told,
+        &mut taken.collected,
+        &mut taken.seen,
+    )?;
     Ok(front.used)
 }
 
-/// Collects what an event says, if there is one. Its payload is lent.
+/// Collects what an event says, if there is one, and sees where it ends. Its payload is lent.
 #[inline]
 fn collect_found<K: KeepsReplies>(
     way: Way,
@@ -137,13 +154,58 @@ fn collect_found<K: KeepsReplies>(
     event: Option<EventKind>,
     told: &PayloadRoom,
     collected: &mut Collected<K>,
+    seen: &mut Seen,
 ) -> Result<(), NoMemory>
-    ensures { OnOk result (AreCollected K.keeps way turn (option_to_list (event_if_any event told.now))
+    ensures collected { OnOk result (AreCollected K.keeps way turn (option_to_list (event_if_any event told.now))
         collected.old collected.new) }
+    ensures seen { OnOk result (seen.new ≡ seen_if_any seen.old event) }
 {
     match event {
-        Some(event) => collect_event(way, turn, event, told, collected),
+        Some(event) => see_event(way, turn, event, told, collected, seen),
         None => Ok(()),
+    }
+}
+
+/// Collects what an event says, and sees where it ends. Its kind is asked about once: each arm collects what this kind
+/// says.
+#[inline]
+fn see_event<K: KeepsReplies>(
+    way: Way,
+    turn: usize,
+    event: EventKind,
+    told: &PayloadRoom,
+    collected: &mut Collected<K>,
+    seen: &mut Seen,
+) -> Result<(), NoMemory>
+    ensures collected { OnOk result (AreCollected K.keeps way turn (event_in event told.now ∷ [])
+        collected.old collected.new) }
+    ensures seen { OnOk result (seen.new ≡ seen_with seen.old event) }
+{
+    match event {
+        EventKind::Part => {
+            seen.note_frame(LastFrame::Fragment);
+            collect_event(way, turn, event, told, collected)
+        }
+        EventKind::Message(_) => {
+            seen.note_frame(LastFrame::Message);
+            collect_event(way, turn, event, told, collected)
+        }
+        EventKind::Ping => {
+            seen.note_control();
+            collect_event(way, turn, event, told, collected)
+        }
+        EventKind::Pong => {
+            seen.note_control();
+            collect_event(way, turn, event, told, collected)
+        }
+        EventKind::Close(_) => {
+            seen.note_end(StreamEnd::Closed);
+            collect_event(way, turn, event, told, collected)
+        }
+        EventKind::Failed(reason) => {
+            seen.note_end(StreamEnd::Failed(reason));
+            collect_event(way, turn, event, told, collected)
+        }
     }
 }
 

@@ -77,6 +77,10 @@ impl<K: KeepsReplies> GrowingEvidence<K> {
     {
         let number = self.turns.saturating_sub(1);
         take_piece(Way::Sent, number, bytes, &mut self.rooms, &mut self.sent)?;
+        self.got
+            .collected
+            .replies
+            .want(&self.sent.collected.replies);
         Ok(())
     }
 
@@ -137,13 +141,14 @@ impl GrowingEvidence<ReplyTally> {
     }
 
     /// Whether what a turn is waited for has come, by what is expected of the tested end: of an echo as `is_answered`
-    /// tells it; by the protocol, under which no message is owed, that the last pong that was got answers the last ping
-    /// that was sent, if there is one. It takes the same time whatever went over the connection. A tested end may send
-    /// pongs of its own. One that came behind the pong that is waited for hides it: the answer is `false` though the
-    /// ping is answered, and who waits goes on to its time limit.
+    /// tells it; by the protocol, under which no message is owed, that the last ping that was sent is answered, if
+    /// there is one. It takes the same time and the same memory whatever went over the connection: so of the pongs that
+    /// were got it knows the last one, and whether one of those that came since that ping was sent answers it. Pongs of
+    /// the tested end's own before and behind it change nothing. One pong isn't seen: that with the same payload that
+    /// came in the same turn before the ping, and behind which others came.
     pub fn is_answered_by(&self, expected: Expectation) -> bool
         ensures seen { (tested : Role) (turns : List Turn) → HasGrown IsTallyOf tested turns self.now →
-            IsTrue result ↔ AreTurnsSeenAnswered expected tested turns }
+            AreTurnsSeenAnswered expected tested turns → IsTrue result }
         ensures answered { (tested : Role) (turns : List Turn) → HasGrown IsTallyOf tested turns self.now →
             result ≡ true → AreTurnsAnsweredBy expected tested turns }
     {

@@ -28,6 +28,10 @@ pub trait KeepsReplies {
     fn keep(&mut self, reply: Kept<'_>) -> Result<(), NoMemory>
         ensures { OnOk result ((replies : List (InTurn Reply)) → keeps self.old replies →
             keeps self.new (replies ++ reply_in reply.entry ∷ [])) };
+
+    /// These replies are due by now: who keeps only what is asked about looks from here on for the last of their pongs.
+    fn want(&mut self, due: &Self)
+        ensures { (replies : List (InTurn Reply)) → keeps self.old replies → keeps self.new replies };
 }
 
 /// All replies.
@@ -51,14 +55,18 @@ impl KeepsReplies for AllReplies {
         self.list.push(reply)?;
         Ok(())
     }
+
+    fn want(&mut self, _due: &AllReplies) {}
 }
 
-/// How many messages there are, and the last pong: all that is asked to tell whether what is due has come. It takes the
-/// same memory however many replies there are.
+/// How many messages there are, the last pong, and whether the pong that is wanted has come since it is: all that is
+/// asked to tell whether what is due has come. It takes the same memory however many replies there are.
 #[derive(Drop)]
 pub struct ReplyTally {
     pub(crate) messages: u64,
     pub(crate) last_pong: LastPong,
+    pub(crate) wanted: LastPong,
+    pub(crate) has_wanted: bool,
 }
 
 impl KeepsReplies for ReplyTally {
@@ -70,6 +78,8 @@ impl KeepsReplies for ReplyTally {
         ReplyTally {
             messages: 0,
             last_pong: LastPong::none(),
+            wanted: LastPong::none(),
+            has_wanted: false,
         }
     }
 
@@ -82,10 +92,23 @@ impl KeepsReplies for ReplyTally {
                 };
                 self.messages = messages;
             }
-            ReplyKind::Pong => self.last_pong.keep(reply.turn, reply.payload)?,
+            ReplyKind::Pong => {
+                self.last_pong.keep(reply.turn, reply.payload)?;
+                if self.last_pong.answers(&self.wanted) {
+                    self.has_wanted = true;
+                }
+            }
             ReplyKind::Ping => {}
         }
         Ok(())
+    }
+
+    fn want(&mut self, due: &ReplyTally) {
+        // A pong with the same payload of no later turn is wanted already.
+        if !self.wanted.answers(&due.last_pong) {
+            self.wanted = due.last_pong.copied();
+            self.has_wanted = false;
+        }
     }
 }
 
@@ -97,13 +120,17 @@ impl ReplyTally {
         self.messages >= due.messages && self.last_pong.answers(&due.last_pong)
     }
 
-    /// Whether these replies are what is waited for: what an echo owes, or by the protocol the last due pong alone.
+    /// Whether these replies are what is waited for: what an echo owes, or by the protocol the last due pong alone, be
+    /// it the last that is there or one that came since it is wanted.
     pub(crate) fn answers_by(&self, expected: Expectation, due: &ReplyTally) -> bool
         ensures { IsTrue result ↔ AnswersTallyBy expected due.now self.now }
     {
         match expected {
             Expectation::Echo => self.answers(due),
-            Expectation::Protocol => self.last_pong.answers(&due.last_pong),
+            Expectation::Protocol => {
+                self.last_pong.answers(&due.last_pong)
+                    || (self.has_wanted && self.wanted.answers(&due.last_pong))
+            }
         }
     }
 }
@@ -134,6 +161,16 @@ impl LastPong {
         LastPong {
             turn: None,
             payload: ControlBytes::new(),
+        }
+    }
+
+    /// The same.
+    fn copied(&self) -> LastPong
+        ensures { result ≡ self.now }
+    {
+        LastPong {
+            turn: self.turn,
+            payload: self.payload,
         }
     }
 

@@ -6,12 +6,14 @@ ghost use Rattle.ws_suite.specs.Explanation.{IsBeyondBy, told_in};
 ghost use Rattle.ws_suite.specs.Growing.{AreAll};
 ghost use Rattle.ws_suite.specs.InnerCollecting.{IsEvidenceBy, IsToldEvidenceOf, first_beyond, found_by, way_bytes};
 ghost use Rattle.ws_suite.specs.InnerDoom.{AreDooms};
+ghost use Rattle.ws_suite.specs.InnerMarks.{AreStreamsBy, AreStreamsOf};
 ghost use Rattle.ws_suite.specs.Matching.{ends_with_close};
 
 use crate::evidence::collecting::{Collected, Rooms, Taken, Way, nothing_taken, take_piece};
 use crate::evidence::doom::{Dooms, doom_at_close, is_doomed};
 use crate::evidence::growing::other;
 use crate::evidence::keeping::AllReplies;
+use crate::evidence::streams::Streams;
 use crate::evidence::{Direction, Evidence, ends_in_turn, ends_with_close};
 use crate::lemmas::session_laws;
 use std::alloc::Global;
@@ -27,6 +29,8 @@ pub(crate) struct Shown {
     pub dooms: Dooms,
     /// The turn of the first byte behind the close that was got.
     pub beyond: Option<usize>,
+    /// What was seen of the bytes.
+    pub streams: Streams,
 }
 
 /// The evidence of a transcript.
@@ -38,6 +42,7 @@ pub(crate) fn evidence_of(
     ensures evidence { IfOk result (λ shown. IsEvidenceOf tested transcript.now shown.evidence) }
     ensures dooms { IfOk result (λ shown. AreDooms tested (sent_turns transcript.now.turns)
         shown.evidence.got.ending shown.dooms) }
+    ensures streams { IfOk result (λ shown. AreStreamsOf tested transcript.now shown.streams) }
 {
     let shown = shown_by(alloc, Way::Got, tested, transcript)?;
     Ok(shown)
@@ -52,6 +57,7 @@ pub(crate) fn told_evidence_of(
     ensures evidence { IfOk result (λ shown. IsToldEvidenceOf tested transcript.now shown.evidence) }
     ensures dooms { IfOk result (λ shown. AreDooms tested (sent_turns transcript.now.turns)
         shown.evidence.got.ending shown.dooms) }
+    ensures streams { IfOk result (λ shown. AreStreamsOf tested transcript.now shown.streams) }
     ensures beyond { IfOk result (λ shown. IsBeyondBy (other_role tested) told_in (got_turns transcript.now.turns)
         (length transcript.now.turns) shown.beyond) }
 {
@@ -69,6 +75,7 @@ fn shown_by(
     ensures evidence { IfOk result (λ shown. IsEvidenceBy way tested transcript.now shown.evidence) }
     ensures dooms { IfOk result (λ shown. AreDooms tested (sent_turns transcript.now.turns)
         shown.evidence.got.ending shown.dooms) }
+    ensures streams { IfOk result (λ shown. AreStreamsBy way tested transcript.now shown.streams) }
     ensures beyond { IfOk result (λ shown. IsBeyondBy (other_role tested) (found_by way)
         (map (way_bytes way) transcript.now.turns) (length transcript.now.turns) shown.beyond) }
 {
@@ -94,6 +101,10 @@ fn shown_by(
         at_close = doom_at_close(ends, at_close, &sent);
     }
     let at_end = is_doomed(&sent);
+    let streams = Streams {
+        sent: sent.seen,
+        got: got.seen,
+    };
     Ok(Shown {
         evidence: Evidence {
             due: direction_of(sent.collected),
@@ -104,6 +115,7 @@ fn shown_by(
         },
         dooms: Dooms { at_close, at_end },
         beyond,
+        streams,
     })
 }
 
@@ -126,7 +138,7 @@ fn direction_of(collected: Collected<AllReplies>) -> Direction
 }
 
 /// The bytes of a turn that go this way.
-fn bytes_of(way: Way, turn: &Turn) -> &[u8]
+pub(super) fn bytes_of(way: Way, turn: &Turn) -> &[u8]
     ensures { result.now ≡ way_bytes way turn.now }
 {
     match way {

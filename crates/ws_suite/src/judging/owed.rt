@@ -1,14 +1,15 @@
 //! The pongs that RFC 6455 asks of any end (sections 5.5.2 and 5.5.3): for the pings that it was sent in an earlier
 //! turn than what ends the connection, at the latest for the last of them.
 
-ghost use Rattle.std.specs.Prelude.{◌≡◌, ◌&&◌, nat_le, IfOk, List};
+ghost use Rattle.std.specs.Prelude.{◌≡◌, ◌&&◌, nat_le, IfOk, List, false, true};
 ghost use Rattle.std.specs.List.{list_any};
 ghost use Rattle.ws_suite.specs.declared.evidence.InTurn.{InTurn};
 ghost use Rattle.ws_suite.specs.declared.evidence.Reply.{Reply};
 ghost use Rattle.ws_suite.specs.InnerJudging.{without_pings};
-ghost use Rattle.ws_suite.specs.InnerMarks.{AreLastTurns, AreOwedFindings, latest};
-ghost use Rattle.ws_suite.specs.Kept.{reply_in};
-ghost use Rattle.ws_suite.specs.Matching.{has_payload_of};
+ghost use Rattle.ws_suite.specs.InnerMarks.{AreMet, AreLastTurns, AreOwedFindings, is_answered_by};
+ghost use Rattle.ws_suite.specs.InnerMarks.{latest};
+ghost use Rattle.ws_suite.specs.Kept.{first_of, reply_in};
+ghost use Rattle.ws_suite.specs.Matching.{due_pongs, got_pongs, has_payload_of};
 ghost use Rattle.ws_suite.specs.Protocol.{close_of, is_before_end, is_owed, owed_pongs};
 
 use crate::evidence::{Ending, Evidence, InTurn, Kept, Replies, is_close_ending};
@@ -34,6 +35,9 @@ type LastTurns<'a> = BTreeMap<&'a [u8], usize>;
 pub(super) fn owed_pongs(alloc: Global, x: &Evidence) -> Result<OwedPongs, NoMemory>
     ensures { IfOk result (λ found. AreOwedFindings (without_pings x.now) found) }
 {
+    if are_all_met(x) {
+        return Ok(all_met());
+    }
     let turns = last_turns(alloc, Chosen::among(&x.got.replies, Wanted::Pongs))?;
     let mut pings = Chosen::among(&x.due.replies, Wanted::Pongs);
     let mut lacks_last = false;
@@ -52,6 +56,53 @@ pub(super) fn owed_pongs(alloc: Global, x: &Evidence) -> Result<OwedPongs, NoMem
         lacks_last: lacks_last && !later_is_answered,
         skips_one,
     })
+}
+
+/// What comes of pings that are all answered.
+fn all_met() -> OwedPongs
+    ensures { result ≡ record { lacks_last = false; skips_one = false } }
+{
+    OwedPongs {
+        lacks_last: false,
+        skips_one: false,
+    }
+}
+
+/// Whether it is seen without a map that each ping is answered, as most peers do: what was got is what an echo sends
+/// back, or each ping has its pong at its place.
+fn are_all_met(x: &Evidence) -> bool
+    ensures { result ≡ true → AreMet (due_pongs x.now) (got_pongs x.now) }
+{
+    x.got.replies.answer_each(&x.due.replies)
+        || are_met_in_step(
+            Chosen::among(&x.due.replies, Wanted::Pongs),
+            Chosen::among(&x.got.replies, Wanted::Pongs),
+        )
+}
+
+/// Whether each ping is answered by the pong at its place.
+fn are_met_in_step(due: Chosen<'_>, got: Chosen<'_>) -> bool
+    ensures { result ≡ true → AreMet due.entry got.entry }
+{
+    let mut left = due;
+    let mut got_left = got;
+    while let Some(ping) = left.next() {
+        if !is_met(&ping, &got_left.next()) {
+            return false;
+        }
+    }
+    true
+}
+
+/// Whether there is a next pong, and it answers this ping.
+fn is_met(ping: &Kept<'_>, pong: &Option<Kept<'_>>) -> bool
+    ensures { (others : List (InTurn Reply)) → result ≡ true
+        → is_answered_by (first_of pong.now others) (reply_in ping.now) ≡ true }
+{
+    match pong {
+        Some(pong) => ping.payload == pong.payload && ping.turn <= pong.turn,
+        None => false,
+    }
 }
 
 /// The pongs for the pings that had to be answered.

@@ -2,6 +2,7 @@
 use Rattle.std.proofs.Common.{◌≡◌, ◌∙◌, ◌-◌, ◌++◌, ◌∷◌, [], ℕ, List, ap, sym, subst, refl, arith, rules, length, take, drop, append_assoc, append-nil}
 use Rattle.std.proofs.lemmas.List.{length-drop, take-append-drop, take_all}
 use Rattle.ws_suite.specs.InnerCollecting.{HasTakenWay}
+use Rattle.ws_suite.specs.InnerMarks.{HasSeenBytes}
 use Rattle.ws_suite.proofs.EvidenceLemmas.{front_of_part}
 use Rattle.ws_suite.proofs.evidence.collecting.take_piece.Goals as goal
 
@@ -10,6 +11,7 @@ loop-rest-init g c = (
   [],
   refl,
   λ role turns last number h. subst (λ (l : List ℕ). HasTakenWay g.K.KeepsReplies.keeps c.args.way role (turns ++ l ∷ []) c.args.taken.now.session c.args.taken.now.collected) (sym (append-nil last)) h,
+  λ role bytes h. subst (λ (l : List ℕ). HasSeenBytes role c.args.taken.now.session l c.args.taken.now.seen) (sym (append-nil bytes)) h,
   λ over. refl,
 )
 
@@ -27,5 +29,7 @@ loop-rest-preserved g c =
       i.1 ∙ (ap (λ (l : List ℕ). i.0 ++ l) split ∙ sym (append_assoc i.0 part after)),
       λ role turns last number h. subst (λ (l : List ℕ). HasTakenWay g.K.KeepsReplies.keeps c.args.way role (turns ++ l ∷ []) c.take_front.new.taken.session c.take_front.new.taken.collected) (ap (λ (l : List ℕ). (last ++ i.0) ++ l) taken ∙ append_assoc last i.0 part)
           (c.in_ok-used.ensures.taken c.session_laws.ensures role turns (last ++ i.0) number (i.2 role turns last number h)),
+      λ role bytes h. subst (λ (l : List ℕ). HasSeenBytes role c.take_front.new.taken.session l c.take_front.new.taken.seen) (ap (λ (l : List ℕ). (bytes ++ i.0) ++ l) taken ∙ append_assoc bytes i.0 part)
+          (c.in_ok-used.ensures.seen role (bytes ++ i.0) (i.3 role bytes h)),
       λ over. search rules,
     )

@@ -1,45 +1,77 @@
 -- The marks, and the close that counts, are of what is told of both directions.
-use Rattle.std.proofs.Common.{◌≡◌, ◌∙◌, ◌↔◌, ℕ, true, false, drop, List, Option, ap, sym, refl, subst, inl}
+use Rattle.std.proofs.Common.{◌≡◌, ◌∙◌, ◌↔◌, ℕ, true, false, drop, List, Option, sym, refl, subst, inl}
 use Rattle.std.specs.List.{concat}
 use Rattle.ws_wire.specs.declared.role.Role.{Role}
 use Rattle.ws_scripts.specs.declared.transcript.Turn.{Turn}
 use Rattle.ws_suite.specs.Evidence.{got_turns, other_role, sent_turns}
 use Rattle.ws_suite.specs.Explanation.{IsBeyondClose}
-use Rattle.ws_suite.specs.InnerMarks.{IsToldStream, IsTurnOfPlace}
+use Rattle.ws_suite.specs.InnerMarks.{IsTurnOfPlace}
 use Rattle.ws_suite.specs.Marks.{AreControls}
 use Rattle.ws_suite.specs.Matching.{ends_with_close}
 use Rattle.ws_suite.proofs.MarkedStreams.{beyond_close, evidence_counted, marks_are}
+use Rattle.ws_suite.proofs.ToldLemmas.{all_asked, behind_told, got_told, sent_told}
 use Rattle.ws_suite.proofs.evidence.marks.marked.Goals as goal
 use Rattle.ws_suite.proofs.evidence.marks.marked.Goals.{then-ends_with_close, else-ends_with_close}
 
+pub is_late-requires : goal.is_late-requires
+is_late-requires c =
+    all_asked c.args.tested (concat (sent_turns c.args.transcript.now.turns)) c.in_ok-sent.sent
+    (sent_told c.args.tested c.args.transcript.now c.args.streams c.as_slice-turns.result.now c.in_ok-sent.sent
+    c.requires.streams c.as_slice-turns.ensures c.in_ok-sent.ensures)
+
+pub is_open-requires : goal.is_open-requires
+is_open-requires c =
+    all_asked (other_role c.args.tested) (concat (got_turns c.args.transcript.now.turns)) c.in_ok-got.got
+    (got_told c.args.tested c.args.transcript.now c.args.streams c.as_slice-turns.result.now c.in_ok-got.got
+    c.requires.streams c.as_slice-turns.ensures c.in_ok-got.ensures)
+
+pub ends_in_data-requires : goal.ends_in_data-requires
+ends_in_data-requires c =
+    all_asked (other_role c.args.tested) (concat (got_turns c.args.transcript.now.turns)) c.in_ok-got.got
+    (got_told c.args.tested c.args.transcript.now c.args.streams c.as_slice-turns.result.now c.in_ok-got.got
+    c.requires.streams c.as_slice-turns.ensures c.in_ok-got.ensures)
+
+pub behind-requires : goal.behind-requires
+behind-requires c =
+    all_asked (other_role c.args.tested) (concat (got_turns c.args.transcript.now.turns)) c.in_ok-got.got
+    (got_told c.args.tested c.args.transcript.now c.args.streams c.as_slice-turns.result.now c.in_ok-got.got
+    c.requires.streams c.as_slice-turns.ensures c.in_ok-got.ensures)
+
+pub undefined_code-requires : goal.undefined_code-requires
+undefined_code-requires c =
+    all_asked (other_role c.args.tested) (concat (got_turns c.args.transcript.now.turns)) c.in_ok-got.got
+    (got_told c.args.tested c.args.transcript.now c.args.streams c.as_slice-turns.result.now c.in_ok-got.got
+    c.requires.streams c.as_slice-turns.ensures c.in_ok-got.ensures)
+
 pub returns-clause-closed : goal.returns-clause-closed
 returns-clause-closed c =
-    let got = c.in_ok-got.got in
-    let gets = c.in_ok-got.ensures.bytes ∙ c.in_ok-got_bytes.ensures
-    ∙ ap (λ (l : List Turn). concat (got_turns l)) c.as_slice-turns.ensures in
-    let told = subst (λ (r : Role). IsToldStream r got) c.other.ensures c.in_ok-got.ensures.told in
-    let closed = c.with_close-evidence in
-    evidence_counted c.args.tested c.args.transcript.now c.args.shown c.undefined_code.result got gets c.requires
-    (c.undefined_code.ensures (other_role c.args.tested) told) closed.result closed.ensures
+    let tested = c.args.tested in
+    let told = got_told tested c.args.transcript.now c.args.streams c.as_slice-turns.result.now c.in_ok-got.got
+    c.requires.streams c.as_slice-turns.ensures c.in_ok-got.ensures in
+    evidence_counted tested c.args.transcript.now c.args.shown c.undefined_code.result c.requires.ending
+    (c.undefined_code.ensures (other_role tested) (concat (got_turns c.args.transcript.now.turns)) told)
+    c.with_close-evidence.result c.with_close-evidence.ensures
 
 pub returns-clause-marks : goal.returns-clause-marks
 returns-clause-marks c =
     let tested = c.args.tested in
     let role = other_role tested in
+    let transcript = c.args.transcript.now in
+    let sends = concat (sent_turns transcript.turns) in
+    let gets = concat (got_turns transcript.turns) in
     let sent = c.in_ok-sent.sent in
     let got = c.in_ok-got.got in
-    let sends = c.in_ok-sent.ensures.bytes ∙ c.in_ok-sent_bytes.ensures
-    ∙ ap (λ (l : List Turn). concat (sent_turns l)) c.as_slice-turns.ensures in
-    let gets = c.in_ok-got.ensures.bytes ∙ c.in_ok-got_bytes.ensures
-    ∙ ap (λ (l : List Turn). concat (got_turns l)) c.as_slice-turns.ensures in
-    let told = subst (λ (r : Role). IsToldStream r got) c.other.ensures c.in_ok-got.ensures.told in
+    let told_sent = sent_told tested transcript c.args.streams c.as_slice-turns.result.now sent c.requires.streams
+    c.as_slice-turns.ensures c.in_ok-sent.ensures in
+    let told = got_told tested transcript c.args.streams c.as_slice-turns.result.now got c.requires.streams
+    c.as_slice-turns.ensures c.in_ok-got.ensures in
     let right = c.are_controls.result in
-    let behind = drop got.after got.bytes.items in
-    let controls = subst (λ (r : Role). (right ≡ true) ↔ AreControls r behind) c.other-2.ensures
-    (subst (λ (l : List ℕ). (right ≡ true) ↔ AreControls c.other-2.result l) c.behind.ensures c.are_controls.ensures) in
-    let tells = c.in_ok-sent.ensures.told in
-    marks_are tested c.args.transcript.now sent got tells told sends gets _ refl (c.is_late.ensures tested tells)
-    (c.is_open.ensures role told) (c.ends_in_data.ensures role told) controls
+    let at = c.behind.ensures ∙ behind_told role gets got told in
+    let controls = subst (λ (r : Role). (right ≡ true) ↔ AreControls r (drop got.seen.after gets)) c.other.ensures
+    (subst (λ (l : List ℕ). (right ≡ true) ↔ AreControls c.other.result l) at c.are_controls.ensures) in
+    marks_are tested transcript sent.seen got.seen told_sent.is_seen told.is_seen _ c.came.ensures
+    (c.is_late.ensures tested sends told_sent) (c.is_open.ensures role gets told)
+    (c.ends_in_data.ensures role gets told) controls
 
 pub returns-clause-beyond : goal.returns-clause-beyond
 returns-clause-beyond c =
@@ -47,16 +79,16 @@ returns-clause-beyond c =
     let turns = got_turns c.args.transcript.now.turns in
     let ending = c.with_close-evidence.result.got.ending in
     let got = c.in_ok-got.got in
-    let gets = c.in_ok-got.ensures.bytes ∙ c.in_ok-got_bytes.ensures
-    ∙ ap (λ (l : List Turn). concat (got_turns l)) c.as_slice-turns.ensures in
-    let told = subst (λ (r : Role). IsToldStream r got) c.other.ensures c.in_ok-got.ensures.told in
+    let told = got_told c.args.tested c.args.transcript.now c.args.streams c.as_slice-turns.result.now got
+    c.requires.streams c.as_slice-turns.ensures c.in_ok-got.ensures in
     elim c.if-ends_with_close.branch [
       | then-ends_with_close w ↦
           let closes : ends_with_close ending ≡ true = sym c.ends_with_close.ensures ∙ w.if-ends_with_close.true in
-          let found = subst (λ (l : List Turn). IsTurnOfPlace (got_turns l) got.after w.got_turn-beyond.result)
+          let found = subst (λ (l : List Turn). IsTurnOfPlace (got_turns l) got.seen.after w.got_turn-beyond.result)
           c.as_slice-turns.ensures w.got_turn-beyond.ensures in
           subst (λ (o : Option ℕ). IsBeyondClose role turns ending o) (sym w.beyond-is)
-          (beyond_close role (concat turns) got told gets turns refl ending closes w.got_turn-beyond.result found)
+          (beyond_close role (concat turns) got.seen told.is_seen turns refl ending closes w.got_turn-beyond.result
+          found)
       | else-ends_with_close w ↦
           let open_end : ends_with_close ending ≡ false = sym c.ends_with_close.ensures ∙ w.if-ends_with_close.false in
           subst (λ (o : Option ℕ). IsBeyondClose role turns ending o) (sym w.beyond-is) (inl open_end)

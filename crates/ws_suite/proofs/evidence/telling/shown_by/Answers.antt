@@ -14,9 +14,12 @@ use Rattle.ws_suite.specs.Explanation.{IsBeyondBy}
 use Rattle.ws_suite.specs.Growing.{AreAll}
 use Rattle.ws_suite.specs.InnerCollecting.{HasTakenWay, found_by, way_bytes}
 use Rattle.ws_suite.specs.InnerDoom.{AreDoomed, IsDoomedAtEnd, IsKnownAtClose}
+use Rattle.ws_suite.specs.InnerMarks.{HasSeenBytes, IsSeen}
 use Rattle.ws_suite.specs.Matching.{ends_with_close}
+use Rattle.ws_suite.proofs.SeenStreams.{seen_of_all, seen_turn}
 use Rattle.ws_suite.proofs.TellingLemmas.{beyond_step, direction_taken, known_at_start, known_step, nothing_beyond}
 use Rattle.ws_suite.proofs.TellingLemmas.{turn_taken}
+use Rattle.ws_suite.proofs.TurnBytes.{bytes_before}
 use Rattle.ws_suite.proofs.evidence.telling.shown_by.Goals as goal
 
 pub loop-number-init : goal.loop-number-init
@@ -25,10 +28,13 @@ loop-number-init c =
     let way = c.args.way in
     let got = c.nothing_taken-got in
     let is_got = subst (λ (r : Role). HasTakenWay AreAll way r [] got.result.session got.result.collected)
-    c.other.ensures got.ensures in
+    c.other.ensures got.ensures.taken in
     record {
-      sent = c.nothing_taken-sent.ensures;
+      sent = c.nothing_taken-sent.ensures.taken;
       got = is_got;
+      sent_seen = c.nothing_taken-sent.ensures.seen;
+      got_seen = subst (λ (r : Role). HasSeenBytes r got.result.session [] got.result.seen) c.other.ensures
+          got.ensures.seen;
       beyond = nothing_beyond (other_role c.args.tested) (found_by way) (map (way_bytes way) turns);
       known = known_at_start way (other_role c.args.tested) got.result.session got.result.collected is_got
           c.args.tested (sent_turns turns) false;
@@ -62,6 +68,12 @@ loop-number-preserved c =
     record {
       sent = sent;
       got = got;
+      sent_seen = seen_turn Sent tested turns i turn c.as_slice.result.now put.session put.seen less is
+          c.as_slice.ensures
+          (c.in_ok-take_piece.ensures.seen tested (bytes_before (way_bytes Sent) turns i) old.sent_seen);
+      got_seen = seen_turn way tester turns i turn c.bytes_of.result.now new.session new.seen less is
+          c.bytes_of.ensures
+          (c.in_ok-take_piece-2.ensures.seen tester (bytes_before (way_bytes way) turns i) old.got_seen);
       beyond = subst (λ (o : Option ℕ). IsBeyondBy tester (found_by way) all (i + 1) o)
           (sym c.first_beyond-beyond.ensures)
           (beyond_step c.session_laws.ensures tester (found_by way) all i got.shown got.is_shown loop.beyond
@@ -141,3 +153,20 @@ returns-clause-beyond c =
     c.as_slice-turns.ensures
     (subst (λ (n : ℕ). IsBeyondBy tester (found_by way) (map (way_bytes way) turns) n loop.beyond) end
     c.loop-number.invariant.beyond)
+
+pub returns-clause-streams : goal.returns-clause-streams
+returns-clause-streams c =
+    let turns = c.as_slice-turns.result.now in
+    let way = c.args.way in
+    let tested = c.args.tested in
+    let i = c.loop-number.number in
+    let loop = c.loop-number in
+    let old = c.loop-number.invariant in
+    let all : length turns ≤ i = omega (arith, c.loop-number-test.false, c.loop-number.auto.number-end) in
+    record {
+      sent = subst (λ (l : List Turn). IsSeen tested (concat (map (way_bytes Sent) l)) loop.sent.seen)
+          c.as_slice-turns.ensures (seen_of_all Sent tested turns i loop.sent.session loop.sent.seen all old.sent_seen);
+      got = subst (λ (l : List Turn). IsSeen (other_role tested) (concat (map (way_bytes way) l)) loop.got.seen)
+          c.as_slice-turns.ensures
+          (seen_of_all way (other_role tested) turns i loop.got.session loop.got.seen all old.got_seen);
+    }

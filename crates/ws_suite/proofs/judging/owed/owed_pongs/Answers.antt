@@ -3,12 +3,13 @@ use Rattle.std.proofs.Common.{◌≡◌, ◌∙◌, ◌&&◌, ◌++◌, ◌∷�
 use Rattle.std.proofs.Common.{append_assoc, append-nil}
 use Rattle.ws_suite.specs.declared.evidence.InTurn.{InTurn}
 use Rattle.ws_suite.specs.declared.evidence.Reply.{Reply}
+use Rattle.ws_suite.specs.declared.judging.owed.OwedPongs.{OwedPongs}
 use Rattle.ws_suite.specs.InnerJudging.{without_pings}
-use Rattle.ws_suite.specs.InnerMarks.{AreLastTurns}
+use Rattle.ws_suite.specs.InnerMarks.{AreMet, AreLastTurns}
 use Rattle.ws_suite.specs.Kept.{reply_in}
 use Rattle.ws_suite.specs.Matching.{due_pongs, got_pongs}
 use Rattle.ws_suite.specs.Protocol.{is_answered, is_owed}
-use Rattle.ws_suite.proofs.OwedLemmas.{AreSoFar, found_of_all, later_more, none_so_far, owed_more}
+use Rattle.ws_suite.proofs.OwedLemmas.{AreSoFar, found_of_all, found_of_met, later_more, none_so_far, owed_more}
 use Rattle.ws_suite.proofs.TellingLemmas.{same_pongs}
 use Rattle.ws_suite.proofs.judging.owed.owed_pongs.Goals as goal
 use Rattle.ws_suite.proofs.judging.owed.owed_pongs.Goals.{then-lacks_last, else-lacks_last}
@@ -51,6 +52,15 @@ loop-ping-preserved c =
       later_more x i.0 first c.loop-ping.lacks_last c.loop-ping.skips_one c.loop-ping.later_is_answered answered
           c.either-later_is_answered.result i.2 owed is c.either-later_is_answered.ensures,
     )
+
+pub returns-then-are_all_met : goal.returns-then-are_all_met
+returns-then-are_all_met c =
+    let x = c.args.x.now in
+    let all = subst (λ (l : List (InTurn Reply)). AreMet (due_pongs x) l) (same_pongs x.got.replies)
+    (c.are_all_met.ensures c.if-are_all_met.true) in
+    found_of_met (without_pings x) c.all_met.result all
+    (ap (λ (found : OwedPongs). found.lacks_last) c.all_met.ensures)
+    (ap (λ (found : OwedPongs). found.skips_one) c.all_met.ensures)
 
 pub returns : goal.returns
 returns c =

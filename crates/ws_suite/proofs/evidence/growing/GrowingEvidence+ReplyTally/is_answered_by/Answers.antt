@@ -1,5 +1,5 @@
--- What is kept tells it, there is one evidence, and what is seen has come.
-use Rattle.ws_suite.proofs.WaitingLemmas.{tells_seen, turns_answered}
+-- What is kept tells it, there is one evidence, and what is told has come.
+use Rattle.ws_suite.proofs.WaitingLemmas.{tells_come, tells_seen}
 use Rattle.ws_suite.proofs.evidence.growing.GrowingEvidence+ReplyTally.is_answered_by.Goals as goal
 
 pub returns-clause-seen : goal.returns-clause-seen
@@ -8,7 +8,6 @@ returns-clause-seen c = λ tested turns h.
     c.answers_by.ensures h
 
 pub returns-clause-answered : goal.returns-clause-answered
-returns-clause-answered c = λ tested turns h e.
-    let seen = tells_seen c.session_laws.ensures c.args.expected tested turns _ c.args.self.now c.answers_by.result
-    c.self.view_is c.answers_by.ensures h in
-    turns_answered c.args.expected tested turns (seen.0 e)
+returns-clause-answered c = λ tested turns h.
+    tells_come c.session_laws.ensures c.args.expected tested turns _ c.args.self.now c.answers_by.result c.self.view_is
+    c.answers_by.ensures h

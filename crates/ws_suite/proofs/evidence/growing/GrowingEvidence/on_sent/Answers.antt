@@ -10,4 +10,4 @@ pub returns : goal.returns
 returns g c = λ tested before turn h.
     let number = last_number tested _ _ c.self.view_is before turn h c.saturating_sub-number.result c.saturating_sub-number.ensures ∙ sym (length-map before (λ (t : Turn). t.sent)) in
     let old = due_so_far tested _ _ c.self.view_is before turn h in
-    more_sent tested _ _ c.self.view_is before turn h c.args.bytes.now _ _ (c.in_ok-take_piece.ensures.taken tested (sent_turns before) turn.sent number old)
+    more_sent tested _ _ c.self.view_is before turn h c.args.bytes.now _ _ _ c.want.ensures (c.in_ok-take_piece.ensures.taken tested (sent_turns before) turn.sent number old)

@@ -1,8 +1,0 @@
--- The bytes of the turns so far.
-use Rattle.std.proofs.Common.{◌≡◌}
-use Rattle.ws_scripts.specs.declared.transcript.Turn.{Turn}
-use Rattle.ws_suite.proofs.TurnBytes.{bytes_before}
-use Rattle.ws_suite.proofs.evidence.marks.got_bytes.Given as goal
-
-abbrev pub invariant-loop-turn : goal.invariant-loop-turn
-invariant-loop-turn l = l.bytes.items ≡ bytes_before (λ (turn : Turn). turn.got) l.turns l.turn-index
