@@ -3,4 +3,3 @@ mod Cuts
 mod Parts
 mod Knowing
 mod Escapes
-mod Noted

@@ -8,15 +8,24 @@ abbrev pub junit_start : List ℕ → List ℕ
 junit_start target = concat (codes "<?xml version=\"1.0\" encoding=\"UTF-8\"?>\n"
     ∷ codes "<testsuites><testsuite name=\"wst " ∷ quoted target ∷ codes "\">\n" ∷ [])
 
+-- the name of a case in a document: its ID, and behind a space its title
+abbrev pub full_name : List ℕ → List ℕ → List ℕ
+full_name id title = concat (id ∷ codes " " ∷ title ∷ [])
+
 -- a case of which nothing is told
 abbrev pub passed_case : List ℕ → List ℕ
-passed_case id = concat (codes "<testcase classname=\"wst\" name=\"" ∷ quoted id ∷ codes "\"/>\n" ∷ [])
+passed_case name = concat (codes "<testcase classname=\"wst\" name=\"" ∷ quoted name ∷ codes "\"/>\n" ∷ [])
 
 -- a case that failed, with these words and lines
 abbrev pub failed_case : List ℕ → List ℕ → List ℕ → List ℕ
-failed_case id words below = concat (codes "<testcase classname=\"wst\" name=\"" ∷ quoted id
+failed_case name words below = concat (codes "<testcase classname=\"wst\" name=\"" ∷ quoted name
     ∷ codes "\"><failure message=\"" ∷ quoted words ∷ codes "\">\n" ∷ escaped below
     ∷ codes "</failure></testcase>\n" ∷ [])
+
+-- a case that failed as it is known to, with these words
+abbrev pub skipped_case : List ℕ → List ℕ → List ℕ
+skipped_case name words = concat (codes "<testcase classname=\"wst\" name=\"" ∷ quoted name
+    ∷ codes "\"><skipped message=\"" ∷ quoted words ∷ codes "\"/></testcase>\n" ∷ [])
 
 -- words, and the lines below them
 abbrev pub noted_text : List ℕ → List ℕ → List ℕ
@@ -24,7 +33,7 @@ noted_text words below = concat (words ∷ codes "\n" ∷ below ∷ [])
 
 -- a case that did not, and of which this text is told
 abbrev pub noted_case : List ℕ → List ℕ → List ℕ
-noted_case id text = concat (codes "<testcase classname=\"wst\" name=\"" ∷ quoted id ∷ codes "\"><system-out>"
+noted_case name text = concat (codes "<testcase classname=\"wst\" name=\"" ∷ quoted name ∷ codes "\"><system-out>"
     ∷ escaped text ∷ codes "</system-out></testcase>\n" ∷ [])
 
 -- what ends a document

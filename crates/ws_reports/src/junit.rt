@@ -1,7 +1,7 @@
 //! The parts of a JUnit document.
 
 ghost use Rattle.std.specs.Prelude.{◌≡◌, IfOk, string_bytes};
-ghost use Rattle.ws_reports.specs.Junit.{failed_case, junit_start, noted_case, passed_case};
+ghost use Rattle.ws_reports.specs.Junit.{failed_case, junit_start, noted_case, passed_case, skipped_case};
 
 use crate::escaping::{Escaped, Quoted};
 use std::alloc::Global;
@@ -20,37 +20,47 @@ pub(crate) fn junit_start(alloc: Global, target: &str) -> Result<String, NoMemor
     )?)
 }
 
-/// The element of a case of which nothing is told.
-pub(crate) fn passed_case(alloc: Global, id: &str) -> Result<String, NoMemory>
-    ensures { IfOk result (λ text. string_bytes text ≡ passed_case id.now) }
+/// The element of a case of this name of which nothing is told.
+pub(crate) fn passed_case(alloc: Global, name: &str) -> Result<String, NoMemory>
+    ensures { IfOk result (λ text. string_bytes text ≡ passed_case name.now) }
 {
-    let id = Quoted(id.as_bytes());
-    Ok(format!(in alloc; "<testcase classname=\"wst\" name=\"{id}\"/>\n")?)
+    let name = Quoted(name.as_bytes());
+    Ok(format!(in alloc; "<testcase classname=\"wst\" name=\"{name}\"/>\n")?)
 }
 
 /// The element of a case that failed, with these words and lines.
 pub(crate) fn failed_case(
     alloc: Global,
-    id: &str,
+    name: &str,
     words: &str,
     below: &str,
 ) -> Result<String, NoMemory>
-    ensures { IfOk result (λ text. string_bytes text ≡ failed_case id.now words.now below.now) }
+    ensures { IfOk result (λ text. string_bytes text ≡ failed_case name.now words.now below.now) }
 {
-    let id = Quoted(id.as_bytes());
+    let name = Quoted(name.as_bytes());
     let words = Quoted(words.as_bytes());
     let below = Escaped(below.as_bytes());
     Ok(format!(in alloc;
-        "<testcase classname=\"wst\" name=\"{id}\"><failure message=\"{words}\">\n{below}</failure></testcase>\n"
+        "<testcase classname=\"wst\" name=\"{name}\"><failure message=\"{words}\">\n{below}</failure></testcase>\n"
+    )?)
+}
+
+/// The element of a case that failed as it is known to, with these words.
+pub(crate) fn skipped_case(alloc: Global, name: &str, words: &str) -> Result<String, NoMemory>
+    ensures { IfOk result (λ text. string_bytes text ≡ skipped_case name.now words.now) }
+{
+    let (name, words) = (Quoted(name.as_bytes()), Quoted(words.as_bytes()));
+    Ok(format!(in alloc;
+        "<testcase classname=\"wst\" name=\"{name}\"><skipped message=\"{words}\"/></testcase>\n"
     )?)
 }
 
 /// The element of a case that did not fail, and of which this text is told.
-pub(crate) fn noted_case(alloc: Global, id: &str, text: &str) -> Result<String, NoMemory>
-    ensures { IfOk result (λ element. string_bytes element ≡ noted_case id.now text.now) }
+pub(crate) fn noted_case(alloc: Global, name: &str, text: &str) -> Result<String, NoMemory>
+    ensures { IfOk result (λ element. string_bytes element ≡ noted_case name.now text.now) }
 {
-    let (id, text) = (Quoted(id.as_bytes()), Escaped(text.as_bytes()));
+    let (name, text) = (Quoted(name.as_bytes()), Escaped(text.as_bytes()));
     Ok(format!(in alloc;
-        "<testcase classname=\"wst\" name=\"{id}\"><system-out>{text}</system-out></testcase>\n"
+        "<testcase classname=\"wst\" name=\"{name}\"><system-out>{text}</system-out></testcase>\n"
     )?)
 }

@@ -3,10 +3,10 @@
 ghost use Rattle.std.specs.Prelude.{◌≡◌, IfOk, false, true, string_bytes, if◌then◌else◌};
 ghost use Rattle.ws_reports.specs.Junit.{noted_case, noted_text};
 ghost use Rattle.ws_reports.specs.Remarks.{remark_on, remark_words, told_failed};
-ghost use Rattle.ws_reports.specs.Reports.{case_element, case_text, end_text, start_text, told_words};
+ghost use Rattle.ws_reports.specs.Reports.{case_element, case_text, element_by, end_text, start_text, told_words};
 ghost use Rattle.ws_reports.specs.Told.{texts_of};
 
-use crate::junit::{END, failed_case, junit_start, noted_case, passed_case};
+use crate::junit::{END, failed_case, junit_start, noted_case, passed_case, skipped_case};
 use crate::known::KnownVerdicts;
 use crate::remark::Remark;
 use crate::told::Told;
@@ -73,13 +73,8 @@ impl Report {
         requires { words.now ≡ told_words self.now (texts_of told) }
         ensures { IfOk result (λ text. string_bytes text ≡ case_element self.now (texts_of told.entry)) }
     {
-        if self.is_failed(told) {
-            failed_case(alloc, told.id, words, told.below)
-        } else if told.verdict == "PASS" {
-            passed_case(alloc, told.id)
-        } else {
-            noted_element(alloc, told, words)
-        }
+        let name = format!(in alloc; "{} {}", told.id, told.title)?;
+        element_by(alloc, self.is_failed(told), told, name.as_str(), words)
     }
 
     /// The words of a case's verdict, and what stands behind them.
@@ -125,11 +120,31 @@ impl Report {
     }
 }
 
-/// The element of a case that did not fail, with these words.
-fn noted_element(alloc: Global, told: Told<'_>, words: &str) -> Result<String, NoMemory>
-    ensures { IfOk result (λ text. string_bytes text
-        ≡ noted_case told.entry.id.now (noted_text words.now told.entry.below.now)) }
+/// The element of a case of this name in a JUnit document, with these words.
+fn element_by(
+    alloc: Global,
+    is_failed: bool,
+    told: Told<'_>,
+    name: &str,
+    words: &str,
+) -> Result<String, NoMemory>
+    ensures { IfOk result (λ text. string_bytes text ≡ element_by is_failed (texts_of told.entry) name.now words.now) }
 {
-    let text = format!(in alloc; "{words}\n{}", told.below)?;
-    noted_case(alloc, told.id, text.as_str())
+    if is_failed {
+        failed_case(alloc, name, words, told.below)
+    } else if told.verdict == "PASS" {
+        passed_case(alloc, name)
+    } else if tells_fail(told.verdict.as_bytes()) {
+        skipped_case(alloc, name, words)
+    } else {
+        noted_element(alloc, name, words, told.below)
+    }
+}
+
+/// The element of a case that did not fail, with these words and the lines below them.
+fn noted_element(alloc: Global, name: &str, words: &str, below: &str) -> Result<String, NoMemory>
+    ensures { IfOk result (λ text. string_bytes text ≡ noted_case name.now (noted_text words.now below.now)) }
+{
+    let text = format!(in alloc; "{words}\n{below}")?;
+    noted_case(alloc, name, text.as_str())
 }

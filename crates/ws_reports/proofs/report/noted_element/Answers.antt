@@ -5,6 +5,6 @@ use Rattle.ws_reports.proofs.report.noted_element.Goals as goal
 
 pub returns : goal.returns
 returns c =
-    let text : c.as_str.result.now ≡ noted_text c.args.words.now c.args.told.below.now = search rules in
-    subst (λ (l : List ℕ). IfOk c.noted_case.result (λ element. string_bytes element ≡ noted_case c.args.told.id.now l))
+    let text : c.as_str.result.now ≡ noted_text c.args.words.now c.args.below.now = search rules in
+    subst (λ (l : List ℕ). IfOk c.noted_case.result (λ element. string_bytes element ≡ noted_case c.args.name.now l))
     text c.noted_case.ensures

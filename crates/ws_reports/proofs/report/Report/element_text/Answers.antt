@@ -1,13 +1,17 @@
--- What neither failed nor passed is noted.
-use Rattle.std.proofs.Common.{rules, ◌≡◌, ◌∙◌, List, ℕ, IfOk, ap, string_bytes, subst}
-use Rattle.ws_reports.specs.Junit.{noted_case, noted_text}
+-- The element is that of the case's full name and of the words of its verdict.
+use Rattle.std.proofs.Common.{rules, ◌≡◌, List, ℕ, Bool, IfOk, string_bytes, subst}
+use Rattle.ws_reports.specs.Junit.{full_name}
+use Rattle.ws_reports.specs.Remarks.{told_failed}
+use Rattle.ws_reports.specs.Reports.{element_by, told_words}
 use Rattle.ws_reports.specs.Told.{texts_of}
-use Rattle.ws_reports.proofs.Noted.{noted_by}
 use Rattle.ws_reports.proofs.report.Report.element_text.Goals as goal
 
-pub returns-else-eq : goal.returns-else-eq
-returns-else-eq c =
+pub returns : goal.returns
+returns c =
     let told = texts_of c.args.told in
-    let is = ap (λ (l : List ℕ). noted_case told.id (noted_text l told.below)) c.requires
-    ∙ noted_by c.args.self.now told (search rules) (search rules) in
-    subst (λ (l : List ℕ). IfOk c.noted_element.result (λ text. string_bytes text ≡ l)) is c.noted_element.ensures
+    let report = c.args.self.now in
+    let name : c.as_str.result.now ≡ full_name told.id told.title = search rules in
+    let words : c.args.words.now ≡ told_words report told = c.requires in
+    let fails : c.is_failed.result ≡ told_failed report.known told = c.is_failed.ensures in
+    subst (λ (l : List ℕ). IfOk c.element_by.result (λ text. string_bytes text ≡ l))
+    (λ i. element_by (fails i) told (name i) (words i)) c.element_by.ensures

@@ -1,0 +1,2 @@
+pub mod TitleTable
+pub mod Titles
