@@ -1,8 +1,8 @@
 -- What a client under test asks for by the path of its request. RFC 6455 leaves to a server what a resource name means
 -- (section 3); these paths are those of Autobahn's fuzzing server.
-use Rattle.std.specs.Prelude.{◌≡◌, ◌≢◌, ◌⊎◌, ℕ, ◌+◌, ◌≤◌, ◌==◌, nat_eq, nat_lt, Bool, List, [], ◌∷◌, ◌++◌, ⊤}
-use Rattle.std.specs.Prelude.{codes, filter, if◌then◌else◌, Option, Some, None}
-use Rattle.std.specs.List.{after_first, before_first, slice_split, starts_with}
+use Rattle.std.specs.Prelude.{◌≡◌, ◌⊎◌, ℕ, ◌+◌, ◌≤◌, ◌==◌, nat_eq, nat_lt, Bool, List, [], ◌∷◌, ◌++◌, ⊤}
+use Rattle.std.specs.Prelude.{IsTrue, codes, filter, if◌then◌else◌, Option, Some, None}
+use Rattle.std.specs.List.{after_first, before_first, ends_with, slice_split, starts_with}
 use Rattle.ws_formats.specs.Words.{IsNumberWord}
 use Rattle.ws_paths.specs.declared.purpose.Purpose.{Purpose}
 use Rattle.ws_paths.specs.declared.purpose.Purpose.TheVariants.{CaseCount, CaseInfo, CaseStatus, NextCase, NoCase}
@@ -26,6 +26,11 @@ place_of path = before_first is_question_mark path
 abbrev pub parts_of : List ℕ → List (List ℕ)
 parts_of path = slice_split is_ampersand (after_first is_question_mark path)
 
+-- The place has this name: it ends so. The names below begin with a slash and have no other, so they are the
+-- last part of the place, and what stands before that, as what a proxy puts there, says nothing.
+abbrev pub IsPlaceNamed : List ℕ → List ℕ → Type 0
+IsPlaceNamed name place = IsTrue (ends_with nat_eq place name)
+
 -- ---- the case that is named
 
 -- a part that names a case
@@ -48,23 +53,24 @@ NamesNone count parts = (number : ℕ) → NamesCase count parts number → ⊥
 
 -- the places at which a case is asked for by its number
 abbrev pub TakesNumber : List ℕ → Type 0
-TakesNumber place =
-    (place ≡ codes "/runCase") ⊎ (place ≡ codes "/getCaseInfo") ⊎ (place ≡ codes "/getCaseStatus")
+TakesNumber place = IsPlaceNamed (codes "/runCase") place
+    ⊎ (IsPlaceNamed (codes "/getCaseInfo") place ⊎ IsPlaceNamed (codes "/getCaseStatus") place)
 
 -- no place with a meaning of its own
 abbrev pub IsOther : List ℕ → Type 0
-IsOther place = ¬ (TakesNumber place) × (place ≢ codes "/getCaseCount") × (place ≢ codes "/updateReports")
+IsOther place = ¬ (TakesNumber place) × ¬ (IsPlaceNamed (codes "/getCaseCount") place)
+    × ¬ (IsPlaceNamed (codes "/updateReports") place)
 
 -- What a connection with this path is for, where there are so many cases, and so many of them were run for other paths.
 abbrev pub IsPurpose : ℕ → ℕ → List ℕ → Purpose → Type 0
-IsPurpose count asked path CaseCount = place_of path ≡ codes "/getCaseCount"
+IsPurpose count asked path CaseCount = IsPlaceNamed (codes "/getCaseCount") (place_of path)
 IsPurpose count asked path (RunCase number) =
-    (place_of path ≡ codes "/runCase") × NamesCase count (parts_of path) number
+    IsPlaceNamed (codes "/runCase") (place_of path) × NamesCase count (parts_of path) number
 IsPurpose count asked path (CaseInfo number) =
-    (place_of path ≡ codes "/getCaseInfo") × NamesCase count (parts_of path) number
+    IsPlaceNamed (codes "/getCaseInfo") (place_of path) × NamesCase count (parts_of path) number
 IsPurpose count asked path (CaseStatus number) =
-    (place_of path ≡ codes "/getCaseStatus") × NamesCase count (parts_of path) number
-IsPurpose count asked path UpdateReports = place_of path ≡ codes "/updateReports"
+    IsPlaceNamed (codes "/getCaseStatus") (place_of path) × NamesCase count (parts_of path) number
+IsPurpose count asked path UpdateReports = IsPlaceNamed (codes "/updateReports") (place_of path)
 IsPurpose count asked path (NextCase number) =
     IsOther (place_of path) × (number ≡ asked + 1) × (number ≤ count)
 IsPurpose count asked path NoCase = (TakesNumber (place_of path) × NamesNone count (parts_of path))

@@ -1,7 +1,7 @@
 //! What a connection of a client under test is for.
 
 ghost use Rattle.std.specs.Prelude.{◌≡◌, MatchOption};
-ghost use Rattle.ws_paths.specs.Paths.{IsPurpose, AsksWithin, TakesNumber};
+ghost use Rattle.ws_paths.specs.Paths.{IsPlaceNamed, IsPurpose, AsksWithin, TakesNumber};
 ghost use Rattle.ws_paths.specs.Paths.{next_purpose, number_to_run, place_for, purpose_for};
 
 use crate::named_case::{cut_path, named_case};
@@ -56,10 +56,10 @@ pub(crate) fn purpose_of(path: &[u8], count: u32, asked: u32) -> Purpose
     ensures within { AsksWithin count result }
 {
     let (place, query) = cut_path(path);
-    if place == b"/getCaseCount".as_slice() {
+    if place.ends_with(b"/getCaseCount") {
         return Purpose::CaseCount;
     }
-    if place == b"/updateReports".as_slice() {
+    if place.ends_with(b"/updateReports") {
         return Purpose::UpdateReports;
     }
     let Some(wanted) = wanted_at(place) else {
@@ -73,13 +73,13 @@ pub(crate) fn purpose_of(path: &[u8], count: u32, asked: u32) -> Purpose
 
 /// What is asked for at a place of paths, where that is asked of a case.
 fn wanted_at(place: &[u8]) -> Option<Wanted>
-    ensures { MatchOption result (¬ (TakesNumber place.now)) (λ wanted. place.now ≡ place_for wanted) }
+    ensures { MatchOption result (¬ (TakesNumber place.now)) (λ wanted. IsPlaceNamed (place_for wanted) place.now) }
 {
-    if place == b"/runCase".as_slice() {
+    if place.ends_with(b"/runCase") {
         Some(Wanted::Run)
-    } else if place == b"/getCaseInfo".as_slice() {
+    } else if place.ends_with(b"/getCaseInfo") {
         Some(Wanted::Info)
-    } else if place == b"/getCaseStatus".as_slice() {
+    } else if place.ends_with(b"/getCaseStatus") {
         Some(Wanted::Status)
     } else {
         None
