@@ -3,7 +3,7 @@
 //!
 //! The layer above uses four contracts: that of `ShortScripts`, which gives the scripts by their numbers from 0 on,
 //! that of `short_case`, the case of one, with a close behind it where it asks for one, that of `ShortCases`, which
-//! makes the cases of one script after the other, and that of `tell_steps`.
+//! makes the cases of one script after the other, and that of `tell_steps`, which tells such a case in a line.
 #![tactic(auto)]
 
 mod alphabet;
