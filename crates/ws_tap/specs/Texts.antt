@@ -1,7 +1,7 @@
 -- The lines that a tap tells of one direction: the first line of its head, and those of `show` for what stands behind
 -- it (RFC 6455 section 5.2).
 use Rattle.std.specs.Prelude.{◌≡◌, ◌⊎◌, ℕ, ◌<◌, ◌≤◌, ◌==◌, ◌||◌, Bool, true, false, not, List, [], ◌++◌, length, drop}
-use Rattle.std.specs.Prelude.{take, Some, codes}
+use Rattle.std.specs.Prelude.{take, Some, codes, map, nat_le, ◌&&◌, if◌then◌else◌}
 use Rattle.std.specs.List.{position_or_len}
 use Rattle.ws_wire.specs.declared.role.Role.TheVariants.{Client, Server}
 use Rattle.ws_frame.specs.declared.source.Source.{Source}
@@ -37,9 +37,13 @@ abbrev pub source_at : HeadKind → ℕ → Source
 source_at Request number = record { from = Client; mark = ClientOf number }
 source_at Response number = record { from = Server; mark = ServerOf number }
 
+-- a byte of it as it is shown: one outside 0x20 to 0x7e is a question mark, since a terminal may obey it
+abbrev pub shown_byte : ℕ → ℕ
+shown_byte byte = if nat_le 32 byte && nat_le byte 126 then byte else 63
+
 -- the line that tells of a head
 abbrev pub head_line : Source → List ℕ → List ℕ
-head_line source head = mark_word source.mark ++ (first_line head ++ codes "\n")
+head_line source head = mark_word source.mark ++ (map shown_byte (first_line head) ++ codes "\n")
 
 -- ---- the lines of frames
 

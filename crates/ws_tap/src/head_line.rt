@@ -1,7 +1,7 @@
 //! The line that tells of a head.
 
-ghost use Rattle.std.specs.Prelude.{◌≡◌, ◌≤◌, ◌+◌, [], ◌++◌, length};
-ghost use Rattle.ws_tap.specs.Texts.{head_line, source_at, side_mark};
+ghost use Rattle.std.specs.Prelude.{◌≡◌, ◌≤◌, ◌+◌, [], ◌++◌, length, map};
+ghost use Rattle.ws_tap.specs.Texts.{head_line, shown_byte, source_at, side_mark};
 
 use crate::first_line::first_line;
 use crate::heads::{HeadKind, MAX_HEAD};
@@ -38,7 +38,7 @@ impl HeadLine {
         let mut digits = Buffer::new();
         line.push(digits.format(number).as_bytes());
         line.push(mark_of(kind));
-        line.push(first_line(head));
+        line.push_shown(first_line(head));
         line.push(b"\n");
         line
     }
@@ -69,6 +69,28 @@ impl HeadLine {
         let end = self.len + bytes.len();
         self.bytes[self.len..end].copy_from_slice(bytes);
         self.len = end;
+    }
+
+    /// Puts bytes behind those that stand in it, each as it is shown.
+    fn push_shown(&mut self, bytes: &[u8])
+        requires { length self.old + length bytes.now ≤ 8224 }
+        ensures pushed { self.new ≡ self.old ++ map shown_byte bytes.now }
+        ensures len { length self.new ≡ length self.old + length bytes.now }
+    {
+        for byte in bytes {
+            self.push(&[shown_byte(*byte)]);
+        }
+    }
+}
+
+/// A byte of a head as it is shown: a question mark in the place of one that a terminal may obey.
+fn shown_byte(byte: u8) -> u8
+    ensures { result ≡ shown_byte byte }
+{
+    if (b' '..=b'~').contains(&byte) {
+        byte
+    } else {
+        b'?'
     }
 }
 
