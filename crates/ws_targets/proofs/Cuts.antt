@@ -23,6 +23,9 @@ none_behind : (front back : List ℕ) → All NoColon (front ++ colon ∷ back) 
 none_behind [] back h = All-head NoColon colon back h refl
 none_behind (x ∷ front) back h = none_behind front back (All-tail NoColon x (front ++ colon ∷ back) h)
 
+pub lacks_cut : (bytes front back : List ℕ) → All NoColon bytes → IsCutAtLastColon bytes front back → ⊥
+lacks_cut bytes front back h cut = none_behind front back (All-same NoColon (front ++ colon ∷ back) bytes (sym cut.0) h)
+
 abbrev rest_of : List ℕ → List ℕ
 rest_of [] = []
 rest_of (x ∷ xs) = xs

@@ -7,6 +7,8 @@ use Rattle.ws_targets.specs.Places.{EndsInPort, IsAddress, IsCutAtLastColon, IsP
 use Rattle.ws_targets.specs.Places.{has_byte}
 use Rattle.ws_targets.specs.Targets.{TargetValue, HasScheme, IsOfItsKind, IsTargetText, authority_of}
 use Rattle.ws_targets.specs.Targets.{begins_with_wss, connected_at, path_of, resource_of}
+use Rattle.ws_targets.specs.Advice.{Advises}
+use Rattle.ws_targets.specs.declared.advice.Advice.TheVariants.{Port, User, Web}
 
 -- what is computed at numbers that are written out
 unfoldable on_numbers : ⊤
@@ -148,3 +150,18 @@ encrypted = refl
 
 pub not_encrypted : begins_with_wss (codes "ws://wss:") ≡ false
 not_encrypted = refl
+
+-- ---- what is wrong with a word
+
+-- the URL of a page, in any case
+pub page : Advises (codes "HTTPs://me@a:/") Web
+page = refl
+
+-- a user is told before a port that is left out
+pub user_before_port : Advises (codes "ws://me@a:/") User
+user_before_port = (refl, refl)
+
+-- a port that is left out behind its colon, though a colon stands in the path too
+pub port_left_out : Advises (codes "ws://a:/b:1") Port
+port_left_out =
+    (refl, (λ wrong. cc, (codes "a", [], (refl, λ k d below. absurd (omega (arith, below))), inl refl)))

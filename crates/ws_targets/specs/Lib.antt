@@ -1,4 +1,5 @@
 pub mod Places
 pub mod Targets
 pub mod Reading
+pub mod Advice
 pub mod Examples

@@ -3,11 +3,14 @@
 //! `ws_upgrade`.
 //!
 //! The layers above use the contract of `read_target`: it gives the one target that the definition has for a word, and
-//! refuses a word for which there is none.
+//! refuses a word for which there is none. `target_advice` says what is wrong with such a word, where that is known to
+//! be typed often.
 #![tactic(auto)]
 
+mod advice;
 mod place;
 mod target;
 
+pub use advice::{Advice, target_advice};
 pub use place::is_address;
 pub use target::{Target, TargetFault, asks_for_tls, read_target};

@@ -51,7 +51,7 @@ pub(crate) fn place_of(authority: &[u8]) -> Option<Place<'_>>
 }
 
 /// What stands before the last colon, and what behind it. `None` where there is none.
-fn cut_at_last_colon(bytes: &[u8]) -> Option<(&[u8], &[u8])>
+pub(crate) fn cut_at_last_colon(bytes: &[u8]) -> Option<(&[u8], &[u8])>
     ensures { CutsAtLastColon bytes.now result }
 {
     let at = bytes.iter().rposition(|byte| *byte == b':')?;

@@ -128,7 +128,7 @@ pub fn asks_for_tls(text: &str) -> bool
 }
 
 /// Whether bytes begin with these, without regard to ASCII case.
-fn begins_with(bytes: &[u8], front: &[u8]) -> bool
+pub(crate) fn begins_with(bytes: &[u8], front: &[u8]) -> bool
     ensures { result ≡ str_eq_ignore_ascii_case (take (length front.now) bytes.now) front.now }
 {
     bytes[..front.len().min(bytes.len())].eq_ignore_ascii_case(front)
@@ -160,6 +160,15 @@ fn behind_scheme(url: &[u8]) -> Option<&[u8]>
     } else {
         None
     }
+}
+
+/// The authority of a URL that begins with `ws://`.
+pub(crate) fn authority_in(url: &[u8]) -> Option<&[u8]>
+    ensures { MatchOption result (¬ (HasScheme url.now))
+        (λ found. (found.now ≡ authority_of (drop 5 url.now)) × HasScheme url.now) }
+{
+    let rest = behind_scheme(url)?;
+    Some(cut_authority(rest).0)
 }
 
 /// The authority of a URL, by what stands behind its scheme, and what stands behind the authority.

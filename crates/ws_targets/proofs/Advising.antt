@@ -1,0 +1,39 @@
+-- What is wrong with a URL is what is wrong with its authority, and that is looked for behind its last colon.
+use Rattle.std.proofs.Common.{◌≡◌, ℕ, List, All, IsTrue, drop, subst, sym}
+use Rattle.ws_targets.specs.Advice.{Advises, AdvisesAuthority, HasBadPort, IsNoPort, begins_as_web}
+use Rattle.ws_targets.specs.Places.{IsCutAtLastColon}
+use Rattle.ws_targets.specs.Targets.{HasScheme, authority_of, begins_with_wss}
+use Rattle.ws_targets.specs.declared.advice.Advice.{Advice}
+use Rattle.ws_targets.specs.declared.advice.Advice.TheVariants.{Encrypted, Nothing, Port, Url, User, Web}
+use Rattle.ws_targets.proofs.Cuts.{NoColon, lacks_cut, one_cut}
+
+-- what is wrong with the authority of a URL is wrong with the URL
+pub advised_url : (word authority : List ℕ) (given : Advice) → ¬ (IsTrue (begins_with_wss word))
+    → ¬ (IsTrue (begins_as_web word)) → HasScheme word → authority ≡ authority_of (drop 5 word)
+    → AdvisesAuthority authority given → Advises word given
+advised_url word authority given no_tls no_page scheme e is =
+    by given (subst (λ (l : List ℕ). AdvisesAuthority l given) e is)
+  where
+    by : (given : Advice) → AdvisesAuthority (authority_of (drop 5 word)) given → Advises word given
+    by Encrypted wrong = absurd wrong
+    by Web wrong = absurd wrong
+    by Url wrong = wrong
+    by User is = (scheme, is)
+    by Port is = (scheme, is)
+    by Nothing is = (no_tls, no_page, λ _. is)
+
+-- a word without the scheme has no authority with which something could be wrong
+pub advised_word : (word : List ℕ) → ¬ (IsTrue (begins_with_wss word)) → ¬ (IsTrue (begins_as_web word))
+    → ¬ (HasScheme word) → Advises word Nothing
+advised_word word no_tls no_page none = (no_tls, no_page, λ scheme. absurd (none scheme))
+
+-- there is one last colon, behind which the port is bad or isn't
+pub bad_port_at : (authority front word : List ℕ) → IsCutAtLastColon authority front word
+    → (IsNoPort word → HasBadPort authority) × (HasBadPort authority → IsNoPort word)
+bad_port_at authority front word cut = (
+  (λ bad. (front, word, cut, bad)),
+  λ (other, port, is, bad). subst (λ (l : List ℕ). IsNoPort l) (sym (one_cut authority front word other port cut is).1) bad,
+)
+
+pub no_bad_port : (authority : List ℕ) → All NoColon authority → ¬ (HasBadPort authority)
+no_bad_port authority none (front, word, cut, bad) = lacks_cut authority front word none cut
