@@ -7,7 +7,7 @@ from dataclasses import dataclass
 ENTRY = re.compile(r"^ {2,6}(?:(-\w), )?(--[\w-]+)(?: <([^>]+)>)?(?:  +(.*))?$")
 WORD = re.compile(r"^ {2}[<\[]([^>\]]+)[>\]](\.\.\.)?(?:  +(.*))?$")
 LISTED = re.compile(r"^  (\S+)  +(.*)$")
-VALUES = re.compile(r"\s*\[possible values: ([^\]]*)\]")
+HEADING = re.compile(r"^([A-Z][\w ]*):$")
 NAMED = re.compile(r"`([a-z]{2,})`")
 
 
@@ -17,13 +17,14 @@ class Failure(Exception):
 
 @dataclass(frozen=True)
 class Argument:
-    """A word of a command, or an option. `words` are what it may be, as far as help names that: of an option its
-    possible values, of a word of the command what stands in marks of code."""
+    """An argument of a command, or an option. `words` are what it may be, as far as help names that in marks of code.
+    `heading` is the title of the list in which help has it."""
 
     name: str
     short: str
     value: str
     is_many: bool
+    heading: str
     help: str
     words: tuple
 
@@ -38,14 +39,13 @@ class Argument:
 
 @dataclass(frozen=True)
 class Command:
-    """A command. `about` is a line, `text` stands before its usage and `end` behind its options, both lines of text."""
+    """A command. `about` is a line, and `end` the lines of text after its options."""
 
     name: str
     about: str
     usage: str
     arguments: tuple
     options: tuple
-    text: tuple
     end: tuple
 
 
@@ -59,14 +59,18 @@ class Program:
 
 def read_program(path):
     """What the program at this path says of itself."""
-    text = said(path, "--help")
-    whole = command_of("", "", text)
-    named = [(match[1], match[2]) for match in map(LISTED.match, part_of(text, "Commands")) if match]
-    commands = [command_of(name, about, said(path, name, "--help")) for name, about in named if name != "help"]
-    cases = [line.split()[0] for words in ([], ["x*"]) for line in said(path, "cases", *words).splitlines()]
+    return program_of(lambda *words: said(path, *words))
+
+
+def program_of(says):
+    """A program by what it prints for its arguments."""
+    text = says("--help")
+    named = [match[1] for match in map(LISTED.match, part_of(text, "Commands")) if match]
+    commands = [command_of(name, says(name, "--help")) for name in named if name != "help"]
+    cases = [line.split()[0] for words in ([], ["x*"]) for line in says("cases", *words).splitlines()]
     if not commands or not cases:
         raise Failure("it lists no commands or no cases")
-    return Program(said(path, "--version").split()[1], whole, tuple(commands), tuple(cases))
+    return Program(says("--version").split()[1], command_of("", text), tuple(commands), tuple(cases))
 
 
 def said(path, *words):
@@ -76,23 +80,31 @@ def said(path, *words):
     return ran.stdout
 
 
-def command_of(name, about, text):
-    """A command by the text of its help."""
+def command_of(name, text):
+    """A command by the text of its help: a sentence, its usage, lists of arguments and options, and more text."""
     lines = text.splitlines()
-    at = next((n for n, line in enumerate(lines) if line.startswith("Usage: ")), None)
-    if at is None or "Options:" not in lines:
+    usage = next((line for line in lines if line.startswith("Usage: ")), None)
+    if usage is None or "Options:" not in lines:
         raise Failure(f"no usage or no options in the help of '{name}'")
-    options = lines.index("Options:")
-    end = next((n for n in range(options + 1, len(lines)) if lines[n] and not lines[n].startswith(" ")), len(lines))
+    options, end = options_of(lines[lines.index("Options:") :])
     return Command(
         name,
-        about,
-        lines[at].removeprefix("Usage: "),
-        tuple(arguments_in(part_of(text, "Arguments"), WORD)),
-        tuple(arguments_in(lines[options + 1 : end], ENTRY)),
-        tuple(without_edges(lines[:at])),
-        tuple(without_edges(lines[end:])),
+        lines[0],
+        usage.removeprefix("Usage: "),
+        tuple(arguments_in(part_of(text, "Arguments"), WORD, "Arguments")),
+        tuple(options),
+        tuple(without_edges(end)),
     )
+
+
+def options_of(lines):
+    """The options of the lists with which some lines begin, and the lines after these lists."""
+    found, at = [], 0
+    while at + 1 < len(lines) and HEADING.match(lines[at]) and ENTRY.match(lines[at + 1]):
+        end = next((n for n in range(at, len(lines)) if not lines[n]), len(lines))
+        found += arguments_in(lines[at + 1 : end], ENTRY, HEADING.match(lines[at])[1])
+        at = end + 1
+    return found, lines[at:]
 
 
 def part_of(text, title):
@@ -103,7 +115,7 @@ def part_of(text, title):
     return below[:end]
 
 
-def arguments_in(lines, form):
+def arguments_in(lines, form, heading):
     """The arguments of a list. What is indented more than their names is their help."""
     found = []
     for line in lines:
@@ -115,15 +127,14 @@ def arguments_in(lines, form):
         elif line.strip():
             raise Failure(f"a line of help is not understood: {line}")
     for match, texts in found:
-        yield argument_of(match, " ".join(text for text in texts if text))
+        yield argument_of(match, heading, " ".join(text for text in texts if text))
 
 
-def argument_of(match, text):
+def argument_of(match, heading, text):
     if match.re is WORD:
-        return Argument(match[1], "", match[1], bool(match[2]), text, tuple(NAMED.findall(text)))
-    values = VALUES.search(text)
-    words = values[1].split(", ") if values else ()
-    return Argument(match[2], match[1] or "", match[3] or "", False, text, tuple(words))
+        return Argument(match[1], "", match[1], bool(match[2]), heading, text, tuple(NAMED.findall(text)))
+    words = NAMED.findall(text) if match[3] else ()
+    return Argument(match[2], match[1] or "", match[3] or "", False, heading, text, tuple(words))
 
 
 def without_edges(lines):

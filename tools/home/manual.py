@@ -1,4 +1,5 @@
-"""The manual page: what help says, as the system's manual has it."""
+"""The manual page: what help says, and the texts of `docs/manual`, which say the rest. Each command has such a text,
+`wst` itself too, and so has each subject that commands share."""
 
 import re
 import textwrap
@@ -12,29 +13,41 @@ MINUS = re.compile(r"--[\w-]+|(?<![a-zA-Z])-|-(?![a-zA-Z])")
 MOST_COLUMNS = 78
 WIDEST_TERM = 20
 
+# The titles of two parts of help, and the subjects that have texts of their own, in their order on the page.
+EXIT = "Exit status:"
+EXAMPLES = "Examples:"
+SUBJECTS = ("targets", "scripts", "verdicts", "captures")
 
-def manual(program, date):
-    """The page in the macros `man`. The date is that of the version."""
+
+def manual(program, date, texts):
+    """The page in the macros `man`. The date is that of the version. `texts` is the folder of the texts."""
+    end = program.whole.end
     parts = [
         f'.TH WST 1 {date} "wst {program.version}" "User Commands"',
         ".nr HY 0",
         ".ad l",
         ".SH NAME",
-        f"wst \\- {roff(uncapped(program.whole.text[0]))}",
+        f"wst \\- {roff(uncapped(program.whole.about))}",
         ".SH SYNOPSIS",
         *synopsis(program),
         ".SH DESCRIPTION",
-        *section_of(without(program.whole.end, "Exit status:", "Example:")),
+        *section_of(text_of(texts, "wst")),
         ".SH COMMANDS",
-        *(line for command in program.commands for line in section(command)),
+        *(line for command in program.commands for line in section(command, text_of(texts, command.name))),
+        *(line for name in SUBJECTS for line in (f".SH {name.upper()}", *section_of(text_of(texts, name)))),
         ".SH OPTIONS",
         *listed(program.whole.options),
         ".SH EXIT STATUS",
-        *section_of(behind(program.whole.end, "Exit status:")),
+        *section_of(line for part in behind(end, EXIT) for line in part),
         ".SH EXAMPLES",
-        *section_of(behind(program.whole.end, "Example:")),
+        *section_of(line for part in behind(end, EXAMPLES) for line in part),
     ]
     return "\n".join(parts) + "\n"
+
+
+def text_of(texts, name):
+    """The lines of a text."""
+    return (texts / f"{name}.txt").read_text().splitlines()
 
 
 def uncapped(text):
@@ -56,13 +69,20 @@ def usage_line(command):
     return bold(name) + VALUE.sub(lambda match: italic(match[1]), rest)
 
 
-def section(command):
+def section(command, text):
+    """What a command does, by its help and by its text, with its options, exit statuses and examples behind both."""
     yield f".SS {command.name}"
     yield usage_line(command)
-    yield from prose(command.text)
+    yield from prose([command.about + "."])
+    yield from prose(without(command.end, EXIT, EXAMPLES))
+    yield from prose(text)
     yield from listed(command.arguments)
-    yield from listed([option for option in command.options if option.name != "--help"])
-    yield from prose(command.end)
+    options = [option for option in command.options if option.name != "--help"]
+    for heading in dict.fromkeys(option.heading for option in options):
+        if heading != "Options":
+            yield from prose([f"{heading}:"])
+        yield from listed([option for option in options if option.heading == heading])
+    yield from prose(line for mark in (EXIT, EXAMPLES) for part in behind(command.end, mark) for line in [mark, *part])
 
 
 def listed(arguments):
@@ -88,9 +108,8 @@ def without(lines, *marks):
 
 
 def behind(lines, mark):
-    """The paragraphs that begin with this mark, without it."""
-    kept = [lines for lines in paragraphs(lines) if lines[0].startswith(mark)]
-    return [line for lines in kept for line in [lines[0].removeprefix(mark).lstrip(), *lines[1:], ""]]
+    """The paragraphs that begin with this line, without it."""
+    return [[*part[1:], ""] for part in paragraphs(lines) if part[0] == mark]
 
 
 def paragraphs(lines):

@@ -3,6 +3,7 @@
 use Rattle.std.proofs.Common.{◌≡◌, ◌∙◌, ◌++◌, ◌∷◌, [], List, true, false, ℕ, Option, None, Some, ap, sym, refl, codes, inl, inr}
 use Rattle.std.specs.Str.{bytes_eq}
 use Rattle.clap.specs.Words.{Row, Text}
+use Rattle.wst_words.specs.Cases.{AsksForCases, cases_command}
 use Rattle.wst_words.specs.Judge.{AsksToJudge, judge_command}
 use Rattle.wst_words.specs.Options.{GivesNoNumberOr, GivesNumberIfAny, LacksOneOf}
 use Rattle.wst_words.specs.Pair.{AsksToPair, pair_command}
@@ -18,6 +19,7 @@ use Rattle.wst_words.specs.Sweep.{AsksToSweep, sweep_command}
 use Rattle.wst_words.specs.Tap.{AsksToTap, tap_command}
 use Rattle.wst_words.specs.Test.{AsksToTest, test_command}
 use Rattle.wst_words.specs.Words.{CommandAsks, CommandAsksNothing}
+use Rattle.wst_words.specs.declared.cases.CasesOptions.{CasesOptions}
 use Rattle.wst_words.specs.declared.judge.JudgeOptions.{JudgeOptions}
 use Rattle.wst_words.specs.declared.pair.PairOptions.{PairOptions}
 use Rattle.wst_words.specs.declared.report.ReportOptions.{ReportOptions}
@@ -221,6 +223,20 @@ no_tap name rows is lacks = refuses
     refuses : (task : Task) → CommandAsks (Some (name, rows)) task → ⊥
     refuses (Tap options) asks = tap_lacks rows options lacks asks.1
     refuses task asks = differs (codes "tap") (task_name task) name refl refl is (called name rows task asks)
+
+cases_lacks : (rows : List Row) (options : CasesOptions) → LacksOneOf rows cases_command.arguments
+    → AsksForCases rows options → ⊥
+cases_lacks rows options (inl titles) asks = titles options.titles asks.0
+cases_lacks rows options (inr (inl id)) asks = absurd id
+cases_lacks rows options (inr (inr none)) asks = absurd none
+
+pub no_cases : (name : Text) (rows : List Row) → name ≡ codes "cases" → LacksOneOf rows cases_command.arguments
+    → CommandAsksNothing (Some (name, rows))
+no_cases name rows is lacks = refuses
+  where
+    refuses : (task : Task) → CommandAsks (Some (name, rows)) task → ⊥
+    refuses (Cases options) asks = cases_lacks rows options lacks asks.1
+    refuses task asks = differs (codes "cases") (task_name task) name refl refl is (called name rows task asks)
 
 report_lacks : (rows : List Row) (options : ReportOptions) → LacksOneOf rows report_command.arguments
     → AsksToReport rows options → ⊥

@@ -230,9 +230,10 @@ plain_convert places = (refl, refl)
 abbrev cases_words : List Text
 cases_words = words (codes "cases" ∷ [])
 
-pub plain_cases : (places : Places) → AsksFor (wst_app places) cases_words (Cases (record { id = None }))
+pub plain_cases : (places : Places)
+    → AsksFor (wst_app places) cases_words (Cases (record { titles = false; id = None }))
 unfolding on_words
-plain_cases places = (refl, (refl, refl))
+plain_cases places = (refl, (refl, (refl, refl)))
 
 -- `wst cases 7.7.1*` asks for those whose names begin so
 abbrev some_cases_words : List Text
@@ -243,6 +244,16 @@ pub some_cases : (places : Places)
     ≡ Some (Some (codes "7.7.1*"))
 unfolding on_words
 some_cases places = refl
+
+-- `wst cases --titles` asks for the titles
+abbrev titles_words : List Text
+titles_words = words (codes "cases" ∷ codes "--titles" ∷ [])
+
+pub some_titles : (places : Places)
+    → option_map (λ met. one_of (codes "titles") met.1) (subcommand_of (wst_app places) titles_words)
+    ≡ Some (Some (codes "true"))
+unfolding on_words
+some_titles places = refl
 
 -- `wst test own 2.5 1.1.1 2.5` runs cases over our echo, in the order given and as often as given, with the usual key
 abbrev test_words : List Text
@@ -320,7 +331,8 @@ test_roles places = refl
 pub asking_words_are_taken : (places : Places)
     → map (takes (wst_app places)) (plain_words ∷ client_words ∷ head_words ∷ protocol_words ∷ no_protocol_words
     ∷ session_words ∷ echo_words ∷ judge_words ∷ convert_words ∷ cases_words ∷ some_cases_words ∷ test_words
-    ∷ serve_words ∷ waiting_words ∷ client_test_words ∷ known_words ∷ [])
-    ≡ true ∷ true ∷ true ∷ true ∷ true ∷ true ∷ true ∷ true ∷ true ∷ true ∷ true ∷ true ∷ true ∷ true ∷ true ∷ true ∷ []
+    ∷ titles_words ∷ serve_words ∷ waiting_words ∷ client_test_words ∷ known_words ∷ [])
+    ≡ true ∷ true ∷ true ∷ true ∷ true ∷ true ∷ true ∷ true ∷ true ∷ true ∷ true ∷ true ∷ true ∷ true ∷ true ∷ true
+    ∷ true ∷ []
 unfolding on_words
 asking_words_are_taken places = refl

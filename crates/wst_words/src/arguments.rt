@@ -1,4 +1,4 @@
-//! The arguments of commands: rows of tables, and what `clap` is told of each.
+//! The arguments of commands: rows of tables, and what `clap` is given for each.
 
 ghost use Rattle.std.specs.Prelude.{◌≡◌, false};
 ghost use Rattle.clap.specs.Words.{rule_of};
@@ -44,6 +44,9 @@ pub(crate) struct Argument {
     pub(crate) default: Option<&'static str>,
     /// What help calls its value.
     pub(crate) value_name: &'static str,
+    /// The heading below which help lists it. Without one, it stands among the arguments or the options.
+    pub(crate) heading: Option<&'static str>,
+    /// What help says of it, in one or two lines.
     pub(crate) help: &'static str,
 }
 
@@ -62,9 +65,13 @@ pub(crate) fn arg_of<'a>(alloc: Global, argument: &Argument, names: NameParsers<
     ensures local { result.global ≡ false }
 {
     let arg = arg_of_kind(alloc, argument, names);
-    match argument.default {
-        Some(default) => arg.default_value(default),
+    let headed = match argument.heading {
+        Some(heading) => arg.help_heading(heading),
         None => arg,
+    };
+    match argument.default {
+        Some(default) => headed.default_value(default),
+        None => headed,
     }
 }
 
@@ -74,8 +81,8 @@ fn arg_of_kind<'a>(alloc: Global, argument: &Argument, names: NameParsers<'a>) -
     ensures local { result.global ≡ false }
 {
     match argument.kind {
-        ArgumentKind::End => option_arg(alloc, argument).value_parser(names.ends),
-        ArgumentKind::Expected => option_arg(alloc, argument).value_parser(names.expectations),
+        ArgumentKind::End => named_arg(alloc, argument).value_parser(names.ends),
+        ArgumentKind::Expected => named_arg(alloc, argument).value_parser(names.expectations),
         ArgumentKind::Number => option_arg(alloc, argument).value_parser(clap::value_parser!(u64)),
         ArgumentKind::Word => option_arg(alloc, argument),
         ArgumentKind::EachWord => each_arg(alloc, argument),
@@ -93,6 +100,14 @@ fn arg_of_kind<'a>(alloc: Global, argument: &Argument, names: NameParsers<'a>) -
             .help(argument.help)
             .action(ArgAction::Append),
     }
+}
+
+/// An option that takes one of some names, which its own help says.
+fn named_arg<'a>(alloc: Global, argument: &Argument) -> Arg<'a>
+    ensures rule { rule_of result ≡ option_rule argument.now.name.now }
+    ensures local { result.global ≡ false }
+{
+    option_arg(alloc, argument).hide_possible_values(true)
 }
 
 /// An option that takes one value.

@@ -33,14 +33,12 @@ pub(crate) enum CommandName {
     Tap,
 }
 
-/// What help says of a command.
+/// What help says of a command. The rest of what its manual page says is in `docs/manual`, so `--help` stays short.
 #[derive(Clone, Copy)]
 pub(crate) struct HelpText<'a> {
-    /// In a line.
+    /// What the command does, in one sentence of one line.
     pub(crate) about: &'a str,
-    /// What it is for.
-    pub(crate) long_about: &'a str,
-    /// What stands at the end.
+    /// What follows the options: notes, exit statuses and examples.
     pub(crate) after_help: &'a str,
 }
 
@@ -137,7 +135,7 @@ pub(crate) fn wst_command<'a>(alloc: Global) -> Result<Command<'a>, AllocError>
     let named = Command::new(alloc, "wst").bin_name("wst")?;
     let wst = named
         .version(VERSION)
-        .about("Tests WebSocket endpoints frame by frame (RFC 6455)")
+        .about("Test WebSocket servers and clients frame by frame (RFC 6455)")
         .after_help(AFTER_HELP)
         .subcommand_required(true);
     let command = with_commands(alloc, wst, &COMMANDS, names)?;
@@ -174,7 +172,6 @@ fn command_of<'a>(
     let help = help_of(name);
     let bare = Command::new(alloc, name_of(name))
         .about(help.about)
-        .long_about(help.long_about)
         .after_help(help.after_help);
     let command = with_arguments(alloc, bare, arguments_of(name), names)?;
     Ok(command)
@@ -199,16 +196,22 @@ fn with_arguments<'a>(
     Ok(command)
 }
 
-/// What stands at the end of the help.
-const AFTER_HELP: &str =
-    "Each command but `cases`, `test`, `sweep`, `serve` and `tap` reads its standard input. What it reads
-and writes is told by `wst COMMAND --help`, with an example. In scripts HEX is bytes as lower-case
-pairs of hexadecimal digits, or `-` for none.
+/// What follows the options of `wst`.
+const AFTER_HELP: &str = "Exit status:
+  0  done
+  1  a verdict is FAIL, or the input is damaged or refused
+  2  usage error
+  3  input, output, the network, the budget or memory failed
 
-Exit status: 0 done, 1 the input is damaged or refused or a verdict is FAIL, 2 wrong words, limits
-or lists, 3 the input, the output, the network, the budget or memory failed.
-
-Example:
+Examples:
+  # test an echo server, and explain each FAIL
+  wst test --timeout 5 --explain ws://localhost:9001/echo
+  # send it a frame that it should refuse
+  echo 'text key=- \"Hello\"' | wst send ws://localhost:9001/echo
+  # test any other server, by the protocol alone
+  wst test --expect protocol --explain ws://localhost:9001/chat
+  # prints: 0 text fin=1 rsv=0 key=- len=5 short 48656c6c6f
   printf '\\201\\005Hello' | wst show
-prints the one frame that it reads:
-  0 text fin=1 rsv=0 key=- len=5 short 48656c6c6f";
+
+`wst COMMAND --help` lists the options of a command. The manual page, `man wst`,
+describes inputs, outputs and verdicts in full.";

@@ -5,39 +5,26 @@ use crate::commands::HelpText;
 /// What help says of `convert`.
 pub(crate) fn help<'a>() -> HelpText<'a> {
     HelpText {
-        about: "Writes a captured connection in format 2, whichever of the formats it has",
-        long_about: LONG_ABOUT,
+        about: "Convert a capture to format 2, which keeps all of it",
         after_help: AFTER_HELP,
     }
 }
 
-/// What `convert` is for.
-const LONG_ABOUT: &str =
-    "Reads a capture in format 1 or 2, and writes it in format 2, which keeps all of it: the masking key
-where it is known, each turn also where nothing was got in it, and a connection that broke. The
-lines of format 2, each ended by LF:
+/// What follows the options of `convert`.
+const AFTER_HELP: &str =
+    "A capture is read from stdin, in format 1 or 2. Only format 2 keeps the masking
+key, turns in which nothing was received, and whether the connection broke.
 
-  wst-capture 2    the first line
-  key KEY          the masking key in eight digits, or `-` where none is known
-  turn             a turn begins; after it stand at most one line of each kind:
-  > HEX            the client sent these bytes, at least one
-  < HEX            it got these bytes, at least one
-  end peer         the last line: the server ended the connection; `end tester`: the client did;
-                   `end broken`: a read or a write failed
+Exit status:
+  0  written
+  1  stdin is no capture
+  2  usage error
+  3  an I/O or memory error
 
-A capture in format 1 tells no key. Its turns are those that `judge --help` tells.
-
-A damaged capture is told as `line N: not a capture`, and nothing is written.
-
-Exit status: 0 written, 1 a damaged capture, 2 wrong words, 3 a device failed or memory ran out.";
-
-/// What stands at the end of the help of `convert`.
-const AFTER_HELP: &str = "Example:
-  printf '%s\\n' 'wst-capture 1' '> 81810000000061' '< 810161' 'end tester' | wst convert
-prints
-  wst-capture 2
-  key -
-  turn
-  > 81810000000061
-  < 810161
-  end tester";
+Examples:
+  wst convert < old.capture > new.capture
+  # prints the key as -, since format 1 has none
+  printf '%s\\n' 'wst-capture 1' '> 81810000000061' '< 810161' \\
+    'end peer' | wst convert
+  # checks that a file is a capture
+  wst convert < my.capture > /dev/null";

@@ -24,7 +24,8 @@ static ARGUMENTS: [Argument; 1] = [Argument {
     kind: Word,
     default: None,
     value_name: "LIST",
-    help: "Subprotocols that the server knows, joined by commas",
+    heading: None,
+    help: "Subprotocols of the server, separated by commas",
 }];
 
 /// The arguments of `head`.
@@ -46,35 +47,29 @@ pub(crate) fn head_options<'a>(options: &ArgMatches<'a>) -> HeadOptions<'a>
 /// What help says of `head`.
 pub(crate) fn help<'a>() -> HelpText<'a> {
     HelpText {
-        about: "Answers the head of a request for an upgrade",
-        long_about: LONG_ABOUT,
+        about: "Answer the head of an upgrade request, as a server does",
         after_help: AFTER_HELP,
     }
 }
 
-/// What `head` is for.
-const LONG_ABOUT: &str =
-    "Reads the head of a request for an upgrade to WebSocket, and writes what a server answers: the
-response that accepts it, or the refusal, `426 Upgrade Required` where the request has not exactly
-one version, 13, and else `400 Bad Request`. It answers as soon as the head is decided; what follows
-it is ignored. Each line of a head ends in CR LF, and an empty line ends the head.
+/// What follows the options of `head`.
+const AFTER_HELP: &str =
+    "The head of a request is read from stdin, up to its empty line. The response
+that accepts or refuses it is written to stdout.
 
-With --protocols the response names the first subprotocol that the request offers and that is in
-LIST, byte for byte, whatever the order of LIST; where there is none it names none, and the request
-is accepted all the same. LIST is 1 to 16 names, no two of them equal, as chat,superchat. A name has
-1 to 64 letters, digits and characters of !#$%&'*+-.^_`|~.
+Exit status:
+  0  the request is accepted
+  1  the request is refused, or stdin ends inside the head
+  2  usage error
+  3  an I/O or memory error
 
-Exit status: 0 accepted, 1 refused or the head is cut, 2 wrong words or a bad LIST, 3 a device
-failed or memory ran out.";
-
-/// What stands at the end of the help of `head`.
-const AFTER_HELP: &str = "Example:
-  printf '%s\\r\\n' 'GET /chat HTTP/1.1' 'Host: example.com' 'Upgrade: websocket' \\
-    'Connection: Upgrade' 'Sec-WebSocket-Version: 13' \\
-    'Sec-WebSocket-Key: dGhlIHNhbXBsZSBub25jZQ==' '' | wst head
-prints
-  HTTP/1.1 101 Switching Protocols
-  Upgrade: websocket
-  Connection: Upgrade
-  Sec-WebSocket-Accept: s3pPLMBiTxaQ9kYGzzhZRbK+xOo=
-and an empty line. The last line before it proves that the server read the key of the request.";
+Examples:
+  # accepted
+  printf '%s\\r\\n' 'GET /chat HTTP/1.1' 'Host: example.com' \\
+    'Upgrade: websocket' 'Connection: Upgrade' \\
+    'Sec-WebSocket-Key: dGhlIHNhbXBsZSBub25jZQ==' \\
+    'Sec-WebSocket-Version: 13' '' | wst head
+  # refused: it asks for no upgrade
+  printf 'GET / HTTP/1.1\\r\\nHost: example.com\\r\\n\\r\\n' | wst head
+  # with subprotocols
+  wst head --protocols chat,superchat < request.head";

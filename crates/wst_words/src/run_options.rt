@@ -41,7 +41,8 @@ pub(crate) const ROLE: Argument = Argument {
     kind: End,
     default: Some("server"),
     value_name: "END",
-    help: "The tested end",
+    heading: Some("Target"),
+    help: "Test a `server` or a `client`",
 };
 
 pub(crate) const EXPECT: Argument = Argument {
@@ -49,7 +50,8 @@ pub(crate) const EXPECT: Argument = Argument {
     kind: Expected,
     default: Some("echo"),
     value_name: "WHAT",
-    help: "What it is judged by",
+    heading: Some("Target"),
+    help: "Judge as an `echo`, or by the `protocol` alone: any\nother endpoint",
 };
 
 pub(crate) const KEY: Argument = Argument {
@@ -57,7 +59,8 @@ pub(crate) const KEY: Argument = Argument {
     kind: Word,
     default: Some("37fa213d"),
     value_name: "HEX8",
-    help: "Masking key: eight lower-case hexadecimal digits",
+    heading: Some("Target"),
+    help: "Masking key, in lower-case hex",
 };
 
 pub(crate) const TIMEOUT: Argument = Argument {
@@ -65,7 +68,8 @@ pub(crate) const TIMEOUT: Argument = Argument {
     kind: Word,
     default: None,
     value_name: "SECONDS",
-    help: "Wait so long for each byte of a server, 1 to 3600",
+    heading: Some("Limits"),
+    help: "Seconds to wait for each byte, 1 to 3600\n[default: no limit]",
 };
 
 pub(crate) const BUDGET: Argument = Argument {
@@ -73,7 +77,8 @@ pub(crate) const BUDGET: Argument = Argument {
     kind: Number,
     default: Some("67108864"),
     value_name: "N",
-    help: "Most bytes to read behind its head in one script",
+    heading: Some("Limits"),
+    help: "Read up to N bytes per connection",
 };
 
 pub(crate) const PROTOCOLS: Argument = Argument {
@@ -81,7 +86,8 @@ pub(crate) const PROTOCOLS: Argument = Argument {
     kind: Word,
     default: None,
     value_name: "LIST",
-    help: "Subprotocols to offer, joined by commas",
+    heading: Some("Handshake"),
+    help: "Offer these subprotocols, separated by commas",
 };
 
 pub(crate) const HEADER: Argument = Argument {
@@ -89,7 +95,8 @@ pub(crate) const HEADER: Argument = Argument {
     kind: EachWord,
     default: None,
     value_name: "NAME: VALUE",
-    help: "A header of the request, as often as one is wanted",
+    heading: Some("Handshake"),
+    help: "Add a header to the request, up to 32 times",
 };
 
 pub(crate) const CONNECT: Argument = Argument {
@@ -97,7 +104,8 @@ pub(crate) const CONNECT: Argument = Argument {
     kind: Word,
     default: None,
     value_name: "HOST:PORT",
-    help: "Connect there, and ask for TARGET",
+    heading: Some("Target"),
+    help: "Connect here instead, and still request TARGET",
 };
 
 pub(crate) const TARGET: Argument = Argument {
@@ -105,7 +113,9 @@ pub(crate) const TARGET: Argument = Argument {
     kind: NeededWord,
     default: None,
     value_name: "TARGET",
-    help: "A server: HOST:PORT, a ws:// URL, or in memory `own`, our echo, or `tung`, tungstenite's",
+    heading: None,
+    help: "HOST:PORT, a ws:// URL, or an echo in memory: `own` or `tung`.
+With --role client: the address where clients connect",
 };
 
 /// What the words give. `None` where a word has no value.

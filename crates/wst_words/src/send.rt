@@ -33,6 +33,7 @@ static ARGUMENTS: [Argument; 10] = [
     KEY,
     Argument {
         default: Some("2"),
+        help: "Seconds to wait for each byte, 1 to 3600",
         ..TIMEOUT
     },
     BUDGET,
@@ -45,7 +46,8 @@ static ARGUMENTS: [Argument; 10] = [
         kind: Flag,
         default: None,
         value_name: "",
-        help: "Write the capture in place of the frames",
+        heading: Some("Output"),
+        help: "Print the capture instead of the frames",
     },
 ];
 
@@ -86,61 +88,32 @@ fn options_with<'a>(options: &ArgMatches<'a>, run: RunOptions<'a>) -> Option<Sen
 /// What help says of `send`.
 pub(crate) fn help<'a>() -> HelpText<'a> {
     HelpText {
-        about: "Sends the frames of a script to a server or a client, and shows all that come back",
-        long_about: LONG_ABOUT,
+        about: "Send a script's frames to a server or a client, and print the replies",
         after_help: AFTER_HELP,
     }
 }
 
-/// What `send` is for.
-const LONG_ABOUT: &str =
-    "Reads a script, whose lines `wst cases --help` describes, and runs it at TARGET: HOST:PORT, as
-127.0.0.1:9001, [::1]:9001 or localhost:9001, which is asked for an upgrade at `/`; or a URL, as
-ws://localhost:9001/echo?x=1, whose port is 80 where it has none; or a new server in memory: `own`,
-our echo, or `tung`, one of the crate tungstenite. With --role client a client gets the script: one
-in memory, as `wst test --help` tells, or at any other HOST:PORT the first that comes, whatever
-its path, once `listening on ADDR` was told on the fault output. What is sent may break any rule.
-Each frame is shown as soon as it is certain:
-
-  turn N         a turn begins, counted from 1; `wait` in the script ends one
-  > FRAME        a frame that was sent, as `wst show` shows it, its place counted in what was sent
-  < FRAME        one that came back, its place counted in what came back
-  > bad length at N, > cut at N, the same with `<`    as `wst show` has them
-  end WHO        who ended the run: `peer`; `tester`, which had sent all and waited in vain, or got
-                 what the tested end may not send; or `broken`, where the connection broke
-
-Lines of `>` stand as soon as their turn was sent, those of `<` as soon as their frame is whole. A
-turn ends once what is due for it has come, or once for so many SECONDS nothing has; once a close
-has come nothing more is sent. With --capture the capture is written in place of the lines, in
-format 2. The command gives no verdict: wst send --capture TARGET | wst judge
-
-A turn is sent before anything is read for it. One that is larger than what the sockets' buffers
-hold wants a peer that reads meanwhile; else it waits for SECONDS, and the run ends as `broken`.
-
-With --protocols the request offers the subprotocols of LIST, with --header it has more lines, and
-with --connect the connection is made elsewhere, as `wst test --help` tells. At a server in memory
-these, SECONDS and the budget are checked and without effect. An answer to the request that is to be
-refused is `FAIL Head NAME` on the fault output, which that help describes too, and a server that is
-not there `no connection: WHY`: then nothing stands on the output.
-
-Exit status: 0 the script was run, whoever ended it, 1 the input is no script (`line N: not a step`)
-or the answer is to be refused, 2 wrong words, also a word that is no LIST, header, SECONDS, key,
-TARGET or address, 3 there is no connection, nothing can be listened at, the input or the output
-failed or memory ran out.";
-
-/// What stands at the end of the help of `send`.
+/// What follows the options of `send`.
 const AFTER_HELP: &str =
-    "Examples, each to paste: a ping; a ping between two fragments; a frame with a reserved bit; a frame
-without a mask; and the script of a case.
-  echo 'ping \"hi\"' | wst send own
-  printf '%s\\n' 'text fin=0 \"Hel\"' 'ping \"between\"' 'cont \"lo\"' | wst send own
-  echo 'text rsv=4 \"Hello\"' | wst send own
+    "The script on stdin has one step per line. SCRIPTS in `man wst` has them all:
+  text \"Hello\"         a frame: text, binary, cont, close, ping, pong or op3
+  text fin=0 rsv=4 c3  without FIN, with RSV1, with a payload in hexadecimal
+  ping key=- -         without a mask (or key=37fa213d), without a payload
+  close=1000           a close frame with this code
+  wait                 the turn ends: wait for the replies
+A turn is sent before anything is read. If the peer doesn't read a large turn
+while it is sent, the run ends as broken.
+
+Exit status:
+  0  the script was run, whoever ended the connection
+  1  the script is invalid, or the handshake was refused
+  2  usage error
+  3  no connection, cannot listen, or an I/O or memory error
+
+Examples:
+  # an unmasked frame, to an echo in memory
   echo 'text key=- \"Hello\"' | wst send own
-  wst cases 7.7.1 | wst send own
-The fourth prints
-  turn 1
-  > 0 text fin=1 rsv=0 key=- len=5 short 48656c6c6f !mask
-  < 0 close fin=1 rsv=0 key=- len=2 short 03ea
-  end peer
-a frame that a client may not send, and the close 1002 that it gets. Over sockets:
-  wst serve 127.0.0.1:9001 1 & sleep 1; echo 'text key=- \"Hello\"' | wst send 127.0.0.1:9001";
+  # a ping between two fragments
+  printf '%s\\n' 'text fin=0 \"a\"' 'ping \"b\"' 'cont \"c\"' | wst send own
+  # the script of a test case
+  wst cases 7.7.1 | wst send ws://localhost:9001/echo";

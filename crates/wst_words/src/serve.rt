@@ -38,48 +38,55 @@ static ARGUMENTS: [Argument; 7] = [
         kind: Number,
         default: Some("1048576"),
         value_name: "N",
-        help: "Most bytes of a message to the server, 1 to 16777216",
+        heading: None,
+        help: "Largest message, 1 to 16777216",
     },
     Argument {
         name: "frame",
         kind: Number,
         default: None,
         value_name: "N",
-        help: "Most bytes of a data frame to the server [default: as --limit]",
+        heading: None,
+        help: "Largest data frame [default: as --limit]",
     },
     Argument {
         name: "budget",
         kind: Number,
         default: Some("1073741824"),
         value_name: "N",
-        help: "Most bytes to read of a connection behind its head",
+        heading: None,
+        help: "Read up to N bytes per client",
     },
     Argument {
         name: "timeout",
         kind: Word,
         default: None,
         value_name: "SECONDS",
-        help: "End a connection on which no byte has come for so long, 1 to 3600",
+        heading: None,
+        help: "Seconds of silence that end a connection, 1 to 3600\n[default: no limit]",
     },
     Argument {
         name: "protocols",
         kind: Word,
         default: None,
         value_name: "LIST",
-        help: "Subprotocols that the server knows, joined by commas",
+        heading: None,
+        help: "Subprotocols of the server, separated by commas",
     },
     Argument {
         name: "address",
         kind: NeededWord,
         default: None,
         value_name: "ADDR",
-        help: "Where to listen: an IP address or the name of a host, and a port",
+        heading: None,
+        help: "HOST:PORT to listen at; for port 0 the system chooses one",
     },
     Argument {
         name: "count",
         kind: NeededCount,
         default: None,
         value_name: "COUNT",
+        heading: None,
         help: "How many connections to serve, one after the other",
     },
 ];
@@ -115,53 +122,25 @@ pub(crate) fn serve_options<'a>(options: &ArgMatches<'a>) -> Option<ServeOptions
 /// What help says of `serve`.
 pub(crate) fn help<'a>() -> HelpText<'a> {
     HelpText {
-        about: "Serves connections of clients, and sends each message back",
-        long_about: LONG_ABOUT,
+        about: "Run an echo server, to try WebSocket clients with",
         after_help: AFTER_HELP,
     }
 }
 
-/// What `serve` is for.
-const LONG_ABOUT: &str =
-    "Listens at an address as a WebSocket server, to try clients at, and serves so many connections,
-one after the other: it answers the opening handshake, and sends each message back, until the
-connection is closed or failed or the client ends it. Other clients wait meanwhile. Nothing that a
-client does ends the command, and a client that neither sends nor ends keeps it waiting, unless
---timeout says for how long: decimal, without leading zeros. What a client still sends behind the
-end of its session is read and dropped until it ends, for two seconds at most. ADDR is written as
-127.0.0.1:9001, [::1]:9001 or localhost:9001.
+/// What follows the options of `serve`.
+const AFTER_HELP: &str =
+    "Each message is sent back. `listening on ADDR` is printed first, and then a line
+for each connection that has ended. Other clients wait meanwhile.
 
-A line is written as soon as the command listens, and one for each connection that has ended:
+Exit status:
+  0  COUNT connections were served, however they ended
+  2  usage error
+  3  cannot listen, cannot accept, or an I/O or memory error
 
-  listening on ADDR   the word as it was given; where its port is 0, the port that the system
-                      chose stands in the place of that 0
-  K STATUS            how the session of connection K ended, counted from 1: `clean CODE` or
-                      `clean none`, `failed NAME`, or `lost` where the client ended the stream
-                      without a close frame
-  K refused NAME      the head of its request was refused
-  K stopped           it sent no whole head, reading or writing failed, no byte came in time, or
-                      the budget or memory was used up
-
-Where the address can't be listened at, the fault output has `not listening: WHY`. WHY is `no such
-host`, `address in use`, `not permitted` or `failed`.
-
-The NAME of a refusal is Head, Method, Version, Host, Upgrade, Connection, Key, WsVersion or
-TooLarge; that of a failure is one that `wst session --help` lists.
-
-The limit of a data frame is 1 to that of a message. Control frames have their own, 125 bytes.
-
-With --protocols the response to a request names the first subprotocol that the request offers and
-that is in LIST, as `wst head --help` says; none is refused for what it offers.
-
-Exit status: 0 so many connections were served, however they ended, 2 wrong words, SECONDS, limits
-or LIST, 3 the address can't be listened at, no more connections come, a line could not be written
-or memory ran out for it.";
-
-/// What stands at the end of the help of `serve`.
-const AFTER_HELP: &str = "Example:
+Examples:
+  # prints: 1 refused Upgrade
   wst serve 127.0.0.1:9001 1 & sleep 1; curl -s http://127.0.0.1:9001/
-prints
-  listening on 127.0.0.1:9001
-  1 refused Upgrade
-The request asks for no upgrade to a WebSocket connection. A case that tests the server:
-  wst serve 127.0.0.1:9001 1 & sleep 1; wst test 127.0.0.1:9001 1.1.1";
+  # a test case
+  wst serve 127.0.0.1:9001 1 & sleep 1; wst test 127.0.0.1:9001 1.1.1
+  # for a browser: new WebSocket('ws://localhost:9001')
+  wst serve --timeout 60 localhost:9001 100";

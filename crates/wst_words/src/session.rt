@@ -33,28 +33,32 @@ static ARGUMENTS: [Argument; 4] = [
         kind: End,
         default: Some("server"),
         value_name: "END",
-        help: "The role of the endpoint",
+        heading: None,
+        help: "The endpoint is a `client` or a `server`",
     },
     Argument {
         name: "limit",
         kind: Number,
         default: Some("1048576"),
         value_name: "N",
-        help: "Most bytes of a message to the endpoint, 1 to 16777216",
+        heading: None,
+        help: "Largest message that it accepts, in bytes",
     },
     Argument {
         name: "frame",
         kind: Number,
         default: None,
         value_name: "N",
-        help: "Most bytes of a data frame to the endpoint [default: as --limit]",
+        heading: None,
+        help: "Largest data frame that it accepts [default: as --limit]",
     },
     Argument {
         name: "echo",
         kind: Flag,
         default: None,
         value_name: "",
-        help: "The endpoint sends each message back",
+        heading: None,
+        help: "Send back each message; only take and end are calls then",
     },
 ];
 
@@ -85,67 +89,33 @@ pub(crate) fn session_options(options: &ArgMatches<'_>) -> Option<SessionOptions
 /// What help says of `session`.
 pub(crate) fn help<'a>() -> HelpText<'a> {
     HelpText {
-        about: "Plays calls at one endpoint, and tells what it answers to each",
-        long_about: LONG_ABOUT,
+        about: "Make calls at one endpoint, in memory, and print its answers",
         after_help: AFTER_HELP,
     }
 }
 
-/// What `session` is for.
-const LONG_ABOUT: &str =
-    "Reads a script of calls, makes them at one endpoint of a WebSocket connection, and writes what it
-answers: which frames it puts, what it tells of any bytes that come to it, in any cut, and where and
-why they are at fault. A line of the script is one of these:
+/// What follows the options of `session`.
+const AFTER_HELP: &str = "Limits are 1 to 16777216. The script on stdin has one call per line:
+  begin text|binary fin|part HEX KEY   send a message's first frame
+  more fin|part HEX KEY                send its next frame
+  ping HEX KEY, pong HEX KEY           send a ping or a pong
+  close CODE|none HEX KEY              send a close with this reason
+  take HEX KEY                         these bytes arrive from the peer
+  end                                  the stream from the peer ends
+HEX is pairs of hexadecimal digits, or - for none. KEY is a masking key of
+eight digits, or - for zeros.
 
-  begin text|binary fin|part HEX KEY   it sends the first frame of a message
-  more fin|part HEX KEY                it sends the next frame of its open message
-  ping HEX KEY                         it sends a ping
-  pong HEX KEY                         it sends a pong
-  close CODE|none HEX KEY              it sends a close frame, with its reason
-  take HEX KEY                         these bytes of the other end come to it
-  end                                  the stream to it ends
+Exit status:
+  0  all calls were made
+  1  a line is no call, and none was made
+  2  usage error
+  3  an I/O or memory error
 
-  fin   the frame is the last of its message; `part`: others follow
-  HEX   bytes as lower-case pairs of hexadecimal digits, or `-` for none; with `close none` it is
-        `-`, since only a code has a reason
-  KEY   the masking key of what a client puts, eight lower-case hexadecimal digits, or `-` for
-        zeros; a server's calls have one too, well formed, though it uses none
-  CODE  0 to 65535
-
-Words are parted by one space, and each line ends in LF. With --echo only `take` and `end` are
-calls. The output has lines for each call, and two at the end:
-
-  sent HEX              a send that was done, with the bytes that it put
-  refused NAME          a send that was refused
-  PLACE part            a take tells its events: a fragment,
-  PLACE text HEX        a whole message (or `binary`),
-  PLACE ping HEX        a ping (or `pong`),
-  PLACE close CODE HEX  a close with its reason, or `PLACE close none`,
-  PLACE failed NAME     a fault;
-  taken N put HEX       then how many bytes it took, and what it put in answer
-  ended                 the end of the stream
-  held N                after the last call, but not of an echo: how many bytes are kept,
-  status STATUS         and how it stands: `open`, `closing`, `clean CODE`, `clean none`,
-                        `failed NAME` or `lost`
-
-PLACE counts the bytes that were taken since the start, up to and with the last of the event.
-The NAME of a refusal is Over, Busy, NothingOpen, NotText, TooLong or BadCode. The NAME of a failure
-is ReservedBits, Opcode, MaskWrong, NotShortest, BadLength, ControlCut, ControlLong,
-NothingToContinue, MessageOpen, TooBig, NotText, TextCut, CloseOneByte, CloseCode, CloseReason or
-FrameBig.
-
-The limit of a data frame is 1 to that of a message. Control frames have their own, 125 bytes.
-
-Exit status: 0 all calls made, 1 a line is no call, and none is made, 2 wrong words or limits, 3 a
-device failed or memory ran out.";
-
-/// What stands at the end of the help of `session`.
-const AFTER_HELP: &str = "Example:
-  printf 'take 818537fa213d7f9f4d5158 -\\nbegin text fin 6869 -\\n' | wst session
-prints
-  11 text 48656c6c6f
-  taken 11 put -
-  sent 81026869
-  held 0
-  status open
-The server told the message `Hello` once eleven bytes were taken, and then sent `hi`.";
+Examples:
+  # Hello arrives at a server, which then sends hi
+  printf '%s\\n' 'take 818537fa213d7f9f4d5158 -' \\
+    'begin text fin 6869 -' | wst session
+  # an unmasked frame, in two pieces
+  printf '%s\\n' 'take 8101 -' 'take 61 -' | wst session
+  # the same bytes at a client that echoes
+  echo 'take 810161 37fa213d' | wst session --role client --echo";

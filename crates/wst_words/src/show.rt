@@ -33,13 +33,15 @@ static ARGUMENTS: [Argument; 4] = [
         kind: End,
         default: None,
         value_name: "END",
-        help: "The end that sent the frames [default: server]",
+        heading: None,
+        help: "Who sent the bytes: `client` or `server` [default: server]",
     },
     Argument {
         name: "budget",
         kind: Number,
         default: None,
         value_name: "N",
+        heading: None,
         help: "Read at most N bytes [default: 1073741824]",
     },
     Argument {
@@ -47,14 +49,16 @@ static ARGUMENTS: [Argument; 4] = [
         kind: Flag,
         default: None,
         value_name: "",
-        help: "Show the frames of a capture, both ways, turn by turn",
+        heading: None,
+        help: "Read a capture, and print both directions, turn by turn",
     },
     Argument {
         name: "role",
         kind: End,
         default: None,
         value_name: "END",
-        help: "The end that was tested [default: server]",
+        heading: None,
+        help: "With --capture, the tested endpoint: `client` or `server`\n[default: server]",
     },
 ];
 
@@ -83,49 +87,27 @@ pub(crate) fn show_options(options: &ArgMatches<'_>) -> Option<ShowOptions>
 /// What help says of `show`.
 pub(crate) fn help<'a>() -> HelpText<'a> {
     HelpText {
-        about: "Shows the frames of a stream or a capture, a line each",
-        long_about: LONG_ABOUT,
+        about: "Print the frames of a byte stream or a capture, one line each",
         after_help: AFTER_HELP,
     }
 }
 
-/// What `show` is for.
-const LONG_ABOUT: &str =
-    "Reads the bytes that one end of a WebSocket connection sent, after the opening handshake, and writes
-a line for each frame:
-
+/// What follows the options of `show`.
+const AFTER_HELP: &str = "Each frame on stdin is printed as one line:
   OFFSET KIND fin=0|1 rsv=R key=KEY len=LENGTH FORM DATA
+It ends in !mask if the frame should be masked and is not, or the reverse, and
+in !form if the length is written in more bytes than needed.
 
-  OFFSET  the place of the frame's first byte in the stream, counted from 0
-  KIND    cont, text, binary, close, ping or pong, or `op3` for the reserved opcode 3
-  fin     1 where the frame is the last of its message
-  R       the reserved bits as 4 * RSV1 + 2 * RSV2 + RSV3, 0 where no extension is in use
-  KEY     the masking key as eight hexadecimal digits, or `-` where the frame is not masked
-  LENGTH  the length of the payload in bytes
-  FORM    how the length is written: `short` in seven bits, or in `two` or `eight` more bytes
-  DATA    the first 16 bytes of the payload, unmasked, as HEX: lower-case pairs of hexadecimal
-          digits, then `..` where there are more; `-` where there are none
+Exit status:
+  0  all frames were printed
+  1  the stream ends inside a frame, a length is bad, or it is no capture
+  2  usage error
+  3  the budget is used up, or an I/O or memory error
 
-A line ends in ` !mask` where the end that sent the frame should have masked it and did not or the
-other way round (a client masks each frame, a server none), and in ` !form` where its length is
-written in more bytes than needed. Nothing else is judged. Where the input ends inside a frame the
-last line is `cut at OFFSET`, and at a length whose top bit is set it is `bad length at OFFSET`.
-
-With --capture the input is a capture, in either format, and the frames of both directions are
-shown turn by turn: `turn N`, counted from 1, then the lines of what was sent in it, behind `> `,
-and of what was got, behind `< `; then `> cut at` and `< cut at`, and at last `end peer`, `end
-tester` or `end broken`. Each frame stands in the turn of its last byte, and each direction is
-counted from 0. --role is the tested end, which `<` comes from. --from and --budget don't go with
---capture, nor --role without it. A damaged capture is `line N: not a capture`.
-
-Exit status: 0 all shown, also of a capture, 1 cut, a bad length or a damaged capture, 2 wrong
-words, 3 the budget is used up, a device failed or memory ran out.";
-
-/// What stands at the end of the help of `show`.
-const AFTER_HELP: &str = "Example:
+Examples:
+  # prints: 0 text fin=1 rsv=0 key=- len=5 short 48656c6c6f
   printf '\\201\\005Hello' | wst show
-prints
-  0 text fin=1 rsv=0 key=- len=5 short 48656c6c6f
-At byte 0 begins a text frame, the last of its message, with no reserved bit, not masked. Its
-payload has five bytes, whose number is written in the short form: `Hello`. Of a case:
+  # what a client sent
+  wst show --from client < client.bytes
+  # both directions of a test case
   wst test --capture own 1.1.1 | wst show --capture";

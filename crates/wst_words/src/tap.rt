@@ -30,21 +30,24 @@ static ARGUMENTS: [Argument; 3] = [
         kind: NeededWord,
         default: None,
         value_name: "LISTEN",
-        help: "Where to listen: an IP address or the name of a host, and a port",
+        heading: None,
+        help: "HOST:PORT to listen at; for port 0 the system chooses one",
     },
     Argument {
         name: "target",
         kind: NeededWord,
         default: None,
         value_name: "TARGET",
-        help: "The server: an IP address or the name of a host, and a port",
+        heading: None,
+        help: "HOST:PORT of the server",
     },
     Argument {
         name: "count",
         kind: NeededCount,
         default: None,
         value_name: "COUNT",
-        help: "How many connections to tap, one after the other",
+        heading: None,
+        help: "How many connections to forward, one after the other",
     },
 ];
 
@@ -73,51 +76,27 @@ pub(crate) fn tap_options<'a>(options: &ArgMatches<'a>) -> Option<TapOptions<'a>
 /// What help says of `tap`.
 pub(crate) fn help<'a>() -> HelpText<'a> {
     HelpText {
-        about: "Stands between clients and a server, and shows the frames of both",
-        long_about: LONG_ABOUT,
+        about: "Forward bytes between clients and a server, and print the frames",
         after_help: AFTER_HELP,
     }
 }
 
-/// What `tap` is for.
-const LONG_ABOUT: &str =
-    "Listens at an address, and for each of so many connections, one after the other, connects to a
-server and passes bytes both ways, unchanged, as soon as they come. At most 65536 bytes are held of
-each direction: an end that takes no bytes stops the reading from the other. The end of a direction
-is passed on, and the other direction goes on. LISTEN and TARGET are written as 127.0.0.1:9001,
-[::1]:9001 or localhost:9001. Nothing is read from the standard input.
+/// What follows the options of `tap`.
+const AFTER_HELP: &str =
+    "Bytes are forwarded unchanged, as soon as they arrive. Of connection N, lines
+with `N >` are what the client sent, lines with `N <` what the server sent:
+the first line of each head, and then each frame, as `wst show` prints it.
 
-A line is written as soon as the command listens, and then for each connection N, counted from 1,
-each as soon as it is certain:
+Exit status:
+  0  COUNT connections were forwarded, however they ended
+  2  usage error
+  3  cannot listen, cannot accept, or an I/O or memory error
 
-  listening on LISTEN   with the port that the system chose in the place of a port 0
-  N > LINE, N < LINE    the first line of the client's request, and of the server's response, which
-                        end in the first 8192 bytes; without such a head nothing is told of an end
-  N > FRAME, N < FRAME  a whole frame behind the head, as `wst show` writes it, offsets from the
-                        head's end; only where the status of the response is 101. The client's wait
-                        for the response: the first 65536 bytes of them are kept, and a line that
-                        doesn't fit whole is left out, and so are those after it
-  N > cut at OFFSET, N > bad length at OFFSET, the same with `<`     as `wst show` has them
-  N no connection       the server took none, and the client's connection is closed
-  N end client, N end server       which end ended its direction first, when both have ended
-  N end broken          a read or a write failed, and both connections were closed
-
-Where the address can't be listened at, the fault output has `not listening: WHY`. WHY is `no such
-host`, `address in use`, `not permitted` or `failed`. A LISTEN or TARGET that is no host and port is
-`bad address`. A line that nobody reads stops the command. Connecting to TARGET has the system's own
-limit of time.
-
-A browser offers compression. Where the server takes it, frames have rsv=4, and their bytes are
-packed.
-
-Exit status: 0 so many connections were tapped, however they ended, 2 wrong words or addresses, 3
-the address can't be listened at, no more connections come, a line could not be written or memory
-ran out for it.";
-
-/// What stands at the end of the help of `tap`.
-const AFTER_HELP: &str = "Example:
-  wst serve 127.0.0.1:9001 1 & wst tap 127.0.0.1:9002 127.0.0.1:9001 1 & sleep 1
-  wst test 127.0.0.1:9002 1.1.2
-prints among others
-  1 > GET / HTTP/1.1
-  1 < HTTP/1.1 101 Switching Protocols";
+Examples:
+  # between one client and a server at port 9001
+  wst tap 127.0.0.1:9002 127.0.0.1:9001 1
+  # between a test case and an echo
+  wst serve 127.0.0.1:9001 1 & wst tap 127.0.0.1:9002 127.0.0.1:9001 1 &
+  sleep 1; wst test 127.0.0.1:9002 1.1.2
+  # only the client's lines
+  wst tap localhost:9002 localhost:9001 100 | grep ' > '";

@@ -52,42 +52,48 @@ static ARGUMENTS: [Argument; 15] = [
         kind: Flag,
         default: None,
         value_name: "",
-        help: "Write the capture of one case",
+        heading: Some("Output"),
+        help: "Print the capture of the one case instead of its verdict",
     },
     Argument {
         name: "explain",
         kind: Flag,
         default: None,
         value_name: "",
-        help: "Tell below LOOSE and FAIL what was owed and what came",
+        heading: Some("Output"),
+        help: "Print the rule, what was due and what was received",
     },
     Argument {
         name: "progress",
         kind: Flag,
         default: None,
         value_name: "",
-        help: "Tell each ID on the fault output before its case runs",
+        heading: Some("Output"),
+        help: "Print each ID to stderr before its case runs",
     },
     Argument {
         name: "known",
         kind: Flag,
         default: None,
         value_name: "",
-        help: "Read the lines of an earlier run, and tell what is otherwise",
+        heading: Some("CI"),
+        help: "Read an earlier run from stdin, and print what differs",
     },
     Argument {
         name: "junit",
         kind: Flag,
         default: None,
         value_name: "",
-        help: "Write a JUnit document",
+        heading: Some("CI"),
+        help: "Write a JUnit document (incomplete if a signal ends wst)",
     },
     Argument {
         name: "ids",
         kind: Words,
         default: None,
         value_name: "ID",
-        help: "Cases to run, in this order, as 2.5 or `7.*`; all where none is given",
+        heading: None,
+        help: "Cases to run, such as 2.5 or 7.*, in this order [default: all]",
     },
 ];
 
@@ -145,100 +151,31 @@ fn options_with<'a>(
 /// What help says of `test`.
 pub(crate) fn help<'a>() -> HelpText<'a> {
     HelpText {
-        about: "Runs cases against a server or a client, and tells which rule it broke in each",
-        long_about: LONG_ABOUT,
+        about: "Run test cases against a server or a client, one connection each",
         after_help: AFTER_HELP,
     }
 }
 
-/// What `test` is for.
-const LONG_ABOUT: &str =
-    "Runs cases, scripts that test a server, each over a connection of its own. TARGET is a server that
-is to send each message back: HOST:PORT, as 127.0.0.1:9001, [::1]:9001 or localhost:9001, which is
-asked for an upgrade at `/`; or a URL, as ws://localhost:9001/echo?x=1, whose port is 80 where it
-has none; or a new server in memory for each case, to see what a run looks like: `own`, our echo,
-which passes, or `tung`, one of the crate tungstenite. With --role client the same cases test a
-client: `own` and `tung` are clients in memory then, which mask their frames with --key, and at any
-other HOST:PORT clients are listened for, as told below. A client is sent frames without a mask, but
-where a case has a key of its own. As soon as a case is judged a line for it is written, and the
-total at last:
+/// What follows the options of `test`.
+const AFTER_HELP: &str =
+    "Each case gives PASS, LOOSE WHY (permitted, but not the reference behaviour),
+FAIL WHY (a rule is broken), FAIL Head NAME (the handshake was refused: see
+--header and --protocols) or `no connection`. `man wst` explains WHY and NAME.
 
-  ID PASS             the tested end kept the rules
-  ID LOOSE WHY        it answered otherwise than an echo that is fed turn by turn
-  ID FAIL WHY         it broke this rule
-  ID FAIL Head NAME   its answer to the request is to be refused
-  ID no connection    there is none, or no whole answer came: the last line, without a total
-                      and with `no connection: WHY` on the fault output, where WHY is `no such
-                      host`, `refused`, `unreachable`, `timed out`, `closed before the answer` or
-                      `failed`
-  P pass, L loose, F fail
+With --role client, start your client once `listening on` is printed. Each of
+its connections runs the next case. It must echo, unless --expect protocol is
+given, and reconnect. Clients for Autobahn's fuzzing server run unchanged.
 
-Cases run in the order in which their IDs are given, as often as they are given, and all of them
-where none is. An ID that ends in `*` stands for all cases whose IDs begin with what is before it,
-in the order of `wst cases`, which lists the IDs. `wst judge --help` says what each WHY means. NAME
-is Head, Version, Status, Upgrade, Connection, Accept, Extension, Protocol or TooLarge. With
---capture, which takes one case by its whole ID, the capture of what went over the connection is
-written in place of the lines, and the status is that of its verdict. With --explain the lines that
-`wst judge --help` tells follow LOOSE and FAIL, and `  status NNN`, with the three digits that came,
-follows FAIL Head Status.
+Exit status:
+  0  no FAIL; with --known, no new case and no other result
+  1  a FAIL; with --known, a new case or another result
+  2  usage error
+  3  no connection, cannot listen, or an I/O or memory error
 
-With --expect protocol the tested end needn't echo, so a server can be tested as it is shipped: it
-may send and close as it likes, and only what RFC 6455 orders of any end is a FAIL. `wst judge
---help` says which rules these are.
-
-With --known the input has the lines of an earlier run, of which the last of each case counts. What
-is otherwise is told behind a verdict: ` (was VERDICT)` where the known one has other words, and
-` (new)` where none is known. The status is then 1 where a case is new or got otherwise, and else 0,
-whatever the verdicts are: two count as the same where neither is a FAIL, or both are the same FAIL;
-`no connection` counts as one. Totals, `listening on ..`, lines that begin with a space, and these
-two ends of a line are passed by, so that what is written can be known next; at another line it is
-told `line N: not a verdict`, and nothing runs. Without --known nothing is read.
-
-With --junit the output is one JUnit document, with what --explain tells: a case has a <failure>
-where it is a FAIL or has no connection, with --known where it is new or got otherwise, and what
-else is no PASS stands in a <system-out>. The tags are closed however the run ends, if the output
-works. Neither goes with --capture.
-  wst test ws://localhost:9001/echo > known.txt
-  wst test --timeout 5 --known --junit ws://localhost:9001/echo < known.txt > report.xml
-
-With --role client HOST:PORT, as 127.0.0.1:9001, `listening on ADDR` comes first, with the real port
-where it is 0, and connections are taken one after the other. Test clients for Autobahn's fuzzing
-server run as they are: the paths /getCaseCount, /runCase?case=N, /getCaseInfo?case=N,
-/getCaseStatus?case=N and /updateReports mean here what they mean there, and the run ends with the
-last of them; at any other path the next case is run, and the run ends with the last case. Then
-`ID FAIL NotRun` is told of each case that none has asked for. A request that is to be refused is
-`refused NAME` on the fault output, and where nothing can be listened at `not listening: WHY`. With
---capture, whose run ends with the first connection that runs the case, and with --junit the address
-is told on the fault output. SECONDS are for bytes, and not for a client to come.
-  wst test --role client --timeout 5 --explain 127.0.0.1:9001
-
-With --protocols each request offers the subprotocols of LIST in its order, which `wst head --help`
-describes. An answer that names another one, or more than one, is to be refused as Protocol. With
---header, up to 32 times, each request has the line NAME: VALUE behind its own, in their order. With
---connect the connection is made there, and what is asked for stays: so TLS is left to another
-program. A server in memory asks for no handshake: all three are without effect there.
-  wst test --header 'Authorization: Bearer TOKEN' ws://localhost:9001/echo
-  socat TCP-LISTEN:9443,fork,reuseaddr OPENSSL:example.org:443 &
-  wst test --connect localhost:9443 ws://example.org/echo
-
-A server that neither answers nor ends the connection keeps the command waiting, unless --timeout
-says for how long: decimal, without leading zeros. Where for so long no byte has come, the next turn
-is sent, and in the last one the case ends, so that what is missing is told; before the answer is
-whole there is no connection. A run then goes on behind `ID no connection`, which counts as a FAIL
-in the total; the third in a row ends it as the first one does without --timeout. The budget used
-up, a case ends as broken off. A server in memory answers at once: there SECONDS and the budget are
-without effect. In parts: wst test 127.0.0.1:9001 '1.*'
-
-Exit status: 0 no case is FAIL, 1 one is (see --known), or a line of the input is no verdict, 2
-wrong words, also a word that is no LIST, header, SECONDS, key, TARGET, address or ID, and --capture
-with other than one case, with --known or with --junit, 3 there is no connection, nothing can be
-listened at, a device failed or memory ran out.";
-
-/// What stands at the end of the help of `test`.
-const AFTER_HELP: &str = "Example:
-  wst test own 2.5
-prints
-  2.5 PASS
-  1 pass, 0 loose, 0 fail
-The echo failed the connection at a ping of 126 bytes, as it should. Over sockets:
-  wst serve 127.0.0.1:9001 1 & sleep 1; wst test 127.0.0.1:9001 1.1.1";
+Examples:
+  # an echo server
+  wst test --timeout 5 --explain ws://localhost:9001/echo
+  # any other server
+  wst test --timeout 5 --expect protocol ws://localhost:9001/chat
+  # a client, which connects to this address once per case
+  wst test --timeout 5 --role client 127.0.0.1:9001";

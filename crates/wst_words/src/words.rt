@@ -174,7 +174,7 @@ fn plain_task<'a>(name: &str, options: &ArgMatches<'a>) -> Option<Task<'a>>
         "session" => Some(Task::Session(session_options(options)?)),
         "judge" => Some(Task::Judge(judge_options(options)?)),
         "convert" => Some(Task::Convert),
-        "cases" => Some(Task::Cases(cases_options(options))),
+        "cases" => Some(Task::Cases(cases_options(options)?)),
         "report" => Some(Task::Report(report_options(options)?)),
         "serve" => Some(Task::Serve(serve_options(options)?)),
         "tap" => Some(Task::Tap(tap_options(options)?)),

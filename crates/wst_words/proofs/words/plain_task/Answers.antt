@@ -1,9 +1,9 @@
--- A command one of whose options has no value asks for nothing: `show`, `pair`, `session`, `report`, `serve`, `judge` and
--- `tap`.
+-- A command one of whose options has no value asks for nothing: `show`, `pair`, `session`, `cases`, `report`, `serve`,
+-- `judge` and `tap`.
 use Rattle.std.proofs.Common.{rules, ◌≡◌, List, Option, Some, codes}
 use Rattle.clap.specs.Words.{Row, Text, found_of, rows_of}
 use Rattle.wst_words.specs.Words.{CommandAsks, CommandAsksNothing}
-use Rattle.wst_words.proofs.OtherTasks.{no_judge, no_pair, no_report, no_serve, no_session, no_show, no_tap}
+use Rattle.wst_words.proofs.OtherTasks.{no_cases, no_judge, no_pair, no_report, no_serve, no_session, no_show, no_tap}
 use Rattle.wst_words.proofs.WordLemmas.{none_from}
 use Rattle.wst_words.proofs.words.plain_task.Goals as goal
 
@@ -27,6 +27,13 @@ returns-in_err-session_options-in-session c =
     let called : c.args.name.now ≡ codes "session" = search rules in
     let none : CommandAsksNothing met = no_session c.args.name.now (rows_of (found_of c.args.options.now)) called c.in_err-session_options-in-session.ensures in
     none_from c.from_residual-in_err-session_options-in-session.result (CommandAsksNothing met) (CommandAsks met) c.from_residual-in_err-session_options-in-session.ensures none
+
+pub returns-in_err-cases_options-in-cases : goal.returns-in_err-cases_options-in-cases
+returns-in_err-cases_options-in-cases c =
+    let met : Option (Text × List Row) = Some (c.args.name.now, rows_of (found_of c.args.options.now)) in
+    let called : c.args.name.now ≡ codes "cases" = search rules in
+    let none : CommandAsksNothing met = no_cases c.args.name.now (rows_of (found_of c.args.options.now)) called c.in_err-cases_options-in-cases.ensures in
+    none_from c.from_residual-in_err-cases_options-in-cases.result (CommandAsksNothing met) (CommandAsks met) c.from_residual-in_err-cases_options-in-cases.ensures none
 
 pub returns-in_err-report_options-in-report : goal.returns-in_err-report_options-in-report
 returns-in_err-report_options-in-report c =
