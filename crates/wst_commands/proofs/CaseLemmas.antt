@@ -16,7 +16,7 @@ use Rattle.ws_scripts.specs.CaseNames.{case_names}
 use Rattle.ws_scripts.specs.Scripts.{ArePieces, AreTurns, CanBeRun, turns_of}
 use Rattle.ws_scripts.specs.ScriptTexts.{written_script}
 use Rattle.ws_scripts.specs.declared.script.Case.{Case}
-use Rattle.wst_commands.specs.Cases.{case_line, cases_text}
+use Rattle.wst_commands.specs.Cases.{case_line, cases_text, titled_line}
 use Rattle.wst_commands.specs.GivenCases.{AreCasesFor, AreCasesOf, AreNamesFor, GrowsByCase, GrowsByCases, HaveNoGlob}
 use Rattle.wst_commands.specs.GivenCases.{LackCases}
 use Rattle.wst_commands.specs.declared.given_cases.NoCases.{NoCases}
@@ -214,14 +214,20 @@ lacking words i d within =
 -- ---- what is written of cases
 
 -- where the word is a glob, a line of each
-pub lines_text : (word : List ℕ) (cases : List Case) → is_glob word ≡ true → flat_map case_line cases ≡ cases_text word cases
-lines_text word cases glob = sym (ap (λ (b : Bool). cond b (flat_map case_line cases) (flat_map written_script cases)) glob)
+pub lines_text : (with_titles : Bool) (word : List ℕ) (cases : List Case) → with_titles ≡ false → is_glob word ≡ true
+    → flat_map case_line cases ≡ cases_text with_titles word cases
+lines_text with_titles word cases untitled glob =
+    let texts = flat_map written_script cases in
+    sym (ap (λ (b : Bool). cond b (flat_map titled_line cases) (cond (is_glob word) (flat_map case_line cases) texts)) untitled
+    ∙ ap (λ (b : Bool). cond b (flat_map case_line cases) texts) glob)
 
 -- else the one as text
-pub script_text : (word : List ℕ) (cases : List Case) (case : Case) → is_glob word ≡ false → cases ≡ case ∷ []
-    → written_script case ≡ cases_text word cases
-script_text word cases case plain one =
-    sym (ap (λ (b : Bool). cond b (flat_map case_line cases) (flat_map written_script cases)) plain
+pub script_text : (with_titles : Bool) (word : List ℕ) (cases : List Case) (case : Case) → with_titles ≡ false
+    → is_glob word ≡ false → cases ≡ case ∷ [] → written_script case ≡ cases_text with_titles word cases
+script_text with_titles word cases case untitled plain one =
+    let texts = flat_map written_script cases in
+    sym (ap (λ (b : Bool). cond b (flat_map titled_line cases) (cond (is_glob word) (flat_map case_line cases) texts)) untitled
+    ∙ ap (λ (b : Bool). cond b (flat_map case_line cases) texts) plain
     ∙ ap (λ (l : List Case). flat_map written_script l) one ∙ append-nil (written_script case))
 
 -- the line of the next case

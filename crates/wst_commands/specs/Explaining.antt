@@ -24,6 +24,7 @@ use Rattle.ws_suite.specs.declared.evidence.Reply.TheVariants as reply
 use Rattle.ws_suite.specs.declared.explaining.Explanation.{Explanation}
 use Rattle.ws_suite.specs.declared.verdict.Verdict.{Verdict}
 use Rattle.ws_suite.specs.declared.verdict.Verdict.TheVariants.{Pass, Loose, Fail}
+use Rattle.wst_commands.specs.FaultRules.{sent_rule}
 use Rattle.wst_commands.specs.declared.explaining.Judgement.{Judgement}
 use Rattle.wst_commands.specs.declared.explanation_lines.Side.{Side}
 use Rattle.wst_commands.specs.declared.explanation_lines.Side.TheVariants.{Due, Got}
@@ -88,17 +89,18 @@ ended_word Broken = codes "broken"
 abbrev pub ended_line : Ended → ℕ → List ℕ
 ended_line ended turns = concat (codes "  end " ∷ ended_word ended ∷ codes " " ∷ decimal turns ∷ codes "\n" ∷ [])
 
--- the rule behind the verdict; behind a Pass there is none
+-- a rule, if there is one
 abbrev pub rule_line : Option (List ℕ) → List ℕ
 rule_line None = []
 rule_line (Some sentence) = concat (codes "  rule " ∷ sentence ∷ codes "\n" ∷ [])
 
 -- The lines of an explanation: what was owed, what came, where bytes follow the close that came, where the bytes that
--- came end inside a frame, who ended it, and the rule.
+-- came end inside a frame, who ended it, the rule behind the verdict, and the rule that what was sent breaks.
 abbrev pub explanation_lines : Role → Expectation → Option ℕ → Explanation → List ℕ
 explanation_lines tested expected cut x = concat (
     direction_lines Due x.due ∷ direction_lines Got x.got ∷ note_line (codes "beyond") x.beyond
-    ∷ note_line (codes "cut") cut ∷ ended_line x.ended x.turns ∷ rule_line (rule_words tested expected x.verdict) ∷ [])
+    ∷ note_line (codes "cut") cut ∷ ended_line x.ended x.turns ∷ rule_line (rule_words tested expected x.verdict)
+    ∷ rule_line (sent_rule x.due.ending) ∷ [])
 
 -- ---- where what came is cut
 

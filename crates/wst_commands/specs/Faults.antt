@@ -4,6 +4,7 @@ use Rattle.std.specs.List.{concat}
 use Rattle.std.specs.Fmt.{decimal}
 use Rattle.ws_frame.specs.Devices.{Device, IsUntouched}
 use Rattle.wst_commands.specs.Devices.{Tells}
+use Rattle.wst_commands.specs.StepDamages.{damage_words}
 use Rattle.wst_commands.specs.declared.exit.Exit.{Exit}
 use Rattle.wst_commands.specs.declared.exit.Exit.TheVariants.{Damaged, Failed, WrongWords}
 use Rattle.wst_commands.specs.declared.fault.Fault.{Fault}
@@ -11,7 +12,7 @@ use Rattle.wst_commands.specs.declared.fault.Fault.TheVariants.{BadLimits, BadPr
 use Rattle.wst_commands.specs.declared.fault.Fault.TheVariants.{NotACall, NotACapture, NotAMove, NotAStep, NotAVerdict}
 use Rattle.wst_commands.specs.declared.fault.Fault.TheVariants.{NotListening, StreamWithCapture}
 use Rattle.wst_commands.specs.declared.fault.Fault.TheVariants.{NoText, NoTask, NoMemory, RoleWithoutCapture}
-use Rattle.wst_commands.specs.declared.fault.Fault.TheVariants.{SummaryWithJson}
+use Rattle.wst_commands.specs.declared.fault.Fault.TheVariants.{SummaryWithJson, TimeoutWithUnit}
 use Rattle.wst_commands.specs.declared.fault.ListenFault.{ListenFault}
 use Rattle.wst_commands.specs.declared.fault.ListenFault.TheVariants as why
 
@@ -39,6 +40,8 @@ abbrev pub TellsFault : Fault → Exit → Device → Type 0
 TellsFault BadLimits exit faults = (exit ≡ WrongWords) × Tells (codes "bad limits\n") faults
 TellsFault BadProtocols exit faults = (exit ≡ WrongWords) × Tells (codes "bad protocol list\n") faults
 TellsFault BadTimeout exit faults = (exit ≡ WrongWords) × Tells (codes "bad timeout\n") faults
+TellsFault TimeoutWithUnit exit faults =
+    (exit ≡ WrongWords) × Tells (codes "bad timeout\n  seconds without a unit: --timeout 5\n") faults
 TellsFault StreamWithCapture exit faults =
     (exit ≡ WrongWords) × Tells (codes "--capture takes no --from or --budget\n") faults
 TellsFault RoleWithoutCapture exit faults = (exit ≡ WrongWords) × Tells (codes "--role takes --capture\n") faults
@@ -47,7 +50,7 @@ TellsFault HeadIsCut exit faults = (exit ≡ Damaged) × Tells (codes "head is c
 TellsFault (NotAMove number) exit faults = TellsLine number (codes "not a move") exit faults
 TellsFault (NotACall number) exit faults = TellsLine number (codes "not a call") exit faults
 TellsFault (NotACapture number) exit faults = TellsLine number (codes "not a capture") exit faults
-TellsFault (NotAStep number) exit faults = TellsLine number (codes "not a step") exit faults
+TellsFault (NotAStep number damage) exit faults = TellsLine number (damage_words damage) exit faults
 TellsFault (NotAVerdict number) exit faults = TellsLine number (codes "not a verdict") exit faults
 TellsFault NoText exit faults = (exit ≡ WrongWords) × Tells (codes "error: the words are not UTF-8\n") faults
 TellsFault NoTask exit faults = (exit ≡ WrongWords) × Tells (codes "error: the words ask for nothing\n") faults

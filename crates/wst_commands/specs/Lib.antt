@@ -1,9 +1,11 @@
 pub mod Exits
 pub mod Devices
+pub mod StepDamages
 pub mod Faults
 pub mod Limits
 pub mod TimeLimits
 pub mod ReadingWhole
+pub mod FaultRules
 pub mod Explaining
 pub mod Show
 pub mod Head

@@ -1,5 +1,7 @@
 -- The limit of time that words give.
-use Rattle.std.specs.Prelude.{◌≡◌, ℕ, ◌≤◌, Bool, true, false, List, Option, Some, None}
+use Rattle.std.specs.Prelude.{◌≡◌, ℕ, ◌≤◌, ◌<◌, Bool, true, false, not, IsTrue, ⊤, List, length, drop, position, All}
+use Rattle.std.specs.Prelude.{Option, Some, None}
+use Rattle.std.specs.Char.{is_ascii_alphabetic, is_ascii_digit}
 use Rattle.std.specs.Borrow.{Bor}
 use Rattle.ws_formats.specs.Words.{IsNumberWord}
 use Rattle.wst_commands.specs.declared.time_limit.TimeLimit.{TimeLimit}
@@ -18,6 +20,28 @@ GivesTimeout (Some word) (Seconds seconds) = IsSecondsWord seconds word.now
 -- the option gives a limit, or is left out
 abbrev pub HasTimeout : Option (Bor (List ℕ)) → Type 0
 HasTimeout word = (limit : TimeLimit) × GivesTimeout word limit
+
+abbrev pub is_no_digit : ℕ → Bool
+is_no_digit byte = not (is_ascii_digit byte)
+
+-- the place is one of the word
+abbrev pub Reaches : Option ℕ → List ℕ → Type 0
+Reaches None word = ⊤
+Reaches (Some at) word = at < length word
+
+-- from the place on all are letters, and it is not the first
+abbrev pub HasUnitAt : Option ℕ → List ℕ → Type 0
+HasUnitAt None word = ⊥
+HasUnitAt (Some at) word = (1 ≤ at) × All (λ byte. IsTrue (is_ascii_alphabetic byte)) (drop at word)
+
+-- digits, one at least, and behind them letters, one at least
+abbrev pub IsWithUnit : List ℕ → Type 0
+IsWithUnit word = HasUnitAt (position is_no_digit word) word
+
+-- the word of the option is so
+abbrev pub HasUnit : Option (Bor (List ℕ)) → Type 0
+HasUnit None = ⊥
+HasUnit (Some word) = IsWithUnit word.now
 
 abbrev pub is_limited : TimeLimit → Bool
 is_limited Unlimited = false

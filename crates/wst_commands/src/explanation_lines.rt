@@ -5,6 +5,7 @@ ghost use Rattle.wst_commands.specs.Explaining.{ended_word, fault_word, side_wor
 ghost use Rattle.wst_commands.specs.InnerExplaining.{printed_data, printed_ending, printed_explanation, printed_line};
 ghost use Rattle.wst_commands.specs.InnerExplaining.{printed_note, printed_reply, printed_rule, printed_side};
 
+use crate::fault_rules::sent_rule;
 use std::fmt;
 use ws_formats::HexDigits;
 use ws_scripts::Ended;
@@ -79,7 +80,8 @@ impl fmt::Display for ExplanationLines<'_> {
         let rule = RuleLine(rule_with(self.tested, self.expected, self.explanation.verdict));
         write!(f, "{due}{got}{beyond}{cut}")?;
         writeln!(f, "  end {ended} {}", self.explanation.turns)?;
-        write!(f, "{rule}")
+        let sent = RuleLine(sent_rule(&self.explanation.due.ending));
+        write!(f, "{rule}{sent}")
     }
 }
 

@@ -7,6 +7,7 @@ ghost use Rattle.wst_commands.specs.declared.fault.Fault.TheVariants as variant;
 ghost use Rattle.ws_frame.specs.Devices.{watched};
 
 use crate::exit::Exit;
+use crate::step_damages::StepDamage;
 use crate::telling::tell;
 use std::alloc::{AllocError, Global};
 use std::io::Write;
@@ -35,6 +36,8 @@ pub enum Fault {
     BadProtocols,
     /// No number of seconds that can be waited for.
     BadTimeout,
+    /// The same: digits with a unit.
+    TimeoutWithUnit,
     /// An option of a stream is given with a capture.
     StreamWithCapture,
     /// The tested end is named without a capture.
@@ -49,8 +52,8 @@ pub enum Fault {
     NotACall(u64),
     /// The first line that is damaged in a capture, counted from 1.
     NotACapture(u64),
-    /// The first line that is damaged in a script of steps, counted from 1.
-    NotAStep(u64),
+    /// The first line that is damaged in a script of steps, counted from 1, and what is wrong with it.
+    NotAStep(u64, StepDamage),
     /// The first line of an earlier run that tells no verdict, and may not stand beside one, counted from 1.
     NotAVerdict(u64),
     /// The words of the command line are no text.
@@ -109,6 +112,13 @@ pub fn tell_fault<F: Write>(alloc: Global, fault: Fault, faults: &mut Watched<F>
             tell(b"bad timeout\n", faults);
             Exit::WrongWords
         }
+        Fault::TimeoutWithUnit => {
+            tell(
+                b"bad timeout\n  seconds without a unit: --timeout 5\n",
+                faults,
+            );
+            Exit::WrongWords
+        }
         Fault::StreamWithCapture => {
             tell(b"--capture takes no --from or --budget\n", faults);
             Exit::WrongWords
@@ -128,7 +138,7 @@ pub fn tell_fault<F: Write>(alloc: Global, fault: Fault, faults: &mut Watched<F>
         Fault::NotAMove(line) => tell_line(alloc, line, "not a move", faults),
         Fault::NotACall(line) => tell_line(alloc, line, "not a call", faults),
         Fault::NotACapture(line) => tell_line(alloc, line, "not a capture", faults),
-        Fault::NotAStep(line) => tell_line(alloc, line, "not a step", faults),
+        Fault::NotAStep(line, damage) => tell_line(alloc, line, damage.words(), faults),
         Fault::NotAVerdict(line) => tell_line(alloc, line, "not a verdict", faults),
         Fault::NoText => {
             tell(b"error: the words are not UTF-8\n", faults);

@@ -6,9 +6,9 @@
 //! its like): `run_show`, `run_moves` (of `pair`), `run_head`, `run_session`, `run_judge`, `run_convert`, `run_cases`,
 //! `run_report`;
 //! `cases_of`, `ids_for` and `is_glob`, which say for which cases words stand; `end_run`, `tell_fault` and
-//! `tell_no_cases`, which tell a fault; `read_whole`, which reads an input to its end; `deliver` and `tell`, which
-//! write a text; `limits_given`, `timeout_given`, `judgement_of`, the verdict on a transcript and the lines below it;
-//! `exit_of` and `Exit::status`.
+//! `tell_no_cases`, which tell a fault; `step_damage`, what is wrong with a line of a script; `read_whole`, which reads
+//! an input to its end; `deliver` and `tell`, which write a text; `limits_given`, `timeout_given`, `has_unit`;
+//! `judgement_of`, the verdict on a transcript and the lines below it; `exit_of` and `Exit::status`.
 #![tactic(auto)]
 
 mod cases;
@@ -17,6 +17,7 @@ mod exit;
 mod explaining;
 mod explanation_lines;
 mod fault;
+mod fault_rules;
 mod given_cases;
 mod head;
 mod judge;
@@ -26,6 +27,7 @@ mod reading_whole;
 mod report;
 mod session;
 mod show;
+mod step_damages;
 mod telling;
 mod time_limit;
 
@@ -43,5 +45,6 @@ pub use reading_whole::{ReadStop, read_whole};
 pub use report::run_report;
 pub use session::run_session;
 pub use show::run_show;
+pub use step_damages::{StepDamage, step_damage};
 pub use telling::{deliver, tell};
-pub use time_limit::{TimeLimit, timeout_given};
+pub use time_limit::{TimeLimit, has_unit, timeout_given};

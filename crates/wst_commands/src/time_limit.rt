@@ -1,8 +1,9 @@
 //! The limit of time that words give.
 
-ghost use Rattle.std.specs.Prelude.{◌≡◌, MatchOption};
+ghost use Rattle.std.specs.Prelude.{◌≡◌, ◌↔◌, IsTrue, MatchOption, position};
 ghost use Rattle.ws_base.specs.Finding.{Finds};
-ghost use Rattle.wst_commands.specs.TimeLimits.{GivesTimeout, HasTimeout, IsSecondsWord, is_limited};
+ghost use Rattle.wst_commands.specs.TimeLimits.{GivesTimeout, HasTimeout, HasUnit, HasUnitAt, IsSecondsWord};
+ghost use Rattle.wst_commands.specs.TimeLimits.{IsWithUnit, Reaches, is_limited, is_no_digit};
 
 use std::time::Duration;
 use ws_formats::read_u16;
@@ -62,5 +63,48 @@ fn seconds_of(word: &str) -> Option<u16>
         Some(seconds)
     } else {
         None
+    }
+}
+
+/// Whether the word of an option is digits with a unit behind them, as `5s`.
+pub fn has_unit(word: Option<&str>) -> bool
+    ensures { IsTrue result ↔ HasUnit word.entry }
+{
+    match word {
+        Some(word) => is_with_unit(word.as_bytes()),
+        None => false,
+    }
+}
+
+/// Whether a word is digits with a unit behind them.
+fn is_with_unit(word: &[u8]) -> bool
+    ensures { IsTrue result ↔ IsWithUnit word.now }
+{
+    has_unit_at(first_no_digit(word), word)
+}
+
+/// Where the first byte stands that is no digit, if there is one.
+fn first_no_digit(word: &[u8]) -> Option<usize>
+    ensures first { result ≡ position is_no_digit word.now }
+    ensures within { Reaches result word.now }
+{
+    word.iter().position(|byte| is_no_digit(*byte))
+}
+
+/// Whether a byte is no digit.
+fn is_no_digit(byte: u8) -> bool
+    ensures { result ≡ is_no_digit byte }
+{
+    !byte.is_ascii_digit()
+}
+
+/// Whether letters alone stand from a place on, which is not the first.
+fn has_unit_at(at: Option<usize>, word: &[u8]) -> bool
+    requires { Reaches at word.now }
+    ensures { IsTrue result ↔ HasUnitAt at word.now }
+{
+    match at {
+        Some(at) => at > 0 && word[at..].iter().all(|byte| byte.is_ascii_alphabetic()),
+        None => false,
     }
 }

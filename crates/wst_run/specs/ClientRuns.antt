@@ -12,6 +12,7 @@ use Rattle.ws_scripts.specs.declared.script.Case.{Case}
 use Rattle.ws_scripts.specs.declared.transcript.Transcript.{Transcript}
 use Rattle.wst_commands.specs.Faults.{Ends}
 use Rattle.wst_commands.specs.ReadingWhole.{ReadsAll, StopsReading, stopped}
+use Rattle.wst_commands.specs.StepDamages.{step_damage}
 use Rattle.wst_commands.specs.TimeLimits.{is_limited}
 use Rattle.wst_commands.specs.declared.exit.Exit.{Exit}
 use Rattle.wst_commands.specs.declared.exit.Exit.TheVariants.{Done, Failed}
@@ -171,16 +172,21 @@ SendsAt address plan case ended output faults =
     × NotesBefore told (λ behind. SendsScript plan case ended output behind) faults)
     ⊎ TestsNone ended output faults
 
+-- what stops a text that is damaged at this line: what is wrong there is told, or memory ran out for it
+abbrev pub IsDamageFault : List ℕ → ℕ → Fault → Type 0
+IsDamageFault text line fault = (fault ≡ NotAStep line (step_damage text line)) ⊎ (fault ≡ NoMemory)
+
 -- what stops a text that is no script
-abbrev pub fault_of_script : TextFault → Fault
-fault_of_script (text_fault.Damaged line) = NotAStep line
-fault_of_script text_fault.NoMemory = NoMemory
+abbrev pub IsScriptFault : List ℕ → TextFault → Fault → Type 0
+IsScriptFault text (text_fault.Damaged line) fault = IsDamageFault text line fault
+IsScriptFault text text_fault.NoMemory fault = fault ≡ NoMemory
 
 -- a text is a script, which is sent; or it is none, and nothing was written or told
 abbrev pub SendsTextAt : List ℕ → SendPlan → List ℕ → Result Exit Fault → Device → Device → Type 0
 SendsTextAt address plan text ended output faults =
     ((case : Case) × IsScriptText case text × SendsAt address plan case ended output faults)
-    ⊎ ((why : TextFault) × Damages IsTextOfScript why text × (ended ≡ Err (fault_of_script why))
+    ⊎ ((why : TextFault) × Damages IsTextOfScript why text
+    × ((fault : Fault) × IsScriptFault text why fault × (ended ≡ Err fault))
     × IsUntouched output × IsUntouched faults)
 
 -- so of the input; or it could not be read, and nothing was written or told

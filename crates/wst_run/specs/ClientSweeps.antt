@@ -19,10 +19,10 @@ use Rattle.wst_clients.specs.declared.visiting.VisitRules.{VisitRules}
 
 -- ---- the cases
 
--- the case of a script for a client, no frame of which is masked, named by its steps
+-- the case of a script for a client, no frame of which is masked, named by all its steps
 abbrev pub IsNamedCase : Expectation → List ℕ → Case → Type 0
 IsNamedCase expected places case = IsShortCase Client expected None places case
-    × (string_bytes case.id ≡ steps_text Client places)
+    × (string_bytes case.id ≡ steps_text Client expected places case.steps)
 
 -- these are the cases of scripts one after the other in their order, from the one of this number on
 abbrev pub AreNamedCases : Expectation → ℕ → List Case → Type 0

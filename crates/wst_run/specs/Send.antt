@@ -13,6 +13,7 @@ use Rattle.wst_words.specs.declared.send.SendOptions.{SendOptions}
 use Rattle.wst_commands.specs.Devices.{Tells}
 use Rattle.wst_commands.specs.Faults.{LacksMemory, TellsFault}
 use Rattle.wst_commands.specs.ReadingWhole.{ReadsAll, StopsReading}
+use Rattle.wst_commands.specs.StepDamages.{step_damage}
 use Rattle.wst_commands.specs.declared.exit.Exit.{Exit}
 use Rattle.wst_commands.specs.declared.exit.Exit.TheVariants.{Damaged, Done, Failed}
 use Rattle.wst_commands.specs.declared.fault.Fault.TheVariants as fault
@@ -63,7 +64,7 @@ HasBegunRun Meets plan case output = (plan.capture ≡ true) → (transcript : T
 -- written.
 abbrev pub StopsSending : (Case → Meeting → Type 0) → SendPlan → Case → SendStop → Device → Type 0
 StopsSending Meets plan case stop.Device output = (output.failed ≡ true) × HasBegunRun Meets plan case output
-StopsSending Meets plan case (stop.NotAStep line) output = ⊥
+StopsSending Meets plan case (stop.NotAStep line damage) output = ⊥
 StopsSending Meets plan case (stop.Refused refusal) output = Meets case (Refused refusal) × IsUntouched output
 StopsSending Meets plan case (stop.NoConnection why) output = Meets case (NoConnection why) × IsUntouched output
 StopsSending Meets plan case stop.NoMemory output = (plan.capture ≡ true) → IsUntouched output
@@ -74,16 +75,21 @@ SendsCase Meets plan case ended output = MatchResult ended
     (λ _. (transcript : Transcript) × Meets case (Ran transcript) × WritesRun plan transcript output)
     (λ why. StopsSending Meets plan case why output)
 
+-- what stops a text that is damaged at this line: what is wrong there is told, or memory ran out for it
+abbrev pub IsDamageStop : List ℕ → ℕ → SendStop → Type 0
+IsDamageStop text line why = (why ≡ stop.NotAStep line (step_damage text line)) ⊎ (why ≡ stop.NoMemory)
+
 -- what stops a text that is no script
-abbrev pub script_stop : TextFault → SendStop
-script_stop (text_fault.Damaged line) = stop.NotAStep line
-script_stop text_fault.NoMemory = stop.NoMemory
+abbrev pub IsScriptStop : List ℕ → TextFault → SendStop → Type 0
+IsScriptStop text (text_fault.Damaged line) why = IsDamageStop text line why
+IsScriptStop text text_fault.NoMemory why = why ≡ stop.NoMemory
 
 -- the text is a script, which was sent so; or it is none, and nothing was written
 abbrev pub SendsText : (Case → Meeting → Type 0) → SendPlan → List ℕ → Result (Unit {0}) SendStop → Device → Type 0
 SendsText Meets plan text ended output =
     ((case : Case) × IsScriptText case text × SendsCase Meets plan case ended output)
-    ⊎ ((why : TextFault) × Damages IsTextOfScript why text × (ended ≡ Err (script_stop why)) × IsUntouched output)
+    ⊎ ((fault : TextFault) × Damages IsTextOfScript fault text
+    × ((why : SendStop) × IsScriptStop text fault why × (ended ≡ Err why)) × IsUntouched output)
 
 abbrev pub input_stop : ReadStop → SendStop
 input_stop read.Fault = stop.Device
@@ -104,7 +110,7 @@ TellsRefused refusal exit faults =
 abbrev pub TellsSendEnd : Result (Unit {0}) SendStop → Exit → Device → Type 0
 TellsSendEnd (Ok _) exit faults = (exit ≡ Done) × IsUntouched faults
 TellsSendEnd (Err stop.Device) exit faults = (exit ≡ Failed) × IsUntouched faults
-TellsSendEnd (Err (stop.NotAStep line)) exit faults = TellsFault (fault.NotAStep line) exit faults
+TellsSendEnd (Err (stop.NotAStep line damage)) exit faults = TellsFault (fault.NotAStep line damage) exit faults
 TellsSendEnd (Err (stop.Refused refusal)) exit faults = TellsRefused refusal exit faults
 TellsSendEnd (Err (stop.NoConnection why)) exit faults = (exit ≡ Failed) × Tells (miss_line why) faults
 TellsSendEnd (Err stop.NoMemory) exit faults = LacksMemory exit faults

@@ -1,7 +1,8 @@
 -- What `tap` is asked for, and its run.
-use Rattle.std.specs.Prelude.{◌≡◌, ◌⊎◌, false, List, ℕ, Result}
+use Rattle.std.specs.Prelude.{◌≡◌, ◌⊎◌, ⊤, false, List, ℕ, Result}
 use Rattle.ws_frame.specs.Devices.{Device, IsUntouched}
 use Rattle.ws_targets.specs.Places.{IsAddress}
+use Rattle.ws_targets.specs.Targets.{IsTargetText, TargetValue}
 use Rattle.wst_words.specs.declared.tap.TapOptions.{TapOptions}
 use Rattle.wst_commands.specs.Faults.{Ends}
 use Rattle.wst_commands.specs.declared.exit.Exit.{Exit}
@@ -9,8 +10,11 @@ use Rattle.wst_commands.specs.declared.fault.Fault.{Fault}
 use Rattle.wst_sockets.specs.Listening.{IsToldFor}
 use Rattle.wst_sockets.specs.Serve.{StopsAtListening, ServesNone, listening_line}
 use Rattle.wst_sockets.specs.Tapping.{TapsPairs}
-use Rattle.wst_testing.specs.RunPlans.{TellsRefusal}
-use Rattle.wst_testing.specs.declared.run_plans.Refusal.TheVariants.{BadAddress}
+use Rattle.wst_commands.specs.declared.given_cases.NoCases.TheVariants.{NoMemory}
+use Rattle.wst_testing.specs.RunPlans.{IsUrl, TellsRefusal}
+use Rattle.wst_testing.specs.declared.run_plans.Refusal.{Refusal}
+use Rattle.wst_testing.specs.declared.run_plans.Refusal.TheVariants.{BadAddress, NoCases}
+use Rattle.ws_targets.specs.declared.advice.Advice.TheVariants.{Nothing}
 
 -- it is told that connections to this address are taken, and then they are tapped; or the line came to nothing
 abbrev pub TapsToldAt : ℕ → List ℕ → Result Exit Fault → Device → Type 0
@@ -23,14 +27,30 @@ TapsAt options ended output =
     ((address : List ℕ) × IsToldFor options.listen.now address × TapsToldAt options.count address ended output)
     ⊎ ServesNone ended output
 
--- a host and a port are given for both ends
-abbrev pub HasBothAddresses : TapOptions → Type 0
-HasBothAddresses options = IsAddress options.listen.now × IsAddress options.target.now
+-- the word names the server: as a `ws` URL, of which the host and the port count; or as a host and a port
+abbrev pub IsServer : List ℕ → TargetValue → Type 0
+IsServer word target = (IsUrl word ⊎ IsAddress word) × IsTargetText word target
 
--- what the words ask for is tapped, and how that ended is told; or an address is none, and that is told, and nothing
--- was written
+abbrev pub NamesServer : List ℕ → Type 0
+NamesServer word = (target : TargetValue) × IsServer word target
+
+-- both ends are named: where to listen by a host and a port
+abbrev pub HasBothEnds : TapOptions → Type 0
+HasBothEnds options = IsAddress options.listen.now × NamesServer options.target.now
+
+-- the ends are named, and this is the server
+abbrev pub IsServerOf : TapOptions → TargetValue → Type 0
+IsServerOf options target = IsAddress options.listen.now × IsServer options.target.now target
+
+-- one of them is not, and nothing more is told of it; or memory ran out
+abbrev pub RefusesEnds : TapOptions → Refusal → Type 0
+RefusesEnds options (BadAddress Nothing) = ¬ (HasBothEnds options)
+RefusesEnds options (NoCases NoMemory) = ⊤
+RefusesEnds options _ = ⊥
+
+-- what the words ask for is tapped, and how that ended is told; or it is told why not, and nothing was written
 abbrev pub RunsTap : TapOptions → Exit → Device → Device → Type 0
 RunsTap options exit output faults =
-    (HasBothAddresses options × ((ended : Result Exit Fault) × TapsAt options ended output × Ends ended exit faults))
-    ⊎ (¬ (HasBothAddresses options) × IsUntouched output × (output.failed ≡ false)
-    × TellsRefusal BadAddress exit faults)
+    (HasBothEnds options × ((ended : Result Exit Fault) × TapsAt options ended output × Ends ended exit faults))
+    ⊎ ((reason : Refusal) × RefusesEnds options reason × IsUntouched output × (output.failed ≡ false)
+    × TellsRefusal reason exit faults)

@@ -8,7 +8,7 @@ ghost use Rattle.ws_scripts.specs.Scripts.{CanBeRun};
 ghost use Rattle.ws_upgrade.specs.Protocols.{AreOffers};
 ghost use Rattle.wst_commands.specs.Devices.{StaysFailed};
 ghost use Rattle.wst_run.specs.ClientRuns.{AreRulesOf, AreScriptRulesOf, CapturesOrNone, DocumentsOrNone};
-ghost use Rattle.wst_run.specs.ClientRuns.{SendsAt, SendsInputAt, SendsScript};
+ghost use Rattle.wst_run.specs.ClientRuns.{IsDamageFault, SendsAt, SendsInputAt, SendsScript};
 ghost use Rattle.wst_run.specs.ClientRuns.{SendsTextAt, SendsToClientAt, TestsAt, TestsBehind, TestsClientsAt};
 ghost use Rattle.wst_run.specs.ClientRuns.{TestsToldAt};
 ghost use Rattle.wst_clients.specs.ClientSends.{protocols_known};
@@ -31,7 +31,7 @@ use ws_wire::Role;
 use wst_clients::{
     ScriptRules, Telling, VisitRules, capture_client, document_clients, script_client, test_clients,
 };
-use wst_commands::{Exit, Fault, ReadStop, deliver, end_run, read_whole, tell};
+use wst_commands::{Exit, Fault, ReadStop, deliver, end_run, read_whole, step_damage, tell};
 use wst_sockets::{ListenerClients, listen, listening_line, tell_listening, told_address};
 use wst_testing::{LineStop, LineWriter, capture_text};
 
@@ -279,8 +279,18 @@ fn send_text<N: Net, W: Write, F: Write>(
 {
     match read_script(alloc, text) {
         Ok(case) => send_at(alloc, net, address, plan, &case, writer, faults),
-        Err(TextFault::Damaged(line)) => Err(Fault::NotAStep(line)),
+        Err(TextFault::Damaged(line)) => Err(damage_fault(alloc, text, line)),
         Err(TextFault::NoMemory) => Err(Fault::NoMemory),
+    }
+}
+
+/// What stops a text that is damaged at this line.
+fn damage_fault(alloc: Global, text: &[u8], line: u64) -> Fault
+    ensures { IsDamageFault text.now line result }
+{
+    match step_damage(alloc, text, line) {
+        Ok(damage) => Fault::NotAStep(line, damage),
+        Err(_) => Fault::NoMemory,
     }
 }
 

@@ -6,7 +6,7 @@ ghost use Rattle.ws_frame.specs.Watching.{has_failed};
 ghost use Rattle.ws_scripts.specs.Scripts.{CanBeRun};
 ghost use Rattle.wst_testing.specs.RunPlans.{CanNotRun};
 ghost use Rattle.wst_run.specs.Send.{IsSendPlan, RunsSendPlan, SendsCase, SendsInput, SendsOver, SendsText};
-ghost use Rattle.wst_run.specs.Send.{TellsRefused, TellsSendEnd};
+ghost use Rattle.wst_run.specs.Send.{IsDamageStop, TellsRefused, TellsSendEnd};
 
 use crate::clients_at::send_to_clients_at;
 use std::alloc::Global;
@@ -16,7 +16,7 @@ use ws_base::{NoMemory, TextFault};
 use ws_connection::HeadRefusal;
 use ws_frame::{Watched, WriteFault, write_whole};
 use ws_suite::{Case, read_script};
-use wst_commands::{Exit, Fault, ReadStop, read_whole, tell, tell_fault};
+use wst_commands::{Exit, Fault, ReadStop, StepDamage, read_whole, step_damage, tell, tell_fault};
 use wst_sockets::{ConnectFault, Meeting};
 use wst_testing::{
     AddressServer, CaseServer, LineStop, LineWriter, Outcome, Refusal, RunPlan, TestedEnd,
@@ -38,8 +38,8 @@ pub struct SendPlan<'a> {
 pub enum SendStop {
     /// The input or the output failed.
     Device,
-    /// The input is no script: the first line that is damaged, counted from 1.
-    NotAStep(u64),
+    /// The input is no script: the first line that is damaged, counted from 1, and what is wrong with it.
+    NotAStep(u64, StepDamage),
     /// The server's answer to the request is to be refused.
     Refused(HeadRefusal),
     /// There is no connection to the tested end, or no whole answer came.
@@ -159,8 +159,18 @@ fn send_text<S: CaseServer, W: Write>(
     match read_script(alloc, text) {
         Ok(case) if plan.capture => send_captured(alloc, server, plan, &case, writer),
         Ok(case) => send_shown(alloc, server, plan, &case, writer),
-        Err(TextFault::Damaged(line)) => Err(SendStop::NotAStep(line)),
+        Err(TextFault::Damaged(line)) => Err(damage_stop(alloc, text, line)),
         Err(TextFault::NoMemory) => Err(SendStop::NoMemory),
+    }
+}
+
+/// What stops a text that is damaged at this line.
+fn damage_stop(alloc: Global, text: &[u8], line: u64) -> SendStop
+    ensures { IsDamageStop text.now line result }
+{
+    match step_damage(alloc, text, line) {
+        Ok(damage) => SendStop::NotAStep(line, damage),
+        Err(_) => SendStop::NoMemory,
     }
 }
 
@@ -223,7 +233,9 @@ fn tell_end<F: Write>(alloc: Global, ended: Result<(), SendStop>, faults: &mut W
     match ended {
         Ok(()) => Exit::Done,
         Err(SendStop::Device) => Exit::Failed,
-        Err(SendStop::NotAStep(line)) => tell_fault(alloc, Fault::NotAStep(line), faults),
+        Err(SendStop::NotAStep(line, damage)) => {
+            tell_fault(alloc, Fault::NotAStep(line, damage), faults)
+        }
         Err(SendStop::Refused(refusal)) => tell_refused(alloc, refusal, faults),
         Err(SendStop::NoConnection(why)) => {
             tell(why.line(), faults);

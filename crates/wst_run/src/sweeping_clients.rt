@@ -103,13 +103,14 @@ fn short_cases(alloc: Global, expected: Expectation, steps: usize) -> Result<Vec
     Ok(cases)
 }
 
-/// The case of a script, named by its steps.
+/// The case of a script, named by all its steps.
 fn named_case(alloc: Global, expected: Expectation, script: &ShortScript) -> Result<Case, NoMemory>
     requires { ArePlaces script.now }
     ensures named { IfOk result (IsNamedCase expected script.now) }
     ensures runs { IfOk result CanBeRun }
 {
-    let id = tell_steps(alloc, Role::Client, script)?;
-    let Case { steps, chop, .. } = short_case(alloc, Role::Client, expected, None, script)?;
+    let case = short_case(alloc, Role::Client, expected, None, script)?;
+    let id = tell_steps(alloc, Role::Client, expected, script, case.steps.as_slice())?;
+    let Case { steps, chop, .. } = case;
     Ok(Case { id, steps, chop })
 }

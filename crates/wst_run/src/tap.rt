@@ -1,21 +1,23 @@
 //! The command `tap`: its run (docs/FORMATS.md).
 
-ghost use Rattle.std.specs.Prelude.{◌≡◌, ◌↔◌, IsTrue, false};
+ghost use Rattle.std.specs.Prelude.{◌≡◌, ◌↔◌, ◌⊎◌, IsTrue, MatchResult, false};
 ghost use Rattle.ws_frame.specs.Devices.{watched};
 ghost use Rattle.ws_frame.specs.Watching.{has_failed};
-ghost use Rattle.wst_run.specs.Tap.{HasBothAddresses, RunsTap, TapsAt};
+ghost use Rattle.ws_targets.specs.Places.{IsAddress};
+ghost use Rattle.wst_testing.specs.RunPlans.{IsUrl};
+ghost use Rattle.wst_run.specs.Tap.{IsServerOf, RefusesEnds, RunsTap, TapsAt};
 
 use std::alloc::Global;
 use std::io::Write;
 use std::net::Net;
 use ws_frame::Watched;
-use ws_targets::is_address;
-use wst_commands::{Exit, Fault, end_run};
+use ws_targets::{Advice, Target, TargetFault, is_address, read_target};
+use wst_commands::{Exit, Fault, NoCases, end_run};
 use wst_sockets::{ListenerPairs, listen, tap_pairs, tell_listening, told_address};
 use wst_testing::{Refusal, tell_refusal};
 use wst_words::TapOptions;
 
-/// Taps what the words ask for, or tells that an address is none.
+/// Taps what the words ask for, or tells why not.
 #[inline(never)]
 pub(crate) fn run_tap<N: Net, W: Write, F: Write>(
     alloc: Global,
@@ -28,25 +30,49 @@ pub(crate) fn run_tap<N: Net, W: Write, F: Write>(
     ensures { RunsTap options.now result (watched W.contents writer.old writer.new)
         (watched F.contents faults.old faults.new) }
 {
-    if !has_both_addresses(options) {
-        return tell_refusal(alloc, Refusal::BadAddress, faults);
+    match server_of(alloc, options) {
+        Ok(server) => {
+            let ended = tap_at(alloc, options, server.address(), net, writer);
+            end_run(alloc, ended, faults)
+        }
+        Err(refusal) => tell_refusal(alloc, refusal, faults),
     }
-    let ended = tap_at(alloc, options, net, writer);
-    end_run(alloc, ended, faults)
 }
 
-/// Whether both ends are a host and a port.
-fn has_both_addresses(options: &TapOptions<'_>) -> bool
-    ensures { IsTrue result ↔ HasBothAddresses options.now }
+/// The server that the words name, where they say where to listen.
+fn server_of<'a>(alloc: Global, options: &TapOptions<'_>) -> Result<Target, Refusal<'a>>
+    ensures { MatchResult result (IsServerOf options.now) (RefusesEnds options.now) }
 {
-    is_address(options.listen.as_bytes()) && is_address(options.target.as_bytes())
+    if !is_address(options.listen.as_bytes()) || !can_name_server(options.target) {
+        return Err(Refusal::BadAddress(Advice::Nothing));
+    }
+    match read_target(alloc, options.target) {
+        Ok(server) => Ok(server),
+        Err(TargetFault::Bad) => Err(Refusal::BadAddress(Advice::Nothing)),
+        Err(TargetFault::NoMemory) => Err(Refusal::NoCases(NoCases::NoMemory)),
+    }
+}
+
+/// Whether a word is a URL, or a host and a port.
+fn can_name_server(word: &str) -> bool
+    ensures { IsTrue result ↔ (IsUrl word.now ⊎ IsAddress word.now) }
+{
+    is_url(word) || is_address(word.as_bytes())
+}
+
+/// Whether a word is a URL.
+fn is_url(word: &str) -> bool
+    ensures { IsTrue result ↔ IsUrl word.now }
+{
+    word.contains("://")
 }
 
 /// Listens at the address, which is told in a line, with the port that the system chose in the place of a port 0, and
-/// taps so many connections, one after the other.
+/// taps so many connections to the server at the other one, one after the other.
 fn tap_at<N: Net, W: Write>(
     alloc: Global,
     options: &TapOptions<'_>,
+    server: &str,
     net: &N,
     writer: &mut Watched<W>,
 ) -> Result<Exit, Fault>
@@ -62,6 +88,6 @@ fn tap_at<N: Net, W: Write>(
     if writer.failed() {
         return Ok(told);
     }
-    let pairs = ListenerPairs::of(net, &listener, options.target);
+    let pairs = ListenerPairs::of(net, &listener, server);
     tap_pairs(alloc, &pairs, options.count, writer)
 }

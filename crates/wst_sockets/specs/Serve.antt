@@ -11,12 +11,12 @@ use Rattle.ws_connection.specs.declared.serving.Served.{Served}
 use Rattle.wst_words.specs.declared.serve.ServeOptions.{ServeOptions}
 use Rattle.wst_commands.specs.Faults.{Ends, TellsFault}
 use Rattle.wst_commands.specs.Limits.{limits_given}
-use Rattle.wst_commands.specs.TimeLimits.{GivesTimeout, HasTimeout}
+use Rattle.wst_commands.specs.TimeLimits.{GivesTimeout, HasTimeout, HasUnit}
 use Rattle.wst_commands.specs.declared.exit.Exit.{Exit}
 use Rattle.wst_commands.specs.declared.exit.Exit.TheVariants.{Done, Failed}
 use Rattle.wst_commands.specs.declared.fault.Fault.{Fault}
 use Rattle.wst_commands.specs.declared.fault.Fault.TheVariants.{BadLimits, BadProtocols, BadTimeout}
-use Rattle.wst_commands.specs.declared.fault.Fault.TheVariants.{NoMemory, NotListening}
+use Rattle.wst_commands.specs.declared.fault.Fault.TheVariants.{NoMemory, NotListening, TimeoutWithUnit}
 use Rattle.wst_commands.specs.declared.fault.ListenFault.{ListenFault}
 use Rattle.wst_sockets.specs.Listening.{IsToldFor}
 use Rattle.wst_sockets.specs.declared.serve.ServePlan.{ServePlan}
@@ -33,10 +33,13 @@ IsServePlan options plan =
     × (AreOffers (protocols_given options.protocols) × (plan.protocols ≡ protocols_given options.protocols))
 
 -- Why there is none, the first of these that applies: the names that are given can't be offered; the seconds are no
--- limit of time; no endpoint can have the limits. Or memory ran out for the names.
+-- limit of time, and have a unit or not; no endpoint can have the limits. Or memory ran out for the names.
 abbrev pub CanNotServe : ServeOptions → Fault → Type 0
 CanNotServe options BadProtocols = ¬ (AreOffers (protocols_given options.protocols))
 CanNotServe options BadTimeout = AreOffers (protocols_given options.protocols) × ¬ (HasTimeout options.timeout)
+    × ¬ (HasUnit options.timeout)
+CanNotServe options TimeoutWithUnit = AreOffers (protocols_given options.protocols) × ¬ (HasTimeout options.timeout)
+    × HasUnit options.timeout
 CanNotServe options BadLimits = AreOffers (protocols_given options.protocols) × HasTimeout options.timeout
     × ¬ (AreLimits (limits_given options.limit options.frame))
 CanNotServe options fault = fault ≡ NoMemory

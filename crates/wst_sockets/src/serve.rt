@@ -14,7 +14,7 @@ use std::net::Net;
 use ws_connection::{Protocols, protocols_of};
 use ws_frame::Watched;
 use ws_session::Limits;
-use wst_commands::{Exit, Fault, TimeLimit, end_run, limits_given, timeout_given};
+use wst_commands::{Exit, Fault, TimeLimit, end_run, has_unit, limits_given, timeout_given};
 use wst_words::ServeOptions;
 
 /// Connections that are to be served over a network.
@@ -43,6 +43,9 @@ pub fn plan_serve<'a>(alloc: Global, options: &ServeOptions<'a>) -> Result<Serve
         return Err(Fault::BadProtocols);
     };
     let Some(timeout) = timeout_given(options.timeout) else {
+        if has_unit(options.timeout) {
+            return Err(Fault::TimeoutWithUnit);
+        }
         return Err(Fault::BadTimeout);
     };
     let Some(limits) = limits_given(options.limit, options.frame) else {

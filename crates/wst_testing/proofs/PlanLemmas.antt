@@ -1,31 +1,21 @@
 -- The end that a word names.
 use Rattle.std.proofs.Common.{◌≡◌, ℕ, Bool, true, false, List}
-use Rattle.std.proofs.Common.{refl, sym, subst, if◌then◌else◌, not, IsTrue}
+use Rattle.std.proofs.Common.{refl, not, IsTrue}
 use Rattle.ws_wire.specs.declared.role.Role.{Role}
 use Rattle.ws_wire.specs.declared.role.Role.TheVariants as role
-use Rattle.ws_targets.specs.Targets.{TargetValue, IsTargetText, begins_with_wss}
+use Rattle.ws_targets.specs.Advice.{Advises}
+use Rattle.ws_targets.specs.Targets.{TargetValue, IsTargetText}
+use Rattle.ws_targets.specs.declared.advice.Advice.{Advice}
 use Rattle.ws_upgrade.specs.Texts.{IsHost}
-use Rattle.wst_testing.specs.RunPlans.{IsClientsAddress, IsNoMemoryWord, IsUrl, NamesEnd, RefusesTarget, bad_target, memory_word}
+use Rattle.wst_testing.specs.RunPlans.{AdvisesClients, IsClientsAddress, IsNoMemoryWord, IsUrl, NamesEnd, RefusesTarget, memory_word}
 use Rattle.wst_testing.specs.declared.case_server.MemoryPeer.{MemoryPeer}
 use Rattle.wst_testing.specs.declared.case_server.MemoryPeer.TheVariants.{Own, Tung}
-use Rattle.wst_testing.specs.declared.run_plans.Refusal.{Refusal}
 use Rattle.wst_testing.specs.declared.run_plans.Refusal.TheVariants as refusal
 use Rattle.wst_testing.specs.declared.run_plans.TestedEnd.TheVariants.{Clients, Memory, Server}
 
 no_memory_word : (peer : MemoryPeer) (word : List ℕ) → IsNoMemoryWord word → word ≡ memory_word peer → ⊥
 no_memory_word Own word none is = none.0 is
 no_memory_word Tung word none is = none.1 is
-
--- what names no end is told by how it begins
-refused_so : (tested : Role) (word : List ℕ) (why : Refusal) → ¬ (NamesEnd tested word) → why ≡ bad_target word
-    → RefusesTarget tested word why
-refused_so tested word why none is =
-    subst (λ (r : Refusal). RefusesTarget tested word r) (sym is) (by_wss (begins_with_wss word) refl)
-  where
-    by_wss : (b : Bool) → begins_with_wss word ≡ b
-        → RefusesTarget tested word (if b then refusal.EncryptedTarget else refusal.BadAddress)
-    by_wss true begins = (none, begins)
-    by_wss false begins = (none, begins)
 
 no_server : (word : List ℕ) → IsNoMemoryWord word → ((target : TargetValue) → IsTargetText word target → ⊥)
     → ¬ (NamesEnd role.Server word)
@@ -34,10 +24,10 @@ no_server word none lacks (Server target, asks) = lacks target asks.2
 no_server word none lacks (Clients address, asks) = absurd (cc)
 
 -- a word that is no target names no server
-pub target_refused : (word : List ℕ) (why : Refusal) → IsNoMemoryWord word
-    → ((target : TargetValue) → IsTargetText word target → ⊥) → why ≡ bad_target word
-    → RefusesTarget role.Server word why
-target_refused word why none lacks is = refused_so role.Server word why (no_server word none lacks) is
+pub target_refused : (word : List ℕ) (given : Advice) → IsNoMemoryWord word
+    → ((target : TargetValue) → IsTargetText word target → ⊥) → Advises word given
+    → RefusesTarget role.Server word (refusal.BadAddress given)
+target_refused word given none lacks is = (no_server word none lacks, is)
 
 no_clients : (word : List ℕ) → IsNoMemoryWord word → ¬ (IsClientsAddress word) → ¬ (NamesEnd role.Client word)
 no_clients word none lacks (Memory end, asks) = no_memory_word end.peer word none asks.1
@@ -45,9 +35,9 @@ no_clients word none lacks (Server target, asks) = absurd (cc)
 no_clients word none lacks (Clients address, asks) = lacks asks.2
 
 -- to a word that is no host, or is a URL, no clients come
-pub address_refused : (word : List ℕ) (why : Refusal) → IsNoMemoryWord word → ¬ (IsClientsAddress word)
-    → why ≡ bad_target word → RefusesTarget role.Client word why
-address_refused word why none lacks is = refused_so role.Client word why (no_clients word none lacks) is
+pub address_refused : (word : List ℕ) (given : Advice) → IsNoMemoryWord word → ¬ (IsClientsAddress word)
+    → AdvisesClients word given → RefusesTarget role.Client word (refusal.BadAddress given)
+address_refused word given none lacks is = (no_clients word none lacks, is)
 
 -- to a host clients come where it is no URL
 pub host_without_url : (is_url : Bool) (word : List ℕ) → IsHost word → (IsTrue is_url → IsUrl word)

@@ -23,10 +23,11 @@ use Rattle.wst_testing.specs.Testing.{IsTested}
 use Rattle.wst_testing.specs.Sweeps.{IsConnected}
 use Rattle.wst_testing.specs.Sweeps.{AreSwept, CountsScripts, HasSwept, IsSwept, StopsAtScript, StopsSweep, SweepsAll}
 use Rattle.wst_testing.specs.Sweeps.{SweepsScript, SweepsScripts, SweptScript, WritesText, missed_by, outcomes_of}
-use Rattle.wst_testing.specs.Sweeps.{MakesCasesOf, case_rules, script_line}
+use Rattle.wst_testing.specs.Sweeps.{HasSweptScript, MakesCasesOf, case_rules, script_line, swept}
 use Rattle.wst_testing.specs.Sweeps.{sweep_lines, sweep_total, total_of_scripts}
 use Rattle.wst_sockets.specs.declared.meeting.Meeting.{Meeting}
 use Rattle.wst_testing.specs.declared.outcome.Outcome.{Outcome}
+use Rattle.wst_testing.specs.declared.outcome.Outcome.TheVariants.{NoConnection}
 use Rattle.wst_testing.specs.declared.outcome.Tally.{Tally}
 use Rattle.wst_testing.specs.declared.sweeping.SweepRules.{SweepRules}
 use Rattle.wst_testing.specs.declared.sweeping.SweepStop.{SweepStop}
@@ -45,8 +46,8 @@ still_written (Some xs) (Some ys) (Some zs) bytes written kept = kept ∙ writte
 
 -- one more script in the order
 one_more : (Meets : Case → Meeting → Type 0) (rules : SweepRules) (number : ℕ) (scripts : List SweptScript)
-    (next : SweptScript) → AreSwept Meets rules number scripts → ArePlaces next.0
-    → script_number next.0 ≡ number + length scripts → missed_by next.1 ≡ None → IsSwept Meets rules next
+    (next : SweptScript) → AreSwept Meets rules number scripts → ArePlaces next.places
+    → script_number next.places ≡ number + length scripts → missed_by next.outcome ≡ None → IsSwept Meets rules next
     → AreSwept Meets rules number (scripts ++ next ∷ [])
 one_more Meets rules number [] next are places is there swept = (places, is ∙ omega arith, there, swept, tt)
 one_more Meets rules number (script ∷ scripts) next are places is there swept = (
@@ -66,9 +67,9 @@ lines_with rules scripts next =
 
 -- and its outcome counted
 counted_with : (scripts : List SweptScript) (next : SweptScript)
-    → tally_with (tally_of (outcomes_of scripts)) next.1 ≡ tally_of (outcomes_of (scripts ++ next ∷ []))
-counted_with scripts next = tally_more (outcomes_of scripts) next.1
-    ∙ ap (λ (l : List Outcome). tally_of l) (sym (map-append (λ (s : SweptScript). s.1) scripts (next ∷ [])))
+    → tally_with (tally_of (outcomes_of scripts)) next.outcome ≡ tally_of (outcomes_of (scripts ++ next ∷ []))
+counted_with scripts next = tally_more (outcomes_of scripts) next.outcome
+    ∙ ap (λ (l : List Outcome). tally_of l) (sym (map-append (λ (s : SweptScript). s.outcome) scripts (next ∷ [])))
 
 pub swept_nothing : (Meets : Case → Meeting → Type 0) (rules : SweepRules) (count : ℕ) (tally : Tally)
     (held : Option (List ℕ)) (failed : Bool) → count ≡ 0 → tally ≡ no_tally
@@ -85,16 +86,16 @@ pub swept_more : (Meets : Case → Meeting → Type 0) (rules : SweepRules) (cou
     (tally next_tally : Tally) (places : List ℕ) (outcome : Outcome) (old mid new : Option (List ℕ)) (f g : Bool)
     → HasSwept Meets rules count tally (record { failed = f; old = old; new = mid }) → ArePlaces places
     → script_number places ≡ count → next_count ≡ count + 1 → next_tally ≡ tally_with tally outcome
-    → missed_by outcome ≡ None → IsSwept Meets rules (places, outcome)
-    → Appends mid new (script_line rules (places, outcome))
+    → missed_by outcome ≡ None
+    → HasSweptScript Meets rules places outcome (record { failed = g; old = mid; new = new })
     → HasSwept Meets rules next_count next_tally (record { failed = g; old = old; new = new })
 swept_more Meets rules count next_count tally next_tally places outcome old mid new f g before are number counts tallies
-    there swept written =
-    let next : SweptScript = (places, outcome) in
+    there (case, is_swept, written) =
+    let next = swept places case outcome in
     record {
       scripts = before.scripts ++ next ∷ [];
       in_order = one_more Meets rules 0 before.scripts next before.in_order are
-          (number ∙ (sym before.many ∙ omega arith)) there swept;
+          (number ∙ (sym before.many ∙ omega arith)) there is_swept;
       many = length-append before.scripts (next ∷ []) ∙ (ap (λ (n : ℕ). n + 1) before.many ∙ sym counts);
       counted = tallies ∙ (ap (λ (t : Tally). tally_with t outcome) before.counted ∙ counted_with before.scripts next);
       written = subst (λ (l : List ℕ). Appends old new l) (lines_with rules before.scripts next)
@@ -109,24 +110,24 @@ pub stops_behind : (Meets : Case → Meeting → Type 0) (rules : SweepRules) (c
     → script_number places ≡ count → StopsAtScript Meets rules places why (record { failed = g; old = mid; new = new })
     → StopsSweep Meets rules why (record { failed = g; old = old; new = new })
 stops_behind Meets rules count tally places stop.Device old mid new f g before are number
-    (outcome, swept, begun, fails) =
-    record {
+    (case, (outcome, is_swept, begun, fails)) =
+    let next = swept places case outcome in record {
       scripts = before.scripts;
       in_order = before.in_order;
       stops = (
-        script_line rules (places, outcome),
-        inl ((places, outcome), (are, number ∙ sym before.many, swept), refl),
+        script_line rules next,
+        inl (next, (are, number ∙ sym before.many, is_swept), refl),
         fails,
-        then_begun old mid new (sweep_lines rules before.scripts) (script_line rules (places, outcome))
-            before.written begun,
+        then_begun old mid new (sweep_lines rules before.scripts) (script_line rules next) before.written begun,
       );
     }
-stops_behind Meets rules count tally places (stop.NoConnection why) old mid new f g before are number (swept, kept) =
+stops_behind Meets rules count tally places (stop.NoConnection why) old mid new f g before are number
+    ((case, is_swept), kept) =
     record {
       scripts = before.scripts;
       in_order = before.in_order;
       stops = (
-        (places, (are, number ∙ sym before.many, swept)),
+        (swept places case (NoConnection why), (are, number ∙ sym before.many, is_swept), refl),
         still_written old mid new (sweep_lines rules before.scripts) before.written kept,
       );
     }
@@ -188,21 +189,22 @@ script_misses Meets rules places case outcome stop.NoMemory (Err stopped) held f
 script_misses Meets rules places case outcome (stop.NoConnection why) (Err stopped) held f short tested misses is =
     subst (λ (w : SweepStop). StopsAtScript Meets rules places w (record { failed = f; old = held; new = held }))
     (sym is) (
-      (case, short, subst (λ (o : Outcome). IsTested Meets (case_rules rules) case o) misses tested),
+      (case, (short, subst (λ (o : Outcome). IsTested Meets (case_rules rules) case o) misses tested)),
       Keeps-refl held,
     )
 
 -- its line could not be written, or memory ran out for it
-pub line_stops : (Meets : Case → Meeting → Type 0) (rules : SweepRules) (places : List ℕ) (outcome : Outcome)
-    (why : SweepStop) (ended : Result Outcome SweepStop) (d : Device)
-    → IsSwept Meets rules (places, outcome)
-    → WritesText (script_line rules (places, outcome)) (Err why) d → IsErrAnd ended (λ stopped. stopped ≡ why)
+pub line_stops : (Meets : Case → Meeting → Type 0) (rules : SweepRules) (places : List ℕ) (case : Case)
+    (outcome : Outcome) (why : SweepStop) (ended : Result Outcome SweepStop) (d : Device)
+    → IsSwept Meets rules (swept places case outcome)
+    → WritesText (script_line rules (swept places case outcome)) (Err why) d → IsErrAnd ended (λ stopped. stopped ≡ why)
     → SweepsScript Meets rules places ended d
-line_stops Meets rules places outcome why (Ok told) d swept writes is = absurd is
-line_stops Meets rules places outcome stop.Device (Err stopped) d swept (begun, fails) is =
-    subst (λ (w : SweepStop). StopsAtScript Meets rules places w d) (sym is) (outcome, swept, begun, fails)
-line_stops Meets rules places outcome (stop.NoConnection why) (Err stopped) d swept writes is = absurd writes
-line_stops Meets rules places outcome stop.NoMemory (Err stopped) d swept writes is =
+line_stops Meets rules places case outcome why (Ok told) d is_swept writes is = absurd is
+line_stops Meets rules places case outcome stop.Device (Err stopped) d is_swept (begun, fails) is =
+    subst (λ (w : SweepStop). StopsAtScript Meets rules places w d) (sym is)
+    (case, (outcome, is_swept, begun, fails))
+line_stops Meets rules places case outcome (stop.NoConnection why) (Err stopped) d is_swept writes is = absurd writes
+line_stops Meets rules places case outcome stop.NoMemory (Err stopped) d is_swept writes is =
     subst (λ (w : SweepStop). StopsAtScript Meets rules places w d) (sym is) writes
 
 -- ---- all of them
@@ -271,7 +273,7 @@ pub room_left : (Meets : Case → Meeting → Type 0) (rules : SweepRules) (coun
 room_left Meets rules count left tally d so place few =
     let small = count_within rules.steps few in
     let outcomes = outcomes_of so.scripts in
-    let long : length outcomes ≡ length so.scripts = length-map so.scripts (λ (s : SweptScript). s.1) in
+    let long : length outcomes ≡ length so.scripts = length-map so.scripts (λ (s : SweptScript). s.outcome) in
     let pass : tally.pass ≡ length (filter is_pass outcomes) = ap (λ (t : Tally). t.pass) so.counted in
     let loose : tally.loose ≡ length (filter is_loose outcomes) = ap (λ (t : Tally). t.loose) so.counted in
     let fail : tally.fail ≡ length (filter is_fail outcomes) = ap (λ (t : Tally). t.fail) so.counted in

@@ -7,6 +7,7 @@ use Rattle.ws_reports.specs.Remarks.{told_failed}
 use Rattle.ws_reports.specs.Reports.{ReportValue, case_text, end_text, start_text}
 use Rattle.ws_reports.specs.Told.{ToldValue}
 use Rattle.ws_scripts.specs.declared.script.Case.{Case}
+use Rattle.ws_titles.specs.Titles.{title_of}
 use Rattle.wst_commands.specs.Devices.{Tells}
 use Rattle.wst_commands.specs.declared.exit.Exit.{Exit}
 use Rattle.wst_commands.specs.declared.exit.Exit.TheVariants.{Damaged, Done, Failed}
@@ -18,10 +19,14 @@ use Rattle.wst_testing.specs.declared.score.Score.{Score}
 
 -- ---- one case
 
--- what there is to tell of a case: its name, the words of its outcome, and what stands below its line
+-- what there is to tell of a case: its name, its title, the words of its outcome, and what stands below its line
 abbrev pub told_of_case : Case × Outcome → ToldValue
-told_of_case test =
-    record { id = string_bytes test.0.id; verdict = outcome_words test.1; below = below_line test.1 }
+told_of_case test = record {
+  id = string_bytes test.0.id;
+  title = title_of (string_bytes test.0.id);
+  verdict = outcome_words test.1;
+  below = below_line test.1;
+}
 
 -- what is written of it
 abbrev pub report_text : ReportValue → Case × Outcome → List ℕ

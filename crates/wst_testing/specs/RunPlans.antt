@@ -1,6 +1,6 @@
 -- What the options that commands share ask for: over which end scripts are run, and how.
-use Rattle.std.specs.Prelude.{◌≡◌, ◌≢◌, ◌⊎◌, ⊤, ℕ, true, false, List, Option, None, Some, codes, map}
-use Rattle.std.specs.Prelude.{if◌then◌else◌}
+use Rattle.std.specs.Prelude.{◌≡◌, ◌≢◌, ◌⊎◌, ⊤, ℕ, List, Option, None, Some, codes, map}
+use Rattle.std.specs.Prelude.{IsTrue}
 use Rattle.std.specs.Borrow.{Bor}
 use Rattle.std.specs.Str.Iter.{HasSubslice}
 use Rattle.ws_wire.specs.declared.role.Role.{Role}
@@ -10,13 +10,16 @@ use Rattle.ws_connection.specs.RequestHeaders.{AreHeaderWords, headers_in}
 use Rattle.ws_formats.specs.Words.{IsKeyWord}
 use Rattle.ws_frame.specs.Devices.{Device}
 use Rattle.ws_targets.specs.Places.{IsAddress}
+use Rattle.ws_targets.specs.Advice.{Advises}
 use Rattle.ws_targets.specs.Targets.{IsTargetText, TargetValue, begins_with_wss, connected_at}
+use Rattle.ws_targets.specs.declared.advice.Advice.{Advice}
+use Rattle.ws_targets.specs.declared.advice.Advice.TheVariants as advice
 use Rattle.ws_upgrade.specs.Protocols.{AreOffers}
 use Rattle.ws_upgrade.specs.Texts.{IsHost}
 use Rattle.wst_words.specs.declared.run_options.RunOptions.{RunOptions}
 use Rattle.wst_commands.specs.Devices.{Tells}
 use Rattle.wst_commands.specs.GivenCases.{TellsNoCases}
-use Rattle.wst_commands.specs.TimeLimits.{GivesTimeout, HasTimeout}
+use Rattle.wst_commands.specs.TimeLimits.{GivesTimeout, HasTimeout, HasUnit}
 use Rattle.wst_commands.specs.declared.exit.Exit.{Exit}
 use Rattle.wst_commands.specs.declared.exit.Exit.TheVariants.{WrongWords}
 use Rattle.wst_commands.specs.declared.given_cases.NoCases.TheVariants.{NoMemory, NoSuchCase}
@@ -107,14 +110,21 @@ pub record IsRunPlan (options : RunOptions) (plan : RunPlan) : Type 0 where
 
 -- ---- what they can't ask for
 
--- what is told of a word that names no end
-abbrev pub bad_target : List ℕ → Refusal
-bad_target word = if begins_with_wss word then refusal.EncryptedTarget else refusal.BadAddress
+-- What is wrong with a word to which no clients can come: it begins with wss:, or else it is a URL, or none of both.
+abbrev pub AdvisesClients : List ℕ → Advice → Type 0
+AdvisesClients word advice.Encrypted = IsTrue (begins_with_wss word)
+AdvisesClients word advice.Url = ¬ (IsTrue (begins_with_wss word)) × IsUrl word
+AdvisesClients word advice.Nothing = ¬ (IsTrue (begins_with_wss word)) × ¬ (IsUrl word)
+AdvisesClients word _ = ⊥
+
+-- what is wrong with a word that names no end of this role
+abbrev pub AdvisesEnd : Role → List ℕ → Advice → Type 0
+AdvisesEnd role.Server word given = Advises word given
+AdvisesEnd role.Client word given = AdvisesClients word given
 
 -- why a word names no end of this role
 abbrev pub RefusesTarget : Role → List ℕ → Refusal → Type 0
-RefusesTarget tested word refusal.BadAddress = ¬ (NamesEnd tested word) × (begins_with_wss word ≡ false)
-RefusesTarget tested word refusal.EncryptedTarget = ¬ (NamesEnd tested word) × (begins_with_wss word ≡ true)
+RefusesTarget tested word (refusal.BadAddress given) = ¬ (NamesEnd tested word) × AdvisesEnd tested word given
 RefusesTarget tested word (refusal.NoCases NoMemory) = ⊤
 RefusesTarget tested word _ = ⊥
 
@@ -123,19 +133,20 @@ abbrev pub HasAllButEnd : RunOptions → Type 0
 HasAllButEnd options = HasOffers options × HasHeaders options × HasTimeout options.timeout × HasKey options
 
 -- The first of these that applies: the names that are given can't be offered; the headers can't be added; the seconds
--- are no limit of time; the key is none; the target names no end of the role, or no connection can be made at the
--- address that is given for it. Memory may run out at any of them.
+-- are no limit of time, and have a unit or not; the key is none; the target names no end of the role, or no connection
+-- can be made at the address that is given for it. Memory may run out at any of them.
 abbrev pub CanNotRun : RunOptions → Refusal → Type 0
 CanNotRun options refusal.BadProtocols = ¬ (HasOffers options)
 CanNotRun options refusal.BadHeader = HasOffers options × ¬ (HasHeaders options)
 CanNotRun options refusal.BadTimeout = HasOffers options × HasHeaders options × ¬ (HasTimeout options.timeout)
+    × ¬ (HasUnit options.timeout)
+CanNotRun options refusal.TimeoutWithUnit = HasOffers options × HasHeaders options × ¬ (HasTimeout options.timeout)
+    × HasUnit options.timeout
 CanNotRun options refusal.BadKey = HasOffers options × HasHeaders options × HasTimeout options.timeout
     × ((key : List ℕ) → ¬ (IsKeyWord key options.key.now))
-CanNotRun options refusal.BadAddress = HasAllButEnd options
-    × (RefusesTarget options.role options.target.now refusal.BadAddress
-    ⊎ (NamesEnd options.role options.target.now × ¬ (CanConnect options.connect)))
-CanNotRun options refusal.EncryptedTarget =
-    HasAllButEnd options × RefusesTarget options.role options.target.now refusal.EncryptedTarget
+CanNotRun options (refusal.BadAddress given) = HasAllButEnd options
+    × (RefusesTarget options.role options.target.now (refusal.BadAddress given)
+    ⊎ (NamesEnd options.role options.target.now × ¬ (CanConnect options.connect) × (given ≡ advice.Nothing)))
 CanNotRun options refusal.CaptureInReport = ⊥
 CanNotRun options refusal.NotOneCase = ⊥
 CanNotRun options (refusal.NoCases (NoSuchCase id)) = ⊥
@@ -143,15 +154,26 @@ CanNotRun options (refusal.NoCases NoMemory) = ⊤
 
 -- ---- what is told
 
+-- what is told of a bad address: the second line says what to type, where that is known
+abbrev pub address_text : Advice → List ℕ
+address_text advice.Encrypted =
+    codes "bad address\nwss is not spoken: put a TLS client before it, see --connect\n"
+address_text advice.Web = codes "bad address\n  a ws:// URL is wanted: ws://HOST:PORT/PATH\n"
+address_text advice.User = codes "bad address\n  no user before the host: ws://HOST:PORT/PATH, see --header\n"
+address_text advice.Port =
+    codes "bad address\n  a port is at most 65535, and 80 without one: ws://HOST:PORT/PATH\n"
+address_text advice.Url = codes "bad address\n  an address to listen at is wanted: HOST:PORT\n"
+address_text advice.Nothing = codes "bad address\n"
+
 -- what is told of a refusal, and the exit
 abbrev pub TellsRefusal : Refusal → Exit → Device → Type 0
 TellsRefusal refusal.BadProtocols exit faults = (exit ≡ WrongWords) × Tells (codes "bad protocol list\n") faults
 TellsRefusal refusal.BadHeader exit faults = (exit ≡ WrongWords) × Tells (codes "bad header\n") faults
 TellsRefusal refusal.BadTimeout exit faults = (exit ≡ WrongWords) × Tells (codes "bad timeout\n") faults
+TellsRefusal refusal.TimeoutWithUnit exit faults =
+    (exit ≡ WrongWords) × Tells (codes "bad timeout\n  seconds without a unit: --timeout 5\n") faults
 TellsRefusal refusal.BadKey exit faults = (exit ≡ WrongWords) × Tells (codes "bad key\n") faults
-TellsRefusal refusal.BadAddress exit faults = (exit ≡ WrongWords) × Tells (codes "bad address\n") faults
-TellsRefusal refusal.EncryptedTarget exit faults = (exit ≡ WrongWords)
-    × Tells (codes "bad address\nwss is not spoken: put a TLS client before it, see --connect\n") faults
+TellsRefusal (refusal.BadAddress given) exit faults = (exit ≡ WrongWords) × Tells (address_text given) faults
 TellsRefusal refusal.CaptureInReport exit faults =
     (exit ≡ WrongWords) × Tells (codes "--capture does not go with --known or --junit\n") faults
 TellsRefusal refusal.NotOneCase exit faults = (exit ≡ WrongWords) × Tells (codes "--capture takes one case\n") faults

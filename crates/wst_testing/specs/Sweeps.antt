@@ -32,9 +32,11 @@ use Rattle.wst_testing.specs.declared.sweeping.SweepStop.TheVariants as stop
 
 -- ---- one script
 
--- a script by the places of its steps, with what is told of an end in it
-abbrev pub SweptScript : Type 0
-SweptScript = List ℕ × Outcome
+-- a script by the places of its steps, its case, and what is told of an end in it
+pub record SweptScript : Type 0 where
+  pub places : List ℕ
+  pub case : Case
+  pub outcome : Outcome
 
 -- a Fail is told, and a Loose where all is told
 abbrev pub is_told_verdict : Bool → Verdict → Bool
@@ -48,18 +50,22 @@ is_told all (HeadRefused fault) = true
 is_told all (NoConnection why) = true
 is_told all NotRun = true
 
--- its line: what is told of the tested end, and the steps
-abbrev pub told_line : Role → SweptScript → List ℕ
-told_line tested script =
-    concat (outcome_words script.1 ∷ codes ": " ∷ steps_text tested script.0 ∷ codes "\n" ∷ [])
+-- all steps of its case, also what stands behind its own, as they are told
+abbrev pub whole_text : SweepRules → List ℕ → Case → List ℕ
+whole_text rules places case = steps_text rules.tested rules.expected places case.steps
+
+-- its line: what is told of the tested end, and these steps
+abbrev pub told_line : SweepRules → SweptScript → List ℕ
+told_line rules script = concat (outcome_words script.outcome ∷ codes ": "
+    ∷ whole_text rules script.places script.case ∷ codes "\n" ∷ [])
 
 abbrev pub script_line : SweepRules → SweptScript → List ℕ
-script_line rules script = if is_told rules.all script.1 then told_line rules.tested script else []
+script_line rules script = if is_told rules.all script.outcome then told_line rules script else []
 
--- what is told on the fault output before it runs
-abbrev pub script_notes : Bool → Role → List ℕ → List (List ℕ)
-script_notes false tested places = []
-script_notes true tested places = (steps_text tested places ++ codes "\n") ∷ []
+-- what is told on the fault output before it runs: these steps
+abbrev pub script_notes : Bool → List ℕ → List (List ℕ)
+script_notes false text = []
+script_notes true text = (text ++ codes "\n") ∷ []
 
 -- why there is no connection to the tested end, where there is none
 abbrev pub missed_by : Outcome → Option ConnectFault
@@ -82,9 +88,9 @@ case_rules rules =
 
 -- this is told of one of the ends that meet cases so, in the script's case
 abbrev pub IsSwept : (Case → Meeting → Type 0) → SweepRules → SweptScript → Type 0
-IsSwept Meets rules script = (case : Case)
-    × IsShortCase rules.tested rules.expected (key_for (other_role rules.tested) rules.key) script.0 case
-    × IsTested Meets (case_rules rules) case script.1
+IsSwept Meets rules script =
+    IsShortCase rules.tested rules.expected (key_for (other_role rules.tested) rules.key) script.places script.case
+    × IsTested Meets (case_rules rules) script.case script.outcome
 
 -- ---- scripts
 
@@ -92,11 +98,11 @@ IsSwept Meets rules script = (case : Case)
 -- end of its own, to which there was a connection
 abbrev pub AreSwept : (Case → Meeting → Type 0) → SweepRules → ℕ → List SweptScript → Type 0
 AreSwept Meets rules number [] = ⊤
-AreSwept Meets rules number (script ∷ scripts) = ArePlaces script.0 × (script_number script.0 ≡ number)
-    × (missed_by script.1 ≡ None) × IsSwept Meets rules script × AreSwept Meets rules (number + 1) scripts
+AreSwept Meets rules number (script ∷ scripts) = ArePlaces script.places × (script_number script.places ≡ number)
+    × (missed_by script.outcome ≡ None) × IsSwept Meets rules script × AreSwept Meets rules (number + 1) scripts
 
 abbrev pub outcomes_of : List SweptScript → List Outcome
-outcomes_of scripts = map (λ script. script.1) scripts
+outcomes_of scripts = map (λ script. script.outcome) scripts
 
 abbrev pub sweep_lines : SweepRules → List SweptScript → List ℕ
 sweep_lines rules scripts = flat_map (script_line rules) scripts
@@ -125,7 +131,7 @@ pub record SweepsAll (Meets : Case → Meeting → Type 0) (rules : SweepRules) 
 -- the next script could be this one, and this is told of an end in it
 abbrev pub IsNextSwept : (Case → Meeting → Type 0) → SweepRules → List SweptScript → SweptScript → Type 0
 IsNextSwept Meets rules scripts next =
-    ArePlaces next.0 × (script_number next.0 ≡ length scripts) × IsSwept Meets rules next
+    ArePlaces next.places × (script_number next.places ≡ length scripts) × IsSwept Meets rules next
 
 -- this is to be written next: the line of the next script, or the total where all were run
 abbrev pub IsNextText : (Case → Meeting → Type 0) → SweepRules → List SweptScript → List ℕ → Type 0
@@ -138,7 +144,7 @@ abbrev pub StopsBehind : (Case → Meeting → Type 0) → SweepRules → List S
 StopsBehind Meets rules scripts stop.Device output = (text : List ℕ) × IsNextText Meets rules scripts text
     × (output.failed ≡ true) × HasBegun (sweep_lines rules scripts ++ text) output
 StopsBehind Meets rules scripts (stop.NoConnection why) output =
-    ((places : List ℕ) × IsNextSwept Meets rules scripts (places, NoConnection why))
+    ((next : SweptScript) × IsNextSwept Meets rules scripts next × (next.outcome ≡ NoConnection why))
     × HasWritten (sweep_lines rules scripts) output
 StopsBehind Meets rules scripts stop.NoMemory output = HasWritten (sweep_lines rules scripts) output
 
@@ -179,18 +185,27 @@ IsConnected outcome (Err stop.Device) = ⊥
 IsConnected outcome (Err (stop.NoConnection why)) = outcome ≡ NoConnection why
 IsConnected outcome (Err stop.NoMemory) = ⊥
 
+-- this script, in such a case
+abbrev pub swept : List ℕ → Case → Outcome → SweptScript
+swept places case outcome = record { places = places; case = case; outcome = outcome }
+
 -- the script was run, and its line was written; or why not
 abbrev pub StopsAtScript : (Case → Meeting → Type 0) → SweepRules → List ℕ → SweepStop → Device → Type 0
-StopsAtScript Meets rules places stop.Device output = (outcome : Outcome) × IsSwept Meets rules (places, outcome)
-    × HasBegun (script_line rules (places, outcome)) output × (output.failed ≡ true)
+StopsAtScript Meets rules places stop.Device output = (case : Case) × ((outcome : Outcome)
+    × IsSwept Meets rules (swept places case outcome)
+    × HasBegun (script_line rules (swept places case outcome)) output × (output.failed ≡ true))
 StopsAtScript Meets rules places (stop.NoConnection why) output =
-    IsSwept Meets rules (places, NoConnection why) × IsUntouched output
+    ((case : Case) × IsSwept Meets rules (swept places case (NoConnection why))) × IsUntouched output
 StopsAtScript Meets rules places stop.NoMemory output = IsUntouched output
+
+-- its line was written, with this case
+abbrev pub HasSweptScript : (Case → Meeting → Type 0) → SweepRules → List ℕ → Outcome → Device → Type 0
+HasSweptScript Meets rules places outcome output = (case : Case) × IsSwept Meets rules (swept places case outcome)
+    × HasWritten (script_line rules (swept places case outcome)) output
 
 abbrev pub SweepsScript : (Case → Meeting → Type 0) → SweepRules → List ℕ → Result Outcome SweepStop → Device → Type 0
 SweepsScript Meets rules places ended output = MatchResult ended
-    (λ outcome. (missed_by outcome ≡ None) × IsSwept Meets rules (places, outcome)
-    × HasWritten (script_line rules (places, outcome)) output × (output.failed ≡ false))
+    (λ outcome. (missed_by outcome ≡ None) × HasSweptScript Meets rules places outcome output × (output.failed ≡ false))
     (λ why. StopsAtScript Meets rules places why output)
 
 -- the cases are made for the tested ends of these rules, what is expected of them, and the key of their tester

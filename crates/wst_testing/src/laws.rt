@@ -19,7 +19,7 @@ pub fn our_echo_passes_every_script()
     ensures { (rules : SweepRules) (script : SweptScript) →
         rules.expected ≡ Echo →
         IsSwept (MeetsInMemory (record { peer = Own; role = rules.tested }) rules.key) rules script →
-        is_pass script.1 ≡ true }
+        is_pass script.outcome ≡ true }
 {
     one_verdict();
 }

@@ -17,6 +17,7 @@ use ws_base::NoMemory;
 use ws_frame::Watched;
 use ws_reports::{Report, Told};
 use ws_suite::Case;
+use ws_titles::title_of;
 use wst_commands::{Exit, Fault, deliver, tell};
 
 /// What a report writes of a case, and whether a run of it alone would be said to have failed.
@@ -40,6 +41,7 @@ pub fn report_case(
     let below = format!(in alloc; "{}", Below(outcome))?;
     let told = Told {
         id: case.id.as_str(),
+        title: title_of(case.id.as_str()),
         verdict: verdict.as_str(),
         below: below.as_str(),
     };

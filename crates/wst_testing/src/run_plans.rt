@@ -5,8 +5,8 @@ ghost use Rattle.ws_frame.specs.Devices.{watched};
 ghost use Rattle.wst_commands.specs.Devices.{Tells};
 ghost use Rattle.ws_connection.specs.RequestHeaders.{headers_in};
 ghost use Rattle.wst_testing.specs.RunPlans.{HasHeaders, header_words};
-ghost use Rattle.wst_testing.specs.RunPlans.{CanConnect, IsClientsAddress, IsEndOf, IsRunPlan, CanNotRun};
-ghost use Rattle.wst_testing.specs.RunPlans.{RefusesTarget, TellsRefusal, bad_target, tested_role};
+ghost use Rattle.wst_testing.specs.RunPlans.{CanConnect, IsClientsAddress, IsEndOf, IsRunPlan, IsUrl, CanNotRun};
+ghost use Rattle.wst_testing.specs.RunPlans.{AdvisesClients, RefusesTarget, TellsRefusal, address_text, tested_role};
 ghost use Rattle.ws_wire.specs.declared.role.Role.{Role};
 ghost use Rattle.ws_wire.specs.declared.role.Role.TheVariants.{Client, Server};
 ghost use Rattle.wst_commands.specs.declared.exit.Exit.TheVariants.{WrongWords};
@@ -20,10 +20,12 @@ use ws_connection::{Protocols, RequestHeaders, headers_of, protocols_of};
 use ws_formats::read_key;
 use ws_frame::Watched;
 use ws_suite::Expectation;
-use ws_targets::{Target, TargetFault, asks_for_tls, is_address, read_target};
+use ws_targets::{
+    Advice, Target, TargetFault, asks_for_tls, is_address, read_target, target_advice,
+};
 use ws_upgrade::is_host;
 use ws_wire::Role;
-use wst_commands::{Exit, NoCases, TimeLimit, tell, tell_no_cases, timeout_given};
+use wst_commands::{Exit, NoCases, TimeLimit, has_unit, tell, tell_no_cases, timeout_given};
 use wst_words::RunOptions;
 
 /// The end that scripts are run over.
@@ -77,12 +79,13 @@ pub enum Refusal<'a> {
     BadHeader,
     /// The seconds are no limit of time.
     BadTimeout,
+    /// The same, and they are digits with a unit.
+    TimeoutWithUnit,
     /// The key is not eight lower-case hexadecimal digits.
     BadKey,
-    /// The target names no server, or no connection can be made at the address that is given for it.
-    BadAddress,
-    /// The target names no server, and begins as a URL whose connection is encrypted.
-    EncryptedTarget,
+    /// The target names no end, with what is wrong with it; or no connection can be made at the address that is given
+    /// for it.
+    BadAddress(Advice),
     /// A capture is asked for beside an earlier run or a document.
     CaptureInReport,
     /// A capture is asked for, and not exactly one case is given.
@@ -123,6 +126,9 @@ pub fn plan_run<'a>(alloc: Global, options: &RunOptions<'a>) -> Result<RunPlan<'
         return Err(Refusal::BadHeader);
     };
     let Some(timeout) = timeout_given(options.timeout) else {
+        if has_unit(options.timeout) {
+            return Err(Refusal::TimeoutWithUnit);
+        }
         return Err(Refusal::BadTimeout);
     };
     let Some(key) = read_key(options.key.as_bytes()) else {
@@ -130,7 +136,7 @@ pub fn plan_run<'a>(alloc: Global, options: &RunOptions<'a>) -> Result<RunPlan<'
     };
     let named = end_named(alloc, options.role, options.target)?;
     if !can_connect(options.connect) {
-        return Err(Refusal::BadAddress);
+        return Err(Refusal::BadAddress(Advice::Nothing));
     }
     let tested = connected(alloc, named, options.connect)?;
     Ok(RunPlan {
@@ -195,7 +201,7 @@ fn server_at<'a>(alloc: Global, word: &'a str) -> Result<TestedEnd<'a>, Refusal<
     match read_target(alloc, word) {
         Ok(target) => Ok(TestedEnd::Server(target)),
         Err(TargetFault::NoMemory) => Err(Refusal::NoCases(NoCases::NoMemory)),
-        Err(TargetFault::Bad) => Err(bad_target(word)),
+        Err(TargetFault::Bad) => Err(Refusal::BadAddress(target_advice(word))),
     }
 }
 
@@ -208,7 +214,7 @@ fn clients_at<'a>(word: &'a str) -> Result<TestedEnd<'a>, Refusal<'a>>
     if is_clients_address(word) {
         Ok(TestedEnd::Clients(word))
     } else {
-        Err(bad_target(word))
+        Err(Refusal::BadAddress(clients_advice(word)))
     }
 }
 
@@ -219,15 +225,24 @@ fn is_clients_address(word: &str) -> bool
     is_host(word.as_bytes()) && !word.contains("://")
 }
 
-/// What is told of a word that names no end.
-fn bad_target<'a>(word: &str) -> Refusal<'a>
-    ensures { result ≡ bad_target word.now }
+/// What is wrong with a word to which no clients can come.
+fn clients_advice(word: &str) -> Advice
+    ensures { AdvisesClients word.now result }
 {
     if asks_for_tls(word) {
-        Refusal::EncryptedTarget
-    } else {
-        Refusal::BadAddress
+        return Advice::Encrypted;
     }
+    if is_url(word) {
+        return Advice::Url;
+    }
+    Advice::Nothing
+}
+
+/// Whether a word is a URL.
+fn is_url(word: &str) -> bool
+    ensures { IsTrue result ↔ IsUrl word.now }
+{
+    word.contains("://")
 }
 
 /// Whether a connection can be made at the address that is given, if one is.
@@ -266,17 +281,35 @@ pub fn tell_refusal<F: Write>(alloc: Global, refusal: Refusal<'_>, faults: &mut 
         Refusal::BadProtocols => tell_wrong(b"bad protocol list\n", faults),
         Refusal::BadHeader => tell_wrong(b"bad header\n", faults),
         Refusal::BadTimeout => tell_wrong(b"bad timeout\n", faults),
-        Refusal::BadKey => tell_wrong(b"bad key\n", faults),
-        Refusal::BadAddress => tell_wrong(b"bad address\n", faults),
-        Refusal::EncryptedTarget => tell_wrong(
-            b"bad address\nwss is not spoken: put a TLS client before it, see --connect\n",
+        Refusal::TimeoutWithUnit => tell_wrong(
+            b"bad timeout\n  seconds without a unit: --timeout 5\n",
             faults,
         ),
+        Refusal::BadKey => tell_wrong(b"bad key\n", faults),
+        Refusal::BadAddress(advice) => tell_wrong(address_text(advice), faults),
         Refusal::CaptureInReport => {
             tell_wrong(b"--capture does not go with --known or --junit\n", faults)
         }
         Refusal::NotOneCase => tell_wrong(b"--capture takes one case\n", faults),
         Refusal::NoCases(why) => tell_no_cases(alloc, why, faults),
+    }
+}
+
+/// The lines that tell of a bad address: the second says what to type, where that is known.
+fn address_text(advice: Advice) -> &'static [u8]
+    ensures { result.now ≡ address_text advice }
+{
+    match advice {
+        Advice::Encrypted => {
+            b"bad address\nwss is not spoken: put a TLS client before it, see --connect\n"
+        }
+        Advice::Web => b"bad address\n  a ws:// URL is wanted: ws://HOST:PORT/PATH\n",
+        Advice::User =>
+            b"bad address\n  no user before the host: ws://HOST:PORT/PATH, see --header\n",
+        Advice::Port =>
+            b"bad address\n  a port is at most 65535, and 80 without one: ws://HOST:PORT/PATH\n",
+        Advice::Url => b"bad address\n  an address to listen at is wanted: HOST:PORT\n",
+        Advice::Nothing => b"bad address\n",
     }
 }
 

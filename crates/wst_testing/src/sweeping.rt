@@ -9,7 +9,7 @@ ghost use Rattle.wst_testing.specs.Notes.{TellsEach};
 ghost use Rattle.wst_testing.specs.Sweeps.{CountsScripts, IsConnected, MakesCasesOf, SweepsScript, SweepsScripts};
 ghost use Rattle.wst_testing.specs.Sweeps.{TellsSweepEnd};
 ghost use Rattle.wst_testing.specs.Sweeps.{WritesText, case_rules, is_told, script_line, script_notes, sweep_total};
-ghost use Rattle.wst_testing.specs.Sweeps.{told_line};
+ghost use Rattle.wst_testing.specs.Sweeps.{swept, told_line, whole_text};
 
 use crate::case_server::CaseServer;
 use crate::outcome::{Outcome, Tally};
@@ -19,7 +19,7 @@ use std::io::Write;
 use ws_base::NoMemory;
 use ws_frame::{Watched, WriteFault, write_whole};
 use ws_peer::tester_key;
-use ws_suite::{Expectation, Verdict};
+use ws_suite::{Case, Expectation, Verdict};
 use ws_sweep::{ShortCases, ShortScript, ShortScripts, script_count, tell_steps};
 use ws_wire::Role;
 use wst_commands::{Exit, Fault, tell, tell_fault};
@@ -132,11 +132,11 @@ fn run_script<S: CaseServer, W: Write, F: Write>(
         (watched W.contents writer.old writer.new) }
     ensures cases { MakesCasesOf rules cases.new }
 {
-    tell_script(alloc, rules, script, faults)?;
     let case = cases.case_of(alloc, script)?;
+    tell_script(alloc, rules, script, &case, faults)?;
     let outcome = outcome_of(alloc, server, &case, case_rules(rules))?;
     let told = connected(outcome)?;
-    tell_outcome(alloc, rules, script, &told, writer)?;
+    tell_outcome(alloc, rules, script, &case, &told, writer)?;
     Ok(told)
 }
 
@@ -167,22 +167,23 @@ fn connected(outcome: Outcome) -> Result<Outcome, SweepStop>
     }
 }
 
-/// Tells the steps of a script that is run next, where that is asked for.
+/// Tells the steps of the case of a script that is run next, where that is asked for.
 fn tell_script<F: Write>(
     alloc: Global,
     rules: SweepRules,
     script: &ShortScript,
+    case: &Case,
     faults: &mut Watched<F>,
 ) -> Result<(), NoMemory>
     requires { ArePlaces script.now }
-    ensures told { OnOk result (TellsEach (script_notes rules.progress rules.tested script.now)
+    ensures told { OnOk result (TellsEach (script_notes rules.progress (whole_text rules script.now case.now))
         (watched F.contents faults.old faults.new)) }
     ensures kept { OnErr result (faults.new ≡ faults.old) }
 {
     if !rules.progress {
         return Ok(());
     }
-    let mut line = tell_steps(alloc, rules.tested, script)?;
+    let mut line = text_of(alloc, rules, script, case)?;
     line.push_str("\n")?;
     tell(line.as_bytes(), faults);
     Ok(())
@@ -193,18 +194,19 @@ fn tell_outcome<W: Write>(
     alloc: Global,
     rules: SweepRules,
     script: &ShortScript,
+    case: &Case,
     outcome: &Outcome,
     writer: &mut Watched<W>,
 ) -> Result<(), SweepStop>
     requires works { has_failed writer.old ≡ false }
     requires places { ArePlaces script.now }
-    ensures { WritesText (script_line rules (script.now, outcome.now)) result
+    ensures { WritesText (script_line rules (swept script.now case.now outcome.now)) result
         (watched W.contents writer.old writer.new) }
 {
     if !is_told(rules.all, outcome) {
         return Ok(());
     }
-    let line = line_of(alloc, rules.tested, script, outcome)?;
+    let line = line_of(alloc, rules, script, case, outcome)?;
     write_whole(writer, line.as_bytes())?;
     Ok(())
 }
@@ -226,16 +228,31 @@ pub fn is_told(all: bool, outcome: &Outcome) -> bool
 /// Its line.
 fn line_of(
     alloc: Global,
-    tested: Role,
+    rules: SweepRules,
     script: &ShortScript,
+    case: &Case,
     outcome: &Outcome,
 ) -> Result<String, NoMemory>
     requires { ArePlaces script.now }
-    ensures { IfOk result (λ line. string_bytes line ≡ told_line tested (script.now, outcome.now)) }
+    ensures { IfOk result (λ line. string_bytes line ≡ told_line rules (swept script.now case.now outcome.now)) }
 {
-    let steps = tell_steps(alloc, tested, script)?;
+    let steps = text_of(alloc, rules, script, case)?;
     let line = format!(in alloc; "{outcome}: {steps}\n")?;
     Ok(line)
+}
+
+/// All steps of its case, as they are told.
+fn text_of(
+    alloc: Global,
+    rules: SweepRules,
+    script: &ShortScript,
+    case: &Case,
+) -> Result<String, NoMemory>
+    requires { ArePlaces script.now }
+    ensures { IfOk result (λ text. string_bytes text ≡ whole_text rules script.now case.now) }
+{
+    let steps = case.steps.as_slice();
+    tell_steps(alloc, rules.tested, rules.expected, script, steps)
 }
 
 /// The line of the total.

@@ -21,5 +21,5 @@ returns g c =
       cases,
       are,
       subst (λ (b : List ℕ). Delivers Done b c.deliver-else-is_glob.result (watched g.W.Write.contents c.args.writer.now c.deliver-else-is_glob.new.writer))
-          (text ∙ script_text word cases case plain one) c.deliver-else-is_glob.ensures,
+          (text ∙ script_text c.args.with_titles word cases case c.if-with_titles.false plain one) c.deliver-else-is_glob.ensures,
     )

@@ -38,5 +38,6 @@ met_passes law rules case (meeting.Refused fault) told echo is so = absurd is
 met_passes law rules case (meeting.NoConnection why) told echo is so = absurd is
 
 pub returns : goal.returns
-returns c = λ rules script echo (case, short, tested).
-    met_passes c.one_verdict.ensures (case_rules rules) case tested.meeting script.1 echo tested.met tested.told
+returns c = λ rules script echo (short, tested).
+    met_passes c.one_verdict.ensures (case_rules rules) script.case tested.meeting script.outcome echo tested.met
+    tested.told

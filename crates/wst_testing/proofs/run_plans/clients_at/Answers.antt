@@ -8,4 +8,4 @@ pub returns-else-is_clients_address : goal.returns-else-is_clients_address
 returns-else-is_clients_address c =
     let lacks : ¬ (IsClientsAddress c.args.word.now) = λ holds.
     let wrong : IsTrue c.is_clients_address.result = c.is_clients_address.ensures.1 holds in absurd cc in
-    address_refused c.args.word.now c.bad_target.result (c.requires.own, c.requires.tung) lacks c.bad_target.ensures
+    address_refused c.args.word.now c.clients_advice.result (c.requires.own, c.requires.tung) lacks c.clients_advice.ensures

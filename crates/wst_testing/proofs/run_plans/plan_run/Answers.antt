@@ -40,5 +40,5 @@ returns-then-not-can_connect c =
         (c.in-Some-timeout_given.timeout, c.in-Some-timeout_given.ensures),
         (c.in-Some-read_key.key, key),
       ),
-      inr ((c.in_ok-named.named, c.in_ok-named.ensures), can_not),
+      inr ((c.in_ok-named.named, c.in_ok-named.ensures), can_not, refl),
     )

@@ -2,7 +2,7 @@
 use Rattle.std.proofs.Common.{subst, sym}
 use Rattle.ws_frame.specs.Devices.{watched}
 use Rattle.ws_frame.specs.Watching.{has_failed, inner_of}
-use Rattle.wst_testing.specs.Sweeps.{IsSwept, case_rules}
+use Rattle.wst_testing.specs.Sweeps.{IsSwept, case_rules, swept}
 use Rattle.wst_testing.specs.Testing.{IsTested}
 use Rattle.wst_testing.specs.declared.outcome.Outcome.{Outcome}
 use Rattle.wst_testing.proofs.SweepLemmas.{line_stops, script_misses, short_so, tested_so}
@@ -31,14 +31,13 @@ returns-in_err-tell_outcome-clause-swept g c =
     c.in_ok-outcome.ensures in
     let short = short_so rules c.args.cases.now c.args.script.now case c.requires.cases
     c.in_ok-case.ensures.is in
-    let swept : IsSwept (Meets rules.key) rules (c.args.script.now, told) = (
-      case,
+    let is_swept : IsSwept (Meets rules.key) rules (swept c.args.script.now case told) = (
       short,
       subst (λ (o : Outcome). IsTested (Meets rules.key) (case_rules rules) case o) (sym c.in_ok-told.ensures.0) tested,
     ) in
-    line_stops (Meets rules.key) rules c.args.script.now told c.in_err-tell_outcome.field-0.0
+    line_stops (Meets rules.key) rules c.args.script.now case told c.in_err-tell_outcome.field-0.0
     c.from_residual-in_err-tell_outcome.result
-    (watched g.W.Write.contents c.args.writer.now c.tell_outcome.new.writer) swept c.in_err-tell_outcome.ensures
+    (watched g.W.Write.contents c.args.writer.now c.tell_outcome.new.writer) is_swept c.in_err-tell_outcome.ensures
     c.from_residual-in_err-tell_outcome.ensures.1
 
 pub returns-clause-swept : goal.returns-clause-swept
@@ -51,9 +50,8 @@ returns-clause-swept g c =
     c.in_ok-outcome.ensures in
     let short = short_so rules c.args.cases.now c.args.script.now case c.requires.cases
     c.in_ok-case.ensures.is in
-    let swept : IsSwept (Meets rules.key) rules (c.args.script.now, told) = (
-      case,
+    let is_swept : IsSwept (Meets rules.key) rules (swept c.args.script.now case told) = (
       short,
       subst (λ (o : Outcome). IsTested (Meets rules.key) (case_rules rules) case o) (sym c.in_ok-told.ensures.0) tested,
     ) in
-    (c.in_ok-told.ensures.1, swept, c.in_ok-tell_outcome.ensures.0, c.in_ok-tell_outcome.ensures.1)
+    (c.in_ok-told.ensures.1, (case, is_swept, c.in_ok-tell_outcome.ensures.0), c.in_ok-tell_outcome.ensures.1)

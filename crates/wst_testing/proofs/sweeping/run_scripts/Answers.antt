@@ -45,14 +45,14 @@ loop-script-preserved-in_ok-outcome g c =
     let place = at.invariant.place in
     record {
       cases = c.in_ok-outcome.ensures.cases;
-      works = told.3;
+      works = told.2;
       place = omega (arith, place, given.2, given.3);
       run = swept_more (g.S.CaseServer.meets c.args.server.now c.args.rules.key) c.args.rules at.scripts.next
           c.next.new.self.next at.tally c.with-tally.result c.in-Some.script c.in_ok-outcome.outcome
           (g.W.Write.contents (inner_of c.args.writer.now)) (g.W.Write.contents (inner_of at.writer))
           (g.W.Write.contents (inner_of c.run_script.new.writer)) (has_failed at.writer)
           (has_failed c.run_script.new.writer) at.invariant.run given.0 given.1 given.2 c.with-tally.ensures told.0
-          told.1 told.2;
+          told.1;
     }
 
 pub loop-script-preserved : goal.loop-script-preserved
@@ -63,12 +63,12 @@ loop-script-preserved g c =
     let place = at.invariant.place in
     record {
       cases = c.in_ok-outcome.ensures.cases;
-      works = told.3;
+      works = told.2;
       place = omega (arith, place, given.2, given.3);
       run = swept_more (g.S.CaseServer.meets c.args.server.now c.args.rules.key) c.args.rules at.scripts.next
           c.next.new.self.next at.tally c.with-tally.result c.in-Some.script c.in_ok-outcome.outcome
           (g.W.Write.contents (inner_of c.args.writer.now)) (g.W.Write.contents (inner_of at.writer))
           (g.W.Write.contents (inner_of c.run_script.new.writer)) (has_failed at.writer)
           (has_failed c.run_script.new.writer) at.invariant.run given.0 given.1 given.2 c.with-tally.ensures told.0
-          told.1 told.2;
+          told.1;
     }

@@ -1,0 +1,97 @@
+-- What is wrong with a line that is no step, where that is known to be typed often, and what is told of it.
+use Rattle.std.specs.Prelude.{◌≡◌, ℕ, zero, suc, ◌+◌, ◌-◌, ◌==◌, nat_eq, nat_lt, Bool, true, false, ◌||◌, if◌then◌else◌}
+use Rattle.std.specs.Prelude.{List, [], ◌∷◌, drop, take, position, codes, Option, Some, None, MatchOption}
+use Rattle.std.specs.Borrow.{Bor}
+use Rattle.std.specs.List.{ends_with, list_any, starts_with}
+use Rattle.ws_formats.specs.Words.{words_of}
+use Rattle.wst_commands.specs.declared.step_damages.StepDamage.{StepDamage}
+use Rattle.wst_commands.specs.declared.step_damages.StepDamage.TheVariants.{EndsInCr, Order, Other, Quotes, Unended}
+
+-- ---- cutting
+
+-- what stands before the byte at a place, and behind it
+abbrev pub cut_by : Option ℕ → List ℕ → Option (List ℕ × List ℕ)
+cut_by None bytes = None
+cut_by (Some at) bytes = Some (take at bytes, drop (at + 1) bytes)
+
+-- the same of the first such byte, if there is one
+abbrev pub cut_of : ℕ → List ℕ → Option (List ℕ × List ℕ)
+cut_of mark bytes = cut_by (position (λ byte. byte == mark) bytes) bytes
+
+-- the bytes are cut so
+abbrev pub CutsAtMark : ℕ → List ℕ → Option (Bor (List ℕ) × Bor (List ℕ)) → Type 0
+CutsAtMark mark bytes result = MatchOption result (cut_of mark bytes ≡ None)
+    (λ parts. cut_of mark bytes ≡ Some (parts.0.now, parts.1.now))
+
+-- what stands behind the cut, nothing where there is none
+abbrev pub behind_cut : Option (List ℕ × List ℕ) → List ℕ
+behind_cut None = []
+behind_cut (Some parts) = parts.1
+
+-- what stands behind so many lines
+abbrev pub behind_lines : ℕ → List ℕ → List ℕ
+behind_lines zero text = text
+behind_lines (suc count) text = behind_cut (cut_of 10 (behind_lines count text))
+
+-- ---- what is wrong with a line
+
+-- where a word stands among those behind the name of a frame: its fields in their order, and then its data
+abbrev pub field_rank : List ℕ → ℕ
+field_rank word =
+    if starts_with nat_eq word (codes "fin=") then 1
+    else (if starts_with nat_eq word (codes "rsv=") then 2
+    else (if starts_with nat_eq word (codes "key=") then 3
+    else (if starts_with nat_eq word (codes "form=") then 4 else 5)))
+
+-- one of the words stands behind one that is to follow it
+abbrev pub descend : ℕ → List (List ℕ) → Bool
+descend last [] = false
+descend last (word ∷ words) = nat_lt (field_rank word) last || descend (field_rank word) words
+
+-- the words of a line: the name of the frame, and then its fields and its data
+abbrev pub words_damage : List (List ℕ) → StepDamage
+words_damage [] = Other
+words_damage (name ∷ fields) = if descend 0 fields then Order else Other
+
+-- a line without quotes
+abbrev pub order_damage : List ℕ → StepDamage
+order_damage line = words_damage (words_of line)
+
+-- what stands behind the second quote: no quote, and nothing else
+abbrev pub text_damage : List ℕ → Option (List ℕ × List ℕ) → StepDamage
+text_damage front None = Quotes
+text_damage front (Some (_, [])) = order_damage front
+text_damage front (Some (_, byte ∷ behind)) =
+    if list_any (λ other. other == 34) (byte ∷ behind) then Quotes else Order
+
+-- a line of which this stands before its first quote, and this behind it
+abbrev pub quoted_damage : List ℕ → List ℕ → StepDamage
+quoted_damage front rest = text_damage front (cut_of 34 rest)
+
+-- a line that is cut so at its first quote
+abbrev pub cut_damage : List ℕ → Option (List ℕ × List ℕ) → StepDamage
+cut_damage line None = order_damage line
+cut_damage line (Some parts) = quoted_damage parts.0 parts.1
+
+-- a line that has an LF: it ends in CR; or else it has quotes, and not two; or else its fields stand in another order,
+-- or something behind its data
+abbrev pub line_damage : List ℕ → StepDamage
+line_damage line = if ends_with nat_eq line (13 ∷ []) then EndsInCr else cut_damage line (cut_of 34 line)
+
+-- a line that is cut so at its LF
+abbrev pub ended_damage : Option (List ℕ × List ℕ) → StepDamage
+ended_damage None = Unended
+ended_damage (Some parts) = line_damage parts.0
+
+-- the line of this number, counted from 1, of a script that is damaged there: it has no LF, or what is wrong before it
+abbrev pub step_damage : List ℕ → ℕ → StepDamage
+step_damage text number = ended_damage (cut_of 10 (behind_lines (number - 1) text))
+
+-- ---- what is told
+
+abbrev pub damage_words : StepDamage → List ℕ
+damage_words Unended = codes "not a step\n  end the last line with a line feed too"
+damage_words EndsInCr = codes "not a step\n  end lines with LF alone, not with CR LF: tr -d '\\r'"
+damage_words Quotes = codes "not a step\n  a text has a quote at each end and none between: text \"hi\""
+damage_words Order = codes "not a step\n  the order is KIND fin= rsv= key= form= DATA"
+damage_words Other = codes "not a step"

@@ -1,0 +1,92 @@
+//! The rule that a fault breaks, as a sentence.
+
+ghost use Rattle.std.specs.Prelude.{◌≡◌, option_map};
+ghost use Rattle.wst_commands.specs.FaultRules.{doomed_rule, ending_rule, reason_rule, sent_rule};
+
+use ws_session::Reason;
+use ws_suite::{Ending, InTurn};
+
+/// The rule that what was sent breaks, if it ends with a fault or is doomed.
+pub(crate) fn sent_rule(sent: &Option<InTurn<Ending>>) -> Option<&'static str>
+    ensures { option_map (λ words. words.now) result ≡ sent_rule sent.now }
+{
+    match sent {
+        None => None,
+        Some(ending) => ending_rule(&ending.what),
+    }
+}
+
+/// The rule that what ends here breaks. A close breaks none.
+fn ending_rule(ending: &Ending) -> Option<&'static str>
+    ensures { option_map (λ words. words.now) result ≡ ending_rule ending.now }
+{
+    match ending {
+        Ending::Closed(_) => None,
+        Ending::Failed(reason) => Some(reason_rule(*reason)),
+        Ending::Doomed => Some(doomed_rule()),
+    }
+}
+
+/// The rule of bytes that can become no valid frame.
+fn doomed_rule() -> &'static str
+    ensures { result.now ≡ doomed_rule }
+{
+    "No more bytes can make a valid frame of those that were sent, so the connection may be \
+     failed before the rest comes (RFC 6455 section 7.1.7; ours)"
+}
+
+/// The rule that the bytes of this fault break.
+fn reason_rule(reason: Reason) -> &'static str
+    ensures { result.now ≡ reason_rule reason }
+{
+    match reason {
+        Reason::ReservedBits =>
+            "A reserved bit is 0 where no extension defines it, and an end that gets another \
+             fails the connection (RFC 6455 section 5.2)",
+        Reason::Opcode =>
+            "A frame has an opcode that is defined, and an end that gets another fails the \
+             connection (RFC 6455 section 5.2)",
+        Reason::MaskWrong =>
+            "A client masks its frames and a server does not, and an end that gets it \
+             otherwise closes the connection (RFC 6455 section 5.1)",
+        Reason::NotShortest =>
+            "A length is in the shortest form that holds it (RFC 6455 section 5.2); to fail \
+             the connection over another is ours",
+        Reason::BadLength =>
+            "The top bit of a length in eight bytes is 0 (RFC 6455 section 5.2); to fail the \
+             connection over another is ours",
+        Reason::ControlCut =>
+            "A control frame is not fragmented (RFC 6455 sections 5.4 and 5.5); to fail the \
+             connection over a fragment is ours",
+        Reason::ControlLong =>
+            "A control frame has at most 125 bytes of payload (RFC 6455 section 5.5); to fail \
+             the connection over more is ours",
+        Reason::NothingToContinue =>
+            "A continuation follows the first fragment of its message (RFC 6455 section 5.4); \
+             to fail the connection over one of nothing is ours",
+        Reason::MessageOpen =>
+            "The fragments of a message are not interleaved with another message (RFC 6455 \
+             section 5.4); to fail the connection over it is ours",
+        Reason::TooBig =>
+            "A message has at most 16777216 bytes (ours; RFC 6455 section 10.4 leaves it to \
+             each end)",
+        Reason::NotText =>
+            "A text is UTF-8, and an end that gets other bytes fails the connection (RFC 6455 \
+             section 8.1)",
+        Reason::TextCut =>
+            "A text is UTF-8 as a whole, so it ends behind a whole character (RFC 6455 \
+             sections 5.6 and 8.1)",
+        Reason::CloseOneByte =>
+            "The payload of a close frame is empty or begins with a code of two bytes (RFC \
+             6455 section 5.5.1); to fail the connection over one byte is ours",
+        Reason::CloseCode =>
+            "A close frame has a code that may stand in one (RFC 6455 sections 7.4.1 and \
+             7.4.2); to fail the connection over another is ours",
+        Reason::CloseReason =>
+            "The reason of a close frame is UTF-8 (RFC 6455 section 5.5.1), and an end that \
+             gets other bytes fails the connection (section 8.1)",
+        Reason::FrameBig =>
+            "A data frame is at most as large as the end takes (ours; RFC 6455 section 10.4 \
+             leaves it to each end)",
+    }
+}

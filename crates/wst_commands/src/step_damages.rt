@@ -1,0 +1,161 @@
+//! What is wrong with a line that is no step, where that is known to be typed often.
+
+ghost use Rattle.std.specs.Prelude.{◌≡◌, ◌==◌, IfOk, map, position};
+ghost use Rattle.wst_commands.specs.StepDamages.{CutsAtMark, behind_lines, damage_words, descend, field_rank};
+ghost use Rattle.wst_commands.specs.StepDamages.{line_damage};
+ghost use Rattle.wst_commands.specs.StepDamages.{order_damage, quoted_damage, step_damage, words_damage};
+
+use std::alloc::{AllocError, Global};
+use ws_formats::words_of;
+
+/// What is wrong with the damaged line of a script.
+#[derive(Clone, Copy, Debug, PartialEq, Eq)]
+pub enum StepDamage {
+    /// It is the last line, and has no LF.
+    Unended,
+    /// It ends in CR.
+    EndsInCr,
+    /// It has quotes, and not two.
+    Quotes,
+    /// Its fields stand in another order.
+    Order,
+    /// It is none of these.
+    Other,
+}
+
+impl StepDamage {
+    /// What is told of the line. The second line says what to type, where that is known.
+    pub(crate) fn words(self) -> &'static str
+        ensures { result.now ≡ damage_words self }
+    {
+        match self {
+            StepDamage::Unended => "not a step\n  end the last line with a line feed too",
+            StepDamage::EndsInCr =>
+                "not a step\n  end lines with LF alone, not with CR LF: tr -d '\\r'",
+            StepDamage::Quotes =>
+                "not a step\n  a text has a quote at each end and none between: text \"hi\"",
+            StepDamage::Order => "not a step\n  the order is KIND fin= rsv= key= form= DATA",
+            StepDamage::Other => "not a step",
+        }
+    }
+}
+
+/// What is wrong with the line of this number, counted from 1, of a script that is damaged there.
+pub fn step_damage(alloc: Global, text: &[u8], number: u64) -> Result<StepDamage, AllocError>
+    ensures { IfOk result (λ damage. damage ≡ step_damage text.now number) }
+{
+    let rest = behind_lines(text, number.saturating_sub(1));
+    match cut_at(rest, b'\n') {
+        Some((line, _)) => line_damage(alloc, line),
+        None => Ok(StepDamage::Unended),
+    }
+}
+
+/// What stands behind so many lines.
+fn behind_lines(text: &[u8], count: u64) -> &[u8]
+    ensures { result.now ≡ behind_lines count text.now }
+{
+    let mut rest = text;
+    for _ in 0..count {
+        match cut_at(rest, b'\n') {
+            Some((_, behind)) => rest = behind,
+            None => rest = b"",
+        }
+    }
+    rest
+}
+
+/// What is wrong with a line that has an LF.
+fn line_damage(alloc: Global, line: &[u8]) -> Result<StepDamage, AllocError>
+    ensures { IfOk result (λ damage. damage ≡ line_damage line.now) }
+{
+    if line.ends_with(b"\r") {
+        return Ok(StepDamage::EndsInCr);
+    }
+    match cut_at(line, b'"') {
+        Some((front, rest)) => quoted_damage(alloc, front, rest),
+        None => order_damage(alloc, line),
+    }
+}
+
+/// What is wrong with a line, by what stands before its first quote and behind it.
+fn quoted_damage(alloc: Global, front: &[u8], rest: &[u8]) -> Result<StepDamage, AllocError>
+    ensures { IfOk result (λ damage. damage ≡ quoted_damage front.now rest.now) }
+{
+    let Some((_, behind)) = cut_at(rest, b'"') else {
+        return Ok(StepDamage::Quotes);
+    };
+    if behind.contains(&b'"') {
+        return Ok(StepDamage::Quotes);
+    }
+    if behind.is_empty() {
+        order_damage(alloc, front)
+    } else {
+        Ok(StepDamage::Order)
+    }
+}
+
+/// What is wrong with a line that has no quote.
+fn order_damage(alloc: Global, line: &[u8]) -> Result<StepDamage, AllocError>
+    ensures { IfOk result (λ damage. damage ≡ order_damage line.now) }
+{
+    let words = words_of(alloc, line)?;
+    Ok(words_damage(words.as_slice()))
+}
+
+/// What is wrong with the words of a line that has no quote.
+fn words_damage(words: &[&[u8]]) -> StepDamage
+    ensures { result ≡ words_damage (map (λ word. word.now) words.now) }
+{
+    match words {
+        [_, fields @ ..] if descend(fields) => StepDamage::Order,
+        _ => StepDamage::Other,
+    }
+}
+
+/// Whether a word of a frame stands behind one that is to follow it.
+fn descend(fields: &[&[u8]]) -> bool
+    ensures { result ≡ descend 0 (map (λ word. word.now) fields.now) }
+{
+    let mut last = 0;
+    for word in fields {
+        let rank = field_rank(*word);
+        if rank < last {
+            return true;
+        }
+        last = rank;
+    }
+    false
+}
+
+/// Where a word stands among those behind the name of a frame.
+fn field_rank(word: &[u8]) -> u8
+    ensures { result ≡ field_rank word.now }
+{
+    if word.starts_with(b"fin=") {
+        1
+    } else if word.starts_with(b"rsv=") {
+        2
+    } else if word.starts_with(b"key=") {
+        3
+    } else if word.starts_with(b"form=") {
+        4
+    } else {
+        5
+    }
+}
+
+/// What stands before the first of these bytes, and behind it. `None` where there is none.
+fn cut_at(bytes: &[u8], mark: u8) -> Option<(&[u8], &[u8])>
+    ensures { CutsAtMark mark bytes.now result }
+{
+    let at = first_at(bytes, mark)?;
+    Some((&bytes[..at], &bytes[at + 1..]))
+}
+
+/// Where the first of these bytes stands, if there is one.
+fn first_at(bytes: &[u8], mark: u8) -> Option<usize>
+    ensures { result ≡ position (λ byte. byte == mark) bytes.now }
+{
+    bytes.iter().position(|byte| *byte == mark)
+}
