@@ -141,7 +141,7 @@ def wrong_words_run_nothing(clone):
     clone.add_check()
     for words in (("row",), ("rows", "rows"), ("build", "all")):
         status, out, faults = clone.run(*words, how=CHECK)
-        assert (status, out) == (2, "") and faults.startswith("check: wrong words: "), (words, status, out, faults)
+        assert (status, out) == (2, "") and faults.startswith("check: usage error: "), (words, status, out, faults)
     assert clone.count() == 0
 
 

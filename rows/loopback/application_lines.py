@@ -192,7 +192,8 @@ def a_server_that_answers_the_newest_ping():
         f"got 1 pong {payload(9)}",
         "got 2 close 1000",
         "end peer 2",
-        "rule Of several pings only the last needs an answer (RFC 6455 section 5.5.3)",
+        "rule A ping needs no answer where a later one has one (RFC 6455 section 5.5.3), or where the end may not have "
+        "read it or was sending a data frame",
     )
 
 
@@ -223,6 +224,8 @@ def a_server_that_lets_a_reserved_bit_pass():
         "end tester 1",
         "rule A server that has sent and got a close frame closes the connection at once (RFC 6455 section 5.5.1), and "
         "so does one that has to fail it (sections 5.1, 5.2, 7.1.7 and 8.1)",
+        "rule A reserved bit is 0 where no extension defines it, and an end that gets another fails the connection "
+        "(RFC 6455 section 5.2)",
     )
 
 
@@ -248,8 +251,8 @@ def a_server_that_goes_away_before_a_close():
     judge = start("judge", "--expect=protocol", "--explain", stdin=subprocess.PIPE)
     output, faults = judge.communicate(capture.encode(), timeout=SECONDS)
     rule = (
-        "An end that wants to end the connection sends a close frame first (RFC 6455 section 7.1.2), though a server may "
-        "do without (section 7.3)"
+        "An end that wants to end the connection sends a close frame first (RFC 6455 section 7.1.2), though it may end "
+        "it by any means when necessary (section 7.1.1)"
     )
     assert output.decode() == f"LOOSE OwnEnd\n  end peer 1\n  rule {rule}\n", output
     assert (judge.returncode, faults) == (0, b""), faults
@@ -267,12 +270,12 @@ def a_pong_is_waited_for():
     told(Slow, "2.2", "PASS", limit=5)
 
 
-def a_pong_of_its_own_hides_the_answer():
-    # The wait ends with its time limit, and the verdict is what it would be without the other pong.
+def a_pong_of_its_own_hides_no_answer():
+    # The case has ended long before its time limit, which a wait for another pong would need.
     began = time.monotonic()
-    told(Beating, "2.2", "PASS", limit=1)
+    told(Beating, "2.2", "PASS", limit=8)
     took = time.monotonic() - began
-    assert took >= 1, took
+    assert took < 4, took
 
 
 TESTS = [
@@ -285,5 +288,5 @@ TESTS = [
     a_server_that_goes_away_before_a_close,
     no_message_is_waited_for,
     a_pong_is_waited_for,
-    a_pong_of_its_own_hides_the_answer,
+    a_pong_of_its_own_hides_no_answer,
 ]

@@ -123,6 +123,17 @@ def a_walk_over_the_cases():
     run.ends("1 pass, 0 loose, 1 fail", status=1)
 
 
+def a_walk_behind_a_front():
+    """A proxy puts a part before the paths."""
+    run = Listening("test", ADDRESS, "1.1.1", "2.1")
+    run.is_told("/echo/getCaseCount", "2")
+    right_client(run, "/echo/runCase?case=1")
+    assert run.line() == "1.1.1 PASS"
+    run.is_told("/echo/getCaseStatus?case=1", '{"behavior":"OK"}')
+    run.is_told("/echo/updateReports")
+    run.ends("2.1 FAIL NotRun", "1 pass, 0 loose, 1 fail", status=1)
+
+
 def a_client_that_runs_no_case():
     run = Listening("test", ADDRESS, "1.1.1", "1.1.2")
     run.is_told("/updateReports")
@@ -432,7 +443,7 @@ def a_sweep_of_a_client():
     run.is_told("/runCase?case=1")
     run.is_told("/getCaseStatus?case=1", '{"behavior":"OK"}')
     run.is_told("/updateReports")
-    run.ends("1 scripts: 1 pass, 0 loose, 0 fail", faults=b"-\n")
+    run.ends("1 scripts: 1 pass, 0 loose, 0 fail", faults=b"close=1000\n")
 
 
 def a_sweep_of_which_little_is_run():
@@ -444,7 +455,7 @@ def a_sweep_of_which_little_is_run():
     client.half_close()
     assert client.get(1) == b"\x81"
     client.close()
-    assert run.line() == 'FAIL Messages: text "a"'
+    assert run.line() == 'FAIL Messages: text "a"; close=1000'
     run.is_told("/updateReports")
     steps = [*FORTY.splitlines()[2:27], 'text key=00000000 "a"']
     missing = [f"FAIL NotRun: {step}" for step in steps]
@@ -453,7 +464,7 @@ def a_sweep_of_which_little_is_run():
 
 def a_sweep_of_a_client_with_its_own_code():
     """That is allowed, and so it is told with --all alone."""
-    for words, told in (([], []), (["--all"], ["LOOSE OtherCode: -"])):
+    for words, told in (([], []), (["--all"], ["LOOSE OtherCode: close=1000"])):
         run = Listening("sweep", "--steps=0", *words, ADDRESS)
         client = run.client()
         assert client.get(len(CLOSE)) == CLOSE
@@ -498,8 +509,8 @@ def a_list_that_is_none():
 
 DOCUMENT = """<?xml version="1.0" encoding="UTF-8"?>
 <testsuites><testsuite name="wst 127.0.0.1:0">
-<testcase classname="wst" name="1.1.1"/>
-<testcase classname="wst" name="1.1.2"><failure message="FAIL NotRun">
+<testcase classname="wst" name="1.1.1 Empty text message"/>
+<testcase classname="wst" name="1.1.2 Text message of 125 bytes"><failure message="FAIL NotRun">
 </failure></testcase>
 </testsuite></testsuites>
 """
@@ -520,10 +531,9 @@ def a_document_beside_an_earlier_run():
     run.ends(
         '<?xml version="1.0" encoding="UTF-8"?>',
         '<testsuites><testsuite name="wst 127.0.0.1:0">',
-        '<testcase classname="wst" name="1.1.1"><failure message="PASS (new)">',
+        '<testcase classname="wst" name="1.1.1 Empty text message"><failure message="PASS (new)">',
         "</failure></testcase>",
-        '<testcase classname="wst" name="1.1.2"><system-out>FAIL NotRun',
-        "</system-out></testcase>",
+        '<testcase classname="wst" name="1.1.2 Text message of 125 bytes"><skipped message="FAIL NotRun"/></testcase>',
         "</testsuite></testsuites>",
         status=1,
     )
@@ -535,7 +545,8 @@ def no_listener():
         for words in (["test", address], ["test", "--capture", address, "1.1.1"], ["sweep", address]):
             assert run(words[0], "--role=client", *words[1:]) == (3, b"", b"not listening: address in use\n")
     assert run("test", "--role=client", "127.0.0.1", "1.1.1") == (3, b"", b"not listening: no such host\n")
-    assert run("test", "--role=client", "ws://127.0.0.1:1", "1.1.1") == (2, b"", b"bad address\n")
+    told = b"bad address\n  an address to listen at is wanted: HOST:PORT\n"
+    assert run("test", "--role=client", "ws://127.0.0.1:1", "1.1.1") == (2, b"", told)
 
 
 # Words that are the host of no request: with a blank, without a byte, longer than 255 bytes, not of ASCII, with a control
@@ -562,6 +573,7 @@ def no_host_to_listen_at():
 
 TESTS = [
     a_walk_over_the_cases,
+    a_walk_behind_a_front,
     a_client_that_runs_no_case,
     cases_that_are_named_wrongly,
     any_other_path_is_the_next_case,

@@ -21,6 +21,7 @@ ANSWERS = {
     "FAIL Messages": (EMPTY_BINARY, CLOSE_BACK),
 }
 
+NAME = "1.1.1 Empty text message"
 BELOW_FAIL = """  due 1 text -
   due 2 close 1000
   got 1 binary -
@@ -172,10 +173,10 @@ def a_document_of_each_verdict():
     status, document, faults, url = test(["--junit"], verdicts)
     assert (status, faults) == (1, ""), (status, faults)
     assert read_document(document, url) == [
-        ("1.1.1",),
-        ("1.1.1", ("system-out", None, f"LOOSE OtherCode\n{BELOW_LOOSE}")),
-        ("1.1.1", ("failure", "FAIL Messages", f"\n{BELOW_FAIL}")),
-        ("1.1.1", ("failure", "FAIL Head Status", "\n  status 403\n")),
+        (NAME,),
+        (NAME, ("system-out", None, f"LOOSE OtherCode\n{BELOW_LOOSE}")),
+        (NAME, ("failure", "FAIL Messages", f"\n{BELOW_FAIL}")),
+        (NAME, ("failure", "FAIL Head Status", "\n  status 403\n")),
     ], document
 
 
@@ -184,9 +185,9 @@ def a_document_beside_an_earlier_run():
     status, document, faults, url = test(["--junit", "--known"], verdicts, "1.1.1 FAIL Messages\n")
     assert (status, faults) == (1, ""), (status, faults)
     assert read_document(document, url) == [
-        ("1.1.1", ("failure", "PASS (was FAIL Messages)", "\n")),
-        ("1.1.1", ("failure", "LOOSE OtherCode (was FAIL Messages)", f"\n{BELOW_LOOSE}")),
-        ("1.1.1", ("system-out", None, f"FAIL Messages\n{BELOW_FAIL}")),
+        (NAME, ("failure", "PASS (was FAIL Messages)", "\n")),
+        (NAME, ("failure", "LOOSE OtherCode (was FAIL Messages)", f"\n{BELOW_LOOSE}")),
+        (NAME, ("skipped", "FAIL Messages", None)),
     ], document
     assert test(["--junit", "--known"], ["FAIL Messages"], "1.1.1 FAIL Messages\n")[0] == 0
 
@@ -199,29 +200,29 @@ def a_target_with_marks_of_xml():
     ):
         status, document, faults, url = test(["--junit"], ["PASS"], host=host, behind=behind)
         assert (status, faults) == (0, ""), (status, faults)
-        assert read_document(document, url) == [("1.1.1",)], document
+        assert read_document(document, url) == [(NAME,)], document
         assert f"{written}\">\n" in document, document
 
 
 def a_document_whose_run_ends_early():
     """At a server that goes away the run ends with the first case, and with three where it is waited in time."""
     closed = "no connection: closed before the answer\n"
-    failure = ("1.1.1", ("failure", "no connection", "\n"))
+    failure = (NAME, ("failure", "no connection", "\n"))
     for words, before, count in (([], ["PASS"], 1), (["--timeout", "5"], ["PASS"], 3), ([], [], 1)):
         verdicts = before + ["no connection"] * count
         status, document, faults, url = test(["--junit", *words], verdicts)
         assert (status, faults) == (3, closed * count), (status, faults)
-        assert read_document(document, url) == [("1.1.1",)] * len(before) + [failure] * count, document
+        assert read_document(document, url) == [(NAME,)] * len(before) + [failure] * count, document
 
 
 def a_document_beside_an_earlier_run_that_ends_early():
     verdicts = ["PASS", "FAIL Messages"] + ["no connection"] * 3
     status, document, faults, url = test(["--junit", "--known", "--timeout", "5"], verdicts, "1.1.1 FAIL Messages\n")
     assert status == 3, (status, faults)
-    missed = ("1.1.1", ("failure", "no connection (was FAIL Messages)", "\n"))
+    missed = (NAME, ("failure", "no connection (was FAIL Messages)", "\n"))
     assert read_document(document, url) == [
-        ("1.1.1", ("failure", "PASS (was FAIL Messages)", "\n")),
-        ("1.1.1", ("system-out", None, f"FAIL Messages\n{BELOW_FAIL}")),
+        (NAME, ("failure", "PASS (was FAIL Messages)", "\n")),
+        (NAME, ("skipped", "FAIL Messages", None)),
         missed,
         missed,
         missed,
@@ -231,7 +232,7 @@ def a_document_beside_an_earlier_run_that_ends_early():
 def a_document_as_it_comes():
     """Its beginning is written before a case runs, and each element before the next case does."""
     server = Tested("--junit", "1.1.1", "1.1.1")
-    element = '<testcase classname="wst" name="1.1.1"/>'
+    element = f'<testcase classname="wst" name="{NAME}"/>'
     assert server.line() == '<?xml version="1.0" encoding="UTF-8"?>'
     assert server.line() == f'<testsuites><testsuite name="wst {server.address}">'
     passes(server)
@@ -244,8 +245,8 @@ def a_document_goes_on_behind_two_misses():
     verdicts = ["no connection", "no connection", "PASS"]
     status, document, faults, url = test(["--junit", "--timeout", "5"], verdicts)
     assert status == 1, (status, faults)
-    failure = ("1.1.1", ("failure", "no connection", "\n"))
-    assert read_document(document, url) == [failure, failure, ("1.1.1",)], document
+    failure = (NAME, ("failure", "no connection", "\n"))
+    assert read_document(document, url) == [failure, failure, (NAME,)], document
 
 
 def a_document_that_can_not_be_written():

@@ -6,30 +6,31 @@ import resource
 import socket
 import threading
 
+from send_lines import fed
 from server import SECONDS, Tested, free_port, run
 from wire import BAD_REQUEST, RESPONSE
 
 CONTROL = (8, 9, 10)
 ALLOWED = {*range(1000, 1004), *range(1007, 1015), *range(3000, 5000)}
-FORTY = """-
-text "a"
-text fin=0 "a"
-text -
-text fin=0 -
-text fin=0 c3
+FORTY = """close=1000
+text "a"; close=1000
+text fin=0 "a"; close=1000
+text -; close=1000
+text fin=0 -; close=1000
+text fin=0 c3; close=1000
 text c3
 text c328
-binary 00ff
-binary fin=0 00ff
+binary 00ff; close=1000
+binary fin=0 00ff; close=1000
 cont "b"
 cont fin=0 "b"
 cont a9
 cont -
-ping "p"
-ping -
+ping "p"; close=1000
+ping -; close=1000
 ping fin=0 "p"
 ping 2a*126
-pong "q"
+pong "q"; close=1000
 close 03e8
 close -
 close 03
@@ -37,17 +38,17 @@ close 03ed
 text rsv=4 "a"
 op3 -
 op11 -
-wait
+wait; close=1000
 text key=- "a"
-text "a"; text "a"
-text "a"; text fin=0 "a"
-text "a"; text -
-text "a"; text fin=0 -
-text "a"; text fin=0 c3
+text "a"; text "a"; close=1000
+text "a"; text fin=0 "a"; close=1000
+text "a"; text -; close=1000
+text "a"; text fin=0 -; close=1000
+text "a"; text fin=0 c3; close=1000
 text "a"; text c3
 text "a"; text c328
-text "a"; binary 00ff
-text "a"; binary fin=0 00ff
+text "a"; binary 00ff; close=1000
+text "a"; binary fin=0 00ff; close=1000
 text "a"; cont "b"
 text "a"; cont fin=0 "b"
 text "a"; cont a9
@@ -199,6 +200,11 @@ class SendsBehindItsClose(Echo):
         self.send(10, b"")
 
 
+class DropsPings(Echo):
+    def take(self, fin, opcode, payload):
+        return True if opcode == 9 else super().take(fin, opcode, payload)
+
+
 class Refuses(Echo):
     def head(self):
         return BAD_REQUEST
@@ -217,30 +223,65 @@ def a_right_server():
 
 
 def a_server_that_answers_a_pong():
-    assert first_line(AnswersPongs(), "--steps", "1") == 'FAIL Pongs: pong "q"'
+    assert first_line(AnswersPongs(), "--steps", "1") == 'FAIL Pongs: pong "q"; close=1000'
 
 
 def a_server_that_echoes_a_fragment_alone():
-    assert first_line(EchoesFragments(), "--steps", "1") == 'FAIL Messages: text fin=0 "a"'
+    assert first_line(EchoesFragments(), "--steps", "1") == 'FAIL Messages: text fin=0 "a"; close=1000'
 
 
 def a_server_that_forgets_a_character():
-    assert first_line(ForgetsCharacters()) == "FAIL Messages: text fin=0 c3; cont a9"
+    assert first_line(ForgetsCharacters()) == "FAIL Messages: text fin=0 c3; cont a9; close=1000"
 
 
 def a_server_that_closes_with_its_own_code():
     """That is allowed, and so it is told with --all alone."""
-    assert first_line(ClosesWithItsOwnCode(), "--steps", "1", "--all") == "LOOSE OtherCode: -"
+    assert first_line(ClosesWithItsOwnCode(), "--steps", "1", "--all") == "LOOSE OtherCode: close=1000"
     assert first_line(ClosesWithItsOwnCode(), "--steps", "0") == "1 scripts: 0 pass, 1 loose, 0 fail"
 
 
 def a_server_that_sends_a_pong_behind_its_close():
-    assert first_line(SendsBehindItsClose(), "--steps", "1") == "FAIL NotFrames: -"
+    assert first_line(SendsBehindItsClose(), "--steps", "1") == "FAIL NotFrames: close=1000"
+
+
+def played(script, address, *words):
+    """The verdict on what `wst send` plays of the script in a line of a sweep."""
+    lines = script.replace("; ", "\n") + "\n"
+    status, capture, faults = fed(lines.encode(), "send", "--capture", "--timeout", "1", *words, address)
+    assert (status, faults) == (0, b""), (script, status, faults)
+    return fed(capture, "judge", *words)[1].decode().rstrip("\n")
+
+
+def are_whole_scripts(server, *words):
+    """The lines that are told of a server, each of which `wst send` plays with the verdict of the line."""
+    output = run("sweep", "--all", "--steps", "1", "--timeout", "1", *words, server.address)[1]
+    lines = output.decode().splitlines()[:-1]
+    for line in lines:
+        verdict, script = line.split(": ")
+        assert played(script, server.address, *words) == verdict, line
+    return lines
+
+
+def a_line_that_is_played():
+    """A line is the whole script: `wst send` plays it with the same verdict. Without the close there would be another."""
+    assert are_whole_scripts(AnswersPongs()) == ['FAIL Pongs: pong "q"; close=1000']
+    assert len(are_whole_scripts(EchoesFragments())) == 6
+    assert "LOOSE OtherCode: close=1000" in are_whole_scripts(ClosesWithItsOwnCode())
+    assert 'FAIL NotFrames: text "a"; close=1000' in are_whole_scripts(SendsBehindItsClose())
+    assert played('text "a"', SendsBehindItsClose().address) == "PASS"
+
+
+def a_line_that_is_played_by_the_protocol():
+    """The wait before the close is in the line: in the turn of the close no pong is asked for."""
+    server = DropsPings()
+    lines = are_whole_scripts(server, "--expect=protocol")
+    assert lines == ['FAIL Pongs: ping "p"; wait; close=1000', "FAIL Pongs: ping -; wait; close=1000"], lines
+    assert played('ping "p"; close=1000', server.address, "--expect=protocol") == "PASS"
 
 
 def a_server_that_refuses():
     ended = run("sweep", "--steps", "0", Refuses().address)
-    assert ended == (1, b"FAIL Head Status: -\n1 scripts: 0 pass, 0 loose, 1 fail\n", b""), ended
+    assert ended == (1, b"FAIL Head Status: close=1000\n1 scripts: 0 pass, 0 loose, 1 fail\n", b""), ended
 
 
 def the_first_forty_scripts():
@@ -270,14 +311,14 @@ class Swept(Tested):
 def told_as_it_runs():
     """The steps of a script are told before it runs, and its line before the next one runs."""
     server = Swept("--steps=1", "--progress")
-    assert server.process.stderr.readline() == b"-\n"
+    assert server.process.stderr.readline() == b"close=1000\n"
     assert server.says_nothing_for(0.1)
     first = server.next()
     first.head()
     first.send(BAD_REQUEST)
     first.close()
-    assert server.line() == "FAIL Head Status: -"
-    assert server.process.stderr.readline() == b'text "a"\n'
+    assert server.line() == "FAIL Head Status: close=1000"
+    assert server.process.stderr.readline() == b'text "a"; close=1000\n'
     assert server.says_nothing_for(0.1)
     server.next().close()
     server.ends("", status=3, faults=b"no connection: closed before the answer\n")
@@ -295,6 +336,8 @@ TESTS = [
     a_server_that_forgets_a_character,
     a_server_that_closes_with_its_own_code,
     a_server_that_sends_a_pong_behind_its_close,
+    a_line_that_is_played,
+    a_line_that_is_played_by_the_protocol,
     a_server_that_refuses,
     the_first_forty_scripts,
     in_two_seconds,

@@ -25,7 +25,7 @@ class Tap(Running):
         self.listener = socket.create_server(("127.0.0.1", 0))
         self.listener.settimeout(SECONDS)
         self.number = 0
-        target = target or f"127.0.0.1:{self.listener.getsockname()[1]}"
+        target = (target or "127.0.0.1:{}").format(self.listener.getsockname()[1])
         self.process = start("tap", "127.0.0.1:0", target, str(count), before=before)
         told, _, port = self.line().rpartition(":")
         assert told == "listening on 127.0.0.1", told
@@ -399,6 +399,16 @@ def no_connection():
     tap.ends()
 
 
+def a_url_names_the_server():
+    """Of a URL the host and the port count. The path that the server is asked for is the client's."""
+    for url in ("ws://127.0.0.1:{}", "WS://localhost:{}/other?x=1"):
+        tap = Tap(target=url)
+        client, server = tap.open_pair()
+        end_in_turn(server, client)
+        tap.tells("end server")
+        tap.ends()
+
+
 def output_that_nobody_reads():
     tap = Tap()
     client, server = tap.pair()
@@ -412,6 +422,10 @@ def output_that_nobody_reads():
 def words_that_are_no_addresses():
     for listen, target in (("x", "a:1"), ("a:1", "x"), (":1", "a:1"), ("a:1", "a:65536"), ("a b:1", "a:1")):
         assert run("tap", listen, target, "1") == (2, b"", b"bad address\n"), (listen, target)
+    urls = ("ws://", "ws://:1", "ws://a:65536", "ws://u@a:1", "ws://a:1/#f", "ws://a b:1", "wss://a:1", "http://a:1/")
+    for url in urls:
+        assert run("tap", "127.0.0.1:0", url, "1") == (2, b"", b"bad address\n"), url
+    assert run("tap", "ws://127.0.0.1:x", "a:1", "1") == (2, b"", b"bad address\n")
     with socket.create_server(("127.0.0.1", 0)) as taken:
         port = taken.getsockname()[1]
         assert run("tap", f"127.0.0.1:{port}", "a:1", "1") == (3, b"", b"not listening: address in use\n")
@@ -452,6 +466,7 @@ TESTS = [
     a_hundred_connections,
     the_next_client_waits,
     no_connection,
+    a_url_names_the_server,
     output_that_nobody_reads,
     words_that_are_no_addresses,
     a_server_and_a_tester_of_ours,

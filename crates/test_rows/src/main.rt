@@ -94,7 +94,7 @@ fn answer_of_scripts(
         "script_back" => scripts::write_again(alloc, words, out),
         "script_of" => scripts::write_case(alloc, words, out),
         "scripts_kept" => scripts::count_kept(alloc, words, out),
-        "alphabet" => sweeps::count_read(alloc, words, out),
+        "whole_lines" => sweeps::count_whole(alloc, words, out),
         "short_script" => sweeps::tell_script(alloc, words, out),
         "short_cases" => sweeps::tell_cases(alloc, words, out),
         "paths" => paths::tell_purposes(alloc, words, out),

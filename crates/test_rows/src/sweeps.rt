@@ -1,77 +1,81 @@
 //! Rows of short scripts.
 
-ghost use Rattle.std.specs.Prelude.{◌<◌};
-ghost use Rattle.ws_sweep.specs.Order.{alphabet_size};
-
 use crate::row_fault::RowFault;
 use crate::scripts::put_short_step;
-use crate::words::{header_key_of, number_of, role_of};
+use crate::words::{expectation_of, header_key_of, number_of, role_of};
 use std::alloc::Global;
 use std::fmt::Write;
 use ws_formats::Hex;
 use ws_scripts::{Expectation, bytes_with};
 use ws_suite::{Case, read_script};
 use ws_sweep::{
-    MAX_STEPS, STEPS, ShortCases, ShortScript, script_count, short_case, step_line, tell_steps,
+    MAX_STEPS, ShortCases, ShortScript, ShortScripts, script_count, short_case, tell_steps,
 };
 use ws_wire::Role;
 
-/// `alphabet client|server`: how many lines of the alphabet for such a tested end are read as what they send.
-pub fn count_read(alloc: Global, words: &[&str], out: &mut String) -> Result<(), RowFault> {
-    let [end] = words else {
+/// `whole_lines client|server echo|protocol KEY|- STEPS`: how many of the scripts of at most so many steps have a line
+/// that is read, a step a line, as the steps of their case.
+pub fn count_whole(alloc: Global, words: &[&str], out: &mut String) -> Result<(), RowFault> {
+    let [end, expected, key, steps] = words else {
         return Err(RowFault::NotARow);
     };
-    let tested = role_of(end)?;
-    let mut read: u32 = 0;
-    for place in 0..STEPS {
-        if is_read(alloc, tested, place)? {
-            read = read.saturating_add(1);
+    let (tested, expected) = (role_of(end)?, expectation_of(expected)?);
+    let (key, steps) = (header_key_of(key)?, number_of(steps)? as usize);
+    if steps > MAX_STEPS {
+        return Err(RowFault::NotARow);
+    }
+    let mut whole: u32 = 0;
+    let mut scripts = ShortScripts::up_to(steps);
+    while let Some(script) = scripts.next() {
+        let case = short_case(alloc, tested, expected, key, &script)?;
+        let line = tell_steps(alloc, tested, expected, &script, case.steps.as_slice())?;
+        if is_read_as(alloc, line.as_str(), &case)? {
+            whole = whole.saturating_add(1);
         }
     }
-    write!(out, "{read}")?;
+    write!(out, "{whole}")?;
     Ok(())
 }
 
-/// Whether the line at a place is read, as the text of a script, as the first step of the case that has it alone.
-fn is_read(alloc: Global, tested: Role, place: usize) -> Result<bool, RowFault>
-    requires { place < alphabet_size }
-{
-    let text = format!(in alloc; "{}\n", step_line(tested, place))?;
+/// Whether a line is read, a step a line, as the steps of a case.
+fn is_read_as(alloc: Global, line: &str, case: &Case) -> Result<bool, RowFault> {
+    let mut text = String::new(alloc);
+    for part in line.split("; ") {
+        text.push_str(part)?;
+        text.push_str("\n")?;
+    }
     let Ok(read) = read_script(alloc, text.as_bytes()) else {
         return Ok(false);
     };
-    let sent = short_case(
-        alloc,
-        tested,
-        Expectation::Echo,
-        None,
-        &ShortScript::at(place + 1),
-    )?;
-    let (read, sent) = (first_step(alloc, &read)?, first_step(alloc, &sent)?);
-    Ok(!read.is_empty() && read.as_str() == sent.as_str())
+    let (read, sent) = (told_steps(alloc, &read)?, told_steps(alloc, case)?);
+    Ok(read.as_str() == sent.as_str())
 }
 
-/// The first step of a case, as the table of cases has it.
-fn first_step(alloc: Global, case: &Case) -> Result<String, RowFault> {
+/// The steps of a case, as the table of cases has them.
+fn told_steps(alloc: Global, case: &Case) -> Result<String, RowFault> {
     let mut told = String::new(alloc);
-    if let [first, ..] = case.steps.as_slice() {
-        put_short_step(first, &mut told)?;
+    for step in case.steps.as_slice() {
+        put_short_step(step, &mut told)?;
+        told.push_str("\n")?;
     }
     Ok(told)
 }
 
-/// `short_script client|server NUMBER`: the text of the steps of the script of this number, counted from 0, for such a
-/// tested end, as digits.
+/// `short_script client|server echo|protocol KEY|- NUMBER`: the line of the case of the script of this number, counted
+/// from 0, for such a tested end, of which this is expected, the frames masked with the key, or plain; as digits.
 pub fn tell_script(alloc: Global, words: &[&str], out: &mut String) -> Result<(), RowFault> {
-    let [end, number] = words else {
+    let [end, expected, key, number] = words else {
         return Err(RowFault::NotARow);
     };
-    let (tested, number) = (role_of(end)?, number_of(number)? as usize);
+    let (tested, expected) = (role_of(end)?, expectation_of(expected)?);
+    let (key, number) = (header_key_of(key)?, number_of(number)? as usize);
     if number >= script_count(MAX_STEPS) {
         return Err(RowFault::NotARow);
     }
-    let steps = tell_steps(alloc, tested, &ShortScript::at(number))?;
-    write!(out, "{}", Hex(steps.as_bytes()))?;
+    let script = ShortScript::at(number);
+    let case = short_case(alloc, tested, expected, key, &script)?;
+    let line = tell_steps(alloc, tested, expected, &script, case.steps.as_slice())?;
+    write!(out, "{}", Hex(line.as_bytes()))?;
     Ok(())
 }
 

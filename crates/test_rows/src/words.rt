@@ -4,6 +4,7 @@ use crate::row_fault::RowFault;
 use std::alloc::Global;
 use ws_base::Payload;
 use ws_formats::{read_fin, read_hex, read_key, read_key_or_dash, read_u16, read_u32};
+use ws_scripts::Expectation;
 use ws_session::Limits;
 use ws_wire::Role;
 
@@ -49,6 +50,15 @@ pub fn role_of(word: &str) -> Result<Role, RowFault> {
     match word {
         "client" => Ok(Role::Client),
         "server" => Ok(Role::Server),
+        _ => Err(RowFault::NotARow),
+    }
+}
+
+/// `echo` or `protocol`.
+pub fn expectation_of(word: &str) -> Result<Expectation, RowFault> {
+    match word {
+        "echo" => Ok(Expectation::Echo),
+        "protocol" => Ok(Expectation::Protocol),
         _ => Err(RowFault::NotARow),
     }
 }

@@ -37,6 +37,8 @@ pub enum Cost {
     Start,
     Convert,
     Judge,
+    /// The same capture, by the protocol alone.
+    JudgeProtocol,
     Show,
     ShowCapture,
     Session,
@@ -55,10 +57,11 @@ pub enum Cost {
 
 impl Cost {
     /// All of them.
-    pub const ALL: [Cost; 14] = [
+    pub const ALL: [Cost; 15] = [
         Cost::Start,
         Cost::Convert,
         Cost::Judge,
+        Cost::JudgeProtocol,
         Cost::Show,
         Cost::ShowCapture,
         Cost::Session,
@@ -78,6 +81,7 @@ impl Cost {
             Cost::Start => "start",
             Cost::Convert => "convert",
             Cost::Judge => "judge",
+            Cost::JudgeProtocol => "judge_protocol",
             Cost::Show => "show_stream",
             Cost::ShowCapture => "show_capture",
             Cost::Session => "session",
@@ -121,6 +125,7 @@ impl Cost {
         match self {
             Cost::Convert => "wst convert",
             Cost::Judge => "wst judge",
+            Cost::JudgeProtocol => "wst judge --expect protocol",
             Cost::ShowCapture => "wst show --capture",
             Cost::Session => "wst session",
             Cost::SessionEcho => "wst session --echo",
@@ -145,7 +150,7 @@ impl Cost {
         let whole = (Format::Two, Echo::Right);
         match self {
             Cost::Start | Cost::SweepOwn | Cost::SweepTung => Ok(Vec::new(alloc)),
-            Cost::Convert | Cost::Judge | Cost::ShowCapture => {
+            Cost::Convert | Cost::Judge | Cost::JudgeProtocol | Cost::ShowCapture => {
                 capture(alloc, frames, Mix::Traffic, whole, size, chance)
             }
             Cost::Session => {
