@@ -11,19 +11,18 @@ NO_SENTENCE = "(no sentence in peers/ yet)"
 HEAD = """\
 # Scores of real peers
 
-Written by `peers/run`, with `{version}`, {build}: the {count} cases with `{timeout}` at an echo over each library as Debian \
-packages it, over loopback, without compression, with messages of 16777216 bytes and less. \
-[peers/README.md](../peers/README.md) says how it is run, [VERDICTS.md](VERDICTS.md) what the words mean, and \
-[CASES.md](CASES.md) what a case sends. It is the measurement of one day, which no test compares.
+Written by `peers/run`, with `{version}`, {build}. It ran the {count} cases with `{timeout}` against an echo over each \
+library as Debian packages it: over loopback, without compression, with messages of at most 16777216 bytes. \
+[peers/README.md](../peers/README.md) says how to run it, [VERDICTS.md](VERDICTS.md) what the verdicts mean, and \
+[CASES.md](CASES.md) what a case sends. These are the results of one day; no test compares them.
 
-Applications don't echo: each greets, sends a ping, and answers messages with others; they are tested with \
+Applications don't echo: each greets, sends a ping, and answers messages with others. They are tested with \
 `{protocol}`.
 
-A FAIL breaks a rule of RFC 6455 or, at an echo, one of ours; its sentence says which. A LOOSE is no fault: the \
-standard allows it, or what went over the connection can't decide. Where a case sends single bytes the last frame \
-of a peer may be lost in the reset that they meet, so that it can be PASS in one run and LOOSE in the next. `A to B` \
-are all cases from A to B in the order of `wst cases`. The longest case is that after which its line took longest to \
-come.
+A FAIL breaks a rule of RFC 6455 or, at an echo, one of ours; its sentence says which. A LOOSE is no violation: the \
+RFC allows it, or what was received can't decide it. If a case sends single bytes, they may meet a reset in which the \
+last frame of a peer is lost, so the case can be PASS in one run and LOOSE in the next. `A to B` means all cases from A \
+to B, in the order of `wst cases`. The longest case is the one whose line took longest to appear.
 """
 TABLE = """
 ## {kind}s
@@ -34,9 +33,10 @@ TABLE = """
 SWEEP_TABLE = """
 ## Sweeps
 
-`wst sweep --steps 2 {timeout}` at the same servers, but for mojolicious, which waits on at nearly each fault: every \
-script of at most two steps out of its alphabet of 27, with a close frame behind it where it has no close and no \
-fault. Of each sort of FAIL it is told in how many scripts it shows, and the first of these, one of the shortest.
+`wst sweep --steps 2 {timeout}` at the same servers, except mojolicious, which keeps waiting at nearly each violation. \
+It runs every script of at most two steps out of 27, and adds a close frame if a script has sent neither a close nor a \
+violation. For each kind of FAIL, a line below the table says in how many scripts it occurs, and the first of these, \
+one of the shortest.
 
 | Server | Scripts | Pass | Loose | Fail | Seconds |
 |---|---|---|---|---|---|

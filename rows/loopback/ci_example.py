@@ -25,8 +25,8 @@ def lines_below(lines):
 
 
 def runs(known, folder):
-    """The status of the first lines where this is known, and the failures in the report that they leave; the lines of
-    the next step leave a page."""
+    """The status of the first lines where this is known, and the IDs of the failures in the report that they leave; the
+    lines of the next step leave a page."""
     port = str(free_port())
     test, page = [commands.replace("9001", port) for commands in commands_of(WORKFLOW)]
     assert "--known --junit" in test, test
@@ -39,7 +39,8 @@ def runs(known, folder):
     ran = subprocess.run(["bash", "-c", command], cwd=folder, env=path, capture_output=True, timeout=3 * SECONDS)
     assert (folder / "report.html").read_text().endswith("</html>\n")
     report = ElementTree.parse(folder / "report.xml").getroot()
-    return ran.returncode, [case.get("name") for case in report[0] if case.find("failure") is not None]
+    failed = [case.get("name") for case in report[0] if case.find("failure") is not None]
+    return ran.returncode, [name.partition(" ")[0] for name in failed]
 
 
 def the_workflow():
