@@ -17,7 +17,10 @@ pub(crate) const LANES: usize = 64;
 const FEWER_LANES: usize = 16;
 
 /// How many in a piece of fewer than `FEWER_LANES`.
-const LEAST_LANES: usize = 8;
+const FEW_LANES: usize = 8;
+
+/// How many in a piece of fewer than `FEW_LANES`.
+const LEAST_LANES: usize = 4;
 
 /// The most bytes of a short piece. A longer one `simdutf8` looks at by vectors of its own.
 const SHORT: usize = 256;
@@ -99,6 +102,9 @@ pub(crate) fn few_ascii(bytes: &[u8]) -> usize
 {
     if bytes.len() >= FEWER_LANES {
         return ascii_by::<FEWER_LANES>(bytes);
+    }
+    if bytes.len() >= FEW_LANES {
+        return ascii_by::<FEW_LANES>(bytes);
     }
     if bytes.len() >= LEAST_LANES {
         return ascii_by::<LEAST_LANES>(bytes);

@@ -170,6 +170,14 @@ four_times key phase a b c d four i lt =
     let round : (phase + i % 4) % 4 ≡ (phase + i) % 4 = omega arith in
     at_repeated 4 (a ∷ b ∷ c ∷ d ∷ []) refl i lt ∙ four (i % 4) (omega arith) ∙ ap (λ k. slice_index key k) round
 
+-- and twice over
+pub two_times : (key : List ℕ) (phase a b c d : ℕ) → ((i : ℕ) → i < 4 → slice_index (a ∷ b ∷ c ∷ d ∷ []) i ≡ slice_index key ((phase + i) % 4))
+    → AreKeyLanes key phase (a ∷ b ∷ c ∷ d ∷ a ∷ b ∷ c ∷ d ∷ [])
+unfolding repeated
+two_times key phase a b c d four i lt =
+    let round : (phase + i % 4) % 4 ≡ (phase + i) % 4 = omega arith in
+    at_repeated 2 (a ∷ b ∷ c ∷ d ∷ []) refl i lt ∙ four (i % 4) (omega arith) ∙ ap (λ k. slice_index key k) round
+
 -- bytes that are xored with the lanes
 pub xored_lanes : (key : List ℕ) (phase : ℕ) (lanes p : List ℕ) → length lanes ≡ length p → AreKeyLanes key phase lanes → zip2 bit_xor p lanes ≡ masked key phase p
 xored_lanes key phase lanes p same are =

@@ -3,7 +3,7 @@
 ghost use Rattle.std.specs.Prelude.{◌≡◌, ◌≤◌, ℕ, List, length};
 ghost use Rattle.ws_wire.specs.Masking.{masked, IsMasked, AreKeyLanes};
 
-use std::simd::{u8x4, u8x16, u8x32};
+use std::simd::{u8x4, u8x8, u8x16, u8x32};
 
 /// The key of an endpoint that masks nothing: a server puts its frames without one (section 5.1), whatever key it is
 /// given.
@@ -15,6 +15,9 @@ const LANES: usize = 32;
 
 /// The same of what is less than those.
 const HALF: usize = 16;
+
+/// The same of what is less than those, which is masked without a loop.
+const QUARTER: usize = 8;
 
 /// The bytes of a key.
 const KEY: usize = 4;
@@ -30,6 +33,10 @@ pub fn mask(key: [u8; 4], phase: usize, bytes: &mut [u8])
     ensures bytes { bytes.new ≡ masked key phase bytes.old }
 {
     let turned = turned_key(key, phase);
+    if bytes.len() < HALF {
+        mask_few(key, phase, turned, bytes);
+        return;
+    }
     let lanes = key_lanes(turned);
     let mut at = 0;
     while bytes.len() - at >= LANES {
@@ -63,22 +70,39 @@ fn mask_rest(key: [u8; 4], phase: usize, turned: u8x4, bytes: &mut [u8])
         mask_half_lanes(lanes, &mut bytes[at..at + HALF]);
         at += HALF;
     }
-    mask_words(key, phase, turned, &mut bytes[at..]);
+    mask_few(key, phase, turned, &mut bytes[at..]);
 }
 
-/// The same, a key's bytes at once, and what is less than those one byte after the other.
-fn mask_words(key: [u8; 4], phase: usize, turned: u8x4, bytes: &mut [u8])
+/// The same of what is as a rule less than half a vector: a quarter of a vector at once, if there are so many, and
+/// then the rest.
+fn mask_few(key: [u8; 4], phase: usize, turned: u8x4, bytes: &mut [u8])
     requires phase { phase ≤ 3 }
     requires len { length turned ≡ 4 }
     requires turned { AreKeyLanes key phase turned }
     ensures { bytes.new ≡ masked key phase bytes.old }
 {
-    let mut at = 0;
-    while bytes.len() - at >= KEY {
-        mask_by_key(turned, &mut bytes[at..at + KEY]);
-        at += KEY;
+    if bytes.len() < QUARTER {
+        mask_fewer(key, phase, turned, bytes);
+        return;
     }
-    mask_plainly(key, phase, &mut bytes[at..]);
+    mask_quarter_lanes(quarter_key_lanes(turned), &mut bytes[..QUARTER]);
+    mask_fewer(key, phase, turned, &mut bytes[QUARTER..]);
+}
+
+/// The same of what is as a rule less than that: a key's bytes at once, if there are so many, and what is less one
+/// byte after the other.
+fn mask_fewer(key: [u8; 4], phase: usize, turned: u8x4, bytes: &mut [u8])
+    requires phase { phase ≤ 3 }
+    requires len { length turned ≡ 4 }
+    requires turned { AreKeyLanes key phase turned }
+    ensures { bytes.new ≡ masked key phase bytes.old }
+{
+    if bytes.len() < KEY {
+        mask_plainly(key, phase, bytes);
+        return;
+    }
+    mask_by_key(turned, &mut bytes[..KEY]);
+    mask_plainly(key, phase, &mut bytes[KEY..]);
 }
 
 /// The key's bytes, turned to the phase of the first one.
@@ -87,9 +111,9 @@ fn turned_key(key: [u8; 4], phase: usize) -> u8x4
     ensures len { length result ≡ 4 }
     ensures lanes { AreKeyLanes key phase result }
 {
-    // Where a payload begins the key stands as it is.
+    // Where a payload begins the key stands as it is, and is loaded as one word.
     if phase == 0 {
-        return u8x4::from_array(key);
+        return u8x4::from_slice(&key);
     }
     u8x4::from_array([
         key[phase],
@@ -128,6 +152,25 @@ fn half_key_lanes(turned: u8x4) -> u8x16
     ensures lanes { (key : List ℕ) (phase : ℕ) → AreKeyLanes key phase turned → AreKeyLanes key phase result }
 {
     turned.swizzle([0, 1, 2, 3, 0, 1, 2, 3, 0, 1, 2, 3, 0, 1, 2, 3])
+}
+
+/// The bytes of a turned key over a quarter of a vector.
+fn quarter_key_lanes(turned: u8x4) -> u8x8
+    requires { length turned ≡ 4 }
+    ensures len { length result ≡ 8 }
+    ensures lanes { (key : List ℕ) (phase : ℕ) → AreKeyLanes key phase turned → AreKeyLanes key phase result }
+{
+    turned.swizzle([0, 1, 2, 3, 0, 1, 2, 3])
+}
+
+/// Masks as many bytes as a quarter of a vector has.
+fn mask_quarter_lanes(lanes: u8x8, bytes: &mut [u8])
+    requires lanes { length lanes ≡ 8 }
+    requires bytes { length bytes.old ≡ 8 }
+    ensures { (key : List ℕ) (phase : ℕ) → AreKeyLanes key phase lanes → bytes.new ≡ masked key phase bytes.old }
+{
+    let masked = u8x8::from_slice(bytes) ^ lanes;
+    masked.copy_to_slice(bytes);
 }
 
 /// Masks as many bytes as half a vector has.

@@ -22,7 +22,9 @@ pub enum HeaderRead {
 }
 
 /// Reads the header at the front of the bytes. What follows it doesn't matter. A form longer than
-/// needed is read as it stands: `Header::is_longer_than_needed` tells it.
+/// needed is read as it stands: `Header::is_longer_than_needed` tells it. It is made a part of its callers, since the
+/// header is looked at as soon as it is read: a call that hands it over costs as much as the reading.
+#[inline(always)]
 pub fn read_header(bytes: &[u8]) -> HeaderRead
     ensures { IsHeaderRead bytes.now result }
 {

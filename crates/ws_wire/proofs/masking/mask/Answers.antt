@@ -19,3 +19,7 @@ pub returns-clause-rule : goal.returns-clause-rule
 returns-clause-rule c =
     let all = returns-clause-bytes c in
     subst (λ (t : List ℕ). IsMasked c.args.key c.args.phase c.args.bytes.now t) (sym all) (masked_is_rule c.args.key c.args.phase c.args.bytes.now)
+
+pub returns-then-bytes-lt-HALF-clause-rule : goal.returns-then-bytes-lt-HALF-clause-rule
+returns-then-bytes-lt-HALF-clause-rule c =
+    subst (λ (t : List ℕ). IsMasked c.args.key c.args.phase c.args.bytes.now t) (sym c.mask_few.ensures) (masked_is_rule c.args.key c.args.phase c.args.bytes.now)

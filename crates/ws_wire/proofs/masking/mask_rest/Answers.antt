@@ -12,4 +12,4 @@ loop-bytes-preserved c = (
 
 pub returns : goal.returns
 returns c =
-    lanes_done c.args.key c.args.phase c.loop-bytes.at _ c.loop-bytes.bytes c.mask_words.new.bytes _ c.loop-bytes.invariant.0 (omega arith) c.mask_words.ensures c.loop-bytes.invariant.1
+    lanes_done c.args.key c.args.phase c.loop-bytes.at _ c.loop-bytes.bytes c.mask_few.new.bytes _ c.loop-bytes.invariant.0 (omega arith) c.mask_few.ensures c.loop-bytes.invariant.1
