@@ -37,6 +37,7 @@ pub mod DoomedSessions
 pub mod SomeExchange
 pub mod PlacedEvents
 pub mod TakenPieces
+pub mod WholeFrames
 pub mod FedPieces
 pub mod Valid
 pub mod FineFrames

@@ -1,5 +1,5 @@
 -- A payload that is unmasked part by part.
-use Rattle.std.proofs.Common.{◌≡◌, ℕ, ◌+◌, ◌-◌, ◌%◌, ◌≤◌, List, [], ◌∷◌, ◌++◌, length, take, Option, Some, None, refl, sym, ap, ◌∙◌, arith}
+use Rattle.std.proofs.Common.{◌≡◌, ℕ, ◌+◌, ◌-◌, ◌%◌, ◌≤◌, ◌<◌, List, [], ◌∷◌, ◌++◌, length, take, Option, Some, None, refl, sym, ap, ◌∙◌, arith}
 use Rattle.std.specs.Prelude.{bit_xor, slice_index}
 use Rattle.std.proofs.Math.Seq.{take-append-add}
 use Rattle.ws_wire.specs.Header.{HeaderFields}
@@ -22,6 +22,22 @@ masked_from_phase (Some key) n p = let same : (n % 4) % 4 ≡ n % 4 = omega arit
 pub length-masked_from : (k : Option (List ℕ)) (n : ℕ) (p : List ℕ) → length (masked_from k n p) ≡ length p
 length-masked_from None n p = refl
 length-masked_from (Some key) n p = length-masked key n p
+
+-- lists of no and of two elements
+pub list_of_none : (l : List ℕ) → length l ≡ 0 → l ≡ []
+list_of_none [] e = refl
+list_of_none (a ∷ l) e = absurd (omega (arith, e))
+
+pub list_of_two : (l : List ℕ) → 2 ≤ length l → length l < 3 → l ≡ slice_index l 0 ∷ slice_index l 1 ∷ []
+list_of_two [] least below = absurd (omega arith)
+list_of_two (a ∷ []) least below = absurd (omega arith)
+list_of_two (a ∷ b ∷ []) least below = refl
+list_of_two (a ∷ b ∷ c ∷ l) least below = absurd (omega arith)
+
+-- two bytes, one by one
+pub masked_from_pair : (k : Option (List ℕ)) (n a b : ℕ) → masked_from k n (a ∷ b ∷ []) ≡ masked_from k n (a ∷ []) ++ masked_from k (n + 1) (b ∷ [])
+masked_from_pair None n a b = refl
+masked_from_pair (Some key) n a b = masked-append key n (a ∷ []) (b ∷ [])
 
 -- what follows a payload is masked from its end on
 pub masked_after : (k : Option (List ℕ)) (p q : List ℕ) → masked_payload k (p ++ q) ≡ masked_payload k p ++ masked_from k (length p) q

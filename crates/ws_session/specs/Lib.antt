@@ -26,6 +26,7 @@ pub mod InnerReceiving
 pub mod InnerReplying
 pub mod InnerReceiver
 pub mod InnerTaking
+pub mod InnerWhole
 pub mod InnerInvariant
 pub mod InnerStanding
 pub mod InnerSending

@@ -1,6 +1,6 @@
 //! The place in which a call leaves the event that it tells, with its payload.
 
-ghost use Rattle.std.specs.Prelude.{◌≡◌, ◌≤◌, ◌+◌, ◌++◌, [], length, take, is_some, Some, None};
+ghost use Rattle.std.specs.Prelude.{◌≡◌, ◌≤◌, ◌<◌, ◌+◌, ◌++◌, [], length, take, is_some, Some, None, OnOk, OnErr};
 ghost use Rattle.ws_session.specs.declared.event.Event.TheVariants as event;
 ghost use Rattle.ws_session.specs.Exchange.{code_if_any};
 ghost use Rattle.ws_session.specs.InnerMasked.{masked_from};
@@ -14,7 +14,7 @@ use crate::reason::Reason;
 use std::alloc::Global;
 use std::marker::Model;
 use std::mem::{replace, swap};
-use ws_base::Payload;
+use ws_base::{NoMemory, Payload};
 use ws_text::{Close, MAX_CONTROL_PAYLOAD};
 
 /// A message's room above so many bytes is given back by the next call.
@@ -169,8 +169,28 @@ impl EventRoom {
         self.told = Told::Message(kind);
     }
 
+    /// A message has come in one piece: its payload is these bytes, which are masked where there is a key.
+    #[inline(always)]
+    pub(crate) fn tell_whole(
+        &mut self,
+        kind: Kind,
+        key: Option<[u8; 4]>,
+        bytes: &[u8],
+    ) -> Result<(), NoMemory>
+        requires nothing { self.old ≡ None }
+        ensures told { OnOk result (self.new
+            ≡ Some (event.Message (record { kind = kind; payload = masked_from key 0 bytes.now }))) }
+        ensures wants { OnErr result (0 < length bytes.now) }
+    {
+        self.message.extend_from_slice(bytes)?;
+        unmask(key, 0, &mut self.message);
+        self.told = Told::Message(kind);
+        Ok(())
+    }
+
     /// A ping has come: its payload is the bytes of it that came before, and these, which are masked where there is a
     /// key.
+    #[inline(always)]
     pub(crate) fn tell_ping(&mut self, before: &[u8], key: Option<[u8; 4]>, more: &[u8])
         requires nothing { self.old ≡ None }
         requires short { length before.now + length more.now ≤ 125 }
@@ -181,6 +201,7 @@ impl EventRoom {
     }
 
     /// The same of a pong.
+    #[inline(always)]
     pub(crate) fn tell_pong(&mut self, before: &[u8], key: Option<[u8; 4]>, more: &[u8])
         requires nothing { self.old ≡ None }
         requires short { length before.now + length more.now ≤ 125 }

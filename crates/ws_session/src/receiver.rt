@@ -27,6 +27,7 @@ mod least_header;
 mod piece_check;
 mod quiet;
 mod under_way;
+mod whole_frame;
 
 use crate::event_room::EventRoom;
 use crate::limits::Limits;
@@ -136,6 +137,51 @@ impl Receiver {
     /// room, and puts what is owed for that at the end of `out`: how many bytes it took. `NoMemory` leaves all that
     /// shows as it was, but the room.
     pub(crate) fn take(
+        &mut self,
+        status: &Status,
+        answering: Answering,
+        piece: &[u8],
+        key: [u8; 4],
+        out: &mut Vec<u8>,
+        room: &mut EventRoom,
+    ) -> Result<usize, NoMemory>
+        requires exact { IsExact self.old }
+        requires nothing { room.old ≡ None }
+        ensures takes { let replying : Replying
+            = record { role = self.old.role; status = status.now; answering = answering; key = key }
+            in IfOk result (λ used. Receives replying self.old self.new piece.now out.old.items out.new.items
+            (record { used = used; event = room.new })) }
+        ensures sound { IsSoundReceiver self.new }
+        ensures exact { IfOk result (λ used. IsExact self.new) }
+        ensures role { self.new.role ≡ self.old.role }
+        ensures limits { self.new.limits ≡ self.old.limits }
+        ensures over { IfOk result (λ used. is_over status.now ≡ false
+            → is_over (status_by status.now room.new) ≡ true
+            → (self.new.opened ≡ None) × (self.new.partial_frame ≡ [])) }
+
+        // What is lent and what is kept are no more than a message, a header and a control frame's payload.
+        ensures held { IfOk result (λ used. length (payload_in room.new) + (length (open_payload self.new.opened)
+            + length self.new.partial_frame) ≤ self.new.limits.max_message + most_beside) }
+        ensures kept { OnErr result ((self.new.opened ≡ self.old.opened)
+            × (self.new.partial_frame ≡ self.old.partial_frame) × (out.new.items ≡ out.old.items)) }
+        ensures came { OnErr result (self.new.came ≡ self.old.came) }
+
+        // Want of memory: a byte of the piece is of the payload of a data frame, or an answer is owed.
+        ensures wants { let replying : Replying
+            = record { role = self.old.role; status = status.now; answering = answering; key = key }
+            in OnErr result (WantsRoom (IsOwed replying) self.old piece.now) }
+    {
+        // Sees what holds of any receiving side, since `take_whole` leaves this one as it is.
+        let _ = &self.role;
+        if let Some(used) = self.take_whole(status, answering, piece, key, out, room)? {
+            return Ok(used);
+        }
+        self.take_part(status, answering, piece, key, out, room)
+    }
+
+    /// The same, of any piece. It stands apart, so that a frame that comes whole doesn't pay for it.
+    #[inline(never)]
+    fn take_part(
         &mut self,
         status: &Status,
         answering: Answering,

@@ -31,6 +31,7 @@ pub(crate) struct Replying {
 
 impl Replying {
     /// Puts a control frame at the end of `out`, unless the endpoint's close was sent.
+    #[inline(always)]
     pub(crate) fn reply(
         &self,
         opcode: u8,
@@ -78,6 +79,7 @@ impl Replying {
 }
 
 /// Puts a frame at the end of `out`, under the key if this is a client.
+#[inline(never)]
 pub(crate) fn put_frame(
     role: Role,
     fin: bool,

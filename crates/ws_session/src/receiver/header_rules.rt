@@ -65,7 +65,7 @@ fn first_reason(role: Role, limits: Limits, assembly: &Assembly, header: &Header
 
 /// Whether no reason applies to the header, as to most: told without going through the reasons one by one.
 #[inline(always)]
-fn is_fine(role: Role, limits: Limits, assembly: &Assembly, header: &Header) -> bool
+pub(super) fn is_fine(role: Role, limits: Limits, assembly: &Assembly, header: &Header) -> bool
     ensures { IsTrue result → NoneAtHeader role limits assembly.now.opened header.now }
 {
     let breaks = applies(role, limits, assembly, header, Reason::ReservedBits)

@@ -81,7 +81,7 @@ impl UnderWay {
     }
 
     /// Whether a byte of it has come.
-    fn has_begun(&self) -> bool
+    pub(super) fn has_begun(&self) -> bool
         ensures { result ≡ false → self.now ≡ NotBegun }
     {
         match self {

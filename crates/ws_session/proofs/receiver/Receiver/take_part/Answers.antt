@@ -12,7 +12,7 @@ use Rattle.ws_session.specs.InnerReceiver.{ReceiverValue, IsOwed, HasReceived, r
 use Rattle.ws_session.specs.InnerTaking.{WantsRoom}
 use Rattle.ws_session.proofs.ReceivedCalls.{receives_frame, receives_fault, frame_wants, fault_wants, as_role}
 use Rattle.ws_session.proofs.Wants.{on_err}
-use Rattle.ws_session.proofs.receiver.Receiver.take.Goals as goal
+use Rattle.ws_session.proofs.receiver.Receiver.take_part.Goals as goal
 
 pub returns-in_ok-on_data-in-Whole-clause-takes : goal.returns-in_ok-on_data-in-Whole-clause-takes
 returns-in_ok-on_data-in-Whole-clause-takes c =
