@@ -53,9 +53,9 @@ fail_rule tested fail.Early =
     ++ codes "5.5.3 and 7.3 allow a pong, and a server a close, unasked)"
 fail_rule tested fail.Messages =
     codes "Each message is sent back, in order, of the same kind and payload (RFC 6455 sections 5.4 and "
-    ++ codes "5.6; ours); after a fault the last may be missing"
+    ++ codes "5.6; ours); if a violation was sent, the last may be missing"
 fail_rule tested fail.Pongs =
-    codes "A pong has the payload of a ping (RFC 6455 section 5.5.3) that no other pong answers (ours), "
+    codes "Each pong has the payload of a ping (RFC 6455 section 5.5.3), no two answer the same ping (ours), "
     ++ codes "and the last ping is answered (section 5.5.2)"
 fail_rule tested fail.Close =
     codes "A close frame is answered by a close frame (RFC 6455 section 5.5.1), and none is sent without "
@@ -99,8 +99,8 @@ loose_rule tested loose.LateFault =
     codes "An end fails the connection once it has read what breaks a rule (RFC 6455 section 7.1.7): the "
     ++ codes "frame, or the message with text that is none, was not sent whole"
 loose_rule tested loose.Tolerated =
-    codes "A sender keeps the rules of forms, fragments and control frames (RFC 6455 sections 5.2, 5.4 "
-    ++ codes "and 5.5), and the standard does not order the other end to fail where it doesn't"
+    codes "A sender keeps the rules of forms, fragments and control frames (RFC 6455 sections 5.2, 5.4 and "
+    ++ codes "5.5); where it breaks one, the standard does not order the receiver to fail the connection"
 loose_rule tested loose.NoClose =
     codes "An end that gets a close frame sends one (RFC 6455 section 5.5.1), unless it ended the "
     ++ codes "connection before it had read it"
@@ -126,8 +126,8 @@ protocol_rule tested fail.Pongs =
 protocol_rule tested fail.Close =
     codes "An end that gets a close frame, and sent none, sends one (RFC 6455 section 5.5.1)"
 protocol_rule Server fail.End =
-    codes "A server that has sent and got a close frame closes the connection at once (RFC 6455 section "
-    ++ codes "5.5.1), and so does one that has to fail it (sections 5.1, 5.2, 7.1.7 and 8.1)"
+    codes "A server closes the connection at once when it has to fail it after a violation (RFC 6455 sections "
+    ++ codes "5.1, 5.2, 7.1.7 and 8.1), or when it has sent and received a close frame (section 5.5.1)"
 protocol_rule Client fail.End =
     codes "A client that has to fail the connection closes it (RFC 6455 sections 5.1, 5.2, 7.1.7 and 8.1) "
     ++ codes "or sends a close frame (section 7.1.7), which also answers one that it gets (section 5.5.1)"

@@ -52,9 +52,9 @@ fn fail_rule(tested: Role, why: FailWhy) -> &'static str
              5.5.3 and 7.3 allow a pong, and a server a close, unasked)",
         FailWhy::Messages =>
             "Each message is sent back, in order, of the same kind and payload (RFC 6455 sections 5.4 and \
-             5.6; ours); after a fault the last may be missing",
+             5.6; ours); if a violation was sent, the last may be missing",
         FailWhy::Pongs =>
-            "A pong has the payload of a ping (RFC 6455 section 5.5.3) that no other pong answers (ours), \
+            "Each pong has the payload of a ping (RFC 6455 section 5.5.3), no two answer the same ping (ours), \
              and the last ping is answered (section 5.5.2)",
         FailWhy::Close =>
             "A close frame is answered by a close frame (RFC 6455 section 5.5.1), and none is sent without \
@@ -109,7 +109,7 @@ fn loose_rule(tested: Role, why: LooseWhy) -> &'static str
              frame, or the message with text that is none, was not sent whole",
         LooseWhy::Tolerated =>
             "A sender keeps the rules of forms, fragments and control frames (RFC 6455 sections 5.2, 5.4 and \
-             5.5), and the standard does not order the other end to fail where it doesn't",
+             5.5); where it breaks one, the standard does not order the receiver to fail the connection",
         LooseWhy::NoClose =>
             "An end that gets a close frame sends one (RFC 6455 section 5.5.1), unless it ended the \
              connection before it had read it",
@@ -142,8 +142,8 @@ fn protocol_rule(tested: Role, why: FailWhy) -> &'static str
             "An end that gets a close frame, and sent none, sends one (RFC 6455 section 5.5.1)",
         FailWhy::End => match tested {
             Role::Server =>
-                "A server that has sent and got a close frame closes the connection at once (RFC 6455 section \
-                 5.5.1), and so does one that has to fail it (sections 5.1, 5.2, 7.1.7 and 8.1)",
+                "A server closes the connection at once when it has to fail it after a violation (RFC 6455 sections \
+                 5.1, 5.2, 7.1.7 and 8.1), or when it has sent and received a close frame (section 5.5.1)",
             Role::Client =>
                 "A client that has to fail the connection closes it (RFC 6455 sections 5.1, 5.2, 7.1.7 and 8.1) \
                  or sends a close frame (section 7.1.7), which also answers one that it gets (section 5.5.1)",
