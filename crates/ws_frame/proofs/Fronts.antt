@@ -12,6 +12,9 @@ use Rattle.ws_wire.specs.Masking.{masked_payload}
 use Rattle.ws_wire.specs.Frame.{WireFrame, IsWireFrame, wire_bytes}
 use Rattle.ws_wire.specs.Reading.{Begins, BeginsNoHeader, BeginsBadLength}
 use Rattle.ws_wire.specs.Stream.{SplitsIntoAnyForm}
+use Rattle.ws_frame.specs.declared.source.DataStyle.{DataStyle}
+use Rattle.ws_frame.specs.declared.source.DataStyle.TheVariants.{Hex}
+use Rattle.ws_frame.specs.Lines.{data_word, payload_word}
 use Rattle.ws_frame.specs.Lines.{line_with, line_of, frame_lines, last_line, Leaves, AreLinesOf}
 use Rattle.ws_frame.specs.InnerShowing.{IsLeft, BeginsLines}
 use Rattle.ws_wire.proofs.Headers.{same_header, header_parts, header_or_none}
@@ -32,12 +35,17 @@ no_bad_beside bytes h used b small (g, n, d, big) = omega (arith, ap (λ (f : He
 
 -- ---- a line
 
-pub line_shown : (source : Source) (offset : ℕ) (x : WireFrame) (h : HeaderFields) (payload first : List ℕ) → x.header ≡ h → payload ≡ masked_payload h.key x.payload → first ≡ masked_payload h.key (take 16 payload)
-    → line_with source offset h first ≡ line_of source offset x
-line_shown source offset x h payload first header masks unmasked =
+pub line_shown : (source : Source) (offset : ℕ) (x : WireFrame) (h : HeaderFields) (payload first : List ℕ)
+    → source.style ≡ Hex → x.header ≡ h → length x.payload ≡ x.header.len → payload ≡ masked_payload h.key x.payload
+    → first ≡ masked_payload h.key (take 16 payload)
+    → line_with source offset h (data_word h.len first) ≡ line_of source offset x
+line_shown source offset x h payload first digits header len masks unmasked =
     let shown : first ≡ take 16 x.payload =
     unmasked ∙ ap (λ (t : List ℕ). masked_payload h.key (take 16 t)) masks ∙ ap (λ (t : List ℕ). masked_payload h.key t) (take-masked_payload h.key 16 x.payload) ∙ masked_payload_twice h.key (take 16 x.payload) in
-    ap (λ (t : List ℕ). line_with source offset h t) shown ∙ ap (λ (g : HeaderFields). line_with source offset g (take 16 x.payload)) (sym header)
+    ap (λ (t : List ℕ). line_with source offset h (data_word h.len t)) shown
+    ∙ ap (λ (g : HeaderFields). line_with source offset g (data_word g.len (take 16 x.payload))) (sym header)
+    ∙ ap (λ n. line_with source offset x.header (data_word n (take 16 x.payload))) (sym len)
+    ∙ ap (λ (d : DataStyle). line_with source offset x.header (payload_word d x.header.opcode x.payload)) (sym digits)
 
 -- ---- the lines so far
 

@@ -11,3 +11,6 @@ pub mod Runs
 pub mod RunEnds
 pub mod Streams
 pub mod OneByte
+pub mod PutFrames
+pub mod EitherWay
+pub mod Quoted

@@ -7,7 +7,7 @@ use Rattle.ws_wire.specs.Header.{HeaderFields, AreBytes}
 use Rattle.ws_wire.specs.Masking.{masked_payload}
 use Rattle.ws_wire.specs.Reading.{BeginsBadLength}
 use Rattle.ws_frame.specs.declared.showing.Run.{Run}
-use Rattle.ws_frame.specs.Lines.{line_with, last_line, AreLinesOf}
+use Rattle.ws_frame.specs.Lines.{data_word, line_with, last_line, AreLinesOf}
 use Rattle.ws_frame.specs.InnerShowing.{IsPartialFrame, IsWhole, AreLinesSoFar, IsLeft, HasTold}
 use Rattle.ws_frame.specs.Streaming.{HasShown}
 use Rattle.ws_frame.proofs.Fronts.{all_lines}
@@ -38,7 +38,7 @@ part_of_byte source taken written lines byte count offset used partial new e s a
 
 pub frame_of_byte : (source : Source) (taken written lines waiting : List ℕ) (byte count offset used : ℕ) (partial new : Partial) (header : HeaderFields) (first : List ℕ) → count ≡ length taken
     → (s : AreLinesSoFar source taken offset partial (written ++ lines)) → AreBytes (byte ∷ []) → 0 < used → used ≤ 1 → IsWhole (s.rest ++ take used (byte ∷ [])) header first → IsPartialFrame [] new
-    → lines ++ line_with source offset header (masked_payload header.key first) ≡ waiting
+    → lines ++ line_with source offset header (data_word header.len (masked_payload header.key first)) ≡ waiting
     → (count + used ≡ length (taken ++ byte ∷ [])) × AreLinesSoFar source (taken ++ byte ∷ []) (count + used) new (written ++ waiting)
 frame_of_byte source taken written lines waiting byte count offset used partial new header first e s are some le whole k due =
     let all = all_of_byte byte used some le in

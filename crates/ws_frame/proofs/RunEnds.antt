@@ -26,6 +26,20 @@ piece_within taken budget count want read buf e le size least below =
     let all : length (read ++ take count buf) ≡ taken + count = length-append read (take count buf) ∙ (omega (arith, e, piece)) in
     (omega (arith, all, le, size, least), omega (arith, piece, le, size, least), all)
 
+-- the same where what is left of the budget is counted
+pub piece_of_left : (left budget count want : ℕ) (read buf : List ℕ) → length read + left ≡ budget
+    → count ≤ length buf → length buf ≡ want → want ≡ min left 65536
+    → (length (read ++ take count buf) ≤ budget) × (length (take count buf) ≤ 65536)
+    × (length (read ++ take count buf) + (left - count) ≡ budget)
+piece_of_left left budget count want read buf all le size least =
+    let piece : length (take count buf) ≡ count = length-take-le count buf le in
+    let both : length (read ++ take count buf) ≡ length read + count =
+    length-append read (take count buf) ∙ (omega (arith, piece)) in (
+      omega (arith, both, le, size, least, all),
+      omega (arith, piece, le, size, least),
+      omega (arith, both, le, size, least, all),
+    )
+
 -- ---- how a run ends
 
 abbrev pub run_of : Source → ℕ → List ℕ → Option (List ℕ) → List ℕ → ShowRun

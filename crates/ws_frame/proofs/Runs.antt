@@ -14,7 +14,8 @@ use Rattle.ws_wire.specs.Frame.{IsWireFrame, wire_bytes}
 use Rattle.ws_wire.specs.Stream.{SplitsIntoAnyForm}
 use Rattle.ws_wire.specs.Reading.{BeginsBadLength}
 use Rattle.ws_frame.specs.Devices.{Device}
-use Rattle.ws_frame.specs.Lines.{line_with, line_of, frame_lines, last_line, Leaves, AreFrameLinesOf}
+use Rattle.ws_frame.specs.declared.source.DataStyle.TheVariants.{Hex}
+use Rattle.ws_frame.specs.Lines.{data_word, line_with, line_of, frame_lines, last_line, Leaves, AreFrameLinesOf}
 use Rattle.ws_frame.specs.declared.showing.Run.{Run}
 use Rattle.ws_frame.specs.InnerShowing.{IsPartialFrame, IsWhole, AreLinesSoFar, HasTold, IsLeft, BeginsLines, ShowsNext, ShowsPiece}
 use Rattle.ws_frame.specs.declared.showing.PieceEnd.{PieceEnd}
@@ -27,8 +28,9 @@ use Rattle.ws_frame.proofs.Partials.{AreBytes-append, kept_is_no_frame, kept_is_
 
 -- ---- where a run stands
 
-pub nothing_taken : (source : Source) (partial : Partial) → IsPartialFrame [] partial → AreLinesSoFar source [] 0 partial []
-nothing_taken source partial k = record { are_bytes = λ i. omega arith; frames = []; rest = []; each = tt; parts = refl; place = refl; are_lines = refl; is_kept = k }
+pub nothing_taken : (source : Source) (partial : Partial) → source.style ≡ Hex → IsPartialFrame [] partial
+    → AreLinesSoFar source [] 0 partial []
+nothing_taken source partial digits k = record { digits = digits; are_bytes = λ i. omega arith; frames = []; rest = []; each = tt; parts = refl; place = refl; are_lines = refl; is_kept = k }
 
 pub rest_are_bytes : (source : Source) (taken : List ℕ) (offset : ℕ) (partial : Partial) (lines : List ℕ) → (s : AreLinesSoFar source taken offset partial lines) → AreBytes s.rest
 rest_are_bytes source taken offset partial lines s = rest_bytes taken (flat_map wire_bytes s.frames) s.rest s.parts s.are_bytes
@@ -37,6 +39,7 @@ rest_are_bytes source taken offset partial lines s = rest_bytes taken (flat_map 
 pub part_taken : (source : Source) (taken : List ℕ) (offset : ℕ) (partial new : Partial) (lines more : List ℕ) → (s : AreLinesSoFar source taken offset partial lines) → AreBytes more → IsPartialFrame (s.rest ++ more) new
     → AreLinesSoFar source (taken ++ more) offset new lines
 part_taken source taken offset partial new lines more s are k = record {
+  digits = s.digits;
   are_bytes = AreBytes-append taken more s.are_bytes are;
   frames = s.frames;
   rest = s.rest ++ more;
@@ -50,7 +53,7 @@ part_taken source taken offset partial new lines more s are k = record {
 -- the frame under way is whole
 pub frame_taken : (source : Source) (taken : List ℕ) (offset place : ℕ) (partial new : Partial) (lines more : List ℕ) (header : HeaderFields) (first : List ℕ) → (s : AreLinesSoFar source taken offset partial lines)
     → AreBytes more → IsWhole (s.rest ++ more) header first → IsPartialFrame [] new → place ≡ length (taken ++ more)
-    → AreLinesSoFar source (taken ++ more) place new (lines ++ line_with source offset header (masked_payload header.key first))
+    → AreLinesSoFar source (taken ++ more) place new (lines ++ line_with source offset header (data_word header.len (masked_payload header.key first)))
 frame_taken source taken offset place partial new lines more header first s are w k e =
     let x = w.frame in
     let frames = s.frames ++ x ∷ [] in
@@ -58,9 +61,10 @@ frame_taken source taken offset place partial new lines more header first s are 
     let whole : taken ++ more ≡ flat_map wire_bytes frames =
     ap (λ (t : List ℕ). t ++ more) s.parts ∙ append_assoc (flat_map wire_bytes s.frames) s.rest more ∙ ap (λ (t : List ℕ). flat_map wire_bytes s.frames ++ t) w.bytes_are ∙ sym joined in
     let unmasked : masked_payload header.key first ≡ masked_payload header.key (take 16 (masked_payload header.key x.payload)) = ap (λ (t : List ℕ). masked_payload header.key t) w.first_are in
-    let line : line_with source offset header (masked_payload header.key first) ≡ line_of source offset x = line_shown source offset x header (masked_payload header.key x.payload) (masked_payload header.key first) w.header_is refl unmasked in
+    let line : line_with source offset header (data_word header.len (masked_payload header.key first)) ≡ line_of source offset x = line_shown source offset x header (masked_payload header.key x.payload) (masked_payload header.key first) s.digits w.header_is w.is_wire.len refl unmasked in
     let at : offset ≡ 0 + length (flat_map wire_bytes s.frames) = s.place ∙ sym (zero-add (length (flat_map wire_bytes s.frames))) in
     record {
+      digits = s.digits;
       are_bytes = AreBytes-append taken more s.are_bytes are;
       frames = frames;
       rest = [];
@@ -151,18 +155,18 @@ due_again written lines line w waiting due = append_assoc written lines line ∙
 
 pub frame_told : (source : Source) (taken written piece lines w waiting : List ℕ) (count offset used : ℕ) (partial new : Partial) (header : HeaderFields) (first : List ℕ) → count ≡ length taken
     → (s : AreLinesSoFar source taken offset partial (written ++ lines)) → AreBytes piece → used ≤ length piece → IsWhole (s.rest ++ take used piece) header first → IsPartialFrame [] new
-    → lines ++ line_with source offset header (masked_payload header.key first) ≡ w ++ waiting
+    → lines ++ line_with source offset header (data_word header.len (masked_payload header.key first)) ≡ w ++ waiting
     → (count + used ≡ length (taken ++ take used piece)) × AreLinesSoFar source (taken ++ take used piece) (count + used) new ((written ++ w) ++ waiting)
 frame_told source taken written piece lines w waiting count offset used partial new header first e s are le whole k due =
     let place = counted count used taken piece e le in (
       place,
-      subst (λ (t : List ℕ). AreLinesSoFar source (taken ++ take used piece) (count + used) new t) (due_again written lines (line_with source offset header (masked_payload header.key first)) w waiting due)
+      subst (λ (t : List ℕ). AreLinesSoFar source (taken ++ take used piece) (count + used) new t) (due_again written lines (line_with source offset header (data_word header.len (masked_payload header.key first))) w waiting due)
           (frame_taken source taken offset (count + used) partial new (written ++ lines) (take used piece) header first s (front_bytes used piece are) whole k place),
     )
 
 pub frame_begun : (source : Source) (taken written piece lines front behind : List ℕ) (count offset used : ℕ) (partial new : Partial) (header : HeaderFields) (first : List ℕ) → count ≡ length taken
     → (s : AreLinesSoFar source taken offset partial (written ++ lines)) → AreBytes piece → used ≤ length piece → IsWhole (s.rest ++ take used piece) header first → IsPartialFrame [] new
-    → lines ++ line_with source offset header (masked_payload header.key first) ≡ front ++ behind → BeginsLines source (taken ++ piece) (written ++ front)
+    → lines ++ line_with source offset header (data_word header.len (masked_payload header.key first)) ≡ front ++ behind → BeginsLines source (taken ++ piece) (written ++ front)
 frame_begun source taken written piece lines front behind count offset used partial new header first e s are le whole k due =
     let next = frame_told source taken written piece lines front behind count offset used partial new header first e s are le whole k due in
     subst (λ (t : List ℕ). BeginsLines source t (written ++ front)) (front_and_rest taken piece used)

@@ -1,11 +1,12 @@
 -- Worked examples, each a theorem.
-use Rattle.std.specs.Prelude.{◌≡◌, true, false, [], None, codes, refl}
+use Rattle.std.specs.Prelude.{◌≡◌, true, false, [], ◌∷◌, None, codes, refl}
 use Rattle.std.specs.Fmt.{digits}
 use Rattle.ws_wire.specs.declared.role.Role.TheVariants.{Client, Server}
 use Rattle.ws_wire.specs.declared.header.Form.TheVariants.{Short, Two}
 use Rattle.ws_frame.specs.declared.showing.StreamEnd.TheVariants.{CutAt, BadLengthAt}
 use Rattle.ws_frame.specs.declared.source.Mark.TheVariants.{Sent}
-use Rattle.ws_frame.specs.Lines.{plain, line_of, last_line}
+use Rattle.ws_frame.specs.declared.source.DataStyle.TheVariants.{Hex, Text, All}
+use Rattle.ws_frame.specs.Lines.{alone, plain, line_of, last_line, payload_word}
 
 -- the line of "Hello", sent by a server
 pub line_of_hello : line_of (plain Server) 0 (record {
@@ -25,13 +26,46 @@ pub line_of_odd_frame : line_of (plain Client) 11 (record {
 unfolding digits
 line_of_odd_frame = refl
 
+-- a payload as text, in quotation marks; a byte that can't stand there makes it digits
+pub text_of_hello : line_of (alone Server Text) 0 (record {
+  header = record { fin = true; rsv = 0; opcode = 1; key = None; len = 5; form = Short };
+  payload = codes "Hello";
+})
+    ≡ codes "0 text fin=1 rsv=0 key=- len=5 short \"Hello\"\n"
+unfolding digits
+text_of_hello = refl
+
+pub digits_of_a_control : payload_word Text 1 (27 ∷ 91 ∷ []) ≡ codes "1b5b"
+unfolding digits
+digits_of_a_control = refl
+
+-- a close of code 1000 with a reason, one without, and one of a single byte, which has no code
+pub close_with_a_reason : payload_word Text 8 (3 ∷ 232 ∷ codes "bye") ≡ codes "1000:\"bye\""
+unfolding digits
+close_with_a_reason = refl
+
+pub close_without_a_reason : payload_word Text 8 (3 ∷ 232 ∷ []) ≡ codes "1000:\"\""
+unfolding digits
+close_without_a_reason = refl
+
+pub close_of_one_byte : payload_word Text 8 (3 ∷ []) ≡ codes "03"
+unfolding digits
+close_of_one_byte = refl
+
+-- all of a payload, where the first sixteen bytes aren't all
+pub all_of_seventeen : payload_word All 2
+    (0 ∷ 1 ∷ 2 ∷ 3 ∷ 4 ∷ 5 ∷ 6 ∷ 7 ∷ 8 ∷ 9 ∷ 10 ∷ 11 ∷ 12 ∷ 13 ∷ 14 ∷ 15 ∷ 16 ∷ [])
+    ≡ codes "000102030405060708090a0b0c0d0e0f10"
+unfolding digits
+all_of_seventeen = refl
+
 -- the last line of a stream that is cut inside the frame at 7, and of one, shown beside another, that begins with a bad
 -- length
 pub last_line_of_cut : last_line (plain Server) (CutAt 7) ≡ codes "cut at 7\n"
 unfolding digits
 last_line_of_cut = refl
 
-pub last_line_of_bad_length : last_line (record { from = Client; mark = Sent }) (BadLengthAt 0)
+pub last_line_of_bad_length : last_line (record { from = Client; mark = Sent; style = Hex }) (BadLengthAt 0)
     ≡ codes "> bad length at 0\n"
 unfolding digits
 last_line_of_bad_length = refl

@@ -6,7 +6,9 @@ use Rattle.std.specs.Fmt.{decimal}
 use Rattle.ws_wire.specs.declared.role.Role.{Role}
 use Rattle.ws_wire.specs.Header.{HeaderFields, form_word}
 use Rattle.ws_formats.specs.Words.{opcode_word, bit_word}
-use Rattle.ws_frame.specs.Lines.{key_word, mask_mark, form_mark}
+use Rattle.ws_frame.specs.declared.frame_line.FrameLine.{FrameLine}
+use Rattle.ws_frame.specs.declared.source.Mark.{Mark}
+use Rattle.ws_frame.specs.Lines.{key_word, mark_word, mask_mark, form_mark, line_of}
 
 -- FIN and the reserved bits, up to the word for the masking key
 abbrev pub bits_words : Bool → ℕ → List ℕ
@@ -26,6 +28,16 @@ layout_words header = concat (
 abbrev pub end_words : Role → HeaderFields → List ℕ
 end_words from header = concat (
     mask_mark from header.key ∷ form_mark header.form header.len ∷ codes "\n" ∷ [])
+
+-- what stands before a payload
+abbrev pub front_words : Mark → ℕ → HeaderFields → List ℕ
+front_words mark offset header = concat (
+    mark_word mark ∷ place_words offset header ∷ layout_words header ∷ [])
+
+-- the line of a frame whose payload is at hand
+abbrev pub line_printed : FrameLine → List ℕ
+line_printed line =
+    line_of line.source line.offset (record { header = line.header; payload = line.payload.now })
 
 -- two decimal digits, those of a number below a hundred
 abbrev pub pair_digits : ℕ → List ℕ

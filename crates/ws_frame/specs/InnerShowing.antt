@@ -3,6 +3,7 @@
 use Rattle.std.specs.Prelude.{◌⊎◌, ◌≡◌, ℕ, ◌+◌, ◌^◌, ◌≤◌, ◌<◌, Bool, true, false, ⊤}
 use Rattle.std.specs.Prelude.{List, [], ◌∷◌, ◌++◌, length, take, Option, Some, None, Result, Ok, Err}
 use Rattle.std.specs.List.{flat_map, AllByRecursion}
+use Rattle.ws_frame.specs.declared.source.DataStyle.TheVariants.{Hex}
 use Rattle.ws_frame.specs.declared.source.Source.{Source}
 use Rattle.ws_frame.specs.declared.showing.StreamEnd.{StreamEnd}
 use Rattle.ws_frame.specs.declared.showing.StreamEnd.TheVariants as end
@@ -84,9 +85,11 @@ BeginsPayload header used new BadLength = ⊥
 
 -- ---- a run
 
--- what was read are whole frames, whose lines these are, and less than a frame, which is kept and begins at this place
+-- what was read are whole frames, whose lines these are, and less than a frame, which is kept and begins at this place.
+-- Payloads are shown by their first bytes, as digits.
 pub record AreLinesSoFar (source : Source) (read : List ℕ) (offset : ℕ) (partial : Partial) (lines : List ℕ)
     : Type 0 where
+  pub digits : source.style ≡ Hex
   pub are_bytes : AreBytes read
   pub frames : List WireFrame
   pub rest : List ℕ

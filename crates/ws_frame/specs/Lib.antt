@@ -10,6 +10,9 @@ pub mod ReadingInput
 pub mod TestDevices
 pub mod Lines
 pub mod Streaming
+pub mod PayloadStreaming
+pub mod FrameStreaming
 pub mod Examples
 pub mod InnerShowing
 pub mod InnerPrinting
+pub mod InnerPayloads

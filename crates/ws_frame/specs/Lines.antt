@@ -1,14 +1,17 @@
 -- The lines of `show`: one for each frame of a stream (RFC 6455 section 5.2), in any form, and a last one where the
 -- stream stops inside a frame. A line ends with LF. Where the streams of both ends are shown, each line begins with the
 -- mark of its stream.
-use Rattle.std.specs.Prelude.{◌⊎◌, ◌≡◌, ℕ, ◌+◌, ◌<◌, ◌≤◌, true, false, nat_lt, ◌==◌, if◌then◌else◌}
+use Rattle.std.specs.Prelude.{◌⊎◌, ◌≡◌, ℕ, ◌+◌, ◌*◌, ◌<◌, ◌≤◌, Bool, true, false, nat_lt, nat_le, ◌==◌, ◌&&◌, not}
+use Rattle.std.specs.Prelude.{if◌then◌else◌}
 use Rattle.std.specs.Prelude.{List, [], ◌∷◌, ◌++◌, length, take, Option, Some, None, codes}
-use Rattle.std.specs.List.{flat_map, concat}
+use Rattle.std.specs.List.{flat_map, concat, list_all}
 use Rattle.std.specs.Fmt.{decimal}
 use Rattle.std.specs.Io.KnownBytes.{IsAtEnd}
 use Rattle.ws_wire.specs.declared.role.Role.{Role}
 use Rattle.ws_wire.specs.declared.role.Role.TheVariants.{Client, Server}
 use Rattle.ws_frame.specs.declared.source.Source.{Source}
+use Rattle.ws_frame.specs.declared.source.DataStyle.{DataStyle}
+use Rattle.ws_frame.specs.declared.source.DataStyle.TheVariants.{Hex, Text, All}
 use Rattle.ws_frame.specs.declared.source.Mark.{Mark}
 use Rattle.ws_frame.specs.declared.source.Mark.TheVariants.{Plain, Sent, Got, ClientOf, ServerOf}
 use Rattle.ws_wire.specs.declared.header.Form.{Form}
@@ -21,7 +24,7 @@ use Rattle.ws_wire.specs.Frame.{WireFrame, wire_bytes}
 use Rattle.ws_wire.specs.Stream.{SplitsIntoAnyForm}
 use Rattle.ws_wire.specs.Reading.{BeginsBadLength}
 use Rattle.ws_frame.specs.Devices.{Device, HasRead, HasWritten}
-use Rattle.ws_formats.specs.Words.{bit_word, opcode_word}
+use Rattle.ws_formats.specs.Words.{bit_word, hex_word, opcode_word}
 pub use Rattle.ws_formats.specs.Words.{hex}
 
 -- ---- the words of a line
@@ -35,6 +38,38 @@ key_word (Some key) = hex key
 -- where there are more
 abbrev pub data_word : ℕ → List ℕ → List ℕ
 data_word len first = if len == 0 then codes "-" else hex first ++ (if nat_lt 16 len then codes ".." else [])
+
+-- the first bytes of a payload
+abbrev pub first_word : List ℕ → List ℕ
+first_word payload = data_word (length payload) (take 16 payload)
+
+-- a byte that may stand between quotation marks: 0x20 to 0x7e but the mark itself
+abbrev pub is_text_byte : ℕ → Bool
+is_text_byte byte = nat_le 32 byte && nat_le byte 126 && not (byte == 34)
+
+-- the first 64 bytes between quotation marks, and two dots behind these where there are more
+abbrev pub quoted_word : List ℕ → List ℕ
+quoted_word payload =
+    codes "\"" ++ (take 64 payload ++ (codes "\"" ++ (if nat_lt 64 (length payload) then codes ".." else [])))
+
+-- a payload as text: quoted where every byte of it may be; else its first bytes as digits
+abbrev pub text_word : List ℕ → List ℕ
+text_word payload = if list_all is_text_byte payload then quoted_word payload else first_word payload
+
+-- that of a close frame (section 5.5.1): of at least two bytes the code as a number, a colon, and the reason as text
+abbrev pub close_word : List ℕ → List ℕ
+close_word (high ∷ low ∷ reason) = decimal (256 * high + low) ++ (codes ":" ++ text_word reason)
+close_word payload = text_word payload
+
+-- as text, by the opcode
+abbrev pub readable_word : ℕ → List ℕ → List ℕ
+readable_word opcode payload = if opcode == 8 then close_word payload else text_word payload
+
+-- the payload of a frame with this opcode as it is shown: its first bytes as digits, as text, or all of it as digits
+abbrev pub payload_word : DataStyle → ℕ → List ℕ → List ℕ
+payload_word Hex opcode payload = first_word payload
+payload_word Text opcode payload = readable_word opcode payload
+payload_word All opcode payload = hex_word payload
 
 -- a client masks each frame and a server none (section 5.1); the other way round is marked
 abbrev pub mask_mark : Role → Option (List ℕ) → List ℕ
@@ -55,24 +90,28 @@ mark_word Got = codes "< "
 mark_word (ClientOf number) = decimal number ++ codes " > "
 mark_word (ServerOf number) = decimal number ++ codes " < "
 
--- the stream of this end, shown alone
+-- the stream of this end, shown alone, with its payloads in this style
+abbrev pub alone : Role → DataStyle → Source
+alone from style = record { from = from; mark = Plain; style = style }
+
+-- the first bytes of each payload as digits
 abbrev pub plain : Role → Source
-plain from = record { from = from; mark = Plain }
+plain from = alone from Hex
 
 -- ---- the lines
 
--- the line of a frame that begins at this place of the stream, by its header and the first bytes of its payload
+-- the line of a frame that begins at this place of the stream, by its header and the word for its payload
 abbrev pub line_with : Source → ℕ → HeaderFields → List ℕ → List ℕ
-line_with source offset header first = concat (
+line_with source offset header word = concat (
     mark_word source.mark ∷ decimal offset ∷ codes " " ∷ opcode_word header.opcode
     ∷ codes " fin=" ∷ bit_word header.fin ∷ codes " rsv=" ∷ decimal header.rsv
     ∷ codes " key=" ∷ key_word header.key ∷ codes " len=" ∷ decimal header.len
-    ∷ codes " " ∷ form_word header.form ∷ codes " " ∷ data_word header.len first
+    ∷ codes " " ∷ form_word header.form ∷ codes " " ∷ word
     ∷ mask_mark source.from header.key ∷ form_mark header.form header.len ∷ codes "\n" ∷ [])
 
--- the line shows the first sixteen bytes, unmasked
+-- the line of a frame: its payload is shown unmasked
 abbrev pub line_of : Source → ℕ → WireFrame → List ℕ
-line_of source offset x = line_with source offset x.header (take 16 x.payload)
+line_of source offset x = line_with source offset x.header (payload_word source.style x.header.opcode x.payload)
 
 -- the lines of frames that stand one after the other, the first at this place
 abbrev pub frame_lines : Source → ℕ → List WireFrame → List ℕ
@@ -171,18 +210,18 @@ IsShownAt (show_end.BadLengthAt place) run = AreLinesOf run.source run.read (Bad
 IsShownAt show_end.Budget run = AreFrameLinesOf run.source run.read run.written × (length run.read ≡ run.budget)
 IsShownAt show_end.ReadFault run = AreFrameLinesOf run.source run.read run.written × (length run.read < run.budget)
 IsShownAt show_end.WriteFault run = BeginsDueLines run × HasEarlierLines run
-IsShownAt show_end.NoMemory run = ⊥
+IsShownAt show_end.NoMemory run = BeginsDueLines run × HasEarlierLines run
 
 -- a run of `show` over a reader and a writer: some bytes were read, at most as many as the budget, and what is due for
 -- them was written
-pub record Shows (from : Role) (budget : ℕ) (end : ShowEnd) (input output : Device) : Type 0 where
+pub record Shows (source : Source) (budget : ℕ) (end : ShowEnd) (input output : Device) : Type 0 where
   pub read : List ℕ
   pub written : List ℕ
   pub has_read : HasRead read input
   pub has_written : HasWritten written output
   pub within : length read ≤ budget
   pub shown : IsShownAt end
-      (record { source = plain from; budget = budget; read = read; unread = input.new; written = written })
+      (record { source = source; budget = budget; read = read; unread = input.new; written = written })
 
 -- which device has failed, and that the reader is at its end where the run says so
 abbrev pub IsFairEnd : ShowEnd → Device → Device → Type 0
@@ -192,4 +231,4 @@ IsFairEnd (show_end.BadLengthAt _) input output = output.failed ≡ false
 IsFairEnd show_end.Budget input output = (input.failed ≡ false) × (output.failed ≡ false)
 IsFairEnd show_end.ReadFault input output = (input.failed ≡ true) × (output.failed ≡ false)
 IsFairEnd show_end.WriteFault input output = output.failed ≡ true
-IsFairEnd show_end.NoMemory input output = ⊥
+IsFairEnd show_end.NoMemory input output = (input.failed ≡ false) × (output.failed ≡ false)

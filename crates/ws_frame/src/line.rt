@@ -29,7 +29,7 @@ static KINDS: [u8; 128] =
       op7    \x03close  \x05ping   \x04pong   \x04op11   \x04op12   \x04op13   \x04op14   \x04op15   \x04";
 
 /// Puts the line of a frame that begins at `offset` into the room, ended by LF. `first` are the first bytes of the
-/// payload, unmasked: as many as there are, at most `SHOWN`.
+/// payload, unmasked: as many as there are, at most `SHOWN`. They are shown as digits.
 pub(crate) fn push_line(
     room: &mut Room,
     source: Source,
@@ -38,7 +38,7 @@ pub(crate) fn push_line(
     first: &FirstBytes,
 )
     requires room { length room.old + 200 ≤ 65536 }
-    ensures pushed { room.new ≡ room.old ++ line_with source offset header.now first.now }
+    ensures pushed { room.new ≡ room.old ++ line_with source offset header.now (data_word header.now.len first.now) }
     ensures len { length room.new ≤ length room.old + 200 }
 {
     source.mark.push_to(room);

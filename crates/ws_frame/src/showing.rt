@@ -3,7 +3,8 @@
 ghost use Rattle.std.specs.Prelude.{◌≡◌, ◌<◌, ◌≤◌, ◌+◌, ◌^◌, ℕ, List, [], length, false, IfOk, IfSome};
 ghost use Rattle.ws_frame.specs.Watching.{has_failed};
 ghost use Rattle.ws_frame.specs.Devices.{watched};
-ghost use Rattle.ws_frame.specs.Lines.{Leaves, Shows, IsFairEnd};
+ghost use Rattle.ws_frame.specs.Lines.{Leaves, Shows, IsFairEnd, plain};
+ghost use Rattle.ws_frame.specs.declared.source.DataStyle.TheVariants.{Hex};
 ghost use Rattle.ws_frame.specs.InnerShowing.{CanShowMore, HasTold, ShowsPiece, ShowsNext, IsPartialFrame, run_end};
 ghost use Rattle.ws_frame.specs.InnerShowing.{TakesByte};
 ghost use Rattle.ws_frame.specs.declared.showing.ShowEnd.TheVariants.{NoMemory};
@@ -18,7 +19,7 @@ use std::io::{Read, Write};
 use ws_wire::Role;
 
 /// How many bytes one read of a stream that is shown asks for at most.
-const SHOW_READ_SIZE: usize = 65536;
+pub(crate) const SHOW_READ_SIZE: usize = 65536;
 
 /// How a stream that has ended ends.
 #[derive(Clone, Copy)]
@@ -59,7 +60,7 @@ pub enum ShowEnd {
     ReadFault,
     /// A write answered an error or took nothing.
     WriteFault,
-    /// Memory ran out: `show` takes none, and never answers this.
+    /// Memory ran out: `show` takes none, and never answers this, but `show_payloads` may.
     NoMemory,
 }
 
@@ -80,7 +81,7 @@ pub fn show<R: Read, W: Write>(
 ) -> ShowEnd
     requires reader_works { has_failed reader.old ≡ false }
     requires writer_works { has_failed writer.old ≡ false }
-    ensures lines { Shows from budget result
+    ensures lines { Shows (plain from) budget result
         (watched R.remaining reader.old reader.new) (watched W.contents writer.old writer.new) }
     ensures fair { IsFairEnd result
         (watched R.remaining reader.old reader.new) (watched W.contents writer.old writer.new) }
@@ -136,6 +137,7 @@ pub(crate) struct Run {
 impl Run {
     /// Nothing was taken.
     pub(crate) fn new(source: Source) -> Run
+        requires digits { source.style ≡ Hex }
         ensures source { result.source ≡ source }
         ensures begun { HasTold result [] [] }
         ensures empty { result.lines ≡ [] }

@@ -1,7 +1,7 @@
 //! Whose stream is shown, and how its lines begin.
 
 ghost use Rattle.std.specs.Prelude.{◌≡◌, ◌≤◌, ◌+◌, ◌++◌, length};
-ghost use Rattle.ws_frame.specs.Lines.{mark_word, plain};
+ghost use Rattle.ws_frame.specs.Lines.{alone, mark_word, plain};
 
 use crate::room::Room;
 use ws_wire::Role;
@@ -57,21 +57,42 @@ impl Mark {
     }
 }
 
-/// Whose stream is shown: the end that sent it, for the remarks on masking, and what stands before each of its lines.
+/// How a line shows a payload.
+#[derive(Clone, Copy, PartialEq, Eq)]
+pub enum DataStyle {
+    /// Its first sixteen bytes, as hexadecimal digits.
+    Hex,
+    /// As text where all of it is text, of a close frame the code as a number; else as `Hex`.
+    Text,
+    /// All of it, as hexadecimal digits.
+    All,
+}
+
+/// Whose stream is shown: the end that sent it, for the remarks on masking, what stands before each of its lines, and
+/// how these show payloads.
 #[derive(Clone, Copy)]
 pub struct Source {
     pub from: Role,
     pub mark: Mark,
+    pub style: DataStyle,
 }
 
 impl Source {
-    /// A stream that is shown alone.
+    /// A stream that is shown alone, by the first bytes of its payloads.
     pub fn plain(from: Role) -> Source
         ensures { result ≡ plain from }
+    {
+        Source::alone(from, DataStyle::Hex)
+    }
+
+    /// A stream that is shown alone, with its payloads in this style.
+    pub fn alone(from: Role, style: DataStyle) -> Source
+        ensures { result ≡ alone from style }
     {
         Source {
             from,
             mark: Mark::Plain,
+            style,
         }
     }
 }

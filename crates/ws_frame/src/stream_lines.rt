@@ -4,6 +4,7 @@ ghost use Rattle.std.specs.Prelude.{◌≡◌, [], length, false, true, OnOk};
 ghost use Rattle.ws_frame.specs.Watching.{has_failed};
 ghost use Rattle.ws_frame.specs.Devices.{watched};
 ghost use Rattle.ws_frame.specs.Lines.{last_line};
+ghost use Rattle.ws_frame.specs.declared.source.DataStyle.TheVariants.{Hex};
 ghost use Rattle.ws_frame.specs.Streaming.{HasShown, HasRoomFor, CanEnd, ShowsMore, ShowsEnd, WritesAll, source_of};
 ghost use Rattle.ws_frame.specs.Streaming.{ShowsByte, EndsWithLine};
 
@@ -14,7 +15,7 @@ use crate::{Source, Watched, WriteFault};
 use std::io::Write;
 
 /// The lines of a stream that comes piece by piece: those of `show`, each written with the piece that makes it certain.
-/// No memory is taken.
+/// Payloads are shown by their first bytes, as digits. No memory is taken.
 #[derive(Drop)]
 pub struct StreamLines {
     run: Run,
@@ -25,6 +26,7 @@ pub struct StreamLines {
 impl StreamLines {
     /// Nothing of the stream has come.
     pub fn new(source: Source) -> StreamLines
+        requires digits { source.style ≡ Hex }
         ensures source { source_of result ≡ source }
         ensures begun { HasShown result [] [] }
     {

@@ -4,12 +4,13 @@ ghost use Rattle.std.specs.Prelude.{◌≡◌, ◌≤◌, ◌+◌, [], ◌++◌,
 ghost use Rattle.ws_frame.specs.Watching.{has_failed};
 ghost use Rattle.ws_frame.specs.Devices.{watched};
 ghost use Rattle.ws_wire.specs.Masking.{masked_payload};
-ghost use Rattle.ws_frame.specs.Lines.{line_with, last_line};
+ghost use Rattle.ws_frame.specs.Lines.{data_word, line_with, last_line};
 ghost use Rattle.ws_frame.specs.InnerShowing.{WritesSome, EndsWith};
 ghost use Rattle.ws_frame.specs.Streaming.{WritesAll};
 
 use crate::first_bytes::FirstBytes;
 use crate::line::{MAX_LINE, push_line};
+use crate::one_line::OneLine;
 use crate::room::{ROOM, Room};
 use crate::showing::{ShowEnd, StreamEnd};
 use crate::{Source, Watched, WriteFault, write_whole};
@@ -27,7 +28,8 @@ pub(crate) fn put_line<W: Write>(
     first: FirstBytes,
 ) -> Result<(), WriteFault>
     requires { has_failed writer.old ≡ false }
-    ensures { WritesSome (lines.old ++ line_with source offset header (masked_payload header.key first)) lines.new
+    ensures { WritesSome (lines.old
+        ++ line_with source offset header (data_word header.len (masked_payload header.key first))) lines.new
         (watched W.contents writer.old writer.new) result }
 {
     make_room(lines, writer)?;
@@ -120,4 +122,13 @@ pub(crate) fn push_last_line(lines: &mut Room, source: Source, end: StreamEnd)
     lines.push(words);
     lines.push_decimal(place);
     lines.push(b"\n");
+}
+
+/// The line for this end of the stream, and no bytes where it has none.
+pub(crate) fn last_line_of(source: Source, end: StreamEnd) -> OneLine
+    ensures { result ≡ last_line source end }
+{
+    let mut room = Room::new();
+    push_last_line(&mut room, source, end);
+    OneLine::of(room.as_slice())
 }

@@ -2,7 +2,7 @@
 use Rattle.std.proofs.Common.{◌≡◌, ℕ, suc, ◌≤◌, List, [], ◌∷◌, ◌++◌, length, take, refl, sym, ap, ◌∙◌, append-nil, arith}
 use Rattle.std.specs.List.{flat_map}
 use Rattle.std.proofs.lemmas.List.{append_cancel_left}
-use Rattle.ws_wire.specs.declared.role.Role.{Role}
+use Rattle.ws_lines.specs.declared.transcript_lines.Showing.{Showing}
 use Rattle.ws_frame.proofs.Fronts.{lines_are_one}
 use Rattle.ws_frame.proofs.Streams.{certain_lines_are_one}
 use Rattle.ws_scripts.specs.declared.transcript.Turn.{Turn}
@@ -41,10 +41,10 @@ cut_is_one : (d : Direction) (turns : List Turn) (a b : List TurnLines) (last ot
 cut_is_one d turns a b last other e (p, are) (q, others) =
     append_cancel_left (lines_in d a) last other ((lines_are_one d.source (bytes_in d turns) p q (lines_in d a ++ last) (lines_in d b ++ other) are others).1 ∙ ap (λ (l : List TurnLines). lines_in d l ++ other) (sym e))
 
-pub text_is_one : (tested : Role) (transcript : Transcript) (text other : List ℕ) → HasTurnLines tested transcript text → HasTurnLines tested transcript other → text ≡ other
-text_is_one tested transcript text other p q =
-    let from = sent_by_tester tested in
-    let to = got_by_tester tested in
+pub text_is_one : (showing : Showing) (transcript : Transcript) (text other : List ℕ) → HasTurnLines showing transcript text → HasTurnLines showing transcript other → text ≡ other
+text_is_one showing transcript text other p q =
+    let from = sent_by_tester showing in
+    let to = got_by_tester showing in
     let turns = transcript.turns in
     let a = p.are_lines in
     let b = q.are_lines in

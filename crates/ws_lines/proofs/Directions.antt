@@ -6,9 +6,9 @@ use Rattle.std.proofs.lemmas.List.{length-append, take-append-le, take_all}
 use Rattle.std.proofs.lemmas.Grind.{flat_map-append}
 use Rattle.ws_wire.specs.Header.{AreBytes}
 use Rattle.ws_frame.specs.declared.source.Source.{Source}
-use Rattle.ws_frame.specs.declared.stream_lines.StreamLines.{StreamLines}
+use Rattle.ws_frame.specs.declared.frame_lines.FrameLines.{FrameLines}
 use Rattle.ws_frame.specs.Lines.{AreCertainLines}
-use Rattle.ws_frame.specs.Streaming.{HasShown, source_of}
+use Rattle.ws_frame.specs.FrameStreaming.{HasTakenFrames, frames_source}
 use Rattle.ws_frame.proofs.Partials.{AreBytes-append}
 use Rattle.ws_frame.proofs.Streams.{certain_lines_go_on}
 use Rattle.ws_scripts.specs.declared.transcript.Turn.{Turn}
@@ -65,15 +65,15 @@ stand_front d turns more lines others e s = λ n le.
 
 -- ---- what a stream has shown
 
-shown_so : (s : StreamLines) (a a' b b' : List ℕ) → a ≡ a' → b ≡ b' → HasShown s a b → HasShown s a' b'
-shown_so s a a' b b' ea eb h = subst (λ (t : List ℕ). HasShown s t b') ea (subst (λ (t : List ℕ). HasShown s a t) eb h)
+shown_so : (s : FrameLines) (a a' b b' : List ℕ) → a ≡ a' → b ≡ b' → HasTakenFrames s a b → HasTakenFrames s a' b'
+shown_so s a a' b b' ea eb h = subst (λ (t : List ℕ). HasTakenFrames s t b') ea (subst (λ (t : List ℕ). HasTakenFrames s a t) eb h)
 
-pub certain_of : (source : Source) (s : StreamLines) (a b : List ℕ) → source_of s ≡ source → HasShown s a b → AreCertainLines source a b
+pub certain_of : (source : Source) (s : FrameLines) (a b : List ℕ) → frames_source s ≡ source → HasTakenFrames s a b → AreCertainLines source a b
 certain_of source s a b e h = subst (λ (r : Source). AreCertainLines r a b) e h.certain
 
 -- a turn more
-pub turn_told : (d : Direction) (old new : StreamLines) (turns : List Turn) (turn : Turn) (lines : List TurnLines) (line : TurnLines) → length lines ≡ length turns → IsToldIn d old turns lines → source_of new ≡ source_of old
-    → HasShown new (bytes_in d turns ++ d.bytes turn) (lines_in d lines ++ d.lines line) → IsToldIn d new (turns ++ turn ∷ []) (lines ++ line ∷ [])
+pub turn_told : (d : Direction) (old new : FrameLines) (turns : List Turn) (turn : Turn) (lines : List TurnLines) (line : TurnLines) → length lines ≡ length turns → IsToldIn d old turns lines → frames_source new ≡ frames_source old
+    → HasTakenFrames new (bytes_in d turns ++ d.bytes turn) (lines_in d lines ++ d.lines line) → IsToldIn d new (turns ++ turn ∷ []) (lines ++ line ∷ [])
 turn_told d old new turns turn lines line each told e shown =
     let all = shown_so new (bytes_in d turns ++ d.bytes turn) (bytes_in d (turns ++ turn ∷ [])) (lines_in d lines ++ d.lines line) (lines_in d (lines ++ line ∷ [])) (sym (one_more d.bytes turns turn)) (sym (one_more d.lines lines line)) shown in
     let source = e ∙ told.source in
@@ -84,7 +84,7 @@ turn_told d old new turns turn lines line each told e shown =
     }
 
 -- nothing more of a stream
-pub shown_nothing : (s : StreamLines) (a b : List ℕ) → HasShown s a b → HasShown s (a ++ []) (b ++ [])
+pub shown_nothing : (s : FrameLines) (a b : List ℕ) → HasTakenFrames s a b → HasTakenFrames s (a ++ []) (b ++ [])
 shown_nothing s a b h = shown_so s a (a ++ []) b (b ++ []) (sym (append-nil a)) (sym (append-nil b)) h
 
 again : {X : Type 0} (f : X → List ℕ) (xs : List X) (x y : X) (more : List ℕ) → f y ≡ f x ++ more → flat_map f (xs ++ x ∷ []) ++ more ≡ flat_map f (xs ++ y ∷ [])
@@ -98,9 +98,9 @@ certain_again d turns turn next lines line other piece more eb el c =
     subst (λ (t : List ℕ). AreCertainLines d.source t (lines_in d (lines ++ other ∷ []))) (again d.bytes turns turn next piece eb)
     (subst (λ (t : List ℕ). AreCertainLines d.source (bytes_in d (turns ++ turn ∷ []) ++ piece) t) (again d.lines lines line other more el) c)
 
-pub more_told : (d : Direction) (old new : StreamLines) (turns : List Turn) (turn next : Turn) (lines : List TurnLines) (line other : TurnLines) (piece more : List ℕ) → length lines ≡ length turns
-    → IsToldIn d old (turns ++ turn ∷ []) (lines ++ line ∷ []) → source_of new ≡ source_of old → d.bytes next ≡ d.bytes turn ++ piece → d.lines other ≡ d.lines line ++ more
-    → HasShown new (bytes_in d (turns ++ turn ∷ []) ++ piece) (lines_in d (lines ++ line ∷ []) ++ more) → IsToldIn d new (turns ++ next ∷ []) (lines ++ other ∷ [])
+pub more_told : (d : Direction) (old new : FrameLines) (turns : List Turn) (turn next : Turn) (lines : List TurnLines) (line other : TurnLines) (piece more : List ℕ) → length lines ≡ length turns
+    → IsToldIn d old (turns ++ turn ∷ []) (lines ++ line ∷ []) → frames_source new ≡ frames_source old → d.bytes next ≡ d.bytes turn ++ piece → d.lines other ≡ d.lines line ++ more
+    → HasTakenFrames new (bytes_in d (turns ++ turn ∷ []) ++ piece) (lines_in d (lines ++ line ∷ []) ++ more) → IsToldIn d new (turns ++ next ∷ []) (lines ++ other ∷ [])
 more_told d old new turns turn next lines line other piece more each told e eb el shown =
     let all = shown_so new (bytes_in d (turns ++ turn ∷ []) ++ piece) (bytes_in d (turns ++ next ∷ [])) (lines_in d (lines ++ line ∷ []) ++ more) (lines_in d (lines ++ other ∷ []))
     (again d.bytes turns turn next piece eb) (again d.lines lines line other more el) shown in

@@ -2,14 +2,14 @@
 use Rattle.std.proofs.Common.{◌≡◌, ℕ, zero, suc, ◌+◌, ◌^◌, ◌<◌, List, [], ◌∷◌, ◌++◌, length, Option, refl, sym, ap, ◌∙◌, append_assoc, append-nil, arith, subst}
 use Rattle.std.specs.Io.KnownBytes.{Appends}
 use Rattle.std.proofs.KnownBytes.{Appends-trans}
-use Rattle.ws_wire.specs.declared.role.Role.{Role}
+use Rattle.ws_lines.specs.declared.transcript_lines.Showing.{Showing}
 use Rattle.ws_frame.specs.declared.source.Source.{Source}
 use Rattle.ws_frame.specs.declared.showing.StreamEnd.{StreamEnd}
-use Rattle.ws_frame.specs.declared.stream_lines.StreamLines.{StreamLines}
+use Rattle.ws_frame.specs.declared.frame_lines.FrameLines.{FrameLines}
 use Rattle.ws_frame.specs.Watching.{AppendsFront}
 use Rattle.ws_frame.specs.Lines.{AreCertainLines, AreLinesOf}
 use Rattle.ws_frame.specs.InnerShowing.{BeginsLines}
-use Rattle.ws_frame.specs.Streaming.{HasShown, source_of}
+use Rattle.ws_frame.specs.FrameStreaming.{HasTakenFrames, frames_source}
 use Rattle.ws_scripts.specs.declared.transcript.Turn.{Turn}
 use Rattle.ws_scripts.specs.declared.transcript.Ended.{Ended}
 use Rattle.ws_lines.specs.declared.transcript_lines.TranscriptLines.{TranscriptLines}
@@ -20,33 +20,33 @@ use Rattle.ws_lines.proofs.Texts.{text_of_begun, text_of_got}
 
 -- ---- a turn begins
 
-pub turn_is_told : (tested : Role) (old : TranscriptLines) (new : StreamLines) (turns : List Turn) (written sent more : List ℕ) (h : HasToldTurns tested old turns written) → source_of new ≡ source_of old.sent
-    → HasShown new (bytes_in (sent_by_tester tested) turns ++ sent) (lines_in (sent_by_tester tested) h.lines ++ more)
-    → HasToldTurns tested (record { turns = old.turns + 1; sent = new; got = old.got }) (turns ++ begun_turn sent ∷ []) (written ++ (turn_line (old.turns + 1) ++ more))
-turn_is_told tested old new turns written sent more h e shown =
+pub turn_is_told : (showing : Showing) (old : TranscriptLines) (new : FrameLines) (turns : List Turn) (written sent more : List ℕ) (h : HasToldTurns showing old turns written) → frames_source new ≡ frames_source old.sent
+    → HasTakenFrames new (bytes_in (sent_by_tester showing) turns ++ sent) (lines_in (sent_by_tester showing) h.lines ++ more)
+    → HasToldTurns showing (record { turns = old.turns + 1; sent = new; got = old.got }) (turns ++ begun_turn sent ∷ []) (written ++ (turn_line (old.turns + 1) ++ more))
+turn_is_told showing old new turns written sent more h e shown =
     let line : TurnLines = record { sent = more; got = [] } in
-    let nothing = shown_nothing old.got (bytes_in (got_by_tester tested) turns) (lines_in (got_by_tester tested) h.lines) h.got.shown in
+    let nothing = shown_nothing old.got (bytes_in (got_by_tester showing) turns) (lines_in (got_by_tester showing) h.lines) h.got.shown in
     record {
       lines = h.lines ++ line ∷ [];
       one_each = omega (arith, h.one_each, length-one-more h.lines line, length-one-more turns (begun_turn sent));
       all = ap (λ (t : List ℕ). t ++ (turn_line (old.turns + 1) ++ more)) h.all ∙ sym (text_of_begun h.lines more (old.turns + 1) (omega (arith, h.count, h.one_each)));
       count = omega (arith, h.count, length-one-more turns (begun_turn sent));
-      sent = turn_told (sent_by_tester tested) old.sent new turns (begun_turn sent) h.lines line h.one_each h.sent e shown;
-      got = turn_told (got_by_tester tested) old.got old.got turns (begun_turn sent) h.lines line h.one_each h.got refl nothing;
+      sent = turn_told (sent_by_tester showing) old.sent new turns (begun_turn sent) h.lines line h.one_each h.sent e shown;
+      got = turn_told (got_by_tester showing) old.got old.got turns (begun_turn sent) h.lines line h.one_each h.got refl nothing;
     }
 
-pub begins_turn : (tested : Role) (old : TranscriptLines) (turns : List Turn) (written sent next front behind : List ℕ) (h : HasToldTurns tested old turns written)
-    → AreCertainLines (sent_by_tester tested).source (bytes_in (sent_by_tester tested) turns ++ sent) (lines_in (sent_by_tester tested) h.lines ++ next)
-    → written ++ (turn_line (old.turns + 1) ++ next) ≡ front ++ behind → BeginsTurns tested (turns ++ begun_turn sent ∷ []) front
-begins_turn tested old turns written sent next front behind h certain e =
+pub begins_turn : (showing : Showing) (old : TranscriptLines) (turns : List Turn) (written sent next front behind : List ℕ) (h : HasToldTurns showing old turns written)
+    → AreCertainLines (sent_by_tester showing).source (bytes_in (sent_by_tester showing) turns ++ sent) (lines_in (sent_by_tester showing) h.lines ++ next)
+    → written ++ (turn_line (old.turns + 1) ++ next) ≡ front ++ behind → BeginsTurns showing (turns ++ begun_turn sent ∷ []) front
+begins_turn showing old turns written sent next front behind h certain e =
     let line : TurnLines = record { sent = next; got = [] } in
-    let d = got_by_tester tested in
+    let d = got_by_tester showing in
     let nothing = certain_of d.source old.got (bytes_in d turns ++ []) (lines_in d h.lines ++ []) h.got.source (shown_nothing old.got (bytes_in d turns) (lines_in d h.lines) h.got.shown) in
     record {
       lines = h.lines ++ line ∷ [];
       are_lines = record {
         one_each = omega (arith, h.one_each, length-one-more h.lines line, length-one-more turns (begun_turn sent));
-        sent = stand_more (sent_by_tester tested) turns (begun_turn sent) h.lines line h.one_each h.sent.stand (certain_turn (sent_by_tester tested) turns (begun_turn sent) h.lines line certain);
+        sent = stand_more (sent_by_tester showing) turns (begun_turn sent) h.lines line h.one_each h.sent.stand (certain_turn (sent_by_tester showing) turns (begun_turn sent) h.lines line certain);
         got = stand_more d turns (begun_turn sent) h.lines line h.one_each h.got.stand (certain_turn d turns (begun_turn sent) h.lines line nothing);
       };
       more = behind;
@@ -61,17 +61,17 @@ certain_of_begun source other bytes lines more e b =
 
 -- ---- more is got
 
-pub got_is_told : (tested : Role) (old : TranscriptLines) (new : StreamLines) (turns : List Turn) (turn : Turn) (written piece more : List ℕ) (h : HasToldTurns tested old (turns ++ turn ∷ []) written) → source_of new ≡ source_of old.got
-    → HasShown new (bytes_in (got_by_tester tested) (turns ++ turn ∷ []) ++ piece) (lines_in (got_by_tester tested) h.lines ++ more)
-    → HasToldTurns tested (record { turns = old.turns; sent = old.sent; got = new }) (turns ++ with_got turn piece ∷ []) (written ++ more)
-got_is_told tested old new turns turn written piece more h e shown =
+pub got_is_told : (showing : Showing) (old : TranscriptLines) (new : FrameLines) (turns : List Turn) (turn : Turn) (written piece more : List ℕ) (h : HasToldTurns showing old (turns ++ turn ∷ []) written) → frames_source new ≡ frames_source old.got
+    → HasTakenFrames new (bytes_in (got_by_tester showing) (turns ++ turn ∷ []) ++ piece) (lines_in (got_by_tester showing) h.lines ++ more)
+    → HasToldTurns showing (record { turns = old.turns; sent = old.sent; got = new }) (turns ++ with_got turn piece ∷ []) (written ++ more)
+got_is_told showing old new turns turn written piece more h e shown =
     let s = some_last h.lines (length turns) (h.one_each ∙ length-one-more turns turn) in
     let other : TurnLines = record { sent = s.last.sent; got = s.last.got ++ more } in
-    let from = sent_by_tester tested in
-    let to = got_by_tester tested in
+    let from = sent_by_tester showing in
+    let to = got_by_tester showing in
     let sent = subst (λ (l : List TurnLines). IsToldIn from old.sent (turns ++ turn ∷ []) l) s.parts h.sent in
     let got = subst (λ (l : List TurnLines). IsToldIn to old.got (turns ++ turn ∷ []) l) s.parts h.got in
-    let next = subst (λ (l : List TurnLines). HasShown new (bytes_in to (turns ++ turn ∷ []) ++ piece) (lines_in to l ++ more)) s.parts shown in
+    let next = subst (λ (l : List TurnLines). HasTakenFrames new (bytes_in to (turns ++ turn ∷ []) ++ piece) (lines_in to l ++ more)) s.parts shown in
     record {
       lines = s.front ++ other ∷ [];
       one_each = omega (arith, s.count, length-one-more s.front other, length-one-more turns (with_got turn piece));
@@ -82,14 +82,14 @@ got_is_told tested old new turns turn written piece more h e shown =
       got = more_told to old.got new turns turn (with_got turn piece) s.front s.last other piece more s.count got e refl refl next;
     }
 
-pub begins_got : (tested : Role) (old : TranscriptLines) (turns : List Turn) (turn : Turn) (written piece next front behind : List ℕ) (h : HasToldTurns tested old (turns ++ turn ∷ []) written)
-    → AreCertainLines (got_by_tester tested).source (bytes_in (got_by_tester tested) (turns ++ turn ∷ []) ++ piece) (lines_in (got_by_tester tested) h.lines ++ next)
-    → written ++ next ≡ front ++ behind → BeginsTurns tested (turns ++ with_got turn piece ∷ []) front
-begins_got tested old turns turn written piece next front behind h certain e =
+pub begins_got : (showing : Showing) (old : TranscriptLines) (turns : List Turn) (turn : Turn) (written piece next front behind : List ℕ) (h : HasToldTurns showing old (turns ++ turn ∷ []) written)
+    → AreCertainLines (got_by_tester showing).source (bytes_in (got_by_tester showing) (turns ++ turn ∷ []) ++ piece) (lines_in (got_by_tester showing) h.lines ++ next)
+    → written ++ next ≡ front ++ behind → BeginsTurns showing (turns ++ with_got turn piece ∷ []) front
+begins_got showing old turns turn written piece next front behind h certain e =
     let s = some_last h.lines (length turns) (h.one_each ∙ length-one-more turns turn) in
     let other : TurnLines = record { sent = s.last.sent; got = s.last.got ++ next } in
-    let from = sent_by_tester tested in
-    let to = got_by_tester tested in
+    let from = sent_by_tester showing in
+    let to = got_by_tester showing in
     let then = with_got turn piece in
     let sent = subst (λ (l : List TurnLines). IsToldIn from old.sent (turns ++ turn ∷ []) l) s.parts h.sent in
     let got = subst (λ (l : List TurnLines). IsToldIn to old.got (turns ++ turn ∷ []) l) s.parts h.got in
@@ -109,21 +109,21 @@ begins_got tested old turns turn written piece next front behind h certain e =
 
 -- where no turn has begun, none was told, and as many bytes can be got as there is room for
 pub first_room : (count : ℕ) (old : TranscriptLines) → old.turns ≡ 0 → HasRoomForGot count old
-    → (tested : Role) × (written : List ℕ) × HasToldTurns tested old [] written × (count < 2 ^ 64)
-first_room count old none (tested, [], written, h, room) =
-    let fits : 0 + count < 2 ^ 64 = room in (tested, written, h, omega (arith, fits))
-first_room count old none (tested, turn ∷ turns, written, h, room) = absurd (omega (arith, none, h.count))
+    → (showing : Showing) × (written : List ℕ) × HasToldTurns showing old [] written × (count < 2 ^ 64)
+first_room count old none (showing, [], written, h, room) =
+    let fits : 0 + count < 2 ^ 64 = room in (showing, written, h, omega (arith, fits))
+first_room count old none (showing, turn ∷ turns, written, h, room) = absurd (omega (arith, none, h.count))
 
 -- ---- the end
 
-pub are_turn_lines : (tested : Role) (old : TranscriptLines) (turns : List Turn) (written : List ℕ) (h : HasToldTurns tested old turns written) → AreTurnLines tested turns h.lines
-are_turn_lines tested old turns written h = record { one_each = h.one_each; sent = h.sent.stand; got = h.got.stand }
+pub are_turn_lines : (showing : Showing) (old : TranscriptLines) (turns : List Turn) (written : List ℕ) (h : HasToldTurns showing old turns written) → AreTurnLines showing turns h.lines
+are_turn_lines showing old turns written h = record { one_each = h.one_each; sent = h.sent.stand; got = h.got.stand }
 
-pub all_is_told : (tested : Role) (old : TranscriptLines) (turns : List Turn) (ended : Ended) (written sent_cut got_cut : List ℕ) (h : HasToldTurns tested old turns written) → IsCutLine (sent_by_tester tested) turns h.lines sent_cut
-    → IsCutLine (got_by_tester tested) turns h.lines got_cut → HasTurnLines tested (record { turns = turns; ended = ended }) (written ++ (sent_cut ++ (got_cut ++ end_line ended)))
-all_is_told tested old turns ended written sent_cut got_cut h sent got = record {
+pub all_is_told : (showing : Showing) (old : TranscriptLines) (turns : List Turn) (ended : Ended) (written sent_cut got_cut : List ℕ) (h : HasToldTurns showing old turns written) → IsCutLine (sent_by_tester showing) turns h.lines sent_cut
+    → IsCutLine (got_by_tester showing) turns h.lines got_cut → HasTurnLines showing (record { turns = turns; ended = ended }) (written ++ (sent_cut ++ (got_cut ++ end_line ended)))
+all_is_told showing old turns ended written sent_cut got_cut h sent got = record {
   lines = h.lines;
-  are_lines = are_turn_lines tested old turns written h;
+  are_lines = are_turn_lines showing old turns written h;
   sent_cut = sent_cut;
   is_sent_cut = sent;
   got_cut = got_cut;
@@ -145,17 +145,17 @@ begun_behind old mid new a b wrote (front, more, e, appends) =
 
 -- ---- the beginning
 
-no_turn : (d : Direction) (stream : StreamLines) → source_of stream ≡ d.source → HasShown stream [] [] → StandInTheirTurns d [] []
+no_turn : (d : Direction) (stream : FrameLines) → frames_source stream ≡ d.source → HasTakenFrames stream [] [] → StandInTheirTurns d [] []
 no_turn d stream e shown zero le = certain_of d.source stream [] [] e shown
 no_turn d stream e shown (suc n) le = absurd (omega (arith, le))
 
-pub nothing_told : (tested : Role) (sent got : StreamLines) → source_of sent ≡ (sent_by_tester tested).source → HasShown sent [] [] → source_of got ≡ (got_by_tester tested).source → HasShown got [] []
-    → HasToldTurns tested (record { turns = 0; sent = sent; got = got }) [] []
-nothing_told tested sent got es shown_sent eg shown_got = record {
+pub nothing_told : (showing : Showing) (sent got : FrameLines) → frames_source sent ≡ (sent_by_tester showing).source → HasTakenFrames sent [] [] → frames_source got ≡ (got_by_tester showing).source → HasTakenFrames got [] []
+    → HasToldTurns showing (record { turns = 0; sent = sent; got = got }) [] []
+nothing_told showing sent got es shown_sent eg shown_got = record {
   lines = [];
   one_each = refl;
   all = refl;
   count = refl;
-  sent = record { source = es; stand = no_turn (sent_by_tester tested) sent es shown_sent; shown = shown_sent };
-  got = record { source = eg; stand = no_turn (got_by_tester tested) got eg shown_got; shown = shown_got };
+  sent = record { source = es; stand = no_turn (sent_by_tester showing) sent es shown_sent; shown = shown_sent };
+  got = record { source = eg; stand = no_turn (got_by_tester showing) got eg shown_got; shown = shown_got };
 }

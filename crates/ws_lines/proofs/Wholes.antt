@@ -7,7 +7,7 @@ use Rattle.std.specs.Io.KnownBytes.{Appends}
 use Rattle.ws_frame.specs.Watching.{AppendsFront}
 use Rattle.ws_lines.specs.declared.transcript_lines.TranscriptLines.{TranscriptLines}
 use Rattle.std.proofs.lemmas.Grind.{flat_map-append}
-use Rattle.ws_wire.specs.declared.role.Role.{Role}
+use Rattle.ws_lines.specs.declared.transcript_lines.Showing.{Showing}
 use Rattle.ws_wire.specs.Header.{AreBytes}
 use Rattle.ws_wire.proofs.Frames.{no_wire_without_header}
 use Rattle.ws_wire.proofs.Splits.{all-append}
@@ -26,23 +26,23 @@ use Rattle.ws_lines.proofs.Directions.{some_last, length-one-more, certain_so_fa
 use Rattle.ws_lines.proofs.Texts.{text-one-more, turn_text, text_of_got}
 
 -- the bytes of a direction
-bytes_of : (tested : Role) (turns : List Turn) → AllByRecursion AreOfBytes turns → AreBytes (bytes_in (sent_by_tester tested) turns) × AreBytes (bytes_in (got_by_tester tested) turns)
-bytes_of tested turns all = (bytes_of_turns (sent_by_tester tested) (λ turn are. are.0) turns all, bytes_of_turns (got_by_tester tested) (λ turn are. are.1) turns all)
+bytes_of : (showing : Showing) (turns : List Turn) → AllByRecursion AreOfBytes turns → AreBytes (bytes_in (sent_by_tester showing) turns) × AreBytes (bytes_in (got_by_tester showing) turns)
+bytes_of showing turns all = (bytes_of_turns (sent_by_tester showing) (λ turn are. are.0) turns all, bytes_of_turns (got_by_tester showing) (λ turn are. are.1) turns all)
 
 -- ---- one turn more
 
 -- lines of more turns, whose text goes on from that of fewer
-pub record GoesOn (tested : Role) (turns : List Turn) (text : List ℕ) : Type 0 where
+pub record GoesOn (showing : Showing) (turns : List Turn) (text : List ℕ) : Type 0 where
   pub lines : List TurnLines
-  pub are : AreTurnLines tested turns lines
+  pub are : AreTurnLines showing turns lines
   pub more : List ℕ
   pub goes_on : turns_text 1 lines ≡ text ++ more
 
-pub turn_goes_on : (tested : Role) (turns : List Turn) (turn : Turn) (lines : List TurnLines) → AreTurnLines tested turns lines → AllByRecursion AreOfBytes turns → AreOfBytes turn → GoesOn tested (turns ++ turn ∷ []) (turns_text 1 lines)
-turn_goes_on tested turns turn lines a all one =
-    let from = sent_by_tester tested in
-    let to = got_by_tester tested in
-    let (are_sent, are_got) = bytes_of tested turns all in
+pub turn_goes_on : (showing : Showing) (turns : List Turn) (turn : Turn) (lines : List TurnLines) → AreTurnLines showing turns lines → AllByRecursion AreOfBytes turns → AreOfBytes turn → GoesOn showing (turns ++ turn ∷ []) (turns_text 1 lines)
+turn_goes_on showing turns turn lines a all one =
+    let from = sent_by_tester showing in
+    let to = got_by_tester showing in
+    let (are_sent, are_got) = bytes_of showing turns all in
     let (sent, certain_sent) = some_more from turns lines turn.sent are_sent one.0 a.one_each a.sent in
     let (got, certain_got) = some_more to turns lines turn.got are_got one.1 a.one_each a.got in
     let line : TurnLines = record { sent = sent; got = got } in
@@ -58,18 +58,18 @@ turn_goes_on tested turns turn lines a all one =
     }
 
 -- in the last turn something is got, where nothing was
-pub got_goes_on : (tested : Role) (turns : List Turn) (turn : Turn) (lines : List TurnLines) → AreTurnLines tested (turns ++ begun_turn turn.sent ∷ []) lines → AllByRecursion AreOfBytes turns → AreOfBytes turn
-    → GoesOn tested (turns ++ turn ∷ []) (turns_text 1 lines)
-got_goes_on tested turns turn lines a all one =
-    let from = sent_by_tester tested in
-    let to = got_by_tester tested in
+pub got_goes_on : (showing : Showing) (turns : List Turn) (turn : Turn) (lines : List TurnLines) → AreTurnLines showing (turns ++ begun_turn turn.sent ∷ []) lines → AllByRecursion AreOfBytes turns → AreOfBytes turn
+    → GoesOn showing (turns ++ turn ∷ []) (turns_text 1 lines)
+got_goes_on showing turns turn lines a all one =
+    let from = sent_by_tester showing in
+    let to = got_by_tester showing in
     let begun = begun_turn turn.sent in
     let s = some_last lines (length turns) (a.one_each ∙ length-one-more turns begun) in
     let parted = s.front ++ s.last ∷ [] in
     let sent = subst (λ (l : List TurnLines). StandInTheirTurns from (turns ++ begun ∷ []) l) s.parts a.sent in
     let got = subst (λ (l : List TurnLines). StandInTheirTurns to (turns ++ begun ∷ []) l) s.parts a.got in
     let each : length parted ≡ length (turns ++ begun ∷ []) = omega (arith, s.count, length-one-more s.front s.last, length-one-more turns begun) in
-    let (are_sent, are_got) = bytes_of tested (turns ++ begun ∷ []) (all-append AreOfBytes turns (begun ∷ []) all ((one.0, λ i. omega arith), tt)) in
+    let (are_sent, are_got) = bytes_of showing (turns ++ begun ∷ []) (all-append AreOfBytes turns (begun ∷ []) all ((one.0, λ i. omega arith), tt)) in
     let (more, certain_got) = some_more to (turns ++ begun ∷ []) parted turn.got are_got one.1 each got in
     let other : TurnLines = record { sent = s.last.sent; got = s.last.got ++ more } in
     let certain_sent = certain_so_far from (turns ++ begun ∷ []) parted each sent in
@@ -88,15 +88,15 @@ got_goes_on tested turns turn lines a all one =
     }
 
 -- any turns follow
-pub turns_go_on : (tested : Role) (turns after : List Turn) (lines : List TurnLines) → AreTurnLines tested turns lines → AllByRecursion AreOfBytes turns → AllByRecursion AreOfBytes after → GoesOn tested (turns ++ after) (turns_text 1 lines)
-turns_go_on tested turns [] lines a all more =
-    record { lines = lines; are = subst (λ (l : List Turn). AreTurnLines tested l lines) (sym (append-nil turns)) a; more = []; goes_on = sym (append-nil (turns_text 1 lines)) }
-turns_go_on tested turns (turn ∷ after) lines a all (one, more) =
-    let s = turn_goes_on tested turns turn lines a all one in
-    let t = turns_go_on tested (turns ++ turn ∷ []) after s.lines s.are (all-append AreOfBytes turns (turn ∷ []) all (one, tt)) more in
+pub turns_go_on : (showing : Showing) (turns after : List Turn) (lines : List TurnLines) → AreTurnLines showing turns lines → AllByRecursion AreOfBytes turns → AllByRecursion AreOfBytes after → GoesOn showing (turns ++ after) (turns_text 1 lines)
+turns_go_on showing turns [] lines a all more =
+    record { lines = lines; are = subst (λ (l : List Turn). AreTurnLines showing l lines) (sym (append-nil turns)) a; more = []; goes_on = sym (append-nil (turns_text 1 lines)) }
+turns_go_on showing turns (turn ∷ after) lines a all (one, more) =
+    let s = turn_goes_on showing turns turn lines a all one in
+    let t = turns_go_on showing (turns ++ turn ∷ []) after s.lines s.are (all-append AreOfBytes turns (turn ∷ []) all (one, tt)) more in
     record {
       lines = t.lines;
-      are = subst (λ (l : List Turn). AreTurnLines tested l t.lines) (append_assoc turns (turn ∷ []) after) t.are;
+      are = subst (λ (l : List Turn). AreTurnLines showing l t.lines) (append_assoc turns (turn ∷ []) after) t.are;
       more = s.more ++ t.more;
       goes_on = t.goes_on ∙ ap (λ (l : List ℕ). l ++ t.more) s.goes_on ∙ append_assoc (turns_text 1 lines) s.more t.more;
     }
@@ -104,16 +104,16 @@ turns_go_on tested turns (turn ∷ after) lines a all (one, more) =
 -- ---- all lines
 
 -- a text of lines of a transcript that begins so
-pub record SomeText (tested : Role) (transcript : Transcript) (front : List ℕ) : Type 0 where
+pub record SomeText (showing : Showing) (transcript : Transcript) (front : List ℕ) : Type 0 where
   pub text : List ℕ
-  pub has : HasTurnLines tested transcript text
+  pub has : HasTurnLines showing transcript text
   pub more : List ℕ
   pub begins : text ≡ front ++ more
 
-pub turns_end : (tested : Role) (turns : List Turn) (ended : Ended) (lines : List TurnLines) → AreTurnLines tested turns lines → SomeText tested (record { turns = turns; ended = ended }) (turns_text 1 lines)
-turns_end tested turns ended lines a =
-    let from = sent_by_tester tested in
-    let to = got_by_tester tested in
+pub turns_end : (showing : Showing) (turns : List Turn) (ended : Ended) (lines : List TurnLines) → AreTurnLines showing turns lines → SomeText showing (record { turns = turns; ended = ended }) (turns_text 1 lines)
+turns_end showing turns ended lines a =
+    let from = sent_by_tester showing in
+    let to = got_by_tester showing in
     let (sent_end, sent_cut, sent) = certain_lines_end from.source (bytes_in from turns) (lines_in from lines) (certain_so_far from turns lines a.one_each a.sent) in
     let (got_end, got_cut, got) = certain_lines_end to.source (bytes_in to turns) (lines_in to lines) (certain_so_far to turns lines a.one_each a.got) in
     let last = sent_cut ++ (got_cut ++ end_line ended) in
@@ -124,31 +124,31 @@ turns_end tested turns ended lines a =
       begins = refl;
     }
 
-text_goes_on : (tested : Role) (transcript : Transcript) (front between text more : List ℕ) (s : SomeText tested transcript text) → text ≡ front ++ between → SomeText tested transcript front
-text_goes_on tested transcript front between text more s e =
+text_goes_on : (showing : Showing) (transcript : Transcript) (front between text more : List ℕ) (s : SomeText showing transcript text) → text ≡ front ++ between → SomeText showing transcript front
+text_goes_on showing transcript front between text more s e =
     record { text = s.text; has = s.has; more = between ++ s.more; begins = s.begins ∙ ap (λ (t : List ℕ). t ++ s.more) e ∙ append_assoc front between s.more }
 
 -- what begins the lines of turns begins those of a transcript that goes on from them
-pub begun_so_far : (tested : Role) (turns after : List Turn) (ended : Ended) (front : List ℕ) → BeginsTurns tested turns front → AllByRecursion AreOfBytes turns → AllByRecursion AreOfBytes after
-    → SomeText tested (record { turns = turns ++ after; ended = ended }) front
-begun_so_far tested turns after ended front b all more =
-    let s = turns_go_on tested turns after b.lines b.are_lines all more in
-    let t = turns_end tested (turns ++ after) ended s.lines s.are in
-    text_goes_on tested (record { turns = turns ++ after; ended = ended }) front (b.more ++ s.more) (turns_text 1 s.lines) [] t
+pub begun_so_far : (showing : Showing) (turns after : List Turn) (ended : Ended) (front : List ℕ) → BeginsTurns showing turns front → AllByRecursion AreOfBytes turns → AllByRecursion AreOfBytes after
+    → SomeText showing (record { turns = turns ++ after; ended = ended }) front
+begun_so_far showing turns after ended front b all more =
+    let s = turns_go_on showing turns after b.lines b.are_lines all more in
+    let t = turns_end showing (turns ++ after) ended s.lines s.are in
+    text_goes_on showing (record { turns = turns ++ after; ended = ended }) front (b.more ++ s.more) (turns_text 1 s.lines) [] t
     (s.goes_on ∙ ap (λ (l : List ℕ). l ++ s.more) b.begins ∙ append_assoc front b.more s.more)
 
-pub begun_before_got : (tested : Role) (turns after : List Turn) (turn : Turn) (ended : Ended) (front : List ℕ) → BeginsTurns tested (turns ++ begun_turn turn.sent ∷ []) front → AllByRecursion AreOfBytes turns → AreOfBytes turn
-    → AllByRecursion AreOfBytes after → SomeText tested (record { turns = (turns ++ turn ∷ []) ++ after; ended = ended }) front
-begun_before_got tested turns after turn ended front b all one more =
-    let s = got_goes_on tested turns turn b.lines b.are_lines all one in
-    begun_so_far tested (turns ++ turn ∷ []) after ended front (record { lines = s.lines; are_lines = s.are; more = b.more ++ s.more; begins = s.goes_on ∙ ap (λ (l : List ℕ). l ++ s.more) b.begins ∙ append_assoc front b.more s.more })
+pub begun_before_got : (showing : Showing) (turns after : List Turn) (turn : Turn) (ended : Ended) (front : List ℕ) → BeginsTurns showing (turns ++ begun_turn turn.sent ∷ []) front → AllByRecursion AreOfBytes turns → AreOfBytes turn
+    → AllByRecursion AreOfBytes after → SomeText showing (record { turns = (turns ++ turn ∷ []) ++ after; ended = ended }) front
+begun_before_got showing turns after turn ended front b all one more =
+    let s = got_goes_on showing turns turn b.lines b.are_lines all one in
+    begun_so_far showing (turns ++ turn ∷ []) after ended front (record { lines = s.lines; are_lines = s.are; more = b.more ++ s.more; begins = s.goes_on ∙ ap (λ (l : List ℕ). l ++ s.more) b.begins ∙ append_assoc front b.more s.more })
     (all-append AreOfBytes turns (turn ∷ []) all (one, tt)) more
 
 -- what begins the first turn, before anything is got, begins it with that
-pub begins_first : (tested : Role) (piece front : List ℕ) → AreBytes piece
-    → BeginsTurns tested (begun_turn [] ∷ []) front → BeginsTurns tested (got_first piece ∷ []) front
-begins_first tested piece front are b =
-    let s = got_goes_on tested [] (got_first piece) b.lines b.are_lines tt (λ i. omega arith, are) in
+pub begins_first : (showing : Showing) (piece front : List ℕ) → AreBytes piece
+    → BeginsTurns showing (begun_turn [] ∷ []) front → BeginsTurns showing (got_first piece ∷ []) front
+begins_first showing piece front are b =
+    let s = got_goes_on showing [] (got_first piece) b.lines b.are_lines tt (λ i. omega arith, are) in
     record {
       lines = s.lines;
       are_lines = s.are;
@@ -171,10 +171,10 @@ no_turns : (d : Direction) → StandInTheirTurns d [] []
 no_turns d zero le = nothing_certain d.source
 no_turns d (suc n) le = absurd (omega (arith, le))
 
-pub some_text : (tested : Role) (transcript : Transcript) → AllByRecursion AreOfBytes transcript.turns → (text : List ℕ) × HasTurnLines tested transcript text
-some_text tested transcript all =
-    let none : AreTurnLines tested [] [] = record { one_each = refl; sent = no_turns (sent_by_tester tested); got = no_turns (got_by_tester tested) } in
-    let s = begun_so_far tested [] transcript.turns transcript.ended [] (record { lines = []; are_lines = none; more = []; begins = refl }) tt all in
+pub some_text : (showing : Showing) (transcript : Transcript) → AllByRecursion AreOfBytes transcript.turns → (text : List ℕ) × HasTurnLines showing transcript text
+some_text showing transcript all =
+    let none : AreTurnLines showing [] [] = record { one_each = refl; sent = no_turns (sent_by_tester showing); got = no_turns (got_by_tester showing) } in
+    let s = begun_so_far showing [] transcript.turns transcript.ended [] (record { lines = []; are_lines = none; more = []; begins = refl }) tt all in
     (s.text, s.has)
 
 -- ---- the turns of a list
@@ -216,26 +216,26 @@ turn_is : (turn : Turn) (sent got : List ℕ) → sent ≡ turn.sent → got ≡
 turn_is turn sent got s g = ap (λ (t : List ℕ). turn_with t got) s ∙ ap (λ (t : List ℕ). turn_with turn.sent t) g
 
 -- a turn of the transcript was told
-pub turn_in_place : (tested : Role) (told : TranscriptLines) (turns : List Turn) (i : ℕ) (turn : Turn) (sent got written : List ℕ) → i < length turns → turn ≡ get_or turns i turn → sent ≡ turn.sent → got ≡ turn.got
-    → HasToldTurns tested told (take i turns ++ with_got (begun_turn sent) got ∷ []) written → HasToldTurns tested told (take (i + 1) turns) written
-turn_in_place tested told turns i turn sent got written less is s g h =
-    subst (λ (l : List Turn). HasToldTurns tested told l written) (ap (λ (t : Turn). take i turns ++ t ∷ []) (turn_is turn sent got s g) ∙ sym (take_one turns i turn less is)) h
+pub turn_in_place : (showing : Showing) (told : TranscriptLines) (turns : List Turn) (i : ℕ) (turn : Turn) (sent got written : List ℕ) → i < length turns → turn ≡ get_or turns i turn → sent ≡ turn.sent → got ≡ turn.got
+    → HasToldTurns showing told (take i turns ++ with_got (begun_turn sent) got ∷ []) written → HasToldTurns showing told (take (i + 1) turns) written
+turn_in_place showing told turns i turn sent got written less is s g h =
+    subst (λ (l : List Turn). HasToldTurns showing told l written) (ap (λ (t : Turn). take i turns ++ t ∷ []) (turn_is turn sent got s g) ∙ sym (take_one turns i turn less is)) h
 
 -- a beginning of the lines up to a turn, before anything is got in it, and after that, begins the lines of the transcript
-pub text_before_got : (tested : Role) (turns all_turns : List Turn) (i : ℕ) (turn : Turn) (ended : Ended) (sent front : List ℕ) → i < length turns → turn ≡ get_or turns i turn → sent ≡ turn.sent → turns ≡ all_turns
-    → AllByRecursion AreOfBytes all_turns → BeginsTurns tested (take i turns ++ begun_turn sent ∷ []) front → SomeText tested (record { turns = all_turns; ended = ended }) front
-text_before_got tested turns all_turns i turn ended sent front less is s e all b =
+pub text_before_got : (showing : Showing) (turns all_turns : List Turn) (i : ℕ) (turn : Turn) (ended : Ended) (sent front : List ℕ) → i < length turns → turn ≡ get_or turns i turn → sent ≡ turn.sent → turns ≡ all_turns
+    → AllByRecursion AreOfBytes all_turns → BeginsTurns showing (take i turns ++ begun_turn sent ∷ []) front → SomeText showing (record { turns = all_turns; ended = ended }) front
+text_before_got showing turns all_turns i turn ended sent front less is s e all b =
     let (before, one, after) = bytes_around turns i turn less is (subst (λ (l : List Turn). AllByRecursion AreOfBytes l) (sym e) all) in
-    let begun = subst (λ (t : List ℕ). BeginsTurns tested (take i turns ++ begun_turn t ∷ []) front) s b in
-    subst (λ (l : List Turn). SomeText tested (record { turns = l; ended = ended }) front) (all_around turns i turn less is ∙ e) (begun_before_got tested (take i turns) (drop (i + 1) turns) turn ended front begun before one after)
+    let begun = subst (λ (t : List ℕ). BeginsTurns showing (take i turns ++ begun_turn t ∷ []) front) s b in
+    subst (λ (l : List Turn). SomeText showing (record { turns = l; ended = ended }) front) (all_around turns i turn less is ∙ e) (begun_before_got showing (take i turns) (drop (i + 1) turns) turn ended front begun before one after)
 
-pub text_before_end : (tested : Role) (turns all_turns : List Turn) (i : ℕ) (turn : Turn) (ended : Ended) (sent got front : List ℕ) → i < length turns → turn ≡ get_or turns i turn → sent ≡ turn.sent → got ≡ turn.got → turns ≡ all_turns
-    → AllByRecursion AreOfBytes all_turns → BeginsTurns tested (take i turns ++ with_got (begun_turn sent) got ∷ []) front → SomeText tested (record { turns = all_turns; ended = ended }) front
-text_before_end tested turns all_turns i turn ended sent got front less is s g e all b =
+pub text_before_end : (showing : Showing) (turns all_turns : List Turn) (i : ℕ) (turn : Turn) (ended : Ended) (sent got front : List ℕ) → i < length turns → turn ≡ get_or turns i turn → sent ≡ turn.sent → got ≡ turn.got → turns ≡ all_turns
+    → AllByRecursion AreOfBytes all_turns → BeginsTurns showing (take i turns ++ with_got (begun_turn sent) got ∷ []) front → SomeText showing (record { turns = all_turns; ended = ended }) front
+text_before_end showing turns all_turns i turn ended sent got front less is s g e all b =
     let (before, one, after) = bytes_around turns i turn less is (subst (λ (l : List Turn). AllByRecursion AreOfBytes l) (sym e) all) in
-    let begun = subst (λ (t : Turn). BeginsTurns tested (take i turns ++ t ∷ []) front) (turn_is turn sent got s g) b in
-    subst (λ (l : List Turn). SomeText tested (record { turns = l; ended = ended }) front) (all_around turns i turn less is ∙ e)
-    (begun_so_far tested (take i turns ++ turn ∷ []) (drop (i + 1) turns) ended front begun (all-append AreOfBytes (take i turns) (turn ∷ []) before (one, tt)) after)
+    let begun = subst (λ (t : Turn). BeginsTurns showing (take i turns ++ t ∷ []) front) (turn_is turn sent got s g) b in
+    subst (λ (l : List Turn). SomeText showing (record { turns = l; ended = ended }) front) (all_around turns i turn less is ∙ e)
+    (begun_so_far showing (take i turns ++ turn ∷ []) (drop (i + 1) turns) ended front begun (all-append AreOfBytes (take i turns) (turn ∷ []) before (one, tt)) after)
 
-pub begun_text : (tested : Role) (transcript : Transcript) (front : List ℕ) (old new : Option (List ℕ)) → SomeText tested transcript front → Appends old new front → (text : List ℕ) × HasTurnLines tested transcript text × AppendsFront old new text
-begun_text tested transcript front old new s appends = (s.text, s.has, (front, s.more, s.begins, appends))
+pub begun_text : (showing : Showing) (transcript : Transcript) (front : List ℕ) (old new : Option (List ℕ)) → SomeText showing transcript front → Appends old new front → (text : List ℕ) × HasTurnLines showing transcript text × AppendsFront old new text
+begun_text showing transcript front old new s appends = (s.text, s.has, (front, s.more, s.begins, appends))

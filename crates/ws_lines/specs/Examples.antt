@@ -7,12 +7,14 @@ use Rattle.ws_wire.specs.declared.header.Form.TheVariants.{Short}
 use Rattle.ws_wire.specs.Frame.{WireFrame, IsWireFrame}
 use Rattle.ws_wire.proofs.Headers.{too_short_for_header}
 use Rattle.ws_wire.proofs.Frames.{no_wire_without_header}
+use Rattle.ws_frame.specs.declared.source.DataStyle.TheVariants.{Hex}
 use Rattle.ws_frame.specs.declared.source.Source.{Source}
 use Rattle.ws_frame.specs.declared.showing.StreamEnd.TheVariants.{Whole, CutAt}
 use Rattle.ws_frame.specs.Lines.{AreCertainLines}
 use Rattle.ws_frame.proofs.Fronts.{no_bad_without_header}
 use Rattle.ws_scripts.specs.declared.transcript.Turn.{Turn}
 use Rattle.ws_scripts.specs.declared.transcript.Ended.TheVariants.{Broken}
+use Rattle.ws_lines.specs.declared.transcript_lines.Showing.{Showing}
 use Rattle.ws_lines.specs.TurnLines.{TurnLines, StandInTheirTurns, HasTurnLines, sent_by_tester, got_by_tester}
 use Rattle.ws_lines.specs.TurnLines.{turns_text}
 
@@ -20,6 +22,9 @@ use Rattle.ws_lines.specs.TurnLines.{turns_text}
 unfoldable on_numbers : ⊤
 unfolding digits
 on_numbers = tt
+
+abbrev at_client : Showing
+at_client = record { tested = Client; style = Hex }
 
 abbrev turn_of : List ℕ → List ℕ → Turn
 turn_of sent got = record { sent = sent; got = got }
@@ -67,10 +72,10 @@ abbrev two_lines : List TurnLines
 two_lines = lines_of [] [] ∷ lines_of ping_line [] ∷ []
 
 -- the line stands in the turn of the frame's last byte, and tells the place of its first one
-pub ping_over_two_turns : StandInTheirTurns (sent_by_tester Client) two_turns two_lines
+pub ping_over_two_turns : StandInTheirTurns (sent_by_tester at_client) two_turns two_lines
 unfolding on_numbers
-ping_over_two_turns zero le = none_yet (sent_by_tester Client).source [] (omega arith)
-ping_over_two_turns (suc zero) le = none_yet (sent_by_tester Client).source (0x89 ∷ []) (omega arith)
+ping_over_two_turns zero le = none_yet (sent_by_tester at_client).source [] (omega arith)
+ping_over_two_turns (suc zero) le = none_yet (sent_by_tester at_client).source (0x89 ∷ []) (omega arith)
 ping_over_two_turns (suc (suc zero)) le = inl (record {
   frames = ping ∷ [];
   rest = [];
@@ -84,14 +89,14 @@ ping_over_two_turns (suc (suc zero)) le = inl (record {
 })
 ping_over_two_turns (suc (suc (suc n))) le = absurd (omega (arith, le))
 
-pub nothing_got : StandInTheirTurns (got_by_tester Client) two_turns two_lines
-nothing_got zero le = none_yet (got_by_tester Client).source [] (omega arith)
-nothing_got (suc zero) le = none_yet (got_by_tester Client).source [] (omega arith)
-nothing_got (suc (suc zero)) le = none_yet (got_by_tester Client).source (0x8a ∷ []) (omega arith)
+pub nothing_got : StandInTheirTurns (got_by_tester at_client) two_turns two_lines
+nothing_got zero le = none_yet (got_by_tester at_client).source [] (omega arith)
+nothing_got (suc zero) le = none_yet (got_by_tester at_client).source [] (omega arith)
+nothing_got (suc (suc zero)) le = none_yet (got_by_tester at_client).source (0x8a ∷ []) (omega arith)
 nothing_got (suc (suc (suc n))) le = absurd (omega (arith, le))
 
 -- what was sent ends with a whole frame, and what was got inside one
-pub lines_of_a_ping : HasTurnLines Client (record { turns = two_turns; ended = Broken })
+pub lines_of_a_ping : HasTurnLines at_client (record { turns = two_turns; ended = Broken })
     (codes "turn 1\nturn 2\n> 0 ping fin=1 rsv=0 key=- len=0 short -\n< cut at 0\nend broken\n")
 unfolding on_numbers
 lines_of_a_ping = record {

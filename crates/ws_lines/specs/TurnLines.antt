@@ -3,6 +3,7 @@ use Rattle.std.specs.Prelude.{◌≡◌, ℕ, ◌+◌, ◌^◌, ◌<◌, ◌≤�
 use Rattle.std.specs.List.{flat_map}
 use Rattle.std.specs.Fmt.{decimal}
 use Rattle.ws_wire.specs.declared.role.Role.{Role}
+use Rattle.ws_lines.specs.declared.transcript_lines.Showing.{Showing}
 use Rattle.ws_wire.specs.declared.role.Role.TheVariants.{Client, Server}
 use Rattle.ws_frame.specs.declared.source.Source.{Source}
 use Rattle.ws_frame.specs.declared.source.Mark.TheVariants.{Sent, Got}
@@ -54,25 +55,25 @@ tester_of Client = Server
 tester_of Server = Client
 
 -- what the tester sent; and what it got, which the tested end sent
-abbrev pub sent_by_tester : Role → Direction
-sent_by_tester tested = record {
-  source = record { from = tester_of tested; mark = Sent };
+abbrev pub sent_by_tester : Showing → Direction
+sent_by_tester showing = record {
+  source = record { from = tester_of showing.tested; mark = Sent; style = showing.style };
   bytes = λ turn. turn.sent;
   lines = λ lines. lines.sent;
 }
 
-abbrev pub got_by_tester : Role → Direction
-got_by_tester tested = record {
-  source = record { from = tested; mark = Got };
+abbrev pub got_by_tester : Showing → Direction
+got_by_tester showing = record {
+  source = record { from = showing.tested; mark = Got; style = showing.style };
   bytes = λ turn. turn.got;
   lines = λ lines. lines.got;
 }
 
 -- the lines of turns that may go on: for each turn those of both directions
-pub record AreTurnLines (tested : Role) (turns : List Turn) (lines : List TurnLines) : Type 0 where
+pub record AreTurnLines (showing : Showing) (turns : List Turn) (lines : List TurnLines) : Type 0 where
   pub one_each : length lines ≡ length turns
-  pub sent : StandInTheirTurns (sent_by_tester tested) turns lines
-  pub got : StandInTheirTurns (got_by_tester tested) turns lines
+  pub sent : StandInTheirTurns (sent_by_tester showing) turns lines
+  pub got : StandInTheirTurns (got_by_tester showing) turns lines
 
 -- the line that begins a turn, by its number
 abbrev pub turn_line : ℕ → List ℕ
@@ -89,15 +90,15 @@ end_line Tester = codes "end tester\n"
 end_line Peer = codes "end peer\n"
 end_line Broken = codes "end broken\n"
 
--- The text is the lines of the transcript, where the tested end has this role: those of each turn, counted from 1; then
--- the line of a cut of what was sent, and that of a cut of what was got, where there is one; then how it ended.
-pub record HasTurnLines (tested : Role) (transcript : Transcript) (text : List ℕ) : Type 0 where
+-- The text is the lines of the transcript, shown so: those of each turn, counted from 1; then the line of a cut of what
+-- was sent, and that of a cut of what was got, where there is one; then how it ended.
+pub record HasTurnLines (showing : Showing) (transcript : Transcript) (text : List ℕ) : Type 0 where
   pub lines : List TurnLines
-  pub are_lines : AreTurnLines tested transcript.turns lines
+  pub are_lines : AreTurnLines showing transcript.turns lines
   pub sent_cut : List ℕ
-  pub is_sent_cut : IsCutLine (sent_by_tester tested) transcript.turns lines sent_cut
+  pub is_sent_cut : IsCutLine (sent_by_tester showing) transcript.turns lines sent_cut
   pub got_cut : List ℕ
-  pub is_got_cut : IsCutLine (got_by_tester tested) transcript.turns lines got_cut
+  pub is_got_cut : IsCutLine (got_by_tester showing) transcript.turns lines got_cut
   pub all : text ≡ turns_text 1 lines ++ (sent_cut ++ (got_cut ++ end_line transcript.ended))
 
 -- ---- what can be told

@@ -14,4 +14,4 @@ mod transcript_lines;
 
 pub use places::fits_places;
 pub use showing::show_transcript;
-pub use transcript_lines::TranscriptLines;
+pub use transcript_lines::{Showing, TranscriptLines};

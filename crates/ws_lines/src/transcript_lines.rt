@@ -3,42 +3,57 @@
 ghost use Rattle.std.specs.Prelude.{◌≡◌, [], length, false};
 ghost use Rattle.ws_frame.specs.Watching.{has_failed};
 ghost use Rattle.ws_frame.specs.Devices.{watched};
-ghost use Rattle.ws_wire.specs.declared.role.Role.{Role};
+ghost use Rattle.ws_lines.specs.declared.transcript_lines.Showing.{Showing};
 ghost use Rattle.ws_lines.specs.TurnLines.{end_line, tester_of};
 ghost use Rattle.ws_lines.specs.Telling.{HasToldTurns, HasRoomForTurn, HasRoomForGot, CanEndLines};
 ghost use Rattle.ws_lines.specs.Telling.{TellsTurn, TellsGot, TellsFirstGot, TellsEnd};
 
 use crate::line_bytes::LineBytes;
+use std::alloc::Global;
 use std::io::Write;
-use ws_frame::{Mark, Role, Source, StreamLines, Watched, WriteFault, write_whole};
+use ws_frame::{
+    DataStyle, FrameLines, Mark, Role, ShowFault, Source, Watched, WriteFault, write_whole,
+};
 use ws_scripts::Ended;
 
-/// The lines of a transcript that goes on: each is written as soon as its place in the order is certain. No memory is
-/// taken.
+/// How a transcript is shown.
+#[derive(Clone, Copy)]
+pub struct Showing {
+    /// The role of the tested end, for the remarks on masking.
+    pub tested: Role,
+    /// How payloads are shown.
+    pub style: DataStyle,
+}
+
+/// The lines of a transcript that goes on: each is written as soon as its place in the order is certain. Memory is
+/// taken only where payloads aren't shown by their first bytes.
 #[derive(Drop)]
 pub struct TranscriptLines {
     /// How many turns have begun.
     turns: u64,
-    sent: StreamLines,
-    got: StreamLines,
+    sent: FrameLines,
+    got: FrameLines,
 }
 
 impl TranscriptLines {
-    /// No turn has begun. `tested` is the role of the tested end.
-    pub fn new(tested: Role) -> TranscriptLines
-        ensures begun { HasToldTurns tested result [] [] }
+    /// No turn has begun.
+    pub fn new(alloc: Global, showing: Showing) -> TranscriptLines
+        ensures begun { HasToldTurns showing result [] [] }
     {
-        let tester = tester_of(tested);
+        let sent = Source {
+            from: tester_of(showing.tested),
+            mark: Mark::Sent,
+            style: showing.style,
+        };
+        let got = Source {
+            from: showing.tested,
+            mark: Mark::Got,
+            style: showing.style,
+        };
         TranscriptLines {
             turns: 0,
-            sent: StreamLines::new(Source {
-                from: tester,
-                mark: Mark::Sent,
-            }),
-            got: StreamLines::new(Source {
-                from: tested,
-                mark: Mark::Got,
-            }),
+            sent: FrameLines::new(alloc, sent),
+            got: FrameLines::new(alloc, got),
         }
     }
 
@@ -46,46 +61,53 @@ impl TranscriptLines {
     /// they complete. At an error a beginning of these was written.
     pub fn begin_turn<W: Write>(
         &mut self,
+        alloc: Global,
         writer: &mut Watched<W>,
         sent: &[u8],
-    ) -> Result<(), WriteFault>
+    ) -> Result<(), ShowFault>
         requires writer_works { has_failed writer.old ≡ false }
         requires room { HasRoomForTurn (length sent.now) self.old }
         ensures told { TellsTurn self.old self.new sent.now (watched W.contents writer.old writer.new) result }
     {
         self.turns += 1;
         write_whole(writer, LineBytes::of_turn(self.turns).as_slice())?;
-        self.sent.take(writer, sent)?;
+        self.sent.take(alloc, writer, sent)?;
         Ok(())
     }
 
     /// More bytes are got in the turn: writes the lines of the frames that they complete. Where no turn has begun, one
     /// begins first, in which nothing is sent. At an error a beginning of these was written.
-    pub fn got<W: Write>(&mut self, writer: &mut Watched<W>, piece: &[u8]) -> Result<(), WriteFault>
+    pub fn got<W: Write>(
+        &mut self,
+        alloc: Global,
+        writer: &mut Watched<W>,
+        piece: &[u8],
+    ) -> Result<(), ShowFault>
         requires writer_works { has_failed writer.old ≡ false }
         requires room { HasRoomForGot (length piece.now) self.old }
         ensures told { TellsGot self.old self.new piece.now (watched W.contents writer.old writer.new) result }
         ensures first { TellsFirstGot self.old self.new piece.now (watched W.contents writer.old writer.new) result }
     {
         if self.turns == 0 {
-            self.begin_turn(writer, &[])?;
-            self.got_in_turn(writer, piece)
+            self.begin_turn(alloc, writer, &[])?;
+            self.got_in_turn(alloc, writer, piece)
         } else {
-            self.got_in_turn(writer, piece)
+            self.got_in_turn(alloc, writer, piece)
         }
     }
 
     /// More bytes are got in a turn that has begun.
     fn got_in_turn<W: Write>(
         &mut self,
+        alloc: Global,
         writer: &mut Watched<W>,
         piece: &[u8],
-    ) -> Result<(), WriteFault>
+    ) -> Result<(), ShowFault>
         requires writer_works { has_failed writer.old ≡ false }
         requires room { HasRoomForGot (length piece.now) self.old }
         ensures told { TellsGot self.old self.new piece.now (watched W.contents writer.old writer.new) result }
     {
-        self.got.take(writer, piece)?;
+        self.got.take(alloc, writer, piece)?;
         Ok(())
     }
 

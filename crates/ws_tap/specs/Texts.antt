@@ -4,6 +4,7 @@ use Rattle.std.specs.Prelude.{◌≡◌, ◌⊎◌, ℕ, ◌<◌, ◌≤◌, ◌
 use Rattle.std.specs.Prelude.{take, Some, codes, map, nat_le, ◌&&◌, if◌then◌else◌}
 use Rattle.std.specs.List.{position_or_len}
 use Rattle.ws_wire.specs.declared.role.Role.TheVariants.{Client, Server}
+use Rattle.ws_frame.specs.declared.source.DataStyle.TheVariants.{Hex}
 use Rattle.ws_frame.specs.declared.source.Source.{Source}
 use Rattle.ws_frame.specs.declared.source.Mark.TheVariants.{ClientOf, ServerOf}
 use Rattle.ws_frame.specs.declared.showing.StreamEnd.{StreamEnd}
@@ -34,8 +35,8 @@ side_mark Response = codes " < "
 
 -- the end that sends such a head, in the connection of this number, as the lines of its frames have it
 abbrev pub source_at : HeadKind → ℕ → Source
-source_at Request number = record { from = Client; mark = ClientOf number }
-source_at Response number = record { from = Server; mark = ServerOf number }
+source_at Request number = record { from = Client; mark = ClientOf number; style = Hex }
+source_at Response number = record { from = Server; mark = ServerOf number; style = Hex }
 
 -- a byte of it as it is shown: one outside 0x20 to 0x7e is a question mark, since a terminal may obey it
 abbrev pub shown_byte : ℕ → ℕ

@@ -14,7 +14,7 @@ use crate::heads::HeadKind;
 use crate::kept_lines::KeptLines;
 use crate::server_lines::Answer;
 use std::io::Write;
-use ws_frame::{Mark, Role, Source, StreamLines, Watched, WriteFault, write_whole};
+use ws_frame::{DataStyle, Mark, Role, Source, StreamLines, Watched, WriteFault, write_whole};
 
 /// How far the direction of a client has come.
 #[derive(Drop)]
@@ -77,6 +77,7 @@ impl ClientLines {
                 self.stage = ClientStage::Frames(StreamLines::new(Source {
                     from: Role::Client,
                     mark: Mark::ClientOf(self.number),
+                    style: DataStyle::Hex,
                 }));
                 write_whole(writer, found.line.as_slice())?;
                 Ok(found.used)

@@ -10,7 +10,7 @@ ghost use Rattle.ws_tap.specs.Standing.{StandsBehindResponse, Answers, new_sent}
 use crate::head_room::{HeadRoom, look_for_head};
 use crate::heads::HeadKind;
 use std::io::Write;
-use ws_frame::{Mark, Role, Source, StreamLines, Watched, WriteFault, write_whole};
+use ws_frame::{DataStyle, Mark, Role, Source, StreamLines, Watched, WriteFault, write_whole};
 
 /// The status of a response that switches to frames.
 const SWITCHING_PROTOCOLS: u16 = 101;
@@ -119,6 +119,7 @@ fn stage_behind(number: u32, status: Option<u16>) -> ServerStage
         Some(SWITCHING_PROTOCOLS) => ServerStage::Frames(StreamLines::new(Source {
             from: Role::Server,
             mark: Mark::ServerOf(number),
+            style: DataStyle::Hex,
         })),
         _ => ServerStage::Other,
     }

@@ -8,5 +8,5 @@ use Rattle.ws_lines.proofs.showing.show_transcript.Given as goal
 abbrev pub invariant-loop-turn : goal.invariant-loop-turn
 invariant-loop-turn g l = record {
   works : has_failed l.writer ≡ false;
-  told : (written : List ℕ) × HasWritten written (watched g.W.Write.contents l.initial.writer l.writer) × HasToldTurns l.fn.tested l.lines (take l.turn-index l.turns) written;
+  told : (written : List ℕ) × HasWritten written (watched g.W.Write.contents l.initial.writer l.writer) × HasToldTurns l.fn.showing l.lines (take l.turn-index l.turns) written;
 }

@@ -2,7 +2,7 @@
 use Rattle.std.proofs.Common.{ℕ, List, arith, [], ◌∷◌, ◌++◌, sym, ap, ◌∙◌}
 use Rattle.ws_wire.specs.Header.{AreBytes}
 use Rattle.ws_wire.specs.Masking.{masked_payload}
-use Rattle.ws_frame.specs.Lines.{line_with}
+use Rattle.ws_frame.specs.Lines.{data_word, line_with}
 use Rattle.ws_frame.proofs.Runs.{rest_are_bytes}
 use Rattle.ws_frame.proofs.OneByte.{one_byte, part_of_byte, frame_of_byte, bad_at_byte}
 use Rattle.ws_frame.proofs.showing.Run.take_byte.Goals as goal
@@ -26,7 +26,8 @@ returns-in-Whole-clause-shown c = λ taken written t.
     let are : AreBytes (c.args.byte ∷ []) = one_byte c.args.byte (omega (arith, c.ranges.byte.fits)) in
     let (whole, kept) = c.in-Whole.ensures.taken t.so_far.rest (rest_are_bytes self.source taken self.offset self.partial _ t.so_far) t.so_far.is_kept in
     let shown = c.unmasked-shown.ensures ∙ ap (λ k. masked_payload k c.in-Whole.first) c.key.ensures.value in
-    let due = sym (c.push_line.ensures.pushed ∙ ap (λ (t : List ℕ). self.lines ++ line_with self.source self.offset c.in-Whole.header t) shown) in
+    let due = sym (c.push_line.ensures.pushed ∙ ap (λ (t : List ℕ). self.lines ++ line_with self.source self.offset c.in-Whole.header
+    (data_word c.in-Whole.header.len t)) shown) in
     let next = frame_of_byte self.source taken written self.lines c.push_line.new.room c.args.byte self.taken self.offset c.in-Whole.used self.partial c.take.new.self c.in-Whole.header c.in-Whole.first t.count t.so_far are
     c.in-Whole.ensures.used.0 c.in-Whole.ensures.used.1 whole kept due in
     record { count = next.0; so_far = next.1 }
