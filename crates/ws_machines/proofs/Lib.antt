@@ -1,0 +1,3 @@
+-- The lemmas behind a machine and its stream: what both were told, and an exchange.
+pub mod RunLemmas
+pub mod ExchangeLemmas

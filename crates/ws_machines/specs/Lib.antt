@@ -1,0 +1,4 @@
+pub mod Told
+pub mod Machines
+pub mod Eithers
+pub mod Exchanges
