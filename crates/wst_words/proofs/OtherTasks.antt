@@ -11,7 +11,7 @@ use Rattle.wst_words.specs.Arguments.{ArgumentRow, argument, argument_or}
 use Rattle.wst_words.specs.RunOptions.{AsksForRun, run_arguments_without_timeout}
 use Rattle.wst_words.specs.Report.{AsksToReport, report_command}
 use Rattle.wst_words.specs.Send.{AsksToSend, send_command}
-use Rattle.wst_words.specs.declared.arguments.ArgumentKind.TheVariants.{Flag, Number, Words}
+use Rattle.wst_words.specs.declared.arguments.ArgumentKind.TheVariants.{Flag, Number, Style, Words}
 use Rattle.wst_words.specs.Serve.{AsksToServe, serve_command}
 use Rattle.wst_words.specs.Session.{AsksForSession, session_command}
 use Rattle.wst_words.specs.Show.{AsksToShow, show_command}
@@ -85,7 +85,8 @@ show_lacks rows options (inl from) asks = absurd from
 show_lacks rows options (inr (inl budget)) asks = no_number_if_any rows (codes "budget") options.budget budget asks.1
 show_lacks rows options (inr (inr (inl capture))) asks = capture options.capture asks.2
 show_lacks rows options (inr (inr (inr (inl role)))) asks = absurd role
-show_lacks rows options (inr (inr (inr (inr none)))) asks = absurd none
+show_lacks rows options (inr (inr (inr (inr (inl shown))))) asks = shown options.style asks.4
+show_lacks rows options (inr (inr (inr (inr (inr none))))) asks = absurd none
 
 pub no_show : (name : Text) (rows : List Row) → name ≡ codes "show" → LacksOneOf rows show_command.arguments
     → CommandAsksNothing (Some (name, rows))
@@ -166,7 +167,7 @@ test_own = argument (codes "capture") Flag ∷ argument (codes "explain") Flag �
     ∷ argument (codes "known") Flag ∷ argument (codes "junit") Flag ∷ argument (codes "ids") Words ∷ []
 
 abbrev send_own : List ArgumentRow
-send_own = argument (codes "capture") Flag ∷ []
+send_own = argument (codes "capture") Flag ∷ argument_or (codes "data") Style (codes "hex") ∷ []
 
 test_lacks : (rows : List Row) (options : TestOptions) → LacksOneOf rows test_command.arguments
     → AsksToTest rows options → ⊥
@@ -257,13 +258,14 @@ send_lacks : (rows : List Row) (options : SendOptions) → LacksOneOf rows send_
 send_lacks rows options (inl role) asks = role options.run.role asks.0.role
 send_lacks rows options (inr (inl expect)) asks = expect options.run.expect asks.0.expect
 send_lacks rows options (inr (inr (inl key))) asks = no_word rows (codes "key") options.run.key.now key asks.0.key
-send_lacks rows options (inr (inr (inr (inl timeout)))) asks = no_word rows (codes "timeout") asks.2.0 timeout asks.2.1
+send_lacks rows options (inr (inr (inr (inl timeout)))) asks = no_word rows (codes "timeout") asks.3.0 timeout asks.3.1
 send_lacks rows options (inr (inr (inr (inr more)))) asks =
     run_lacks rows options.run send_own none (inr (inr (inr (inr more)))) asks.0
   where
     none : LacksOneOf rows send_own → ⊥
     none (inl capture) = capture options.capture asks.1
-    none (inr other) = absurd other
+    none (inr (inl shown)) = shown options.style asks.2
+    none (inr (inr other)) = absurd other
 
 pub no_send : (name : Text) (rows : List Row) → name ≡ codes "send" → LacksOneOf rows send_command.arguments
     → CommandAsksNothing (Some (name, rows))

@@ -12,7 +12,7 @@ use Rattle.clap.specs.declared.parser.matches.ArgMatches.TheViews.{out-SubComman
 use Rattle.clap.specs.declared.parser.matches.SubCommand.{SubCommand}
 use Rattle.clap.specs.declared.error.Error.{Error}
 use Rattle.clap.specs.declared.error.kind.ErrorKind.TheVariants.{OutOfMemory}
-use Rattle.wst_words.specs.Options.{GivesFlag, GivesNoEnd, GivesNoExpectation, GivesNoFlag, GivesNoNumber}
+use Rattle.wst_words.specs.Options.{GivesFlag, GivesNoEnd, GivesNoExpectation, GivesNoFlag, GivesNoNumber, GivesNoStyle}
 use Rattle.wst_words.specs.Options.{GivesNoNumberOr, GivesNumber, GivesNumberOf, GivesNumberOr}
 use Rattle.wst_words.specs.Words.{AsksFor, AsksForNothing, CommandAsks, CommandAsksNothing, IsOfClap, IsRead}
 use Rattle.wst_words.specs.Words.{RefusesWords}
@@ -45,6 +45,43 @@ places_of one other list (a ∷ b ∷ []) e =
     )
 places_of one other list (a ∷ b ∷ x ∷ rest) e =
     let bad : suc (suc (suc (length (map (λ s. s.now) rest)))) ≡ suc (suc zero) = ap (λ (l : List Text). length l) e in
+    absurd (omega arith)
+
+-- and of three
+abbrev three_names : (ℕ × ℕ) → ((ℕ × ℕ) × ((ℕ × ℕ) × (ℕ × ℕ))) → Text → Text → Text → Bor (List (Bor Text))
+three_names list places one other third = record {
+  ref_ptr = list;
+  now = record { ref_ptr = places.0; now = one } ∷ record { ref_ptr = places.1.0; now = other }
+      ∷ record { ref_ptr = places.1.1; now = third } ∷ [];
+}
+
+pub places_of_three : (one other third : Text) (list : ℕ × ℕ) (names : List (Bor Text))
+    → map (λ s. s.now) names ≡ one ∷ other ∷ third ∷ []
+    → (places : (ℕ × ℕ) × ((ℕ × ℕ) × (ℕ × ℕ)))
+    × (record { ref_ptr = list; now = names } ≡ three_names list places one other third)
+places_of_three one other third list [] e =
+    let bad : zero ≡ suc (suc (suc zero)) = ap (λ (l : List Text). length l) e in
+    absurd (omega arith)
+places_of_three one other third list (a ∷ []) e =
+    let bad : suc zero ≡ suc (suc (suc zero)) = ap (λ (l : List Text). length l) e in
+    absurd (omega arith)
+places_of_three one other third list (a ∷ b ∷ []) e =
+    let bad : suc (suc zero) ≡ suc (suc (suc zero)) = ap (λ (l : List Text). length l) e in
+    absurd (omega arith)
+places_of_three one other third list (a ∷ b ∷ d ∷ []) e =
+    let first : a.now ≡ one = ap (λ (l : List Text). slice_index_or l 0 []) e in
+    let second : b.now ≡ other = ap (λ (l : List Text). slice_index_or l 1 []) e in
+    let last : d.now ≡ third = ap (λ (l : List Text). slice_index_or l 2 []) e in (
+      (a.ref_ptr, (b.ref_ptr, d.ref_ptr)),
+      λ i. record {
+        ref_ptr = list;
+        now = record { ref_ptr = a.ref_ptr; now = first i } ∷ record { ref_ptr = b.ref_ptr; now = second i }
+            ∷ record { ref_ptr = d.ref_ptr; now = last i } ∷ [];
+      },
+    )
+places_of_three one other third list (a ∷ b ∷ d ∷ x ∷ rest) e =
+    let bad : suc (suc (suc (suc (length (map (λ s. s.now) rest))))) ≡ suc (suc (suc zero)) =
+    ap (λ (l : List Text). length l) e in
     absurd (omega arith)
 
 -- what is passed up is nothing
@@ -107,6 +144,12 @@ no_end_given rows name none = λ role given.
 -- without a word nothing is said of what is expected
 pub no_expectation_given : (rows : List Row) (name : Text) → first_of name rows ≡ None → GivesNoExpectation rows name
 no_expectation_given rows name none = λ expected given.
+    let bad : Some given.word ≡ None = sym given.has_word ∙ none in
+    absurd (cc)
+
+-- without a word no style is given
+pub no_style_given : (rows : List Row) (name : Text) → first_of name rows ≡ None → GivesNoStyle rows name
+no_style_given rows name none = λ shown given.
     let bad : Some given.word ≡ None = sym given.has_word ∙ none in
     absurd (cc)
 

@@ -7,7 +7,8 @@ use Rattle.clap.specs.declared.builder.value_parser.ValueParser.TheVariants.{Nam
 use Rattle.wst_words.specs.declared.arguments.Argument.{Argument}
 use Rattle.wst_words.specs.declared.arguments.ArgumentKind.{ArgumentKind}
 use Rattle.wst_words.specs.declared.arguments.ArgumentKind.TheVariants.{EachWord, End, Expected, Flag, FreeWord}
-use Rattle.wst_words.specs.declared.arguments.ArgumentKind.TheVariants.{NeededCount, NeededWord, Number, Word, Words}
+use Rattle.wst_words.specs.declared.arguments.ArgumentKind.TheVariants.{NeededCount, NeededWord, Number, Style, Word}
+use Rattle.wst_words.specs.declared.arguments.ArgumentKind.TheVariants.{Words}
 use Rattle.wst_words.specs.declared.arguments.NameParsers.{NameParsers}
 
 -- an argument: its name, its kind, and its value where it is left out
@@ -30,8 +31,8 @@ argument_row a = record { name = a.name.now; kind = a.kind; default = option_map
 
 -- ---- clap's data
 
--- where the names of the two ends, and of what is expected, lie in memory, which clap's data of a list of names holds
--- beside the names
+-- where the names of the two ends, of what is expected, and of the styles of payloads lie in memory, which clap's data
+-- of a list of names holds beside the names
 pub record Places : Type 0 where
   pub list : ℕ × ℕ
   pub client : ℕ × ℕ
@@ -39,6 +40,10 @@ pub record Places : Type 0 where
   pub expectations : ℕ × ℕ
   pub echo : ℕ × ℕ
   pub protocol : ℕ × ℕ
+  pub styles : ℕ × ℕ
+  pub hex : ℕ × ℕ
+  pub text : ℕ × ℕ
+  pub all : ℕ × ℕ
 
 -- the names of the ends
 abbrev pub end_names : Places → Bor (List (Bor Text))
@@ -56,9 +61,21 @@ expectation_names places = record {
       ∷ record { ref_ptr = places.protocol; now = codes "protocol" } ∷ [];
 }
 
+-- the names of the styles of payloads
+abbrev pub style_names : Places → Bor (List (Bor Text))
+style_names places = record {
+  ref_ptr = places.styles;
+  now = record { ref_ptr = places.hex; now = codes "hex" } ∷ record { ref_ptr = places.text; now = codes "text" }
+      ∷ record { ref_ptr = places.all; now = codes "all" } ∷ [];
+}
+
 -- what takes them alone
 abbrev pub name_parsers : Places → NameParsers
-name_parsers places = record { ends = Names (end_names places); expectations = Names (expectation_names places) }
+name_parsers places = record {
+  ends = Names (end_names places);
+  expectations = Names (expectation_names places);
+  styles = Names (style_names places);
+}
 
 -- an option that takes one value
 abbrev pub option_rule : Text → Rule
@@ -76,12 +93,13 @@ needed_rule name = record (free_rule name) { required = true }
 abbrev pub each_rule : Text → Rule
 each_rule name = record (new_rule name) { long = Some name; action = Some Append; value_names = 1 }
 
--- an argument of this kind: an end or an expectation as it is parsed, a number of 64 bits, any word, any word each time
--- that it is given, a flag, a word and a number of 32 bits that may not be left out, a word that may, as many words as
--- there are
+-- an argument of this kind: an end, an expectation or a style as it is parsed, a number of 64 bits, any word, any word
+-- each time that it is given, a flag, a word and a number of 32 bits that may not be left out, a word that may, as many
+-- words as there are
 abbrev pub kind_rule : NameParsers → ArgumentKind → Text → Rule
 kind_rule names End name = record (option_rule name) { parser = Some names.ends }
 kind_rule names Expected name = record (option_rule name) { parser = Some names.expectations }
+kind_rule names Style name = record (option_rule name) { parser = Some names.styles }
 kind_rule names Number name = record (option_rule name) { parser = Some (Unsigned 0 18446744073709551615) }
 kind_rule names Word name = option_rule name
 kind_rule names EachWord name = each_rule name

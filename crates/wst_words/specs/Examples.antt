@@ -8,14 +8,17 @@ use Rattle.std.specs.Str.Parse.{digits_value, without_leading_plus}
 use Rattle.clap.proofs.ValueTestLemmas.{accepts-Accepts}
 use Rattle.clap.specs.Words.{Row, Text, first_of, one_of, subcommand_of, takes}
 use Rattle.clap.specs.ValueTests.{accepts}
+use Rattle.clap.specs.Values.{Accepts}
 use Rattle.clap.specs.Walk.{bundle_met, walked}
 use Rattle.clap.specs.Takes.{flags_pass, walk_passes}
 use Rattle.clap.specs.Faults.{defaults_fault, flags_fault, walk_fault}
 use Rattle.clap.specs.declared.builder.value_parser.ValueParser.TheVariants.{Unsigned}
 use Rattle.ws_wire.specs.declared.role.Role.TheVariants.{Client, Server}
+use Rattle.ws_frame.specs.declared.source.DataStyle.TheVariants.{Hex}
+use Rattle.ws_frame.specs.declared.source.DataStyle.TheVariants as style
 use Rattle.ws_scripts.specs.declared.expectation.Expectation.TheVariants.{Echo, Protocol}
 use Rattle.wst_words.specs.Arguments.{Places}
-use Rattle.wst_words.specs.Options.{GivesNumber, given_words}
+use Rattle.wst_words.specs.Options.{GivesNumber, GivesStyle, given_words, style_named}
 use Rattle.wst_words.specs.Words.{AsksFor, wst_app}
 use Rattle.wst_words.specs.declared.words.Task.TheVariants.{Cases, Convert, Head, Judge, Pair, Session, Show}
 
@@ -36,15 +39,24 @@ numbered rows name word there passes =
     let number = accepts-Accepts false (Unsigned 0 18446744073709551615) word passes in
     record { word = word; has_word = there; numeral = number.0; value = refl; fits = number.1 }
 
+-- the word 7 is a numeral of 64 bits
+seven : Accepts false (Unsigned 0 18446744073709551615) (codes "7")
+seven = accepts-Accepts false (Unsigned 0 18446744073709551615) (codes "7") refl
+
+-- a word of the option `--data`
+styled : (rows : List Row) (word : Text) → first_of (codes "data") rows ≡ Some word
+    → GivesStyle rows (codes "data") (style_named word)
+styled rows word there = record { word = word; has_word = there; value = refl }
+
 -- `wst show` is told nothing more
 abbrev plain_words : List Text
 plain_words = words (codes "show" ∷ [])
 
 pub plain_show : (places : Places)
     → AsksFor (wst_app places) plain_words
-    (Show (record { from = None; budget = None; capture = false; role = None }))
+    (Show (record { from = None; budget = None; capture = false; role = None; style = Hex }))
 unfolding on_words
-plain_show places = (refl, (refl, (refl, refl, refl, refl)))
+plain_show places = (refl, (refl, (refl, refl, refl, refl, styled _ (codes "hex") refl)))
 
 -- `wst show --from client --budget 7` reads at most 7 bytes that a client sent
 abbrev client_words : List Text
@@ -52,9 +64,21 @@ client_words = words (codes "show" ∷ codes "--from" ∷ codes "client" ∷ cod
 
 pub client_show : (places : Places)
     → AsksFor (wst_app places) client_words
-    (Show (record { from = Some Client; budget = Some 7; capture = false; role = None }))
+    (Show (record { from = Some Client; budget = Some 7; capture = false; role = None; style = Hex }))
 unfolding on_words
-client_show places = (refl, (refl, (refl, numbered _ _ (codes "7") refl refl, refl, refl)))
+client_show places = (
+  refl,
+  (
+    refl,
+    (
+      refl,
+      record { word = codes "7"; has_word = refl; numeral = seven.0; value = refl; fits = seven.1 },
+      refl,
+      refl,
+      styled _ (codes "hex") refl,
+    ),
+  ),
+)
 
 -- the same with the options the other way round, each as one word
 abbrev joined_words : List Text
@@ -62,18 +86,39 @@ joined_words = words (codes "show" ∷ codes "--budget=7" ∷ codes "--from=clie
 
 pub joined_show : (places : Places)
     → AsksFor (wst_app places) joined_words
-    (Show (record { from = Some Client; budget = Some 7; capture = false; role = None }))
+    (Show (record { from = Some Client; budget = Some 7; capture = false; role = None; style = Hex }))
 unfolding on_words
-joined_show places = (refl, (refl, (refl, numbered _ _ (codes "7") refl refl, refl, refl)))
+joined_show places = (
+  refl,
+  (
+    refl,
+    (
+      refl,
+      record { word = codes "7"; has_word = refl; numeral = seven.0; value = refl; fits = seven.1 },
+      refl,
+      refl,
+      styled _ (codes "hex") refl,
+    ),
+  ),
+)
 
 -- `wst show --capture --role client` reads a capture of a client under test
 abbrev capture_words : List Text
 capture_words = words (codes "show" ∷ codes "--capture" ∷ codes "--role" ∷ codes "client" ∷ [])
 
 pub capture_show : (places : Places) → AsksFor (wst_app places) capture_words
-    (Show (record { from = None; budget = None; capture = true; role = Some Client }))
+    (Show (record { from = None; budget = None; capture = true; role = Some Client; style = Hex }))
 unfolding on_words
-capture_show places = (refl, (refl, (refl, refl, refl, refl)))
+capture_show places = (refl, (refl, (refl, refl, refl, refl, styled _ (codes "hex") refl)))
+
+-- `wst show --data text` shows payloads as text
+abbrev text_words : List Text
+text_words = words (codes "show" ∷ codes "--data" ∷ codes "text" ∷ [])
+
+pub text_show : (places : Places) → AsksFor (wst_app places) text_words
+    (Show (record { from = None; budget = None; capture = false; role = None; style = style.Text }))
+unfolding on_words
+text_show places = (refl, (refl, (refl, refl, refl, refl, styled _ (codes "text") refl)))
 
 -- `wst head` answers the head of a request
 abbrev head_words : List Text

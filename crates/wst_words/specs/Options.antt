@@ -9,11 +9,13 @@ use Rattle.ws_wire.specs.declared.role.Role.{Role}
 use Rattle.ws_wire.specs.declared.role.Role.TheVariants.{Client, Server}
 use Rattle.wst_words.specs.Arguments.{ArgumentRow}
 use Rattle.wst_words.specs.declared.arguments.ArgumentKind.{ArgumentKind}
+use Rattle.ws_frame.specs.declared.source.DataStyle.{DataStyle}
+use Rattle.ws_frame.specs.declared.source.DataStyle.TheVariants as style
 use Rattle.ws_scripts.specs.declared.expectation.Expectation.{Expectation}
 use Rattle.ws_scripts.specs.declared.expectation.Expectation.TheVariants.{Echo, Protocol}
 use Rattle.wst_words.specs.declared.arguments.ArgumentKind.TheVariants.{EachWord, End, Expected, Flag, FreeWord}
 use Rattle.wst_words.specs.declared.arguments.ArgumentKind.TheVariants.{NeededCount}
-use Rattle.wst_words.specs.declared.arguments.ArgumentKind.TheVariants.{NeededWord, Number, Word, Words}
+use Rattle.wst_words.specs.declared.arguments.ArgumentKind.TheVariants.{NeededWord, Number, Style, Word, Words}
 
 -- ---- an end of the connection
 
@@ -50,6 +52,24 @@ pub record GivesExpectation (rows : List Row) (name : Text) (expected : Expectat
 -- and it says nothing
 abbrev pub GivesNoExpectation : List Row → Text → Type 0
 GivesNoExpectation rows name = (expected : Expectation) → GivesExpectation rows name expected → ⊥
+
+-- ---- how payloads are shown
+
+-- the style that a word names
+abbrev pub style_named : Text → DataStyle
+style_named word =
+    if bytes_eq word (codes "text") then style.Text
+    else (if bytes_eq word (codes "all") then style.All else style.Hex)
+
+-- the option of this name gives this style
+pub record GivesStyle (rows : List Row) (name : Text) (shown : DataStyle) : Type 0 where
+  pub word : Text
+  pub has_word : first_of name rows ≡ Some word
+  pub value : shown ≡ style_named word
+
+-- and it gives none
+abbrev pub GivesNoStyle : List Row → Text → Type 0
+GivesNoStyle rows name = (shown : DataStyle) → GivesStyle rows name shown → ⊥
 
 -- ---- a word
 
@@ -121,6 +141,8 @@ LacksValueOf rows name End None = ⊥
 LacksValueOf rows name End (Some end) = GivesNoEnd rows name
 LacksValueOf rows name Expected None = ⊥
 LacksValueOf rows name Expected (Some expected) = GivesNoExpectation rows name
+LacksValueOf rows name Style None = ⊥
+LacksValueOf rows name Style (Some shown) = GivesNoStyle rows name
 LacksValueOf rows name Number None = GivesNoNumberOr rows name
 LacksValueOf rows name Number (Some number) = GivesNoNumber rows name
 LacksValueOf rows name Word None = ⊥

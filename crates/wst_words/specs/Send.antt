@@ -3,8 +3,8 @@ use Rattle.std.specs.Prelude.{◌≡◌, List, [], ◌∷◌, ◌++◌, Some, co
 use Rattle.clap.specs.Words.{Row, Text, first_of}
 use Rattle.wst_words.specs.Arguments.{argument, argument_or}
 use Rattle.wst_words.specs.Commands.{CommandRow}
-use Rattle.wst_words.specs.declared.arguments.ArgumentKind.TheVariants.{Flag, Word}
-use Rattle.wst_words.specs.Options.{GivesFlag}
+use Rattle.wst_words.specs.declared.arguments.ArgumentKind.TheVariants.{Flag, Style, Word}
+use Rattle.wst_words.specs.Options.{GivesFlag, GivesStyle}
 use Rattle.wst_words.specs.RunOptions.{AsksForRun, run_arguments}
 use Rattle.wst_words.specs.declared.send.SendOptions.{SendOptions}
 
@@ -12,10 +12,12 @@ use Rattle.wst_words.specs.declared.send.SendOptions.{SendOptions}
 abbrev pub send_command : CommandRow
 send_command = record {
   name = codes "send";
-  arguments = run_arguments (argument_or (codes "timeout") Word (codes "2")) ++ argument (codes "capture") Flag ∷ [];
+  arguments = run_arguments (argument_or (codes "timeout") Word (codes "2")) ++ argument (codes "capture") Flag
+      ∷ argument_or (codes "data") Style (codes "hex") ∷ [];
 }
 
 -- the words give these, and how long is waited for
 abbrev pub AsksToSend : List Row → SendOptions → Type 0
 AsksToSend rows options = AsksForRun rows options.run × GivesFlag rows (codes "capture") options.capture
+    × GivesStyle rows (codes "data") options.style
     × ((seconds : Text) × (first_of (codes "timeout") rows ≡ Some seconds))

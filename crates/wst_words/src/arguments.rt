@@ -16,6 +16,8 @@ pub(crate) enum ArgumentKind {
     End,
     /// An option that takes the name of what is expected of the tested end.
     Expected,
+    /// An option that takes the name of a style in which payloads are shown.
+    Style,
     /// An option that takes a number of 64 bits.
     Number,
     /// An option that takes any word.
@@ -57,6 +59,8 @@ pub(crate) struct NameParsers<'a> {
     pub(crate) ends: ValueParser<'a>,
     /// Those of what is expected of the tested end.
     pub(crate) expectations: ValueParser<'a>,
+    /// Those of the styles in which payloads are shown.
+    pub(crate) styles: ValueParser<'a>,
 }
 
 /// What `clap` is told of an argument.
@@ -83,6 +87,7 @@ fn arg_of_kind<'a>(alloc: Global, argument: &Argument, names: NameParsers<'a>) -
     match argument.kind {
         ArgumentKind::End => named_arg(alloc, argument).value_parser(names.ends),
         ArgumentKind::Expected => named_arg(alloc, argument).value_parser(names.expectations),
+        ArgumentKind::Style => named_arg(alloc, argument).value_parser(names.styles),
         ArgumentKind::Number => option_arg(alloc, argument).value_parser(clap::value_parser!(u64)),
         ArgumentKind::Word => option_arg(alloc, argument),
         ArgumentKind::EachWord => each_arg(alloc, argument),

@@ -38,7 +38,7 @@ static ARGUMENTS: [Argument; 2] = [
         default: None,
         value_name: "ID",
         heading: None,
-        help: "Write this case; with a trailing *, list those that begin so",
+        help: "Print the script of this case, or list those of a pattern such as 2.*",
     },
 ];
 
@@ -70,7 +70,9 @@ pub(crate) fn help<'a>() -> HelpText<'a> {
 }
 
 /// What follows the options of `cases`.
-const AFTER_HELP: &str = "Each case is listed as `ID TURNS`. The first number of an ID is its group:
+const AFTER_HELP: &str =
+    "Each case is listed as `ID TURNS`; a turn ends where it waits for replies. The
+first number of an ID is its group:
   1  lengths of messages  4  reserved opcodes  6  valid and invalid text
   2  pings and pongs      5  fragments         7  the closing handshake
   3  reserved bits

@@ -131,6 +131,7 @@ pub(crate) fn wst_command<'a>(alloc: Global) -> Result<Command<'a>, AllocError>
     let names = NameParsers {
         ends: ValueParser::from(["client", "server"].as_slice()),
         expectations: ValueParser::from(["echo", "protocol"].as_slice()),
+        styles: ValueParser::from(["hex", "text", "all"].as_slice()),
     };
     let named = Command::new(alloc, "wst").bin_name("wst")?;
     let wst = named

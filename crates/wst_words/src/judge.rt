@@ -46,7 +46,7 @@ static ARGUMENTS: [Argument; 3] = [
         default: None,
         value_name: "",
         heading: None,
-        help: "Print the rule, what was due and what was received",
+        help: "Print what was due and got in each turn, and the rule",
     },
 ];
 

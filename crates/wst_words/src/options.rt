@@ -5,10 +5,12 @@ ghost use Rattle.clap.specs.Words.{first_of, found_of, rows_of};
 ghost use Rattle.wst_words.specs.Options.{GivesCount, GivesEnd, GivesFlag, GivesNumber, GivesNumberOr};
 ghost use Rattle.wst_words.specs.Options.{GivesNoCount, GivesNoEnd, GivesNoFlag, GivesNoNumber, GivesNoNumberOr};
 ghost use Rattle.wst_words.specs.Options.{GivesEndIfAny, GivesExpectation, GivesNoExpectation, GivesNumberIfAny};
-ghost use Rattle.wst_words.specs.Options.{expectation_named, given_words, role_named};
+ghost use Rattle.wst_words.specs.Options.{GivesNoStyle, GivesStyle};
+ghost use Rattle.wst_words.specs.Options.{expectation_named, given_words, role_named, style_named};
 
 use clap::ArgMatches;
 use std::alloc::{AllocError, Global};
+use ws_frame::DataStyle;
 use ws_scripts::Expectation;
 use ws_wire::Role;
 
@@ -38,6 +40,15 @@ pub(crate) fn expectation_of(options: &ArgMatches<'_>, name: &str) -> Option<Exp
 {
     let word = word_of(options, name)?;
     Some(expectation_named(word))
+}
+
+/// The style in which the option of this name has payloads shown. `None` where it gives none.
+pub(crate) fn style_of(options: &ArgMatches<'_>, name: &str) -> Option<DataStyle>
+    ensures { MatchOption result (GivesNoStyle (rows_of (found_of options.now)) name.now)
+        (GivesStyle (rows_of (found_of options.now)) name.now) }
+{
+    let word = word_of(options, name)?;
+    Some(style_named(word))
 }
 
 /// The number that the option of this name gives. `None` where it gives none.
@@ -131,5 +142,16 @@ fn expectation_named(word: &str) -> Expectation
     match word {
         "protocol" => Expectation::Protocol,
         _ => Expectation::Echo,
+    }
+}
+
+/// The style that a word names.
+fn style_named(word: &str) -> DataStyle
+    ensures { result ≡ style_named word.now }
+{
+    match word {
+        "text" => DataStyle::Text,
+        "all" => DataStyle::All,
+        _ => DataStyle::Hex,
     }
 }

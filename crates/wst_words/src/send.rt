@@ -10,12 +10,14 @@ ghost use Rattle.wst_words.specs.Send.{AsksToSend, send_command};
 use crate::arguments::Argument;
 use crate::arguments::ArgumentKind::Flag;
 use crate::commands::HelpText;
-use crate::options::{flag_of, word_of};
+use crate::options::{flag_of, style_of, word_of};
 use crate::run_options::{
     BUDGET, CONNECT, EXPECT, HEADER, KEY, PROTOCOLS, ROLE, RunOptions, TARGET, TIMEOUT, run_options,
 };
+use crate::show::DATA;
 use clap::ArgMatches;
 use std::alloc::{AllocError, Global};
+use ws_frame::DataStyle;
 
 /// What `send` is asked to send its script to, and how.
 #[derive(Drop)]
@@ -24,10 +26,12 @@ pub struct SendOptions<'a> {
     pub run: RunOptions<'a>,
     /// The capture is written in place of the frames.
     pub capture: bool,
+    /// How payloads are shown.
+    pub style: DataStyle,
 }
 
 /// Its arguments.
-static ARGUMENTS: [Argument; 10] = [
+static ARGUMENTS: [Argument; 11] = [
     ROLE,
     EXPECT,
     KEY,
@@ -48,6 +52,10 @@ static ARGUMENTS: [Argument; 10] = [
         value_name: "",
         heading: Some("Output"),
         help: "Print the capture instead of the frames",
+    },
+    Argument {
+        heading: Some("Output"),
+        ..DATA
     },
 ];
 
@@ -82,7 +90,12 @@ fn options_with<'a>(options: &ArgMatches<'a>, run: RunOptions<'a>) -> Option<Sen
 {
     let _seconds = word_of(options, "timeout")?;
     let capture = flag_of(options, "capture")?;
-    Some(SendOptions { run, capture })
+    let style = style_of(options, "data")?;
+    Some(SendOptions {
+        run,
+        capture,
+        style,
+    })
 }
 
 /// What help says of `send`.
@@ -97,12 +110,12 @@ pub(crate) fn help<'a>() -> HelpText<'a> {
 const AFTER_HELP: &str =
     "The script on stdin has one step per line. SCRIPTS in `man wst` has them all:
   text \"Hello\"         a frame: text, binary, cont, close, ping, pong or op3
-  text fin=0 rsv=4 c3  without FIN, with RSV1, with a payload in hexadecimal
-  ping key=- -         without a mask (or key=37fa213d), without a payload
+  text fin=0 rsv=4 c3  without FIN, with RSV1 (RSV3 is 1), with a payload in hex
+  ping key=- -         without a mask (key=37fa213d sets one), without a payload
   close=1000           a close frame with this code
   wait                 the turn ends: wait for the replies
-A turn is sent before anything is read. If the peer doesn't read a large turn
-while it is sent, the run ends as broken.
+A turn is sent whole, and then replies are read. A peer that stops reading a
+large turn ends the run as `broken`.
 
 Exit status:
   0  the script was run, whoever ended the connection

@@ -7,10 +7,11 @@ ghost use Rattle.wst_words.specs.Show.{AsksToShow, show_command};
 ghost use Rattle.wst_words.specs.Arguments.{argument_row};
 
 use crate::arguments::Argument;
-use crate::arguments::ArgumentKind::{End, Flag, Number};
+use crate::arguments::ArgumentKind::{End, Flag, Number, Style};
 use crate::commands::HelpText;
-use crate::options::{end_if_any, flag_of, number_if_any};
+use crate::options::{end_if_any, flag_of, number_if_any, style_of};
 use clap::ArgMatches;
+use ws_frame::DataStyle;
 use ws_wire::Role;
 
 /// The options of `show`.
@@ -24,10 +25,22 @@ pub struct ShowOptions {
     pub capture: bool,
     /// The tested end of the capture, where it is told.
     pub role: Option<Role>,
+    /// How payloads are shown.
+    pub style: DataStyle,
 }
 
+/// How payloads are shown. Other commands that show frames have it too.
+pub(crate) const DATA: Argument = Argument {
+    name: "data",
+    kind: Style,
+    default: Some("hex"),
+    value_name: "HOW",
+    heading: None,
+    help: "Print DATA as `hex`, at most 16 bytes; as `text` where it\nis text; or `all` of it as hex",
+};
+
 /// Its arguments.
-static ARGUMENTS: [Argument; 4] = [
+static ARGUMENTS: [Argument; 5] = [
     Argument {
         name: "from",
         kind: End,
@@ -60,6 +73,7 @@ static ARGUMENTS: [Argument; 4] = [
         heading: None,
         help: "With --capture, the tested endpoint: `client` or `server`\n[default: server]",
     },
+    DATA,
 ];
 
 /// The arguments of `show`.
@@ -76,11 +90,13 @@ pub(crate) fn show_options(options: &ArgMatches<'_>) -> Option<ShowOptions>
 {
     let budget = number_if_any(options, "budget")?;
     let capture = flag_of(options, "capture")?;
+    let style = style_of(options, "data")?;
     Some(ShowOptions {
         from: end_if_any(options, "from"),
         budget,
         capture,
         role: end_if_any(options, "role"),
+        style,
     })
 }
 

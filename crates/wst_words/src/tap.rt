@@ -17,7 +17,7 @@ use clap::ArgMatches;
 pub struct TapOptions<'a> {
     /// The address at which it listens: an IP address or the name of a host, and a port.
     pub listen: &'a str,
-    /// The address of the server to which it passes what its clients send.
+    /// The server to which it passes what its clients send: an address, or a `ws` URL.
     pub target: &'a str,
     /// It taps so many connections.
     pub count: u32,
@@ -39,7 +39,7 @@ static ARGUMENTS: [Argument; 3] = [
         default: None,
         value_name: "TARGET",
         heading: None,
-        help: "HOST:PORT of the server",
+        help: "HOST:PORT or ws:// URL of the server",
     },
     Argument {
         name: "count",

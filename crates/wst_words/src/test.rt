@@ -61,7 +61,7 @@ static ARGUMENTS: [Argument; 15] = [
         default: None,
         value_name: "",
         heading: Some("Output"),
-        help: "Print the rule, what was due and what was received",
+        help: "Print what was due and got in each turn, and the rule",
     },
     Argument {
         name: "progress",
@@ -161,6 +161,8 @@ const AFTER_HELP: &str =
     "Each case gives PASS, LOOSE WHY (permitted, but not the reference behaviour),
 FAIL WHY (a rule is broken), FAIL Head NAME (the handshake was refused: see
 --header and --protocols) or `no connection`. `man wst` explains WHY and NAME.
+With --explain, N in `due N`, `got N` and `end WHO N` is the turn, and WHO ended
+the connection: `tester` is wst. Payloads are cut after 16 bytes (`..`).
 
 With --role client, start your client once `listening on` is printed. Each of
 its connections runs the next case. It must echo, unless --expect protocol is

@@ -15,6 +15,10 @@ nowhere = record {
   expectations = (0, 0);
   echo = (0, 0);
   protocol = (0, 0);
+  styles = (0, 0);
+  hex = (0, 0);
+  text = (0, 0);
+  all = (0, 0);
 }
 
 pub returns-in_err-command : goal.returns-in_err-command
