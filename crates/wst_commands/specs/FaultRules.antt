@@ -10,7 +10,7 @@ use Rattle.ws_suite.specs.declared.evidence.InTurn.{InTurn}
 -- the rule that the bytes of this fault break
 abbrev pub reason_rule : Reason → List ℕ
 reason_rule reason.ReservedBits =
-    codes "A reserved bit is 0 where no extension defines it, and an end that gets another fails the "
+    codes "A reserved bit that no extension defines is 0, and an end that gets a 1 fails the "
     ++ codes "connection (RFC 6455 section 5.2)"
 reason_rule reason.Opcode =
     codes "A frame has an opcode that is defined, and an end that gets another fails the connection (RFC "

@@ -52,8 +52,8 @@ TellsFault (NotACall number) exit faults = TellsLine number (codes "not a call")
 TellsFault (NotACapture number) exit faults = TellsLine number (codes "not a capture") exit faults
 TellsFault (NotAStep number damage) exit faults = TellsLine number (damage_words damage) exit faults
 TellsFault (NotAVerdict number) exit faults = TellsLine number (codes "not a verdict") exit faults
-TellsFault NoText exit faults = (exit ≡ WrongWords) × Tells (codes "error: the words are not UTF-8\n") faults
-TellsFault NoTask exit faults = (exit ≡ WrongWords) × Tells (codes "error: the words ask for nothing\n") faults
+TellsFault NoText exit faults = (exit ≡ WrongWords) × Tells (codes "error: the arguments are not UTF-8\n") faults
+TellsFault NoTask exit faults = (exit ≡ WrongWords) × Tells (codes "error: the arguments ask for nothing\n") faults
 TellsFault (NotListening why) exit faults = (exit ≡ Failed) × Tells (not_listening_line why) faults
 TellsFault NoMemory exit faults = LacksMemory exit faults
 

@@ -1,6 +1,7 @@
 pub mod Exits
 pub mod Devices
 pub mod StepDamages
+pub mod CloseCodes
 pub mod Faults
 pub mod Limits
 pub mod TimeLimits

@@ -3,9 +3,12 @@ use Rattle.std.specs.Prelude.{◌≡◌, ◌⊎◌, ℕ, Bool, true, false, List
 use Rattle.ws_wire.specs.declared.role.Role.{Role}
 use Rattle.ws_wire.specs.declared.role.Role.TheVariants.{Server}
 use Rattle.ws_frame.specs.Devices.{Device, IsUntouched}
-use Rattle.ws_frame.specs.Lines.{Shows, IsFairEnd}
+use Rattle.ws_frame.specs.Lines.{Shows, IsFairEnd, alone}
+use Rattle.ws_frame.specs.declared.source.DataStyle.{DataStyle}
+use Rattle.ws_frame.specs.declared.source.Source.{Source}
 use Rattle.ws_frame.specs.declared.showing.ShowEnd.{ShowEnd}
 use Rattle.ws_frame.specs.declared.showing.ShowEnd.TheVariants as end
+use Rattle.ws_lines.specs.declared.transcript_lines.Showing.{Showing}
 use Rattle.ws_lines.specs.Telling.{HasBegunLines, HasWrittenLines}
 use Rattle.ws_lines.specs.TurnLines.{FitsPlaces}
 use Rattle.ws_scripts.specs.Captures.{DamagesCapture}
@@ -59,39 +62,43 @@ shown end.WriteFault = Ok Failed
 shown end.NoMemory = Err NoMemory
 
 -- the lines of what was read were written, which devices have failed, and how that ended
-abbrev pub ShowsStream : Role → ℕ → Result Exit Fault → Device → Device → Type 0
-ShowsStream from budget ended input output = (end : ShowEnd) × Shows from budget end input output
+abbrev pub ShowsStream : Source → ℕ → Result Exit Fault → Device → Device → Type 0
+ShowsStream source budget ended input output = (end : ShowEnd) × Shows source budget end input output
     × IsFairEnd end input output × (ended ≡ shown end)
 
 -- ---- a capture
 
--- The text of lines of the transcript was written; or a write failed, and a beginning of it was written. Of a
--- transcript with a place that 64 bits can't tell nothing is written, and it is told as want of memory.
-abbrev pub TellsLines : Role → Transcript → Result Exit Fault → Device → Type 0
-TellsLines tested transcript ended output =
-    ((ended ≡ Ok Done) × (output.failed ≡ false) × HasWrittenLines tested transcript output)
-    ⊎ ((ended ≡ Ok Failed) × (output.failed ≡ true) × HasBegunLines tested transcript output)
+-- The text of lines of the transcript was written; or a write failed, or memory ran out, and a beginning of it was
+-- written. Of a transcript with a place that 64 bits can't tell nothing is written, and it is told as want of memory.
+abbrev pub TellsLines : Showing → Transcript → Result Exit Fault → Device → Type 0
+TellsLines showing transcript ended output =
+    ((ended ≡ Ok Done) × (output.failed ≡ false) × HasWrittenLines showing transcript output)
+    ⊎ ((ended ≡ Ok Failed) × (output.failed ≡ true) × HasBegunLines showing transcript output)
+    ⊎ ((ended ≡ Err NoMemory) × (output.failed ≡ false) × HasBegunLines showing transcript output)
     ⊎ ((ended ≡ Err NoMemory) × ¬ (FitsPlaces transcript.turns) × IsUntouched output)
 
 -- what is done with a text: as a capture, in either format, its lines are written; else nothing is written, and what is
 -- wrong is told
-abbrev pub AnswersShownCapture : Role → List ℕ → Result Exit Fault → Device → Type 0
-AnswersShownCapture tested text ended output =
-    ((capture : Capture) × IsAnyCaptureOf capture text × TellsLines tested capture.transcript ended output)
+abbrev pub AnswersShownCapture : Showing → List ℕ → Result Exit Fault → Device → Type 0
+AnswersShownCapture showing text ended output =
+    ((capture : Capture) × IsAnyCaptureOf capture text × TellsLines showing capture.transcript ended output)
     ⊎ ((fault : CaptureFault) × DamagesCapture IsAnyCaptureOf fault text × (ended ≡ Err (capture_fault fault))
     × IsUntouched output)
 
 -- a capture is read whole
-abbrev pub ShowsCapture : Role → Result Exit Fault → Device → Device → Type 0
-ShowsCapture tested ended input output = AnswersInput (AnswersShownCapture tested) ended input output
+abbrev pub ShowsCapture : Showing → Result Exit Fault → Device → Device → Type 0
+ShowsCapture showing ended input output = AnswersInput (AnswersShownCapture showing) ended input output
 
 -- ---- a run
 
--- what is planned is shown; or nothing is read or written, and what is wrong with the words is told
-abbrev pub CarriesOutShow : Result ShowPlan Fault → Result Exit Fault → Device → Device → Type 0
-CarriesOutShow (Ok (Stream from budget)) ended input output = ShowsStream from budget ended input output
-CarriesOutShow (Ok (OfCapture tested)) ended input output = ShowsCapture tested ended input output
-CarriesOutShow (Err fault) ended input output = (ended ≡ Err fault) × IsUntouched input × IsUntouched output
+-- what is planned is shown, with payloads in this style; or nothing is read or written, and what is wrong with the
+-- words is told
+abbrev pub CarriesOutShow : DataStyle → Result ShowPlan Fault → Result Exit Fault → Device → Device → Type 0
+CarriesOutShow style (Ok (Stream from budget)) ended input output =
+    ShowsStream (alone from style) budget ended input output
+CarriesOutShow style (Ok (OfCapture tested)) ended input output =
+    ShowsCapture (record { tested = tested; style = style }) ended input output
+CarriesOutShow style (Err fault) ended input output = (ended ≡ Err fault) × IsUntouched input × IsUntouched output
 
 abbrev pub RunsShow : ShowOptions → Result Exit Fault → Device → Device → Type 0
-RunsShow options ended input output = CarriesOutShow (show_plan options) ended input output
+RunsShow options ended input output = CarriesOutShow options.style (show_plan options) ended input output

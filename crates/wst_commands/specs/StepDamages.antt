@@ -1,5 +1,5 @@
 -- What is wrong with a line that is no step, where that is known to be typed often, and what is told of it.
-use Rattle.std.specs.Prelude.{◌≡◌, ℕ, zero, suc, ◌+◌, ◌-◌, ◌==◌, nat_eq, nat_lt, Bool, true, false, ◌||◌, if◌then◌else◌}
+use Rattle.std.specs.Prelude.{◌≡◌, ℕ, zero, suc, ◌+◌, ◌-◌, ◌==◌, nat_eq, nat_lt, Bool, false, ◌||◌, if◌then◌else◌}
 use Rattle.std.specs.Prelude.{List, [], ◌∷◌, drop, take, position, codes, Option, Some, None, MatchOption}
 use Rattle.std.specs.Borrow.{Bor}
 use Rattle.std.specs.List.{ends_with, list_any, starts_with}
@@ -57,12 +57,16 @@ words_damage (name ∷ fields) = if descend 0 fields then Order else Other
 abbrev pub order_damage : List ℕ → StepDamage
 order_damage line = words_damage (words_of line)
 
+-- what stands behind the second quote of a text: no field, which is to stand before the text
+abbrev pub behind_damage : List (List ℕ) → StepDamage
+behind_damage words = if descend 5 words then Order else Other
+
 -- what stands behind the second quote: no quote, and nothing else
 abbrev pub text_damage : List ℕ → Option (List ℕ × List ℕ) → StepDamage
 text_damage front None = Quotes
 text_damage front (Some (_, [])) = order_damage front
 text_damage front (Some (_, byte ∷ behind)) =
-    if list_any (λ other. other == 34) (byte ∷ behind) then Quotes else Order
+    if list_any (λ other. other == 34) (byte ∷ behind) then Quotes else behind_damage (words_of (byte ∷ behind))
 
 -- a line of which this stands before its first quote, and this behind it
 abbrev pub quoted_damage : List ℕ → List ℕ → StepDamage
@@ -74,7 +78,7 @@ cut_damage line None = order_damage line
 cut_damage line (Some parts) = quoted_damage parts.0 parts.1
 
 -- a line that has an LF: it ends in CR; or else it has quotes, and not two; or else its fields stand in another order,
--- or something behind its data
+-- or one of them behind its data
 abbrev pub line_damage : List ℕ → StepDamage
 line_damage line = if ends_with nat_eq line (13 ∷ []) then EndsInCr else cut_damage line (cut_of 34 line)
 

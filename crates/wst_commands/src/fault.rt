@@ -141,11 +141,11 @@ pub fn tell_fault<F: Write>(alloc: Global, fault: Fault, faults: &mut Watched<F>
         Fault::NotAStep(line, damage) => tell_line(alloc, line, damage.words(), faults),
         Fault::NotAVerdict(line) => tell_line(alloc, line, "not a verdict", faults),
         Fault::NoText => {
-            tell(b"error: the words are not UTF-8\n", faults);
+            tell(b"error: the arguments are not UTF-8\n", faults);
             Exit::WrongWords
         }
         Fault::NoTask => {
-            tell(b"error: the words ask for nothing\n", faults);
+            tell(b"error: the arguments ask for nothing\n", faults);
             Exit::WrongWords
         }
         Fault::NotListening(why) => {

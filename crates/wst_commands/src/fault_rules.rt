@@ -41,8 +41,8 @@ fn reason_rule(reason: Reason) -> &'static str
 {
     match reason {
         Reason::ReservedBits =>
-            "A reserved bit is 0 where no extension defines it, and an end that gets another \
-             fails the connection (RFC 6455 section 5.2)",
+            "A reserved bit that no extension defines is 0, and an end that gets a 1 fails the \
+             connection (RFC 6455 section 5.2)",
         Reason::Opcode =>
             "A frame has an opcode that is defined, and an end that gets another fails the \
              connection (RFC 6455 section 5.2)",

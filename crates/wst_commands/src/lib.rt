@@ -6,12 +6,14 @@
 //! its like): `run_show`, `run_moves` (of `pair`), `run_head`, `run_session`, `run_judge`, `run_convert`, `run_cases`,
 //! `run_report`;
 //! `cases_of`, `ids_for` and `is_glob`, which say for which cases words stand; `end_run`, `tell_fault` and
-//! `tell_no_cases`, which tell a fault; `step_damage`, what is wrong with a line of a script; `read_whole`, which reads
-//! an input to its end; `deliver` and `tell`, which write a text; `limits_given`, `timeout_given`, `has_unit`;
-//! `judgement_of`, the verdict on a transcript and the lines below it; `exit_of` and `Exit::status`.
+//! `tell_no_cases`, which tell a fault; `step_damage`, what is wrong with a line of a script; `code_notes`, remarks on
+//! its close frames; `read_whole`, which reads an input to its end; `deliver` and `tell`, which write a text;
+//! `limits_given`, `timeout_given`, `has_unit`; `judgement_of`, the verdict on a transcript and the lines below it;
+//! `exit_of` and `Exit::status`.
 #![tactic(auto)]
 
 mod cases;
+mod close_codes;
 mod convert;
 mod exit;
 mod explaining;
@@ -32,6 +34,7 @@ mod telling;
 mod time_limit;
 
 pub use cases::run_cases;
+pub use close_codes::code_notes;
 pub use convert::run_convert;
 pub use exit::Exit;
 pub use explaining::{Judgement, judgement_of};

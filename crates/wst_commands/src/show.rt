@@ -3,6 +3,7 @@
 ghost use Rattle.std.specs.Prelude.{◌≡◌, false};
 ghost use Rattle.ws_frame.specs.Devices.{watched};
 ghost use Rattle.ws_frame.specs.Watching.{has_failed};
+ghost use Rattle.ws_frame.specs.Lines.{alone};
 ghost use Rattle.wst_commands.specs.Show.{AnswersShownCapture, RunsShow, ShowsCapture, ShowsStream, TellsLines};
 ghost use Rattle.wst_commands.specs.Show.{budget_of, show_plan, shown, shown_role};
 
@@ -12,8 +13,8 @@ use crate::judge::fault_of;
 use crate::reading_whole::{ReadStop, read_whole};
 use std::alloc::Global;
 use std::io::{Read, Write};
-use ws_frame::{ShowEnd, Watched, show};
-use ws_lines::{fits_places, show_transcript};
+use ws_frame::{DataStyle, ShowEnd, ShowFault, Source, Watched, show, show_payloads};
+use ws_lines::{Showing, fits_places, show_transcript};
 use ws_suite::{Transcript, read_capture2};
 use ws_wire::Role;
 use wst_words::ShowOptions;
@@ -45,8 +46,16 @@ pub fn run_show<R: Read, W: Write>(
 {
     match plan_of(options) {
         Err(fault) => Err(fault),
-        Ok(ShowPlan::Stream { from, budget }) => show_stream(from, budget, reader, writer),
-        Ok(ShowPlan::Capture { tested }) => show_capture(alloc, tested, reader, writer),
+        Ok(ShowPlan::Stream { from, budget }) => {
+            show_stream(alloc, from, options.style, budget, reader, writer)
+        }
+        Ok(ShowPlan::Capture { tested }) => {
+            let showing = Showing {
+                tested,
+                style: options.style,
+            };
+            show_capture(alloc, showing, reader, writer)
+        }
     }
 }
 
@@ -87,21 +96,28 @@ fn budget_of(budget: Option<u64>) -> u64
     }
 }
 
-/// Shows a stream that this end sent.
+/// Shows a stream that this end sent. By the first bytes of each payload it takes no memory.
 #[inline(never)]
 fn show_stream<R: Read, W: Write>(
+    alloc: Global,
     from: Role,
+    style: DataStyle,
     budget: u64,
     reader: &mut Watched<R>,
     writer: &mut Watched<W>,
 ) -> Result<Exit, Fault>
     requires reader_works { has_failed reader.old ≡ false }
     requires writer_works { has_failed writer.old ≡ false }
-    ensures { ShowsStream from budget result (watched R.remaining reader.old reader.new)
+    ensures { ShowsStream (alone from style) budget result (watched R.remaining reader.old reader.new)
         (watched W.contents writer.old writer.new) }
 {
-    let end = show(reader, writer, from, budget);
-    exit_of(end)
+    match style {
+        DataStyle::Hex => exit_of(show(reader, writer, from, budget)),
+        DataStyle::Text | DataStyle::All => {
+            let source = Source::alone(from, style);
+            exit_of(show_payloads(alloc, reader, writer, source, budget))
+        }
+    }
 }
 
 /// How a run over a stream ends.
@@ -116,21 +132,21 @@ fn exit_of(end: ShowEnd) -> Result<Exit, Fault>
     }
 }
 
-/// Shows a capture whose tested end has this role.
+/// Shows a capture.
 #[inline(never)]
 fn show_capture<R: Read, W: Write>(
     alloc: Global,
-    tested: Role,
+    showing: Showing,
     reader: &mut Watched<R>,
     writer: &mut Watched<W>,
 ) -> Result<Exit, Fault>
     requires reader_works { has_failed reader.old ≡ false }
     requires writer_works { has_failed writer.old ≡ false }
-    ensures { ShowsCapture tested result (watched R.remaining reader.old reader.new)
+    ensures { ShowsCapture showing result (watched R.remaining reader.old reader.new)
         (watched W.contents writer.old writer.new) }
 {
     match read_whole(alloc, reader) {
-        Ok(text) => answer(alloc, tested, text.as_slice(), writer),
+        Ok(text) => answer(alloc, showing, text.as_slice(), writer),
         Err(ReadStop::Fault) => Ok(Exit::Failed),
         Err(ReadStop::NoMemory) => Err(Fault::NoMemory),
     }
@@ -139,15 +155,15 @@ fn show_capture<R: Read, W: Write>(
 /// Shows a text as a capture. A text that is none is damaged.
 fn answer<W: Write>(
     alloc: Global,
-    tested: Role,
+    showing: Showing,
     text: &[u8],
     writer: &mut Watched<W>,
 ) -> Result<Exit, Fault>
     requires { has_failed writer.old ≡ false }
-    ensures { AnswersShownCapture tested text.now result (watched W.contents writer.old writer.new) }
+    ensures { AnswersShownCapture showing text.now result (watched W.contents writer.old writer.new) }
 {
     match read_capture2(alloc, text) {
-        Ok(capture) => tell_lines(tested, &capture.transcript, writer),
+        Ok(capture) => tell_lines(alloc, showing, &capture.transcript, writer),
         Err(fault) => Err(fault_of(fault)),
     }
 }
@@ -155,18 +171,20 @@ fn answer<W: Write>(
 /// Writes the lines of a transcript. One with a place that 64 bits can't tell, which no memory holds, is told as want
 /// of it.
 fn tell_lines<W: Write>(
-    tested: Role,
+    alloc: Global,
+    showing: Showing,
     transcript: &Transcript,
     writer: &mut Watched<W>,
 ) -> Result<Exit, Fault>
     requires { has_failed writer.old ≡ false }
-    ensures { TellsLines tested transcript.now result (watched W.contents writer.old writer.new) }
+    ensures { TellsLines showing transcript.now result (watched W.contents writer.old writer.new) }
 {
     if !fits_places(transcript) {
         return Err(Fault::NoMemory);
     }
-    match show_transcript(tested, transcript, writer) {
+    match show_transcript(alloc, showing, transcript, writer) {
         Ok(()) => Ok(Exit::Done),
-        Err(_) => Ok(Exit::Failed),
+        Err(ShowFault::Write) => Ok(Exit::Failed),
+        Err(ShowFault::NoMemory) => Err(Fault::NoMemory),
     }
 }

@@ -1,12 +1,15 @@
 //! What is wrong with a line that is no step, where that is known to be typed often.
 
 ghost use Rattle.std.specs.Prelude.{◌≡◌, ◌==◌, IfOk, map, position};
-ghost use Rattle.wst_commands.specs.StepDamages.{CutsAtMark, behind_lines, damage_words, descend, field_rank};
-ghost use Rattle.wst_commands.specs.StepDamages.{line_damage};
+ghost use Rattle.wst_commands.specs.StepDamages.{CutsAtMark, behind_damage, behind_lines, damage_words, descend};
+ghost use Rattle.wst_commands.specs.StepDamages.{field_rank, line_damage};
 ghost use Rattle.wst_commands.specs.StepDamages.{order_damage, quoted_damage, step_damage, words_damage};
 
 use std::alloc::{AllocError, Global};
 use ws_formats::words_of;
+
+/// The data of a frame stands behind its fields.
+const DATA: u8 = 5;
 
 /// What is wrong with the damaged line of a script.
 #[derive(Clone, Copy, Debug, PartialEq, Eq)]
@@ -89,9 +92,20 @@ fn quoted_damage(alloc: Global, front: &[u8], rest: &[u8]) -> Result<StepDamage,
         return Ok(StepDamage::Quotes);
     }
     if behind.is_empty() {
-        order_damage(alloc, front)
+        return order_damage(alloc, front);
+    }
+    let words = words_of(alloc, behind)?;
+    Ok(behind_damage(words.as_slice()))
+}
+
+/// What is wrong with the words behind a text.
+fn behind_damage(words: &[&[u8]]) -> StepDamage
+    ensures { result ≡ behind_damage (map (λ word. word.now) words.now) }
+{
+    if descend(DATA, words) {
+        StepDamage::Order
     } else {
-        Ok(StepDamage::Order)
+        StepDamage::Other
     }
 }
 
@@ -108,16 +122,16 @@ fn words_damage(words: &[&[u8]]) -> StepDamage
     ensures { result ≡ words_damage (map (λ word. word.now) words.now) }
 {
     match words {
-        [_, fields @ ..] if descend(fields) => StepDamage::Order,
+        [_, fields @ ..] if descend(0, fields) => StepDamage::Order,
         _ => StepDamage::Other,
     }
 }
 
-/// Whether a word of a frame stands behind one that is to follow it.
-fn descend(fields: &[&[u8]]) -> bool
-    ensures { result ≡ descend 0 (map (λ word. word.now) fields.now) }
+/// Whether a word of a frame stands behind one that is to follow it. The first stands behind one of this rank.
+fn descend(first: u8, fields: &[&[u8]]) -> bool
+    ensures { result ≡ descend first (map (λ word. word.now) fields.now) }
 {
-    let mut last = 0;
+    let mut last = first;
     for word in fields {
         let rank = field_rank(*word);
         if rank < last {
@@ -141,12 +155,12 @@ fn field_rank(word: &[u8]) -> u8
     } else if word.starts_with(b"form=") {
         4
     } else {
-        5
+        DATA
     }
 }
 
 /// What stands before the first of these bytes, and behind it. `None` where there is none.
-fn cut_at(bytes: &[u8], mark: u8) -> Option<(&[u8], &[u8])>
+pub(crate) fn cut_at(bytes: &[u8], mark: u8) -> Option<(&[u8], &[u8])>
     ensures { CutsAtMark mark bytes.now result }
 {
     let at = first_at(bytes, mark)?;

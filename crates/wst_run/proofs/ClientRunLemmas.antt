@@ -31,7 +31,11 @@ sends_captured plan rules case transcript exit output faults are sent captures (
     subst (λ (e : Exit). SendsScript plan case (Ok e) output faults) (sym is) (
       rules,
       are,
-      (transcript, sent, subst (λ (b : Bool). WritesClientRun b transcript output) (sym captures) (written, works)),
+      (
+        transcript,
+        sent,
+        subst (λ (b : Bool). WritesClientRun plan.style b transcript output) (sym captures) (written, works),
+      ),
     )
 sends_captured plan rules case transcript exit output faults are sent captures (inr (is, fails, begun)) =
     subst (λ (e : Exit). SendsScript plan case (Ok e) output faults) (sym is)

@@ -4,12 +4,15 @@ use Rattle.ws_base.specs.declared.text_fault.TextFault.{TextFault}
 use Rattle.ws_base.specs.declared.text_fault.TextFault.TheVariants as text_fault
 use Rattle.ws_formats.specs.Lines.{Damages}
 use Rattle.ws_wire.specs.declared.role.Role.TheVariants.{Client}
+use Rattle.ws_frame.specs.declared.source.DataStyle.{DataStyle}
 use Rattle.ws_frame.specs.Devices.{Device, HasBegun, HasWritten, IsUntouched}
 use Rattle.ws_reports.specs.Reports.{ReportValue}
 use Rattle.ws_scripts.specs.Captures2.{written_capture2}
 use Rattle.ws_scripts.specs.ScriptTexts.{IsScriptText, IsTextOfScript}
 use Rattle.ws_scripts.specs.declared.script.Case.{Case}
 use Rattle.ws_scripts.specs.declared.transcript.Transcript.{Transcript}
+use Rattle.wst_commands.specs.CloseCodes.{HasCodeNotes}
+use Rattle.wst_commands.specs.Devices.{Tells}
 use Rattle.wst_commands.specs.Faults.{Ends}
 use Rattle.wst_commands.specs.ReadingWhole.{ReadsAll, StopsReading, stopped}
 use Rattle.wst_commands.specs.StepDamages.{step_damage}
@@ -51,6 +54,10 @@ EndsBehind Runs exit faults = (ended : Result Exit Fault) × (first : Device) ×
 abbrev pub NotesBefore : List ℕ → (Device → Type 0) → Device → Type 0
 NotesBefore address Runs faults = (first : Device) × GoesBefore first faults
     × TellsEach (listening_line address ∷ []) first × Runs (record faults { old = first.new })
+
+-- what is to be remarked of the close frames of a script is told
+abbrev pub NotesCodes : List ℕ → Device → Type 0
+NotesCodes script faults = (notes : List ℕ) × HasCodeNotes script notes × Tells notes faults
 
 -- ---- tests
 
@@ -137,9 +144,10 @@ pub record AreScriptRulesOf (plan : SendPlan) (rules : ScriptRules) : Type 0 whe
   pub expected : rules.expected ≡ plan.run.expected
 
 -- the lines of the run were written, flushed, or its capture
-abbrev pub WritesClientRun : Bool → Transcript → Device → Type 0
-WritesClientRun false transcript output = HasWrittenRun Client transcript output
-WritesClientRun true transcript output =
+abbrev pub WritesClientRun : DataStyle → Bool → Transcript → Device → Type 0
+WritesClientRun style false transcript output =
+    HasWrittenRun (record { tested = Client; style = style }) transcript output
+WritesClientRun style true transcript output =
     HasWritten (written_capture2 (client_capture transcript)) output × (output.failed ≡ false)
 
 -- a write failed: of a capture, where one is asked for, a beginning was written; of lines it is not said what was
@@ -159,7 +167,7 @@ SendsToNone plan case output faults = (rules : ScriptRules) × AreScriptRulesOf 
 abbrev pub SendsScript : SendPlan → Case → Result Exit Fault → Device → Device → Type 0
 SendsScript plan case (Ok Done) output faults = (rules : ScriptRules) × AreScriptRulesOf plan rules
     × ((transcript : Transcript) × ScriptsClient (IsScriptedSo rules) case (Some transcript) faults
-    × WritesClientRun plan.capture transcript output)
+    × WritesClientRun plan.style plan.capture transcript output)
 SendsScript plan case (Ok Failed) output faults =
     BreaksClientRun plan case output faults ⊎ SendsToNone plan case output faults
 SendsScript plan case (Ok other) output faults = ⊥
@@ -181,10 +189,18 @@ abbrev pub IsScriptFault : List ℕ → TextFault → Fault → Type 0
 IsScriptFault text (text_fault.Damaged line) fault = IsDamageFault text line fault
 IsScriptFault text text_fault.NoMemory fault = fault ≡ NoMemory
 
+-- A script is sent behind the remarks on it; or memory ran out for them, and nothing was written or told.
+abbrev pub SendsNotedAt :
+    List ℕ → SendPlan → Case → List ℕ → Result Exit Fault → Device → Device → Type 0
+SendsNotedAt address plan case text ended output faults =
+    ((first : Device) × GoesBefore first faults × NotesCodes text first
+    × SendsAt address plan case ended output (record faults { old = first.new }))
+    ⊎ ((ended ≡ Err NoMemory) × IsUntouched output × IsUntouched faults)
+
 -- a text is a script, which is sent; or it is none, and nothing was written or told
 abbrev pub SendsTextAt : List ℕ → SendPlan → List ℕ → Result Exit Fault → Device → Device → Type 0
 SendsTextAt address plan text ended output faults =
-    ((case : Case) × IsScriptText case text × SendsAt address plan case ended output faults)
+    ((case : Case) × IsScriptText case text × SendsNotedAt address plan case text ended output faults)
     ⊎ ((why : TextFault) × Damages IsTextOfScript why text
     × ((fault : Fault) × IsScriptFault text why fault × (ended ≡ Err fault))
     × IsUntouched output × IsUntouched faults)

@@ -9,6 +9,7 @@ use Rattle.ws_scripts.specs.Captures2.{written_capture2}
 use Rattle.ws_scripts.specs.ScriptTexts.{IsScriptText, IsTextOfScript}
 use Rattle.ws_scripts.specs.declared.script.Case.{Case}
 use Rattle.ws_scripts.specs.declared.transcript.Transcript.{Transcript}
+use Rattle.ws_lines.specs.declared.transcript_lines.Showing.{Showing}
 use Rattle.wst_words.specs.declared.send.SendOptions.{SendOptions}
 use Rattle.wst_commands.specs.Devices.{Tells}
 use Rattle.wst_commands.specs.Faults.{LacksMemory, TellsFault}
@@ -19,7 +20,7 @@ use Rattle.wst_commands.specs.declared.exit.Exit.TheVariants.{Damaged, Done, Fai
 use Rattle.wst_commands.specs.declared.fault.Fault.TheVariants as fault
 use Rattle.wst_commands.specs.declared.reading_whole.ReadStop.{ReadStop}
 use Rattle.wst_commands.specs.declared.reading_whole.ReadStop.TheVariants as read
-use Rattle.wst_run.specs.ClientRuns.{SendsToClientAt}
+use Rattle.wst_run.specs.ClientRuns.{GoesBefore, NotesCodes, SendsToClientAt}
 use Rattle.wst_testing.specs.LineWriting.{HasWrittenRun}
 use Rattle.wst_sockets.specs.Meetings.{miss_line}
 use Rattle.wst_testing.specs.Outcomes.{outcome_words}
@@ -43,13 +44,18 @@ use Rattle.wst_run.specs.declared.send.SendStop.TheVariants as stop
 pub record IsSendPlan (options : SendOptions) (plan : SendPlan) : Type 0 where
   pub run : IsRunPlan options.run plan.run
   pub capture : plan.capture ≡ options.capture
+  pub style : plan.style ≡ options.style
 
 -- ---- what is written
+
+-- how the lines of a plan are shown
+abbrev pub send_showing : SendPlan → Showing
+send_showing plan = record { tested = tested_role plan.run.tested; style = plan.style }
 
 -- the lines of a run were written, flushed, or its capture, with the key under which frames without one were masked
 abbrev pub WritesRun : SendPlan → Transcript → Device → Type 0
 WritesRun plan transcript output =
-    ((plan.capture ≡ false) × HasWrittenRun (tested_role plan.run.tested) transcript output)
+    ((plan.capture ≡ false) × HasWrittenRun (send_showing plan) transcript output)
     ⊎ ((plan.capture ≡ true)
     × HasWritten (written_capture2 (run_capture (tested_role plan.run.tested) plan.run.key transcript)) output
     × (output.failed ≡ false))
@@ -84,22 +90,33 @@ abbrev pub IsScriptStop : List ℕ → TextFault → SendStop → Type 0
 IsScriptStop text (text_fault.Damaged line) why = IsDamageStop text line why
 IsScriptStop text text_fault.NoMemory why = why ≡ stop.NoMemory
 
--- the text is a script, which was sent so; or it is none, and nothing was written
-abbrev pub SendsText : (Case → Meeting → Type 0) → SendPlan → List ℕ → Result (Unit {0}) SendStop → Device → Type 0
-SendsText Meets plan text ended output =
-    ((case : Case) × IsScriptText case text × SendsCase Meets plan case ended output)
+-- The text is a script: remarks on it were told, and it was sent so; or memory ran out for them, and nothing was told
+-- or written.
+abbrev pub SendsScriptText :
+    (Case → Meeting → Type 0) → SendPlan → Case → List ℕ → Result (Unit {0}) SendStop → Device → Device → Type 0
+SendsScriptText Meets plan case text ended output faults =
+    (NotesCodes text faults × SendsCase Meets plan case ended output)
+    ⊎ ((ended ≡ Err stop.NoMemory) × IsUntouched output × IsUntouched faults)
+
+-- the text is a script, which was sent so; or it is none, and nothing was written or told
+abbrev pub SendsText :
+    (Case → Meeting → Type 0) → SendPlan → List ℕ → Result (Unit {0}) SendStop → Device → Device → Type 0
+SendsText Meets plan text ended output faults =
+    ((case : Case) × IsScriptText case text × SendsScriptText Meets plan case text ended output faults)
     ⊎ ((fault : TextFault) × Damages IsTextOfScript fault text
-    × ((why : SendStop) × IsScriptStop text fault why × (ended ≡ Err why)) × IsUntouched output)
+    × ((why : SendStop) × IsScriptStop text fault why × (ended ≡ Err why)) × IsUntouched output × IsUntouched faults)
 
 abbrev pub input_stop : ReadStop → SendStop
 input_stop read.Fault = stop.Device
 input_stop read.NoMemory = stop.NoMemory
 
--- the input was read whole, and sent so; or it could not be read, and nothing was written
-abbrev pub SendsInput : (Case → Meeting → Type 0) → SendPlan → Result (Unit {0}) SendStop → Device → Device → Type 0
-SendsInput Meets plan ended input output =
-    ((text : List ℕ) × ReadsAll text input × SendsText Meets plan text ended output)
-    ⊎ ((why : ReadStop) × StopsReading why input × (ended ≡ Err (input_stop why)) × IsUntouched output)
+-- the input was read whole, and sent so; or it could not be read, and nothing was written or told
+abbrev pub SendsInput :
+    (Case → Meeting → Type 0) → SendPlan → Result (Unit {0}) SendStop → Device → Device → Device → Type 0
+SendsInput Meets plan ended input output faults =
+    ((text : List ℕ) × ReadsAll text input × SendsText Meets plan text ended output faults)
+    ⊎ ((why : ReadStop) × StopsReading why input × (ended ≡ Err (input_stop why)) × IsUntouched output
+    × IsUntouched faults)
 
 -- ---- what is told on the fault output, and the exit
 
@@ -117,10 +134,11 @@ TellsSendEnd (Err stop.NoMemory) exit faults = LacksMemory exit faults
 
 -- ---- a run
 
--- the plan is carried out over ends that meet cases so, and how that ended is told
+-- the plan is carried out over ends that meet cases so, and how that ended is told behind what was told before
 abbrev pub RunsSendPlan : (Case → Meeting → Type 0) → SendPlan → Exit → Device → Device → Device → Type 0
-RunsSendPlan Meets plan exit input output faults = (ended : Result (Unit {0}) SendStop)
-    × SendsInput Meets plan ended input output × TellsSendEnd ended exit faults
+RunsSendPlan Meets plan exit input output faults = (ended : Result (Unit {0}) SendStop) × (first : Device)
+    × GoesBefore first faults × SendsInput Meets plan ended input output first
+    × TellsSendEnd ended exit (record faults { old = first.new })
 
 -- the plan is carried out over this end
 abbrev pub SendsOver : TestedEnd → SendPlan → Exit → Device → Device → Device → Type 0

@@ -17,7 +17,7 @@ ghost use Rattle.wst_sockets.specs.Serve.{listening_line};
 ghost use Rattle.wst_run.specs.Test.{CanBeTested};
 ghost use Rattle.wst_clients.specs.Visits.{known_by};
 
-use crate::send::SendPlan;
+use crate::send::{SendPlan, note_codes};
 use crate::test::TestPlan;
 use std::alloc::Global;
 use std::io::{Read, Write};
@@ -25,6 +25,7 @@ use std::net::Net;
 use ws_base::{NoMemory, TextFault};
 use ws_connection::Silent;
 use ws_frame::Watched;
+use ws_lines::{Showing, TranscriptLines};
 use ws_reports::Report;
 use ws_suite::{Case, read_script};
 use ws_wire::Role;
@@ -278,7 +279,10 @@ fn send_text<N: Net, W: Write, F: Write>(
     ensures still { StaysFailed faults.old faults.new }
 {
     match read_script(alloc, text) {
-        Ok(case) => send_at(alloc, net, address, plan, &case, writer, faults),
+        Ok(case) => {
+            note_codes(alloc, text, faults)?;
+            send_at(alloc, net, address, plan, &case, writer, faults)
+        }
         Err(TextFault::Damaged(line)) => Err(damage_fault(alloc, text, line)),
         Err(TextFault::NoMemory) => Err(Fault::NoMemory),
     }
@@ -385,7 +389,12 @@ fn show_script<N: Net, W: Write, F: Write>(
     ensures still { StaysFailed faults.old faults.new }
 {
     let rules = script_rules(plan);
-    let mut lines = LineWriter::new(Role::Client, writer);
+    let showing = Showing {
+        tested: Role::Client,
+        style: plan.style,
+    };
+    let mut parts = TranscriptLines::new(alloc, showing);
+    let mut lines = LineWriter::new(alloc, showing, &mut parts, writer);
     match script_client(alloc, clients, &rules, case, &mut lines, faults) {
         Ok(Some(_)) => Ok(Exit::Done),
         Ok(None) => Ok(Exit::Failed),

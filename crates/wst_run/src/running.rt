@@ -252,7 +252,7 @@ fn answer_error<W: Write, F: Write>(
 /// run ended.
 pub fn words_are_no_text<F: Write>(alloc: Global, no_memory: bool, faults: &mut Watched<F>) -> Exit
     ensures status { exit_status result ≡ (if no_memory then 3 else 2) }
-    ensures told { Tells (if no_memory then codes "no memory\n" else codes "error: the words are not UTF-8\n")
+    ensures told { Tells (if no_memory then codes "no memory\n" else codes "error: the arguments are not UTF-8\n")
         (watched F.contents faults.old faults.new) }
 {
     if no_memory {

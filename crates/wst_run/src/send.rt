@@ -1,11 +1,13 @@
 //! The command `send`: what is to be run, and its run over an end. Its lines are told in docs/FORMATS.md.
 
-ghost use Rattle.std.specs.Prelude.{◌≡◌, MatchResult, true, false};
+ghost use Rattle.std.specs.Prelude.{◌≡◌, MatchResult, OnErr, OnOk, true, false};
 ghost use Rattle.ws_frame.specs.Devices.{watched};
 ghost use Rattle.ws_frame.specs.Watching.{has_failed};
 ghost use Rattle.ws_scripts.specs.Scripts.{CanBeRun};
 ghost use Rattle.wst_testing.specs.RunPlans.{CanNotRun};
 ghost use Rattle.wst_run.specs.Send.{IsSendPlan, RunsSendPlan, SendsCase, SendsInput, SendsOver, SendsText};
+ghost use Rattle.wst_commands.specs.Devices.{StaysFailed};
+ghost use Rattle.wst_run.specs.ClientRuns.{NotesCodes};
 ghost use Rattle.wst_run.specs.Send.{IsDamageStop, TellsRefused, TellsSendEnd};
 
 use crate::clients_at::send_to_clients_at;
@@ -14,9 +16,12 @@ use std::io::{Read, Write};
 use std::net::Net;
 use ws_base::{NoMemory, TextFault};
 use ws_connection::HeadRefusal;
-use ws_frame::{Watched, WriteFault, write_whole};
+use ws_frame::{DataStyle, Watched, WriteFault, write_whole};
+use ws_lines::{Showing, TranscriptLines};
 use ws_suite::{Case, read_script};
-use wst_commands::{Exit, Fault, ReadStop, StepDamage, read_whole, step_damage, tell, tell_fault};
+use wst_commands::{
+    Exit, Fault, ReadStop, StepDamage, code_notes, read_whole, step_damage, tell, tell_fault,
+};
 use wst_sockets::{ConnectFault, Meeting};
 use wst_testing::{
     AddressServer, CaseServer, LineStop, LineWriter, Outcome, Refusal, RunPlan, TestedEnd,
@@ -31,6 +36,8 @@ pub struct SendPlan<'a> {
     pub run: RunPlan<'a>,
     /// The capture is written in place of the lines.
     pub capture: bool,
+    /// How the lines show payloads.
+    pub style: DataStyle,
 }
 
 /// Why a script was not run, or not to its end.
@@ -76,6 +83,7 @@ pub fn plan_send<'a>(alloc: Global, options: &SendOptions<'a>) -> Result<SendPla
     Ok(SendPlan {
         run,
         capture: options.capture,
+        style: options.style,
     })
 }
 
@@ -120,47 +128,87 @@ pub fn send_to<S: CaseServer, R: Read, W: Write, F: Write>(
         (watched R.remaining reader.old reader.new) (watched W.contents writer.old writer.new)
         (watched F.contents faults.old faults.new) }
 {
-    let ended = send_input(alloc, server, plan, reader, writer);
+    let ended = send_input(alloc, server, plan, reader, writer, faults);
     tell_end(alloc, ended, faults)
 }
 
 /// Reads the input whole, and runs the script that it is.
-fn send_input<S: CaseServer, R: Read, W: Write>(
+fn send_input<S: CaseServer, R: Read, W: Write, F: Write>(
     alloc: Global,
     server: &S,
     plan: &SendPlan<'_>,
     reader: &mut Watched<R>,
     writer: &mut Watched<W>,
+    faults: &mut Watched<F>,
 ) -> Result<(), SendStop>
     requires reader_works { has_failed reader.old ≡ false }
     requires writer_works { has_failed writer.old ≡ false }
     ensures { SendsInput (S.meets server.now plan.now.run.key) plan.now result
-        (watched R.remaining reader.old reader.new) (watched W.contents writer.old writer.new) }
+        (watched R.remaining reader.old reader.new) (watched W.contents writer.old writer.new)
+        (watched F.contents faults.old faults.new) }
 {
     match read_whole(alloc, reader) {
-        Ok(text) => send_text(alloc, server, plan, text.as_slice(), writer),
+        Ok(text) => send_text(alloc, server, plan, text.as_slice(), writer, faults),
         Err(ReadStop::Fault) => Err(SendStop::Device),
         Err(ReadStop::NoMemory) => Err(SendStop::NoMemory),
     }
 }
 
-/// Runs the script that a text is.
-fn send_text<S: CaseServer, W: Write>(
+/// Runs the script that a text is, after what is to be remarked of its close frames.
+fn send_text<S: CaseServer, W: Write, F: Write>(
     alloc: Global,
     server: &S,
     plan: &SendPlan<'_>,
     text: &[u8],
     writer: &mut Watched<W>,
+    faults: &mut Watched<F>,
 ) -> Result<(), SendStop>
     requires { has_failed writer.old ≡ false }
     ensures { SendsText (S.meets server.now plan.now.run.key) plan.now text.now result
-        (watched W.contents writer.old writer.new) }
+        (watched W.contents writer.old writer.new) (watched F.contents faults.old faults.new) }
 {
     match read_script(alloc, text) {
-        Ok(case) if plan.capture => send_captured(alloc, server, plan, &case, writer),
-        Ok(case) => send_shown(alloc, server, plan, &case, writer),
+        Ok(case) => {
+            note_codes(alloc, text, faults)?;
+            send_case(alloc, server, plan, &case, writer)
+        }
         Err(TextFault::Damaged(line)) => Err(damage_stop(alloc, text, line)),
         Err(TextFault::NoMemory) => Err(SendStop::NoMemory),
+    }
+}
+
+/// Tells what is to be remarked of the close frames of a script.
+pub(crate) fn note_codes<F: Write>(
+    alloc: Global,
+    script: &[u8],
+    faults: &mut Watched<F>,
+) -> Result<(), NoMemory>
+    ensures told { OnOk result (NotesCodes script.now (watched F.contents faults.old faults.new)) }
+    ensures kept { OnErr result (faults.new ≡ faults.old) }
+    ensures still { StaysFailed faults.old faults.new }
+{
+    let notes = code_notes(alloc, script)?;
+    tell(notes.as_bytes(), faults);
+    Ok(())
+}
+
+/// Runs a script, and writes what the plan asks for.
+fn send_case<S: CaseServer, W: Write>(
+    alloc: Global,
+    server: &S,
+    plan: &SendPlan<'_>,
+    case: &Case,
+    writer: &mut Watched<W>,
+) -> Result<(), SendStop>
+    requires works { has_failed writer.old ≡ false }
+    requires runs { CanBeRun case.now }
+    ensures { SendsCase (S.meets server.now plan.now.run.key) plan.now case.now result
+        (watched W.contents writer.old writer.new) }
+{
+    if plan.capture {
+        send_captured(alloc, server, plan, case, writer)
+    } else {
+        send_shown(alloc, server, plan, case, writer)
     }
 }
 
@@ -216,7 +264,12 @@ fn send_shown<S: CaseServer, W: Write>(
     ensures { SendsCase (S.meets server.now plan.now.run.key) plan.now case.now result
         (watched W.contents writer.old writer.new) }
 {
-    let mut lines = LineWriter::new(plan.run.tested.role(), writer);
+    let showing = Showing {
+        tested: plan.run.tested.role(),
+        style: plan.style,
+    };
+    let mut parts = TranscriptLines::new(alloc, showing);
+    let mut lines = LineWriter::new(alloc, showing, &mut parts, writer);
     match server.run_told(alloc, case, plan.run.key, &mut lines) {
         Ok(Meeting::Ran(_)) => Ok(()),
         Ok(Meeting::Refused(refusal)) => Err(SendStop::Refused(refusal)),
@@ -228,7 +281,8 @@ fn send_shown<S: CaseServer, W: Write>(
 
 /// Tells how a run ended, where there is something to tell, and answers the exit that it stands for.
 fn tell_end<F: Write>(alloc: Global, ended: Result<(), SendStop>, faults: &mut Watched<F>) -> Exit
-    ensures { TellsSendEnd ended result (watched F.contents faults.old faults.new) }
+    ensures told { TellsSendEnd ended result (watched F.contents faults.old faults.new) }
+    ensures still { StaysFailed faults.old faults.new }
 {
     match ended {
         Ok(()) => Exit::Done,
@@ -247,7 +301,8 @@ fn tell_end<F: Write>(alloc: Global, ended: Result<(), SendStop>, faults: &mut W
 
 /// Tells that the server's answer to the request is to be refused.
 fn tell_refused<F: Write>(alloc: Global, refusal: HeadRefusal, faults: &mut Watched<F>) -> Exit
-    ensures { TellsRefused refusal result (watched F.contents faults.old faults.new) }
+    ensures told { TellsRefused refusal result (watched F.contents faults.old faults.new) }
+    ensures still { StaysFailed faults.old faults.new }
 {
     let outcome = Outcome::HeadRefused(refusal);
     match format!(in alloc; "{outcome}\n") {

@@ -14,7 +14,7 @@ use ws_frame::Watched;
 use ws_targets::{Advice, Target, TargetFault, is_address, read_target};
 use wst_commands::{Exit, Fault, NoCases, end_run};
 use wst_sockets::{ListenerPairs, listen, tap_pairs, tell_listening, told_address};
-use wst_testing::{Refusal, tell_refusal};
+use wst_testing::{Refusal, is_url, tell_refusal};
 use wst_words::TapOptions;
 
 /// Taps what the words ask for, or tells why not.
@@ -58,13 +58,6 @@ fn can_name_server(word: &str) -> bool
     ensures { IsTrue result ↔ (IsUrl word.now ⊎ IsAddress word.now) }
 {
     is_url(word) || is_address(word.as_bytes())
-}
-
-/// Whether a word is a URL.
-fn is_url(word: &str) -> bool
-    ensures { IsTrue result ↔ IsUrl word.now }
-{
-    word.contains("://")
 }
 
 /// Listens at the address, which is told in a line, with the port that the system chose in the place of a port 0, and

@@ -6,13 +6,13 @@ use Rattle.std.proofs.lemmas.Grind.{flat_map-append}
 use Rattle.std.specs.Io.KnownBytes.{Keeps}
 use Rattle.std.specs.List.{flat_map}
 use Rattle.std.specs.Prelude.{Ok}
-use Rattle.ws_wire.specs.declared.role.Role.{Role}
 use Rattle.ws_frame.specs.Devices.{Device, watched}
 use Rattle.ws_frame.specs.declared.watching.Watched.{Watched}
 use Rattle.ws_scripts.specs.declared.transcript.Turn.{Turn}
 use Rattle.ws_scripts.specs.declared.transcript.Ended.{Ended}
 use Rattle.ws_scripts.specs.declared.transcript.Transcript.{Transcript}
 use Rattle.ws_lines.specs.Telling.{HasToldTurns, TellsEnd, TellsGot, TellsTurn, begun_turn, with_got}
+use Rattle.ws_lines.specs.declared.transcript_lines.Showing.{Showing}
 use Rattle.ws_lines.specs.declared.transcript_lines.TranscriptLines.{TranscriptLines}
 use Rattle.wst_testing.specs.LineWriting.{AreCounted, HasWrittenRun, HasWrittenTurns}
 use Rattle.wst_testing.specs.declared.line_writer.Places.{Places}
@@ -28,13 +28,13 @@ abbrev device : Bool → Option (List ℕ) → Option (List ℕ) → Device
 device failed old new = record { failed = failed; old = old; new = new }
 
 -- a turn more
-pub turn_written : (tested : Role) (old new : TranscriptLines) (was now : Places) (turns : List Turn) (sent : List ℕ) (f works g : Bool)
-    (a b c d : Option (List ℕ)) → g ≡ false → HasWrittenTurns tested old was turns (device f a b)
+pub turn_written : (showing : Showing) (old new : TranscriptLines) (was now : Places) (turns : List Turn) (sent : List ℕ) (f works g : Bool)
+    (a b c d : Option (List ℕ)) → g ≡ false → HasWrittenTurns showing old was turns (device f a b)
     → TellsTurn old new sent (device works b c) (Ok tt) → Keeps c d → now.turns ≡ was.turns + 1
     → now.sent ≡ was.sent + length sent → now.got ≡ was.got
-    → HasWrittenTurns tested new now (turns ++ record { sent = sent; got = [] } ∷ []) (device g a d)
-turn_written tested old new was now turns sent f works flushed a b c d fine_now h tells kept t s g =
-    let (more, appends, (fine, told)) = tells tested turns h.written h.told in
+    → HasWrittenTurns showing new now (turns ++ record { sent = sent; got = [] } ∷ []) (device g a d)
+turn_written showing old new was now turns sent f works flushed a b c d fine_now h tells kept t s g =
+    let (more, appends, (fine, told)) = tells showing turns h.written h.told in
     let turn : Turn = begun_turn sent in
     record {
       written = h.written ++ more;
@@ -49,14 +49,14 @@ turn_written tested old new was now turns sent f works flushed a b c d fine_now 
     }
 
 -- more bytes in the last turn
-pub got_written : (tested : Role) (old new : TranscriptLines) (was now : Places) (turns : List Turn) (turn : Turn) (piece : List ℕ)
+pub got_written : (showing : Showing) (old new : TranscriptLines) (was now : Places) (turns : List Turn) (turn : Turn) (piece : List ℕ)
     (f works g : Bool) (a b c d : Option (List ℕ)) → g ≡ false
-    → HasWrittenTurns tested old was (turns ++ turn ∷ []) (device f a b)
+    → HasWrittenTurns showing old was (turns ++ turn ∷ []) (device f a b)
     → TellsGot old new piece (device works b c) (Ok tt) → Keeps c d → now.turns ≡ was.turns → now.sent ≡ was.sent
     → now.got ≡ was.got + length piece
-    → HasWrittenTurns tested new now (turns ++ record { sent = turn.sent; got = turn.got ++ piece } ∷ []) (device g a d)
-got_written tested old new was now turns turn piece f works flushed a b c d fine_now h tells kept t s g =
-    let (more, appends, (fine, told)) = tells tested turns turn h.written h.told in
+    → HasWrittenTurns showing new now (turns ++ record { sent = turn.sent; got = turn.got ++ piece } ∷ []) (device g a d)
+got_written showing old new was now turns turn piece f works flushed a b c d fine_now h tells kept t s g =
+    let (more, appends, (fine, told)) = tells showing turns turn h.written h.told in
     let next : Turn = with_got turn piece in
     record {
       written = h.written ++ more;
@@ -71,26 +71,26 @@ got_written tested old new was now turns turn piece f works flushed a b c d fine
     }
 
 -- the end
-pub run_written : (tested : Role) (lines : TranscriptLines) (places : Places) (turns : List Turn) (ended : Ended) (f works g : Bool)
-    (a b c d : Option (List ℕ)) → g ≡ false → HasWrittenTurns tested lines places turns (device f a b)
+pub run_written : (showing : Showing) (lines : TranscriptLines) (places : Places) (turns : List Turn) (ended : Ended) (f works g : Bool)
+    (a b c d : Option (List ℕ)) → g ≡ false → HasWrittenTurns showing lines places turns (device f a b)
     → TellsEnd lines ended (device works b c) (Ok tt) → Keeps c d
-    → HasWrittenRun tested (record { turns = turns; ended = ended }) (device g a d)
-run_written tested lines places turns ended f works flushed a b c d fine_now h tells kept =
-    let rest = tells tested turns h.written h.told in (
+    → HasWrittenRun showing (record { turns = turns; ended = ended }) (device g a d)
+run_written showing lines places turns ended f works flushed a b c d fine_now h tells kept =
+    let rest = tells showing turns h.written h.told in (
       (h.written ++ rest.last, rest.all, Appends-kept a c d (h.written ++ rest.last) (Appends-trans a b c h.written rest.last h.has_written rest.writes.0) kept),
       fine_now,
     )
 
 -- nothing is written yet
-pub nothing_written : (tested : Role) (lines : TranscriptLines) (places : Places) (f : Bool) (a : Option (List ℕ))
-    → HasToldTurns tested lines [] [] → AreCounted tested places [] → f ≡ false → HasWrittenTurns tested lines places [] (device f a a)
-nothing_written tested lines places f a told counted works =
+pub nothing_written : (showing : Showing) (lines : TranscriptLines) (places : Places) (f : Bool) (a : Option (List ℕ))
+    → HasToldTurns showing lines [] [] → AreCounted showing places [] → f ≡ false → HasWrittenTurns showing lines places [] (device f a a)
+nothing_written showing lines places f a told counted works =
     record { written = []; told = told; has_written = Appends-nil a; works = works; counted = counted }
 
 -- what the caller's own writer shows of a run whose lines were written through a borrow of it
-pub shown_by : {W : Type 0} (tested : Role) (contents : W → Option (List ℕ)) (transcript : Transcript) (first old now new : Watched W)
-    → first ≡ old → new ≡ now → HasWrittenRun tested transcript (watched contents first now)
-    → HasWrittenRun tested transcript (watched contents old new)
-shown_by {W} tested contents transcript first old now new same left h =
-    subst (λ (w : Watched W). HasWrittenRun tested transcript (watched contents w new)) same
-    (subst (λ (w : Watched W). HasWrittenRun tested transcript (watched contents first w)) (sym left) h)
+pub shown_by : {W : Type 0} (showing : Showing) (contents : W → Option (List ℕ)) (transcript : Transcript) (first old now new : Watched W)
+    → first ≡ old → new ≡ now → HasWrittenRun showing transcript (watched contents first now)
+    → HasWrittenRun showing transcript (watched contents old new)
+shown_by {W} showing contents transcript first old now new same left h =
+    subst (λ (w : Watched W). HasWrittenRun showing transcript (watched contents w new)) same
+    (subst (λ (w : Watched W). HasWrittenRun showing transcript (watched contents first w)) (sym left) h)

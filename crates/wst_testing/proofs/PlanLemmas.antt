@@ -1,13 +1,11 @@
 -- The end that a word names.
-use Rattle.std.proofs.Common.{◌≡◌, ℕ, Bool, true, false, List}
-use Rattle.std.proofs.Common.{refl, not, IsTrue}
+use Rattle.std.proofs.Common.{◌≡◌, ℕ, List}
 use Rattle.ws_wire.specs.declared.role.Role.{Role}
 use Rattle.ws_wire.specs.declared.role.Role.TheVariants as role
 use Rattle.ws_targets.specs.Advice.{Advises}
 use Rattle.ws_targets.specs.Targets.{TargetValue, IsTargetText}
 use Rattle.ws_targets.specs.declared.advice.Advice.{Advice}
-use Rattle.ws_upgrade.specs.Texts.{IsHost}
-use Rattle.wst_testing.specs.RunPlans.{AdvisesClients, IsClientsAddress, IsNoMemoryWord, IsUrl, NamesEnd, RefusesTarget, memory_word}
+use Rattle.wst_testing.specs.RunPlans.{AdvisesClients, IsClientsAddress, IsNoMemoryWord, NamesEnd, RefusesTarget, memory_word}
 use Rattle.wst_testing.specs.declared.case_server.MemoryPeer.{MemoryPeer}
 use Rattle.wst_testing.specs.declared.case_server.MemoryPeer.TheVariants.{Own, Tung}
 use Rattle.wst_testing.specs.declared.run_plans.Refusal.TheVariants as refusal
@@ -38,11 +36,3 @@ no_clients word none lacks (Clients address, asks) = lacks asks.2
 pub address_refused : (word : List ℕ) (given : Advice) → IsNoMemoryWord word → ¬ (IsClientsAddress word)
     → AdvisesClients word given → RefusesTarget role.Client word (refusal.BadAddress given)
 address_refused word given none lacks is = (no_clients word none lacks, is)
-
--- to a host clients come where it is no URL
-pub host_without_url : (is_url : Bool) (word : List ℕ) → IsHost word → (IsTrue is_url → IsUrl word)
-    → (IsUrl word → IsTrue is_url)
-    → (IsTrue (not is_url) → IsClientsAddress word) × (IsClientsAddress word → IsTrue (not is_url))
-host_without_url true word host holds found = ((λ plain. absurd cc), λ both. absurd (both.1 (holds refl)))
-host_without_url false word host holds found =
-    ((λ plain. (host, λ url. let wrong = found url in absurd cc)), λ both. refl)

@@ -6,11 +6,12 @@ ghost use Rattle.ws_frame.specs.Watching.{has_failed, inner_of};
 ghost use Rattle.ws_lines.specs.Telling.{HasToldTurns};
 ghost use Rattle.wst_testing.specs.LineWriting.{AreCounted};
 
+use std::alloc::Global;
 use std::io::Write;
 use ws_base::NoMemory;
 use ws_connection::Observer;
-use ws_frame::{Role, Watched, WriteFault};
-use ws_lines::TranscriptLines;
+use ws_frame::{ShowFault, Watched, WriteFault};
+use ws_lines::{Showing, TranscriptLines};
 use ws_suite::Ended;
 
 /// Why no more lines are written.
@@ -25,6 +26,15 @@ pub enum LineStop {
 impl From<NoMemory> for LineStop {
     fn from(_refused: NoMemory) -> LineStop {
         LineStop::NoMemory
+    }
+}
+
+impl From<ShowFault> for LineStop {
+    fn from(fault: ShowFault) -> LineStop {
+        match fault {
+            ShowFault::Write => LineStop::Output,
+            ShowFault::NoMemory => LineStop::NoMemory,
+        }
     }
 }
 
@@ -75,24 +85,33 @@ impl Places {
 /// Writes the lines of a run as soon as their places in the order are certain, and flushes them.
 #[derive(Drop)]
 pub struct LineWriter<'a, W> {
-    tested: Role,
-    lines: TranscriptLines,
+    alloc: Global,
+    showing: Showing,
+    lines: &'a mut TranscriptLines,
     places: Places,
     writer: &'a mut Watched<W>,
 }
 
 impl<'a, W> LineWriter<'a, W> {
-    /// Nothing is written yet. The tested end has this role.
-    pub fn new(tested: Role, writer: &'a mut Watched<W>) -> LineWriter<'a, W>
-        ensures tested { result.tested ≡ tested }
+    /// Nothing is written yet. The lines of the transcript, of which no turn has begun, are the caller's: so what is
+    /// lent is all that this holds.
+    pub fn new(
+        alloc: Global,
+        showing: Showing,
+        lines: &'a mut TranscriptLines,
+        writer: &'a mut Watched<W>,
+    ) -> LineWriter<'a, W>
+        requires { HasToldTurns showing lines.old [] [] }
+        ensures showing { result.showing ≡ showing }
         ensures writer { result.writer.now ≡ writer.old }
         ensures borrow { result.writer.ghost_name ≡ writer.entry.ghost_name }
-        ensures lines { HasToldTurns result.tested result.lines [] [] }
-        ensures places { AreCounted result.tested result.places [] }
+        ensures lines { HasToldTurns result.showing result.lines.now [] [] }
+        ensures places { AreCounted result.showing result.places [] }
     {
         LineWriter {
-            tested,
-            lines: TranscriptLines::new(tested),
+            alloc,
+            showing,
+            lines,
             places: Places {
                 turns: 0,
                 sent: 0,
@@ -110,10 +129,10 @@ impl<W: Write> Observer for LineWriter<'_, W> {
 
     type Fault = LineStop;
 
-    ghost heard = { λ start now turns. HasWrittenTurns start.tested now.lines now.places turns
+    ghost heard = { λ start now turns. HasWrittenTurns start.showing now.lines.now now.places turns
         (watched W.contents start.writer.now now.writer.now) };
 
-    ghost heard_all = { λ start now transcript. HasWrittenRun start.tested transcript
+    ghost heard_all = { λ start now transcript. HasWrittenRun start.showing transcript
         (watched W.contents start.writer.now now.writer.now) };
 
     ghost borrow = { λ lines. Some lines.writer.ghost_name };
@@ -122,7 +141,7 @@ impl<W: Write> Observer for LineWriter<'_, W> {
         let Some(places) = self.places.with_turn(sent.len()) else {
             return Err(LineStop::NoMemory);
         };
-        self.lines.begin_turn(self.writer, sent)?;
+        self.lines.begin_turn(self.alloc, self.writer, sent)?;
         flush(self.writer)?;
         self.places = places;
         Ok(())
@@ -132,7 +151,7 @@ impl<W: Write> Observer for LineWriter<'_, W> {
         let Some(places) = self.places.with_got(piece.len()) else {
             return Err(LineStop::NoMemory);
         };
-        self.lines.got(self.writer, piece)?;
+        self.lines.got(self.alloc, self.writer, piece)?;
         flush(self.writer)?;
         self.places = places;
         Ok(())

@@ -222,7 +222,7 @@ fn clients_at<'a>(word: &'a str) -> Result<TestedEnd<'a>, Refusal<'a>>
 fn is_clients_address(word: &str) -> bool
     ensures { IsTrue result ↔ IsClientsAddress word.now }
 {
-    is_host(word.as_bytes()) && !word.contains("://")
+    is_host(word.as_bytes()) && !is_url(word)
 }
 
 /// What is wrong with a word to which no clients can come.
@@ -239,7 +239,7 @@ fn clients_advice(word: &str) -> Advice
 }
 
 /// Whether a word is a URL.
-fn is_url(word: &str) -> bool
+pub fn is_url(word: &str) -> bool
     ensures { IsTrue result ↔ IsUrl word.now }
 {
     word.contains("://")

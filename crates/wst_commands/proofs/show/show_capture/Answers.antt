@@ -7,4 +7,4 @@ use Rattle.wst_commands.proofs.show.show_capture.Goals as goal
 pub returns-in-Ok : goal.returns-in-Ok
 returns-in-Ok g c =
     let output = watched g.W.Write.contents c.args.writer.now c.answer.new.writer in
-    inl (c.in-Ok.text.items, c.in-Ok.ensures, subst (λ (t : List ℕ). AnswersShownCapture c.args.tested t c.answer.result output) c.as_slice.ensures.value c.answer.ensures)
+    inl (c.in-Ok.text.items, c.in-Ok.ensures, subst (λ (t : List ℕ). AnswersShownCapture c.args.showing t c.answer.result output) c.as_slice.ensures.value c.answer.ensures)

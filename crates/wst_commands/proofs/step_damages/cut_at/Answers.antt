@@ -1,5 +1,5 @@
 -- The cut is at the first such byte.
-use Rattle.std.proofs.Common.{rules, ◌≡◌, ◌∙◌, ◌+◌, ◌==◌, ap, sym, ℕ, List, Option, Some, drop, position, take}
+use Rattle.std.proofs.Common.{rules, ◌≡◌, ◌∙◌, ◌+◌, ◌==◌, ap, sym, ℕ, List, Option, Some, position, take}
 use Rattle.std.proofs.lemmas.List.{take_rest}
 use Rattle.wst_commands.specs.StepDamages.{cut_by}
 use Rattle.wst_commands.proofs.step_damages.cut_at.Goals as goal

@@ -5,4 +5,4 @@ use Rattle.wst_commands.proofs.step_damages.descend.Given as goal
 
 abbrev pub invariant-loop-word : goal.invariant-loop-word
 invariant-loop-word l =
-    descend 0 (map (λ word. word.now) l.fields) ≡ descend l.last (map (λ word. word.now) (drop l.word-index l.fields))
+    descend l.fn.first (map (λ word. word.now) l.fields) ≡ descend l.last (map (λ word. word.now) (drop l.word-index l.fields))

@@ -7,9 +7,10 @@ use Rattle.wst_run.proofs.send.send_input.Goals as goal
 pub returns-in-Ok : goal.returns-in-Ok
 returns-in-Ok g c =
     let output = watched g.W.Write.contents c.args.writer.now c.send_text.new.writer in
+    let faults = watched g.F.Write.contents c.args.faults.now c.send_text.new.faults in
     inl (
       c.in-Ok.text.items,
       c.in-Ok.ensures,
-      subst (λ (l : List ℕ). SendsText (g.S.CaseServer.meets c.args.server.now c.args.plan.now.run.key) c.args.plan.now l c.send_text.result output)
+      subst (λ (l : List ℕ). SendsText (g.S.CaseServer.meets c.args.server.now c.args.plan.now.run.key) c.args.plan.now l c.send_text.result output faults)
           c.as_slice.ensures.value c.send_text.ensures,
     )
