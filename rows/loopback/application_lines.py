@@ -222,9 +222,9 @@ def a_server_that_lets_a_reserved_bit_pass():
         "FAIL End",
         "due 1 end ReservedBits",
         "end tester 1",
-        "rule A server that has sent and got a close frame closes the connection at once (RFC 6455 section 5.5.1), and "
-        "so does one that has to fail it (sections 5.1, 5.2, 7.1.7 and 8.1)",
-        "rule A reserved bit is 0 where no extension defines it, and an end that gets another fails the connection "
+        "rule A server closes the connection at once when it has to fail it after a violation (RFC 6455 sections 5.1, "
+        "5.2, 7.1.7 and 8.1), or when it has sent and received a close frame (section 5.5.1)",
+        "rule A reserved bit that no extension defines is 0, and an end that gets a 1 fails the connection "
         "(RFC 6455 section 5.2)",
     )
 

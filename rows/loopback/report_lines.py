@@ -27,8 +27,8 @@ BELOW_FAIL = """  due 1 text -
   got 1 binary -
   got 2 close 1000
   end peer 2
-  rule Each message is sent back, in order, of the same kind and payload (RFC 6455 sections 5.4 and 5.6; ours); after \
-a fault the last may be missing
+  rule Each message is sent back, in order, of the same kind and payload (RFC 6455 sections 5.4 and 5.6; ours); if a \
+violation was sent, the last may be missing
 """
 BELOW_LOOSE = """  due 1 text -
   due 2 close 1000

@@ -279,15 +279,20 @@ def our_own_server():
 
 
 def each_case_as_a_script():
-    """Over our echo the text of a case gives the capture of the case, byte for byte, and as lines those of this capture."""
+    """Over our echo the text of a case gives the capture of the case, byte for byte, and as lines those of this capture.
+    One case has data that look like another code, which is remarked."""
+    remarks = {"7.7.13": b"line 1: close 1387 is code 4999; close=1387 is code 1387\n"}
     status, listed, _ = run("cases")
     names = [line.split()[0].decode() for line in listed.splitlines()]
     assert (status, len(names)) == (0, 240)
     for name in [*names, *(f"x.{number}" for number in range(1, 7))]:
         script = run("cases", name)[1]
-        captured = run("test", "--capture", "own", name)
-        assert fed(script, "send", "--capture", "own") == captured, name
-        assert fed(script, "send", "own") == fed(captured[1], "show", "--capture"), name
+        status, capture, faults = run("test", "--capture", "own", name)
+        shown, lines, _ = fed(capture, "show", "--capture")
+        remark = remarks.get(name, b"")
+        assert (status, faults, shown) == (0, b"", 0), name
+        assert fed(script, "send", "--capture", "own") == (0, capture, remark), name
+        assert fed(script, "send", "own") == (0, lines, remark), name
 
 
 def fed(given, *words):

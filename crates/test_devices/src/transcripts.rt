@@ -5,8 +5,8 @@ use crate::words::number_of;
 use std::alloc::Global;
 use std::fmt::Write;
 use ws_base::Sequence;
-use ws_frame::{Role, ShowEnd, Watched, show};
-use ws_lines::{fits_places, show_transcript};
+use ws_frame::{DataStyle, Role, ShowEnd, Watched, show};
+use ws_lines::{Showing, fits_places, show_transcript};
 use ws_scripts::{Ended, Transcript, Turn};
 
 /// `transcripts FIRST LAST`: how many of the transcripts of these seeds have, in each direction, the lines of `show`.
@@ -78,7 +78,11 @@ fn some_transcript(alloc: Global, seed: u64) -> Result<Transcript, RowFault> {
 fn lines_of(alloc: Global, transcript: &Transcript) -> Vec<u8> {
     let mut writer = Watched::new(Vec::new(alloc));
     if fits_places(transcript) {
-        let _written = show_transcript(Role::Server, transcript, &mut writer);
+        let showing = Showing {
+            tested: Role::Server,
+            style: DataStyle::Hex,
+        };
+        let _written = show_transcript(alloc, showing, transcript, &mut writer);
     }
     writer.into_inner()
 }

@@ -51,7 +51,7 @@ fn main(rt: HostRuntime) -> Result<()> {
             Ok(())
         }
         _ => bail!(
-            "wrong words: SIZE, SIZE --lent, SIZE --peer tungstenite, SIZE --copy, --make FILL LENGTH COUNT"
+            "wrong arguments: SIZE, SIZE --lent, SIZE --peer tungstenite, SIZE --copy, --make FILL LENGTH COUNT"
         ),
     }
 }

@@ -4,8 +4,8 @@
 //! that, it stops the program by SIGSEGV. So all that a command over files or in memory uses later is used at the
 //! start: from then on only calls that can say `no memory` ask for more.
 
-/// How many bytes are used: `send` needs the most of these commands, 161 KiB.
-const DEEPEST: usize = 192 * 1024;
+/// How many bytes are used: `send` needs the most of these commands, three rooms of 64 KiB and some 30 KiB.
+const DEEPEST: usize = 288 * 1024;
 
 /// Uses the stack. `place` is a number that is known only as the program runs, so that the compiler keeps the room.
 /// Without that much stack the system stops the program here. The answer is read only so that the call is made.

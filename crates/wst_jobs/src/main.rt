@@ -35,7 +35,7 @@ fn main(rt: HostRuntime) -> Result<()> {
     let given: Vec<String> = env::args(&rt)?.collect(alloc)?;
     let words: Vec<&str> = given.iter().map(|word| word.as_str()).collect(alloc)?;
     let [_, name, part, seed] = words.as_slice() else {
-        bail!("wrong words: JOB PART SEED");
+        bail!("wrong arguments: JOB PART SEED");
     };
     let (part, seed) = (part.parse::<u32>()?, seed.parse::<u32>()?);
     ensure!(part > 0, "a part is at least 1");
