@@ -1,6 +1,6 @@
 -- Inside the crate: a frame that lies whole at the front of a piece, for contracts of private functions. A reader may
 -- skip this file.
-use Rattle.std.specs.Prelude.{◌≡◌, ℕ, ◌+◌, ◌≤◌, true, List, length, take, drop, Option, Some}
+use Rattle.std.specs.Prelude.{◌≡◌, ℕ, ◌+◌, ◌≤◌, ◌⊎◌, true, List, length, take, drop, slice_index, Option, Some}
 use Rattle.ws_wire.specs.declared.role.Role.{Role}
 use Rattle.ws_wire.specs.Header.{HeaderFields}
 use Rattle.ws_wire.specs.Reading.{Begins}
@@ -12,6 +12,14 @@ use Rattle.ws_session.specs.Limits.{LimitsValue}
 use Rattle.ws_session.specs.Messages.{kind_of}
 use Rattle.ws_session.specs.InnerChecking.{NoneAtHeader}
 use Rattle.ws_session.specs.InnerMasked.{masked_from}
+
+-- the first byte of a frame with FIN and without a reserved bit that is a text, a binary message, a ping or a pong
+abbrev pub IsWholeFirst : ℕ → Type 0
+IsWholeFirst byte = (byte ≡ 0x81) ⊎ (byte ≡ 0x82) ⊎ (byte ≡ 0x89) ⊎ (byte ≡ 0x8a)
+
+-- such a byte stands at the front of the piece, and another one is there
+abbrev pub MayStandWhole : List ℕ → Type 0
+MayStandWhole piece = (2 ≤ length piece) × IsWholeFirst (slice_index piece 0)
 
 -- the piece begins with this header, which breaks no rule, and with this payload behind it, as it came: so many bytes
 -- in all

@@ -74,6 +74,7 @@ impl EventRoom {
     }
 
     /// The payload of the event, or the reason of a close, or nothing where it has none.
+    #[inline(always)]
     pub(crate) fn payload(&self) -> &[u8]
         ensures { result.now ≡ payload_in self.now }
     {

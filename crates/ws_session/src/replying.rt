@@ -18,6 +18,9 @@ use ws_wire::{Header, Role, append_frame};
 /// The bit of a header's first byte that says that the frame is the last of its message (RFC 6455 section 5.2).
 const FIN: u8 = 0x80;
 
+/// How many bytes a header has without a key, and with at most 125 bytes of payload.
+const SHORT_HEADER: usize = 2;
+
 /// How an endpoint replies while it takes a piece.
 #[derive(Clone, Copy)]
 pub(crate) struct Replying {
@@ -45,7 +48,7 @@ impl Replying {
         ensures kept { OnErr result (out.new.items ≡ out.old.items) }
         ensures owed { OnErr result (due_at self.now.status (control_frame opcode payload.now ∷ []) ≢ []) }
     {
-        if self.status == Status::Closing {
+        if matches!(self.status, Status::Closing) {
             return Ok(());
         }
         match self.role {
@@ -115,11 +118,9 @@ fn put_short_unmasked(opcode: u8, payload: &[u8], out: &mut Vec<u8>) -> Result<(
         in OnOk result (out.new.items ≡ out.old.items ++ frame_bytes (record { frame = frame; key = None })) }
     ensures kept { OnErr result (out.new.items ≡ out.old.items) }
 {
-    let start = out.len();
-    out.extend_from_slice(&[FIN + opcode, payload.len() as u8])?;
-    if out.extend_from_slice(payload).is_err() {
-        out.truncate(start);
-        return Err(NoMemory);
-    }
+    out.reserve(SHORT_HEADER + payload.len())?;
+    out.push_reserved(FIN + opcode);
+    out.push_reserved(payload.len() as u8);
+    out.extend_from_slice(payload)?;
     Ok(())
 }

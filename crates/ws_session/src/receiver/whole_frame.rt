@@ -13,7 +13,7 @@ ghost use Rattle.ws_session.specs.Lent.{payload_in};
 ghost use Rattle.ws_session.specs.InnerMasked.{masked_from};
 ghost use Rattle.ws_session.specs.InnerReceiver.{IsExact, IsOwed, status_by};
 ghost use Rattle.ws_session.specs.InnerTaking.{Receives, WantsRoom};
-ghost use Rattle.ws_session.specs.InnerWhole.{IsMessage, StandsWhole, TellsWhole};
+ghost use Rattle.ws_session.specs.InnerWhole.{IsMessage, MayStandWhole, StandsWhole, TellsWhole};
 
 use crate::event_room::EventRoom;
 use crate::limits::Limits;
@@ -74,7 +74,7 @@ impl Receiver {
             = record { role = self.now.role; status = status.now; answering = answering; key = key }
             in OnErr result (WantsRoom (IsOwed replying) self.now piece.now) }
     {
-        if piece.len() < LEAST_FRAME || self.frame.has_begun() {
+        if !may_be_told(piece) || self.frame.has_begun() {
             return Ok(None);
         }
         let Some(frame) = whole_frame(self.role, self.limits, &self.assembly, piece) else {
@@ -108,6 +108,16 @@ impl Receiver {
             Opcode::Continuation | Opcode::Close | Opcode::Reserved(_) => Ok(None),
         }
     }
+}
+
+/// Whether a frame that is told straight may stand at the front of the piece: its first byte says that it is a text, a
+/// binary message, a ping or a pong in one frame, without a reserved bit, and another byte is there. All else is known
+/// by these two before the header is read.
+#[inline(always)]
+fn may_be_told(piece: &[u8]) -> bool
+    ensures { IsTrue result ↔ MayStandWhole piece.now }
+{
+    piece.len() >= LEAST_FRAME && matches!(piece[0], 0x81 | 0x82 | 0x89 | 0x8a)
 }
 
 /// The frame at the front of the piece, if all of it is there and its header breaks no rule.
