@@ -15,9 +15,9 @@ use Rattle.ws_suite.specs.declared.evidence.Evidence.{Evidence}
 use Rattle.ws_suite.specs.declared.evidence.collecting.Collected.{Collected}
 use Rattle.ws_suite.specs.declared.evidence.keeping.ReplyTally.{ReplyTally}
 use Rattle.ws_suite.specs.Evidence.{IsEvidenceOf, due_for, got_in, got_turns, other_role, sent_turns}
-use Rattle.ws_suite.specs.Growing.{AnswersTally, AreTurnsAnswered, EndInsideFrame, GrowingValue, HasGrown, HasTakenTurns, IsAmong, IsAnswered, IsAnsweredPong, IsTallyOf, new_turn, turn_with_got, turn_with_sent}
+use Rattle.ws_suite.specs.Growing.{AnswersTally, AreTurnsAnswered, EndInsideFrame, GrowingValue, HasGrown, HasTakenTurns, HaveUnowedMessage, IsAmong, IsAnswered, IsAnsweredPong, IsTallyOf, new_turn, turn_with_got, turn_with_sent}
 use Rattle.ws_suite.specs.InnerCollecting.{EventLaws}
-use Rattle.ws_suite.specs.Matching.{IsLastPong, is_message, is_pong, message_replies, pong_replies}
+use Rattle.ws_suite.specs.Matching.{IsLastPong, due_messages, got_messages, is_message, is_pong, message_replies, pong_replies}
 use Rattle.ws_suite.proofs.EvidenceLemmas.{last_joined}
 use Rattle.ws_suite.proofs.JudgeLemmas.{last_same, last_turns}
 use Rattle.ws_suite.proofs.OneVerdict.{one_evidence}
@@ -149,6 +149,42 @@ tells_answered laws tested turns x v r same tells grown =
     let both = tallies_tell shown x.due.replies x.got.replies h.due.replies h.got.replies in (
       λ e. record { evidence = shown; is_evidence = is; answered = both.0 (tells.0 e) },
       λ a. tells.1 (both.1 (subst (λ (v : Evidence). IsAnswered v) (one_evidence laws tested (record { turns = turns; ended = Tester }) a.evidence shown a.is_evidence is) a.answered)),
+    )
+
+pub tells_unowed : EventLaws → (tested : Role) (turns : List Turn) (x v : GrowingValue ReplyTally) (r : Bool) → x ≡ v
+    → ((r ≡ true) ↔ (x.due.replies.messages < x.got.replies.messages)) → HasGrown IsTallyOf tested turns v
+    → ((r ≡ true) ↔ HaveUnowedMessage tested turns)
+tells_unowed laws tested turns x v r same tells grown =
+    let h = subst (λ (y : GrowingValue ReplyTally). HasGrown IsTallyOf tested turns y) (sym same) grown in
+    let shown : Evidence = record {
+      due = h.due.shown;
+      got = h.got.shown;
+      turns = length turns;
+      ended = Tester;
+      answers_doom = false;
+    } in
+    let is : IsEvidenceOf tested (record { turns = turns; ended = Tester }) shown = record {
+      due = h.due.is_shown;
+      got = h.got.is_shown;
+      turns = refl;
+      ended = refl;
+      uncounted = refl;
+    } in
+    let due : x.due.replies.messages ≡ length (due_messages shown) = h.due.replies.messages in
+    let got : x.got.replies.messages ≡ length (got_messages shown) = h.got.replies.messages in (
+      λ e. record {
+        evidence = shown;
+        is_evidence = is;
+        more =
+            let less : x.due.replies.messages < x.got.replies.messages = tells.0 e in
+            omega (arith, less, due, got);
+      },
+      λ a. tells.1 (
+          let more : length (due_messages shown) < length (got_messages shown) =
+          subst (λ (w : Evidence). length (due_messages w) < length (got_messages w))
+          (one_evidence laws tested (record { turns = turns; ended = Tester }) a.evidence shown a.is_evidence is) a.more in
+          omega (arith, more, due, got)
+          ),
     )
 
 pub tells_inside : EventLaws → (tested : Role) (turns : List Turn) (x v : GrowingValue ReplyTally) (r : Bool) → x ≡ v → r ≡ x.got.has_rest → HasGrown IsTallyOf tested turns v → ((r ≡ true) ↔ EndInsideFrame tested turns)

@@ -18,7 +18,8 @@ use Rattle.ws_suite.specs.declared.evidence.collecting.Collected.{Collected}
 use Rattle.ws_suite.specs.declared.evidence.keeping.AllReplies.{AllReplies}
 use Rattle.ws_suite.specs.declared.evidence.keeping.ReplyTally.{ReplyTally}
 use Rattle.ws_suite.specs.Evidence.{IsDirectionOf, IsEvidenceOf, due_for, got_in, got_turns, other_role, sent_turns}
-use Rattle.ws_suite.specs.Matching.{HasLastPong, IsShortOfMessages, due_pongs, message_replies, pong_replies}
+use Rattle.ws_suite.specs.Matching.{HasLastPong, IsShortOfMessages, due_messages, due_pongs, got_messages}
+use Rattle.ws_suite.specs.Matching.{message_replies, pong_replies}
 
 -- ---- turns that grow
 
@@ -44,6 +45,13 @@ pub record AreTurnsAnswered (tested : Role) (turns : List Turn) : Type 0 where
   pub evidence : Evidence
   pub is_evidence : IsEvidenceOf tested (record { turns = turns; ended = Tester }) evidence
   pub answered : IsAnswered evidence
+
+-- More messages were got than are due, by what these turns show: so those that were got are no beginning of those due,
+-- and can't become them.
+pub record HaveUnowedMessage (tested : Role) (turns : List Turn) : Type 0 where
+  pub evidence : Evidence
+  pub is_evidence : IsEvidenceOf tested (record { turns = turns; ended = Tester }) evidence
+  pub more : length (due_messages evidence) < length (got_messages evidence)
 
 -- What these turns have got ends inside a frame, by what they show: bytes stand behind its last event, as the verdict
 -- on frames asks for it.

@@ -43,94 +43,96 @@ verdict_words (Fail why) = codes "FAIL " ++ fail_name why
 -- the rule that was broken, where the tested end has this role
 abbrev pub fail_rule : Role → FailWhy → List ℕ
 fail_rule Server fail.NotFrames =
-    codes "A server sends whole frames by the rules of RFC 6455 section 5, unmasked, with text in UTF-8 "
-    ++ codes "(section 8.1), and nothing behind its close frame (ours)"
+    codes "Whatever a server sends must be valid: whole frames without a mask (RFC 6455 section 5), text in "
+    ++ codes "UTF-8 (section 8.1), and nothing after its close frame (ours)"
 fail_rule Client fail.NotFrames =
-    codes "A client sends whole frames by the rules of RFC 6455 section 5, masked, with text in UTF-8 "
-    ++ codes "(section 8.1), and nothing behind its close frame (ours)"
+    codes "Whatever a client sends must be valid: whole frames with a mask (RFC 6455 section 5), text in "
+    ++ codes "UTF-8 (section 8.1), and nothing after its close frame (ours)"
 fail_rule tested fail.Early =
-    codes "A pong, a close frame or an echo answers what was sent before it (ours; RFC 6455 sections "
-    ++ codes "5.5.3 and 7.3 allow a pong, and a server a close, unasked)"
+    codes "A pong, a close frame or an echo is sent only after what it answers (ours; RFC 6455 allows "
+    ++ codes "unprompted pongs in section 5.5.3 and, from a server, an unprompted close in section 7.3)"
 fail_rule tested fail.Messages =
-    codes "Each message is sent back, in order, of the same kind and payload (RFC 6455 sections 5.4 and "
-    ++ codes "5.6; ours); if a violation was sent, the last may be missing"
+    codes "An echo sends back each message, in order, with its kind and payload (ours; RFC 6455 sections 5.4 "
+    ++ codes "and 5.6 define a message); if a violation was sent, messages just before it may be missing"
 fail_rule tested fail.Pongs =
-    codes "Each pong has the payload of a ping (RFC 6455 section 5.5.3), no two answer the same ping (ours), "
-    ++ codes "and the last ping is answered (section 5.5.2)"
+    codes "Each pong answers a ping, with its payload (RFC 6455 section 5.5.3), that came before any "
+    ++ codes "violation (section 7.1.7) and that no other pong answers (ours); the last ping is answered "
+    ++ codes "(section 5.5.2)"
 fail_rule tested fail.Close =
-    codes "A close frame is answered by a close frame (RFC 6455 section 5.5.1), and none is sent without "
-    ++ codes "a close or a fault before it (ours)"
+    codes "A close frame is answered by a close frame (RFC 6455 section 5.5.1), and none is sent unless a "
+    ++ codes "close frame or a violation was received (ours)"
 fail_rule Server fail.End =
-    codes "A server ends the connection after a close frame or a fault (RFC 6455 sections 5.5.1 and "
-    ++ codes "7.1.7; of some faults ours), and not without one (ours)"
+    codes "After a close frame or a violation, a server ends the connection (RFC 6455 sections 5.5.1 and "
+    ++ codes "7.1.7; for some violations ours); otherwise it does not (ours)"
 fail_rule Client fail.End =
-    codes "A client sends a close frame or ends the connection after a close frame or a fault (RFC 6455 "
-    ++ codes "sections 5.5.1 and 7.1.7), and does not end it without one (ours)"
+    codes "After a close frame or a violation, a client sends a close frame or ends the connection (RFC 6455 "
+    ++ codes "sections 5.5.1 and 7.1.7); otherwise it does not end it (ours)"
 
 -- the rule that asks or allows otherwise
 abbrev pub loose_rule : Role → LooseWhy → List ℕ
-loose_rule tested loose.PongsSkipped = codes "Of several pings only the last needs an answer (RFC 6455 section 5.5.3)"
+loose_rule tested loose.PongsSkipped = codes "Of several pings, only the last needs an answer (RFC 6455 section 5.5.3)"
 loose_rule tested loose.PongElsewhere =
-    codes "A pong is sent as soon as is practical (RFC 6455 section 5.5.2): an echo that is fed turn by "
-    ++ codes "turn sends it in its place (ours)"
+    codes "A pong is sent as soon as is practical (RFC 6455 section 5.5.2); the reference echo sends pongs "
+    ++ codes "and messages in the order of what they answer (ours)"
 loose_rule tested loose.OtherCode =
-    codes "A close frame typically has the code of the one that it answers (RFC 6455 section 5.5.1), and "
-    ++ codes "one after a fault the code of that fault (section 7.4.1)"
+    codes "A close frame after a violation has the code for that violation (RFC 6455 section 7.4.1), and one "
+    ++ codes "that answers a valid close frame typically has its code (section 5.5.1)"
 loose_rule Server loose.LateEnd =
-    codes "A server ends the connection at once after a close frame or a fault (RFC 6455 sections 5.5.1 "
+    codes "A server ends the connection at once after a close frame or a violation (RFC 6455 sections 5.5.1 "
     ++ codes "and 7.1.1)"
 loose_rule Client loose.LateEnd =
-    codes "A client sends its close frame in the turn of the close frame or the fault that it got (RFC "
-    ++ codes "6455 section 5.5.1; the turn is ours)"
+    codes "A client sends its close frame in the turn in which it received the close frame or the violation "
+    ++ codes "(RFC 6455 section 5.5.1; the turn is ours)"
 loose_rule tested loose.EchoShort =
-    codes "An end that fails the connection may drop what it has read (RFC 6455 section 7.1.7); an echo "
-    ++ codes "that is fed turn by turn answers it (ours)"
+    codes "An endpoint that fails the connection may drop what it has read (RFC 6455 section 7.1.7); the "
+    ++ codes "reference echo answers it (ours)"
 loose_rule tested loose.BrokenEnd =
-    codes "A connection is closed cleanly where that can be done (RFC 6455 section 7.1.1): a read or a "
-    ++ codes "write failed"
+    codes "A connection is closed cleanly if possible (RFC 6455 section 7.1.1), but a read or a write failed"
 loose_rule tested loose.OwnFault =
-    codes "A close frame with the code 1002 or 1007 says that the other end broke a rule (RFC 6455 "
-    ++ codes "section 7.4.1), and nothing that breaks one was sent whole before it"
-loose_rule tested loose.OwnClose = codes "An end may send a close frame at any time (RFC 6455 section 7.1.2)"
+    codes "A close frame with the code 1002 or 1007 says that the other endpoint broke a rule (RFC 6455 "
+    ++ codes "section 7.4.1), but no complete violation was sent before it"
+loose_rule tested loose.OwnClose = codes "An endpoint may send a close frame at any time (RFC 6455 section 7.1.2)"
 loose_rule tested loose.OwnEnd =
-    codes "An end that wants to end the connection sends a close frame first (RFC 6455 section 7.1.2), "
-    ++ codes "though it may end it by any means when necessary (section 7.1.1)"
+    codes "An endpoint that wants to end the connection sends a close frame first (RFC 6455 section 7.1.2), "
+    ++ codes "but may end it by any means if necessary (section 7.1.1)"
 loose_rule tested loose.LateFault =
-    codes "An end fails the connection once it has read what breaks a rule (RFC 6455 section 7.1.7): the "
-    ++ codes "frame, or the message with text that is none, was not sent whole"
+    codes "An endpoint fails the connection once it has read a violation (RFC 6455 section 7.1.7), but the "
+    ++ codes "frame with the violation, or the message with invalid text, was not sent completely"
 loose_rule tested loose.Tolerated =
-    codes "A sender keeps the rules of forms, fragments and control frames (RFC 6455 sections 5.2, 5.4 and "
-    ++ codes "5.5); where it breaks one, the standard does not order the receiver to fail the connection"
+    codes "A sender keeps the rules for lengths, fragments and control frames (RFC 6455 sections 5.2, 5.4 and "
+    ++ codes "5.5); if it breaks one, the RFC does not order the receiver to fail the connection"
 loose_rule tested loose.NoClose =
-    codes "An end that gets a close frame sends one (RFC 6455 section 5.5.1), unless it ended the "
-    ++ codes "connection before it had read it"
+    codes "An endpoint that receives a close frame sends one (RFC 6455 section 5.5.1), unless it ended the "
+    ++ codes "connection before it read that frame"
 loose_rule tested loose.BehindClose =
-    codes "No data frame follows a close frame (RFC 6455 section 5.5.1); that no control frame does "
-    ++ codes "either is ours"
+    codes "No data frame follows a close frame (RFC 6455 section 5.5.1); that no control frame follows one is "
+    ++ codes "ours"
 loose_rule tested loose.TooBig =
-    codes "A message has at most 16777216 bytes (ours; RFC 6455 section 10.4 leaves it to each end)"
+    codes "A message has at most 16777216 bytes (ours; RFC 6455 section 10.4 leaves the limit to each "
+    ++ codes "endpoint)"
 
 -- the rule of the standard that an end broke which needn't echo; it has no rule that an echo alone keeps
 abbrev pub protocol_rule : Role → FailWhy → List ℕ
 protocol_rule Server fail.NotFrames =
-    codes "A server sends whole unmasked frames by RFC 6455 section 5, with text in UTF-8 (section 8.1), "
-    ++ codes "close codes that may be sent (section 7.4) and no data frame behind its close (section 5.5.1)"
+    codes "Whatever a server sends must be valid: whole frames without a mask (RFC 6455 section 5), text in "
+    ++ codes "UTF-8 (section 8.1), close codes that may be sent (section 7.4) and no data frame after its close "
+    ++ codes "frame (section 5.5.1)"
 protocol_rule Client fail.NotFrames =
-    codes "A client sends whole masked frames by RFC 6455 section 5, with text in UTF-8 (section 8.1) "
-    ++ codes "and close codes that may be sent (section 7.4)"
+    codes "Whatever a client sends must be valid: whole frames with a mask (RFC 6455 section 5), text in "
+    ++ codes "UTF-8 (section 8.1) and close codes that may be sent (section 7.4)"
 protocol_rule tested fail.Early = fail_rule tested fail.Early
 protocol_rule tested fail.Messages = fail_rule tested fail.Messages
 protocol_rule tested fail.Pongs =
-    codes "An end that gets a ping sends a pong with its payload, unless it has already got a close frame "
-    ++ codes "(RFC 6455 section 5.5.2); one for the latest ping may stand for all (section 5.5.3)"
+    codes "An endpoint that receives a ping sends a pong with its payload, unless it has already received a "
+    ++ codes "close frame (RFC 6455 section 5.5.2); a pong for the latest ping is enough (section 5.5.3)"
 protocol_rule tested fail.Close =
-    codes "An end that gets a close frame, and sent none, sends one (RFC 6455 section 5.5.1)"
+    codes "An endpoint that receives a close frame, and has sent none, sends one (RFC 6455 section 5.5.1)"
 protocol_rule Server fail.End =
     codes "A server closes the connection at once when it has to fail it after a violation (RFC 6455 sections "
     ++ codes "5.1, 5.2, 7.1.7 and 8.1), or when it has sent and received a close frame (section 5.5.1)"
 protocol_rule Client fail.End =
-    codes "A client that has to fail the connection closes it (RFC 6455 sections 5.1, 5.2, 7.1.7 and 8.1) "
-    ++ codes "or sends a close frame (section 7.1.7), which also answers one that it gets (section 5.5.1)"
+    codes "A client that has to fail the connection closes it (RFC 6455 sections 5.1, 5.2, 7.1.7 and 8.1) or "
+    ++ codes "sends a close frame (section 7.1.7); it also answers a close frame by one (section 5.5.1)"
 
 -- the rule that was broken by an end of which this is expected
 abbrev pub fail_rule_by : Expectation → Role → FailWhy → List ℕ
@@ -140,7 +142,7 @@ fail_rule_by Protocol tested why = protocol_rule tested why
 -- the rule that allows what an end did which needn't echo: it may also leave out the pong for the last ping
 abbrev pub protocol_loose_rule : Role → LooseWhy → List ℕ
 protocol_loose_rule tested loose.PongsSkipped =
-    codes "A ping needs no answer where a later one has one (RFC 6455 section 5.5.3), or where the end may "
+    codes "A ping needs no answer if a later one is answered (RFC 6455 section 5.5.3), or if the endpoint may "
     ++ codes "not have read it or was sending a data frame"
 protocol_loose_rule tested why = loose_rule tested why
 

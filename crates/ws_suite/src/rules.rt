@@ -41,31 +41,34 @@ fn fail_rule(tested: Role, why: FailWhy) -> &'static str
     match why {
         FailWhy::NotFrames => match tested {
             Role::Server =>
-                "A server sends whole frames by the rules of RFC 6455 section 5, unmasked, with text in UTF-8 \
-                 (section 8.1), and nothing behind its close frame (ours)",
+                "Whatever a server sends must be valid: whole frames without a mask (RFC 6455 \
+                 section 5), text in UTF-8 (section 8.1), and nothing after its close frame (ours)",
             Role::Client =>
-                "A client sends whole frames by the rules of RFC 6455 section 5, masked, with text in UTF-8 \
-                 (section 8.1), and nothing behind its close frame (ours)",
+                "Whatever a client sends must be valid: whole frames with a mask (RFC 6455 section \
+                 5), text in UTF-8 (section 8.1), and nothing after its close frame (ours)",
         },
         FailWhy::Early =>
-            "A pong, a close frame or an echo answers what was sent before it (ours; RFC 6455 sections \
-             5.5.3 and 7.3 allow a pong, and a server a close, unasked)",
+            "A pong, a close frame or an echo is sent only after what it answers (ours; RFC 6455 allows \
+             unprompted pongs in section 5.5.3 and, from a server, an unprompted close in section 7.3)",
         FailWhy::Messages =>
-            "Each message is sent back, in order, of the same kind and payload (RFC 6455 sections 5.4 and \
-             5.6; ours); if a violation was sent, the last may be missing",
+            "An echo sends back each message, in order, with its kind and payload (ours; RFC 6455 \
+             sections 5.4 and 5.6 define a message); if a violation was sent, messages just before \
+             it may be missing",
         FailWhy::Pongs =>
-            "Each pong has the payload of a ping (RFC 6455 section 5.5.3), no two answer the same ping (ours), \
-             and the last ping is answered (section 5.5.2)",
+            "Each pong answers a ping, with its payload (RFC 6455 section 5.5.3), that came before \
+             any violation (section 7.1.7) and that no other pong answers (ours); the last ping is \
+             answered (section 5.5.2)",
         FailWhy::Close =>
-            "A close frame is answered by a close frame (RFC 6455 section 5.5.1), and none is sent without \
-             a close or a fault before it (ours)",
+            "A close frame is answered by a close frame (RFC 6455 section 5.5.1), and none is sent unless \
+             a close frame or a violation was received (ours)",
         FailWhy::End => match tested {
             Role::Server =>
-                "A server ends the connection after a close frame or a fault (RFC 6455 sections 5.5.1 and \
-                 7.1.7; of some faults ours), and not without one (ours)",
+                "After a close frame or a violation, a server ends the connection (RFC 6455 \
+                 sections 5.5.1 and 7.1.7; for some violations ours); otherwise it does not (ours)",
             Role::Client =>
-                "A client sends a close frame or ends the connection after a close frame or a fault (RFC 6455 \
-                 sections 5.5.1 and 7.1.7), and does not end it without one (ours)",
+                "After a close frame or a violation, a client sends a close frame or ends the \
+                 connection (RFC 6455 sections 5.5.1 and 7.1.7); otherwise it does not end it \
+                 (ours)",
         },
     }
 }
@@ -76,48 +79,51 @@ fn loose_rule(tested: Role, why: LooseWhy) -> &'static str
 {
     match why {
         LooseWhy::PongsSkipped =>
-            "Of several pings only the last needs an answer (RFC 6455 section 5.5.3)",
+            "Of several pings, only the last needs an answer (RFC 6455 section 5.5.3)",
         LooseWhy::PongElsewhere =>
-            "A pong is sent as soon as is practical (RFC 6455 section 5.5.2): an echo that is fed turn by \
-             turn sends it in its place (ours)",
+            "A pong is sent as soon as is practical (RFC 6455 section 5.5.2); the reference echo sends \
+             pongs and messages in the order of what they answer (ours)",
         LooseWhy::OtherCode =>
-            "A close frame typically has the code of the one that it answers (RFC 6455 section 5.5.1), and \
-             one after a fault the code of that fault (section 7.4.1)",
+            "A close frame after a violation has the code for that violation (RFC 6455 section \
+             7.4.1), and one that answers a valid close frame typically has its code (section \
+             5.5.1)",
         LooseWhy::LateEnd => match tested {
             Role::Server =>
-                "A server ends the connection at once after a close frame or a fault (RFC 6455 sections 5.5.1 \
-                 and 7.1.1)",
+                "A server ends the connection at once after a close frame or a violation (RFC 6455 \
+                 sections 5.5.1 and 7.1.1)",
             Role::Client =>
-                "A client sends its close frame in the turn of the close frame or the fault that it got (RFC \
-                 6455 section 5.5.1; the turn is ours)",
+                "A client sends its close frame in the turn in which it received the close frame or the \
+                 violation (RFC 6455 section 5.5.1; the turn is ours)",
         },
         LooseWhy::EchoShort =>
-            "An end that fails the connection may drop what it has read (RFC 6455 section 7.1.7); an echo \
-             that is fed turn by turn answers it (ours)",
+            "An endpoint that fails the connection may drop what it has read (RFC 6455 section 7.1.7); \
+             the reference echo answers it (ours)",
         LooseWhy::BrokenEnd =>
-            "A connection is closed cleanly where that can be done (RFC 6455 section 7.1.1): a read or a \
-             write failed",
+            "A connection is closed cleanly if possible (RFC 6455 section 7.1.1), but a read or a write \
+             failed",
         LooseWhy::OwnFault =>
-            "A close frame with the code 1002 or 1007 says that the other end broke a rule (RFC 6455 section \
-             7.4.1), and nothing that breaks one was sent whole before it",
-        LooseWhy::OwnClose => "An end may send a close frame at any time (RFC 6455 section 7.1.2)",
+            "A close frame with the code 1002 or 1007 says that the other endpoint broke a rule (RFC 6455 \
+             section 7.4.1), but no complete violation was sent before it",
+        LooseWhy::OwnClose =>
+            "An endpoint may send a close frame at any time (RFC 6455 section 7.1.2)",
         LooseWhy::OwnEnd =>
-            "An end that wants to end the connection sends a close frame first (RFC 6455 section 7.1.2), \
-             though it may end it by any means when necessary (section 7.1.1)",
+            "An endpoint that wants to end the connection sends a close frame first (RFC 6455 section \
+             7.1.2), but may end it by any means if necessary (section 7.1.1)",
         LooseWhy::LateFault =>
-            "An end fails the connection once it has read what breaks a rule (RFC 6455 section 7.1.7): the \
-             frame, or the message with text that is none, was not sent whole",
+            "An endpoint fails the connection once it has read a violation (RFC 6455 section 7.1.7), but \
+             the frame with the violation, or the message with invalid text, was not sent completely",
         LooseWhy::Tolerated =>
-            "A sender keeps the rules of forms, fragments and control frames (RFC 6455 sections 5.2, 5.4 and \
-             5.5); where it breaks one, the standard does not order the receiver to fail the connection",
+            "A sender keeps the rules for lengths, fragments and control frames (RFC 6455 sections 5.2, \
+             5.4 and 5.5); if it breaks one, the RFC does not order the receiver to fail the connection",
         LooseWhy::NoClose =>
-            "An end that gets a close frame sends one (RFC 6455 section 5.5.1), unless it ended the \
-             connection before it had read it",
+            "An endpoint that receives a close frame sends one (RFC 6455 section 5.5.1), unless it ended \
+             the connection before it read that frame",
         LooseWhy::BehindClose =>
-            "No data frame follows a close frame (RFC 6455 section 5.5.1); that no control frame does either \
-             is ours",
+            "No data frame follows a close frame (RFC 6455 section 5.5.1); that no control frame follows \
+             one is ours",
         LooseWhy::TooBig =>
-            "A message has at most 16777216 bytes (ours; RFC 6455 section 10.4 leaves it to each end)",
+            "A message has at most 16777216 bytes (ours; RFC 6455 section 10.4 leaves the limit to each \
+             endpoint)",
     }
 }
 
@@ -128,25 +134,29 @@ fn protocol_rule(tested: Role, why: FailWhy) -> &'static str
     match why {
         FailWhy::NotFrames => match tested {
             Role::Server =>
-                "A server sends whole unmasked frames by RFC 6455 section 5, with text in UTF-8 (section 8.1), \
-                 close codes that may be sent (section 7.4) and no data frame behind its close (section 5.5.1)",
+                "Whatever a server sends must be valid: whole frames without a mask (RFC 6455 \
+                 section 5), text in UTF-8 (section 8.1), close codes that may be sent (section \
+                 7.4) and no data frame after its close frame (section 5.5.1)",
             Role::Client =>
-                "A client sends whole masked frames by RFC 6455 section 5, with text in UTF-8 (section 8.1) and \
-                 close codes that may be sent (section 7.4)",
+                "Whatever a client sends must be valid: whole frames with a mask (RFC 6455 section \
+                 5), text in UTF-8 (section 8.1) and close codes that may be sent (section 7.4)",
         },
         FailWhy::Early | FailWhy::Messages => fail_rule(tested, why),
         FailWhy::Pongs =>
-            "An end that gets a ping sends a pong with its payload, unless it has already got a close frame \
-             (RFC 6455 section 5.5.2); one for the latest ping may stand for all (section 5.5.3)",
+            "An endpoint that receives a ping sends a pong with its payload, unless it has already \
+             received a close frame (RFC 6455 section 5.5.2); a pong for the latest ping is enough \
+             (section 5.5.3)",
         FailWhy::Close =>
-            "An end that gets a close frame, and sent none, sends one (RFC 6455 section 5.5.1)",
+            "An endpoint that receives a close frame, and has sent none, sends one (RFC 6455 section \
+             5.5.1)",
         FailWhy::End => match tested {
             Role::Server =>
                 "A server closes the connection at once when it has to fail it after a violation (RFC 6455 sections \
                  5.1, 5.2, 7.1.7 and 8.1), or when it has sent and received a close frame (section 5.5.1)",
             Role::Client =>
-                "A client that has to fail the connection closes it (RFC 6455 sections 5.1, 5.2, 7.1.7 and 8.1) \
-                 or sends a close frame (section 7.1.7), which also answers one that it gets (section 5.5.1)",
+                "A client that has to fail the connection closes it (RFC 6455 sections 5.1, 5.2, 7.1.7 \
+                 and 8.1) or sends a close frame (section 7.1.7); it also answers a close frame by one \
+                 (section 5.5.1)",
         },
     }
 }
@@ -158,8 +168,8 @@ fn protocol_loose_rule(tested: Role, why: LooseWhy) -> &'static str
 {
     match why {
         LooseWhy::PongsSkipped =>
-            "A ping needs no answer where a later one has one (RFC 6455 section 5.5.3), or where the end may \
-             not have read it or was sending a data frame",
+            "A ping needs no answer if a later one is answered (RFC 6455 section 5.5.3), or if the \
+             endpoint may not have read it or was sending a data frame",
         _ => loose_rule(tested, why),
     }
 }

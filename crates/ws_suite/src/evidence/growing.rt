@@ -6,7 +6,7 @@ ghost use Rattle.ws_wire.specs.declared.role.Role.{Role};
 ghost use Rattle.ws_scripts.specs.declared.transcript.Turn.{Turn};
 ghost use Rattle.ws_session.specs.Exchange.{is_over};
 ghost use Rattle.ws_suite.specs.Evidence.{other_role};
-ghost use Rattle.ws_suite.specs.Growing.{AreTurnsAnswered, EndInsideFrame, HasGrown, IsTallyOf};
+ghost use Rattle.ws_suite.specs.Growing.{AreTurnsAnswered, EndInsideFrame, HasGrown, HaveUnowedMessage, IsTallyOf};
 ghost use Rattle.ws_suite.specs.Growing.{is_clean, is_failed, new_turn, turn_with_got, turn_with_sent};
 ghost use Rattle.ws_suite.specs.Waiting.{AreTurnsAnsweredBy, AreTurnsSeenAnswered};
 
@@ -157,6 +157,18 @@ impl GrowingEvidence<ReplyTally> {
             .collected
             .replies
             .answers_by(expected, &self.sent.collected.replies)
+    }
+
+    /// Whether more messages were got than are due: then what an echo owes can't come any more.
+    pub fn has_unowed_message(&self) -> bool
+        ensures { (tested : Role) (turns : List Turn) → HasGrown IsTallyOf tested turns self.now →
+            IsTrue result ↔ HaveUnowedMessage tested turns }
+    {
+        session_laws();
+        self.got
+            .collected
+            .replies
+            .exceeds(&self.sent.collected.replies)
     }
 
     /// Whether what was got ends inside a frame: bytes came behind the last that said something.

@@ -1,6 +1,6 @@
 //! What is kept of the replies of a direction: all of them, or what a run asks about.
 
-ghost use Rattle.std.specs.Prelude.{◌≡◌, ◌↔◌, [], ◌∷◌, ◌++◌, List, IsTrue, None, OnOk, Some};
+ghost use Rattle.std.specs.Prelude.{◌≡◌, ◌<◌, ◌↔◌, [], ◌∷◌, ◌++◌, List, IsTrue, None, OnOk, Some};
 ghost use Rattle.ws_suite.specs.declared.evidence.InTurn.{InTurn};
 ghost use Rattle.ws_suite.specs.declared.evidence.Reply.{Reply};
 ghost use Rattle.ws_suite.specs.Growing.{AnswersTally, IsAnsweredPong};
@@ -118,6 +118,13 @@ impl ReplyTally {
         ensures { IsTrue result ↔ AnswersTally due.now self.now }
     {
         self.messages >= due.messages && self.last_pong.answers(&due.last_pong)
+    }
+
+    /// Whether there are more messages than are due.
+    pub(crate) fn exceeds(&self, due: &ReplyTally) -> bool
+        ensures { IsTrue result ↔ (due.now.messages < self.now.messages) }
+    {
+        self.messages > due.messages
     }
 
     /// Whether these replies are what is waited for: what an echo owes, or by the protocol the last due pong alone, be
