@@ -1,6 +1,6 @@
 //! The steps of which short scripts are made: each as a line in the text of a script, and what that line tells.
 
-ghost use Rattle.std.specs.Prelude.{◌≡◌, ◌<◌, IfOk, map};
+ghost use Rattle.std.specs.Prelude.{◌≡◌, ◌<◌, IfOk, IsTrue, map};
 ghost use Rattle.ws_sweep.specs.Alphabet.{letter_row, shared_steps, step_at, step_of, wrong_mask};
 ghost use Rattle.ws_sweep.specs.Order.{alphabet_size};
 
@@ -198,5 +198,30 @@ pub(crate) fn step_of(alloc: Global, sends: Sends) -> Result<Step, NoMemory>
             Ok(Step::Raw(bytes))
         }
         Sends::Nothing => Ok(Step::Wait),
+    }
+}
+
+/// Whether a step is what these send.
+pub(crate) fn is_step_of(sends: Sends, step: &Step) -> bool
+    ensures { IsTrue result → step.now ≡ step_of sends }
+{
+    match (step, sends) {
+        (
+            Step::Frame {
+                fin,
+                rsv,
+                opcode,
+                payload,
+            },
+            Sends::Frame(this_fin, this_rsv, this_opcode, data),
+        ) => {
+            *fin == this_fin
+                && *rsv == this_rsv
+                && *opcode == this_opcode
+                && payload.as_slice() == data
+        }
+        (Step::Raw(bytes), Sends::Raw(data)) => bytes.as_slice() == data,
+        (Step::Wait, Sends::Nothing) => true,
+        _ => false,
     }
 }

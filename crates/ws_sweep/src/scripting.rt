@@ -1,13 +1,14 @@
 //! The case of a short script.
 
-ghost use Rattle.std.specs.Prelude.{◌≡◌, ◌↔◌, ◌++◌, IfOk, IsTrue};
+ghost use Rattle.std.specs.Prelude.{◌≡◌, ◌↔◌, ◌≤◌, ◌++◌, IfOk, IsTrue, length, take};
 ghost use Rattle.ws_scripts.specs.declared.script.Chop.TheVariants.{Whole};
 ghost use Rattle.ws_scripts.specs.Scripts.{CanBeRun, FitHeaders};
 ghost use Rattle.ws_sweep.specs.InnerFronts.{IsSessionAfter};
-ghost use Rattle.ws_sweep.specs.Order.{ArePlaces};
+ghost use Rattle.ws_sweep.specs.Alphabet.{step_at};
+ghost use Rattle.ws_sweep.specs.Order.{ArePlaces, IsStepPlace};
 ghost use Rattle.ws_sweep.specs.ShortCases.{HasEnd, IsShortCase, bytes_sent, end_steps, short_steps};
 
-use crate::alphabet::{Sends, letter_at, step_of};
+use crate::alphabet::{Sends, is_step_of, letter_at, step_of};
 use crate::lemmas::event_laws;
 use crate::short_script::ShortScript;
 use std::alloc::Global;
@@ -17,7 +18,7 @@ use ws_session::{Limits, Session};
 use ws_wire::{NO_KEY, Role};
 
 /// The name of a case that has none.
-const NO_NAME: &str = "-";
+pub(crate) const NO_NAME: &str = "-";
 
 /// What stands behind a script that asks for it: a close frame with code 1000.
 const CLOSE: Sends = Sends::Frame(true, 0, 8, b"\x03\xe8");
@@ -36,8 +37,9 @@ pub fn short_case(
     ensures is { IfOk result (λ case. IsShortCase tested expected key script.now case) }
     ensures runs { IfOk result (λ case. CanBeRun case) }
 {
-    let steps = steps_of(alloc, tested, script)?;
-    let case = whole_case(alloc, steps)?;
+    let name = no_name(alloc)?;
+    let steps = steps_of(alloc, tested, script, Vec::new(alloc))?;
+    let case = whole_case(name, steps);
     if has_end(alloc, tested, key, &case)? {
         return Ok(case);
     }
@@ -45,34 +47,66 @@ pub fn short_case(
     Ok(closed)
 }
 
-/// The steps of a script.
+/// The name of a case that has none.
+pub(crate) fn no_name(alloc: Global) -> Result<String, NoMemory> {
+    let name = String::from_str(alloc, NO_NAME)?;
+    Ok(name)
+}
+
+/// The steps of a script, in the room of others: the first of these stay, as far as they are those of the script.
 pub(crate) fn steps_of(
     alloc: Global,
     tested: Role,
     script: &ShortScript,
+    room: Vec<Step>,
 ) -> Result<Vec<Step>, NoMemory>
     requires { ArePlaces script.now }
     ensures { IfOk result (λ steps. steps.items ≡ short_steps tested script.now) }
 {
-    let mut steps = Vec::new(alloc);
-    for place in script.places() {
-        let letter = letter_at(tested, *place as usize);
+    let places = script.places();
+    let mut steps = room;
+    let mut at = shared_count(tested, places, &steps);
+    steps.truncate(at);
+    while at < places.len() {
+        let letter = letter_at(tested, places[at] as usize);
         steps.push(step_of(alloc, letter.sends)?)?;
+        at += 1;
     }
     Ok(steps)
 }
 
-/// A case of these steps, whose turns are sent whole.
-pub(crate) fn whole_case(alloc: Global, steps: Vec<Step>) -> Result<Case, NoMemory>
-    ensures steps { IfOk result (λ case. case.steps ≡ steps.items) }
-    ensures whole { IfOk result (λ case. case.chop ≡ Whole) }
+/// How many steps at the front of these are those at the places.
+fn shared_count(tested: Role, places: &[u8], steps: &[Step]) -> usize
+    requires { ArePlaces places.now }
+    ensures within { result ≤ length places.now }
+    ensures same { take result steps.now ≡ short_steps tested (take result places.now) }
 {
-    let id = String::from_str(alloc, NO_NAME)?;
-    Ok(Case {
+    let mut at = 0;
+    while at < places.len() && at < steps.len() && has_step(tested, places[at], &steps[at]) {
+        at += 1;
+    }
+    at
+}
+
+/// Whether this is the step at a place.
+fn has_step(tested: Role, place: u8, step: &Step) -> bool
+    requires { IsStepPlace place }
+    ensures { IsTrue result → step.now ≡ (step_at tested place).step }
+{
+    let letter = letter_at(tested, place as usize);
+    is_step_of(letter.sends, step)
+}
+
+/// A case with this name of these steps, whose turns are sent whole.
+pub(crate) fn whole_case(id: String, steps: Vec<Step>) -> Case
+    ensures steps { result.steps ≡ steps.items }
+    ensures whole { result.chop ≡ Whole }
+{
+    Case {
         id,
         steps: Sequence::from_vec(steps),
         chop: Chop::Whole,
-    })
+    }
 }
 
 /// The case with a close behind its steps, and before it what is expected of the end asks for.

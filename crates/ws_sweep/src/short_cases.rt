@@ -8,7 +8,9 @@ ghost use Rattle.ws_sweep.specs.ShortCases.{HasEnd, IsShortCase, bytes_sent, sho
 ghost use Rattle.ws_sweep.specs.InnerFronts.{IsFrontOf, IsKnown, IsSessionAfter};
 
 use crate::lemmas::{end_laws, event_laws, law_masking_key};
-use crate::scripting::{session_after, steps_have_end, steps_of, whole_case, with_close};
+use crate::scripting::{
+    NO_NAME, no_name, session_after, steps_have_end, steps_of, whole_case, with_close,
+};
 use crate::short_script::ShortScript;
 use std::alloc::Global;
 use std::marker::Model;
@@ -82,6 +84,8 @@ pub struct ShortCases {
     key: Option<[u8; 4]>,
     /// What was read last.
     front: Option<Front>,
+    /// A case that was given back: the next one is made of its memory.
+    used: Option<Case>,
 }
 
 impl Model for ShortCases {
@@ -108,6 +112,7 @@ impl ShortCases {
             expected,
             key,
             front: None,
+            used: None,
         }
     }
 
@@ -122,8 +127,9 @@ impl ShortCases {
         ensures key { self.new.key ≡ self.old.key }
     {
         script.law_few_steps();
-        let steps = steps_of(alloc, self.tested, script)?;
-        let case = whole_case(alloc, steps)?;
+        let (name, room) = room_of(alloc, self.used.take())?;
+        let steps = steps_of(alloc, self.tested, script, room)?;
+        let case = whole_case(name, steps);
         let places = script.places();
         let steps = case.steps.as_slice();
         if script_has_end(alloc, self.tested, self.key, &mut self.front, places, steps)? {
@@ -131,6 +137,25 @@ impl ShortCases {
         }
         let closed = with_close(alloc, self.expected, case)?;
         Ok(closed)
+    }
+
+    /// Takes a case back, so that the next one is made of its memory: steps that both share are made once.
+    pub fn give_back(&mut self, case: Case)
+        ensures tested { self.new.tested ≡ self.old.tested }
+        ensures expected { self.new.expected ≡ self.old.expected }
+        ensures key { self.new.key ≡ self.old.key }
+    {
+        if case.id.as_str() == NO_NAME {
+            self.used = Some(case);
+        }
+    }
+}
+
+/// The name and the steps of a case that was given back, or new ones where there is none.
+fn room_of(alloc: Global, used: Option<Case>) -> Result<(String, Vec<Step>), NoMemory> {
+    match used {
+        Some(case) => Ok((case.id, case.steps.into_vec())),
+        None => Ok((no_name(alloc)?, Vec::new(alloc))),
     }
 }
 
