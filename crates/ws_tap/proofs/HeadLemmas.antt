@@ -7,6 +7,7 @@ use Rattle.std.proofs.Math.Seq.{take-append-add, take-append_seam}
 use Rattle.httparse.specs.Grammar.{Field, print_request, print_response}
 use Rattle.httparse.specs.Spans.{AreFieldsAt, header_bytes, name_and_value}
 use Rattle.httparse.specs.declared.spans.HeaderSpan.{HeaderSpan}
+use Rattle.ws_tap.specs.declared.tapped.Tapped.{Tapped}
 use Rattle.ws_tap.specs.declared.head_room.HeadFound.{HeadFound}
 use Rattle.ws_tap.specs.Texts.{source_at, head_line}
 use Rattle.ws_tap.specs.Standing.{LooksIn, IsFoundWith, IsLookedFor}
@@ -149,12 +150,12 @@ room_grows : (kind : HeadKind) (room new bytes piece : List ℕ) → LooksIn kin
     → new ≡ head_front (room ++ piece) → new ≡ head_front (bytes ++ piece)
 room_grows kind room new bytes piece l e = e ∙ ap (λ (t : List ℕ). head_front (t ++ piece)) l.0 ∙ part_more bytes piece
 
-pub not_found : (kind : HeadKind) (number : ℕ) (room new slice bytes piece : List ℕ) (result : Option HeadFound)
+pub not_found : (kind : HeadKind) (tapped : Tapped) (room new slice bytes piece : List ℕ) (result : Option HeadFound)
     → LooksIn kind room bytes → new ≡ head_front (room ++ piece) → slice ≡ new
-    → HasNoHead kind slice → result ≡ None → IsLookedFor kind number new bytes piece result
-not_found kind number room new slice bytes piece result l e es lacks none =
+    → HasNoHead kind slice → result ≡ None → IsLookedFor kind tapped new bytes piece result
+not_found kind tapped room new slice bytes piece result l e es lacks none =
     let grown = room_grows kind room new bytes piece l e in
-    subst (λ (r : Option HeadFound). IsLookedFor kind number new bytes piece r) (sym none) (
+    subst (λ (r : Option HeadFound). IsLookedFor kind tapped new bytes piece r) (sym none) (
       grown,
       λ head h. lacks head (subst (λ (t : List ℕ). HasHead kind t head) (sym (es ∙ grown))
           (in_part kind (bytes ++ piece) head h)),
@@ -185,11 +186,11 @@ ends_behind kind room new slice bytes piece head l e es h =
       all,
     )
 
-pub found : (kind : HeadKind) (number before : ℕ) (room new slice bytes piece line : List ℕ) (head : Head)
+pub found : (kind : HeadKind) (tapped : Tapped) (before : ℕ) (room new slice bytes piece line : List ℕ) (head : Head)
     → LooksIn kind room bytes → new ≡ head_front (room ++ piece) → slice ≡ new
-    → HasHead kind slice head → before ≡ length room → line ≡ head_line (source_at kind number) (take head.len slice)
-    → IsFoundWith kind number bytes piece (record { head = head; line = line; used = head.len - before })
-found kind number before room new slice bytes piece line head l e es h eb el =
+    → HasHead kind slice head → before ≡ length room → line ≡ head_line (source_at kind tapped) (take head.len slice)
+    → IsFoundWith kind tapped bytes piece (record { head = head; line = line; used = head.len - before })
+found kind tapped before room new slice bytes piece line head l e es h eb el =
     let (late, same, within, all) = ends_behind kind room new slice bytes piece head l e es h in
     let used = head.len - before in
     let len : head.len ≡ length bytes + used = omega (arith, late, same, eb) in
@@ -217,5 +218,5 @@ found kind number before room new slice bytes piece line head l e es h eb el =
           (head_in_front kind (bytes ++ piece) head.len head all (omega arith));
       whole = len ∙ sym (length-append bytes (take used piece)
           ∙ ap (λ n. length bytes + n) (length-take-le used piece few));
-      line = el ∙ ap (λ (t : List ℕ). head_line (source_at kind number) t) in_slice;
+      line = el ∙ ap (λ (t : List ℕ). head_line (source_at kind tapped) t) in_slice;
     }

@@ -9,13 +9,19 @@ use Rattle.ws_wire.specs.Header.{AreBytes}
 use Rattle.ws_wire.proofs.Numbers.{front_bytes}
 use Rattle.ws_wire.proofs.Splits.{rest_bytes}
 use Rattle.ws_frame.specs.declared.source.Source.{Source}
+use Rattle.ws_frame.specs.declared.frame_lines.FrameLines.{FrameLines}
+use Rattle.ws_frame.specs.declared.frame_lines.FrameLines.TheVariants.{Digits, Whole}
+use Rattle.ws_frame.specs.declared.payload_lines.PayloadLines.{PayloadLines}
 use Rattle.ws_frame.specs.declared.stream_lines.StreamLines.{StreamLines}
 use Rattle.ws_frame.specs.Lines.{AreCertainLines}
-use Rattle.ws_frame.specs.Streaming.{HasShown}
+use Rattle.ws_frame.specs.FrameStreaming.{HasTakenFrames}
+use Rattle.ws_frame.specs.PayloadStreaming.{EndsPut, PutsMore, stream_end}
+use Rattle.ws_frame.specs.Streaming.{EndsWithLine, ShowsByte}
+use Rattle.ws_frame.proofs.EitherWay.{by_digits, by_payloads}
 use Rattle.ws_frame.proofs.Streams.{certain_lines_go_on, certain_lines_are_one}
 use Rattle.ws_tap.specs.KeptValues.{KeptValue}
 use Rattle.ws_tap.specs.Texts.{IsMost, IsKeptOf}
-use Rattle.ws_tap.specs.Standing.{IsKeeping, kept_after}
+use Rattle.ws_tap.specs.Standing.{EndsKept, IsKeeping, KeepsByte, kept_after}
 
 -- ---- the lines of a beginning are no longer than those of all
 
@@ -164,12 +170,39 @@ pub is_kept : (source : Source) (bytes lines : List ℕ) (kept : KeptValue) → 
 is_kept source bytes lines kept (inl (going, same, fits)) = inl (fits, same)
 is_kept source bytes lines kept (inr (full, over, most)) = inr (over, most)
 
+-- ---- by whichever way the lines are made
+
+pub keeps_digits : (old new : StreamLines) (kept : KeptValue) (byte : ℕ) (line : List ℕ) → ShowsByte old new byte line
+    → KeepsByte kept (kept_after kept line) (record { old = Digits old; new = Digits new }) byte
+keeps_digits old new kept byte line shows = λ bytes shown t. (
+  line,
+  by_digits new (bytes ++ byte ∷ []) (shown ++ line) (shows bytes shown t.stands),
+  refl,
+)
+
+pub keeps_whole : (old new : PayloadLines) (kept : KeptValue) (byte : ℕ) (line : List ℕ)
+    → PutsMore old new (byte ∷ []) [] line
+    → KeepsByte kept (kept_after kept line) (record { old = Whole old; new = Whole new }) byte
+keeps_whole old new kept byte line puts = λ bytes shown t.
+    let (more, is, on) = puts bytes shown t.stands in (
+      line,
+      subst (λ (l : List ℕ). HasTakenFrames (Whole new) (bytes ++ byte ∷ []) (shown ++ l)) (sym is)
+          (by_payloads new (bytes ++ byte ∷ []) (shown ++ more) on),
+      refl,
+    )
+
+pub ends_digits : (lines : StreamLines) (line : List ℕ) → EndsWithLine lines line → EndsKept (Digits lines) line
+ends_digits lines line ends = λ bytes shown t. ends bytes shown t.stands
+
+pub ends_by_payloads : (lines : PayloadLines) (line : List ℕ) → EndsPut lines line → EndsKept (Whole lines) line
+ends_by_payloads lines line ends = λ bytes shown t. (stream_end lines, ends bytes shown t.stands)
+
 -- ---- equal bytes and texts
 
-pub shown_same : (lines : StreamLines) (bytes bytes' shown shown' : List ℕ) → bytes ≡ bytes' → shown ≡ shown'
-    → HasShown lines bytes shown → HasShown lines bytes' shown'
-shown_same lines bytes bytes' shown shown' eb es s = subst (λ (t : List ℕ). HasShown lines bytes' t) es
-    (subst (λ (t : List ℕ). HasShown lines t shown) eb s)
+pub shown_same : (lines : FrameLines) (bytes bytes' shown shown' : List ℕ) → bytes ≡ bytes' → shown ≡ shown'
+    → HasTakenFrames lines bytes shown → HasTakenFrames lines bytes' shown'
+shown_same lines bytes bytes' shown shown' eb es s = subst (λ (t : List ℕ). HasTakenFrames lines bytes' t) es
+    (subst (λ (t : List ℕ). HasTakenFrames lines t shown) eb s)
 
 pub keeping_same : (source : Source) (bytes bytes' shown shown' : List ℕ) (kept kept' : KeptValue) → bytes ≡ bytes'
     → shown ≡ shown' → kept ≡ kept' → IsKeeping source bytes shown kept → IsKeeping source bytes' shown' kept'

@@ -2,6 +2,7 @@
 use Rattle.std.proofs.Common.{◌≡◌, ℕ, Bool, true, false, List, Option, Ok, refl, ap, subst}
 use Rattle.std.proofs.KnownBytes.{Appends-kept}
 use Rattle.std.specs.Io.KnownBytes.{Keeps}
+use Rattle.ws_tap.specs.declared.tapped.Tapped.{Tapped}
 use Rattle.ws_tap.specs.declared.pipe.PipeStage.{PipeStage}
 use Rattle.ws_tap.specs.declared.pipe.Next.{Next}
 use Rattle.ws_tap.specs.declared.pipe.Next.TheVariants.{Fill, Drain, EndDirection, Nothing}
@@ -40,30 +41,30 @@ have_ended (Ended first) tap client server (c, s) = (ended_where_over tap.client
 have_ended Broken tap client server at = tt
 
 -- what was told
-pub tap_text : (number : ℕ) (end : TapEnd) (answered : Answered) (tap : Tap) (devices : TapDevices)
-    (t : HasTapped number answered tap devices)
-    → EndsAt end tap → IsTapText number end (all_text t.parts)
-tap_text number end answered tap devices t at = record {
+pub tap_text : (tapped : Tapped) (end : TapEnd) (answered : Answered) (tap : Tap) (devices : TapDevices)
+    (t : HasTapped tapped answered tap devices)
+    → EndsAt end tap → IsTapText tapped end (all_text t.parts)
+tap_text tapped end answered tap devices t at = record {
   client = sent_by tap.client t.passed.from_client;
   server = sent_by tap.server t.passed.from_server;
   answered = answered;
   parts = t.parts;
   has_answered = t.told.has_answered;
   in_order = t.told.in_order;
-  of_client = client_is_text tap.client_lines.stage tap.client_lines.release number answered
+  of_client = client_is_text tap.client_lines.stage tap.client_lines.release tapped answered
       (sent_by tap.client t.passed.from_client) (client_text t.parts) t.told.of_client.1;
-  of_server = server_is_text tap.server_lines.stage number (sent_by tap.server t.passed.from_server)
+  of_server = server_is_text tap.server_lines.stage tapped (sent_by tap.server t.passed.from_server)
       (server_text t.parts) t.told.of_server.1;
   all = refl;
   ended = have_ended end tap t.passed.from_client t.passed.from_server at;
 }
 
-pub tells_tap : (number : ℕ) (end : TapEnd) (answered : Answered) (tap : Tap) (devices : TapDevices) (failed : Bool)
-    (t : HasTapped number answered tap devices) → EndsAt end tap → failed ≡ false
-    → TellsTap number (Ok end) (record { failed = failed; old = devices.lines.old; new = devices.lines.new })
-tells_tap number end answered tap devices failed t at works = (
+pub tells_tap : (tapped : Tapped) (end : TapEnd) (answered : Answered) (tap : Tap) (devices : TapDevices) (failed : Bool)
+    (t : HasTapped tapped answered tap devices) → EndsAt end tap → failed ≡ false
+    → TellsTap tapped (Ok end) (record { failed = failed; old = devices.lines.old; new = devices.lines.new })
+tells_tap tapped end answered tap devices failed t at works = (
   works,
-  (all_text t.parts, t.lines, tap_text number end answered tap devices t at),
+  (all_text t.parts, t.lines, tap_text tapped end answered tap devices t at),
 )
 
 -- a new tap has something to do
@@ -76,21 +77,21 @@ not_over Nothing Done is over = absurd cc
 -- ---- a step over which a device stays
 
 -- the writer to the server holds what it held
-pub client_read_is_pass : (number : ℕ) (answered : Answered) (tap : Tap) (devices : TapDevices)
+pub client_read_is_pass : (tapped : Tapped) (answered : Answered) (tap : Tap) (devices : TapDevices)
     (left told held : Option (List ℕ))
     → devices.client.output.new ≡ held
-    → HasTapped number answered tap (with_client_read devices left told)
-    → HasTapped number answered tap (with_client_passed devices left held told)
-client_read_is_pass number answered tap devices left told held is t =
-    subst (λ (o : Option (List ℕ)). HasTapped number answered tap (with_client_passed devices left o told)) is t
+    → HasTapped tapped answered tap (with_client_read devices left told)
+    → HasTapped tapped answered tap (with_client_passed devices left held told)
+client_read_is_pass tapped answered tap devices left told held is t =
+    subst (λ (o : Option (List ℕ)). HasTapped tapped answered tap (with_client_passed devices left o told)) is t
 
-pub server_read_is_pass : (number : ℕ) (answered : Answered) (tap : Tap) (devices : TapDevices)
+pub server_read_is_pass : (tapped : Tapped) (answered : Answered) (tap : Tap) (devices : TapDevices)
     (left told held : Option (List ℕ))
     → devices.server.output.new ≡ held
-    → HasTapped number answered tap (with_server_read devices left told)
-    → HasTapped number answered tap (with_server_passed devices left held told)
-server_read_is_pass number answered tap devices left told held is t =
-    subst (λ (o : Option (List ℕ)). HasTapped number answered tap (with_server_passed devices left o told)) is t
+    → HasTapped tapped answered tap (with_server_read devices left told)
+    → HasTapped tapped answered tap (with_server_passed devices left held told)
+server_read_is_pass tapped answered tap devices left told held is t =
+    subst (λ (o : Option (List ℕ)). HasTapped tapped answered tap (with_server_passed devices left o told)) is t
 
 -- and so it is where the output has failed
 pub client_fails_so : (tap : Tap) (devices : TapDevices) (left told held : Option (List ℕ))
@@ -106,24 +107,24 @@ server_fails_so tap devices left told held is t =
     subst (λ (o : Option (List ℕ)). HasPassedOn tap (with_server_passed devices left o told)) is t
 
 -- only the writer to the server has changed
-pub client_write_is_pass : (number : ℕ) (answered : Answered) (tap : Tap) (devices : TapDevices)
+pub client_write_is_pass : (tapped : Tapped) (answered : Answered) (tap : Tap) (devices : TapDevices)
     (left told held : Option (List ℕ))
     → devices.client.input.new ≡ left → devices.lines.new ≡ told
-    → HasTapped number answered tap (with_client_passed devices devices.client.input.new held devices.lines.new)
-    → HasTapped number answered tap (with_client_passed devices left held told)
-client_write_is_pass number answered tap devices left told held il is t =
-    subst (λ (o : Option (List ℕ)). HasTapped number answered tap (with_client_passed devices left held o)) is
-    (subst (λ (o : Option (List ℕ)). HasTapped number answered tap
+    → HasTapped tapped answered tap (with_client_passed devices devices.client.input.new held devices.lines.new)
+    → HasTapped tapped answered tap (with_client_passed devices left held told)
+client_write_is_pass tapped answered tap devices left told held il is t =
+    subst (λ (o : Option (List ℕ)). HasTapped tapped answered tap (with_client_passed devices left held o)) is
+    (subst (λ (o : Option (List ℕ)). HasTapped tapped answered tap
     (with_client_passed devices o held devices.lines.new)) il t)
 
-pub server_write_is_pass : (number : ℕ) (answered : Answered) (tap : Tap) (devices : TapDevices)
+pub server_write_is_pass : (tapped : Tapped) (answered : Answered) (tap : Tap) (devices : TapDevices)
     (left told held : Option (List ℕ))
     → devices.server.input.new ≡ left → devices.lines.new ≡ told
-    → HasTapped number answered tap (with_server_passed devices devices.server.input.new held devices.lines.new)
-    → HasTapped number answered tap (with_server_passed devices left held told)
-server_write_is_pass number answered tap devices left told held il is t =
-    subst (λ (o : Option (List ℕ)). HasTapped number answered tap (with_server_passed devices left held o)) is
-    (subst (λ (o : Option (List ℕ)). HasTapped number answered tap
+    → HasTapped tapped answered tap (with_server_passed devices devices.server.input.new held devices.lines.new)
+    → HasTapped tapped answered tap (with_server_passed devices left held told)
+server_write_is_pass tapped answered tap devices left told held il is t =
+    subst (λ (o : Option (List ℕ)). HasTapped tapped answered tap (with_server_passed devices left held o)) is
+    (subst (λ (o : Option (List ℕ)). HasTapped tapped answered tap
     (with_server_passed devices o held devices.lines.new)) il t)
 
 -- a writer that keeps what it holds
@@ -139,11 +140,11 @@ kept_passes pipe direction read held keeps p = record {
 }
 
 -- the direction of a writer was ended, and all stands as before
-pub client_kept : (number : ℕ) (answered : Answered) (tap : Tap) (devices : TapDevices) (held : Option (List ℕ))
+pub client_kept : (tapped : Tapped) (answered : Answered) (tap : Tap) (devices : TapDevices) (held : Option (List ℕ))
     → Keeps devices.client.output.new held
-    → HasTapped number answered tap devices
-    → HasTapped number answered tap (with_client_passed devices devices.client.input.new held devices.lines.new)
-client_kept number answered tap devices held keeps t = record {
+    → HasTapped tapped answered tap devices
+    → HasTapped tapped answered tap (with_client_passed devices devices.client.input.new held devices.lines.new)
+client_kept tapped answered tap devices held keeps t = record {
   passed = record {
     from_client = t.passed.from_client;
     from_server = t.passed.from_server;
@@ -156,11 +157,11 @@ client_kept number answered tap devices held keeps t = record {
   lines = t.lines;
 }
 
-pub server_kept : (number : ℕ) (answered : Answered) (tap : Tap) (devices : TapDevices) (held : Option (List ℕ))
+pub server_kept : (tapped : Tapped) (answered : Answered) (tap : Tap) (devices : TapDevices) (held : Option (List ℕ))
     → Keeps devices.server.output.new held
-    → HasTapped number answered tap devices
-    → HasTapped number answered tap (with_server_passed devices devices.server.input.new held devices.lines.new)
-server_kept number answered tap devices held keeps t = record {
+    → HasTapped tapped answered tap devices
+    → HasTapped tapped answered tap (with_server_passed devices devices.server.input.new held devices.lines.new)
+server_kept tapped answered tap devices held keeps t = record {
   passed = record {
     from_client = t.passed.from_client;
     from_server = t.passed.from_server;

@@ -3,9 +3,10 @@ use Rattle.std.proofs.Common.{◌≡◌, ℕ, ◌+◌, ◌^◌, ◌<◌, true, f
 use Rattle.std.proofs.Common.{◌∙◌, append-nil, append_assoc, inl, inr, arith, subst}
 use Rattle.std.proofs.lemmas.List.{length-drop}
 use Rattle.ws_frame.specs.declared.showing.StreamEnd.{StreamEnd}
-use Rattle.ws_frame.specs.declared.stream_lines.StreamLines.{StreamLines}
+use Rattle.ws_frame.specs.declared.frame_lines.FrameLines.{FrameLines}
 use Rattle.ws_frame.specs.Lines.{AreLinesOf}
-use Rattle.ws_frame.specs.Streaming.{HasShown, HasRoomFor, source_of}
+use Rattle.ws_frame.specs.FrameStreaming.{HasTakenFrames, HasRoomForFrames, frames_source}
+use Rattle.ws_tap.specs.declared.tapped.Tapped.{Tapped}
 use Rattle.ws_tap.specs.declared.heads.HeadKind.TheVariants.{Response}
 use Rattle.ws_tap.specs.declared.heads.Head.{Head}
 use Rattle.ws_tap.specs.declared.head_room.HeadFound.{HeadFound}
@@ -19,23 +20,23 @@ use Rattle.ws_tap.proofs.HeadLemmas.{head_stays}
 use Rattle.ws_tap.proofs.Sides.{all_of, front_stays, behind_grows, behind_found, found_line, shown_open, open_shown}
 use Rattle.ws_tap.proofs.Sides.{lines_to}
 
-pub server_at : (stage other : ServerStage) (number : ℕ) (sent : Sent) (text : List ℕ) → stage ≡ other
-    → ServerStandsAt stage number sent text → ServerStandsAt other number sent text
-server_at stage other number sent text e s = subst (λ (t : ServerStage). ServerStandsAt t number sent text) e s
+pub server_at : (stage other : ServerStage) (tapped : Tapped) (sent : Sent) (text : List ℕ) → stage ≡ other
+    → ServerStandsAt stage tapped sent text → ServerStandsAt other tapped sent text
+server_at stage other tapped sent text e s = subst (λ (t : ServerStage). ServerStandsAt t tapped sent text) e s
 
-pub server_no_head : (room : List ℕ) (number : ℕ) (sent : Sent) (text piece : List ℕ)
+pub server_no_head : (room : List ℕ) (tapped : Tapped) (sent : Sent) (text piece : List ℕ)
     → LooksIn Response room (sent.bytes ++ piece) → text ≡ []
-    → ServerStandsAt (server.Head room) number (with_bytes sent (take (length piece) piece)) (text ++ [])
-server_no_head room number sent text piece l none =
+    → ServerStandsAt (server.Head room) tapped (with_bytes sent (take (length piece) piece)) (text ++ [])
+server_no_head room tapped sent text piece l none =
     (subst (λ (t : List ℕ). LooksIn Response room (sent.bytes ++ t)) (sym (all_of piece)) l, append-nil text ∙ none)
 
-pub server_found : (stage : ServerStage) (number at : ℕ) (sent : Sent) (text piece : List ℕ) (found : HeadFound)
-    → at ≡ number → text ≡ [] → sent.ended ≡ false → IsFoundWith Response at sent.bytes piece found
+pub server_found : (stage : ServerStage) (tapped at : Tapped) (sent : Sent) (text piece : List ℕ) (found : HeadFound)
+    → at ≡ tapped → text ≡ [] → sent.ended ≡ false → IsFoundWith Response at sent.bytes piece found
     → StandsBehindResponse at found.head.status stage
     → UsesPiece false (is_behind_response stage) (length piece) found.used
-    × ServerStandsAt stage number (with_bytes sent (take found.used piece)) (text ++ found.line)
-server_found (server.Head room) number at sent text piece found en none going f b = absurd b
-server_found (server.Frames lines) number at sent text piece found en none going f (switches, source, shown) = (
+    × ServerStandsAt stage tapped (with_bytes sent (take found.used piece)) (text ++ found.line)
+server_found (server.Head room) tapped at sent text piece found en none going f b = absurd b
+server_found (server.Frames lines) tapped at sent text piece found en none going f (switches, source, shown) = (
   (f.used, (λ e. absurd cc), (λ e. absurd cc)),
   (
     found.head,
@@ -50,7 +51,7 @@ server_found (server.Frames lines) number at sent text piece found en none going
         (sym (behind_found Response at sent.bytes piece found f)) refl shown,
   ),
 )
-server_found server.Other number at sent text piece found en none going f other = (
+server_found server.Other tapped at sent text piece found en none going f other = (
   (f.used, (λ e. absurd cc), (λ e. absurd cc)),
   (
     found.head,
@@ -62,9 +63,9 @@ server_found server.Other number at sent text piece found en none going f other 
 )
 
 -- the line of a response that was found
-pub response_line : (number at : ℕ) (bytes piece : List ℕ) (found : HeadFound) → at ≡ number
-    → IsFoundWith Response at bytes piece found → IsResponseLine number (bytes ++ take found.used piece) found.line
-response_line number at bytes piece found en f = (
+pub response_line : (tapped at : Tapped) (bytes piece : List ℕ) (found : HeadFound) → at ≡ tapped
+    → IsFoundWith Response at bytes piece found → IsResponseLine tapped (bytes ++ take found.used piece) found.line
+response_line tapped at bytes piece found en f = (
   found.head,
   f.has,
   found_line Response at bytes piece found f ∙ append-nil _
@@ -72,35 +73,35 @@ response_line number at bytes piece found en f = (
 )
 
 -- the line of a response stays, whatever comes behind it
-pub response_line_stays : (number : ℕ) (bytes more line : List ℕ) → IsResponseLine number bytes line
-    → IsResponseLine number (bytes ++ more) line
-response_line_stays number bytes more line (head, has, is) = (
+pub response_line_stays : (tapped : Tapped) (bytes more line : List ℕ) → IsResponseLine tapped bytes line
+    → IsResponseLine tapped (bytes ++ more) line
+response_line_stays tapped bytes more line (head, has, is) = (
   head,
   head_stays Response bytes more head has,
-  is ∙ ap (λ (t : List ℕ). head_line (source_at Response number) t) (sym (front_stays Response bytes more head has)),
+  is ∙ ap (λ (t : List ℕ). head_line (source_at Response tapped) t) (sym (front_stays Response bytes more head has)),
 )
 
 -- nothing is told of a server without a response, and it stands before it
-pub none_without_response : (stage : ServerStage) (number : ℕ) (sent : Sent) (text : List ℕ)
-    → HasNoHead Response sent.bytes → ServerStandsAt stage number sent text
+pub none_without_response : (stage : ServerStage) (tapped : Tapped) (sent : Sent) (text : List ℕ)
+    → HasNoHead Response sent.bytes → ServerStandsAt stage tapped sent text
     → (text ≡ []) × (is_behind_response stage ≡ false)
-none_without_response (server.Head room) number sent text unanswered (l, none) = (none, refl)
-none_without_response (server.Frames lines) number sent text unanswered
+none_without_response (server.Head room) tapped sent text unanswered (l, none) = (none, refl)
+none_without_response (server.Frames lines) tapped sent text unanswered
     (head, shown, has, switches, is, source, on) = absurd (unanswered head has)
-none_without_response server.Other number sent text unanswered (head, has, other, is) = absurd (unanswered head has)
+none_without_response server.Other tapped sent text unanswered (head, has, other, is) = absurd (unanswered head has)
 
 -- with one it stands behind it
-pub behind_a_response : (stage : ServerStage) (number : ℕ) (sent : Sent) (text : List ℕ) (head : Head)
-    → HasHead Response sent.bytes head → ServerStandsAt stage number sent text → is_behind_response stage ≡ true
-behind_a_response (server.Head room) number sent text head has (l, none) = absurd (l.1 head has)
-behind_a_response (server.Frames lines) number sent text head has s = refl
-behind_a_response server.Other number sent text head has s = refl
+pub behind_a_response : (stage : ServerStage) (tapped : Tapped) (sent : Sent) (text : List ℕ) (head : Head)
+    → HasHead Response sent.bytes head → ServerStandsAt stage tapped sent text → is_behind_response stage ≡ true
+behind_a_response (server.Head room) tapped sent text head has (l, none) = absurd (l.1 head has)
+behind_a_response (server.Frames lines) tapped sent text head has s = refl
+behind_a_response server.Other tapped sent text head has s = refl
 
 -- the stream behind the head, and room in it
-pub server_room : (lines : StreamLines) (number count : ℕ) (sent : Sent) (text : List ℕ) → sent.ended ≡ false
-    → length sent.bytes + count < 2 ^ 64 → ServerStandsAt (server.Frames lines) number sent text
-    → HasRoomFor count lines
-server_room lines number count sent text going small (head, shown, has, switches, is, source, s) = (
+pub server_room : (lines : FrameLines) (tapped : Tapped) (count : ℕ) (sent : Sent) (text : List ℕ) → sent.ended ≡ false
+    → length sent.bytes + count < 2 ^ 64 → ServerStandsAt (server.Frames lines) tapped sent text
+    → HasRoomForFrames count lines
+server_room lines tapped count sent text going small (head, shown, has, switches, is, source, s) = (
   drop head.len sent.bytes,
   shown,
   shown_open sent.ended lines (drop head.len sent.bytes) shown going s,
@@ -108,20 +109,20 @@ server_room lines number count sent text going small (head, shown, has, switches
       (arith, small, length-drop head.len sent.bytes),
 )
 
-pub server_more : (lines new : StreamLines) (number : ℕ) (sent : Sent) (text more piece : List ℕ) (head : Head)
+pub server_more : (lines new : FrameLines) (tapped : Tapped) (sent : Sent) (text more piece : List ℕ) (head : Head)
     (shown : List ℕ) → HasHead Response sent.bytes head → Switches head
-    → text ≡ head_line (source_at Response number) (take head.len sent.bytes) ++ shown
-    → source_of lines ≡ source_at Response number → source_of new ≡ source_of lines → sent.ended ≡ false
-    → HasShown new (drop head.len sent.bytes ++ piece) (shown ++ more)
-    → ServerStandsAt (server.Frames new) number (with_bytes sent (take (length piece) piece)) (text ++ more)
-server_more lines new number sent text more piece head shown has switches is source same going s =
+    → text ≡ head_line (source_at Response tapped) (take head.len sent.bytes) ++ shown
+    → frames_source lines ≡ source_at Response tapped → frames_source new ≡ frames_source lines → sent.ended ≡ false
+    → HasTakenFrames new (drop head.len sent.bytes ++ piece) (shown ++ more)
+    → ServerStandsAt (server.Frames new) tapped (with_bytes sent (take (length piece) piece)) (text ++ more)
+server_more lines new tapped sent text more piece head shown has switches is source same going s =
     let bytes = sent.bytes ++ take (length piece) piece in (
       head,
       shown ++ more,
       head_stays Response sent.bytes (take (length piece) piece) head has,
       switches,
       ap (λ (t : List ℕ). t ++ more) is ∙ append_assoc _ shown more
-          ∙ ap (λ (t : List ℕ). head_line (source_at Response number) t ++ (shown ++ more))
+          ∙ ap (λ (t : List ℕ). head_line (source_at Response tapped) t ++ (shown ++ more))
           (sym (front_stays Response sent.bytes (take (length piece) piece) head has)),
       same ∙ source,
       open_shown sent.ended new (drop head.len sent.bytes ++ piece) (drop head.len bytes) (shown ++ more)
@@ -130,23 +131,23 @@ server_more lines new number sent text more piece head shown has switches is sou
           ∙ sym (behind_grows Response sent.bytes (take (length piece) piece) head has)) refl s,
     )
 
-pub server_other : (number : ℕ) (sent : Sent) (text piece : List ℕ) → ServerStandsAt server.Other number sent text
-    → ServerStandsAt server.Other number (with_bytes sent (take (length piece) piece)) (text ++ [])
-server_other number sent text piece (head, has, other, is) = (
+pub server_other : (tapped : Tapped) (sent : Sent) (text piece : List ℕ) → ServerStandsAt server.Other tapped sent text
+    → ServerStandsAt server.Other tapped (with_bytes sent (take (length piece) piece)) (text ++ [])
+server_other tapped sent text piece (head, has, other, is) = (
   head,
   head_stays Response sent.bytes (take (length piece) piece) head has,
   other,
-  append-nil text ∙ is ∙ ap (λ (t : List ℕ). head_line (source_at Response number) t)
+  append-nil text ∙ is ∙ ap (λ (t : List ℕ). head_line (source_at Response tapped) t)
       (sym (front_stays Response sent.bytes (take (length piece) piece) head has)),
 )
 
-pub server_ended : (lines new : StreamLines) (number : ℕ) (sent : Sent) (text last : List ℕ) (head : Head)
+pub server_ended : (lines new : FrameLines) (tapped : Tapped) (sent : Sent) (text last : List ℕ) (head : Head)
     (shown : List ℕ) (end : StreamEnd) → HasHead Response sent.bytes head → Switches head
-    → text ≡ head_line (source_at Response number) (take head.len sent.bytes) ++ shown
-    → source_of lines ≡ source_at Response number → source_of new ≡ source_of lines
-    → AreLinesOf (source_of lines) (drop head.len sent.bytes) end (shown ++ last)
-    → ServerStandsAt (server.Frames new) number (with_its_end sent) (text ++ last)
-server_ended lines new number sent text last head shown end has switches is source same all = (
+    → text ≡ head_line (source_at Response tapped) (take head.len sent.bytes) ++ shown
+    → frames_source lines ≡ source_at Response tapped → frames_source new ≡ frames_source lines
+    → AreLinesOf (frames_source lines) (drop head.len sent.bytes) end (shown ++ last)
+    → ServerStandsAt (server.Frames new) tapped (with_its_end sent) (text ++ last)
+server_ended lines new tapped sent text last head shown end has switches is source same all = (
   head,
   shown ++ last,
   has,
@@ -156,10 +157,10 @@ server_ended lines new number sent text last head shown end has switches is sour
   (end, rw same all),
 )
 
-pub server_is_text : (stage : ServerStage) (number : ℕ) (sent : Sent) (text : List ℕ)
-    → ServerStandsAt stage number sent text → IsServerText number sent text
-server_is_text (server.Head room) number sent text (l, none) = inl (l.1, none)
-server_is_text (server.Frames lines) number sent text (head, shown, has, switches, is, source, s) =
+pub server_is_text : (stage : ServerStage) (tapped : Tapped) (sent : Sent) (text : List ℕ)
+    → ServerStandsAt stage tapped sent text → IsServerText tapped sent text
+server_is_text (server.Head room) tapped sent text (l, none) = inl (l.1, none)
+server_is_text (server.Frames lines) tapped sent text (head, shown, has, switches, is, source, s) =
     inr (
       head,
       shown,
@@ -167,11 +168,11 @@ server_is_text (server.Frames lines) number sent text (head, shown, has, switche
       is,
       inl (
         switches,
-        lines_to sent.ended (source_at Response number) lines
+        lines_to sent.ended (source_at Response tapped) lines
             (drop head.len sent.bytes) shown source s,
       ),
     )
-server_is_text server.Other number sent text (head, has, other, is) = inr (
+server_is_text server.Other tapped sent text (head, has, other, is) = inr (
   head,
   [],
   has,

@@ -4,9 +4,10 @@ use Rattle.std.proofs.Common.{sym, ap, ◌∙◌, append-nil, arith, subst}
 use Rattle.std.proofs.lemmas.List.{take-append-le, drop-append-le, take_all, drop_all}
 use Rattle.std.proofs.Math.Seq.{take-length}
 use Rattle.ws_frame.specs.declared.source.Source.{Source}
-use Rattle.ws_frame.specs.declared.stream_lines.StreamLines.{StreamLines}
+use Rattle.ws_frame.specs.declared.frame_lines.FrameLines.{FrameLines}
 use Rattle.ws_frame.specs.Lines.{AreCertainLines}
-use Rattle.ws_frame.specs.Streaming.{HasShown, source_of}
+use Rattle.ws_frame.specs.FrameStreaming.{HasTakenFrames, frames_source}
+use Rattle.ws_tap.specs.declared.tapped.Tapped.{Tapped}
 use Rattle.ws_tap.specs.declared.heads.HeadKind.{HeadKind}
 use Rattle.ws_tap.specs.declared.heads.Head.{Head}
 use Rattle.ws_tap.specs.declared.head_room.HeadFound.{HeadFound}
@@ -32,51 +33,51 @@ pub behind_grows : (kind : HeadKind) (bytes more : List ℕ) (head : Head) → H
 behind_grows kind bytes more head h = drop-append-le head.len bytes more (head_within kind bytes head h)
 
 -- with the piece that ends a head nothing stands behind it
-pub front_of_found : (kind : HeadKind) (number : ℕ) (bytes piece : List ℕ) (found : HeadFound)
-    → IsFoundWith kind number bytes piece found → take found.head.len (bytes ++ take found.used piece) ≡ bytes ++ take
+pub front_of_found : (kind : HeadKind) (tapped : Tapped) (bytes piece : List ℕ) (found : HeadFound)
+    → IsFoundWith kind tapped bytes piece found → take found.head.len (bytes ++ take found.used piece) ≡ bytes ++ take
     found.used piece
-front_of_found kind number bytes piece found f = take_all found.head.len (bytes ++ take found.used piece)
+front_of_found kind tapped bytes piece found f = take_all found.head.len (bytes ++ take found.used piece)
     (omega (arith, f.whole))
 
-pub behind_found : (kind : HeadKind) (number : ℕ) (bytes piece : List ℕ) (found : HeadFound)
-    → IsFoundWith kind number bytes piece found → drop found.head.len (bytes ++ take found.used piece) ≡ []
-behind_found kind number bytes piece found f = drop_all found.head.len (bytes ++ take found.used piece)
+pub behind_found : (kind : HeadKind) (tapped : Tapped) (bytes piece : List ℕ) (found : HeadFound)
+    → IsFoundWith kind tapped bytes piece found → drop found.head.len (bytes ++ take found.used piece) ≡ []
+behind_found kind tapped bytes piece found f = drop_all found.head.len (bytes ++ take found.used piece)
     (omega (arith, f.whole))
 
-pub found_line : (kind : HeadKind) (number : ℕ) (bytes piece : List ℕ) (found : HeadFound)
-    → IsFoundWith kind number bytes piece found
-    → found.line ≡ head_line (source_at kind number) (take found.head.len (bytes ++ take found.used piece)) ++ []
-found_line kind number bytes piece found f =
-    f.line ∙ ap (λ (t : List ℕ). head_line (source_at kind number) t)
-    (sym (front_of_found kind number bytes piece found f)) ∙ sym (append-nil _)
+pub found_line : (kind : HeadKind) (tapped : Tapped) (bytes piece : List ℕ) (found : HeadFound)
+    → IsFoundWith kind tapped bytes piece found
+    → found.line ≡ head_line (source_at kind tapped) (take found.head.len (bytes ++ take found.used piece)) ++ []
+found_line kind tapped bytes piece found f =
+    f.line ∙ ap (λ (t : List ℕ). head_line (source_at kind tapped) t)
+    (sym (front_of_found kind tapped bytes piece found f)) ∙ sym (append-nil _)
 
 -- ---- a stream
 
-pub shown_open : (ended : Bool) (lines : StreamLines) (bytes shown : List ℕ) → ended ≡ false
-    → HasShownTo ended lines bytes shown → HasShown lines bytes shown
+pub shown_open : (ended : Bool) (lines : FrameLines) (bytes shown : List ℕ) → ended ≡ false
+    → HasShownTo ended lines bytes shown → HasTakenFrames lines bytes shown
 shown_open ended lines bytes shown going s = subst (λ (b : Bool). HasShownTo b lines bytes shown) going s
 
-pub open_shown : (ended : Bool) (lines : StreamLines) (bytes bytes' shown shown' : List ℕ) → ended ≡ false
-    → bytes ≡ bytes' → shown ≡ shown' → HasShown lines bytes shown → HasShownTo ended lines bytes' shown'
+pub open_shown : (ended : Bool) (lines : FrameLines) (bytes bytes' shown shown' : List ℕ) → ended ≡ false
+    → bytes ≡ bytes' → shown ≡ shown' → HasTakenFrames lines bytes shown → HasShownTo ended lines bytes' shown'
 open_shown ended lines bytes bytes' shown shown' going eb es s =
     subst (λ (b : Bool). HasShownTo b lines bytes' shown') (sym going)
-    (subst (λ (t : List ℕ). HasShown lines bytes' t) es (subst (λ (t : List ℕ). HasShown lines t shown) eb s))
+    (subst (λ (t : List ℕ). HasTakenFrames lines bytes' t) es (subst (λ (t : List ℕ). HasTakenFrames lines t shown) eb s))
 
 -- the lines that a stream has shown are those of its source
-pub lines_to : (ended : Bool) (source : Source) (lines : StreamLines) (bytes shown : List ℕ)
-    → source_of lines ≡ source → HasShownTo ended lines bytes shown → AreLinesTo ended source bytes shown
+pub lines_to : (ended : Bool) (source : Source) (lines : FrameLines) (bytes shown : List ℕ)
+    → frames_source lines ≡ source → HasShownTo ended lines bytes shown → AreLinesTo ended source bytes shown
 lines_to false source lines bytes shown e s = subst (λ (r : Source). AreCertainLines r bytes shown) e s.certain
 lines_to true source lines bytes shown e s = subst (λ (r : Source). AreLinesTo true r bytes shown) e s
 
 -- ---- what came of a piece
 
-pub looked_in : (kind : HeadKind) (number : ℕ) (room bytes piece : List ℕ) (result : Option HeadFound) → result ≡ None
-    → IsLookedFor kind number room bytes piece result → LooksIn kind room (bytes ++ piece)
-looked_in kind number room bytes piece result none l = subst
-    (λ (r : Option HeadFound). IsLookedFor kind number room bytes piece r) none l
+pub looked_in : (kind : HeadKind) (tapped : Tapped) (room bytes piece : List ℕ) (result : Option HeadFound) → result ≡ None
+    → IsLookedFor kind tapped room bytes piece result → LooksIn kind room (bytes ++ piece)
+looked_in kind tapped room bytes piece result none l = subst
+    (λ (r : Option HeadFound). IsLookedFor kind tapped room bytes piece r) none l
 
-pub looked_found : (kind : HeadKind) (number : ℕ) (room bytes piece : List ℕ) (result : Option HeadFound)
-    (found : HeadFound) → result ≡ Some found → IsLookedFor kind number room bytes piece result
-    → IsFoundWith kind number bytes piece found
-looked_found kind number room bytes piece result found some l = subst
-    (λ (r : Option HeadFound). IsLookedFor kind number room bytes piece r) some l
+pub looked_found : (kind : HeadKind) (tapped : Tapped) (room bytes piece : List ℕ) (result : Option HeadFound)
+    (found : HeadFound) → result ≡ Some found → IsLookedFor kind tapped room bytes piece result
+    → IsFoundWith kind tapped bytes piece found
+looked_found kind tapped room bytes piece result found some l = subst
+    (λ (r : Option HeadFound). IsLookedFor kind tapped room bytes piece r) some l

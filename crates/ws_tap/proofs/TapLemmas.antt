@@ -5,6 +5,8 @@ use Rattle.std.proofs.lemmas.List.{length-append, length-drop, length-take-le, t
 use Rattle.std.proofs.Math.Seq.{take-length}
 use Rattle.std.proofs.KnownBytes.{Appends-nil, Appends-trans, Consumes-nil, Consumes-trans}
 use Rattle.std.specs.Io.KnownBytes.{Appends, Consumes, IsAtEnd}
+use Rattle.ws_tap.specs.Tapping.{WritesLines}
+use Rattle.ws_tap.specs.declared.tapped.Tapped.{Tapped}
 use Rattle.ws_tap.specs.declared.heads.Head.{Head}
 use Rattle.ws_tap.specs.declared.heads.HeadKind.TheVariants.{Response}
 use Rattle.ws_tap.specs.declared.pipe.PipeStage.{PipeStage}
@@ -89,21 +91,21 @@ pub piece_in_one : (bytes piece : List ℕ) (used : ℕ) → used ≡ length pie
 piece_in_one bytes piece used all = ap (λ (t : List ℕ). bytes ++ t) (ap (λ n. take n piece) all ∙ take-length piece)
 
 -- what was told stands for equal bytes and equal texts
-pub client_of_same : (number : ℕ) (lines : ClientLines) (answered : Answered) (ended : Bool)
+pub client_of_same : (tapped : Tapped) (lines : ClientLines) (answered : Answered) (ended : Bool)
     (bytes bytes' text text' : List ℕ) → bytes ≡ bytes' → text ≡ text'
-    → HasToldClient number lines answered (record { bytes = bytes; ended = ended }) text
-    → HasToldClient number lines answered (record { bytes = bytes'; ended = ended }) text'
-client_of_same number lines answered ended bytes bytes' text text' eb et h =
-    subst (λ (t : List ℕ). HasToldClient number lines answered (record { bytes = bytes'; ended = ended }) t) et
-    (subst (λ (b : List ℕ). HasToldClient number lines answered (record { bytes = b; ended = ended }) text) eb h)
+    → HasToldClient tapped lines answered (record { bytes = bytes; ended = ended }) text
+    → HasToldClient tapped lines answered (record { bytes = bytes'; ended = ended }) text'
+client_of_same tapped lines answered ended bytes bytes' text text' eb et h =
+    subst (λ (t : List ℕ). HasToldClient tapped lines answered (record { bytes = bytes'; ended = ended }) t) et
+    (subst (λ (b : List ℕ). HasToldClient tapped lines answered (record { bytes = b; ended = ended }) text) eb h)
 
-pub server_of_same : (number : ℕ) (lines : ServerLines) (ended : Bool) (bytes bytes' text text' : List ℕ)
+pub server_of_same : (tapped : Tapped) (lines : ServerLines) (ended : Bool) (bytes bytes' text text' : List ℕ)
     → bytes ≡ bytes' → text ≡ text'
-    → HasToldServer number lines (record { bytes = bytes; ended = ended }) text
-    → HasToldServer number lines (record { bytes = bytes'; ended = ended }) text'
-server_of_same number lines ended bytes bytes' text text' eb et h =
-    subst (λ (t : List ℕ). HasToldServer number lines (record { bytes = bytes'; ended = ended }) t) et
-    (subst (λ (b : List ℕ). HasToldServer number lines (record { bytes = b; ended = ended }) text) eb h)
+    → HasToldServer tapped lines (record { bytes = bytes; ended = ended }) text
+    → HasToldServer tapped lines (record { bytes = bytes'; ended = ended }) text'
+server_of_same tapped lines ended bytes bytes' text text' eb et h =
+    subst (λ (t : List ℕ). HasToldServer tapped lines (record { bytes = bytes'; ended = ended }) t) et
+    (subst (λ (b : List ℕ). HasToldServer tapped lines (record { bytes = b; ended = ended }) text) eb h)
 
 -- ---- what the server has answered
 
@@ -157,10 +159,10 @@ answered_behind (After early false) client server more head has (b, (other, h, s
 -- ---- the order of the parts
 
 -- the server sends more, and more is told
-pub order_on : (number : ℕ) (answered : Answered) (server : Sent) (more : List ℕ) (parts next : List Part)
-    → AreInOrder number answered server parts → AreInOrder number answered (with_bytes server more) (parts ++ next)
-order_on number NotYet server more parts next o = tt
-order_on number (After early true) server more parts next o = record {
+pub order_on : (tapped : Tapped) (answered : Answered) (server : Sent) (more : List ℕ) (parts next : List Part)
+    → AreInOrder tapped answered server parts → AreInOrder tapped answered (with_bytes server more) (parts ++ next)
+order_on tapped NotYet server more parts next o = tt
+order_on tapped (After early true) server more parts next o = record {
   before = o.before;
   first = o.first;
   waited = o.waited;
@@ -169,17 +171,17 @@ order_on number (After early true) server more parts next o = record {
       ∙ append_assoc o.before (OfServer o.first ∷ OfClient o.waited ∷ o.later) next;
   none_of_server = o.none_of_server;
   of_client = o.of_client;
-  is_first = response_line_stays number server.bytes more o.first o.is_first;
+  is_first = response_line_stays tapped server.bytes more o.first o.is_first;
   has_waited = o.has_waited;
 }
-order_on number (After early false) server more parts next o = tt
+order_on tapped (After early false) server more parts next o = tt
 
 -- for the same bytes of the server the order is the same
-pub order_same : (number : ℕ) (answered : Answered) (server server' : Sent) (parts : List Part)
-    → server.bytes ≡ server'.bytes → AreInOrder number answered server parts
-    → AreInOrder number answered server' parts
-order_same number NotYet server server' parts es o = tt
-order_same number (After early true) server server' parts es o = record {
+pub order_same : (tapped : Tapped) (answered : Answered) (server server' : Sent) (parts : List Part)
+    → server.bytes ≡ server'.bytes → AreInOrder tapped answered server parts
+    → AreInOrder tapped answered server' parts
+order_same tapped NotYet server server' parts es o = tt
+order_same tapped (After early true) server server' parts es o = record {
   before = o.before;
   first = o.first;
   waited = o.waited;
@@ -187,33 +189,33 @@ order_same number (After early true) server server' parts es o = record {
   all = o.all;
   none_of_server = o.none_of_server;
   of_client = o.of_client;
-  is_first = subst (λ (t : List ℕ). IsResponseLine number t o.first) es o.is_first;
+  is_first = subst (λ (t : List ℕ). IsResponseLine tapped t o.first) es o.is_first;
   has_waited = o.has_waited;
 }
-order_same number (After early false) server server' parts es o = tt
+order_same tapped (After early false) server server' parts es o = tt
 
 -- more is told
-pub order_more : (number : ℕ) (answered : Answered) (server : Sent) (parts next : List Part)
-    → AreInOrder number answered server parts → AreInOrder number answered server (parts ++ next)
-order_more number answered server parts next o =
-    order_same number answered (with_bytes server []) server (parts ++ next) (append-nil server.bytes)
-    (order_on number answered server [] parts next o)
+pub order_more : (tapped : Tapped) (answered : Answered) (server : Sent) (parts next : List Part)
+    → AreInOrder tapped answered server parts → AreInOrder tapped answered server (parts ++ next)
+order_more tapped answered server parts next o =
+    order_same tapped answered (with_bytes server []) server (parts ++ next) (append-nil server.bytes)
+    (order_on tapped answered server [] parts next o)
 
 -- the server is heard: its line, and the lines that waited, stand where it was
-pub order_heard : (number : ℕ) (answered : Answered) (answer : Answer) (lines : BothLines) (heard : ClientLines)
+pub order_heard : (tapped : Tapped) (answered : Answered) (answer : Answer) (lines : BothLines) (heard : ClientLines)
     (mid : ServerLines) (client server : Sent) (parts later : List Part) (front more text : List ℕ)
-    → HasToldBoth number answered lines client server parts
+    → HasToldBoth tapped answered lines client server parts
     → IsAnswerOf (with_bytes server front) answer
-    → TellsResponse (is_behind_response lines.server.stage) (is_behind_response mid.stage) number
+    → TellsResponse (is_behind_response lines.server.stage) (is_behind_response mid.stage) tapped
     (server.bytes ++ front) more
-    → HasToldServer number mid (with_bytes server front) (server_text parts ++ more)
-    → HasToldClient number heard (after_answer answered client answer) client (client_text parts ++ text)
-    → AreInOrder number (after_answer answered client answer) (with_bytes server front)
+    → HasToldServer tapped mid (with_bytes server front) (server_text parts ++ more)
+    → HasToldClient tapped heard (after_answer answered client answer) client (client_text parts ++ text)
+    → AreInOrder tapped (after_answer answered client answer) (with_bytes server front)
     (parts ++ (OfServer more ∷ OfClient text ∷ later))
-order_heard number NotYet answer.NotYet lines heard mid client server parts later front more text t is line s c = tt
-order_heard number NotYet answer.Switches lines heard mid client server parts later front more text t (head, has, is)
+order_heard tapped NotYet answer.NotYet lines heard mid client server parts later front more text t is line s c = tt
+order_heard tapped NotYet answer.Switches lines heard mid client server parts later front more text t (head, has, is)
     line s c =
-    let (none, before) = none_without_response lines.server.stage number server (server_text parts) t.has_answered
+    let (none, before) = none_without_response lines.server.stage tapped server (server_text parts) t.has_answered
     t.of_server.1 in record {
       before = parts;
       first = more;
@@ -221,28 +223,28 @@ order_heard number NotYet answer.Switches lines heard mid client server parts la
       later = later;
       all = refl;
       none_of_server = none;
-      of_client = client_is_text lines.client.stage lines.client.release number NotYet client (client_text parts)
+      of_client = client_is_text lines.client.stage lines.client.release tapped NotYet client (client_text parts)
           t.of_client.1;
       is_first = line before
-          (behind_a_response mid.stage number (with_bytes server front) (server_text parts ++ more) head has s.1);
-      has_waited = client_is_text heard.stage heard.release number (After client true) client
+          (behind_a_response mid.stage tapped (with_bytes server front) (server_text parts ++ more) head has s.1);
+      has_waited = client_is_text heard.stage heard.release tapped (After client true) client
           (client_text parts ++ text) c.1;
     }
-order_heard number NotYet answer.Refuses lines heard mid client server parts later front more text t is line s c = tt
-order_heard number (After early switches) answer lines heard mid client server parts later front more text t is line s
-    c = order_on number (After early switches) server front parts (OfServer more ∷ OfClient text ∷ later) t.in_order
+order_heard tapped NotYet answer.Refuses lines heard mid client server parts later front more text t is line s c = tt
+order_heard tapped (After early switches) answer lines heard mid client server parts later front more text t is line s
+    c = order_on tapped (After early switches) server front parts (OfServer more ∷ OfClient text ∷ later) t.in_order
 
 -- a server that stands behind its head has one
-head_of_stage : (at : ServerStage) (number : ℕ) (sent : Sent) (text : List ℕ) → is_behind_response at ≡ true
-    → ServerStandsAt at number sent text → (head : Head) × HasHead Response sent.bytes head
-head_of_stage (server.Head room) number sent text behind s = absurd cc
-head_of_stage (server.Frames lines) number sent text behind (head, shown, has, switches, is, source, on) = (head, has)
-head_of_stage server.Other number sent text behind (head, has, other, is) = (head, has)
+head_of_stage : (at : ServerStage) (tapped : Tapped) (sent : Sent) (text : List ℕ) → is_behind_response at ≡ true
+    → ServerStandsAt at tapped sent text → (head : Head) × HasHead Response sent.bytes head
+head_of_stage (server.Head room) tapped sent text behind s = absurd cc
+head_of_stage (server.Frames lines) tapped sent text behind (head, shown, has, switches, is, source, on) = (head, has)
+head_of_stage server.Other tapped sent text behind (head, has, other, is) = (head, has)
 
-pub head_behind : (lines : ServerLines) (number : ℕ) (sent : Sent) (text : List ℕ)
-    → is_behind_response lines.stage ≡ true → HasToldServer number lines sent text → (head : Head)
+pub head_behind : (lines : ServerLines) (tapped : Tapped) (sent : Sent) (text : List ℕ)
+    → is_behind_response lines.stage ≡ true → HasToldServer tapped lines sent text → (head : Head)
     × HasHead Response sent.bytes head
-head_behind lines number sent text behind told = head_of_stage lines.stage number sent text behind told.1
+head_behind lines tapped sent text behind told = head_of_stage lines.stage tapped sent text behind told.1
 
 -- ---- a pipe's stage
 
@@ -312,54 +314,54 @@ not_client : (text : List ℕ) (parts : List Part) → client_text (parts ++ OfS
 not_client text parts = client_text_more parts (OfServer text ∷ []) ∙ append-nil (client_text parts)
 
 -- more is told of the client
-pub told_client : (number : ℕ) (lines : BothLines) (new : ClientLines) (answered : Answered) (client server : Sent)
+pub told_client : (tapped : Tapped) (lines : BothLines) (new : ClientLines) (answered : Answered) (client server : Sent)
     (parts : List Part) (text : List ℕ)
-    → AreInOrder number answered server parts → HasAnswered answered client server
-    → HasToldClient number new answered client (client_text parts ++ text)
-    → HasToldServer number lines.server server (server_text parts)
-    → HasToldBoth number answered (record { client = new; server = lines.server }) client server
+    → AreInOrder tapped answered server parts → HasAnswered answered client server
+    → HasToldClient tapped new answered client (client_text parts ++ text)
+    → HasToldServer tapped lines.server server (server_text parts)
+    → HasToldBoth tapped answered (record { client = new; server = lines.server }) client server
     (parts ++ OfClient text ∷ [])
-told_client number lines new answered client server parts text o h c s = record {
-  in_order = order_more number answered server parts (OfClient text ∷ []) o;
+told_client tapped lines new answered client server parts text o h c s = record {
+  in_order = order_more tapped answered server parts (OfClient text ∷ []) o;
   has_answered = h;
-  of_client = subst (λ (t : List ℕ). HasToldClient number new answered client t) (sym (only_client text parts)) c;
-  of_server = subst (λ (t : List ℕ). HasToldServer number lines.server server t) (sym (not_server text parts)) s;
+  of_client = subst (λ (t : List ℕ). HasToldClient tapped new answered client t) (sym (only_client text parts)) c;
+  of_server = subst (λ (t : List ℕ). HasToldServer tapped lines.server server t) (sym (not_server text parts)) s;
 }
 
 -- more is told of the server
-pub told_server : (number : ℕ) (lines : BothLines) (new : ServerLines) (answered : Answered) (client server : Sent)
+pub told_server : (tapped : Tapped) (lines : BothLines) (new : ServerLines) (answered : Answered) (client server : Sent)
     (parts : List Part) (text : List ℕ)
-    → AreInOrder number answered server parts → HasAnswered answered client server
-    → HasToldClient number lines.client answered client (client_text parts)
-    → HasToldServer number new server (server_text parts ++ text)
-    → HasToldBoth number answered (record { client = lines.client; server = new }) client server
+    → AreInOrder tapped answered server parts → HasAnswered answered client server
+    → HasToldClient tapped lines.client answered client (client_text parts)
+    → HasToldServer tapped new server (server_text parts ++ text)
+    → HasToldBoth tapped answered (record { client = lines.client; server = new }) client server
     (parts ++ OfServer text ∷ [])
-told_server number lines new answered client server parts text o h c s = record {
-  in_order = order_more number answered server parts (OfServer text ∷ []) o;
+told_server tapped lines new answered client server parts text o h c s = record {
+  in_order = order_more tapped answered server parts (OfServer text ∷ []) o;
   has_answered = h;
-  of_client = subst (λ (t : List ℕ). HasToldClient number lines.client answered client t)
+  of_client = subst (λ (t : List ℕ). HasToldClient tapped lines.client answered client t)
       (sym (not_client text parts)) c;
-  of_server = subst (λ (t : List ℕ). HasToldServer number new server t) (sym (only_server text parts)) s;
+  of_server = subst (λ (t : List ℕ). HasToldServer tapped new server t) (sym (only_server text parts)) s;
 }
 
 -- ---- a tap
 
 -- bytes of the client were read, and this was told
-pub client_stands : (number : ℕ) (answered : Answered) (old : Tap) (pipe : PipeValue) (lines : ClientLines)
+pub client_stands : (tapped : Tapped) (answered : Answered) (old : Tap) (pipe : PipeValue) (lines : ClientLines)
     (devices : TapDevices) (left told : Option (List ℕ)) (more text : List ℕ)
-    (t : HasTapped number answered old devices)
+    (t : HasTapped tapped answered old devices)
     → PassesOn pipe (with_input devices.client left) (t.passed.from_client ++ more)
-    → HasToldClient number lines answered (sent_by pipe (t.passed.from_client ++ more))
+    → HasToldClient tapped lines answered (sent_by pipe (t.passed.from_client ++ more))
     (client_text t.parts ++ text)
     → Appends devices.lines.new told text
-    → HasTapped number answered (record {
+    → HasTapped tapped answered (record {
       client = pipe;
       server = old.server;
       client_lines = lines;
       server_lines =
           old.server_lines;
     }) (with_client_read devices left told)
-client_stands number answered old pipe lines devices left told more text t p c wrote =
+client_stands tapped answered old pipe lines devices left told more text t p c wrote =
     let client = sent_by old.client t.passed.from_client in
     let server = sent_by old.server t.passed.from_server in
     let now = sent_by pipe (t.passed.from_client ++ more) in record {
@@ -370,7 +372,7 @@ client_stands number answered old pipe lines devices left told more text t p c w
         server = t.passed.server;
       };
       parts = t.parts ++ OfClient text ∷ [];
-      told = told_client number (record { client = old.client_lines; server = old.server_lines }) lines
+      told = told_client tapped (record { client = old.client_lines; server = old.server_lines }) lines
           answered now server t.parts text t.told.in_order
           (answered_same answered (with_bytes client more) now server server refl refl
           (answered_on answered client server more t.told.has_answered)) c t.told.of_server;
@@ -381,21 +383,21 @@ client_stands number answered old pipe lines devices left told more text t p c w
     }
 
 -- bytes of the server were read, and these parts were told
-pub server_stands : (number : ℕ) (answered now : Answered) (old : Tap) (pipe : PipeValue) (lines : BothLines)
+pub server_stands : (tapped : Tapped) (answered now : Answered) (old : Tap) (pipe : PipeValue) (lines : BothLines)
     (devices : TapDevices) (left told : Option (List ℕ)) (more : List ℕ) (next : List Part)
-    (t : HasTapped number answered old devices)
+    (t : HasTapped tapped answered old devices)
     → PassesOn pipe (with_input devices.server left) (t.passed.from_server ++ more)
-    → HasToldBoth number now lines (sent_by old.client t.passed.from_client)
+    → HasToldBoth tapped now lines (sent_by old.client t.passed.from_client)
     (sent_by pipe (t.passed.from_server ++ more)) (t.parts ++ next)
     → Appends devices.lines.new told (all_text next)
-    → HasTapped number now (record {
+    → HasTapped tapped now (record {
       client = old.client;
       server = pipe;
       client_lines = lines.client;
       server_lines =
           lines.server;
     }) (with_server_read devices left told)
-server_stands number answered now old pipe lines devices left told more next t p both wrote = record {
+server_stands tapped answered now old pipe lines devices left told more next t p both wrote = record {
   passed = record {
     from_client = t.passed.from_client;
     from_server = t.passed.from_server ++ more;
@@ -422,19 +424,19 @@ nothing_passes a b = record {
   is_read_to = tt;
 }
 
-pub new_stands : (number : ℕ) (p q : PipeValue) (client : ClientLines) (server : ServerLines) → p ≡ new_pipe
-    → q ≡ new_pipe → HasToldClient number client NotYet new_sent [] → HasToldServer number server new_sent []
-    → (a b d e l : Option (List ℕ)) → HasTapped number NotYet (record
+pub new_stands : (tapped : Tapped) (p q : PipeValue) (client : ClientLines) (server : ServerLines) → p ≡ new_pipe
+    → q ≡ new_pipe → HasToldClient tapped client NotYet new_sent [] → HasToldServer tapped server new_sent []
+    → (a b d e l : Option (List ℕ)) → HasTapped tapped NotYet (record
     { client = p; server = q; client_lines = client; server_lines = server }) (new_devices a b d e l)
-new_stands number p q client server ep eq hc hs a b d e l =
-    subst (λ (x : PipeValue). HasTapped number NotYet (record {
+new_stands tapped p q client server ep eq hc hs a b d e l =
+    subst (λ (x : PipeValue). HasTapped tapped NotYet (record {
       client = x;
       server = q;
       client_lines = client;
       server_lines =
           server;
     }) (new_devices a b d e l)) (sym ep)
-    (subst (λ (x : PipeValue). HasTapped number NotYet (record {
+    (subst (λ (x : PipeValue). HasTapped tapped NotYet (record {
       client = new_pipe;
       server = x;
       client_lines = client;
@@ -456,18 +458,18 @@ sent_same : (old pipe : PipeValue) (read : List ℕ) → has_ended old.stage ≡
     → sent_by old read ≡ sent_by pipe read
 sent_same old pipe read e = ap (λ (b : Bool). record { bytes = read; ended = b }) e
 
-pub client_pipe_stands : (number : ℕ) (answered : Answered) (old : Tap) (pipe : PipeValue) (devices : TapDevices)
-    (held : Option (List ℕ)) (t : HasTapped number answered old devices)
+pub client_pipe_stands : (tapped : Tapped) (answered : Answered) (old : Tap) (pipe : PipeValue) (devices : TapDevices)
+    (held : Option (List ℕ)) (t : HasTapped tapped answered old devices)
     → has_ended old.client.stage ≡ has_ended pipe.stage
     → PassesOn pipe (with_output devices.client held) t.passed.from_client
-    → HasTapped number answered (record {
+    → HasTapped tapped answered (record {
       client = pipe;
       server = old.server;
       client_lines = old.client_lines;
       server_lines =
           old.server_lines;
     }) (with_server_written devices held)
-client_pipe_stands number answered old pipe devices held t same p = record {
+client_pipe_stands tapped answered old pipe devices held t same p = record {
   passed = record {
     from_client = t.passed.from_client;
     from_server = t.passed.from_server;
@@ -476,24 +478,24 @@ client_pipe_stands number answered old pipe devices held t same p = record {
         t.passed.server;
   };
   parts = t.parts;
-  told = subst (λ (s : Sent). HasToldBoth number answered
+  told = subst (λ (s : Sent). HasToldBoth tapped answered
       (record { client = old.client_lines; server = old.server_lines }) s (sent_by old.server t.passed.from_server)
       t.parts) (sent_same old.client pipe t.passed.from_client same) t.told;
   lines = t.lines;
 }
 
-pub server_pipe_stands : (number : ℕ) (answered : Answered) (old : Tap) (pipe : PipeValue) (devices : TapDevices)
-    (held : Option (List ℕ)) (t : HasTapped number answered old devices)
+pub server_pipe_stands : (tapped : Tapped) (answered : Answered) (old : Tap) (pipe : PipeValue) (devices : TapDevices)
+    (held : Option (List ℕ)) (t : HasTapped tapped answered old devices)
     → has_ended old.server.stage ≡ has_ended pipe.stage
     → PassesOn pipe (with_output devices.server held) t.passed.from_server
-    → HasTapped number answered (record {
+    → HasTapped tapped answered (record {
       client = old.client;
       server = pipe;
       client_lines = old.client_lines;
       server_lines =
           old.server_lines;
     }) (with_client_written devices held)
-server_pipe_stands number answered old pipe devices held t same p = record {
+server_pipe_stands tapped answered old pipe devices held t same p = record {
   passed = record {
     from_client = t.passed.from_client;
     from_server = t.passed.from_server;
@@ -501,7 +503,7 @@ server_pipe_stands number answered old pipe devices held t same p = record {
     server = p;
   };
   parts = t.parts;
-  told = subst (λ (s : Sent). HasToldBoth number answered
+  told = subst (λ (s : Sent). HasToldBoth tapped answered
       (record { client = old.client_lines; server = old.server_lines }) (sent_by old.client t.passed.from_client) s
       t.parts) (sent_same old.server pipe t.passed.from_server same) t.told;
   lines = t.lines;
@@ -530,9 +532,18 @@ end_passes old pipe direction read next is p =
       }),
     )
 
--- bytes were read, and the output has failed
-pub client_passes : (number : ℕ) (answered : Answered) (old : Tap) (pipe : PipeValue) (lines : ClientLines)
-    (devices : TapDevices) (left told : Option (List ℕ)) (more : List ℕ) (t : HasTapped number answered old devices)
+-- behind what was told, some lines more were written
+pub some_more : (tapped : Tapped) (answered : Answered) (old : Tap) (devices : TapDevices) (told : Option (List ℕ))
+    (more : List ℕ) (t : HasTapped tapped answered old devices) → Appends devices.lines.new told more
+    → WritesLines (device_bytes devices.lines.old told)
+some_more tapped answered old devices told more t wrote = (
+  all_text t.parts ++ more,
+  Appends-trans devices.lines.old devices.lines.new told (all_text t.parts) more t.lines wrote,
+)
+
+-- bytes were read, and the output has failed or memory ran out
+pub client_passes : (tapped : Tapped) (answered : Answered) (old : Tap) (pipe : PipeValue) (lines : ClientLines)
+    (devices : TapDevices) (left told : Option (List ℕ)) (more : List ℕ) (t : HasTapped tapped answered old devices)
     → PassesOn pipe (with_input devices.client left) (t.passed.from_client ++ more)
     → HasPassedOn (record {
       client = pipe;
@@ -540,7 +551,7 @@ pub client_passes : (number : ℕ) (answered : Answered) (old : Tap) (pipe : Pip
       client_lines = lines;
       server_lines = old.server_lines;
     }) (with_client_read devices left told)
-client_passes number answered old pipe lines devices left told more t p =
+client_passes tapped answered old pipe lines devices left told more t p =
     record {
       from_client = t.passed.from_client ++ more;
       from_server = t.passed.from_server;
@@ -549,8 +560,8 @@ client_passes number answered old pipe lines devices left told more t p =
           t.passed.server;
     }
 
-pub server_passes : (number : ℕ) (answered : Answered) (old : Tap) (pipe : PipeValue) (lines : BothLines)
-    (devices : TapDevices) (left told : Option (List ℕ)) (more : List ℕ) (t : HasTapped number answered old devices)
+pub server_passes : (tapped : Tapped) (answered : Answered) (old : Tap) (pipe : PipeValue) (lines : BothLines)
+    (devices : TapDevices) (left told : Option (List ℕ)) (more : List ℕ) (t : HasTapped tapped answered old devices)
     → PassesOn pipe (with_input devices.server left) (t.passed.from_server ++ more)
     → HasPassedOn (record {
       client = old.client;
@@ -559,7 +570,7 @@ pub server_passes : (number : ℕ) (answered : Answered) (old : Tap) (pipe : Pip
       server_lines =
           lines.server;
     }) (with_server_read devices left told)
-server_passes number answered old pipe lines devices left told more t p =
+server_passes tapped answered old pipe lines devices left told more t p =
     record {
       from_client = t.passed.from_client;
       from_server = t.passed.from_server ++ more;
@@ -578,38 +589,38 @@ sent_is bytes bytes' ended ended' eb ee =
     = ap {B = Sent} (λ (e : Bool). record { bytes = bytes'; ended = e }) ee in
     first ∙ second
 
-pub client_of_sent : (number : ℕ) (lines : ClientLines) (answered : Answered) (sent sent' : Sent)
-    (text text' : List ℕ) → sent ≡ sent' → text ≡ text' → HasToldClient number lines answered sent text
-    → HasToldClient number lines answered sent' text'
-client_of_sent number lines answered sent sent' text text' es et h =
-    subst (λ (t : List ℕ). HasToldClient number lines answered sent' t) et
-    (subst (λ (s : Sent). HasToldClient number lines answered s text) es h)
+pub client_of_sent : (tapped : Tapped) (lines : ClientLines) (answered : Answered) (sent sent' : Sent)
+    (text text' : List ℕ) → sent ≡ sent' → text ≡ text' → HasToldClient tapped lines answered sent text
+    → HasToldClient tapped lines answered sent' text'
+client_of_sent tapped lines answered sent sent' text text' es et h =
+    subst (λ (t : List ℕ). HasToldClient tapped lines answered sent' t) et
+    (subst (λ (s : Sent). HasToldClient tapped lines answered s text) es h)
 
-pub server_of_sent : (number : ℕ) (lines : ServerLines) (sent sent' : Sent) (text text' : List ℕ) → sent ≡ sent'
-    → text ≡ text' → HasToldServer number lines sent text → HasToldServer number lines sent' text'
-server_of_sent number lines sent sent' text text' es et h =
-    subst (λ (t : List ℕ). HasToldServer number lines sent' t) et
-    (subst (λ (s : Sent). HasToldServer number lines s text) es h)
+pub server_of_sent : (tapped : Tapped) (lines : ServerLines) (sent sent' : Sent) (text text' : List ℕ) → sent ≡ sent'
+    → text ≡ text' → HasToldServer tapped lines sent text → HasToldServer tapped lines sent' text'
+server_of_sent tapped lines sent sent' text text' es et h =
+    subst (λ (t : List ℕ). HasToldServer tapped lines sent' t) et
+    (subst (λ (s : Sent). HasToldServer tapped lines s text) es h)
 
-pub told_of_sent : (number : ℕ) (answered : Answered) (lines : BothLines) (client server server' : Sent)
-    (parts : List Part) → server ≡ server' → HasToldBoth number answered lines client server parts
-    → HasToldBoth number answered lines client server' parts
-told_of_sent number answered lines client server server' parts es h = subst
-    (λ (s : Sent). HasToldBoth number answered lines client s parts) es h
+pub told_of_sent : (tapped : Tapped) (answered : Answered) (lines : BothLines) (client server server' : Sent)
+    (parts : List Part) → server ≡ server' → HasToldBoth tapped answered lines client server parts
+    → HasToldBoth tapped answered lines client server' parts
+told_of_sent tapped answered lines client server server' parts es h = subst
+    (λ (s : Sent). HasToldBoth tapped answered lines client s parts) es h
 
 -- parts more
-pub told_more : (number : ℕ) (lines : BothLines) (answered : Answered) (client server : Sent) (parts next : List Part)
+pub told_more : (tapped : Tapped) (lines : BothLines) (answered : Answered) (client server : Sent) (parts next : List Part)
     → HasAnswered answered client server
-    → HasToldClient number lines.client answered client (client_text parts ++ client_text next)
-    → HasToldServer number lines.server server (server_text parts ++ server_text next)
-    → AreInOrder number answered server (parts ++ next)
-    → HasToldBoth number answered lines client server (parts ++ next)
-told_more number lines answered client server parts next h c s o = record {
+    → HasToldClient tapped lines.client answered client (client_text parts ++ client_text next)
+    → HasToldServer tapped lines.server server (server_text parts ++ server_text next)
+    → AreInOrder tapped answered server (parts ++ next)
+    → HasToldBoth tapped answered lines client server (parts ++ next)
+told_more tapped lines answered client server parts next h c s o = record {
   in_order = o;
   has_answered = h;
-  of_client = subst (λ (t : List ℕ). HasToldClient number lines.client answered client t)
+  of_client = subst (λ (t : List ℕ). HasToldClient tapped lines.client answered client t)
       (sym (client_text_more parts next)) c;
-  of_server = subst (λ (t : List ℕ). HasToldServer number lines.server server t) (sym (server_text_more parts next)) s;
+  of_server = subst (λ (t : List ℕ). HasToldServer tapped lines.server server t) (sym (server_text_more parts next)) s;
 }
 
 -- an end that may still send

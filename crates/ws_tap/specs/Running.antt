@@ -2,7 +2,7 @@
 use Rattle.std.specs.Prelude.{◌≡◌, ℕ, Bool, true, false, List, Option, Some, None, Result, Ok, Err, if◌then◌else◌}
 use Rattle.ws_wire.specs.declared.role.Role.{Role}
 use Rattle.ws_wire.specs.declared.role.Role.TheVariants.{Client, Server}
-use Rattle.ws_frame.specs.declared.writing_whole.WriteFault.{WriteFault}
+use Rattle.ws_frame.specs.declared.show_fault.ShowFault.{ShowFault}
 use Rattle.ws_frame.specs.Devices.{Device, HasWritten}
 use Rattle.ws_tap.specs.declared.pipe.Next.{Next}
 use Rattle.ws_tap.specs.declared.pipe.Next.TheVariants.{Nothing}
@@ -12,6 +12,8 @@ use Rattle.ws_tap.specs.declared.tapping.TapEnd.TheVariants.{Ended, Broken}
 use Rattle.ws_tap.specs.Tapping.{DeviceBytes, TapDevices, device_bytes, with_input, with_output}
 use Rattle.ws_tap.specs.Tapping.{TapStep, HasTapped, HasPassedOn, StandsAfter, StandsAnswered, HasAnswered, Part}
 use Rattle.ws_tap.specs.Tapping.{AreInOrder, all_text, client_text, server_text, sent_by}
+use Rattle.ws_frame.specs.FrameStreaming.{is_of_a_write}
+use Rattle.ws_tap.specs.declared.tapped.Tapped.{Tapped}
 use Rattle.ws_tap.specs.Texts.{Sent, Answered, IsClientText, IsServerText}
 use Rattle.ws_tap.specs.Tapping.{client_next, server_next, client_has_ended, server_has_ended}
 
@@ -41,20 +43,20 @@ with_server_passed devices left held told = record devices {
   lines = device_bytes devices.lines.old told;
 }
 
--- a step of the client's direction: over its devices the tap stands again; or the output has failed
-abbrev pub PassesClient : {T : Type 0} → TapStep → DeviceBytes → DeviceBytes → Device → Result T WriteFault → Type 0
-PassesClient step reader writer output result = (number : ℕ) (answered : Answered) (devices : TapDevices)
-    → HasTapped number answered step.old devices → devices.client.input.new ≡ reader.old
+-- a step of the client's direction: over its devices the tap stands again; or the output has failed or memory ran out
+abbrev pub PassesClient : {T : Type 0} → TapStep → DeviceBytes → DeviceBytes → Device → Result T ShowFault → Type 0
+PassesClient step reader writer output result = (tapped : Tapped) (answered : Answered) (devices : TapDevices)
+    → HasTapped tapped answered step.old devices → devices.client.input.new ≡ reader.old
     → devices.client.output.new ≡ writer.old → devices.lines.new ≡ output.old
-    → StandsAfter number answered step.new (with_client_passed devices reader.new writer.new output.new) output.failed
+    → StandsAfter tapped answered step.new (with_client_passed devices reader.new writer.new output.new) output.failed
     result
 
 -- a step of the server's direction
-abbrev pub PassesServer : {T : Type 0} → TapStep → DeviceBytes → DeviceBytes → Device → Result T WriteFault → Type 0
-PassesServer step reader writer output result = (number : ℕ) (answered : Answered) (devices : TapDevices)
-    → (t : HasTapped number answered step.old devices) → devices.server.input.new ≡ reader.old
+abbrev pub PassesServer : {T : Type 0} → TapStep → DeviceBytes → DeviceBytes → Device → Result T ShowFault → Type 0
+PassesServer step reader writer output result = (tapped : Tapped) (answered : Answered) (devices : TapDevices)
+    → (t : HasTapped tapped answered step.old devices) → devices.server.input.new ≡ reader.old
     → devices.server.output.new ≡ writer.old → devices.lines.new ≡ output.old
-    → StandsAnswered number answered (sent_by step.old.client t.passed.from_client) step.new
+    → StandsAnswered tapped answered (sent_by step.old.client t.passed.from_client) step.new
     (with_server_passed devices reader.new writer.new output.new) output.failed result
 
 -- ---- the end
@@ -80,41 +82,42 @@ abbrev pub EndsAt : TapEnd → Tap → Type 0
 EndsAt (Ended first) tap = (client_next tap ≡ Nothing) × (server_next tap ≡ Nothing)
 EndsAt Broken tap = Unit {0}
 
--- Over its devices a tap stands with which the run ended; or the output has failed, and both directions were passed on
--- still.
-abbrev pub TapsEnds : ℕ → TapDevices → Bool → Result TapEnd WriteFault → Type 0
-TapsEnds number devices failed (Ok end) =
-    (failed ≡ false) × ((tap : Tap) × (answered : Answered) × HasTapped number answered tap devices × EndsAt end tap)
-TapsEnds number devices failed (Err _) = (failed ≡ true) × ((tap : Tap) × HasPassedOn tap devices)
+-- Over its devices a tap stands with which the run ended; or the output has failed or memory ran out, and both
+-- directions were passed on still.
+abbrev pub TapsEnds : Tapped → TapDevices → Bool → Result TapEnd ShowFault → Type 0
+TapsEnds tapped devices failed (Ok end) =
+    (failed ≡ false) × ((tap : Tap) × (answered : Answered) × HasTapped tapped answered tap devices × EndsAt end tap)
+TapsEnds tapped devices failed (Err fault) = (failed ≡ is_of_a_write fault) × ((tap : Tap) × HasPassedOn tap devices)
 
 -- both ends have ended their directions, where the run ended with that
 abbrev pub HaveEnded : TapEnd → Sent → Sent → Type 0
 HaveEnded (Ended first) client server = (client.ended ≡ true) × (server.ended ≡ true)
 HaveEnded Broken client server = Unit {0}
 
--- This text tells of both ends of a connection of this number that has ended so: its parts are those of the text of the
+-- This text tells of both ends of a tapped connection that has ended so: its parts are those of the text of the
 -- client and those of the text of the server. What the lines of the client waited for is what the server has answered,
 -- and they stand where it did.
-pub record IsTapText (number : ℕ) (end : TapEnd) (text : List ℕ) : Type 0 where
+pub record IsTapText (tapped : Tapped) (end : TapEnd) (text : List ℕ) : Type 0 where
   pub client : Sent
   pub server : Sent
   pub answered : Answered
   pub parts : List Part
   pub has_answered : HasAnswered answered client server
-  pub of_client : IsClientText number answered client (client_text parts)
-  pub of_server : IsServerText number server (server_text parts)
-  pub in_order : AreInOrder number answered server parts
+  pub of_client : IsClientText tapped answered client (client_text parts)
+  pub of_server : IsServerText tapped server (server_text parts)
+  pub in_order : AreInOrder tapped answered server parts
   pub all : text ≡ all_text parts
   pub ended : HaveEnded end client server
 
--- such a text was written; or the output has failed
-abbrev pub TellsTap : ℕ → Result TapEnd WriteFault → Device → Type 0
-TellsTap number (Ok end) output =
-    (output.failed ≡ false) × ((text : List ℕ) × HasWritten text output × IsTapText number end text)
-TellsTap number (Err _) output = output.failed ≡ true
+-- such a text was written; or the output has failed or memory ran out, and some lines were written
+abbrev pub TellsTap : Tapped → Result TapEnd ShowFault → Device → Type 0
+TellsTap tapped (Ok end) output =
+    (output.failed ≡ false) × ((text : List ℕ) × HasWritten text output × IsTapText tapped end text)
+TellsTap tapped (Err fault) output =
+    (output.failed ≡ is_of_a_write fault) × ((text : List ℕ) × HasWritten text output)
 
 -- the directions of both writers were ended, where those of both readers were
-abbrev pub HalfClosesBoth : Type 0 → Type 0 → Result TapEnd WriteFault → Type 0
+abbrev pub HalfClosesBoth : Type 0 → Type 0 → Result TapEnd ShowFault → Type 0
 HalfClosesBoth client server (Ok (Ended first)) = client × server
 HalfClosesBoth client server (Ok Broken) = Unit {0}
 HalfClosesBoth client server (Err _) = Unit {0}

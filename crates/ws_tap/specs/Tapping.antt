@@ -1,7 +1,7 @@
 -- What a tap between a client and a server has passed on, and told (RFC 6455 sections 4 and 5.2).
 use Rattle.std.specs.Prelude.{◌≡◌, ◌⊎◌, ℕ, Bool, true, false, List, [], ◌∷◌, ◌++◌, Option, Result, Ok, Err}
 use Rattle.std.specs.Io.KnownBytes.{Appends, Consumes, IsAtEnd}
-use Rattle.ws_frame.specs.declared.writing_whole.WriteFault.{WriteFault}
+use Rattle.ws_frame.specs.declared.show_fault.ShowFault.{ShowFault}
 use Rattle.ws_tap.specs.declared.heads.Head.{Head}
 use Rattle.ws_tap.specs.declared.heads.HeadKind.TheVariants.{Response}
 use Rattle.ws_tap.specs.declared.pipe.PipeStage.{PipeStage}
@@ -17,7 +17,9 @@ use Rattle.ws_tap.specs.PipeValues.{PipeValue}
 use Rattle.ws_tap.specs.Piping.{DrainsPipe, FillsPipe, HasPassed, PipeStep, next_of}
 use Rattle.ws_tap.specs.Heads.{HasHead, HasNoHead}
 use Rattle.ws_tap.specs.Texts.{Sent, Switches, Answered, NotYet, After, IsClientText}
-use Rattle.ws_tap.specs.Standing.{HasToldClient, HasToldServer, IsResponseLine, IsToldSo, with_bytes}
+use Rattle.ws_frame.specs.FrameStreaming.{is_of_a_write}
+use Rattle.ws_tap.specs.declared.tapped.Tapped.{Tapped}
+use Rattle.ws_tap.specs.Standing.{HasToldClient, HasToldServer, IsResponseLine, IsToldPiece, with_bytes}
 
 -- ---- the devices
 
@@ -141,22 +143,22 @@ IsAnsweredNext old new client =
 
 -- Where in these parts the server has answered: before the first line of the server nothing is told of it, and of the
 -- client what is told while it waits; and at once behind that line stand the lines of the client that waited.
-pub record IsAnsweredAt (number : ℕ) (early server : Sent) (parts : List Part) : Type 0 where
+pub record IsAnsweredAt (tapped : Tapped) (early server : Sent) (parts : List Part) : Type 0 where
   pub before : List Part
   pub first : List ℕ
   pub waited : List ℕ
   pub later : List Part
   pub all : parts ≡ before ++ (OfServer first ∷ OfClient waited ∷ later)
   pub none_of_server : server_text before ≡ []
-  pub of_client : IsClientText number NotYet early (client_text before)
-  pub is_first : IsResponseLine number server.bytes first
-  pub has_waited : IsClientText number (After early true) early (client_text before ++ waited)
+  pub of_client : IsClientText tapped NotYet early (client_text before)
+  pub is_first : IsResponseLine tapped server.bytes first
+  pub has_waited : IsClientText tapped (After early true) early (client_text before ++ waited)
 
 -- where the server switches, the parts stand in the order in which things came
-abbrev pub AreInOrder : ℕ → Answered → Sent → List Part → Type 0
-AreInOrder number NotYet server parts = Unit {0}
-AreInOrder number (After early true) server parts = IsAnsweredAt number early server parts
-AreInOrder number (After early false) server parts = Unit {0}
+abbrev pub AreInOrder : Tapped → Answered → Sent → List Part → Type 0
+AreInOrder tapped NotYet server parts = Unit {0}
+AreInOrder tapped (After early true) server parts = IsAnsweredAt tapped early server parts
+AreInOrder tapped (After early false) server parts = Unit {0}
 
 -- the lines that tell of both ends
 pub record BothLines : Type 0 where
@@ -164,17 +166,17 @@ pub record BothLines : Type 0 where
   pub server : ServerLines
 
 -- what was told of both ends, where the server has answered so
-pub record HasToldBoth (number : ℕ) (answered : Answered) (lines : BothLines) (client server : Sent)
+pub record HasToldBoth (tapped : Tapped) (answered : Answered) (lines : BothLines) (client server : Sent)
     (parts : List Part) : Type 0 where
   pub has_answered : HasAnswered answered client server
-  pub of_client : HasToldClient number lines.client answered client (client_text parts)
-  pub of_server : HasToldServer number lines.server server (server_text parts)
-  pub in_order : AreInOrder number answered server parts
+  pub of_client : HasToldClient tapped lines.client answered client (client_text parts)
+  pub of_server : HasToldServer tapped lines.server server (server_text parts)
+  pub in_order : AreInOrder tapped answered server parts
 
 -- something was told of both ends
 abbrev pub HasToldSome : BothLines → Type 0
-HasToldSome lines = (number : ℕ) × (answered : Answered) × (client : Sent) × (server : Sent) × (parts : List Part)
-    × HasToldBoth number answered lines client server parts
+HasToldSome lines = (tapped : Tapped) × (answered : Answered) × (client : Sent) × (server : Sent) × (parts : List Part)
+    × HasToldBoth tapped answered lines client server parts
 
 -- both directions were passed on
 pub record HasPassedOn (tap : Tap) (devices : TapDevices) : Type 0 where
@@ -185,36 +187,37 @@ pub record HasPassedOn (tap : Tap) (devices : TapDevices) : Type 0 where
 
 -- A tap stands, whose server has answered so, where both directions were passed on, and all that is certain of what was
 -- read was told, and nothing else.
-pub record HasTapped (number : ℕ) (answered : Answered) (tap : Tap) (devices : TapDevices) : Type 0 where
+pub record HasTapped (tapped : Tapped) (answered : Answered) (tap : Tap) (devices : TapDevices) : Type 0 where
   pub passed : HasPassedOn tap devices
   pub parts : List Part
-  pub told : HasToldBoth number answered (record { client = tap.client_lines; server = tap.server_lines })
+  pub told : HasToldBoth tapped answered (record { client = tap.client_lines; server = tap.server_lines })
       (sent_by tap.client passed.from_client) (sent_by tap.server passed.from_server) parts
   pub lines : Appends devices.lines.old devices.lines.new (all_text parts)
 
 -- ---- pieces
 
--- what was told of both ends, where the server had answered so before; or the output has failed
-abbrev pub IsToldOfBoth : ℕ → Answered → BothLines → Sent → Sent → List Part → Bool → Result (Unit {0}) WriteFault
+-- what was told of both ends, where the server had answered so before; or the output has failed or memory
+-- ran out
+abbrev pub IsToldOfBoth : Tapped → Answered → BothLines → Sent → Sent → List Part → Bool → Result (Unit {0}) ShowFault
     → Type 0
-IsToldOfBoth number before new client server parts failed (Ok _) = (failed ≡ false)
+IsToldOfBoth tapped before new client server parts failed (Ok _) = (failed ≡ false)
     × ((answered : Answered) × IsAnsweredNext before answered client
-    × HasToldBoth number answered new client server parts)
-IsToldOfBoth number before new client server parts failed (Err _) = failed ≡ true
+    × HasToldBoth tapped answered new client server parts)
+IsToldOfBoth tapped before new client server parts failed (Err fault) = failed ≡ is_of_a_write fault
 
 -- more bytes of the client are told
-abbrev pub TellsClientPiece : ClientLines → ClientLines → List ℕ → Device → Result (Unit {0}) WriteFault → Type 0
-TellsClientPiece old new piece output result = (number : ℕ) (answered : Answered) (sent : Sent) (text : List ℕ)
-    → HasToldClient number old answered sent text → sent.ended ≡ false
+abbrev pub TellsClientPiece : ClientLines → ClientLines → List ℕ → Device → Result (Unit {0}) ShowFault → Type 0
+TellsClientPiece old new piece output result = (tapped : Tapped) (answered : Answered) (sent : Sent) (text : List ℕ)
+    → HasToldClient tapped old answered sent text → sent.ended ≡ false
     → (more : List ℕ) × HasWritten more output
-    × IsToldSo number new answered (with_bytes sent piece) (text ++ more) output.failed result
+    × IsToldPiece tapped new answered (with_bytes sent piece) (text ++ more) output.failed result
 
 -- more bytes of the server are told, and what waited for them
-abbrev pub TellsServerPiece : BothLines → BothLines → List ℕ → Device → Result (Unit {0}) WriteFault → Type 0
-TellsServerPiece old new piece output result = (number : ℕ) (answered : Answered) (client server : Sent)
-    (parts : List Part) → HasToldBoth number answered old client server parts → server.ended ≡ false
+abbrev pub TellsServerPiece : BothLines → BothLines → List ℕ → Device → Result (Unit {0}) ShowFault → Type 0
+TellsServerPiece old new piece output result = (tapped : Tapped) (answered : Answered) (client server : Sent)
+    (parts : List Part) → HasToldBoth tapped answered old client server parts → server.ended ≡ false
     → (more : List Part) × HasWritten (all_text more) output
-    × IsToldOfBoth number answered new client (with_bytes server piece) (parts ++ more) output.failed result
+    × IsToldOfBoth tapped answered new client (with_bytes server piece) (parts ++ more) output.failed result
 
 -- ---- steps
 
@@ -238,62 +241,69 @@ abbrev pub server_has_ended : Tap → Bool
 server_has_ended tap = has_ended tap.server.stage
 
 -- over devices of which nothing was read, and to which nothing was written, a tap stands that is new
-abbrev pub IsNewTap : ℕ → Tap → Type 0
-IsNewTap number tap = (from_client to_server from_server to_client lines : Option (List ℕ))
-    → HasTapped number NotYet tap (new_devices from_client to_server from_server to_client lines)
+abbrev pub IsNewTap : Tapped → Tap → Type 0
+IsNewTap tapped tap = (from_client to_server from_server to_client lines : Option (List ℕ))
+    → HasTapped tapped NotYet tap (new_devices from_client to_server from_server to_client lines)
 
 -- there are devices over which it stands
 abbrev pub StandsSomehow : Tap → Type 0
 StandsSomehow tap =
-    (number : ℕ) × (answered : Answered) × (devices : TapDevices) × HasTapped number answered tap devices
+    (tapped : Tapped) × (answered : Answered) × (devices : TapDevices) × HasTapped tapped answered tap devices
 
 -- over the same devices it stands again
 abbrev pub Goes : TapStep → Type 0
-Goes step = (number : ℕ) (answered : Answered) (devices : TapDevices) → HasTapped number answered step.old devices
-    → HasTapped number answered step.new devices
+Goes step = (tapped : Tapped) (answered : Answered) (devices : TapDevices) → HasTapped tapped answered step.old devices
+    → HasTapped tapped answered step.new devices
 
--- it stands again; or the output has failed, and all was passed on still
-abbrev pub StandsAfter : {T : Type 0} → ℕ → Answered → Tap → TapDevices → Bool → Result T WriteFault → Type 0
-StandsAfter number answered tap devices failed (Ok _) = (failed ≡ false) × HasTapped number answered tap devices
-StandsAfter number answered tap devices failed (Err _) = (failed ≡ true) × HasPassedOn tap devices
+-- some lines were written, and nothing else
+abbrev pub WritesLines : DeviceBytes → Type 0
+WritesLines lines = (text : List ℕ) × Appends lines.old lines.new text
+
+-- it stands again; or the output has failed or memory ran out: then all was passed on still, and some lines were
+-- written
+abbrev pub StandsAfter : {T : Type 0} → Tapped → Answered → Tap → TapDevices → Bool → Result T ShowFault → Type 0
+StandsAfter tapped answered tap devices failed (Ok _) = (failed ≡ false) × HasTapped tapped answered tap devices
+StandsAfter tapped answered tap devices failed (Err fault) = (failed ≡ is_of_a_write fault)
+    × HasPassedOn tap devices × WritesLines devices.lines
 
 -- so it is where the server may have answered: then when the client had sent this
-abbrev pub StandsAnswered : {T : Type 0} → ℕ → Answered → Sent → Tap → TapDevices → Bool → Result T WriteFault
+abbrev pub StandsAnswered : {T : Type 0} → Tapped → Answered → Sent → Tap → TapDevices → Bool → Result T ShowFault
     → Type 0
-StandsAnswered number before client tap devices failed (Ok _) = (failed ≡ false)
-    × ((answered : Answered) × IsAnsweredNext before answered client × HasTapped number answered tap devices)
-StandsAnswered number before client tap devices failed (Err _) = (failed ≡ true) × HasPassedOn tap devices
+StandsAnswered tapped before client tap devices failed (Ok _) = (failed ≡ false)
+    × ((answered : Answered) × IsAnsweredNext before answered client × HasTapped tapped answered tap devices)
+StandsAnswered tapped before client tap devices failed (Err fault) =
+    (failed ≡ is_of_a_write fault) × HasPassedOn tap devices × WritesLines devices.lines
 
 -- bytes were read from the client, and told
-abbrev pub ReadsClient : TapStep → DeviceBytes → Device → Result Filled WriteFault → Type 0
-ReadsClient step reader output result = (number : ℕ) (answered : Answered) (devices : TapDevices)
-    → HasTapped number answered step.old devices
+abbrev pub ReadsClient : TapStep → DeviceBytes → Device → Result Filled ShowFault → Type 0
+ReadsClient step reader output result = (tapped : Tapped) (answered : Answered) (devices : TapDevices)
+    → HasTapped tapped answered step.old devices
     → devices.client.input.new ≡ reader.old → devices.lines.new ≡ output.old
-    → StandsAfter number answered step.new (with_client_read devices reader.new output.new) output.failed result
+    → StandsAfter tapped answered step.new (with_client_read devices reader.new output.new) output.failed result
 
 -- bytes were read from the server, and told
-abbrev pub ReadsServer : TapStep → DeviceBytes → Device → Result Filled WriteFault → Type 0
-ReadsServer step reader output result = (number : ℕ) (answered : Answered) (devices : TapDevices)
-    → (t : HasTapped number answered step.old devices)
+abbrev pub ReadsServer : TapStep → DeviceBytes → Device → Result Filled ShowFault → Type 0
+ReadsServer step reader output result = (tapped : Tapped) (answered : Answered) (devices : TapDevices)
+    → (t : HasTapped tapped answered step.old devices)
     → devices.server.input.new ≡ reader.old → devices.lines.new ≡ output.old
-    → StandsAnswered number answered (sent_by step.old.client t.passed.from_client) step.new
+    → StandsAnswered tapped answered (sent_by step.old.client t.passed.from_client) step.new
     (with_server_read devices reader.new output.new) output.failed result
 
 -- bytes of the client were written to the server
 abbrev pub WritesServer : TapStep → DeviceBytes → Type 0
-WritesServer step writer = (number : ℕ) (answered : Answered) (devices : TapDevices)
-    → HasTapped number answered step.old devices → devices.client.output.new ≡ writer.old
-    → HasTapped number answered step.new (with_server_written devices writer.new)
+WritesServer step writer = (tapped : Tapped) (answered : Answered) (devices : TapDevices)
+    → HasTapped tapped answered step.old devices → devices.client.output.new ≡ writer.old
+    → HasTapped tapped answered step.new (with_server_written devices writer.new)
 
 -- bytes of the server were written to the client
 abbrev pub WritesClient : TapStep → DeviceBytes → Type 0
-WritesClient step writer = (number : ℕ) (answered : Answered) (devices : TapDevices)
-    → HasTapped number answered step.old devices → devices.server.output.new ≡ writer.old
-    → HasTapped number answered step.new (with_client_written devices writer.new)
+WritesClient step writer = (tapped : Tapped) (answered : Answered) (devices : TapDevices)
+    → HasTapped tapped answered step.old devices → devices.server.output.new ≡ writer.old
+    → HasTapped tapped answered step.new (with_client_written devices writer.new)
 
 -- what a read of a direction answered is what it did: bytes came and are held, or the end, or nothing; where the output
--- has failed, nothing is said of it
-abbrev pub AnswersRead : PipeStep → DeviceBytes → Result Filled WriteFault → Type 0
+-- has failed or memory ran out, nothing is said of it
+abbrev pub AnswersRead : PipeStep → DeviceBytes → Result Filled ShowFault → Type 0
 AnswersRead step reader (Ok filled) = FillsPipe step reader.old reader.new filled
 AnswersRead step reader (Err _) = Unit {0}
 

@@ -4,7 +4,6 @@ use Rattle.std.specs.Prelude.{◌≡◌, ◌⊎◌, ℕ, ◌<◌, ◌≤◌, ◌
 use Rattle.std.specs.Prelude.{take, Some, codes, map, nat_le, ◌&&◌, if◌then◌else◌}
 use Rattle.std.specs.List.{position_or_len}
 use Rattle.ws_wire.specs.declared.role.Role.TheVariants.{Client, Server}
-use Rattle.ws_frame.specs.declared.source.DataStyle.TheVariants.{Hex}
 use Rattle.ws_frame.specs.declared.source.Source.{Source}
 use Rattle.ws_frame.specs.declared.source.Mark.TheVariants.{ClientOf, ServerOf}
 use Rattle.ws_frame.specs.declared.showing.StreamEnd.{StreamEnd}
@@ -13,6 +12,7 @@ use Rattle.ws_tap.specs.declared.heads.HeadKind.{HeadKind}
 use Rattle.ws_tap.specs.declared.heads.HeadKind.TheVariants.{Request, Response}
 use Rattle.ws_tap.specs.declared.heads.Head.{Head}
 use Rattle.ws_tap.specs.Heads.{HasHead, HasNoHead}
+use Rattle.ws_tap.specs.declared.tapped.Tapped.{Tapped}
 
 -- ---- the line of a head
 
@@ -33,10 +33,10 @@ abbrev pub side_mark : HeadKind → List ℕ
 side_mark Request = codes " > "
 side_mark Response = codes " < "
 
--- the end that sends such a head, in the connection of this number, as the lines of its frames have it
-abbrev pub source_at : HeadKind → ℕ → Source
-source_at Request number = record { from = Client; mark = ClientOf number; style = Hex }
-source_at Response number = record { from = Server; mark = ServerOf number; style = Hex }
+-- the end that sends such a head, in the connection that is tapped, as the lines of its frames have it
+abbrev pub source_at : HeadKind → Tapped → Source
+source_at Request tapped = record { from = Client; mark = ClientOf tapped.number; style = tapped.style }
+source_at Response tapped = record { from = Server; mark = ServerOf tapped.number; style = tapped.style }
 
 -- a byte of it as it is shown: one outside 0x20 to 0x7e is a question mark, since a terminal may obey it
 abbrev pub shown_byte : ℕ → ℕ
@@ -90,12 +90,12 @@ AreServerLines source head sent lines =
     ⊎ ((Switches head → ⊥) × (lines ≡ []))
 
 -- the text that is told of a server: nothing without a head
-abbrev pub IsServerText : ℕ → Sent → List ℕ → Type 0
-IsServerText number sent text =
+abbrev pub IsServerText : Tapped → Sent → List ℕ → Type 0
+IsServerText tapped sent text =
     (HasNoHead Response sent.bytes × (text ≡ []))
     ⊎ ((head : Head) × (lines : List ℕ) × HasHead Response sent.bytes head
-    × (text ≡ head_line (source_at Response number) (take head.len sent.bytes) ++ lines)
-    × AreServerLines (source_at Response number) head sent lines)
+    × (text ≡ head_line (source_at Response tapped) (take head.len sent.bytes) ++ lines)
+    × AreServerLines (source_at Response tapped) head sent lines)
 
 -- ---- the client's
 
@@ -122,9 +122,9 @@ AreClientLines source len (After early false) sent lines = lines ≡ []
 AreClientLines source len (After early true) sent lines = AreReleased source len early sent lines
 
 -- the text that is told of a client: nothing without a head
-abbrev pub IsClientText : ℕ → Answered → Sent → List ℕ → Type 0
-IsClientText number answered sent text =
+abbrev pub IsClientText : Tapped → Answered → Sent → List ℕ → Type 0
+IsClientText tapped answered sent text =
     (HasNoHead Request sent.bytes × (text ≡ []))
     ⊎ ((head : Head) × (lines : List ℕ) × HasHead Request sent.bytes head
-    × (text ≡ head_line (source_at Request number) (take head.len sent.bytes) ++ lines)
-    × AreClientLines (source_at Request number) head.len answered sent lines)
+    × (text ≡ head_line (source_at Request tapped) (take head.len sent.bytes) ++ lines)
+    × AreClientLines (source_at Request tapped) head.len answered sent lines)

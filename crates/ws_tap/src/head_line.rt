@@ -5,6 +5,7 @@ ghost use Rattle.ws_tap.specs.Texts.{head_line, shown_byte, source_at, side_mark
 
 use crate::first_line::first_line;
 use crate::heads::{HeadKind, MAX_HEAD};
+use crate::tapped::Tapped;
 use itoa::Buffer;
 use std::marker::Model;
 
@@ -29,14 +30,14 @@ impl Model for HeadLine {
 }
 
 impl HeadLine {
-    /// The line of this head, in the connection of this number.
-    pub(crate) fn of(kind: HeadKind, number: u32, head: &[u8]) -> HeadLine
+    /// The line of this head, in this connection.
+    pub(crate) fn of(kind: HeadKind, tapped: Tapped, head: &[u8]) -> HeadLine
         requires { length head.now ≤ 8192 }
-        ensures { result ≡ head_line (source_at kind number) head.now }
+        ensures { result ≡ head_line (source_at kind tapped) head.now }
     {
         let mut line = HeadLine::new();
         let mut digits = Buffer::new();
-        line.push(digits.format(number).as_bytes());
+        line.push(digits.format(tapped.number).as_bytes());
         line.push(mark_of(kind));
         line.push_shown(first_line(head));
         line.push(b"\n");

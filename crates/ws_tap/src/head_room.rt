@@ -5,6 +5,7 @@ ghost use Rattle.ws_tap.specs.Standing.{LooksIn, LooksFor};
 
 use crate::head_line::HeadLine;
 use crate::heads::{Head, HeadKind, MAX_HEAD, find_head};
+use crate::tapped::Tapped;
 use ws_base::ShortBytes;
 
 /// A head that is whole with the first bytes of a piece.
@@ -25,16 +26,16 @@ pub(crate) type HeadRoom = ShortBytes<MAX_HEAD>;
 pub(crate) fn look_for_head(
     room: &mut HeadRoom,
     kind: HeadKind,
-    number: u32,
+    tapped: Tapped,
     piece: &[u8],
 ) -> Option<HeadFound>
     requires { (bytes : List ℕ) × LooksIn kind room.old bytes }
-    ensures { LooksFor kind number room.old room.new piece.now result }
+    ensures { LooksFor kind tapped room.old room.new piece.now result }
 {
     let before = room.len();
     room.fill(piece);
     let head = find_head(kind, room.as_slice())?;
-    let line = HeadLine::of(kind, number, &room.as_slice()[..head.len]);
+    let line = HeadLine::of(kind, tapped, &room.as_slice()[..head.len]);
     Some(HeadFound {
         head,
         line,

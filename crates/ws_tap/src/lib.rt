@@ -16,6 +16,7 @@ pub mod laws;
 mod pipe;
 mod server_lines;
 mod tap;
+mod tapped;
 mod tapping;
 mod telling;
 
@@ -23,4 +24,5 @@ pub use client_lines::ClientLines;
 pub use pipe::{Drained, Filled, Next, Pipe};
 pub use server_lines::{Answer, ServerLines};
 pub use tap::Tap;
+pub use tapped::Tapped;
 pub use tapping::{TapEnd, TapSide, TapWriter, Wakes, tap_ends};

@@ -9,8 +9,10 @@ ghost use Rattle.ws_tap.specs.Standing.{StandsBehindResponse, Answers, new_sent}
 
 use crate::head_room::{HeadRoom, look_for_head};
 use crate::heads::HeadKind;
+use crate::tapped::Tapped;
+use std::alloc::Global;
 use std::io::Write;
-use ws_frame::{DataStyle, Mark, Role, Source, StreamLines, Watched, WriteFault, write_whole};
+use ws_frame::{FrameLines, Mark, Role, ShowFault, Source, Watched, WriteFault, write_whole};
 
 /// The status of a response that switches to frames.
 const SWITCHING_PROTOCOLS: u16 = 101;
@@ -32,7 +34,7 @@ pub(crate) enum ServerStage {
     /// In its response.
     Head(HeadRoom),
     /// Behind it, where frames stand.
-    Frames(StreamLines),
+    Frames(FrameLines),
     /// Behind a response of another status.
     Other,
 }
@@ -40,43 +42,44 @@ pub(crate) enum ServerStage {
 /// The lines that tell of a server. Without a response in its first 8192 bytes nothing is told of it.
 #[derive(Drop)]
 pub struct ServerLines {
-    number: u32,
+    tapped: Tapped,
     pub(crate) stage: ServerStage,
 }
 
 impl ServerLines {
-    /// The server of the connection of this number has sent nothing.
-    pub fn new(number: u32) -> ServerLines
-        ensures begun { HasToldServer number result new_sent [] }
+    /// The server of this connection has sent nothing.
+    pub fn new(tapped: Tapped) -> ServerLines
+        ensures begun { HasToldServer tapped result new_sent [] }
     {
         ServerLines {
-            number,
+            tapped,
             stage: ServerStage::Head(HeadRoom::new()),
         }
     }
 
     /// More bytes come, and their lines are told: how many were used, all of them, but where the response ends in them
-    /// those up to there. At an error the writer has failed.
+    /// those up to there. At an error the writer has failed, or memory ran out.
     pub fn sent<W: Write>(
         &mut self,
+        alloc: Global,
         writer: &mut Watched<W>,
         piece: &[u8],
-    ) -> Result<usize, WriteFault>
+    ) -> Result<usize, ShowFault>
         requires writer_works { has_failed writer.old ≡ false }
         requires room { HasRoomAtServer (length piece.now) self.old }
         ensures told { TellsServer self.old self.new piece.now (watched W.contents writer.old writer.new) result }
     {
         match &mut self.stage {
             ServerStage::Head(room) => {
-                let Some(found) = look_for_head(room, HeadKind::Response, self.number, piece) else {
+                let Some(found) = look_for_head(room, HeadKind::Response, self.tapped, piece) else {
                     return Ok(piece.len());
                 };
-                self.stage = stage_behind(self.number, found.head.status);
+                self.stage = stage_behind(alloc, self.tapped, found.head.status);
                 write_whole(writer, found.line.as_slice())?;
                 Ok(found.used)
             }
             ServerStage::Frames(lines) => {
-                lines.take(writer, piece)?;
+                lines.take(alloc, writer, piece)?;
                 Ok(piece.len())
             }
             ServerStage::Other => Ok(piece.len()),
@@ -112,15 +115,18 @@ impl ServerLines {
 }
 
 /// What follows a response of this status.
-fn stage_behind(number: u32, status: Option<u16>) -> ServerStage
-    ensures { StandsBehindResponse number status result }
+fn stage_behind(alloc: Global, tapped: Tapped, status: Option<u16>) -> ServerStage
+    ensures { StandsBehindResponse tapped status result }
 {
     match status {
-        Some(SWITCHING_PROTOCOLS) => ServerStage::Frames(StreamLines::new(Source {
-            from: Role::Server,
-            mark: Mark::ServerOf(number),
-            style: DataStyle::Hex,
-        })),
+        Some(SWITCHING_PROTOCOLS) => {
+            let source = Source {
+                from: Role::Server,
+                mark: Mark::ServerOf(tapped.number),
+                style: tapped.style,
+            };
+            ServerStage::Frames(FrameLines::new(alloc, source))
+        }
         _ => ServerStage::Other,
     }
 }

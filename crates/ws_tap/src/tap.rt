@@ -12,12 +12,14 @@ ghost use Rattle.ws_tap.specs.declared.pipe.Next.TheVariants as next;
 use crate::client_lines::ClientLines;
 use crate::pipe::{Drained, Filled, Next, Pipe};
 use crate::server_lines::ServerLines;
+use crate::tapped::Tapped;
 use crate::telling::{tell_client, tell_server};
+use std::alloc::Global;
 use std::io::{Read, Write};
-use ws_frame::{Watched, WriteFault};
+use ws_frame::{ShowFault, Watched};
 
-/// A tapped connection. What is read from one end is told, and written to the other, unchanged and in order. No memory
-/// is taken.
+/// A tapped connection. What is read from one end is told, and written to the other, unchanged and in order. Memory is
+/// taken only where whole payloads are shown.
 #[derive(Drop)]
 pub struct Tap {
     /// From the client to the server.
@@ -29,17 +31,17 @@ pub struct Tap {
 }
 
 impl Tap {
-    /// The connection of this number, over which nothing has passed.
-    pub fn new(number: u32) -> Tap
-        ensures begun { IsNewTap number result }
+    /// This connection, over which nothing has passed.
+    pub fn new(tapped: Tapped) -> Tap
+        ensures begun { IsNewTap tapped result }
         ensures client { client_next result ≡ next.Fill }
         ensures server { server_next result ≡ next.Fill }
     {
         Tap {
             client: Pipe::new(),
             server: Pipe::new(),
-            client_lines: ClientLines::new(number),
-            server_lines: ServerLines::new(number),
+            client_lines: ClientLines::new(tapped),
+            server_lines: ServerLines::new(tapped),
         }
     }
 
@@ -71,12 +73,14 @@ impl Tap {
         self.server.has_ended()
     }
 
-    /// Reads once from the client, where that is next, and tells what came. At an error the output has failed.
+    /// Reads once from the client, where that is next, and tells what came. At an error the output has failed, or
+    /// memory ran out.
     pub fn read_client<R: Read, W: Write>(
         &mut self,
+        alloc: Global,
         reader: &mut R,
         output: &mut Watched<W>,
-    ) -> Result<Filled, WriteFault>
+    ) -> Result<Filled, ShowFault>
         requires next { client_next self.old ≡ next.Fill }
         requires stands { StandsSomehow self.old }
         requires output_works { has_failed output.old ≡ false }
@@ -90,7 +94,12 @@ impl Tap {
     {
         let filled = self.client.fill(reader);
         match filled {
-            Filled::Came => tell_client(&mut self.client_lines, output, self.client.piece())?,
+            Filled::Came => tell_client(
+                alloc,
+                &mut self.client_lines,
+                output,
+                self.client.piece(),
+            )?,
             Filled::AtEnd => self.client_lines.ended(output)?,
             Filled::Waits => {}
             Filled::Failed => {}
@@ -98,12 +107,14 @@ impl Tap {
         Ok(filled)
     }
 
-    /// Reads once from the server, where that is next, and tells what came. At an error the output has failed.
+    /// Reads once from the server, where that is next, and tells what came. At an error the output has failed, or
+    /// memory ran out.
     pub fn read_server<R: Read, W: Write>(
         &mut self,
+        alloc: Global,
         reader: &mut R,
         output: &mut Watched<W>,
-    ) -> Result<Filled, WriteFault>
+    ) -> Result<Filled, ShowFault>
         requires next { server_next self.old ≡ next.Fill }
         requires stands { StandsSomehow self.old }
         requires output_works { has_failed output.old ≡ false }
@@ -118,6 +129,7 @@ impl Tap {
         let filled = self.server.fill(reader);
         match filled {
             Filled::Came => tell_server(
+                alloc,
                 &mut self.server_lines,
                 &mut self.client_lines,
                 output,

@@ -11,9 +11,11 @@ ghost use Rattle.ws_tap.specs.declared.pipe.Next.TheVariants.{Nothing};
 
 use crate::pipe::{Drained, Filled, Next};
 use crate::tap::Tap;
+use crate::tapped::Tapped;
+use std::alloc::Global;
 use std::io;
 use std::io::{Read, Write};
-use ws_frame::{Role, Watched, WriteFault};
+use ws_frame::{Role, ShowFault, Watched};
 
 /// A writer to one end of a tapped connection, whose direction can be ended while the other one goes on.
 pub trait TapWriter: Write {
@@ -60,30 +62,43 @@ enum Passed {
 }
 
 /// Passes bytes both ways, and tells of them, until both directions have ended or something fails. An end that takes no
-/// bytes stops the reading from the other. At an error the output has failed.
+/// bytes stops the reading from the other. At an error the output has failed, or memory ran out.
 pub fn tap_ends<CR: Read, CW: TapWriter, SR: Read, SW: TapWriter, K: Wakes, W: Write>(
-    number: u32,
+    alloc: Global,
+    tapped: Tapped,
     client: &mut TapSide<CR, CW>,
     server: &mut TapSide<SR, SW>,
     wakes: &mut K,
     output: &mut Watched<W>,
-) -> Result<TapEnd, WriteFault>
+) -> Result<TapEnd, ShowFault>
     requires output_works { has_failed output.old ≡ false }
-    ensures taps { TapsEnds number (run_devices
+    ensures taps { TapsEnds tapped (run_devices
         (device_bytes (CR.remaining client.old.reader) (CR.remaining client.new.reader))
         (device_bytes (CW.contents client.old.writer) (CW.contents client.new.writer))
         (device_bytes (SR.remaining server.old.reader) (SR.remaining server.new.reader))
         (device_bytes (SW.contents server.old.writer) (SW.contents server.new.writer))
         (watched W.contents output.old output.new)) (has_failed output.new) result }
-    ensures tells { TellsTap number result (watched W.contents output.old output.new) }
+    ensures tells { TellsTap tapped result (watched W.contents output.old output.new) }
     ensures half_closes { HalfClosesBoth (CW.is_ended client.new.writer) (SW.is_ended server.new.writer) result }
 {
-    let mut tap = Tap::new(number);
+    let mut tap = Tap::new(tapped);
     let mut first = None;
     for _ in 0..u64::MAX {
-        let sent = pass_client(&mut tap, &mut client.reader, &mut server.writer, output)?;
+        let sent = pass_client(
+            alloc,
+            &mut tap,
+            &mut client.reader,
+            &mut server.writer,
+            output,
+        )?;
         first = first_to_end(first, &tap);
-        let got = pass_server(&mut tap, &mut server.reader, &mut client.writer, output)?;
+        let got = pass_server(
+            alloc,
+            &mut tap,
+            &mut server.reader,
+            &mut client.writer,
+            output,
+        )?;
         first = first_to_end(first, &tap);
         if let (Some(role), true) = (first, is_over(&tap)) {
             return Ok(TapEnd::Ended(role));
@@ -134,11 +149,12 @@ fn goes_on<K: Wakes>(client: Passed, server: Passed, wakes: &mut K) -> bool {
 
 /// One step of the client's direction.
 fn pass_client<R: Read, W: TapWriter, O: Write>(
+    alloc: Global,
     tap: &mut Tap,
     from_client: &mut R,
     to_server: &mut W,
     output: &mut Watched<O>,
-) -> Result<Passed, WriteFault>
+) -> Result<Passed, ShowFault>
     requires stands { StandsSomehow tap.old }
     requires output_works { has_failed output.old ≡ false }
     ensures passes { PassesClient (record { old = tap.old; new = tap.new })
@@ -151,7 +167,7 @@ fn pass_client<R: Read, W: TapWriter, O: Write>(
 {
     match tap.client_next() {
         Next::Fill => {
-            let filled = tap.read_client(from_client, output)?;
+            let filled = tap.read_client(alloc, from_client, output)?;
             Ok(after_read(filled))
         }
         Next::Drain => Ok(after_write(tap.write_server(to_server))),
@@ -168,11 +184,12 @@ fn pass_client<R: Read, W: TapWriter, O: Write>(
 
 /// One step of the server's direction.
 fn pass_server<R: Read, W: TapWriter, O: Write>(
+    alloc: Global,
     tap: &mut Tap,
     from_server: &mut R,
     to_client: &mut W,
     output: &mut Watched<O>,
-) -> Result<Passed, WriteFault>
+) -> Result<Passed, ShowFault>
     requires stands { StandsSomehow tap.old }
     requires output_works { has_failed output.old ≡ false }
     ensures passes { PassesServer (record { old = tap.old; new = tap.new })
@@ -185,7 +202,7 @@ fn pass_server<R: Read, W: TapWriter, O: Write>(
 {
     match tap.server_next() {
         Next::Fill => {
-            let filled = tap.read_server(from_server, output)?;
+            let filled = tap.read_server(alloc, from_server, output)?;
             Ok(after_read(filled))
         }
         Next::Drain => Ok(after_write(tap.write_client(to_client))),

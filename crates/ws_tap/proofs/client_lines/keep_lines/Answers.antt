@@ -2,7 +2,7 @@
 use Rattle.std.proofs.Common.{◌≡◌, false, ◌+◌, ◌++◌, ◌∷◌, [], List, ℕ, take, get_or, arith, refl, sym, ap, ◌∙◌}
 use Rattle.std.proofs.Common.{append_assoc, append-nil}
 use Rattle.std.proofs.lemmas.List.{length-append, length-take-le, take_more, take_all}
-use Rattle.ws_frame.specs.Streaming.{source_of}
+use Rattle.ws_frame.specs.FrameStreaming.{frames_source}
 use Rattle.ws_tap.specs.Standing.{kept_after}
 use Rattle.ws_tap.proofs.Keeping.{keeping_byte, keeping_same, shown_same}
 use Rattle.ws_tap.proofs.Sides.{lines_to}
@@ -15,52 +15,46 @@ loop-byte-init c = record {
     [],
     shown_same c.args.lines.now bytes (bytes ++ []) shown (shown ++ []) (sym (append-nil bytes))
         (sym (append-nil shown)) t,
-    λ k. keeping_same (source_of c.args.lines.now) bytes (bytes ++ []) shown (shown ++ []) c.args.kept.now
+    λ k. keeping_same (frames_source c.args.lines.now) bytes (bytes ++ []) shown (shown ++ []) c.args.kept.now
         c.args.kept.now (sym (append-nil bytes)) (sym (append-nil shown)) refl k,
   );
 }
 
-pub take_byte-line-requires : goal.take_byte-line-requires
-take_byte-line-requires c =
+pub keep_byte-requires : goal.keep_byte-requires
+keep_byte-requires c =
     let (taken, written, t, small) = c.requires in
     let (more, on, still) = c.loop-byte.invariant.kept taken written t in
     let i = c.loop-byte.byte-index in
-    let few = length-take-le i c.args.piece.now (omega (arith, c.loop-byte-test.true)) in
-    record {
-      room = (
-        taken ++ take i c.args.piece.now,
-        written ++ more,
-        on,
-        omega
-            (arith, small, few, length-append taken (take i c.args.piece.now), c.loop-byte-test.true),
-      );
-    }
+    let few = length-take-le i c.args.piece.now (omega (arith, c.loop-byte-test.true)) in (
+      taken ++ take i c.args.piece.now,
+      written ++ more,
+      on,
+      omega (arith, small, few, length-append taken (take i c.args.piece.now), c.loop-byte-test.true),
+    )
 
 pub loop-byte-preserved : goal.loop-byte-preserved
 loop-byte-preserved c = record {
-  source = c.take_byte-line.ensures.source ∙ c.loop-byte.invariant.source;
+  source = c.keep_byte.ensures.source ∙ c.loop-byte.invariant.source;
   kept = λ bytes shown t.
       let (more, on, still) = c.loop-byte.invariant.kept bytes shown t in
       let i = c.loop-byte.byte-index in
       let piece = c.args.piece.now in
       let byte = get_or piece i 0 in
-      let line = c.take_byte-line.result in
-      let source = source_of c.args.lines.now in
+      let source = frames_source c.args.lines.now in
       let before = bytes ++ take i piece in
-      let after = c.take_byte-line.ensures.shown before (shown ++ more) on in
+      let (line, after, ek) = c.in_ok-keep_byte.ensures.kept before (shown ++ more) on in
       let eb : before ++ byte ∷ [] ≡ bytes ++ take (i + 1) piece = append_assoc bytes (take i piece) (byte ∷ [])
       ∙ ap (λ (t : List ℕ). bytes ++ t) (sym (take_more piece i 0 c.loop-byte-test.true)) in
       let es : (shown ++ more) ++ line ≡ shown ++ (more ++ line) = append_assoc shown more line in
       let certain = lines_to false source c.loop-byte.lines before (shown ++ more) c.loop-byte.invariant.source on in
-      let all = lines_to false source c.take_byte-line.new.self (before ++ byte ∷ []) ((shown ++ more) ++ line)
-      (c.take_byte-line.ensures.source ∙ c.loop-byte.invariant.source) after in
-      let kept : kept_after c.loop-byte.kept line ≡ c.push.new.self = sym (c.push.ensures
-      ∙ ap (λ (t : List ℕ). kept_after c.loop-byte.kept t) c.as_slice.ensures.bytes) in (
+      let all = lines_to false source c.keep_byte.new.lines (before ++ byte ∷ []) ((shown ++ more) ++ line)
+      (c.keep_byte.ensures.source ∙ c.loop-byte.invariant.source) after in
+      let kept : kept_after c.loop-byte.kept line ≡ c.keep_byte.new.kept = sym ek in (
         more ++ line,
-        shown_same c.take_byte-line.new.self (before ++ byte ∷ []) (bytes ++ take (i + 1) piece)
+        shown_same c.keep_byte.new.lines (before ++ byte ∷ []) (bytes ++ take (i + 1) piece)
             ((shown ++ more) ++ line) (shown ++ (more ++ line)) eb es after,
         λ k. keeping_same source (before ++ byte ∷ []) (bytes ++ take (i + 1) piece) ((shown ++ more) ++ line)
-            (shown ++ (more ++ line)) (kept_after c.loop-byte.kept line) c.push.new.self eb es kept
+            (shown ++ (more ++ line)) (kept_after c.loop-byte.kept line) c.keep_byte.new.kept eb es kept
             (keeping_byte source before (shown ++ more) line byte c.loop-byte.kept on.are_bytes certain all (still k)),
       );
 }
@@ -73,7 +67,7 @@ returns-clause-kept c = λ bytes shown t k.
       more,
       shown_same c.loop-byte.lines (bytes ++ take c.loop-byte.byte-index c.args.piece.now) (bytes ++ c.args.piece.now)
           (shown ++ more) (shown ++ more) all refl on,
-      keeping_same (source_of c.args.lines.now) (bytes ++ take c.loop-byte.byte-index c.args.piece.now)
+      keeping_same (frames_source c.args.lines.now) (bytes ++ take c.loop-byte.byte-index c.args.piece.now)
           (bytes ++ c.args.piece.now) (shown ++ more) (shown ++ more) c.loop-byte.kept c.loop-byte.kept all refl refl
           (still k),
     )

@@ -4,8 +4,8 @@ use Rattle.ws_tap.proofs.laws.a_tap_passes_all_on.Goals as goal
 
 pub returns : goal.returns
 returns c = record {
-  client = λ number answered tap devices t over. all_passes tap.client devices.client
+  client = λ tapped answered tap devices t over. all_passes tap.client devices.client
       t.passed.from_client t.passed.client over;
-  server = λ number answered tap devices t over. all_passes tap.server devices.server
+  server = λ tapped answered tap devices t over. all_passes tap.server devices.server
       t.passed.from_server t.passed.server over;
 }

@@ -5,11 +5,11 @@ use Rattle.ws_tap.proofs.ServerLemmas.{server_is_text}
 use Rattle.ws_tap.proofs.laws.a_tap_tells_both_ends.Goals as goal
 
 pub returns : goal.returns
-returns c = λ number answered tap devices t. (
+returns c = λ tapped answered tap devices t. (
   t.told.has_answered,
-  client_is_text tap.client_lines.stage tap.client_lines.release number answered
+  client_is_text tap.client_lines.stage tap.client_lines.release tapped answered
       (sent_by tap.client t.passed.from_client) (client_text t.parts) t.told.of_client.1,
-  server_is_text tap.server_lines.stage number (sent_by tap.server t.passed.from_server) (server_text t.parts)
+  server_is_text tap.server_lines.stage tapped (sent_by tap.server t.passed.from_server) (server_text t.parts)
       t.told.of_server.1,
   t.told.in_order,
 )

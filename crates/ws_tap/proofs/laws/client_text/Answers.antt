@@ -3,5 +3,5 @@ use Rattle.ws_tap.proofs.ClientLemmas.{client_is_text}
 use Rattle.ws_tap.proofs.laws.client_text.Goals as goal
 
 pub returns : goal.returns
-returns c = λ number lines answered sent text told. client_is_text lines.stage lines.release number answered sent text
+returns c = λ tapped lines answered sent text told. client_is_text lines.stage lines.release tapped answered sent text
     told.1

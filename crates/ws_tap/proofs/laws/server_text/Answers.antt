@@ -3,4 +3,4 @@ use Rattle.ws_tap.proofs.ServerLemmas.{server_is_text}
 use Rattle.ws_tap.proofs.laws.server_text.Goals as goal
 
 pub returns : goal.returns
-returns c = λ number lines sent text told. server_is_text lines.stage number sent text told.1
+returns c = λ tapped lines sent text told. server_is_text lines.stage tapped sent text told.1

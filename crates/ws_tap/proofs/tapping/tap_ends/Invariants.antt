@@ -11,7 +11,7 @@ use Rattle.ws_tap.proofs.tapping.tap_ends.Given as goal
 -- over the devices as they are now
 abbrev pub invariant-loop : goal.invariant-loop
 invariant-loop g l = (has_failed l.output ≡ false)
-    × ((answered : Answered) × HasTapped l.number answered l.tap (run_devices
+    × ((answered : Answered) × HasTapped l.fn.tapped answered l.tap (run_devices
     (device_bytes (g.CR.Read.remaining l.initial.client.reader) (g.CR.Read.remaining l.client.reader))
     (device_bytes (g.CW.Write.contents l.initial.client.writer) (g.CW.Write.contents l.client.writer))
     (device_bytes (g.SR.Read.remaining l.initial.server.reader) (g.SR.Read.remaining l.server.reader))

@@ -12,12 +12,12 @@ use Rattle.ws_tap.proofs.client_lines.ClientLines.answered.Goals as goal
 
 pub returns-in_ok-write_whole-in-Switches : goal.returns-in_ok-write_whole-in-Switches
 returns-in_ok-write_whole-in-Switches g c = record {
-  told = λ number answered sent text told.
+  told = λ tapped answered sent text told.
       let self = c.args.self.now in
       let kept = c.in-Awaited.kept in
-      let stands = subst (λ (r : Release). ClientStandsAt self.stage r number answered sent text) c.in-Awaited.is
+      let stands = subst (λ (r : Release). ClientStandsAt self.stage r tapped answered sent text) c.in-Awaited.is
       told.1 in
-      let (open_yet, after) = client_switches self.stage kept number answered sent text stands in
+      let (open_yet, after) = client_switches self.stage kept tapped answered sent text stands in
       let now : After sent true ≡ after_answer answered sent c.args.answer =
       sym (ap (λ (a : Answered). after_answer a sent c.args.answer) open_yet
       ∙ ap (λ (a : Answer). after_answer NotYet sent a) c.in-Switches.is) in (
@@ -28,7 +28,7 @@ returns-in_ok-write_whole-in-Switches g c = record {
           c.in_ok-write_whole-in-Switches.ensures.failed ∙ ap (λ (b : Bool). b || false) c.requires.writer_works,
           (
             told.0,
-            subst (λ (a : Answered). ClientStandsAt self.stage Told number a sent (text ++ kept.text)) now
+            subst (λ (a : Answered). ClientStandsAt self.stage Told tapped a sent (text ++ kept.text)) now
                 after,
           ),
         ),
@@ -37,9 +37,9 @@ returns-in_ok-write_whole-in-Switches g c = record {
 
 pub returns-in_default : goal.returns-in_default
 returns-in_default g c = record {
-  told = λ number answered sent text told.
+  told = λ tapped answered sent text told.
       let self = c.args.self.now in
-      let keeps = client_keeps_answer self.stage self.release number answered sent text c.args.answer
+      let keeps = client_keeps_answer self.stage self.release tapped answered sent text c.args.answer
       c.in_default.not-Awaited told.1 in (
         [],
         Appends-nil _,
@@ -47,8 +47,8 @@ returns-in_default g c = record {
           c.requires.writer_works,
           (
             told.0,
-            subst (λ (a : Answered). ClientStandsAt self.stage self.release number a sent (text ++ [])) (sym keeps)
-                (subst (λ (t : List ℕ). ClientStandsAt self.stage self.release number answered sent t)
+            subst (λ (a : Answered). ClientStandsAt self.stage self.release tapped a sent (text ++ [])) (sym keeps)
+                (subst (λ (t : List ℕ). ClientStandsAt self.stage self.release tapped answered sent t)
                 (sym (append-nil text)) told.1),
           ),
         ),

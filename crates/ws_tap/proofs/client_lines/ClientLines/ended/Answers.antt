@@ -13,15 +13,15 @@ use Rattle.ws_tap.proofs.client_lines.ClientLines.ended.Goals as goal
 
 pub returns-in_err-end-in-Told : goal.returns-in_err-end-in-Told
 returns-in_err-end-in-Told g c = record {
-  told = λ number answered sent text told going.
+  told = λ tapped answered sent text told going.
       let self = c.args.self.now in
       let (head, shown, has, is, source, t) = client_at self.stage (client.Frames c.in-Frames.lines) self.release
-      number answered sent text c.in-Frames.is told.1 in
-      let here = tells_at self.release Told answered (source_at Request number) head.len c.in-Frames.lines sent shown
+      tapped answered sent text c.in-Frames.is told.1 in
+      let here = tells_at self.release Told answered (source_at Request tapped) head.len c.in-Frames.lines sent shown
       c.in-Told.is t in
       let out = watched g.W.Write.contents c.args.writer.now c.end.new.writer in
       let (last, (begun, failed), after) = client_ends_told c.in-Frames.lines c.end.new.self answered
-      (source_at Request number) head.len sent shown (λ (last : List ℕ). HasBegun last out × (out.failed ≡ true))
+      (source_at Request tapped) head.len sent shown (λ (last : List ℕ). HasBegun last out × (out.failed ≡ true))
       c.in_err-end-in-Told.ensures.source going (λ bytes told t. let l = c.in_err-end-in-Told.ensures.ended bytes told
       t in (l.last, l.writes, (l.end, l.all))) here in
       let p = err_from_is_err_and c.from_residual.result c.from_residual.ensures.1 in
@@ -30,15 +30,15 @@ returns-in_err-end-in-Told g c = record {
 
 pub returns-in_ok-end-in-Told : goal.returns-in_ok-end-in-Told
 returns-in_ok-end-in-Told g c = record {
-  told = λ number answered sent text told going.
+  told = λ tapped answered sent text told going.
       let self = c.args.self.now in
       let (head, shown, has, is, source, t) = client_at self.stage (client.Frames c.in-Frames.lines) self.release
-      number answered sent text c.in-Frames.is told.1 in
-      let here = tells_at self.release Told answered (source_at Request number) head.len c.in-Frames.lines sent shown
+      tapped answered sent text c.in-Frames.is told.1 in
+      let here = tells_at self.release Told answered (source_at Request tapped) head.len c.in-Frames.lines sent shown
       c.in-Told.is t in
       let out = watched g.W.Write.contents c.args.writer.now c.end.new.writer in
       let (last, (wrote, works), after) = client_ends_told c.in-Frames.lines c.end.new.self answered
-      (source_at Request number) head.len sent shown (λ (last : List ℕ). HasWritten last out × (out.failed ≡ false))
+      (source_at Request tapped) head.len sent shown (λ (last : List ℕ). HasWritten last out × (out.failed ≡ false))
       c.in_ok-end-in-Told.ensures.source going (λ bytes told t. let l = c.in_ok-end-in-Told.ensures.ended bytes told t
       in (l.last, l.writes, (l.end, l.all))) here in (
         last,
@@ -53,7 +53,7 @@ returns-in_ok-end-in-Told g c = record {
               has,
               ap (λ (t : List ℕ). t ++ last) is ∙ append_assoc _ shown last,
               c.in_ok-end-in-Told.ensures.source ∙ source,
-              tells_at Told self.release answered (source_at Request number) head.len c.end.new.self
+              tells_at Told self.release answered (source_at Request tapped) head.len c.end.new.self
                   (with_its_end sent) (shown ++ last) (sym c.in-Told.is) after,
             ),
           ),
@@ -63,13 +63,13 @@ returns-in_ok-end-in-Told g c = record {
 
 pub returns-in-Awaited : goal.returns-in-Awaited
 returns-in-Awaited g c = record {
-  told = λ number answered sent text told going.
+  told = λ tapped answered sent text told going.
       let self = c.args.self.now in
       let (head, shown, has, is, source, t) = client_at self.stage (client.Frames c.in-Frames.lines) self.release
-      number answered sent text c.in-Frames.is told.1 in
+      tapped answered sent text c.in-Frames.is told.1 in
       let kept = c.in-Awaited.kept in
       let line = c.end_line.result in
-      let here = tells_at self.release (Awaited kept) answered (source_at Request number) head.len c.in-Frames.lines
+      let here = tells_at self.release (Awaited kept) answered (source_at Request tapped) head.len c.in-Frames.lines
       sent shown c.in-Awaited.is t in
       let ek : c.push.new.self ≡ kept_after kept line = c.push.ensures
       ∙ ap (λ (t : List ℕ). kept_after kept t) c.as_slice.ensures.bytes in (
@@ -85,8 +85,8 @@ returns-in-Awaited g c = record {
               has,
               append-nil text ∙ is,
               c.end_line.ensures.source ∙ source,
-              client_ends_waiting c.in-Frames.lines c.end_line.new.self kept c.push.new.self answered
-                  (source_at Request number) head.len sent shown line source c.end_line.ensures.source going ek
+              client_ends_waiting c.in-Frames.lines c.end_line.new.lines kept c.push.new.self answered
+                  (source_at Request tapped) head.len sent shown line source c.end_line.ensures.source going ek
                   c.end_line.ensures.ended here,
             ),
           ),

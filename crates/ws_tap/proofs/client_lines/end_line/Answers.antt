@@ -1,0 +1,1 @@
+-- The line of a cut, by whichever way the lines are made.
