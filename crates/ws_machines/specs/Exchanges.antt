@@ -1,5 +1,5 @@
 -- An exchange: bytes are written, and what comes is read to the end of the stream.
-use Rattle.std.specs.Prelude.{◌≡◌, ℕ, ◌+◌, ◌||◌, Bool, false, if◌then◌else◌, nat_eq, List, [], ◌++◌, length}
+use Rattle.std.specs.Prelude.{◌≡◌, ℕ, ◌+◌, ◌||◌, Bool, true, false, if◌then◌else◌, nat_eq, List, [], ◌++◌, length}
 use Rattle.ws_machines.specs.Told.{Told, all_came, all_taken}
 use Rattle.ws_machines.specs.Machines.{Wants}
 
@@ -10,13 +10,15 @@ pub record ExchangeValue : Type 0 where
   pub left : ℕ
   pub over : Bool
 
--- it is done where it is over, or nothing more may be read; until then it writes, and reads as much as it may
+-- it is done where it is over, or nothing more may be read; until then it writes, and reads as much as it may, and
+-- waits anew for each thing that happens
 abbrev pub wanted_by : ExchangeValue → Wants
 wanted_by x = record {
   write = x.rest;
   report = [];
   room = x.left;
   end = false;
+  waits_anew = true;
   done = x.over || nat_eq x.left 0;
 }
 

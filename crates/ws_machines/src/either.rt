@@ -55,6 +55,13 @@ impl<A: Machine, B: Machine<End = A::End>> Machine for Either<A, B> {
         }
     }
 
+    fn waits_anew(&self) -> bool {
+        match self {
+            Either::Left(machine) => machine.waits_anew(),
+            Either::Right(machine) => machine.waits_anew(),
+        }
+    }
+
     fn is_done(&self) -> bool {
         match self {
             Either::Left(machine) => machine.is_done(),

@@ -96,6 +96,10 @@ impl Machine for Exchange {
         false
     }
 
+    fn waits_anew(&self) -> bool {
+        true
+    }
+
     fn is_done(&self) -> bool {
         self.is_over || self.left == 0
     }

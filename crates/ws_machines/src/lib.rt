@@ -15,5 +15,5 @@ mod stream;
 pub use either::Either;
 pub use exchange::Exchange;
 pub use machine::Machine;
-pub use running::run_machine;
+pub use running::{run_machine, serve};
 pub use stream::{ReadOutcome, Stream, StreamEvent, WriteOutcome};

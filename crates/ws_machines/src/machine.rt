@@ -44,6 +44,11 @@ pub trait Machine {
     fn wants_end(&self) -> bool
         ensures { result ≡ (wants self.now).end };
 
+    /// Whether the time limit of what it waits for begins anew: what has just happened was waited for, or it waits for
+    /// something else.
+    fn waits_anew(&self) -> bool
+        ensures { result ≡ (wants self.now).waits_anew };
+
     /// Whether it is done: it wants nothing, and is told nothing more.
     fn is_done(&self) -> bool
         ensures { result ≡ (wants self.now).done };

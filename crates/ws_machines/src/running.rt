@@ -1,13 +1,12 @@
 //! The run of one machine over one stream that waits.
 
 ghost use Rattle.std.specs.Prelude.{◌≡◌, ◌<◌, [], true, false, length, OnOk};
-ghost use Rattle.ws_machines.specs.Machines.{HasNext, IsRunning, RunTogether};
+ghost use Rattle.ws_machines.specs.Machines.{HasNext, IsRunning, RunTogether, ServedOne};
 
 use crate::machine::Machine;
 use crate::stream::{Stream, StreamEvent};
 
-/// Serves a machine over a stream until it is done: its lines are reported first, then its own direction is ended, then
-/// what it wants is written, and then it is read, into `room`.
+/// Serves a machine over a stream until it is done.
 pub fn run_machine<M: Machine, S: Stream>(
     machine: &mut M,
     stream: &mut S,
@@ -25,8 +24,9 @@ pub fn run_machine<M: Machine, S: Stream>(
     Ok(())
 }
 
-/// Does one thing that the machine wants, and tells it what came of that.
-fn serve<M: Machine, S: Stream>(
+/// Does one thing that the machine wants, and tells it what came of that: its lines are reported first, then its own
+/// direction is ended, then what it wants is written, and then it is read, into `room`.
+pub fn serve<M: Machine, S: Stream>(
     machine: &mut M,
     stream: &mut S,
     room: &mut [u8],
@@ -34,7 +34,28 @@ fn serve<M: Machine, S: Stream>(
     requires room { 0 < length room.old }
     requires goes_on { HasNext (M.wants machine.old) }
     requires undone { (M.wants machine.old).done ≡ false }
-    ensures told { OnOk result (RunTogether M.agrees S.did machine.old machine.new stream.old stream.new) }
+    ensures served { OnOk result (ServedOne M.agrees M.wants S.did machine.old machine.new stream.old stream.new) }
+    ensures goes_on { OnOk result (HasNext (M.wants machine.new)) }
+    ensures nears { OnOk result (IsRunning M.agrees machine.old → M.left machine.new < M.left machine.old) }
+    ensures len { length room.new ≡ length room.old }
+{
+    act(machine, stream, room)?;
+    if machine.waits_anew() {
+        stream.begin_wait();
+    }
+    Ok(())
+}
+
+/// Does one thing that the machine wants, and tells it what came of that.
+fn act<M: Machine, S: Stream>(
+    machine: &mut M,
+    stream: &mut S,
+    room: &mut [u8],
+) -> Result<(), S::Fault>
+    requires room { 0 < length room.old }
+    requires goes_on { HasNext (M.wants machine.old) }
+    requires undone { (M.wants machine.old).done ≡ false }
+    ensures served { OnOk result (ServedOne M.agrees M.wants S.did machine.old machine.new stream.old stream.new) }
     ensures goes_on { OnOk result (HasNext (M.wants machine.new)) }
     ensures nears { OnOk result (IsRunning M.agrees machine.old → M.left machine.new < M.left machine.old) }
     ensures len { length room.new ≡ length room.old }
@@ -59,7 +80,7 @@ fn serve<M: Machine, S: Stream>(
 fn report<M: Machine, S: Stream>(machine: &mut M, stream: &mut S) -> Result<(), S::Fault>
     requires undone { (M.wants machine.old).done ≡ false }
     requires wanted { 0 < length (M.wants machine.old).report }
-    ensures told { OnOk result (RunTogether M.agrees S.did machine.old machine.new stream.old stream.new) }
+    ensures served { OnOk result (ServedOne M.agrees M.wants S.did machine.old machine.new stream.old stream.new) }
     ensures goes_on { OnOk result (HasNext (M.wants machine.new)) }
     ensures nears { OnOk result (IsRunning M.agrees machine.old → M.left machine.new < M.left machine.old) }
 {
@@ -72,7 +93,8 @@ fn report<M: Machine, S: Stream>(machine: &mut M, stream: &mut S) -> Result<(), 
 fn end_direction<M: Machine, S: Stream>(machine: &mut M, stream: &mut S) -> Result<(), S::Fault>
     requires undone { (M.wants machine.old).done ≡ false }
     requires wanted { (M.wants machine.old).end ≡ true }
-    ensures told { OnOk result (RunTogether M.agrees S.did machine.old machine.new stream.old stream.new) }
+    requires reported { (M.wants machine.old).report ≡ [] }
+    ensures served { OnOk result (ServedOne M.agrees M.wants S.did machine.old machine.new stream.old stream.new) }
     ensures goes_on { OnOk result (HasNext (M.wants machine.new)) }
     ensures nears { OnOk result (IsRunning M.agrees machine.old → M.left machine.new < M.left machine.old) }
 {
@@ -85,7 +107,9 @@ fn end_direction<M: Machine, S: Stream>(machine: &mut M, stream: &mut S) -> Resu
 fn write<M: Machine, S: Stream>(machine: &mut M, stream: &mut S) -> Result<(), S::Fault>
     requires undone { (M.wants machine.old).done ≡ false }
     requires wanted { 0 < length (M.wants machine.old).write }
-    ensures told { OnOk result (RunTogether M.agrees S.did machine.old machine.new stream.old stream.new) }
+    requires reported { (M.wants machine.old).report ≡ [] }
+    requires ended { (M.wants machine.old).end ≡ false }
+    ensures served { OnOk result (ServedOne M.agrees M.wants S.did machine.old machine.new stream.old stream.new) }
     ensures goes_on { OnOk result (HasNext (M.wants machine.new)) }
     ensures nears { OnOk result (IsRunning M.agrees machine.old → M.left machine.new < M.left machine.old) }
 {
@@ -104,7 +128,9 @@ fn read<M: Machine, S: Stream>(
     requires undone { (M.wants machine.old).done ≡ false }
     requires wanted { 0 < (M.wants machine.old).room }
     requires written { (M.wants machine.old).write ≡ [] }
-    ensures told { OnOk result (RunTogether M.agrees S.did machine.old machine.new stream.old stream.new) }
+    requires reported { (M.wants machine.old).report ≡ [] }
+    requires ended { (M.wants machine.old).end ≡ false }
+    ensures served { OnOk result (ServedOne M.agrees M.wants S.did machine.old machine.new stream.old stream.new) }
     ensures goes_on { OnOk result (HasNext (M.wants machine.new)) }
     ensures nears { OnOk result (IsRunning M.agrees machine.old → M.left machine.new < M.left machine.old) }
     ensures len { length room.new ≡ length room.old }

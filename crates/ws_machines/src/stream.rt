@@ -1,7 +1,8 @@
 //! Streams: what happens on one, and what a loop asks of it.
 
 ghost use Rattle.std.specs.Prelude.{◌≡◌, ◌<◌, ◌≤◌, ◌∷◌, [], length, OnOk};
-ghost use Rattle.ws_machines.specs.Machines.{Extends, FitsRead, FitsWrite, Wants, WasWanted, told_at, write_event};
+ghost use Rattle.ws_machines.specs.Machines.{Extends, FitsRead, FitsWrite, KeepsTold, Wants, WasWanted, told_at};
+ghost use Rattle.ws_machines.specs.Machines.{write_event};
 ghost use Rattle.ws_machines.specs.Told.{told_by_read, told_by_write};
 ghost use Rattle.ws_machines.specs.Told.Told.{DirectionEnded, Reported};
 
@@ -114,6 +115,10 @@ pub trait Stream {
     /// Ends the own direction, while the other one goes on. It counts as ended also where that fails.
     fn end_direction(&mut self)
         ensures { Extends did self.old self.new (DirectionEnded ∷ []) };
+
+    /// The time limit of what is waited for begins anew: until then it begins with the last byte that was taken.
+    fn begin_wait(&mut self)
+        ensures { KeepsTold did self.old self.new };
 
     /// Reports these lines.
     fn report(&mut self, lines: &[u8]) -> Result<(), Self::Fault>
