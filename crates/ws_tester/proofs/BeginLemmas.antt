@@ -1,0 +1,95 @@
+-- A run begins: what is shown of it before anything is sent, and what comes of that.
+use Rattle.std.proofs.Common.{◌≡◌, ◌∙◌, ℕ, ◌||◌, Bool, true, false, List, [], ◌∷◌, refl, sym, ap, subst, append-nil}
+use Rattle.std.specs.Prelude.{None}
+use Rattle.ws_session.specs.Exchange.{is_over}
+use Rattle.ws_scripts.specs.declared.transcript.Ended.TheVariants.{Tester}
+use Rattle.ws_scripts.specs.declared.transcript.Turn.{Turn}
+use Rattle.ws_suite.specs.Evidence.{other_role}
+use Rattle.ws_suite.specs.Growing.{HasGrown, IsTallyOf}
+use Rattle.ws_tester.specs.Standings.{HasServerClose, HasStanding, is_server_close, standing_of_status}
+use Rattle.ws_tester.specs.Outcomes.{HasSentEnd, got_in_all}
+use Rattle.ws_tester.specs.Outgoings.{OutgoingValue, Pieces, after_first, first_turn}
+use Rattle.ws_tester.specs.RunStates.{RunState, turns_of_run, with_run_end}
+use Rattle.ws_tester.specs.Following.{BeginsRun, BeginsBy, ShowsTurns, ScriptValue, Settles, TesterValue, first_state, has_items}
+use Rattle.ws_tester.proofs.FactsLemmas.{got_stands, sent_end}
+
+-- ---- the state before anything is sent
+
+-- of these parts
+abbrev of_parts : ScriptValue → Bool → Bool → List Turn → List ℕ → Pieces → List Pieces → RunState
+of_parts run closing begun past sent rest later = record {
+  plan = run.plan;
+  past = past;
+  turn = record { sent = sent; got = run.first };
+  outgoing = record { rest = rest; later = later };
+  allowance = run.budget;
+  closing = closing;
+  half_closed = false;
+  write_failed = false;
+  begun = begun;
+  ended = None;
+}
+
+pub first_state_is : (run : ScriptValue) (closing begun : Bool) (past : List Turn) (sent : List ℕ)
+    (outgoing : OutgoingValue) → past ≡ [] → sent ≡ [] → outgoing.rest ≡ first_turn run.script
+    → outgoing.later ≡ after_first run.script → begun ≡ (has_items run.script || has_items run.first)
+    → of_parts run closing begun past sent outgoing.rest outgoing.later ≡ first_state run closing
+first_state_is run closing begun past sent outgoing no_turn no_byte rest later some =
+    ap (λ (l : List Turn). of_parts run closing begun l sent outgoing.rest outgoing.later) no_turn
+    ∙ (ap (λ (l : List ℕ). of_parts run closing begun [] l outgoing.rest outgoing.later) no_byte
+    ∙ (ap (λ (l : Pieces). of_parts run closing begun [] [] l outgoing.later) rest
+    ∙ (ap (λ (l : List Pieces). of_parts run closing begun [] [] (first_turn run.script) l) later
+    ∙ ap (λ (b : Bool). of_parts run closing b [] [] (first_turn run.script) (after_first run.script)) some)))
+
+-- ---- the beginning
+
+by_turns : (script : List Pieces) (x start : RunState) → has_items script ≡ true → Settles x start
+    → BeginsBy script x start
+by_turns [] x start e h = absurd cc
+by_turns (pieces ∷ turns) x start e h = h
+
+by_nothing : (script : List Pieces) (x start : RunState) → has_items script ≡ false → start ≡ with_run_end Tester x
+    → BeginsBy script x start
+by_nothing [] x start e h = h
+by_nothing (pieces ∷ turns) x start e h = absurd cc
+
+module _ (run : ScriptValue) (first : TesterValue)
+    (state : first.run ≡ first_state run (is_server_close run.plan.tested (standing_of_status first.seen.tester.status)))
+    (grown : HasGrown IsTallyOf run.plan.tested (record { sent = []; got = run.first } ∷ []) first.seen)
+    (before : first.had_sent_end ≡ is_over first.seen.tested.status) where
+  pub first_shown : ShowsTurns first
+  first_shown = record {
+    grown = subst (λ (x : RunState). HasGrown IsTallyOf x.plan.tested (turns_of_run x) first.seen) (sym state) grown;
+    before = subst (λ (b : Bool). HasSentEnd first.run.plan.tested first.run.past b) (sym before)
+        (subst (λ (x : RunState). HasSentEnd x.plan.tested x.past (is_over first.seen.tested.status)) (sym state)
+        (sent_end run.plan.tested (record { sent = []; got = run.first } ∷ []) first.seen grown));
+    closing = subst (λ (x : RunState). x.closing ≡ true → HasServerClose x.plan.tested (got_in_all (turns_of_run x))) (sym state)
+        (λ c. (
+          standing_of_status first.seen.tester.status,
+          c,
+          got_stands run.plan.tested (record { sent = []; got = run.first } ∷ []) first.seen grown,
+        ));
+  }
+
+  -- how what came with the head stands
+  pub first_stands : HasStanding (other_role run.plan.tested) (standing_of_status first.seen.tester.status) run.first
+  first_stands = subst (λ (l : List ℕ). HasStanding (other_role run.plan.tested) (standing_of_status first.seen.tester.status) l)
+      (append-nil run.first)
+      (got_stands run.plan.tested (record { sent = []; got = run.first } ∷ []) first.seen grown)
+
+  pub begins_settled : (start : RunState) → has_items run.script ≡ true → Settles first.run start → BeginsRun run start
+  begins_settled start some settles = (
+    standing_of_status first.seen.tester.status,
+    first_stands,
+    by_turns run.script (first_state run (is_server_close run.plan.tested (standing_of_status first.seen.tester.status))) start
+        some (subst (λ (x : RunState). Settles x start) state settles),
+  )
+
+  pub begins_ended : (start : RunState) → has_items run.script ≡ false → start ≡ with_run_end Tester first.run
+      → BeginsRun run start
+  begins_ended start none ended = (
+    standing_of_status first.seen.tester.status,
+    first_stands,
+    by_nothing run.script (first_state run (is_server_close run.plan.tested (standing_of_status first.seen.tester.status))) start
+        none (ended ∙ ap (λ (x : RunState). with_run_end Tester x) state),
+  )

@@ -1,0 +1,171 @@
+-- What is recorded of a run, by all that it was told.
+use Rattle.std.proofs.Common.{◌≡◌, ◌∙◌, ℕ, ◌+◌, ◌<◌, ◌≤◌, ◌||◌, Bool, true, if◌then◌else◌, List, [], ◌∷◌, ◌++◌}
+use Rattle.std.proofs.Common.{length, take, map, refl, sym, ap, subst, arith, inl, inr, append_assoc, append-nil}
+use Rattle.std.proofs.Common.{length-append}
+use Rattle.std.proofs.lemmas.List.{map-append, take-append-le}
+use Rattle.std.specs.Prelude.{Option, None, Some}
+use Rattle.std.specs.List.{concat}
+use Rattle.ws_scripts.specs.declared.transcript.Ended.{Ended}
+use Rattle.ws_scripts.specs.declared.transcript.Ended.TheVariants.{Tester, Peer, Broken}
+use Rattle.ws_scripts.specs.declared.transcript.Turn.{Turn}
+use Rattle.ws_scripts.specs.declared.transcript.Transcript.{Transcript}
+use Rattle.ws_suite.specs.Evidence.{other_role, sent_turns}
+use Rattle.ws_machines.specs.Told.{Told}
+use Rattle.ws_tester.specs.Standings.{HasServerClose, HasStanding, is_server_close}
+use Rattle.ws_tester.specs.Outcomes.{got_in_all, sent_in_all}
+use Rattle.ws_tester.specs.Outgoings.{HaveBytes, Pieces, after_first, first_turn}
+use Rattle.ws_tester.specs.RunStates.{RunState, recorded, turns_of_run, with_run_end}
+use Rattle.ws_tester.specs.Following.{BeginsRun, BeginsBy, Follows, ScriptValue, first_state, has_items}
+use Rattle.ws_tester.specs.Records.{IsEndedByTester, IsRecordOf, IsWaitedFor}
+use Rattle.ws_tester.specs.declared.standing.Standing.{Standing}
+use Rattle.ws_tester.proofs.RecordsHolds.{Holds, EndsBy, HoldsSo}
+use Rattle.ws_tester.proofs.RecordsTests.{OneStanding}
+use Rattle.ws_tester.proofs.RecordsSettled.{settled}
+use Rattle.ws_tester.proofs.RecordsEvent.{event_so}
+
+-- ---- all events
+
+pub follows_so : OneStanding → (run : ScriptValue) (before : List Told) (start now : RunState) (told : List Told)
+    → HoldsSo run before start → Follows start now told → HoldsSo run (before ++ told) now
+follows_so one run before start now [] h same =
+    subst (λ (l : List Told). HoldsSo run l now) (sym (append-nil before))
+    (subst (λ (y : RunState). HoldsSo run before y) (sym same) h)
+follows_so one run before start now (event ∷ told) h (next, happens, rest) =
+    subst (λ (l : List Told). HoldsSo run l now) (append_assoc before (event ∷ []) told)
+    (follows_so one run (before ++ event ∷ []) next now told
+    (event_so one run before start happens.heard next event happens.goes h.0 happens.may happens.changes
+    happens.goes_on)
+    rest)
+
+-- ---- the beginning, and the record
+
+pub begins_so : (run : ScriptValue) (first : Pieces) (others : List Pieces) (standing : Standing)
+    → HasStanding (other_role run.plan.tested) standing run.first → HaveBytes (first ∷ others)
+    → run.script ≡ first ∷ others → Holds run [] (first_state run (is_server_close run.plan.tested standing))
+begins_so run first others standing stands pieces e = record {
+  plan_is = refl;
+  begun_is = ap (λ (l : List Pieces). has_items l || has_items run.first) e;
+  sent = refl;
+  got = refl;
+  budget = omega arith;
+  pieces = subst (λ (l : List Pieces). HaveBytes (first_turn l ∷ after_first l)) (sym e) pieces;
+  bytes = record {
+    dropped = [];
+    split = subst (λ (l : List Pieces). map concat l ≡ (concat (first_turn l) ++ []) ∷ map concat (after_first l))
+        (sym e)
+        (ap (λ (l : List ℕ). l ∷ map concat others) (sym (append-nil (concat first))));
+    whole = λ c f. refl;
+  };
+  has_failed = λ f. absurd cc;
+  closed = λ c. (
+    standing,
+    c,
+    subst (λ (l : List ℕ). HasStanding (other_role run.plan.tested) standing l) (sym (append-nil run.first)) stands,
+  );
+  half = λ w. absurd w;
+  waited = λ n some within. absurd (let wrong : n ≤ 0 = within in omega (arith, some, wrong));
+}
+
+pub recorded_so : (run : ScriptValue) (told : List Told) (now : RunState) (transcript : Transcript) → Holds run told now
+    → EndsBy run told (turns_of_run now) (Some transcript.ended) → transcript.turns ≡ turns_of_run now → IsRecordOf run told transcript
+recorded_so run told now transcript h ends e = record {
+  sent = ap (λ (l : List Turn). sent_in_all l) e ∙ h.sent;
+  got = ap (λ (l : List Turn). got_in_all l) e ∙ h.got;
+  budget = omega (arith, h.budget);
+  turns = inr (record {
+    whole = sent_turns now.past;
+    last = now.turn.sent;
+    unsent = concat now.outgoing.rest ++ h.bytes.dropped;
+    later = map concat now.outgoing.later;
+    sent_turns = ap (λ (l : List Turn). sent_turns l) e ∙ map-append (λ (t : Turn). t.sent) now.past (now.turn ∷ []);
+    turns = h.bytes.split;
+  });
+  waited_for = λ n some less. waits n some
+      (let len : length transcript.turns ≡ length now.past + 1 = ap (λ (l : List Turn). length l) e
+      ∙ length-append now.past (now.turn ∷ []) in omega (arith, less, len));
+  broken = λ b. subst (λ (how : Ended). EndsBy run told (turns_of_run now) (Some how)) b ends;
+  tester = λ b. inr (subst (λ (l : List Turn). IsEndedByTester run told l) (sym e)
+      (subst (λ (how : Ended). EndsBy run told (turns_of_run now) (Some how)) b ends));
+  peer = λ b. subst (λ (how : Ended). EndsBy run told (turns_of_run now) (Some how)) b ends;
+  half_closed = λ w. subst (λ (l : List Turn). HasServerClose run.plan.tested (got_in_all l)) (sym e) (h.closed (h.half w));
+}
+  where
+    waits : (n : ℕ) → 0 < n → n ≤ length now.past → IsWaitedFor run (take n transcript.turns) told
+    waits n some within = subst (λ (l : List Turn). IsWaitedFor run l told)
+        (sym (ap (λ (l : List Turn). take n l) e ∙ take-append-le n now.past (now.turn ∷ []) within))
+        (h.waited n some within)
+
+-- ---- a script without turns
+
+-- what came with the head is a turn, if it is anything
+abbrev pub alone : List ℕ → List Turn
+alone first = if has_items first then record { sent = []; got = first } ∷ [] else []
+
+pub none_sent : (first : List ℕ) → sent_in_all (alone first) ≡ []
+none_sent [] = refl
+none_sent (byte ∷ bytes) = refl
+
+pub just_got : (first : List ℕ) → got_in_all (alone first) ≡ first ++ []
+just_got [] = refl
+just_got (byte ∷ bytes) = refl
+
+pub at_most_one : (first : List ℕ) → length (alone first) ≤ 1
+at_most_one [] = omega arith
+at_most_one (byte ∷ bytes) = omega arith
+
+pub nothing_run : (run : ScriptValue) (closing : Bool) (transcript : Transcript) → run.script ≡ []
+    → transcript.turns ≡ recorded (with_run_end Tester (first_state run closing)) → Some Tester ≡ Some transcript.ended
+    → IsRecordOf run [] transcript
+nothing_run run closing transcript e turns how = record {
+  sent = ap (λ (l : List Turn). sent_in_all l) is ∙ none_sent run.first;
+  got = ap (λ (l : List Turn). got_in_all l) is ∙ just_got run.first;
+  budget = omega arith;
+  turns = inl e;
+  waited_for = λ n some less. absurd (let len : length transcript.turns ≡ length (alone run.first) =
+      ap (λ (l : List Turn). length l) is in omega (arith, some, less, len, at_most_one run.first));
+  tester = λ t. inl e;
+  broken = λ b. absurd (let wrong : Some Tester ≡ Some Broken = how ∙ ap (λ (x : Ended). Some x) b in cc);
+  peer = λ b. absurd (let wrong : Some Tester ≡ Some Peer = how ∙ ap (λ (x : Ended). Some x) b in cc);
+  half_closed = λ w. absurd w;
+}
+  where
+    is : transcript.turns ≡ alone run.first
+    is = turns ∙ ap (λ (l : List Pieces). if has_items l || has_items run.first
+        then record { sent = []; got = run.first } ∷ [] else []) e
+
+-- ---- all of it
+
+pub begun_recorded : (x : RunState) → x.begun ≡ true → recorded x ≡ turns_of_run x
+begun_recorded x e = ap (λ (b : Bool). if b then turns_of_run x else []) e
+
+-- a run that began so, was told just this and has ended is recorded so
+pub recorded_is : OneStanding → (run : ScriptValue) (start now : RunState) (told : List Told) (transcript : Transcript)
+    → HaveBytes run.script → BeginsRun run start → Follows start now told → transcript.turns ≡ recorded now
+    → now.ended ≡ Some transcript.ended → IsRecordOf run told transcript
+recorded_is one run start now told transcript pieces (standing, stands, begins) follows turns ended =
+    pick run.script refl begins
+  where
+    -- nothing is told to a run that has ended
+    none_told : (told : List Told) → start ≡ with_run_end Tester (first_state run (is_server_close run.plan.tested standing))
+        → Follows start now told → run.script ≡ [] → IsRecordOf run told transcript
+    none_told [] same is e =
+        let at : now ≡ with_run_end Tester (first_state run (is_server_close run.plan.tested standing)) = is ∙ same in
+        nothing_run run (is_server_close run.plan.tested standing) transcript e
+        (turns ∙ ap (λ (y : RunState). recorded y) at) (sym (ap (λ (y : RunState). y.ended) at) ∙ ended)
+    none_told (event ∷ told) same (next, happens, rest) e =
+        absurd (let wrong : Some Tester ≡ None = sym (ap (λ (y : RunState). y.ended) same) ∙ happens.goes in cc)
+
+    some_told : (holds : HoldsSo run [] start) → IsRecordOf run told transcript
+    some_told holds =
+        let at : HoldsSo run told now = follows_so one run [] start now told holds follows in
+        recorded_so run told now transcript at.0
+        (subst (λ (o : Option Ended). EndsBy run told (turns_of_run now) o) ended at.1)
+        (turns ∙ begun_recorded now at.0.begun_is)
+
+    pick : (script : List Pieces) → run.script ≡ script
+        → BeginsBy script (first_state run (is_server_close run.plan.tested standing)) start
+        → IsRecordOf run told transcript
+    pick [] e same = none_told told same follows e
+    pick (pieces_first ∷ others) e settles = some_told (settled one run [] (first_state run
+        (is_server_close run.plan.tested standing)) start refl (begins_so run pieces_first others standing stands
+        (subst (λ (l : List Pieces). HaveBytes l) e pieces) e) settles)

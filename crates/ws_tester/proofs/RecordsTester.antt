@@ -1,0 +1,121 @@
+-- Where the table says that the tester ends a run, that is so.
+use Rattle.std.proofs.Common.{◌≡◌, ◌∙◌, ℕ, ◌⊎◌, ◌&&◌, ◌||◌, not, Bool, true, false, List, [], ◌∷◌, ◌++◌, map, refl, sym}
+use Rattle.std.proofs.Common.{ap, subst, inl, inr, append-nil}
+use Rattle.std.proofs.lemmas.List.{map-append}
+use Rattle.std.specs.List.{concat}
+use Rattle.ws_scripts.specs.declared.expectation.Expectation.{Expectation}
+use Rattle.ws_scripts.specs.declared.expectation.Expectation.TheVariants.{Echo, Protocol}
+use Rattle.ws_scripts.specs.declared.transcript.Turn.{Turn}
+use Rattle.ws_suite.specs.Evidence.{sent_turns}
+use Rattle.ws_suite.specs.Growing.{EndInsideFrame, HaveUnowedMessage}
+use Rattle.ws_suite.specs.Waiting.{AreTurnsAnsweredBy}
+use Rattle.ws_machines.specs.Told.{Told}
+use Rattle.ws_tester.specs.Standings.{HasStandingBy, stops_run}
+use Rattle.ws_tester.specs.Outcomes.{AreFacts, got_in_all, has_come, has_end, is_in_vain, is_turn_over, is_waited_out}
+use Rattle.ws_tester.specs.Outcomes.{owes_messages}
+use Rattle.ws_tester.specs.Outgoings.{Pieces}
+use Rattle.ws_tester.specs.RunStates.{PlanValue, RunState, has_more, is_all_sent, some_turn, turns_of_run}
+use Rattle.ws_tester.specs.Following.{ScriptValue}
+use Rattle.ws_tester.specs.Records.{HasAllOwed, HasMoreThanOwed, IsEndedByTester}
+use Rattle.ws_tester.specs.declared.outcome.TurnFacts.{TurnFacts}
+use Rattle.ws_tester.proofs.RecordsHolds.{Holds}
+use Rattle.ws_tester.proofs.RecordsPieces.{no_piece}
+use Rattle.ws_tester.proofs.RecordsTests.{OneStanding, open_where_come}
+
+-- ---- what the tests say
+
+-- one of two
+either_so : (a b : Bool) → (a || b) ≡ true → (a ≡ true) ⊎ (b ≡ true)
+either_so true b e = inl refl
+either_so false true e = inr refl
+either_so false false e = absurd cc
+
+no_turn : (later : List Pieces) → some_turn later ≡ false → later ≡ []
+no_turn [] e = refl
+no_turn (pieces ∷ turns) e = absurd cc
+
+-- in the last turn no frame is under way
+come_whole : (ends failed out answered more inside : Bool) → more ≡ false
+    → (not ends && (not failed && (not out && (answered && (more || not inside))))) ≡ true → inside ≡ false
+come_whole true failed out answered more inside last e = absurd cc
+come_whole false true out answered more inside last e = absurd cc
+come_whole false false true answered more inside last e = absurd cc
+come_whole false false false false more inside last e = absurd cc
+come_whole false false false true true inside last e = absurd cc
+come_whole false false false true false true last e = absurd cc
+come_whole false false false true false false last e = refl
+
+vain_parts : (owes more failed unowed inside : Bool)
+    → (owes && (not more && (not failed && (unowed && not inside)))) ≡ true
+    → (owes ≡ true) × (unowed ≡ true) × (inside ≡ false)
+vain_parts false more failed unowed inside e = absurd cc
+vain_parts true true failed unowed inside e = absurd cc
+vain_parts true false true unowed inside e = absurd cc
+vain_parts true false false false inside e = absurd cc
+vain_parts true false false true true e = absurd cc
+vain_parts true false false true false e = (refl, refl, refl)
+
+is_echo : (expected : Expectation) → owes_messages expected ≡ true → expected ≡ Echo
+is_echo Echo e = refl
+is_echo Protocol e = absurd cc
+
+-- what isn't so, where the answer is no
+not_inside : (inside : Bool) (X : Type 0) → (X → inside ≡ true) → inside ≡ false → ¬ X
+not_inside inside X seen never x = let always : inside ≡ true = seen x in cc
+
+-- ---- the end
+
+module _ (one : OneStanding) (run : ScriptValue) (told : List Told) (x : RunState) (facts : TurnFacts)
+    (h : Holds run told x) (are : AreFacts x.plan x.past (turns_of_run x) facts) where
+  whole : facts.is_inside ≡ false → ¬ (EndInsideFrame run.plan.tested (turns_of_run x))
+  whole never = subst (λ (plan : PlanValue). ¬ (EndInsideFrame plan.tested (turns_of_run x))) h.plan_is
+      (not_inside facts.is_inside (EndInsideFrame x.plan.tested (turns_of_run x)) are.inside.1 never)
+
+  -- all turns are sent where all of the last one is, no write has failed and no close was got
+  all_sent : is_all_sent x ≡ true → has_more x ≡ false → x.closing ≡ false → x.write_failed ≡ false
+      → map concat run.script ≡ sent_turns (turns_of_run x)
+  all_sent sent last unclosed works = h.bytes.split
+      ∙ (ap (λ (l : List (List ℕ)). sent_turns x.past
+      ++ (x.turn.sent ++ (concat x.outgoing.rest ++ h.bytes.dropped)) ∷ l) none
+      ∙ (ap (λ (l : List ℕ). sent_turns x.past ++ l ∷ []) bare
+      ∙ sym (map-append (λ (t : Turn). t.sent) x.past (x.turn ∷ []))))
+    where
+      none : map concat x.outgoing.later ≡ []
+      none = ap (λ (l : List Pieces). map concat l) (no_turn x.outgoing.later last)
+
+      bare : x.turn.sent ++ (concat x.outgoing.rest ++ h.bytes.dropped) ≡ x.turn.sent
+      bare = ap (λ (l : List ℕ). x.turn.sent ++ (l ++ h.bytes.dropped)) (no_piece x.outgoing.rest h.pieces.0 sent)
+          ∙ (ap (λ (l : List ℕ). x.turn.sent ++ l) (h.bytes.whole unclosed works) ∙ append-nil x.turn.sent)
+
+  owed : is_all_sent x ≡ true → has_more x ≡ false → has_come x facts ≡ true → HasAllOwed run (turns_of_run x)
+  owed sent last come =
+      let open_now = open_where_come one run told x facts h are come in
+      record {
+        sent = all_sent sent last open_now.0 open_now.1;
+        answered = subst (λ (plan : PlanValue). AreTurnsAnsweredBy plan.expected plan.tested (turns_of_run x)) h.plan_is
+            (are.come open_now.2);
+        whole = whole (come_whole (has_end facts.standing) x.write_failed (is_waited_out x.plan (has_more x) facts)
+            facts.is_answered (has_more x) facts.is_inside last come);
+      }
+
+  vain : is_in_vain x facts ≡ true → HasMoreThanOwed run (turns_of_run x)
+  vain e =
+      let parts = vain_parts (owes_messages x.plan.expected) (has_more x) x.write_failed facts.has_unowed
+      facts.is_inside e in
+      record {
+        echo = subst (λ (plan : PlanValue). plan.expected ≡ Echo) h.plan_is (is_echo x.plan.expected parts.0);
+        unowed = subst (λ (plan : PlanValue). HaveUnowedMessage plan.tested (turns_of_run x)) h.plan_is
+            (are.unowed.0 parts.1);
+        whole = whole parts.2;
+      }
+
+  pub tester_so : (stops_run x.plan.tested facts.standing ≡ true)
+      ⊎ ((is_all_sent x ≡ true) × (is_turn_over x facts ≡ true) × (has_more x ≡ false))
+      → IsEndedByTester run told (turns_of_run x)
+  tester_so (inl final) = inl (subst (λ (plan : PlanValue). HasStandingBy stops_run true plan.tested
+      (got_in_all (turns_of_run x))) h.plan_is (facts.standing, final, are.standing))
+  tester_so (inr (sent, over, last)) = pick (either_so (has_come x facts) (is_in_vain x facts) over)
+    where
+      pick : (has_come x facts ≡ true) ⊎ (is_in_vain x facts ≡ true) → IsEndedByTester run told (turns_of_run x)
+      pick (inl come) = inr (inr (inr (inl (owed sent last come))))
+      pick (inr in_vain) = inr (inr (inr (inr (vain in_vain))))

@@ -1,0 +1,149 @@
+-- What was told of a run, event by event.
+use Rattle.std.specs.Prelude.{◌≡◌, ℕ, zero, suc, ◌+◌, ◌≤◌, ◌⊎◌, ◌||◌, ⊤, Bool, true, false, List, [], ◌∷◌, ◌++◌, length}
+use Rattle.std.specs.Prelude.{Option, Some, None}
+use Rattle.ws_scripts.specs.declared.transcript.Ended.{Ended}
+use Rattle.ws_scripts.specs.declared.transcript.Ended.TheVariants.{Tester}
+use Rattle.ws_scripts.specs.declared.transcript.Turn.{Turn}
+use Rattle.ws_suite.specs.Evidence.{other_role}
+use Rattle.ws_suite.specs.declared.evidence.keeping.ReplyTally.{ReplyTally}
+use Rattle.ws_suite.specs.Growing.{GrowingValue, HasGrown, IsTallyOf}
+use Rattle.ws_machines.specs.Told.{Told}
+use Rattle.ws_machines.specs.Told.Told.{Came, Ended as StreamEnded, ReadFailed, NothingCame, Taken, DirectionEnded}
+use Rattle.ws_tester.specs.Standings.{HasServerClose, HasStanding, is_server_close}
+use Rattle.ws_tester.specs.Outgoings.{Pieces, after_first, first_piece, first_turn}
+use Rattle.ws_tester.specs.Outcomes.{AreFacts, HasSentEnd, got_in_all, outcome_of, outcome_of_event}
+use Rattle.ws_tester.specs.RunStates.{PlanValue, RunState, turns_of_run, with_event, with_next_turn, with_run_end}
+use Rattle.ws_tester.specs.RunStates.{wants_own_end, with_standing}
+use Rattle.ws_tester.specs.declared.outcome.Outcome.{Outcome}
+use Rattle.ws_tester.specs.declared.outcome.Outcome.TheVariants.{Rests, Next, Ends}
+use Rattle.ws_tester.specs.declared.outcome.TurnFacts.{TurnFacts}
+use Rattle.ws_tester.specs.declared.standing.Standing.{Standing}
+
+-- ---- until the run rests
+
+-- this comes of the state, by the table
+pub record HasOutcome (x : RunState) (outcome : Outcome) : Type 0 where
+  pub facts : TurnFacts
+  pub are_facts : AreFacts x.plan x.past (turns_of_run x) facts
+  pub is : outcome_of x facts ≡ outcome
+
+-- so many turns are over as soon as they have begun, and then the run rests, or has ended
+abbrev pub SettlesIn : ℕ → RunState → RunState → Type 0
+SettlesIn zero x now = (HasOutcome x Rests × (now ≡ x))
+    ⊎ ((how : Ended) × HasOutcome x (Ends how) × (now ≡ with_run_end how x))
+SettlesIn (suc n) x now = HasOutcome x Next × SettlesIn n (with_next_turn x) now
+
+abbrev pub Settles : RunState → RunState → Type 0
+Settles x now = (n : ℕ) × SettlesIn n x now
+
+-- ---- one event
+
+-- what comes of an event that decides by itself
+abbrev pub Obeys : Outcome → RunState → RunState → Type 0
+Obeys Rests x now = now ≡ x
+Obeys Next x now = Settles (with_next_turn x) now
+Obeys (Ends how) x now = now ≡ with_run_end how x
+
+abbrev pub LeadsOnBy : Option Outcome → RunState → RunState → Type 0
+LeadsOnBy (Some outcome) x now = Obeys outcome x now
+LeadsOnBy None x now = Settles x now
+
+-- nothing is read while the own direction is to be ended
+abbrev pub MayBeRead : RunState → Type 0
+MayBeRead x = wants_own_end x ≡ false
+
+-- What may happen to a run that hasn't ended: no more comes than may be read, what is taken is a front of the next
+-- piece, and the own direction is ended where that is wanted.
+abbrev pub MayHappen : RunState → Told → Type 0
+MayHappen x (Came bytes) = MayBeRead x × (length bytes ≤ x.allowance)
+MayHappen x StreamEnded = MayBeRead x
+MayHappen x ReadFailed = MayBeRead x
+MayHappen x NothingCame = MayBeRead x
+MayHappen x (Taken bytes) = (unsent : List ℕ) × (first_piece x.outgoing.rest ≡ bytes ++ unsent)
+MayHappen x DirectionEnded = wants_own_end x ≡ true
+MayHappen x _ = ⊤
+
+-- what was got stands so, and a server's close that was got before is still its last event
+pub record StandsBy (x : RunState) (standing : Standing) : Type 0 where
+  pub stands : HasStanding (other_role x.plan.tested) standing (got_in_all (turns_of_run x))
+  pub still : x.closing ≡ true → is_server_close x.plan.tested standing ≡ true
+
+-- how what was got stands after an event is heard; only what comes changes that
+abbrev pub Hears : Told → RunState → RunState → Type 0
+Hears (Came bytes) x now = (standing : Standing) × StandsBy x standing × (now ≡ with_standing standing x)
+Hears _ x now = now ≡ x
+
+-- an event changes what it changes by itself, and what came is heard
+abbrev pub Changes : Told → RunState → RunState → Type 0
+Changes event old heard = Hears event (with_event event old) heard
+
+-- an event happens: it changes the state, and then the run goes on
+pub record Happens (old : RunState) (event : Told) (new : RunState) : Type 0 where
+  pub goes : old.ended ≡ None
+  pub may : MayHappen old event
+  pub heard : RunState
+  pub changes : Changes event old heard
+  pub goes_on : LeadsOnBy (outcome_of_event heard event) heard new
+
+-- ---- a list of events
+
+abbrev pub Follows : RunState → RunState → List Told → Type 0
+Follows start now [] = now ≡ start
+Follows start now (event ∷ told) = (next : RunState) × Happens start event next × Follows next now told
+
+-- ---- the beginning
+
+-- what is to be run: the pieces of its turns, how many bytes may be read, and what came with the head
+pub record ScriptValue : Type 0 where
+  pub plan : PlanValue
+  pub script : List Pieces
+  pub budget : ℕ
+  pub first : List ℕ
+
+-- whether there is any
+abbrev pub has_items : {X : Type 0} → List X → Bool
+has_items [] = false
+has_items (x ∷ xs) = true
+
+-- before anything is sent, where what came with the head has a server's close, or hasn't
+abbrev pub first_state : ScriptValue → Bool → RunState
+first_state run closing = record {
+  plan = run.plan;
+  past = [];
+  turn = record { sent = []; got = run.first };
+  outgoing = record { rest = first_turn run.script; later = after_first run.script };
+  allowance = run.budget;
+  closing = closing;
+  half_closed = false;
+  write_failed = false;
+  begun = has_items run.script || has_items run.first;
+  ended = None;
+}
+
+-- a script without turns ends as soon as it begins
+abbrev pub BeginsBy : List Pieces → RunState → RunState → Type 0
+BeginsBy [] first start = start ≡ with_run_end Tester first
+BeginsBy (pieces ∷ turns) first start = Settles first start
+
+-- A run begins in this state, by how what came with the head stands.
+abbrev pub BeginsRun : ScriptValue → RunState → Type 0
+BeginsRun run start = (standing : Standing) × HasStanding (other_role run.plan.tested) standing run.first
+    × BeginsBy run.script (first_state run (is_server_close run.plan.tested standing)) start
+
+-- ---- the machine
+
+-- a run as its machine has it: the state, what is shown of it, and whether a close or a fault was sent before the turn
+pub record TesterValue : Type 0 where
+  pub run : RunState
+  pub seen : GrowingValue ReplyTally
+  pub had_sent_end : Bool
+
+-- what is shown is that of the turns so far
+pub record ShowsTurns (x : TesterValue) : Type 0 where
+  pub grown : HasGrown IsTallyOf x.run.plan.tested (turns_of_run x.run) x.seen
+  pub before : HasSentEnd x.run.plan.tested x.run.past x.had_sent_end
+  pub closing : x.run.closing ≡ true → HasServerClose x.run.plan.tested (got_in_all (turns_of_run x.run))
+
+-- from the first state to the second one the machine was told just this
+abbrev pub WasTold : TesterValue → TesterValue → List Told → Type 0
+WasTold start now told = Follows start.run now.run told × ShowsTurns now

@@ -1,0 +1,222 @@
+//! What an event changes of a run, and the turns that begin.
+
+ghost use Rattle.std.specs.Prelude.{◌≡◌, ◌≤◌, ◌++◌, ◌∷◌, [], List, ℕ, length, take, true, false, None, OnOk};
+ghost use Rattle.ws_machines.specs.Machines.{HasNext, MayBeTold, told_at};
+ghost use Rattle.ws_machines.specs.Told.{told_of};
+ghost use Rattle.ws_machines.specs.Told.Told.{Came};
+ghost use Rattle.ws_scripts.specs.declared.transcript.Turn.{Turn};
+ghost use Rattle.ws_session.specs.Exchange.{is_over};
+ghost use Rattle.ws_wire.specs.declared.role.Role.{Role};
+ghost use Rattle.ws_suite.specs.Growing.{HasGrown, IsTallyOf, new_turn, turn_with_got, turn_with_sent};
+ghost use Rattle.ws_tester.specs.Following.{Changes, LeadsOnBy, Hears, ShowsTurns, Obeys, Settles};
+ghost use Rattle.ws_tester.specs.Outcomes.{outcome_of_event};
+ghost use Rattle.ws_tester.specs.Outgoings.{first_piece};
+ghost use Rattle.ws_tester.specs.RunStates.{is_all_sent, turns_of_run, wanted_in, with_came, with_run_end};
+ghost use Rattle.ws_tester.specs.RunStates.{with_next_turn, with_standing, with_taken};
+ghost use Rattle.ws_tester.specs.Standings.{standing_of_status};
+ghost use Rattle.ws_tester.specs.declared.outcome.Outcome.TheVariants.{Rests};
+
+use crate::outcome::Outcome;
+use crate::standing::{is_server_close, standing_of};
+use crate::tester::Tester;
+use std::mem;
+use ws_base::{NoMemory, Payload};
+use ws_machines::StreamEvent;
+use ws_session::laws::one_list_of_events;
+use ws_suite::{Ended, Turn};
+
+impl Tester {
+    /// Begins the turns that follow, as long as each is over as soon as it has begun, until the run rests or has ended.
+    pub(super) fn settle(&mut self) -> Result<(), NoMemory>
+        ensures settles { OnOk result (ShowsTurns self.old → Settles self.old.run self.new.run × ShowsTurns self.new) }
+        ensures goes_on { OnOk result (self.old.run.ended ≡ None → HasNext (wanted_in self.new.run)) }
+    {
+        'turns: loop {
+            match self.outcome(self.facts()) {
+                Outcome::Rests => return Ok(()),
+                Outcome::Ends(how) => {
+                    self.end_with(how);
+                    return Ok(());
+                }
+                Outcome::Next => self.begin_next_turn()?,
+            }
+        }
+    }
+
+    /// The run ends so.
+    pub(super) fn end_with(&mut self, how: Ended)
+        ensures ended { self.new.run ≡ with_run_end how self.old.run }
+        ensures seen { self.new.seen ≡ self.old.seen }
+        ensures before { self.new.had_sent_end ≡ self.old.had_sent_end }
+    {
+        self.ended = Some(how);
+    }
+
+    /// The next turn begins.
+    fn begin_next_turn(&mut self) -> Result<(), NoMemory>
+        ensures next { OnOk result (self.new.run ≡ with_next_turn self.old.run) }
+        ensures grown { OnOk result ((tested : Role) →
+            HasGrown IsTallyOf tested (turns_of_run self.old.run) self.old.seen →
+            HasGrown IsTallyOf tested (turns_of_run self.old.run ++ new_turn ∷ []) self.new.seen) }
+        ensures before { OnOk result (self.new.had_sent_end ≡ is_over self.old.seen.tested.status) }
+    {
+        let sent = mem::replace(&mut self.sent, Vec::new(self.alloc));
+        let got = mem::replace(&mut self.got, Vec::new(self.alloc));
+        push_turn(&mut self.past, sent, got)?;
+        self.had_sent_end = self.evidence.has_sent_end();
+        self.evidence.begin_turn();
+        self.outgoing.next();
+        Ok(())
+    }
+
+    /// These bytes came, and how what was got stands then is heard.
+    fn on_came(&mut self, piece: &[u8]) -> Result<(), NoMemory>
+        requires { length piece.now ≤ self.old.run.allowance }
+        ensures heard { OnOk result (ShowsTurns self.old →
+            Hears (Came piece.now) (with_came piece.now self.old.run) self.new.run × ShowsTurns self.new) }
+        ensures going { OnOk result (self.new.run.ended ≡ self.old.run.ended) }
+    {
+        one_list_of_events();
+        self.keep_came(piece)?;
+        self.hear();
+        Ok(())
+    }
+
+    /// These bytes came.
+    fn keep_came(&mut self, piece: &[u8]) -> Result<(), NoMemory>
+        requires { length piece.now ≤ self.old.run.allowance }
+        ensures came { OnOk result (self.new.run ≡ with_came piece.now self.old.run) }
+        ensures grown { OnOk result ((tested : Role) (past : List Turn) (turn : Turn) →
+            HasGrown IsTallyOf tested (past ++ turn ∷ []) self.old.seen →
+            HasGrown IsTallyOf tested (past ++ turn_with_got turn piece.now ∷ []) self.new.seen) }
+        ensures over { OnOk result (is_over self.old.seen.tester.status ≡ true →
+            self.new.seen.tester ≡ self.old.seen.tester) }
+        ensures before { OnOk result (self.new.had_sent_end ≡ self.old.had_sent_end) }
+    {
+        append(&mut self.got, piece)?;
+        self.evidence.on_got(piece)?;
+        self.allowance -= piece.len() as u64;
+        Ok(())
+    }
+
+    /// Once what was got has a server's close nothing more of the turn is sent, unless it had one before.
+    fn hear(&mut self)
+        ensures heard { self.new.run ≡ with_standing (standing_of_status self.old.seen.tester.status) self.old.run }
+        ensures seen { self.new.seen ≡ self.old.seen }
+        ensures before { self.new.had_sent_end ≡ self.old.had_sent_end }
+    {
+        if is_server_close(self.plan.tested, standing_of(&self.evidence)) && !self.is_closing {
+            self.outgoing.stop();
+            self.is_closing = true;
+        }
+    }
+
+    /// So many bytes of the piece that is next were taken.
+    fn on_taken(&mut self, count: usize) -> Result<(), NoMemory>
+        requires { count ≤ length (first_piece self.old.run.outgoing.rest) }
+        ensures taken { OnOk result (self.new.run
+            ≡ with_taken (take count (first_piece self.old.run.outgoing.rest)) self.old.run) }
+        ensures grown { OnOk result ((tested : Role) (past : List Turn) (turn : Turn) →
+            HasGrown IsTallyOf tested (past ++ turn ∷ []) self.old.seen → HasGrown IsTallyOf tested
+            (past ++ turn_with_sent turn (take count (first_piece self.old.run.outgoing.rest)) ∷ []) self.new.seen) }
+        ensures before { OnOk result (self.new.had_sent_end ≡ self.old.had_sent_end) }
+    {
+        let bytes = &self.outgoing.piece()[..count];
+        append(&mut self.sent, bytes)?;
+        self.evidence.on_sent(bytes)?;
+        self.outgoing.take(count);
+        Ok(())
+    }
+
+    /// The event changes what it changes by itself.
+    pub(super) fn change(&mut self, event: StreamEvent<'_>) -> Result<(), NoMemory>
+        requires { MayBeTold (wanted_in self.old.run) event }
+        ensures changes { OnOk result (ShowsTurns self.old →
+            Changes (told_at (wanted_in self.old.run) event.entry) self.old.run self.new.run × ShowsTurns self.new) }
+        ensures going { OnOk result (self.new.run.ended ≡ self.old.run.ended) }
+    {
+        match event {
+            StreamEvent::Came(piece) => {
+                self.on_came(piece)?;
+                Ok(())
+            }
+            StreamEvent::Taken(count) => {
+                self.on_taken(count)?;
+                Ok(())
+            }
+            StreamEvent::WriteFailed => {
+                self.outgoing.stop();
+                self.write_failed = true;
+                Ok(())
+            }
+            StreamEvent::DirectionEnded => {
+                self.is_half_closed = true;
+                Ok(())
+            }
+            StreamEvent::Ended
+            | StreamEvent::ReadFailed
+            | StreamEvent::NothingCame
+            | StreamEvent::Reported
+            | StreamEvent::DeadlinePassed(_) => Ok(()),
+        }
+    }
+
+    /// The run goes on as the event decides by itself, or else as its state does.
+    pub(super) fn go_on(&mut self, event: StreamEvent<'_>) -> Result<(), NoMemory>
+        ensures goes { OnOk result (ShowsTurns self.old → (bytes lines : List ℕ) →
+            LeadsOnBy (outcome_of_event self.old.run (told_of bytes lines event.entry)) self.old.run self.new.run
+            × ShowsTurns self.new) }
+        ensures next { OnOk result (self.old.run.ended ≡ None → HasNext (wanted_in self.new.run)) }
+    {
+        match self.outcome_by(event) {
+            Some(outcome) => {
+                self.obey(outcome)?;
+                Ok(())
+            }
+            None => {
+                self.settle()?;
+                Ok(())
+            }
+        }
+    }
+
+    /// The run rests, goes on with the next turn, or ends.
+    fn obey(&mut self, outcome: Outcome) -> Result<(), NoMemory>
+        ensures obeys { OnOk result (ShowsTurns self.old →
+            Obeys outcome self.old.run self.new.run × ShowsTurns self.new) }
+        ensures next { OnOk result (self.old.run.ended ≡ None → (outcome ≡ Rests → is_all_sent self.old.run ≡ false) →
+            HasNext (wanted_in self.new.run)) }
+    {
+        match outcome {
+            Outcome::Rests => Ok(()),
+            Outcome::Next => {
+                self.begin_next_turn()?;
+                self.settle()?;
+                Ok(())
+            }
+            Outcome::Ends(how) => {
+                self.end_with(how);
+                Ok(())
+            }
+        }
+    }
+}
+
+/// Puts bytes behind the others.
+fn append(bytes: &mut Vec<u8>, piece: &[u8]) -> Result<(), NoMemory>
+    ensures { OnOk result (bytes.new.items ≡ bytes.old.items ++ piece.now) }
+{
+    bytes.extend_from_slice(piece)?;
+    Ok(())
+}
+
+/// Puts a turn behind those that are over.
+pub(super) fn push_turn(past: &mut Vec<Turn>, sent: Vec<u8>, got: Vec<u8>) -> Result<(), NoMemory>
+    ensures { OnOk result (past.new.items ≡ past.old.items ++ record { sent = sent.items; got = got.items } ∷ []) }
+{
+    past.push(Turn {
+        sent: Payload::from_vec(sent),
+        got: Payload::from_vec(got),
+    })?;
+    Ok(())
+}
