@@ -2,6 +2,7 @@
 pub mod HeadLemmas
 pub mod ServingLemmas
 pub mod ConnectionLemmas
+pub mod StreamLemmas
 pub mod StandingLemmas
 pub mod ProbingLemmas
 pub mod ObservingLemmas

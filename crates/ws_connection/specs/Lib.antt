@@ -6,6 +6,8 @@ pub mod Requests
 pub mod Responses
 pub mod ConnectionValues
 pub mod Connections
+pub mod DeviceCalls
+pub mod StreamCalls
 pub mod Standings
 pub mod Probing
 pub mod Observing

@@ -7,7 +7,8 @@ ghost use Rattle.ws_connection.specs.Admitting.{Admits, AnswersRequest, HoldsUpg
 ghost use Rattle.ws_connection.specs.Connections.{IsNewConnection, IsReady};
 ghost use Rattle.ws_connection.specs.Requests.{DecidesRequest};
 
-use crate::connection::{Connection, EndsDirection};
+use crate::connection::Connection;
+use crate::ending::EndsDirection;
 use crate::reading_head::{HeadEnd, HeadRoom};
 use crate::request_head::{RequestDecision, RequestHead};
 use std::alloc::Global;

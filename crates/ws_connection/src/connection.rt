@@ -2,65 +2,56 @@
 //! when is asked of the caller: nothing is read behind the end of a stream, and nothing is written behind that of its
 //! own direction.
 
-ghost use Rattle.std.specs.Prelude.{◌≡◌, ◌≤◌, ◌<◌, ◌↔◌, ◌||◌, length, take, nat_lt, true, false};
+ghost use Rattle.std.specs.Prelude.{◌≡◌, ◌≤◌, ◌<◌, ◌||◌, length, take, nat_lt, true, false};
 ghost use Rattle.std.specs.Io.KnownBytes.{Appends, IsAtEnd, Keeps};
+ghost use Rattle.ws_machines.specs.Machines.{FitsRead, FitsWrite};
+ghost use Rattle.ws_machines.specs.Told.{told_by_read, told_by_write};
+ghost use Rattle.ws_machines.specs.Told.Told.{DirectionEnded};
 ghost use Rattle.ws_connection.specs.Connections.{IsNewConnection, MayRead, MayWrite, ReadsBytes, ReadsHeadOver};
 ghost use Rattle.ws_connection.specs.Connections.{WritesBytes, brings, waited_in_vain, spent};
-ghost use Rattle.std.specs.declared.io.ErrorKind.TheVariants.{WouldBlock};
+ghost use Rattle.ws_connection.specs.DeviceCalls.{one_call_more};
+ghost use Rattle.ws_connection.specs.StreamCalls.{IsCallOf};
 ghost use Rattle.ws_connection.specs.declared.incoming.Incoming.TheVariants.{AtEnd, Unread};
 
+use crate::device_calls::{ReadCalls, WriteCalls};
+use crate::ending::EndsDirection;
 use crate::incoming::Incoming;
-use crate::reading_head::{HeadDecider, HeadEnd, HeadRoom, read_head};
-use std::io;
-use std::io::{ErrorKind, Read, Write};
+use crate::reading_head::{HeadDecider, HeadEnd, HeadRoom};
+use std::io::Read;
 use std::marker::Model;
-use ws_frame::{ByteWriter, Counting, FullWriter, Watched};
-
-/// A writer whose direction can be ended, while the other one goes on (a half-close).
-pub trait EndsDirection: Write {
-    /// Ends the direction: the other end sees the end of its stream behind what was written.
-    fn end_direction(&mut self) -> io::Result<()>
-        ensures { Keeps (Self.contents self.old) (Self.contents self.new) };
-}
+use ws_machines::{ReadOutcome, WriteOutcome};
 
 /// A reader and a writer that belong together, and how both directions stand. An error of the kind `WouldBlock`, which
-/// a socket answers where its time-out has expired, is a read that has waited in vain, and no failure.
+/// a socket answers where its time-out has expired, is a read that has waited in vain, and no failure. It is a stream:
+/// each thing that it tells is one call of one of them (`IsCallOf`).
 #[derive(Drop)]
 pub struct Connection<R: Read, W: EndsDirection> {
-    reader: Watched<R>,
-    writer: W,
-    incoming: Incoming,
+    reader: ReadCalls<R>,
+    writer: WriteCalls<W>,
     has_waited: bool,
     allowance: u64,
-    write_failed: bool,
-    is_half_closed: bool,
 }
 
 impl<R: Read, W: EndsDirection> Model for Connection<R, W> {
-    ghost use Rattle.std.specs.Prelude.{◌≡◌, false};
-    ghost use Rattle.std.specs.Io.KnownBytes.{IsAtEnd};
-    ghost use Rattle.ws_frame.specs.Watching.{has_failed, inner_of};
     ghost use Rattle.ws_connection.specs.ConnectionValues.{ConnectionValue};
-    ghost use Rattle.ws_connection.specs.declared.incoming.Incoming.TheVariants.{AtEnd, Unread};
 
     ghost Value = { ConnectionValue };
 
     ghost view = { λ connection. record {
       input = record {
-        left = R.remaining (inner_of connection.reader);
-        state = connection.incoming;
+        left = connection.reader.left;
+        state = connection.reader.state;
         waited = connection.has_waited;
         allowance = connection.allowance;
+        calls = connection.reader.calls;
       };
       output = record {
-        held = W.contents connection.writer;
-        failed = connection.write_failed;
-        ended = connection.is_half_closed;
+        held = connection.writer.held;
+        failed = connection.writer.failed;
+        ended = connection.writer.ended;
+        calls = connection.writer.calls;
       };
     } };
-
-    ghost invariant = { λ connection. (connection.incoming ≡ Unread → has_failed connection.reader ≡ false)
-        × (connection.incoming ≡ AtEnd → IsAtEnd (R.remaining (inner_of connection.reader))) };
 }
 
 impl<R: Read, W: EndsDirection> Connection<R, W> {
@@ -73,13 +64,10 @@ impl<R: Read, W: EndsDirection> Connection<R, W> {
         ensures budget { result.input.allowance ≡ budget }
     {
         Connection {
-            reader: Watched::new(reader),
-            writer,
-            incoming: Incoming::Unread,
+            reader: ReadCalls::new(reader),
+            writer: WriteCalls::new(writer),
             has_waited: false,
             allowance: budget,
-            write_failed: false,
-            is_half_closed: false,
         }
     }
 
@@ -89,14 +77,14 @@ impl<R: Read, W: EndsDirection> Connection<R, W> {
         ensures held { W.contents result.1 ≡ self.output.held }
     {
         let Connection { reader, writer, .. } = self;
-        (reader.into_inner(), writer)
+        (reader.into_inner(), writer.into_inner())
     }
 
     /// How the reads stand.
     pub fn incoming(&self) -> Incoming
         ensures { result ≡ self.now.input.state }
     {
-        self.incoming
+        self.reader.state()
     }
 
     /// Whether some read behind the head has waited in vain.
@@ -117,14 +105,14 @@ impl<R: Read, W: EndsDirection> Connection<R, W> {
     pub fn has_write_failed(&self) -> bool
         ensures { result ≡ self.now.output.failed }
     {
-        self.write_failed
+        self.writer.has_failed()
     }
 
     /// Whether its own direction was ended.
     pub fn is_half_closed(&self) -> bool
         ensures { result ≡ self.now.output.ended }
     {
-        self.is_half_closed
+        self.writer.is_ended()
     }
 
     /// Reads the head of an answer, as `read_head` does. An error of any kind is a failed read here.
@@ -137,13 +125,7 @@ impl<R: Read, W: EndsDirection> Connection<R, W> {
         ensures { ReadsHeadOver (D.needs decider.now) (D.decides decider.now) result room.new
             (record { old = self.old; new = self.new }) }
     {
-        let end = read_head(&mut self.reader, room, decider);
-        self.incoming = match end {
-            HeadEnd::Decided(_) => Incoming::Open,
-            HeadEnd::Cut => Incoming::AtEnd,
-            HeadEnd::ReadFault => Incoming::Failed,
-        };
-        end
+        self.reader.read_head(room, decider)
     }
 
     /// Reads once behind the head, no more bytes than may still be read: how many they are. Where none came, `incoming`
@@ -158,27 +140,37 @@ impl<R: Read, W: EndsDirection> Connection<R, W> {
         ensures waited { self.new.input.waited ≡ (self.old.input.waited || waited_in_vain self.new.input.state) }
         ensures end { self.new.input.state ≡ AtEnd → IsAtEnd self.new.input.left }
         ensures output { self.new.output ≡ self.old.output }
+        ensures calls { self.new.input.calls ≡ one_call_more self.old.input.calls }
     {
         let len = self.allowance.min(room.len() as u64) as usize;
-        match self.reader.read(&mut room[..len]) {
-            Ok(0) => {
-                self.incoming = Incoming::AtEnd;
-                0
-            }
+        match self.read_once(&mut room[..len]) {
+            ReadOutcome::Came(count) => count,
+            ReadOutcome::Ended
+            | ReadOutcome::Failed
+            | ReadOutcome::NothingCame
+            | ReadOutcome::DeadlinePassed(_) => 0,
+        }
+    }
+
+    /// Reads once behind the head, also where no more bytes than there are room for may still be read.
+    pub fn read_once(&mut self, room: &mut [u8]) -> ReadOutcome
+        requires { 0 < length room.old }
+        ensures fits { FitsRead (length room.new) result }
+        ensures len { length room.new ≡ length room.old }
+        ensures call { IsCallOf (told_by_read room.new result) (record { old = self.old; new = self.new }) }
+    {
+        let answer = self.reader.read(room);
+        match answer {
+            Ok(0) => ReadOutcome::Ended,
             Ok(count) => {
-                self.incoming = Incoming::Open;
-                self.allowance -= count as u64;
-                count
+                self.allowance = self.allowance.saturating_sub(count as u64);
+                ReadOutcome::Came(count)
             }
-            Err(error) if is_wait(error.kind()) => {
-                self.incoming = Incoming::Waited;
+            Err(_) if self.reader.state() == Incoming::Waited => {
                 self.has_waited = true;
-                0
+                ReadOutcome::NothingCame
             }
-            Err(_) => {
-                self.incoming = Incoming::Failed;
-                0
-            }
+            Err(_) => ReadOutcome::Failed,
         }
     }
 
@@ -191,9 +183,19 @@ impl<R: Read, W: EndsDirection> Connection<R, W> {
         ensures input { self.new.input ≡ self.old.input }
         ensures ended { self.new.output.ended ≡ self.old.output.ended }
     {
-        let taken = write_part(&mut self.writer, bytes);
-        self.write_failed = taken < bytes.len();
-        taken
+        write_part(&mut self.writer, bytes)
+    }
+
+    /// Writes once.
+    pub fn write_once(&mut self, bytes: &[u8]) -> WriteOutcome
+        requires { 0 < length bytes.now }
+        ensures fits { FitsWrite (length bytes.now) result }
+        ensures call { IsCallOf (told_by_write bytes.now result) (record { old = self.old; new = self.new }) }
+    {
+        match self.writer.write(bytes) {
+            Ok(0) | Err(_) => WriteOutcome::Failed,
+            Ok(taken) => WriteOutcome::Taken(taken),
+        }
     }
 
     /// Ends its own direction. It counts as ended also where the writer answers an error: nothing more is written.
@@ -203,55 +205,32 @@ impl<R: Read, W: EndsDirection> Connection<R, W> {
         ensures held { Keeps self.old.output.held self.new.output.held }
         ensures input { self.new.input ≡ self.old.input }
         ensures failed { self.new.output.failed ≡ self.old.output.failed }
+        ensures call { IsCallOf DirectionEnded (record { old = self.old; new = self.new }) }
+    {
+        self.end_once();
+    }
+
+    /// Ends its own direction, also where it was ended before.
+    pub fn end_once(&mut self)
+        ensures { IsCallOf DirectionEnded (record { old = self.old; new = self.new }) }
     {
         let _ = self.writer.end_direction();
-        self.is_half_closed = true;
     }
 }
 
-/// Whether a read that answers an error of this kind has waited in vain.
-fn is_wait(kind: ErrorKind) -> bool
-    ensures { (result ≡ true) ↔ (kind ≡ WouldBlock) }
-{
-    kind == ErrorKind::WouldBlock
-}
-
 /// Writes the bytes, or as many of them as the writer takes before a write fails or takes none: how many.
-fn write_part<W: Write>(writer: &mut W, bytes: &[u8]) -> usize
+fn write_part<W: EndsDirection>(writer: &mut WriteCalls<W>, bytes: &[u8]) -> usize
     ensures bound { result ≤ length bytes.now }
-    ensures written { Appends (W.contents writer.old) (W.contents writer.new) (take result bytes.now) }
+    ensures written { Appends writer.old.held writer.new.held (take result bytes.now) }
+    ensures failed { writer.new.failed ≡ (writer.old.failed || nat_lt result (length bytes.now)) }
+    ensures ended { writer.new.ended ≡ writer.old.ended }
 {
     let mut at = 0;
     while at < bytes.len() {
         match writer.write(&bytes[at..]) {
-            Ok(0) => return at,
+            Ok(0) | Err(_) => return at,
             Ok(taken) => at += taken,
-            Err(_) => return at,
         }
     }
     at
-}
-
-impl EndsDirection for Vec<u8> {
-    fn end_direction(&mut self) -> io::Result<()> {
-        Ok(())
-    }
-}
-
-impl EndsDirection for ByteWriter {
-    fn end_direction(&mut self) -> io::Result<()> {
-        Ok(())
-    }
-}
-
-impl EndsDirection for FullWriter {
-    fn end_direction(&mut self) -> io::Result<()> {
-        Ok(())
-    }
-}
-
-impl<W: EndsDirection> EndsDirection for Counting<W> {
-    fn end_direction(&mut self) -> io::Result<()> {
-        self.inner.end_direction()
-    }
 }

@@ -5,11 +5,14 @@
 //! The layer above uses: `serve_one` (the clauses with `Serves`), `probe` (`Probes`) over a `Connection`, `admit`
 //! (`Admits`) over one as a server, and `run_script` (`Records`) over one whose handshake is done, `read_head` (the
 //! clauses with `ReadsHead`) with `RequestHead` and `ResponseHead`, `protocols_of`, whose `Protocols` they take, and
-//! `headers_of`, whose `RequestHeaders` a request has.
+//! `headers_of`, whose `RequestHeaders` a request has. A `Connection` is a stream of `ws_machines`: what it tells is
+//! what its devices did (`DidCalls`).
 #![tactic(auto)]
 
 mod admitting;
 mod connection;
+mod device_calls;
+mod ending;
 mod incoming;
 mod observer;
 mod probe_end;
@@ -21,10 +24,12 @@ mod request_headers;
 mod response_head;
 mod serving;
 mod standing;
+mod streaming;
 mod upgrade_request;
 
 pub use admitting::{AcceptedRequest, Admission, admit};
-pub use connection::{Connection, EndsDirection};
+pub use connection::Connection;
+pub use ending::EndsDirection;
 pub use incoming::Incoming;
 pub use observer::{Observer, Silent};
 pub use probe_end::{HeadRefusal, Probe};

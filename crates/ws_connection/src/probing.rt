@@ -15,7 +15,8 @@ ghost use Rattle.ws_connection.specs.Probing.{Probes, probe_nonce};
 ghost use Rattle.ws_connection.specs.InnerProbeTurns.{AnswersBehind};
 ghost use Rattle.ws_connection.specs.UpgradeRequests.{CanBeAsked, request_value, text_of_request};
 
-use crate::connection::{Connection, EndsDirection};
+use crate::connection::Connection;
+use crate::ending::EndsDirection;
 use crate::observer::Observer;
 use crate::probe_end::{HeadRefusal, Probe};
 use crate::probing::script::run_turns;

@@ -7,7 +7,8 @@ ghost use Rattle.ws_connection.specs.Observing.{HearsProbe, IsHearing};
 ghost use Rattle.ws_connection.specs.Probing.{Records, bytes_by_turn};
 ghost use Rattle.ws_connection.specs.declared.probe_end.Probe.TheVariants.{Ran};
 
-use crate::connection::{Connection, EndsDirection};
+use crate::connection::Connection;
+use crate::ending::EndsDirection;
 use crate::observer::Observer;
 use crate::probing::script::run_turns;
 use std::alloc::Global;

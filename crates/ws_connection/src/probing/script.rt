@@ -7,7 +7,8 @@ ghost use Rattle.ws_connection.specs.Probing.{Records};
 ghost use Rattle.ws_connection.specs.Connections.{IsReady};
 ghost use Rattle.ws_connection.specs.Observing.{HearsTurns, IsHearing};
 
-use crate::connection::{Connection, EndsDirection};
+use crate::connection::Connection;
+use crate::ending::EndsDirection;
 use crate::observer::Observer;
 use crate::probing::turn::{TurnPlan, run_turn};
 use crate::standing::{is_final, standing_of};

@@ -14,7 +14,8 @@ ghost use Rattle.ws_connection.specs.InnerProbeTurns.{SeesRun, SeesTurn, SendsTu
 ghost use Rattle.ws_connection.specs.InnerProbeTurns.{reads_on, then_turn};
 ghost use Rattle.ws_connection.specs.declared.probing.turn.TurnStop.TheVariants.{IsThere};
 
-use crate::connection::{Connection, EndsDirection};
+use crate::connection::Connection;
+use crate::ending::EndsDirection;
 use crate::incoming::Incoming;
 use crate::observer::Observer;
 use crate::standing::{Standing, is_final, standing_of};
