@@ -215,7 +215,8 @@ tap_lacks : (rows : List Row) (options : TapOptions) → LacksOneOf rows tap_com
 tap_lacks rows options (inl listen) asks = no_word rows (codes "listen") options.listen.now listen asks.0
 tap_lacks rows options (inr (inl target)) asks = no_word rows (codes "target") options.target.now target asks.1
 tap_lacks rows options (inr (inr (inl count))) asks = count options.count asks.2
-tap_lacks rows options (inr (inr (inr none))) asks = absurd none
+tap_lacks rows options (inr (inr (inr (inl shown)))) asks = shown options.style asks.3
+tap_lacks rows options (inr (inr (inr (inr none)))) asks = absurd none
 
 pub no_tap : (name : Text) (rows : List Row) → name ≡ codes "tap" → LacksOneOf rows tap_command.arguments
     → CommandAsksNothing (Some (name, rows))

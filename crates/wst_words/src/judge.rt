@@ -46,7 +46,7 @@ static ARGUMENTS: [Argument; 3] = [
         default: None,
         value_name: "",
         heading: None,
-        help: "Print what was due and got in each turn, and the rule",
+        help: "Print what was expected and received, and the rule",
     },
 ];
 
@@ -84,6 +84,11 @@ pub(crate) fn help<'a>() -> HelpText<'a> {
 const AFTER_HELP: &str = "A capture is read from stdin, in format 1 or 2. One line is printed: PASS,
 LOOSE WHY (permitted, but not the reference behaviour), or FAIL WHY (a rule is
 broken). VERDICTS in `man wst` says what each WHY means.
+With --explain, `due N` is what was expected in turn N (`end WHY`: wst had sent
+the violation WHY), `got N` what arrived (`failed WHY`: a violation; `cut`: the
+end inside a frame). `end WHO`: who ended the connection, `tester` (wst), `peer`
+(the tested endpoint), or `broken`: it broke off. `..` follows the first 16
+bytes. In a rule, `ours` marks what is stricter than RFC 6455.
 
 Exit status:
   0  PASS or LOOSE

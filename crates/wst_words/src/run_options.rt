@@ -51,7 +51,7 @@ pub(crate) const EXPECT: Argument = Argument {
     default: Some("echo"),
     value_name: "WHAT",
     heading: Some("Target"),
-    help: "Judge as an `echo`, or by the `protocol` alone: any\nother endpoint",
+    help: "`echo`: it must send back each message; `protocol`:\nit need not; RFC 6455 alone counts",
 };
 
 pub(crate) const KEY: Argument = Argument {
@@ -69,7 +69,7 @@ pub(crate) const TIMEOUT: Argument = Argument {
     default: None,
     value_name: "SECONDS",
     heading: Some("Limits"),
-    help: "Seconds to wait for each byte, 1 to 3600\n[default: no limit]",
+    help: "Wait SECONDS for a byte, 1 to 3600 [default: forever]",
 };
 
 pub(crate) const BUDGET: Argument = Argument {
@@ -114,8 +114,8 @@ pub(crate) const TARGET: Argument = Argument {
     default: None,
     value_name: "TARGET",
     heading: None,
-    help: "HOST:PORT, a ws:// URL, or an echo in memory: `own` or `tung`.
-With --role client: the address where clients connect",
+    help: "HOST:PORT, a ws:// URL, or in memory the echo of wst (`own`) or of
+tungstenite (`tung`). With --role client: where clients connect",
 };
 
 /// What the words give. `None` where a word has no value.

@@ -37,7 +37,7 @@ static ARGUMENTS: [Argument; 11] = [
     KEY,
     Argument {
         default: Some("2"),
-        help: "Seconds to wait for each byte, 1 to 3600",
+        help: "Wait SECONDS for a byte, 1 to 3600",
         ..TIMEOUT
     },
     BUDGET,
@@ -110,12 +110,17 @@ pub(crate) fn help<'a>() -> HelpText<'a> {
 const AFTER_HELP: &str =
     "The script on stdin has one step per line. SCRIPTS in `man wst` has them all:
   text \"Hello\"         a frame: text, binary, cont, close, ping, pong or op3
-  text fin=0 rsv=4 c3  without FIN, with RSV1 (RSV3 is 1), with a payload in hex
-  ping key=- -         without a mask (key=37fa213d sets one), without a payload
+  text fin=0 rsv=4 c3  no FIN; rsv: 4 RSV1, 2 RSV2, 1 RSV3; payload c3 in hex
+  ping key=- -         no mask (key=37fa213d sets one), no payload
   close=1000           a close frame with this code
   wait                 the turn ends: wait for the replies
-A turn is sent whole, and then replies are read. A peer that stops reading a
-large turn ends the run as `broken`.
+A text in quotes is printable ASCII; any other payload is written in hex. A turn
+is sent whole, then replies are read: a peer that stops reading breaks the run.
+
+Printed are frames sent (`>`), frames received (`<`), and `end WHO`: who ended
+the connection, `tester` (wst: nothing more was to come, or a rule was broken),
+`peer` (the tested endpoint), or `broken`: it broke off. With --role client, the
+first client to connect gets the script, whatever it requests.
 
 Exit status:
   0  the script was run, whoever ended the connection

@@ -118,8 +118,10 @@ pub(crate) fn help<'a>() -> HelpText<'a> {
 /// What follows the options of `sweep`.
 const AFTER_HELP: &str =
     "A script has up to N of 27 steps, each a frame or a wait; `man wst` lists them.
-Short ones run first: the first that is printed is among the shortest that
-break a rule. Up to 2 steps are 757 scripts, 3 are 20440, and 4 are 551881.
+If they end nothing, a step close=1000 follows. Short ones run first: the first
+that is printed is among the shortest that break a rule. Up to 2 steps are 757
+scripts, 3 are 20440, and 4 are 551881. Like `test`, it can be given a client
+for Autobahn's fuzzing server, unchanged.
 
 Exit status:
   0  no FAIL

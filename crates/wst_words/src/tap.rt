@@ -9,8 +9,10 @@ ghost use Rattle.wst_words.specs.Arguments.{argument_row};
 use crate::arguments::Argument;
 use crate::arguments::ArgumentKind::{NeededCount, NeededWord};
 use crate::commands::HelpText;
-use crate::options::{count_of, word_of};
+use crate::options::{count_of, style_of, word_of};
+use crate::show::DATA;
 use clap::ArgMatches;
+use ws_frame::DataStyle;
 
 /// What `tap` is asked to tap.
 #[derive(Clone, Copy)]
@@ -21,10 +23,12 @@ pub struct TapOptions<'a> {
     pub target: &'a str,
     /// It taps so many connections.
     pub count: u32,
+    /// How payloads are shown.
+    pub style: DataStyle,
 }
 
 /// Its arguments.
-static ARGUMENTS: [Argument; 3] = [
+static ARGUMENTS: [Argument; 4] = [
     Argument {
         name: "listen",
         kind: NeededWord,
@@ -49,6 +53,7 @@ static ARGUMENTS: [Argument; 3] = [
         heading: None,
         help: "How many connections to forward, one after the other",
     },
+    DATA,
 ];
 
 /// The arguments of `tap`.
@@ -66,10 +71,12 @@ pub(crate) fn tap_options<'a>(options: &ArgMatches<'a>) -> Option<TapOptions<'a>
     let listen = word_of(options, "listen")?;
     let target = word_of(options, "target")?;
     let count = count_of(options, "count")?;
+    let style = style_of(options, "data")?;
     Some(TapOptions {
         listen,
         target,
         count,
+        style,
     })
 }
 

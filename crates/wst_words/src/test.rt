@@ -61,7 +61,7 @@ static ARGUMENTS: [Argument; 15] = [
         default: None,
         value_name: "",
         heading: Some("Output"),
-        help: "Print what was due and got in each turn, and the rule",
+        help: "Print what was expected and received, and the rule",
     },
     Argument {
         name: "progress",
@@ -161,12 +161,13 @@ const AFTER_HELP: &str =
     "Each case gives PASS, LOOSE WHY (permitted, but not the reference behaviour),
 FAIL WHY (a rule is broken), FAIL Head NAME (the handshake was refused: see
 --header and --protocols) or `no connection`. `man wst` explains WHY and NAME.
-With --explain, N in `due N`, `got N` and `end WHO N` is the turn, and WHO ended
-the connection: `tester` is wst. Payloads are cut after 16 bytes (`..`).
-
-With --role client, start your client once `listening on` is printed. Each of
-its connections runs the next case. It must echo, unless --expect protocol is
-given, and reconnect. Clients for Autobahn's fuzzing server run unchanged.
+With --explain, `due N` is what was expected in turn N (`end WHY`: wst had sent
+the violation WHY), `got N` what arrived (`failed WHY`: a violation; `cut`: the
+end inside a frame). `end WHO`: who ended the connection, `tester` (wst), `peer`
+(the tested endpoint), or `broken`: it broke off. `..` follows the first 16
+bytes. In a rule, `ours` marks what is stricter than RFC 6455.
+With --role client, start your client after `listening on`: it must reconnect
+for each next case. Clients for Autobahn's fuzzing server run unchanged.
 
 Exit status:
   0  no FAIL; with --known, no new case and no other result
