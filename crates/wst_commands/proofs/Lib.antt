@@ -1,7 +1,9 @@
 -- The lemmas behind the commands: the cases that words stand for, what is delivered, how a verdict is
--- explained, and the scripts of all cases.
+-- explained, the scripts of all cases and the rules of verdicts, and the first place of a byte.
 pub mod CaseLemmas
 pub mod Delivering
 pub mod LastGot
 pub mod Explained
 pub mod NamedScripts
+pub mod RuleTexts
+pub mod FirstPlaces

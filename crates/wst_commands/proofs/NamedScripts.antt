@@ -11,7 +11,7 @@ use Rattle.ws_scripts.specs.CaseNames.{case_names}
 use Rattle.wst_commands.specs.Report.{AreScripts, IsScriptOf, named_script}
 use Rattle.wst_commands.proofs.CaseLemmas.{one_more_case}
 
-abbrev named : List ℕ → List ℕ → NamedText
+abbrev pub named : List ℕ → List ℕ → NamedText
 named name text = record { name = name; text = text }
 
 -- a text with its name, in other words

@@ -39,7 +39,8 @@ not_listening_line why.Failed = codes "not listening: failed\n"
 abbrev pub TellsFault : Fault → Exit → Device → Type 0
 TellsFault BadLimits exit faults = (exit ≡ WrongWords) × Tells (codes "bad limits\n") faults
 TellsFault BadProtocols exit faults = (exit ≡ WrongWords) × Tells (codes "bad protocol list\n") faults
-TellsFault BadTimeout exit faults = (exit ≡ WrongWords) × Tells (codes "bad timeout\n") faults
+TellsFault BadTimeout exit faults = (exit ≡ WrongWords)
+    × Tells (codes "bad timeout\n  a whole number of seconds, 1 to 3600: --timeout 5\n") faults
 TellsFault TimeoutWithUnit exit faults =
     (exit ≡ WrongWords) × Tells (codes "bad timeout\n  seconds without a unit: --timeout 5\n") faults
 TellsFault StreamWithCapture exit faults =

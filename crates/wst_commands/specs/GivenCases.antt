@@ -74,9 +74,10 @@ LackCases words NoMemory = ⊤
 
 -- ---- what is told
 
--- the line that tells that there is no such case
+-- the lines that tell that there is no such case, and how to find one
 abbrev pub no_case_line : List ℕ → List ℕ
-no_case_line id = concat (codes "no such case: " ∷ id ∷ codes "\n" ∷ [])
+no_case_line id = concat (codes "no such case: " ∷ id
+    ∷ codes "\n  wst cases lists them; a star stands for a group: '2.*'\n" ∷ [])
 
 -- what is told where there are no cases for the words, and the exit
 abbrev pub TellsNoCases : NoCases → Exit → Device → Type 0

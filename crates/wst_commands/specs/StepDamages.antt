@@ -6,6 +6,7 @@ use Rattle.std.specs.List.{ends_with, list_any, starts_with}
 use Rattle.ws_formats.specs.Words.{words_of}
 use Rattle.wst_commands.specs.declared.step_damages.StepDamage.{StepDamage}
 use Rattle.wst_commands.specs.declared.step_damages.StepDamage.TheVariants.{EndsInCr, Order, Other, Quotes, Unended}
+use Rattle.wst_commands.specs.declared.step_damages.StepDamage.TheVariants.{Unprintable}
 
 -- ---- cutting
 
@@ -61,10 +62,23 @@ order_damage line = words_damage (words_of line)
 abbrev pub behind_damage : List (List ℕ) → StepDamage
 behind_damage words = if descend 5 words then Order else Other
 
+-- a byte that no text has: one outside 0x20 to 0x7e
+abbrev pub is_unprintable : ℕ → Bool
+is_unprintable byte = nat_lt byte 32 || nat_lt 126 byte
+
+-- a line that ends with this text, before which this is wrong: where that is nothing else, a byte of the text may be it
+abbrev pub inner_damage : List ℕ → StepDamage → StepDamage
+inner_damage text Other = if list_any is_unprintable text then Unprintable else Other
+inner_damage text Unended = Unended
+inner_damage text EndsInCr = EndsInCr
+inner_damage text Quotes = Quotes
+inner_damage text Order = Order
+inner_damage text Unprintable = Unprintable
+
 -- what stands behind the second quote: no quote, and nothing else
 abbrev pub text_damage : List ℕ → Option (List ℕ × List ℕ) → StepDamage
 text_damage front None = Quotes
-text_damage front (Some (_, [])) = order_damage front
+text_damage front (Some (text, [])) = inner_damage text (order_damage front)
 text_damage front (Some (_, byte ∷ behind)) =
     if list_any (λ other. other == 34) (byte ∷ behind) then Quotes else behind_damage (words_of (byte ∷ behind))
 
@@ -78,7 +92,7 @@ cut_damage line None = order_damage line
 cut_damage line (Some parts) = quoted_damage parts.0 parts.1
 
 -- a line that has an LF: it ends in CR; or else it has quotes, and not two; or else its fields stand in another order,
--- or one of them behind its data
+-- or one of them behind its data; or else its text has a byte that no text has
 abbrev pub line_damage : List ℕ → StepDamage
 line_damage line = if ends_with nat_eq line (13 ∷ []) then EndsInCr else cut_damage line (cut_of 34 line)
 
@@ -98,4 +112,5 @@ damage_words Unended = codes "not a step\n  end the last line with a line feed t
 damage_words EndsInCr = codes "not a step\n  end lines with LF alone, not with CR LF: tr -d '\\r'"
 damage_words Quotes = codes "not a step\n  a text has a quote at each end and none between: text \"hi\""
 damage_words Order = codes "not a step\n  the order is KIND fin= rsv= key= form= DATA"
+damage_words Unprintable = codes "not a step\n  a text is printable ASCII, other bytes are hex: text c3a9"
 damage_words Other = codes "not a step"

@@ -109,7 +109,10 @@ pub fn tell_fault<F: Write>(alloc: Global, fault: Fault, faults: &mut Watched<F>
             Exit::WrongWords
         }
         Fault::BadTimeout => {
-            tell(b"bad timeout\n", faults);
+            tell(
+                b"bad timeout\n  a whole number of seconds, 1 to 3600: --timeout 5\n",
+                faults,
+            );
             Exit::WrongWords
         }
         Fault::TimeoutWithUnit => {

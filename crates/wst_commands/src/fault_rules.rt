@@ -31,8 +31,8 @@ fn ending_rule(ending: &Ending) -> Option<&'static str>
 fn doomed_rule() -> &'static str
     ensures { result.now ≡ doomed_rule }
 {
-    "No more bytes can make a valid frame of those that were sent, so the connection may be \
-     failed before the rest comes (RFC 6455 section 7.1.7; ours)"
+    "What was sent cannot become a valid frame, whatever follows, so the connection may be failed before \
+     the rest arrives (RFC 6455 section 7.1.7; ours)"
 }
 
 /// The rule that the bytes of this fault break.
@@ -41,52 +41,52 @@ fn reason_rule(reason: Reason) -> &'static str
 {
     match reason {
         Reason::ReservedBits =>
-            "A reserved bit that no extension defines is 0, and an end that gets a 1 fails the \
-             connection (RFC 6455 section 5.2)",
+            "A reserved bit is 0 unless an extension defines it, and an endpoint that receives a 1 fails \
+             the connection (RFC 6455 section 5.2)",
         Reason::Opcode =>
-            "A frame has an opcode that is defined, and an end that gets another fails the \
+            "A frame has a defined opcode, and an endpoint that receives another opcode fails the \
              connection (RFC 6455 section 5.2)",
         Reason::MaskWrong =>
-            "A client masks its frames and a server does not, and an end that gets it \
-             otherwise closes the connection (RFC 6455 section 5.1)",
+            "A client masks its frames, a server does not, and an endpoint that receives the opposite \
+             closes the connection (RFC 6455 section 5.1)",
         Reason::NotShortest =>
-            "A length is in the shortest form that holds it (RFC 6455 section 5.2); to fail \
-             the connection over another is ours",
+            "A length is written in the shortest form that holds it (RFC 6455 section 5.2); that \
+             the receiver fails the connection otherwise is ours",
         Reason::BadLength =>
-            "The top bit of a length in eight bytes is 0 (RFC 6455 section 5.2); to fail the \
-             connection over another is ours",
+            "The top bit of a length in eight bytes is 0 (RFC 6455 section 5.2); that the receiver \
+             fails the connection otherwise is ours",
         Reason::ControlCut =>
-            "A control frame is not fragmented (RFC 6455 sections 5.4 and 5.5); to fail the \
-             connection over a fragment is ours",
+            "A control frame is not fragmented (RFC 6455 sections 5.4 and 5.5); that the receiver \
+             fails the connection otherwise is ours",
         Reason::ControlLong =>
-            "A control frame has at most 125 bytes of payload (RFC 6455 section 5.5); to fail \
-             the connection over more is ours",
+            "A control frame has at most 125 bytes of payload (RFC 6455 section 5.5); that the \
+             receiver fails the connection otherwise is ours",
         Reason::NothingToContinue =>
-            "A continuation follows the first fragment of its message (RFC 6455 section 5.4); \
-             to fail the connection over one of nothing is ours",
+            "A continuation follows the first fragment of its message (RFC 6455 section 5.4); that \
+             the receiver fails the connection otherwise is ours",
         Reason::MessageOpen =>
-            "The fragments of a message are not interleaved with another message (RFC 6455 \
-             section 5.4); to fail the connection over it is ours",
+            "The fragments of a message are not interleaved with another message (RFC 6455 section \
+             5.4); that the receiver fails the connection otherwise is ours",
         Reason::TooBig =>
-            "A message has at most 16777216 bytes (ours; RFC 6455 section 10.4 leaves it to \
-             each end)",
+            "A message has at most 16777216 bytes (ours; RFC 6455 section 10.4 leaves the limit to each \
+             endpoint)",
         Reason::NotText =>
-            "A text is UTF-8, and an end that gets other bytes fails the connection (RFC 6455 \
-             section 8.1)",
+            "A text message is UTF-8, and an endpoint that receives other bytes fails the connection (RFC \
+             6455 section 8.1)",
         Reason::TextCut =>
-            "A text is UTF-8 as a whole, so it ends behind a whole character (RFC 6455 \
-             sections 5.6 and 8.1)",
+            "A text message is UTF-8 as a whole, so it ends after a whole character (RFC 6455 sections \
+             5.6 and 8.1)",
         Reason::CloseOneByte =>
-            "The payload of a close frame is empty or begins with a code of two bytes (RFC \
-             6455 section 5.5.1); to fail the connection over one byte is ours",
+            "The payload of a close frame is empty or begins with a code of two bytes (RFC 6455 \
+             section 5.5.1); that the receiver fails the connection otherwise is ours",
         Reason::CloseCode =>
-            "A close frame has a code that may stand in one (RFC 6455 sections 7.4.1 and \
-             7.4.2); to fail the connection over another is ours",
+            "A close frame has a code that may be sent (RFC 6455 sections 7.4.1 and 7.4.2); that \
+             the receiver fails the connection otherwise is ours",
         Reason::CloseReason =>
-            "The reason of a close frame is UTF-8 (RFC 6455 section 5.5.1), and an end that \
-             gets other bytes fails the connection (section 8.1)",
+            "The reason of a close frame is UTF-8 (RFC 6455 section 5.5.1), and an endpoint that receives \
+             other bytes fails the connection (section 8.1)",
         Reason::FrameBig =>
-            "A data frame is at most as large as the end takes (ours; RFC 6455 section 10.4 \
-             leaves it to each end)",
+            "A data frame is at most as large as its receiver accepts (ours; RFC 6455 section 10.4 leaves \
+             the limit to each endpoint)",
     }
 }

@@ -206,13 +206,15 @@ pub fn tell_no_cases<F: Write>(alloc: Global, why: NoCases<'_>, faults: &mut Wat
     }
 }
 
-/// Tells that there is no case of this name.
+/// Tells that there is no case of this name, and how to find one.
 fn tell_no_case<F: Write>(alloc: Global, id: &str, faults: &mut Watched<F>) -> Exit
     ensures told { ((result ≡ WrongWords) × Tells (no_case_line id.now) (watched F.contents faults.old faults.new))
         ⊎ LacksMemory result (watched F.contents faults.old faults.new) }
     ensures still { StaysFailed faults.old faults.new }
 {
-    match format!(in alloc; "no such case: {id}\n") {
+    match format!(in alloc;
+        "no such case: {id}\n  wst cases lists them; a star stands for a group: '2.*'\n"
+    ) {
         Ok(line) => {
             tell(line.as_bytes(), faults);
             Exit::WrongWords

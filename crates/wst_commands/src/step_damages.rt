@@ -1,10 +1,13 @@
 //! What is wrong with a line that is no step, where that is known to be typed often.
 
 ghost use Rattle.std.specs.Prelude.{◌≡◌, ◌==◌, IfOk, map, position};
+ghost use Rattle.std.specs.List.{list_any};
 ghost use Rattle.wst_commands.specs.StepDamages.{CutsAtMark, behind_damage, behind_lines, damage_words, descend};
+ghost use Rattle.wst_commands.specs.StepDamages.{inner_damage, is_unprintable};
 ghost use Rattle.wst_commands.specs.StepDamages.{field_rank, line_damage};
 ghost use Rattle.wst_commands.specs.StepDamages.{order_damage, quoted_damage, step_damage, words_damage};
 
+use memchr::memchr;
 use std::alloc::{AllocError, Global};
 use ws_formats::words_of;
 
@@ -22,6 +25,8 @@ pub enum StepDamage {
     Quotes,
     /// Its fields stand in another order.
     Order,
+    /// A byte of its text is no printable ASCII.
+    Unprintable,
     /// It is none of these.
     Other,
 }
@@ -38,6 +43,8 @@ impl StepDamage {
             StepDamage::Quotes =>
                 "not a step\n  a text has a quote at each end and none between: text \"hi\"",
             StepDamage::Order => "not a step\n  the order is KIND fin= rsv= key= form= DATA",
+            StepDamage::Unprintable =>
+                "not a step\n  a text is printable ASCII, other bytes are hex: text c3a9",
             StepDamage::Other => "not a step",
         }
     }
@@ -85,17 +92,52 @@ fn line_damage(alloc: Global, line: &[u8]) -> Result<StepDamage, AllocError>
 fn quoted_damage(alloc: Global, front: &[u8], rest: &[u8]) -> Result<StepDamage, AllocError>
     ensures { IfOk result (λ damage. damage ≡ quoted_damage front.now rest.now) }
 {
-    let Some((_, behind)) = cut_at(rest, b'"') else {
+    let Some((text, behind)) = cut_at(rest, b'"') else {
         return Ok(StepDamage::Quotes);
     };
     if behind.contains(&b'"') {
         return Ok(StepDamage::Quotes);
     }
     if behind.is_empty() {
-        return order_damage(alloc, front);
+        let fields = order_damage(alloc, front)?;
+        return Ok(inner_damage(text, fields));
     }
     let words = words_of(alloc, behind)?;
     Ok(behind_damage(words.as_slice()))
+}
+
+/// What is wrong with a line that ends with a text, by this text and by what is wrong with the fields before it.
+fn inner_damage(text: &[u8], fields: StepDamage) -> StepDamage
+    ensures { result ≡ inner_damage text.now fields }
+{
+    match fields {
+        StepDamage::Unended => StepDamage::Unended,
+        StepDamage::EndsInCr => StepDamage::EndsInCr,
+        StepDamage::Quotes => StepDamage::Quotes,
+        StepDamage::Order => StepDamage::Order,
+        StepDamage::Unprintable => StepDamage::Unprintable,
+        StepDamage::Other => {
+            if has_unprintable(text) {
+                StepDamage::Unprintable
+            } else {
+                StepDamage::Other
+            }
+        }
+    }
+}
+
+/// Whether one of these bytes is no printable character of ASCII.
+fn has_unprintable(text: &[u8]) -> bool
+    ensures { result ≡ list_any is_unprintable text.now }
+{
+    text.iter().any(|byte| is_unprintable(*byte))
+}
+
+/// Whether a byte is no printable character of ASCII.
+fn is_unprintable(byte: u8) -> bool
+    ensures { result ≡ is_unprintable byte }
+{
+    !(b' '..=b'~').contains(&byte)
 }
 
 /// What is wrong with the words behind a text.
@@ -171,5 +213,5 @@ pub(crate) fn cut_at(bytes: &[u8], mark: u8) -> Option<(&[u8], &[u8])>
 fn first_at(bytes: &[u8], mark: u8) -> Option<usize>
     ensures { result ≡ position (λ byte. byte == mark) bytes.now }
 {
-    bytes.iter().position(|byte| *byte == mark)
+    memchr(mark, bytes)
 }

@@ -1,6 +1,7 @@
 -- What `tap` is asked for, and its run.
 use Rattle.std.specs.Prelude.{◌≡◌, ◌⊎◌, ⊤, false, List, ℕ, Result}
 use Rattle.ws_frame.specs.Devices.{Device, IsUntouched}
+use Rattle.ws_frame.specs.declared.source.DataStyle.{DataStyle}
 use Rattle.ws_targets.specs.Places.{IsAddress}
 use Rattle.ws_targets.specs.Targets.{IsTargetText, TargetValue}
 use Rattle.wst_words.specs.declared.tap.TapOptions.{TapOptions}
@@ -17,14 +18,15 @@ use Rattle.wst_testing.specs.declared.run_plans.Refusal.TheVariants.{BadAddress,
 use Rattle.ws_targets.specs.declared.advice.Advice.TheVariants.{Nothing}
 
 -- it is told that connections to this address are taken, and then they are tapped; or the line came to nothing
-abbrev pub TapsToldAt : ℕ → List ℕ → Result Exit Fault → Device → Type 0
-TapsToldAt count address ended output =
-    TapsPairs count (listening_line address) ended output ⊎ StopsAtListening address ended output
+abbrev pub TapsToldAt : DataStyle → ℕ → List ℕ → Result Exit Fault → Device → Type 0
+TapsToldAt style count address ended output =
+    TapsPairs style count (listening_line address) ended output ⊎ StopsAtListening address ended output
 
 -- what is told of the address is told, and then connections are tapped; or nothing can be listened at
 abbrev pub TapsAt : TapOptions → Result Exit Fault → Device → Type 0
 TapsAt options ended output =
-    ((address : List ℕ) × IsToldFor options.listen.now address × TapsToldAt options.count address ended output)
+    ((address : List ℕ) × IsToldFor options.listen.now address
+    × TapsToldAt options.style options.count address ended output)
     ⊎ ServesNone ended output
 
 -- the word names the server: as a `ws` URL, of which the host and the port count; or as a host and a port

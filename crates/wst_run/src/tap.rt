@@ -61,7 +61,7 @@ fn can_name_server(word: &str) -> bool
 }
 
 /// Listens at the address, which is told in a line, with the port that the system chose in the place of a port 0, and
-/// taps so many connections to the server at the other one, one after the other.
+/// taps so many connections to the server at the other one, one after the other, and tells of them.
 fn tap_at<N: Net, W: Write>(
     alloc: Global,
     options: &TapOptions<'_>,
@@ -82,5 +82,5 @@ fn tap_at<N: Net, W: Write>(
         return Ok(told);
     }
     let pairs = ListenerPairs::of(net, &listener, server);
-    tap_pairs(alloc, &pairs, options.count, writer)
+    tap_pairs(alloc, &pairs, options.count, options.style, writer)
 }

@@ -24,12 +24,13 @@ pub enum ConnectFault {
 }
 
 impl ConnectFault {
-    /// The line that tells it.
+    /// The line that tells it. A second one says what to type, where that is known.
     pub fn line(self) -> &'static [u8]
         ensures { result.now ≡ miss_line self }
     {
         match self {
-            ConnectFault::NoSuchHost => b"no connection: no such host\n",
+            ConnectFault::NoSuchHost =>
+                b"no connection: no such host\n  no address has this name, or the port is missing: localhost:9001\n",
             ConnectFault::Refused => b"no connection: refused\n",
             ConnectFault::Unreachable => b"no connection: unreachable\n",
             ConnectFault::TimedOut => b"no connection: timed out\n",

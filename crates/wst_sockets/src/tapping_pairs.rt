@@ -12,8 +12,8 @@ ghost use Rattle.wst_sockets.specs.Tapping.{TapsPairs, TellsPair, pair_end_line,
 use crate::serving_clients::deliver_line;
 use std::alloc::Global;
 use std::io::Write;
-use ws_frame::{Role, Watched, WriteFault};
-use ws_tap::TapEnd;
+use ws_frame::{DataStyle, Role, ShowFault, Watched};
+use ws_tap::{TapEnd, Tapped};
 use wst_commands::{Exit, Fault};
 
 /// How a connection between a client and the server ended.
@@ -55,38 +55,41 @@ pub trait Pairs {
     /// The next client. `None` where none can come any more.
     fn next_client(&self) -> Option<Self::Client>;
 
-    /// Connects to the server, and taps that connection of this number, until both are closed. At an error the output
-    /// has failed.
+    /// Connects to the server, and taps that connection, until both are closed. At an error the output has failed, or
+    /// memory ran out.
     fn tap<W: Write>(
         &self,
         alloc: Global,
         client: Self::Client,
-        number: u32,
+        tapped: Tapped,
         output: &mut Watched<W>,
-    ) -> Result<PairEnd, WriteFault>
+    ) -> Result<PairEnd, ShowFault>
         requires output_works { has_failed output.old ≡ false }
-        ensures tells { TellsPair number result (watched W.contents output.old output.new) };
+        ensures tells { TellsPair tapped result (watched W.contents output.old output.new) };
 }
 
-/// Taps connections, one after the other, and tells of each how it ended, before the next client is taken. A line that
-/// can't be written or flushed ends that, and so does it where no client can come any more.
+/// Taps connections, one after the other, with their payloads shown in this style, and tells of each how it ended,
+/// before the next client is taken. A line that can't be written or flushed ends that, and so does it where memory runs
+/// out, or no client can come any more.
 pub fn tap_pairs<P: Pairs, W: Write>(
     alloc: Global,
     pairs: &P,
     count: u32,
+    style: DataStyle,
     writer: &mut Watched<W>,
 ) -> Result<Exit, Fault>
     requires works { has_failed writer.old ≡ false }
-    ensures { TapsPairs count [] result (watched W.contents writer.old writer.new) }
+    ensures { TapsPairs style count [] result (watched W.contents writer.old writer.new) }
 {
     for tapped_before in 0..count {
         let Some(client) = pairs.next_client() else {
             return Ok(Exit::Failed);
         };
         let number = tapped_before + 1;
-        let end = match pairs.tap(alloc, client, number, writer) {
+        let end = match pairs.tap(alloc, client, Tapped { number, style }, writer) {
             Ok(end) => end,
-            Err(WriteFault) => return Ok(Exit::Failed),
+            Err(ShowFault::Write) => return Ok(Exit::Failed),
+            Err(ShowFault::NoMemory) => return Err(Fault::NoMemory),
         };
         let told = tell_end(alloc, number, end, writer)?;
         if writer.failed() {

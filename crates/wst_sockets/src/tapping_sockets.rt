@@ -17,8 +17,8 @@ use std::io::{Read, Write};
 use std::net::{Net, OpenListener, OpenStream};
 use std::os::fd::AsRawFd;
 use ws_connection::EndsDirection;
-use ws_frame::{Watched, WriteFault};
-use ws_tap::{TapSide, TapWriter, tap_ends};
+use ws_frame::{ShowFault, Watched};
+use ws_tap::{TapSide, TapWriter, Tapped, tap_ends};
 use wst_commands::TimeLimit;
 
 /// The clients of a listener of a network, and the address of the server.
@@ -54,9 +54,9 @@ where
         &self,
         alloc: Global,
         client: L::Stream,
-        number: u32,
+        tapped: Tapped,
         output: &mut Watched<W>,
-    ) -> Result<PairEnd, WriteFault> {
+    ) -> Result<PairEnd, ShowFault> {
         let Ok(server) = connect(self.net, self.target, TimeLimit::Unlimited) else {
             return Ok(PairEnd::NoConnection);
         };
@@ -64,7 +64,7 @@ where
             Ok(waker) => waker,
             Err(_) => return Ok(PairEnd::Unready),
         };
-        tap_streams(number, client, server, waker, output)
+        tap_streams(alloc, tapped, client, server, waker, output)
     }
 }
 
@@ -83,23 +83,25 @@ fn waker_of<N: Net, C: OpenStream + AsRawFd, S: OpenStream + AsRawFd>(
     SocketWaker::of(alloc, net, client, server)
 }
 
-/// Taps the connection of this number over its two streams, which are closed then.
+/// Taps a connection over its two streams, which are closed then.
 fn tap_streams<C: Read + Write + OpenStream + Drop, S: Read + Write + OpenStream + Drop, W: Write>(
-    number: u32,
+    alloc: Global,
+    tapped: Tapped,
     client: C,
     server: S,
     waker: SocketWaker,
     output: &mut Watched<W>,
-) -> Result<PairEnd, WriteFault>
+) -> Result<PairEnd, ShowFault>
     requires output_works { has_failed output.old ≡ false }
-    ensures tells { TellsPair number result (watched W.contents output.old output.new) }
+    ensures tells { TellsPair tapped result (watched W.contents output.old output.new) }
 {
     let (client, server) = (RefCell::new(client), RefCell::new(server));
     let mut waker = waker;
     let mut client_side = both_sides(&client);
     let mut server_side = both_sides(&server);
     let end = tap_ends(
-        number,
+        alloc,
+        tapped,
         &mut client_side,
         &mut server_side,
         &mut waker,

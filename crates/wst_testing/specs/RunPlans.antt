@@ -169,7 +169,8 @@ address_text advice.Nothing = codes "bad address\n"
 abbrev pub TellsRefusal : Refusal → Exit → Device → Type 0
 TellsRefusal refusal.BadProtocols exit faults = (exit ≡ WrongWords) × Tells (codes "bad protocol list\n") faults
 TellsRefusal refusal.BadHeader exit faults = (exit ≡ WrongWords) × Tells (codes "bad header\n") faults
-TellsRefusal refusal.BadTimeout exit faults = (exit ≡ WrongWords) × Tells (codes "bad timeout\n") faults
+TellsRefusal refusal.BadTimeout exit faults = (exit ≡ WrongWords)
+    × Tells (codes "bad timeout\n  a whole number of seconds, 1 to 3600: --timeout 5\n") faults
 TellsRefusal refusal.TimeoutWithUnit exit faults =
     (exit ≡ WrongWords) × Tells (codes "bad timeout\n  seconds without a unit: --timeout 5\n") faults
 TellsRefusal refusal.BadKey exit faults = (exit ≡ WrongWords) × Tells (codes "bad key\n") faults

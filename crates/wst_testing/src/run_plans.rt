@@ -280,7 +280,10 @@ pub fn tell_refusal<F: Write>(alloc: Global, refusal: Refusal<'_>, faults: &mut 
     match refusal {
         Refusal::BadProtocols => tell_wrong(b"bad protocol list\n", faults),
         Refusal::BadHeader => tell_wrong(b"bad header\n", faults),
-        Refusal::BadTimeout => tell_wrong(b"bad timeout\n", faults),
+        Refusal::BadTimeout => tell_wrong(
+            b"bad timeout\n  a whole number of seconds, 1 to 3600: --timeout 5\n",
+            faults,
+        ),
         Refusal::TimeoutWithUnit => tell_wrong(
             b"bad timeout\n  seconds without a unit: --timeout 5\n",
             faults,

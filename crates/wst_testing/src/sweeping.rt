@@ -137,6 +137,7 @@ fn run_script<S: CaseServer, W: Write, F: Write>(
     let outcome = outcome_of(alloc, server, &case, case_rules(rules))?;
     let told = connected(outcome)?;
     tell_outcome(alloc, rules, script, &case, &told, writer)?;
+    cases.give_back(case);
     Ok(told)
 }
 

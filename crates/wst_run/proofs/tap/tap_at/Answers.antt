@@ -30,7 +30,7 @@ returns g c =
     inl (
       c.as_slice.result.now,
       told,
-      inl (taps_after c.args.options.now.count (listening_line c.as_slice.result.now) c.tap_pairs.result
+      inl (taps_after c.args.options.now.style c.args.options.now.count (listening_line c.as_slice.result.now) c.tap_pairs.result
           (g.W.Write.contents (inner_of c.args.writer.now))
           (g.W.Write.contents (inner_of c.tell_listening.new.writer))
           (g.W.Write.contents (inner_of c.tap_pairs.new.writer))
