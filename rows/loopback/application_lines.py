@@ -178,7 +178,7 @@ def a_chat_server_that_closes_at_a_text():
         "got 1 ping 74686572653f",
         "got 1 close 1008",
         "end peer 1",
-        "rule An end may send a close frame at any time (RFC 6455 section 7.1.2)",
+        "rule An endpoint may send a close frame at any time (RFC 6455 section 7.1.2)",
     )
 
 
@@ -192,8 +192,8 @@ def a_server_that_answers_the_newest_ping():
         f"got 1 pong {payload(9)}",
         "got 2 close 1000",
         "end peer 2",
-        "rule A ping needs no answer where a later one has one (RFC 6455 section 5.5.3), or where the end may not have "
-        "read it or was sending a data frame",
+        "rule A ping needs no answer if a later one is answered (RFC 6455 section 5.5.3), or if the endpoint may not "
+        "have read it or was sending a data frame",
     )
 
 
@@ -210,8 +210,8 @@ def a_server_that_answers_no_ping():
         "due 2 close 1000",
         "got 2 close 1000",
         "end peer 2",
-        "rule An end that gets a ping sends a pong with its payload, unless it has already got a close frame (RFC 6455 "
-        "section 5.5.2); one for the latest ping may stand for all (section 5.5.3)",
+        "rule An endpoint that receives a ping sends a pong with its payload, unless it has already received a close "
+        "frame (RFC 6455 section 5.5.2); a pong for the latest ping is enough (section 5.5.3)",
     )
 
 
@@ -224,8 +224,8 @@ def a_server_that_lets_a_reserved_bit_pass():
         "end tester 1",
         "rule A server closes the connection at once when it has to fail it after a violation (RFC 6455 sections 5.1, "
         "5.2, 7.1.7 and 8.1), or when it has sent and received a close frame (section 5.5.1)",
-        "rule A reserved bit that no extension defines is 0, and an end that gets a 1 fails the connection "
-        "(RFC 6455 section 5.2)",
+        "rule A reserved bit is 0 unless an extension defines it, and an endpoint that receives a 1 fails the "
+        "connection (RFC 6455 section 5.2)",
     )
 
 
@@ -237,8 +237,8 @@ def a_server_that_goes_away():
         "LOOSE NoClose",
         "due 2 close 1000",
         "end peer 2",
-        "rule An end that gets a close frame sends one (RFC 6455 section 5.5.1), unless it ended the connection before "
-        "it had read it",
+        "rule An endpoint that receives a close frame sends one (RFC 6455 section 5.5.1), unless it ended the "
+        "connection before it read that frame",
     )
 
 
@@ -251,8 +251,8 @@ def a_server_that_goes_away_before_a_close():
     judge = start("judge", "--expect=protocol", "--explain", stdin=subprocess.PIPE)
     output, faults = judge.communicate(capture.encode(), timeout=SECONDS)
     rule = (
-        "An end that wants to end the connection sends a close frame first (RFC 6455 section 7.1.2), though it may end "
-        "it by any means when necessary (section 7.1.1)"
+        "An endpoint that wants to end the connection sends a close frame first (RFC 6455 section 7.1.2), but may end "
+        "it by any means if necessary (section 7.1.1)"
     )
     assert output.decode() == f"LOOSE OwnEnd\n  end peer 1\n  rule {rule}\n", output
     assert (judge.returncode, faults) == (0, b""), faults

@@ -27,16 +27,16 @@ BELOW_FAIL = """  due 1 text -
   got 1 binary -
   got 2 close 1000
   end peer 2
-  rule Each message is sent back, in order, of the same kind and payload (RFC 6455 sections 5.4 and 5.6; ours); if a \
-violation was sent, the last may be missing
+  rule An echo sends back each message, in order, with its kind and payload (ours; RFC 6455 sections 5.4 and 5.6 \
+define a message); if a violation was sent, messages just before it may be missing
 """
 BELOW_LOOSE = """  due 1 text -
   due 2 close 1000
   got 1 text -
   got 2 close 1001
   end peer 2
-  rule A close frame typically has the code of the one that it answers (RFC 6455 section 5.5.1), and one after a fault \
-the code of that fault (section 7.4.1)
+  rule A close frame after a violation has the code for that violation (RFC 6455 section 7.4.1), and one that \
+answers a valid close frame typically has its code (section 5.5.1)
 """
 
 

@@ -93,7 +93,7 @@ def limits_that_a_server_cannot_have():
 def limits_of_time_that_are_none():
     for seconds in ("", "0", "01", "3601", "99999999999999999999", "+1", "-1", "1.5", "s", " 1"):
         told = run("serve", f"--timeout={seconds}", "--limit", "0", "127.0.0.1:1", "1")
-        assert told == (2, b"", b"bad timeout\n"), seconds
+        assert told == (2, b"", b"bad timeout\n  a whole number of seconds, 1 to 3600: --timeout 5\n"), seconds
     told = (2, b"", b"bad timeout\n  seconds without a unit: --timeout 5\n")
     for seconds in ("1s", "500ms"):
         assert run("serve", "--timeout", seconds, "--limit", "0", "127.0.0.1:1", "1") == told, seconds

@@ -21,12 +21,12 @@ LONG = 60
 class Tap(Running):
     """`wst tap` between its clients and a socket of ours that listens."""
 
-    def __init__(self, count=1, target=None, before=None):
+    def __init__(self, count=1, target=None, before=None, options=()):
         self.listener = socket.create_server(("127.0.0.1", 0))
         self.listener.settimeout(SECONDS)
         self.number = 0
         target = (target or "127.0.0.1:{}").format(self.listener.getsockname()[1])
-        self.process = start("tap", "127.0.0.1:0", target, str(count), before=before)
+        self.process = start("tap", *options, "127.0.0.1:0", target, str(count), before=before)
         told, _, port = self.line().rpartition(":")
         assert told == "listening on 127.0.0.1", told
         self.port = int(port)
@@ -116,9 +116,9 @@ def a_connection():
     tap.ends()
 
 
-def in_512_kib_of_stack():
+def in_640_kib_of_stack():
     """With the stack that docs/proof/ASSUMPTIONS.md says is enough: a connection with 1 MiB each way."""
-    tap = Tap(before=lambda: resource.setrlimit(resource.RLIMIT_STACK, (512 * 1024, 512 * 1024)))
+    tap = Tap(before=lambda: resource.setrlimit(resource.RLIMIT_STACK, (640 * 1024, 640 * 1024)))
     client, server = tap.open_pair()
     text = bytes.fromhex("827f0000000000100000") + bytes(1024 * 1024)
     masked = bytes.fromhex("82ff000000000010000000000000") + bytes(1024 * 1024)
@@ -409,6 +409,23 @@ def a_url_names_the_server():
         tap.ends()
 
 
+def payloads_in_other_styles():
+    """With `--data`, payloads are told as text, or all of them, of both ends, as soon as their frame is whole."""
+    long = b"\x81\x14" + b"twenty bytes of text"
+    for style, short, shown in [("text", '"Hello"', '"twenty bytes of text"'), ("all", "48656c6c6f", long[2:].hex())]:
+        tap = Tap(options=(f"--data={style}",))
+        client, server = tap.open_pair()
+        client.send(HELLO)
+        assert server.get(len(HELLO)) == HELLO
+        tap.tells(f"> 0 text fin=1 rsv=0 key=37fa213d len=5 short {short}")
+        server.send(long)
+        assert client.get(len(long)) == long
+        tap.tells(f"< 0 text fin=1 rsv=0 key=- len=20 short {shown}")
+        end_in_turn(server, client)
+        tap.tells("end server")
+        tap.ends()
+
+
 def output_that_nobody_reads():
     tap = Tap()
     client, server = tap.pair()
@@ -451,7 +468,7 @@ def a_server_and_a_tester_of_ours():
 
 TESTS = [
     a_connection,
-    in_512_kib_of_stack,
+    in_640_kib_of_stack,
     a_line_once_its_frame_is_whole,
     frames_that_come_with_the_heads,
     heads_in_pieces,
@@ -467,6 +484,7 @@ TESTS = [
     the_next_client_waits,
     no_connection,
     a_url_names_the_server,
+    payloads_in_other_styles,
     output_that_nobody_reads,
     words_that_are_no_addresses,
     a_server_and_a_tester_of_ours,

@@ -25,8 +25,8 @@ EXPLAINED = """1.1.1 PASS
   got 1 binary -
   got 2 close 1000
   end peer 2
-  rule Each message is sent back, in order, of the same kind and payload (RFC 6455 sections 5.4 and 5.6; ours); if a \
-violation was sent, the last may be missing
+  rule An echo sends back each message, in order, with its kind and payload (ours; RFC 6455 sections 5.4 and 5.6 \
+define a message); if a violation was sent, messages just before it may be missing
 1 pass, 0 loose, 1 fail
 """
 

@@ -13,6 +13,7 @@ mod lanes;
 mod memory_net;
 mod probes;
 mod row_fault;
+mod stream_calls;
 mod streams;
 mod taps;
 mod transcripts;
@@ -77,6 +78,8 @@ fn answer_of_connections(
         "read_head" => handshakes::read_a_head(alloc, words, out),
         "serve" => handshakes::serve_connection(alloc, words, out),
         "probe" => probes::probe_server(alloc, words, out),
+        "stream" => stream_calls::call_stream(alloc, words, out),
+        "exchange" => stream_calls::run_exchange(alloc, words, out),
         "tap" => taps::tap_devices(alloc, words, out),
         _ => Err(RowFault::NotARow),
     }

@@ -7,8 +7,8 @@ use std::alloc::Global;
 use std::cell::RefCell;
 use std::fmt::Write;
 use ws_formats::Hex;
-use ws_frame::{Failing, Role, Watched};
-use ws_tap::{TapEnd, TapSide, Wakes, tap_ends};
+use ws_frame::{DataStyle, Failing, Role, Watched};
+use ws_tap::{TapEnd, TapSide, Tapped, Wakes, tap_ends};
 
 /// Nothing is waited for.
 #[derive(Drop)]
@@ -25,7 +25,8 @@ impl Wakes for NoWait {
 /// to which of them the direction can't be ended, and `+stopped` that neither takes a byte yet. How the tap ended; how
 /// many bytes of the client are left, unless `+noleft` says that this isn't told; and what was written to the server,
 /// to the client, and as lines, or whether the bytes of `all-to-server=`, `all-to-client=` and `all-lines=` begin with
-/// it; with `+ends` whether the directions to the server and to the client were ended.
+/// it; with `+ends` whether the directions to the server and to the client were ended. Payloads are shown by `+text` or
+/// `+all` in that style.
 pub fn tap_devices(alloc: Global, words: &[&str], out: &mut String) -> Result<(), RowFault> {
     let [settings @ .., client, server] = words else {
         return Err(RowFault::NotARow);
@@ -46,7 +47,18 @@ pub fn tap_devices(alloc: Global, words: &[&str], out: &mut String) -> Result<()
     let mut lines = sink_of(alloc, settings, &notes)?;
     lines.writes = failing_of(settings, "lines=")?;
     let mut output = Watched::new(lines);
-    let ended = tap_ends(1, &mut client, &mut server, &mut NoWait {}, &mut output);
+    let tapped = Tapped {
+        number: 1,
+        style: style_of(settings),
+    };
+    let ended = tap_ends(
+        alloc,
+        tapped,
+        &mut client,
+        &mut server,
+        &mut NoWait {},
+        &mut output,
+    );
     out.push_str(end_word(ended.ok()))?;
     if !asks_for(settings, "+noleft") {
         write!(out, ", {} left", client.reader.left())?;
@@ -64,6 +76,17 @@ pub fn tap_devices(alloc: Global, words: &[&str], out: &mut String) -> Result<()
         write!(out, ", ended {} {}", ends[0], ends[1])?;
     }
     Ok(())
+}
+
+/// How payloads are shown: by `+text`, by `+all`, or by their first bytes.
+fn style_of(settings: &[&str]) -> DataStyle {
+    if asks_for(settings, "+text") {
+        DataStyle::Text
+    } else if asks_for(settings, "+all") {
+        DataStyle::All
+    } else {
+        DataStyle::Hex
+    }
 }
 
 /// The reader of an end, whose reads fail as the setting of this name says.

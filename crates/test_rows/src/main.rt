@@ -9,6 +9,8 @@ mod dooms;
 mod echoes;
 mod explanations;
 mod frames;
+mod machine_runs;
+mod machine_stream;
 mod paths;
 mod peers;
 mod printing;
@@ -20,6 +22,7 @@ mod sweeps;
 mod takes;
 mod tap_devices;
 mod taps;
+mod testers;
 mod texts;
 mod upgrades;
 mod words;
@@ -73,6 +76,8 @@ fn answer_of_sessions(
         "take" => takes::take_frames(alloc, words, out),
         "echo" => echoes::take_frames(alloc, words, out),
         "doomed" => dooms::mark_lengths(alloc, words, out),
+        "tester" => testers::tell_tester(alloc, words, out),
+        "test_over" => machine_runs::run_tester(alloc, words, out),
         "tap" => taps::tap_moves(alloc, words, out),
         "tap_orders" => taps::tap_orders(alloc, words, out),
         _ => answer_of_scripts(alloc, call, words, out),

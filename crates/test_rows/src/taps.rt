@@ -8,8 +8,8 @@ use std::cell::RefCell;
 use std::fmt::Write;
 use ws_base::Payload;
 use ws_formats::Hex;
-use ws_frame::Watched;
-use ws_tap::{TapEnd, TapSide, tap_ends};
+use ws_frame::{DataStyle, Watched};
+use ws_tap::{TapEnd, TapSide, Tapped, tap_ends};
 use ws_wire::Role;
 
 /// Each order in which two ends send two pieces each.
@@ -24,43 +24,57 @@ const ORDERS: [[Role; 4]; 6] = [
 
 /// What a tap has told, and passed on.
 #[derive(Drop)]
-struct Tapped {
+struct TapTold {
     text: Vec<u8>,
     to_server: NotingWriter,
     to_client: NotingWriter,
     end: TapEnd,
 }
 
-/// `tap NUMBER MOVE ..`: the lines that a tap tells of the connection of this number; `>` and what it writes to the
-/// server; `<` and what it writes to the client, each with `ended` where that direction was ended; and how it ended:
-/// `client` or `server`, whose direction ended first, or `broken` where no move is left. Behind `>` stand the moves of
-/// the client, behind `<` those of the server: pieces that it sends, and `end` where it ends its direction.
+/// `tap [+text|+all] NUMBER MOVE ..`: the lines that a tap tells of the connection of this number, with payloads in
+/// this style, or by their first bytes; `>` and what it writes to the server; `<` and what it writes to the client,
+/// each with `ended` where that direction was ended; and how it ended: `client` or `server`, whose direction ended
+/// first, or `broken` where no move is left. Behind `>` stand the moves of the client, behind `<` those of the server:
+/// pieces that it sends, and `end` where it ends its direction.
 pub fn tap_moves(alloc: Global, words: &[&str], out: &mut String) -> Result<(), RowFault> {
+    let (style, words) = style_and_rest(words);
     let [number, words @ ..] = words else {
         return Err(RowFault::NotARow);
     };
+    let number = most_of(number)?;
     let moves = moves_of(alloc, words)?;
-    let tapped = tap(alloc, most_of(number)?, moves)?;
-    write!(out, "{}", Hex(tapped.text.as_slice()))?;
-    put_passed(out, ">", &tapped.to_server)?;
-    put_passed(out, "<", &tapped.to_client)?;
-    out.push_str(end_word(tapped.end))?;
+    let told = tap(alloc, Tapped { number, style }, moves)?;
+    write!(out, "{}", Hex(told.text.as_slice()))?;
+    put_passed(out, ">", &told.to_server)?;
+    put_passed(out, "<", &told.to_client)?;
+    out.push_str(end_word(told.end))?;
     Ok(())
 }
 
-/// `tap_orders NUMBER CLIENT SERVER`: each end sends its bytes in two pieces, cut at every place, and then ends its
-/// direction, in each order of the four pieces. The lines that are told of the client, and those of the server, where
-/// all these are the same and all bytes were passed on; else where they are not.
+/// The style of payloads that the first word names, and the words behind it; else by their first bytes, and all words.
+fn style_and_rest<'a, 'b>(words: &'a [&'b str]) -> (DataStyle, &'a [&'b str]) {
+    match words {
+        ["+text", rest @ ..] => (DataStyle::Text, rest),
+        ["+all", rest @ ..] => (DataStyle::All, rest),
+        _ => (DataStyle::Hex, words),
+    }
+}
+
+/// `tap_orders [+text|+all] NUMBER CLIENT SERVER`: each end sends its bytes in two pieces, cut at every place, and then
+/// ends its direction, in each order of the four pieces. The lines that are told of the client, and those of the
+/// server, where all these are the same and all bytes were passed on; else where they are not.
 pub fn tap_orders(alloc: Global, words: &[&str], out: &mut String) -> Result<(), RowFault> {
+    let (style, words) = style_and_rest(words);
     let [number, client, server] = words else {
         return Err(RowFault::NotARow);
     };
     let number = most_of(number)?;
+    let tapped = Tapped { number, style };
     let (client, server) = (bytes_of(alloc, client)?, bytes_of(alloc, server)?);
-    let first = tap_cut(alloc, number, &client, 0, &server, 0)?;
+    let first = tap_cut(alloc, tapped, &client, 0, &server, 0)?;
     for at in 0..=client.len() {
         for place in 0..=server.len() {
-            let lines = tap_cut(alloc, number, &client, at, &server, place)?;
+            let lines = tap_cut(alloc, tapped, &client, at, &server, place)?;
             if lines.as_str() != first.as_str() {
                 write!(out, "differs at {at} and {place}: ")?;
                 out.push_str(lines.as_str())?;
@@ -76,7 +90,7 @@ pub fn tap_orders(alloc: Global, words: &[&str], out: &mut String) -> Result<(),
 /// lines of the one that the first order gives, and those of the other; and which orders give others, or lose bytes.
 fn tap_cut(
     alloc: Global,
-    number: u32,
+    tapped: Tapped,
     client: &Payload,
     at: usize,
     server: &Payload,
@@ -85,8 +99,8 @@ fn tap_cut(
     let mut out = String::new(alloc);
     for order in ORDERS {
         let mut pieces = Pieces::cut(client, at, server, place);
-        let tapped = tap(alloc, number, pieces.in_order(alloc, order)?)?;
-        let lines = told_of_both(alloc, &tapped, client, server)?;
+        let told = tap(alloc, tapped, pieces.in_order(alloc, order)?)?;
+        let lines = told_of_both(alloc, &told, client, server)?;
         if out.is_empty() {
             out = lines;
         } else if out.as_str() != lines.as_str() {
@@ -159,11 +173,11 @@ fn halves(bytes: &[u8], at: usize) -> [&[u8]; 2] {
 /// The lines of the client, those of the server, and whether all that they sent was passed on, with their ends.
 fn told_of_both(
     alloc: Global,
-    tapped: &Tapped,
+    told: &TapTold,
     client: &Payload,
     server: &Payload,
 ) -> Result<String, RowFault> {
-    let Ok(text) = str::from_utf8(tapped.text.as_slice()) else {
+    let Ok(text) = str::from_utf8(told.text.as_slice()) else {
         return Err(RowFault::NotARow);
     };
     let mut out = String::new(alloc);
@@ -177,7 +191,7 @@ fn told_of_both(
         }
         write!(out, "{} ", Hex(lines.as_slice()))?;
     }
-    let is_passed = has_got(&tapped.to_server, client) && has_got(&tapped.to_client, server);
+    let is_passed = has_got(&told.to_server, client) && has_got(&told.to_client, server);
     out.push_str(if is_passed {
         "passed on"
     } else {
@@ -191,14 +205,15 @@ fn has_got(writer: &NotingWriter, bytes: &Payload) -> bool {
     writer.is_ended && writer.taken.as_slice() == bytes.as_slice()
 }
 
-/// What a tap of the connection of this number tells and passes on where its ends make these moves.
-fn tap(alloc: Global, number: u32, moves: Vec<Move>) -> Result<Tapped, RowFault> {
+/// What a tap of this connection tells and passes on where its ends make these moves.
+fn tap(alloc: Global, tapped: Tapped, moves: Vec<Move>) -> Result<TapTold, RowFault> {
     let moves = RefCell::new(Moves::new(moves));
     let mut client = side_of(alloc, &moves, Role::Client);
     let mut server = side_of(alloc, &moves, Role::Server);
     let mut output = Watched::new(Vec::new(alloc));
     let ended = tap_ends(
-        number,
+        alloc,
+        tapped,
         &mut client,
         &mut server,
         &mut NoMoveLeft {},
@@ -207,7 +222,7 @@ fn tap(alloc: Global, number: u32, moves: Vec<Move>) -> Result<Tapped, RowFault>
     let Ok(end) = ended else {
         return Err(RowFault::NoMemory);
     };
-    Ok(Tapped {
+    Ok(TapTold {
         text: output.into_inner(),
         to_server: server.writer,
         to_client: client.writer,
