@@ -17,6 +17,7 @@ pub mod ControlPayloads
 pub mod Payloads
 pub mod Frames
 pub mod MaskedParts
+pub mod MaskedBlocks
 pub mod Assembled
 pub mod Received
 pub mod Arriving

@@ -12,6 +12,7 @@ ghost use Rattle.ws_session.specs.Exchange.{is_over};
 ghost use Rattle.ws_session.specs.InnerReceiver.{IsSoundReceiver, IsExact, IsOwed, status_by};
 ghost use Rattle.ws_session.specs.InnerTaking.{Receives, WantsRoom};
 
+mod appending;
 mod assembly;
 mod checking;
 mod control_frame;

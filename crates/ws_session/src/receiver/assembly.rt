@@ -9,14 +9,13 @@ ghost use Rattle.ws_session.specs.Faults.{open_payload, IsOpenText};
 ghost use Rattle.ws_session.specs.InnerMasked.{masked_from};
 ghost use Rattle.ws_session.specs.InnerReceiving.{HasKept, IsJoined, first_bytes, frame_payload, kind_with};
 
-use crate::control_payload::unmasked;
 use crate::event_room::EventRoom;
 use crate::message::Kind;
+use crate::receiver::appending::append_masked;
 use std::alloc::Global;
 use std::marker::Model;
 use ws_base::NoMemory;
 use ws_text::Utf8Stream;
-use ws_wire::mask;
 
 /// The open message, if there is one, and after its payload the payload bytes that are kept of the frame under way.
 /// Contracts see the message, all of these bytes, and the stream that reads them where they are text.
@@ -239,31 +238,5 @@ fn append_in_room(
         room.lend(kept);
     }
     append_masked(kept, phase, key, bytes)?;
-    Ok(())
-}
-
-/// Puts a part of a payload after other bytes, unmasked. `phase` is the place of its first byte in the payload,
-/// modulo 4.
-#[inline(always)]
-fn append_masked(
-    kept: &mut Vec<u8>,
-    phase: usize,
-    key: Option<[u8; 4]>,
-    bytes: &[u8],
-) -> Result<(), NoMemory>
-    requires { phase ≤ 3 }
-    ensures put { OnOk result (kept.new.items ≡ kept.old.items ++ masked_from key phase bytes.now) }
-    ensures kept { OnErr result (kept.new.items ≡ kept.old.items) }
-    ensures wants { OnErr result (0 < length bytes.now) }
-{
-    if let [byte] = bytes {
-        kept.push(unmasked(key, phase, *byte))?;
-        return Ok(());
-    }
-    let from = kept.len();
-    kept.extend_from_slice(bytes)?;
-    if let Some(key) = key {
-        mask(key, phase, &mut kept[from..]);
-    }
     Ok(())
 }
