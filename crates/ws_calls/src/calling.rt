@@ -14,11 +14,9 @@ use crate::report::CallAnswer;
 use crate::report_lines::{tell_answer, tell_events};
 use std::alloc::Global;
 use ws_base::{NoMemory, Payload, Sequence};
+use ws_parts::cut_part;
 use ws_session::laws::{one_list_of_events, replies_go_on};
 use ws_session::{Echo, PlacedEvent, Session, Status};
-
-/// How many bytes of a piece are taken at once: so few that the room for their events doesn't count.
-const AT_ONCE: usize = 4096;
 
 /// An end that a script makes calls of: a session, or an echo.
 pub(crate) trait Scripted: Drop {
@@ -140,7 +138,7 @@ impl<E: Scripted> Caller<E> {
         replies_go_on();
         let mut rest = piece;
         while !rest.is_empty() {
-            let (part, after) = rest.split_at(rest.len().min(AT_ONCE));
+            let (part, after) = cut_part(rest);
             self.take_part(alloc, part, key, put)?;
             rest = after;
         }

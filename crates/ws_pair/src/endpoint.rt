@@ -19,11 +19,9 @@ use crate::moves::Move;
 use crate::report::{Answer, EndReport};
 use std::alloc::Global;
 use ws_base::NoMemory;
+use ws_parts::cut_part;
 use ws_session::{Event, Limits, Message, Outgoing, PlacedEvent, SendFault, Session};
 use ws_wire::Role;
-
-/// How many bytes of a piece are taken at once: so few that the room for their events doesn't count.
-const AT_ONCE: usize = 4096;
 
 /// One end of two joined sessions.
 #[derive(Drop)]
@@ -184,7 +182,7 @@ impl Endpoint {
         session_laws();
         let mut rest = piece;
         while !rest.is_empty() {
-            let (part, after) = rest.split_at(rest.len().min(AT_ONCE));
+            let (part, after) = cut_part(rest);
             self.deliver_part(alloc, part, key)?;
             rest = after;
         }

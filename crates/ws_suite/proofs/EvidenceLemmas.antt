@@ -42,12 +42,6 @@ pub last_joined : {X : Type 0} (o : Option X) (xs ys : List X) → last_or o (xs
 last_joined o [] ys = refl
 last_joined {X} o (x ∷ xs) ys = last_joined (Some x) xs ys
 
--- ---- a piece, a part of it at a time
-
--- what is no longer than the part stands at the front of the whole
-pub front_of_part : {X : Type 0} (used n : ℕ) (xs : List X) → used ≤ length (take n xs) → take used (take n xs) ≡ take used xs
-front_of_part {X} used n xs within = sym (take-append-le used (take n xs) (drop n xs) within) ∙ ap (λ (l : List X). take used l) (take-append-drop n xs)
-
 -- ---- events of one turn
 
 pub nothing_collected : {K : Type 0} {keeps : K → List (InTurn Reply) → Type 0} (way : Way) (turn : ℕ) (c : Collected K) → AreCollected keeps way turn [] c c

@@ -14,6 +14,7 @@ use crate::evidence::{Ending, InTurn, KeepsReplies, Kept, ReplyKind};
 use crate::lemmas::session_laws;
 use std::alloc::Global;
 use ws_base::NoMemory;
+use ws_parts::cut_part;
 use ws_session::{EventKind, Kind, Limits, PayloadRoom, Session};
 use ws_wire::{NO_KEY, Role};
 
@@ -77,12 +78,8 @@ pub(super) fn nothing_taken<K: KeepsReplies>(alloc: Global, way: Way, role: Role
     }
 }
 
-/// How many bytes of a piece are taken at once: so few that the room that a session asks for them doesn't count where
-/// one of them is at fault. The piece is cut at multiples of it, wherever its events end.
-const AT_ONCE: usize = 4096;
-
-/// Takes a piece of the turn with this number, which is the last, and collects what it says. Each event is collected
-/// before more bytes are taken: so there is no list of them.
+/// Takes a piece of the turn with this number, which is the last, and collects what it says. It is taken part by part,
+/// so that where a byte is at fault, the memory for what is behind it is hardly more.
 pub(super) fn take_piece<K: KeepsReplies>(
     way: Way,
     number: usize,
@@ -98,12 +95,35 @@ pub(super) fn take_piece<K: KeepsReplies>(
         OnOk result (HasSeenBytes role taken.new.session (bytes ++ piece.now) taken.new.seen) }
     ensures over { is_over taken.old.session.status ≡ true → taken.new.session ≡ taken.old.session }
 {
-    session_laws();
     let mut rest = piece;
     while !rest.is_empty() {
-        let block = AT_ONCE - (piece.len() - rest.len()) % AT_ONCE;
-        let part = &rest[..rest.len().min(block)];
-        let used = take_front(way, number, part, rooms, taken)?;
+        let (part, after) = cut_part(rest);
+        take_part(way, number, part, rooms, taken)?;
+        rest = after;
+    }
+    Ok(())
+}
+
+/// The same of a part of it. Each event is collected before more bytes are taken: so there is no list of them.
+fn take_part<K: KeepsReplies>(
+    way: Way,
+    number: usize,
+    part: &[u8],
+    rooms: &mut Rooms,
+    taken: &mut Taken<K>,
+) -> Result<(), NoMemory>
+    ensures taken { (role : Role) (turns : List (List ℕ)) (last : List ℕ) → number ≡ length turns →
+        HasTakenWay K.keeps way role (turns ++ last ∷ []) taken.old.session taken.old.collected →
+        OnOk result (HasTakenWay K.keeps way role (turns ++ (last ++ part.now) ∷ [])
+        taken.new.session taken.new.collected) }
+    ensures seen { (role : Role) (bytes : List ℕ) → HasSeenBytes role taken.old.session bytes taken.old.seen →
+        OnOk result (HasSeenBytes role taken.new.session (bytes ++ part.now) taken.new.seen) }
+    ensures over { is_over taken.old.session.status ≡ true → taken.new.session ≡ taken.old.session }
+{
+    session_laws();
+    let mut rest = part;
+    while !rest.is_empty() {
+        let used = take_front(way, number, rest, rooms, taken)?;
         rest = &rest[used..];
     }
     Ok(())

@@ -19,9 +19,9 @@ loop-rest-init g c = (
 pub loop-rest-preserved : goal.loop-rest-preserved
 loop-rest-preserved g c =
     let rest = c.loop-rest.rest.now in
-    let part = c.split_at.result.0.now in
-    let after = c.split_at.result.1.now in
-    let split : rest ≡ part ++ after = search rules in
+    let part = c.cut_part.result.0.now in
+    let after = c.cut_part.result.1.now in
+    let split : rest ≡ part ++ after = sym c.cut_part.ensures.whole in
     let i = c.loop-rest.invariant in
     let h = c.in_ok-take_part.ensures in
     let start = c.args.self.now.taken in

@@ -18,18 +18,18 @@ loop-rest-init c = (
 pub deliver_part-requires : goal.deliver_part-requires
 deliver_part-requires c =
     let rest = c.loop-rest.rest.now in
-    let part = c.split_at.result.0.now in
-    let after = c.split_at.result.1.now in
-    let split : rest ≡ part ++ after = search rules in
+    let part = c.cut_part.result.0.now in
+    let after = c.cut_part.result.1.now in
+    let split : rest ≡ part ++ after = sym c.cut_part.ensures.whole in
     let i = c.loop-rest.invariant in
     omega (arith, c.requires, i.2, ap (λ (l : List ℕ). length l) i.1, length-append i.0 rest, ap (λ (l : List ℕ). length l) split, length-append part after)
 
 pub loop-rest-preserved : goal.loop-rest-preserved
 loop-rest-preserved c =
     let rest = c.loop-rest.rest.now in
-    let part = c.split_at.result.0.now in
-    let after = c.split_at.result.1.now in
-    let split : rest ≡ part ++ after = search rules in
+    let part = c.cut_part.result.0.now in
+    let after = c.cut_part.result.1.now in
+    let split : rest ≡ part ++ after = sym c.cut_part.ensures.whole in
     let i = c.loop-rest.invariant in
     let done = i.0 in
     let parts = i.1 ∙ ap (λ (l : List ℕ). done ++ l) split in

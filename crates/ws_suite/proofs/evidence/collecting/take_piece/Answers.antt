@@ -1,9 +1,7 @@
--- The fronts are taken one after the other.
-use Rattle.std.proofs.Common.{◌≡◌, ◌∙◌, ◌-◌, ◌++◌, ◌∷◌, [], ℕ, List, ap, sym, subst, refl, arith, rules, length, take, drop, append_assoc, append-nil}
-use Rattle.std.proofs.lemmas.List.{length-drop, take-append-drop, take_all}
+-- The parts are taken one after the other.
+use Rattle.std.proofs.Common.{◌≡◌, ◌∙◌, ◌++◌, ◌∷◌, [], ℕ, List, ap, sym, subst, refl, rules, append_assoc, append-nil}
 use Rattle.ws_suite.specs.InnerCollecting.{HasTakenWay}
 use Rattle.ws_suite.specs.InnerMarks.{HasSeenBytes}
-use Rattle.ws_suite.proofs.EvidenceLemmas.{front_of_part}
 use Rattle.ws_suite.proofs.evidence.collecting.take_piece.Goals as goal
 
 pub loop-rest-init : goal.loop-rest-init
@@ -18,18 +16,16 @@ loop-rest-init g c = (
 pub loop-rest-preserved : goal.loop-rest-preserved
 loop-rest-preserved g c =
     let rest = c.loop-rest.rest.now in
-    let used = c.in_ok-used.used in
-    let part = take used rest in
-    let taken : take used (take c.min.result rest) ≡ part = front_of_part used c.min.result rest c.in_ok-used.ensures.used.1 in
-    let after = take (length rest - used) (drop used rest) in
-    let whole : after ≡ drop used rest = take_all (length rest - used) (drop used rest) (omega (arith, length-drop used rest)) in
-    let split : rest ≡ part ++ after = sym (take-append-drop used rest) ∙ ap (λ (l : List ℕ). part ++ l) (sym whole) in
+    let part = c.cut_part.result.0.now in
+    let after = c.cut_part.result.1.now in
+    let split : rest ≡ part ++ after = sym c.cut_part.ensures.whole in
+    let h = c.in_ok-take_part.ensures in
     let i = c.loop-rest.invariant in (
       i.0 ++ part,
       i.1 ∙ (ap (λ (l : List ℕ). i.0 ++ l) split ∙ sym (append_assoc i.0 part after)),
-      λ role turns last number h. subst (λ (l : List ℕ). HasTakenWay g.K.KeepsReplies.keeps c.args.way role (turns ++ l ∷ []) c.take_front.new.taken.session c.take_front.new.taken.collected) (ap (λ (l : List ℕ). (last ++ i.0) ++ l) taken ∙ append_assoc last i.0 part)
-          (c.in_ok-used.ensures.taken c.session_laws.ensures role turns (last ++ i.0) number (i.2 role turns last number h)),
-      λ role bytes h. subst (λ (l : List ℕ). HasSeenBytes role c.take_front.new.taken.session l c.take_front.new.taken.seen) (ap (λ (l : List ℕ). (bytes ++ i.0) ++ l) taken ∙ append_assoc bytes i.0 part)
-          (c.in_ok-used.ensures.seen role (bytes ++ i.0) (i.3 role bytes h)),
+      λ role turns last number way. subst (λ (l : List ℕ). HasTakenWay g.K.KeepsReplies.keeps c.args.way role (turns ++ l ∷ []) c.take_part.new.taken.session c.take_part.new.taken.collected) (append_assoc last i.0 part)
+          (h.taken role turns (last ++ i.0) number (i.2 role turns last number way)),
+      λ role bytes seen. subst (λ (l : List ℕ). HasSeenBytes role c.take_part.new.taken.session l c.take_part.new.taken.seen) (append_assoc bytes i.0 part)
+          (h.seen role (bytes ++ i.0) (i.3 role bytes seen)),
       λ over. search rules,
     )

@@ -1,4 +1,4 @@
--- Front after front: what stands before the rest of the piece was taken and collected as bytes of the last turn.
+-- Part after part: what stands before the rest of the piece was taken and collected as bytes of the last turn.
 use Rattle.std.proofs.Common.{◌≡◌, ◌++◌, ◌∷◌, [], ℕ, List, length, true}
 use Rattle.ws_wire.specs.declared.role.Role.{Role}
 use Rattle.ws_session.specs.Exchange.{is_over}
