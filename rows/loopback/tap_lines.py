@@ -116,22 +116,34 @@ def a_connection():
     tap.ends()
 
 
-def in_640_kib_of_stack():
-    """With the stack that docs/proof/ASSUMPTIONS.md says is enough: a connection with 1 MiB each way."""
-    tap = Tap(before=lambda: resource.setrlimit(resource.RLIMIT_STACK, (640 * 1024, 640 * 1024)))
-    client, server = tap.open_pair()
-    text = bytes.fromhex("827f0000000000100000") + bytes(1024 * 1024)
-    masked = bytes.fromhex("82ff000000000010000000000000") + bytes(1024 * 1024)
-    at_once(lambda: client.send(masked), lambda: same(server.get(len(masked)), masked))
-    at_once(lambda: server.send(text), lambda: same(client.get(len(text)), text))
-    end_in_turn(client, server)
-    zeros = "00" * 16
-    tap.tells(
-        f"> 0 binary fin=1 rsv=0 key=00000000 len=1048576 eight {zeros}..",
-        f"< 0 binary fin=1 rsv=0 key=- len=1048576 eight {zeros}..",
-        "end client",
-    )
-    tap.ends()
+def in_512_kib_of_stack():
+    """With the stack that docs/proof/ASSUMPTIONS.md says is enough: a connection with 1 MiB each way, in each style."""
+    million = 1024 * 1024
+    text = bytes.fromhex("827f0000000000100000") + bytes(million)
+    masked = bytes.fromhex("82ff000000000010000000000000") + bytes(million)
+    short = "00" * 16 + ".."
+    for style, zeros in [("hex", short), ("text", short), ("all", "00" * million)]:
+        tap = Tap(before=keep_to_512_kib_of_stack, options=(f"--data={style}",))
+        client, server = tap.open_pair()
+        told = f"> 0 binary fin=1 rsv=0 key=00000000 len=1048576 eight {zeros}"
+        at_once(
+            lambda: client.send(masked),
+            lambda: same(server.get(len(masked)), masked),
+            lambda: tap.tells(told),
+        )
+        told = f"< 0 binary fin=1 rsv=0 key=- len=1048576 eight {zeros}"
+        at_once(
+            lambda: server.send(text),
+            lambda: same(client.get(len(text)), text),
+            lambda: tap.tells(told),
+        )
+        end_in_turn(client, server)
+        tap.tells("end client")
+        tap.ends()
+
+
+def keep_to_512_kib_of_stack():
+    resource.setrlimit(resource.RLIMIT_STACK, (512 * 1024, 512 * 1024))
 
 
 def same(got, wanted):
@@ -468,7 +480,7 @@ def a_server_and_a_tester_of_ours():
 
 TESTS = [
     a_connection,
-    in_640_kib_of_stack,
+    in_512_kib_of_stack,
     a_line_once_its_frame_is_whole,
     frames_that_come_with_the_heads,
     heads_in_pieces,

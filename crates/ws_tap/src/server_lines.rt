@@ -74,7 +74,7 @@ impl ServerLines {
                 let Some(found) = look_for_head(room, HeadKind::Response, self.tapped, piece) else {
                     return Ok(piece.len());
                 };
-                self.stage = stage_behind(alloc, self.tapped, found.head.status);
+                go_behind(alloc, self.tapped, found.head.status, &mut self.stage);
                 write_whole(writer, found.line.as_slice())?;
                 Ok(found.used)
             }
@@ -114,9 +114,9 @@ impl ServerLines {
     }
 }
 
-/// What follows a response of this status.
-fn stage_behind(alloc: Global, tapped: Tapped, status: Option<u16>) -> ServerStage
-    ensures { StandsBehindResponse tapped status result }
+/// The stage is that behind a response of this status. Each is put where it stays: no second room is on the stack.
+fn go_behind(alloc: Global, tapped: Tapped, status: Option<u16>, stage: &mut ServerStage)
+    ensures { StandsBehindResponse tapped status stage.new }
 {
     match status {
         Some(SWITCHING_PROTOCOLS) => {
@@ -125,8 +125,8 @@ fn stage_behind(alloc: Global, tapped: Tapped, status: Option<u16>) -> ServerSta
                 mark: Mark::ServerOf(tapped.number),
                 style: tapped.style,
             };
-            ServerStage::Frames(FrameLines::new(alloc, source))
+            *stage = ServerStage::Frames(FrameLines::new(alloc, source));
         }
-        _ => ServerStage::Other,
+        _ => *stage = ServerStage::Other,
     }
 }

@@ -43,14 +43,14 @@ returns-in_ok-write_whole-in-Head g c = record {
   told = λ tapped sent text told going.
       let self = c.args.self.now in
       let piece = c.args.piece.now in
-      let now = c.stage_behind.result in
+      let now = c.go_behind.new.stage in
       let head = c.in-Some.found in
       let stands = server_at self.stage (server.Head c.in-Head.room) tapped sent text c.in-Head.is told.1 in
       let l = looked_found Response self.tapped c.look_for_head.new.room sent.bytes
       piece c.look_for_head.result head c.in-Some.is
       (c.look_for_head.ensures sent.bytes stands.0) in
       let found = server_found now tapped self.tapped sent text piece head told.0 stands.1 going l
-      c.stage_behind.ensures in
+      c.go_behind.ensures in
       let was : false ≡ is_behind_response self.stage = ap (λ (s : ServerStage). is_behind_response s)
       (sym c.in-Head.is) in (
         head.line,
