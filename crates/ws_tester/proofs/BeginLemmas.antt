@@ -1,5 +1,5 @@
 -- A run begins: what is shown of it before anything is sent, and what comes of that.
-use Rattle.std.proofs.Common.{◌≡◌, ◌∙◌, ℕ, ◌||◌, Bool, true, false, List, [], ◌∷◌, refl, sym, ap, subst, append-nil}
+use Rattle.std.proofs.Common.{◌≡◌, ◌∙◌, ℕ, ◌||◌, Bool, true, false, List, [], ◌∷◌, sym, ap, subst, append-nil}
 use Rattle.std.specs.Prelude.{None}
 use Rattle.ws_session.specs.Exchange.{is_over}
 use Rattle.ws_scripts.specs.declared.transcript.Ended.TheVariants.{Tester}

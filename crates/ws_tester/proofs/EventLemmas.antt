@@ -32,6 +32,12 @@ room_fits None true allowance len fits = omega (arith, fits)
 room_fits None false allowance len fits = omega (arith, fits)
 room_fits (Some how) own allowance len fits = omega (arith, fits)
 
+one_read : (ended : Option Ended) (own : Bool) (allowance len : ℕ)
+    → len ≤ (if is_some ended || own then 0 else min allowance max_read) → len ≤ max_read
+one_read None true allowance len fits = omega (arith, fits)
+one_read None false allowance len fits = omega (arith, fits)
+one_read (Some how) own allowance len fits = omega (arith, fits)
+
 is_read : (ended : Option Ended) (own : Bool) (allowance : ℕ)
     → 0 < (if is_some ended || own then 0 else min allowance max_read) → own ≡ false
 is_read None true allowance some = absurd (let wrong : 0 < 0 = some in omega arith)
@@ -51,7 +57,10 @@ closes (Some how) closing half sent e = absurd cc
 pub may_happen : (x : RunState) (ev : StreamEvent) → MayBeTold (wanted_in x) ev → MayHappen x (told_at (wanted_in x) ev)
 may_happen x (event.Came piece) (undone, (some, fits)) = (
   reads x (omega (arith, some, fits)),
-  room_fits x.ended (wants_own_end x) x.allowance (length piece.now) fits,
+  (
+    room_fits x.ended (wants_own_end x) x.allowance (length piece.now) fits,
+    one_read x.ended (wants_own_end x) x.allowance (length piece.now) fits,
+  ),
 )
 may_happen x event.Ended (undone, some) = reads x some
 may_happen x event.ReadFailed (undone, some) = reads x some

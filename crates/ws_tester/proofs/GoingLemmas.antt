@@ -1,7 +1,7 @@
 -- A machine that is told an event: what changes, how the run goes on, and that it still wants something.
 use Rattle.std.proofs.Common.{◌≡◌, ◌∙◌, ℕ, zero, ◌<◌, ◌&&◌, ◌||◌, not, Bool, true, false, List, [], ◌∷◌, ◌++◌, length}
-use Rattle.std.proofs.Common.{take, refl, sym, ap, subst, arith, inl, inr}
-use Rattle.std.specs.Prelude.{Option, None, Some, is_some}
+use Rattle.std.proofs.Common.{take, refl, sym, subst, arith, inl, inr}
+use Rattle.std.specs.Prelude.{Some, is_some}
 use Rattle.ws_wire.specs.declared.role.Role.{Role}
 use Rattle.ws_machines.specs.Told.{Told, told_of}
 use Rattle.ws_machines.specs.Machines.{HasNext, IsRunning, MayBeTold, told_at}

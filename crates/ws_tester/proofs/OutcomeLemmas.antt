@@ -8,7 +8,8 @@ use Rattle.std.proofs.lemmas.Bool.Decides.{nat_tests}
 use Rattle.ws_machines.specs.Machines.{HasNext}
 use Rattle.ws_scripts.specs.declared.transcript.Ended.{Ended}
 use Rattle.ws_tester.specs.Standings.{stops_run}
-use Rattle.ws_tester.specs.Outcomes.{by_tests, has_come, is_turn_over, outcome_of, owes_messages}
+use Rattle.ws_tester.specs.Outcomes.{by_tests, has_come, has_end, is_spent, is_turn_over, outcome_of}
+use Rattle.ws_tester.specs.Outcomes.{owes_messages}
 use Rattle.ws_tester.specs.Outgoings.{first_piece}
 use Rattle.ws_tester.specs.RunStates.{RunState, has_more, is_all_sent, is_nothing, max_read, wanted_in, wants_own_end}
 use Rattle.ws_tester.specs.declared.outcome.Outcome.TheVariants.{Rests, Next}
@@ -40,6 +41,11 @@ some_byte : (bytes : List ℕ) → is_nothing bytes ≡ false → 0 < length byt
 some_byte [] e = absurd cc
 some_byte (byte ∷ bytes) e = omega arith
 
+not_both : (none own : Bool) → (none && not own) ≡ false → (none ≡ false) ⊎ (own ≡ true)
+not_both false own e = inl refl
+not_both true true e = inr refl
+not_both true false e = absurd cc
+
 not_spent : (n : ℕ) → nat_eq n 0 ≡ false → 0 < n
 not_spent n e = grind (arith, nat_tests)
 
@@ -67,14 +73,16 @@ unsent_wants x going unsent = wants_bytes x going (inl (some_byte (first_piece x
 
 pub rests_wants : (x : RunState) (facts : TurnFacts) → x.ended ≡ None → outcome_of x facts ≡ Rests
     → HasNext (wanted_in x)
-rests_wants x facts going e = wants_bytes x going
-    (pick (rests_by (stops_run x.plan.tested facts.standing) (is_all_sent x)
-    (is_turn_over x facts) (nat_eq x.allowance 0) (has_more x) e))
+rests_wants x facts going e = pick (rests_by (stops_run x.plan.tested facts.standing) (is_all_sent x)
+    (is_turn_over x facts) (is_spent x) (has_more x) e)
   where
-    pick : (is_all_sent x ≡ false) ⊎ ((is_all_sent x ≡ true) × (nat_eq x.allowance 0 ≡ false))
-        → (0 < length (first_piece x.outgoing.rest)) ⊎ (0 < x.allowance)
-    pick (inl unsent) = inl (some_byte (first_piece x.outgoing.rest) unsent)
-    pick (inr (sent, spent)) = inr (not_spent x.allowance spent)
+    unspent : (nat_eq x.allowance 0 ≡ false) ⊎ (wants_own_end x ≡ true) → HasNext (wanted_in x)
+    unspent (inl some) = wants_bytes x going (inr (not_spent x.allowance some))
+    unspent (inr own) = inr (inr (inl own))
+
+    pick : (is_all_sent x ≡ false) ⊎ ((is_all_sent x ≡ true) × (is_spent x ≡ false)) → HasNext (wanted_in x)
+    pick (inl unsent) = wants_bytes x going (inl (some_byte (first_piece x.outgoing.rest) unsent))
+    pick (inr (sent, spent)) = unspent (not_both (nat_eq x.allowance 0) (wants_own_end x) spent)
 
 -- ---- a turn that another one follows
 
@@ -87,15 +95,16 @@ come_by false false more vain last over = absurd cc
 
 pub next_more : (x : RunState) (facts : TurnFacts) → outcome_of x facts ≡ Next → has_more x ≡ true
 next_more x facts e = (next_by (stops_run x.plan.tested facts.standing) (is_all_sent x) (is_turn_over x facts)
-    (nat_eq x.allowance 0) (has_more x) e).2
+    (is_spent x) (has_more x) e).2
 
 pub next_sent : (x : RunState) (facts : TurnFacts) → outcome_of x facts ≡ Next → is_all_sent x ≡ true
 next_sent x facts e = (next_by (stops_run x.plan.tested facts.standing) (is_all_sent x) (is_turn_over x facts)
-    (nat_eq x.allowance 0) (has_more x) e).0
+    (is_spent x) (has_more x) e).0
 
 pub next_come : (x : RunState) (facts : TurnFacts) → outcome_of x facts ≡ Next → has_come x facts ≡ true
 next_come x facts e =
     let over : is_turn_over x facts ≡ true = (next_by (stops_run x.plan.tested facts.standing) (is_all_sent x)
-    (is_turn_over x facts) (nat_eq x.allowance 0) (has_more x) e).1 in
+    (is_turn_over x facts) (is_spent x) (has_more x) e).1 in
     come_by (has_come x facts) (owes_messages x.plan.expected) (has_more x)
-    (not x.write_failed && (facts.has_unowed && not facts.is_inside)) (next_more x facts e) over
+    (not x.write_failed && (not (has_end facts.standing) && (facts.has_unowed && not facts.is_inside)))
+    (next_more x facts e) over

@@ -103,7 +103,7 @@ module _ (one : OneStanding) (run : ScriptValue) (before : List Told) where
       ∙ (standing_ends (is_server_close old.plan.tested standing && not old.closing) (with_came bytes old) ∙ going))
       (subst (λ (y : RunState). Holds run (before ++ Came bytes ∷ []) y) (sym same)
       (standing_so (is_server_close old.plan.tested standing && not old.closing) (with_came bytes old) bytes
-      (came_holds run before old h bytes fits.1 (λ c. closes_by old bytes standing h stands (stands.still c)))
+      (came_holds run before old h bytes fits.1.0 (λ c. closes_by old bytes standing h stands (stands.still c)))
       (λ e. closes_by old bytes standing h stands
       (both_true (is_server_close old.plan.tested standing) (not old.closing) e).0)))
       rest

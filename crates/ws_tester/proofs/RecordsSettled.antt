@@ -1,14 +1,15 @@
 -- It still holds once the run rests, or has ended.
-use Rattle.std.proofs.Common.{◌≡◌, ◌∙◌, ℕ, true, false, nat_eq, List, [], ◌∷◌, refl, sym, ap, subst, arith, inl, inr}
+use Rattle.std.proofs.Common.{◌≡◌, ◌∙◌, ℕ, true, false, List, [], ◌∷◌, refl, sym, ap, subst, arith, inl, inr}
 use Rattle.std.specs.Prelude.{Option, None, Some, zero, suc}
 use Rattle.ws_scripts.specs.declared.transcript.Ended.{Ended}
 use Rattle.ws_scripts.specs.declared.transcript.Ended.TheVariants.{Tester, Peer, Broken}
 use Rattle.ws_suite.specs.Growing.{new_turn}
 use Rattle.ws_suite.specs.Waiting.{AreTurnsAnsweredBy}
 use Rattle.ws_machines.specs.Told.{Told}
-use Rattle.ws_tester.specs.Outcomes.{AreFacts, is_turn_over, outcome_of}
+use Rattle.ws_tester.specs.Outcomes.{AreFacts, is_spent, is_turn_over, outcome_of}
 use Rattle.ws_tester.specs.Outgoings.{Pieces}
-use Rattle.ws_tester.specs.RunStates.{PlanValue, RunState, has_more, is_all_sent, turns_of_run, with_next_turn}
+use Rattle.ws_tester.specs.RunStates.{PlanValue, RunState, has_more, is_all_sent, turns_of_run, wants_own_end}
+use Rattle.ws_tester.specs.RunStates.{with_next_turn}
 use Rattle.ws_tester.specs.Following.{Obeys, ScriptValue, Settles, SettlesIn}
 use Rattle.ws_tester.specs.Records.{IsWaitedFor}
 use Rattle.ws_tester.specs.declared.outcome.Outcome.TheVariants.{Rests, Ends}
@@ -25,12 +26,12 @@ module _ (one : OneStanding) (run : ScriptValue) (told : List Told) where
       → AreFacts x.plan x.past (turns_of_run x) facts → outcome_of x facts ≡ Ends how
       → EndsBy run told (turns_of_run x) (Some how)
   settled_end x facts Tester h are e = tester_so one run told x facts h are
-      (tester_by _ (is_all_sent x) (is_turn_over x facts) (nat_eq x.allowance 0) (has_more x) e)
+      (tester_by _ (is_all_sent x) (is_turn_over x facts) (is_spent x) (has_more x) e)
   settled_end x facts Peer h are e = absurd
-      (no_peer _ (is_all_sent x) (is_turn_over x facts) (nat_eq x.allowance 0) (has_more x) e)
+      (no_peer _ (is_all_sent x) (is_turn_over x facts) (is_spent x) (has_more x) e)
   settled_end x facts Broken h are e =
-      let none : x.allowance ≡ 0 = nothing_left x.allowance
-      (broken_by _ (is_all_sent x) (is_turn_over x facts) (nat_eq x.allowance 0) (has_more x) e) in
+      let none : x.allowance ≡ 0 = nothing_left x.allowance (wants_own_end x)
+      (broken_by _ (is_all_sent x) (is_turn_over x facts) (is_spent x) (has_more x) e) in
       inr (inr (inr (omega (arith, h.budget, none))))
 
   -- the next turn, where there is one

@@ -6,11 +6,11 @@ use Rattle.std.specs.List.{concat}
 use Rattle.ws_scripts.specs.declared.expectation.Expectation.{Expectation}
 use Rattle.ws_scripts.specs.declared.expectation.Expectation.TheVariants.{Echo, Protocol}
 use Rattle.ws_scripts.specs.declared.transcript.Turn.{Turn}
-use Rattle.ws_suite.specs.Evidence.{sent_turns}
+use Rattle.ws_suite.specs.Evidence.{other_role, sent_turns}
 use Rattle.ws_suite.specs.Growing.{EndInsideFrame, HaveUnowedMessage}
 use Rattle.ws_suite.specs.Waiting.{AreTurnsAnsweredBy}
 use Rattle.ws_machines.specs.Told.{Told}
-use Rattle.ws_tester.specs.Standings.{HasStandingBy, stops_run}
+use Rattle.ws_tester.specs.Standings.{HasStanding, HasStandingBy, stops_run}
 use Rattle.ws_tester.specs.Outcomes.{AreFacts, got_in_all, has_come, has_end, is_in_vain, is_turn_over, is_waited_out}
 use Rattle.ws_tester.specs.Outcomes.{owes_messages}
 use Rattle.ws_tester.specs.Outgoings.{Pieces}
@@ -18,6 +18,8 @@ use Rattle.ws_tester.specs.RunStates.{PlanValue, RunState, has_more, is_all_sent
 use Rattle.ws_tester.specs.Following.{ScriptValue}
 use Rattle.ws_tester.specs.Records.{HasAllOwed, HasMoreThanOwed, IsEndedByTester}
 use Rattle.ws_tester.specs.declared.outcome.TurnFacts.{TurnFacts}
+use Rattle.ws_tester.specs.declared.standing.Standing.{Standing}
+use Rattle.ws_tester.specs.declared.standing.Standing.TheVariants.{Going, Closed, Faulty}
 use Rattle.ws_tester.proofs.RecordsHolds.{Holds}
 use Rattle.ws_tester.proofs.RecordsPieces.{no_piece}
 use Rattle.ws_tester.proofs.RecordsTests.{OneStanding, open_where_come}
@@ -45,15 +47,17 @@ come_whole false false false true true inside last e = absurd cc
 come_whole false false false true false true last e = absurd cc
 come_whole false false false true false false last e = refl
 
-vain_parts : (owes more failed unowed inside : Bool)
-    → (owes && (not more && (not failed && (unowed && not inside)))) ≡ true
-    → (owes ≡ true) × (unowed ≡ true) × (inside ≡ false)
-vain_parts false more failed unowed inside e = absurd cc
-vain_parts true true failed unowed inside e = absurd cc
-vain_parts true false true unowed inside e = absurd cc
-vain_parts true false false false inside e = absurd cc
-vain_parts true false false true true e = absurd cc
-vain_parts true false false true false e = (refl, refl, refl)
+vain_parts : (owes more failed : Bool) (standing : Standing) (unowed inside : Bool)
+    → (owes && (not more && (not failed && (not (has_end standing) && (unowed && not inside))))) ≡ true
+    → (owes ≡ true) × (standing ≡ Going) × (unowed ≡ true) × (inside ≡ false)
+vain_parts false more failed standing unowed inside e = absurd cc
+vain_parts true true failed standing unowed inside e = absurd cc
+vain_parts true false true standing unowed inside e = absurd cc
+vain_parts true false false Closed unowed inside e = absurd cc
+vain_parts true false false Faulty unowed inside e = absurd cc
+vain_parts true false false Going false inside e = absurd cc
+vain_parts true false false Going true true e = absurd cc
+vain_parts true false false Going true false e = (refl, refl, refl, refl)
 
 is_echo : (expected : Expectation) → owes_messages expected ≡ true → expected ≡ Echo
 is_echo Echo e = refl
@@ -100,13 +104,16 @@ module _ (one : OneStanding) (run : ScriptValue) (told : List Told) (x : RunStat
 
   vain : is_in_vain x facts ≡ true → HasMoreThanOwed run (turns_of_run x)
   vain e =
-      let parts = vain_parts (owes_messages x.plan.expected) (has_more x) x.write_failed facts.has_unowed
-      facts.is_inside e in
+      let parts = vain_parts (owes_messages x.plan.expected) (has_more x) x.write_failed facts.standing
+      facts.has_unowed facts.is_inside e in
       record {
         echo = subst (λ (plan : PlanValue). plan.expected ≡ Echo) h.plan_is (is_echo x.plan.expected parts.0);
+        going = subst (λ (plan : PlanValue). HasStanding (other_role plan.tested) Going (got_in_all (turns_of_run x)))
+            h.plan_is (subst (λ (s : Standing). HasStanding (other_role x.plan.tested) s (got_in_all (turns_of_run x)))
+            parts.1 are.standing);
         unowed = subst (λ (plan : PlanValue). HaveUnowedMessage plan.tested (turns_of_run x)) h.plan_is
-            (are.unowed.0 parts.1);
-        whole = whole parts.2;
+            (are.unowed.0 parts.2);
+        whole = whole parts.3;
       }
 
   pub tester_so : (stops_run x.plan.tested facts.standing ≡ true)

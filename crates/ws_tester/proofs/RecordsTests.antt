@@ -99,5 +99,17 @@ no_peer false true true spent false e = cc
 no_peer false true false true more e = cc
 no_peer false true false false more e = cc
 
-pub nothing_left : (n : ℕ) → nat_eq n 0 ≡ true → n ≡ 0
-nothing_left n e = grind (arith, nat_tests)
+pub nothing_left : (n : ℕ) (own : Bool) → (nat_eq n 0 && not own) ≡ true → n ≡ 0
+nothing_left n true e = absurd (no_true (nat_eq n 0) e)
+  where
+    no_true : (none : Bool) → (none && false) ≡ true → ⊥
+    no_true true e = cc
+    no_true false e = cc
+nothing_left n false e = none n (only (nat_eq n 0) e)
+  where
+    only : (none : Bool) → (none && true) ≡ true → none ≡ true
+    only true e = refl
+    only false e = absurd cc
+
+    none : (n : ℕ) → nat_eq n 0 ≡ true → n ≡ 0
+    none n e = grind (arith, nat_tests)

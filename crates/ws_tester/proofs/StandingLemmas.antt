@@ -2,7 +2,6 @@
 use Rattle.std.proofs.Common.{◌≡◌, ◌∙◌, ℕ, List, Bool, true, false, if◌then◌else◌, Option, refl, sym, ap, subst}
 use Rattle.std.specs.Prelude.{None, Some}
 use Rattle.ws_wire.specs.declared.role.Role.{Role}
-use Rattle.ws_wire.specs.declared.role.Role.TheVariants.{Client, Server}
 use Rattle.ws_wire.specs.Frame.{Frame}
 use Rattle.ws_session.specs.declared.event.Event.{Event}
 use Rattle.ws_session.specs.declared.event.Event.TheVariants as event
@@ -17,7 +16,7 @@ use Rattle.ws_suite.specs.Evidence.{other_role}
 use Rattle.ws_tester.specs.Standings.{HasStanding, HasStandingBy, HearsAll, is_server_close, standing_after}
 use Rattle.ws_tester.specs.Standings.{standing_of_status}
 use Rattle.ws_tester.specs.declared.standing.Standing.{Standing}
-use Rattle.ws_tester.specs.declared.standing.Standing.TheVariants.{Going, Closed, Faulty}
+use Rattle.ws_tester.specs.declared.standing.Standing.TheVariants.{Going}
 
 -- ---- by the status
 

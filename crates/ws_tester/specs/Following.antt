@@ -1,9 +1,8 @@
 -- What was told of a run, event by event.
-use Rattle.std.specs.Prelude.{◌≡◌, ℕ, zero, suc, ◌+◌, ◌≤◌, ◌⊎◌, ◌||◌, ⊤, Bool, true, false, List, [], ◌∷◌, ◌++◌, length}
+use Rattle.std.specs.Prelude.{◌≡◌, ℕ, zero, suc, ◌≤◌, ◌⊎◌, ◌||◌, ⊤, Bool, true, false, List, [], ◌∷◌, ◌++◌, length}
 use Rattle.std.specs.Prelude.{Option, Some, None}
 use Rattle.ws_scripts.specs.declared.transcript.Ended.{Ended}
 use Rattle.ws_scripts.specs.declared.transcript.Ended.TheVariants.{Tester}
-use Rattle.ws_scripts.specs.declared.transcript.Turn.{Turn}
 use Rattle.ws_suite.specs.Evidence.{other_role}
 use Rattle.ws_suite.specs.declared.evidence.keeping.ReplyTally.{ReplyTally}
 use Rattle.ws_suite.specs.Growing.{GrowingValue, HasGrown, IsTallyOf}
@@ -13,7 +12,7 @@ use Rattle.ws_tester.specs.Standings.{HasServerClose, HasStanding, is_server_clo
 use Rattle.ws_tester.specs.Outgoings.{Pieces, after_first, first_piece, first_turn}
 use Rattle.ws_tester.specs.Outcomes.{AreFacts, HasSentEnd, got_in_all, outcome_of, outcome_of_event}
 use Rattle.ws_tester.specs.RunStates.{PlanValue, RunState, turns_of_run, with_event, with_next_turn, with_run_end}
-use Rattle.ws_tester.specs.RunStates.{wants_own_end, with_standing}
+use Rattle.ws_tester.specs.RunStates.{max_read, wants_own_end, with_standing}
 use Rattle.ws_tester.specs.declared.outcome.Outcome.{Outcome}
 use Rattle.ws_tester.specs.declared.outcome.Outcome.TheVariants.{Rests, Next, Ends}
 use Rattle.ws_tester.specs.declared.outcome.TurnFacts.{TurnFacts}
@@ -52,10 +51,10 @@ LeadsOnBy None x now = Settles x now
 abbrev pub MayBeRead : RunState → Type 0
 MayBeRead x = wants_own_end x ≡ false
 
--- What may happen to a run that hasn't ended: no more comes than may be read, what is taken is a front of the next
--- piece, and the own direction is ended where that is wanted.
+-- What may happen to a run that hasn't ended: no more comes than may be read, and no more at once than one read brings;
+-- what is taken is a front of the next piece; and the own direction is ended where that is wanted.
 abbrev pub MayHappen : RunState → Told → Type 0
-MayHappen x (Came bytes) = MayBeRead x × (length bytes ≤ x.allowance)
+MayHappen x (Came bytes) = MayBeRead x × ((length bytes ≤ x.allowance) × (length bytes ≤ max_read))
 MayHappen x StreamEnded = MayBeRead x
 MayHappen x ReadFailed = MayBeRead x
 MayHappen x NothingCame = MayBeRead x

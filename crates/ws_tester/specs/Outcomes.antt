@@ -15,7 +15,7 @@ use Rattle.ws_suite.specs.Waiting.{AreTurnsAnsweredBy, AreTurnsSeenAnswered}
 use Rattle.ws_machines.specs.Told.{Told}
 use Rattle.ws_machines.specs.Told.Told.{ReadFailed, Ended as StreamEnded, NothingCame, DeadlinePassed}
 use Rattle.ws_tester.specs.Standings.{HasStanding, stops_run}
-use Rattle.ws_tester.specs.RunStates.{PlanValue, RunState, has_more, is_all_sent, turns_of_run}
+use Rattle.ws_tester.specs.RunStates.{PlanValue, RunState, has_more, is_all_sent, wants_own_end}
 use Rattle.ws_tester.specs.declared.outcome.Outcome.{Outcome}
 use Rattle.ws_tester.specs.declared.outcome.Outcome.TheVariants.{Rests, Next, Ends}
 use Rattle.ws_tester.specs.declared.outcome.TurnFacts.{TurnFacts}
@@ -79,10 +79,10 @@ owes_messages Echo = true
 owes_messages Protocol = false
 
 -- What is waited for can't come any more: in the last turn more messages were got than an echo owes. No write has
--- failed, and what was got doesn't end inside a frame.
+-- failed, and what was got has neither a close nor a fault and doesn't end inside a frame.
 abbrev pub is_in_vain : RunState → TurnFacts → Bool
 is_in_vain x facts = owes_messages x.plan.expected && (not (has_more x) && (not x.write_failed
-    && (facts.has_unowed && not facts.is_inside)))
+    && (not (has_end facts.standing) && (facts.has_unowed && not facts.is_inside))))
 
 -- nothing is waited for in the turn any more
 abbrev pub is_turn_over : RunState → TurnFacts → Bool
@@ -102,12 +102,16 @@ by_tests false true true spent more = next_or_end more
 by_tests false true false true more = Ends Broken
 by_tests false true false false more = Rests
 
+-- nothing more may be read, and the own direction isn't to be ended
+abbrev pub is_spent : RunState → Bool
+is_spent x = nat_eq x.allowance 0 && not (wants_own_end x)
+
 -- What comes of a state. What was got ends the run by itself, by a fault or from a client by a close. Once all of the
 -- turn is sent: where nothing is waited for any more, it goes on; else where nothing more may be read, it is broken
--- off.
+-- off, once the own direction is ended if it is to be.
 abbrev pub outcome_of : RunState → TurnFacts → Outcome
 outcome_of x facts = by_tests (stops_run x.plan.tested facts.standing) (is_all_sent x) (is_turn_over x facts)
-    (nat_eq x.allowance 0) (has_more x)
+    (is_spent x) (has_more x)
 
 -- ---- what an event ends by itself
 

@@ -1,5 +1,5 @@
 -- What a script has still to send: the pieces of the turn under way, and those of the turns after it.
-use Rattle.std.specs.Prelude.{◌≡◌, ℕ, ◌<◌, ◌≤◌, List, [], ◌∷◌, ◌++◌, ⊤, length, drop}
+use Rattle.std.specs.Prelude.{ℕ, ◌≤◌, List, [], ◌∷◌, ◌++◌, ⊤, length, drop}
 use Rattle.std.specs.List.{AllByRecursion}
 use Rattle.ws_scripts.specs.Scripts.{has_bytes, without_empty}
 

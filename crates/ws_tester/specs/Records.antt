@@ -1,21 +1,22 @@
 -- What is recorded of a run, by all that its machine was told.
-use Rattle.std.specs.Prelude.{◌≡◌, ℕ, ◌<◌, ◌≤◌, ◌+◌, ◌⊎◌, Bool, true, false, List, [], ◌∷◌, ◌++◌, length, take, map}
+use Rattle.std.specs.Prelude.{◌≡◌, ℕ, ◌<◌, ◌≤◌, ◌⊎◌, Bool, true, false, List, [], ◌∷◌, ◌++◌, length, take, map}
 use Rattle.std.specs.Prelude.{Some}
 use Rattle.std.specs.List.{concat}
 use Rattle.ws_scripts.specs.declared.expectation.Expectation.TheVariants.{Echo}
 use Rattle.ws_scripts.specs.declared.transcript.Ended.TheVariants.{Tester, Peer, Broken}
 use Rattle.ws_scripts.specs.declared.transcript.Turn.{Turn}
 use Rattle.ws_scripts.specs.declared.transcript.Transcript.{Transcript}
-use Rattle.ws_suite.specs.Evidence.{sent_turns}
+use Rattle.ws_suite.specs.Evidence.{other_role, sent_turns}
 use Rattle.ws_suite.specs.Growing.{EndInsideFrame, HaveUnowedMessage}
 use Rattle.ws_suite.specs.Waiting.{AreTurnsAnsweredBy}
 use Rattle.ws_machines.specs.Told.{Told, all_came, all_taken}
 use Rattle.ws_machines.specs.Told.Told.{ReadFailed, WriteFailed, Ended, NothingCame, DirectionEnded, DeadlinePassed}
-use Rattle.ws_tester.specs.Standings.{HasServerClose, HasStandingBy, stops_run}
+use Rattle.ws_tester.specs.Standings.{HasServerClose, HasStanding, HasStandingBy, stops_run}
 use Rattle.ws_tester.specs.Outgoings.{HaveBytes}
 use Rattle.ws_tester.specs.Outcomes.{got_in_all, sent_in_all}
 use Rattle.ws_tester.specs.Following.{BeginsRun, Follows, ScriptValue}
 use Rattle.ws_tester.specs.RunStates.{RunState, recorded}
+use Rattle.ws_tester.specs.declared.standing.Standing.TheVariants.{Going}
 
 -- ---- what was told
 
@@ -62,9 +63,10 @@ pub record HasAllOwed (run : ScriptValue) (turns : List Turn) : Type 0 where
   pub answered : AreTurnsAnsweredBy run.plan.expected run.plan.tested turns
   pub whole : ¬ (EndInsideFrame run.plan.tested turns)
 
--- more messages came than an echo owes, and no frame is under way
+-- more messages came than an echo owes, but neither a close nor a fault, and no frame is under way
 pub record HasMoreThanOwed (run : ScriptValue) (turns : List Turn) : Type 0 where
   pub echo : run.plan.expected ≡ Echo
+  pub going : HasStanding (other_role run.plan.tested) Going (got_in_all turns)
   pub unowed : HaveUnowedMessage run.plan.tested turns
   pub whole : ¬ (EndInsideFrame run.plan.tested turns)
 

@@ -11,7 +11,7 @@ ghost use Rattle.ws_tester.specs.RunStates.{has_more, turns_of_run};
 use crate::outcome::{Outcome, TurnFacts};
 use crate::standing::{Standing, standing_of, stops_run};
 use crate::tester::Tester;
-use ws_machines::StreamEvent;
+use ws_machines::{Machine, StreamEvent};
 use ws_suite::{Ended, Expectation};
 use ws_wire::Role;
 
@@ -55,13 +55,15 @@ impl Tester {
             && (self.outgoing.has_more() || !facts.is_inside)
     }
 
-    /// Whether what is waited for can't come any more: more messages were got than an echo owes.
+    /// Whether what is waited for can't come any more: more messages were got than an echo owes. Behind a server's
+    /// close the own direction is to be ended first.
     pub(super) fn is_in_vain(&self, facts: TurnFacts) -> bool
         ensures { result ≡ is_in_vain self.now.run facts }
     {
         owes_messages(self.plan.expected)
             && !self.outgoing.has_more()
             && !self.write_failed
+            && facts.standing == Standing::Going
             && facts.has_unowed
             && !facts.is_inside
     }
@@ -79,7 +81,7 @@ impl Tester {
         if self.has_come(facts) || self.is_in_vain(facts) {
             return next_or_end(self.outgoing.has_more());
         }
-        if self.allowance == 0 {
+        if self.allowance == 0 && !self.wants_end() {
             return Outcome::Ends(Ended::Broken);
         }
         Outcome::Rests
