@@ -3,7 +3,11 @@ pub mod HeadLemmas
 pub mod ServingLemmas
 pub mod ConnectionLemmas
 pub mod StreamLemmas
-pub mod StandingLemmas
+pub mod StreamLaws
+pub mod StepLemmas
+pub mod TellingLemmas
+pub mod GrowthLemmas
+pub mod DrivingLemmas
 pub mod ProbingLemmas
 pub mod ObservingLemmas
 pub mod HeaderLemmas

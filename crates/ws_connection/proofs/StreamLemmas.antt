@@ -1,5 +1,5 @@
 -- What a connection did as a stream, with one call more.
-use Rattle.std.proofs.Common.{◌≡◌, List, [], ◌∷◌, ◌++◌, refl, subst}
+use Rattle.std.proofs.Common.{List, [], ◌∷◌, ◌++◌, refl, subst}
 use Rattle.ws_machines.specs.Told.{Told}
 use Rattle.ws_machines.specs.Machines.{Extends}
 use Rattle.ws_connection.specs.ConnectionValues.{ConnectionValue}

@@ -8,9 +8,9 @@ pub mod ConnectionValues
 pub mod Connections
 pub mod DeviceCalls
 pub mod StreamCalls
-pub mod Standings
 pub mod Probing
 pub mod Observing
+pub mod RunSteps
 pub mod Serving
 pub mod Admitting
-pub mod InnerProbeTurns
+pub mod InnerDriving

@@ -47,16 +47,3 @@ HearsProbe {O} heard heard_all old new (Ran transcript) = (start : O) → heard 
     → heard_all start new transcript
 HearsProbe heard heard_all old new (Refused fault) = new ≡ old
 HearsProbe heard heard_all old new NoConnection = new ≡ old
-
--- ---- inside the crate: one turn that goes on, for the contracts of private functions
-
--- the last of the turns that were told has got these bytes
-abbrev pub HasHeardGot : {O : Type 0} → (O → O → List Turn → Type 0) → O → List ℕ → Type 0
-HasHeardGot {O} heard now got = (start : O) × (past : List Turn) × (sent : List ℕ)
-    × heard start now (past ++ record { sent = sent; got = got } ∷ [])
-
--- the last turn, which has sent these bytes, has got first the one list and then the other
-abbrev pub KeepsUp : {O : Type 0} → (O → O → List Turn → Type 0) → O → O → List ℕ → List ℕ → Type 0
-KeepsUp {O} heard old new old_got new_got = (start : O) (past : List Turn) (sent : List ℕ)
-    → heard start old (past ++ record { sent = sent; got = old_got } ∷ [])
-    → heard start new (past ++ record { sent = sent; got = new_got } ∷ [])

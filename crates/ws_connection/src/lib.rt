@@ -23,7 +23,6 @@ mod request_head;
 mod request_headers;
 mod response_head;
 mod serving;
-mod standing;
 mod streaming;
 mod upgrade_request;
 

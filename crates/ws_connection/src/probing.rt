@@ -1,8 +1,8 @@
 //! A script that is run against a server: the opening handshake, and then its turns (RFC 6455 sections 4.1 and 5 to 7).
 
+mod driving;
 mod run;
-mod script;
-mod turn;
+mod telling;
 
 ghost use Rattle.std.specs.Prelude.{◌≡◌, ◌≤◌, drop, length, map, IfOk, MatchOption};
 ghost use Rattle.std.specs.List.{concat};
@@ -11,15 +11,17 @@ ghost use Rattle.ws_upgrade.specs.Reading.{HasStatusCode, LacksStatusCode};
 ghost use Rattle.ws_scripts.specs.Scripts.{CanBeRun};
 ghost use Rattle.ws_connection.specs.Connections.{IsNewConnection};
 ghost use Rattle.ws_connection.specs.Observing.{HearsProbe, IsHearing};
-ghost use Rattle.ws_connection.specs.Probing.{Probes, probe_nonce};
-ghost use Rattle.ws_connection.specs.InnerProbeTurns.{AnswersBehind};
+ghost use Rattle.ws_connection.specs.Probing.{Probes, plan_asked, probe_nonce};
+ghost use Rattle.ws_tester.specs.RunStates.{plan_value};
+ghost use Rattle.ws_connection.specs.InnerDriving.{AnswersBehind};
+ghost use Rattle.ws_tester.specs.Outgoings.{HaveBytes};
 ghost use Rattle.ws_connection.specs.UpgradeRequests.{CanBeAsked, request_value, text_of_request};
 
 use crate::connection::Connection;
 use crate::ending::EndsDirection;
 use crate::observer::Observer;
 use crate::probe_end::{HeadRefusal, Probe};
-use crate::probing::script::run_turns;
+use crate::probing::run::run_turns;
 use crate::reading_head::{HeadEnd, HeadRoom};
 use crate::response_head::{ResponseDecision, ResponseHead};
 use crate::upgrade_request::UpgradeRequest;
@@ -28,6 +30,7 @@ use std::alloc::Global;
 use std::io::Read;
 use ws_base::{NoMemory, Payload, Sequence};
 use ws_suite::{Case, Expectation, turns};
+use ws_tester::TestPlan;
 use ws_upgrade::{AddedHeaders, HeadFault, Host, Offers, Path, request_of, status_of};
 use ws_wire::Role;
 
@@ -48,17 +51,24 @@ pub struct Asked<'a> {
     pub has_timeouts: bool,
 }
 
-/// Asks a server for an upgrade, runs a script against it, and records what went over the connection. The pieces of
-/// each turn are sent in one write each where the writer takes them so. After each turn but the last it is read until
-/// what is waited for has come (`RunEvidence::is_answered_by`) or a read has waited in vain, and after the last to the
-/// end of the stream or a wait in vain.
+impl Asked<'_> {
+    /// How its tester runs the script.
+    fn test_plan(&self) -> TestPlan
+        ensures { plan_value result ≡ plan_asked self.now }
+    {
+        TestPlan {
+            tested: Role::Server,
+            expected: self.expected,
+            has_timeouts: self.has_timeouts,
+        }
+    }
+}
+
+/// Asks a server for an upgrade, runs a script against it as `run_script` does, and records what went over the
+/// connection. The pieces of each turn are sent in one write each where the writer takes them so.
 ///
-/// Once what was got has a close nothing more is sent: its own direction is ended, and it is read on to the end. Once
-/// that has a fault the script ends. A turn's `sent` is what the writer took. After a failed write nothing more is
-/// sent, and what still comes is read. A stream that ends ends the script, and so does the budget of the connection.
-///
-/// The observer is told of the run as it goes on, and last of how it ended; of a connection over which no script was
-/// run, nothing. The run ends with an error of the observer's, as with want of memory.
+/// The observer is told of the run as it goes on, before more is read, and last of how it ended; of a connection over
+/// which no script was run, nothing. The run ends with an error of the observer's, as with want of memory.
 pub fn probe<R: Read, W: EndsDirection, O: Observer>(
     alloc: Global,
     case: &Case,
@@ -71,7 +81,7 @@ pub fn probe<R: Read, W: EndsDirection, O: Observer>(
     requires request { CanBeAsked (request_value asked.now.request) }
     requires hearing { IsHearing O.heard observer.old }
     ensures probes { IfOk result (λ probe.
-        Probes asked.now.expected case.now asked.now.key (request_value asked.now.request) probe
+        Probes (plan_asked asked.now) case.now asked.now.key (request_value asked.now.request) probe
         (record { old = connection.old; new = connection.new })) }
     ensures told { IfOk result (HearsProbe O.heard O.heard_all observer.old observer.new) }
     ensures borrow { O.borrow observer.new ≡ O.borrow observer.old }
@@ -83,7 +93,7 @@ pub fn probe<R: Read, W: EndsDirection, O: Observer>(
     if taken < bytes.len() {
         return Ok(Probe::NoConnection);
     }
-    let came = after_request(alloc, script.as_slice(), asked, connection, observer)?;
+    let came = after_request(alloc, script, asked, connection, observer)?;
     Ok(came)
 }
 
@@ -103,14 +113,15 @@ fn request_text(alloc: Global, request: &UpgradeRequest<'_>) -> Result<Vec<u8>, 
 /// Reads the head of the answer, and where it accepts runs the turns.
 fn after_request<R: Read, W: EndsDirection, O: Observer>(
     alloc: Global,
-    script: &[Sequence<Payload>],
+    script: Sequence<Sequence<Payload>>,
     asked: &Asked<'_>,
     connection: &mut Connection<R, W>,
     observer: &mut O,
 ) -> Result<Probe, O::Fault>
     requires new { IsNewConnection connection.old }
+    requires bytes { HaveBytes script }
     requires hearing { IsHearing O.heard observer.old }
-    ensures answers { IfOk result (λ probe. AnswersBehind asked.now.expected (map concat script.now)
+    ensures answers { IfOk result (λ probe. AnswersBehind (plan_asked asked.now) (map concat script)
         (map (λ name. name.now) asked.now.request.protocols.now) probe
         (record { old = connection.old; new = connection.new })) }
     ensures told { IfOk result (HearsProbe O.heard O.heard_all observer.old observer.new) }
@@ -124,16 +135,8 @@ fn after_request<R: Read, W: EndsDirection, O: Observer>(
     match connection.read_head(&mut room, &decider) {
         HeadEnd::Decided(ResponseDecision::Accepted { used, .. }) => {
             let first = bytes_behind(alloc, room.as_slice(), used)?;
-            let transcript = run_turns(
-                alloc,
-                Role::Server,
-                asked.expected,
-                script,
-                first,
-                asked.has_timeouts,
-                connection,
-                observer,
-            )?;
+            let plan = asked.test_plan();
+            let transcript = run_turns(alloc, plan, script, first, connection, observer)?;
             observer.ended(transcript.ended)?;
             Ok(Probe::Ran(transcript))
         }

@@ -1,19 +1,27 @@
 //! The run of a script over a connection whose handshake is done (RFC 6455 sections 5 to 7).
 
-ghost use Rattle.std.specs.Prelude.{◌≡◌, IfOk};
+ghost use Rattle.std.specs.Prelude.{◌≡◌, map, IfOk};
+ghost use Rattle.std.specs.List.{concat};
 ghost use Rattle.ws_scripts.specs.Scripts.{CanBeRun};
 ghost use Rattle.ws_connection.specs.Connections.{IsReady};
-ghost use Rattle.ws_connection.specs.Observing.{HearsProbe, IsHearing};
+ghost use Rattle.ws_connection.specs.Observing.{HearsProbe, HearsTurns, IsHearing};
 ghost use Rattle.ws_connection.specs.Probing.{Records, bytes_by_turn};
+ghost use Rattle.ws_connection.specs.RunSteps.{TellsAsItGoes};
+ghost use Rattle.ws_connection.specs.Probing.{plan_of};
+ghost use Rattle.ws_tester.specs.Outgoings.{HaveBytes};
+ghost use Rattle.ws_tester.specs.RunStates.{plan_value};
 ghost use Rattle.ws_connection.specs.declared.probe_end.Probe.TheVariants.{Ran};
 
 use crate::connection::Connection;
 use crate::ending::EndsDirection;
 use crate::observer::Observer;
-use crate::probing::script::run_turns;
+use crate::probing::driving::drive_tester;
 use std::alloc::Global;
 use std::io::Read;
+use ws_base::{Payload, Sequence};
+use ws_machines::Machine;
 use ws_suite::{Case, Expectation, Transcript, turns_with};
+use ws_tester::{TestPlan, Tester};
 use ws_wire::Role;
 
 /// How a script is run over a connection whose handshake is done.
@@ -30,13 +38,24 @@ pub struct ScriptRun {
     pub has_timeouts: bool,
 }
 
-/// Runs a script over a connection whose handshake is done, and records what went over it. `first` came with the head
-/// of the tested end. It is as `probe` runs one against a server. Against a client no turn goes on once what was got
-/// has a close, as once it has a fault: the tester ends the run, and nothing more is read; and where what is sent has
-/// neither a close nor a fault, the last turn ends once what is owed has come, since a client has nothing to end for
-/// then. Pings of the tested end aren't answered.
+impl ScriptRun {
+    /// How its tester runs it.
+    fn test_plan(self) -> TestPlan
+        ensures { plan_value result ≡ plan_of self }
+    {
+        TestPlan {
+            tested: self.tested,
+            expected: self.expected,
+            has_timeouts: self.has_timeouts,
+        }
+    }
+}
+
+/// Runs a script over a connection whose handshake is done, and records what went over it, as its tester does. `first`
+/// came with the head of the tested end. What is to be written is written before more is read. Pings of the tested end
+/// aren't answered.
 ///
-/// The observer is told of the run as it goes on, and last of how it ended.
+/// The observer is told of the run as it goes on, before more is read, and last of how it ended.
 pub fn run_script<R: Read, W: EndsDirection, O: Observer>(
     alloc: Global,
     case: &Case,
@@ -49,24 +68,40 @@ pub fn run_script<R: Read, W: EndsDirection, O: Observer>(
     requires can { CanBeRun case.now }
     requires hearing { IsHearing O.heard observer.old }
     ensures runs { IfOk result (λ transcript.
-        Records plan.expected plan.tested (bytes_by_turn case.now plan.key) first.items transcript
+        Records (plan_of plan) (bytes_by_turn case.now plan.key) first.items transcript
         (record { old = connection.old; new = connection.new })) }
     ensures told { IfOk result (λ transcript.
         HearsProbe O.heard O.heard_all observer.old observer.new (Ran transcript)) }
+    ensures in_time { IfOk result (λ transcript. TellsAsItGoes O.heard first.items
+        (record { connection = connection.old; observer = observer.old }) connection.new) }
     ensures borrow { O.borrow observer.new ≡ O.borrow observer.old }
 {
     let script = turns_with(alloc, case, plan.key)?;
-    let (turns, waits) = (script.as_slice(), plan.has_timeouts);
-    let transcript = run_turns(
-        alloc,
-        plan.tested,
-        plan.expected,
-        turns,
-        first,
-        waits,
-        connection,
-        observer,
-    )?;
+    let transcript = run_turns(alloc, plan.test_plan(), script, first, connection, observer)?;
     observer.ended(transcript.ended)?;
+    Ok(transcript)
+}
+
+/// Runs a script, of whose turns these are the pieces.
+pub(super) fn run_turns<R: Read, W: EndsDirection, O: Observer>(
+    alloc: Global,
+    plan: TestPlan,
+    script: Sequence<Sequence<Payload>>,
+    first: Vec<u8>,
+    connection: &mut Connection<R, W>,
+    observer: &mut O,
+) -> Result<Transcript, O::Fault>
+    requires bytes { HaveBytes script }
+    requires hearing { IsHearing O.heard observer.old }
+    ensures runs { IfOk result (λ transcript. Records (plan_value plan) (map concat script) first.items transcript
+        (record { old = connection.old; new = connection.new })) }
+    ensures told { IfOk result (λ transcript. HearsTurns O.heard observer.old observer.new transcript.turns) }
+    ensures in_time { IfOk result (λ transcript. TellsAsItGoes O.heard first.items
+        (record { connection = connection.old; observer = observer.old }) connection.new) }
+    ensures borrow { O.borrow observer.new ≡ O.borrow observer.old }
+{
+    let mut tester = Tester::new(alloc, plan, script, first, connection.allowance())?;
+    drive_tester(&mut tester, connection, observer)?;
+    let transcript = tester.into_end()?;
     Ok(transcript)
 }

@@ -1,0 +1,304 @@
+-- A tester that is run over a connection: its beginning, one step more, and its end.
+use Rattle.std.proofs.Common.{◌≡◌, ◌∙◌, Bool, true, false, if◌then◌else◌, List, [], ◌∷◌, ◌++◌, length}
+use Rattle.std.proofs.Common.{refl, sym, ap, subst, inl, inr, append_assoc, append-nil}
+use Rattle.std.specs.Prelude.{Option, None, Some, is_some}
+use Rattle.std.specs.List.{AllByRecursion}
+use Rattle.ws_scripts.specs.Scripts.{has_bytes}
+use Rattle.ws_scripts.specs.declared.transcript.Turn.{Turn}
+use Rattle.ws_scripts.specs.declared.transcript.Ended.{Ended}
+use Rattle.ws_scripts.specs.declared.transcript.Ended.TheVariants.{Tester}
+use Rattle.ws_machines.specs.Told.{Told}
+use Rattle.ws_machines.specs.Told.Told.{Came, DeadlinePassed, DirectionEnded, Ended as StreamEnded, NothingCame}
+use Rattle.ws_machines.specs.Told.Told.{ReadFailed, Reported, Taken, WriteFailed}
+use Rattle.ws_machines.specs.Machines.{Extends, IsFirstWanted, ServedOne, Wants}
+use Rattle.ws_tester.specs.Standings.{is_server_close}
+use Rattle.ws_tester.specs.Outcomes.{got_in_all, outcome_of_event, sent_in_all}
+use Rattle.ws_tester.specs.Outgoings.{HaveBytes, Pieces, first_piece}
+use Rattle.ws_tester.specs.RunStates.{RunState, recorded, turns_of_run, wanted_in, with_run_end}
+use Rattle.ws_tester.specs.Following.{BeginsBy, BeginsRun, Follows, Happens, ScriptValue, ShowsTurns, TesterValue, WasTold}
+use Rattle.ws_tester.specs.Following.{first_state}
+use Rattle.ws_tester.proofs.RecordsHolds.{Holds, HoldsSo}
+use Rattle.ws_tester.proofs.RecordsTests.{OneStanding}
+use Rattle.ws_tester.proofs.RecordsSettled.{settled}
+use Rattle.ws_tester.proofs.RecordLemmas.{begins_so, follows_so}
+use Rattle.ws_connection.specs.ConnectionValues.{ConnectionValue}
+use Rattle.ws_connection.specs.StreamCalls.{DidCalls, IsCallOf}
+use Rattle.ws_connection.specs.Observing.{IsHearing, IsInTurn}
+use Rattle.ws_connection.specs.Probing.{FollowsInOrder}
+use Rattle.ws_connection.specs.RunSteps.{IsToldAll, RunStage, WasRead, calls_in, turns_told}
+use Rattle.ws_connection.specs.RunSteps.RunStep.{Calls}
+use Rattle.ws_connection.specs.InnerDriving.{BeginsSomeRun, DrivesSo, DrivesToEnd, IsPartOf}
+use Rattle.ws_connection.specs.InnerDriving.{IsToldOfRun, MayBeToldMore, TellsRun}
+use Rattle.ws_connection.specs.declared.probing.telling.TurnsTold.{TurnsTold}
+use Rattle.ws_connection.proofs.StepLemmas.{calls_then, did_then, in_time_then, no_call_in_time, told_then}
+use Rattle.ws_connection.proofs.TellingLemmas.{may_hearing, may_in_turn}
+use Rattle.ws_connection.proofs.GrowthLemmas.{hears_on, leads_goes, told_goes}
+
+-- ---- what holds of a run that hasn't ended
+
+pub running_holds : OneStanding → (run : ScriptValue) (start now : RunState) (told : List Told) → HaveBytes run.script
+    → BeginsRun run start → Follows start now told → now.ended ≡ None → HoldsSo run told now
+running_holds one run start now told pieces (standing, stands, begins) follows going = pick run.script refl begins
+  where
+    ended : start ≡ with_run_end Tester (first_state run (is_server_close run.plan.tested standing))
+        → start.ended ≡ Some Tester
+    ended same = ap (λ (y : RunState). y.ended) same
+
+    never : (told : List Told) → start.ended ≡ Some Tester → Follows start now told → HoldsSo run told now
+    never [] e same = absurd (let wrong : Some Tester ≡ None =
+        sym e ∙ (sym (ap (λ (y : RunState). y.ended) same) ∙ going) in cc)
+    never (event ∷ told) e (next, happens, rest) =
+        absurd (let wrong : Some Tester ≡ None = sym e ∙ happens.goes in cc)
+
+    pick : (script : List Pieces) → run.script ≡ script
+        → BeginsBy script (first_state run (is_server_close run.plan.tested standing)) start → HoldsSo run told now
+    pick [] e same = never told (ended same) follows
+    pick (first ∷ others) e settles = follows_so one run [] start now told (settled one run []
+        (first_state run (is_server_close run.plan.tested standing)) start refl (begins_so run first others standing
+        stands (subst (λ (l : List Pieces). HaveBytes l) e pieces) e) settles) follows
+
+-- ---- one call
+
+-- what a connection did that did one thing
+pub one_call : (old new : ConnectionValue) (event : Told) → Extends DidCalls old new (event ∷ [])
+    → IsCallOf event (record { old = old; new = new })
+one_call old new event did = pick (did old [] refl)
+  where
+    pick : (next : ConnectionValue) × IsCallOf event (record { old = old; new = next }) × (new ≡ next)
+        → IsCallOf event (record { old = old; new = new })
+    pick (next, call, same) =
+        subst (λ (x : ConnectionValue). IsCallOf event (record { old = old; new = x })) (sym same) call
+
+-- what happened to a tester that was told one thing
+pub one_event : (x y : TesterValue) (event : Told) → ShowsTurns x → Extends WasTold x y (event ∷ [])
+    → Happens x.run event y.run
+one_event x y event shows told = pick (told x [] (refl, shows)).0
+  where
+    pick : (next : RunState) × Happens x.run event next × (y.run ≡ next) → Happens x.run event y.run
+    pick (next, happens, same) = subst (λ (s : RunState). Happens x.run event s) (sym same) happens
+
+-- some events in order, and then others
+pub order_then : (a b c : RunState) (xs ys : List Told) → FollowsInOrder a b xs → FollowsInOrder b c ys
+    → FollowsInOrder a c (xs ++ ys)
+order_then a b c [] ys h k = subst (λ (s : RunState). FollowsInOrder s c ys) h k
+order_then a b c (x ∷ xs) ys (next, happens, first, h) k = (next, happens, first, order_then next b c xs ys h k)
+
+-- nothing is to be written where something is read
+pub read_behind : (wants : Wants) (event : Told) → IsFirstWanted wants event → WasRead event → wants.write ≡ []
+read_behind wants (Came bytes) order read = order.1.1
+read_behind wants StreamEnded order read = order.1.1
+read_behind wants ReadFailed order read = order.1.1
+read_behind wants NothingCame order read = order.1.1
+read_behind wants (Taken bytes) order read = absurd read
+read_behind wants WriteFailed order read = absurd read
+read_behind wants DirectionEnded order read = absurd read
+read_behind wants (Reported lines) order read = absurd read
+read_behind wants (DeadlinePassed waited) order read = absurd read
+
+module _ {O : Type 0} (heard : O → O → List Turn → Type 0) (start : TesterValue) (old : RunStage O) where
+  -- ---- the beginning
+
+  pub begins_driving : WasTold start start [] → (told : TurnsTold) → told.whole ≡ 0 → told.is_sent ≡ false
+      → DrivesSo heard start start old old told
+  begins_driving was told whole none = record {
+    drives = record {
+      steps = [];
+      did = refl;
+      was_told = was;
+      in_order = refl;
+      hears = λ first turns h. subst (λ (l : List Turn). heard first old.observer l) (sym (append-nil turns)) h;
+      in_time = λ run pieces begins. tt;
+    };
+    told_of = pick start.run.past refl;
+    none = λ e. refl;
+  }
+    where
+      no_part : (turn : Turn) → IsPartOf told.is_sent told.got turn []
+      no_part turn = subst (λ (b : Bool). IsPartOf b told.got turn []) (sym none) refl
+
+      pick : (past : List Turn) → start.run.past ≡ past → IsToldOfRun told start.run []
+      pick [] e = inr (record {
+        at = record {
+          part = [];
+          count = ap (λ (l : List Turn). length l) e ∙ sym whole;
+          is_part = no_part start.run.turn;
+          turns_are = ap (λ (l : List Turn). l ++ []) (sym e);
+        };
+        is_sent = λ s. absurd (let wrong : false ≡ true = sym none ∙ s in cc);
+      })
+      pick (turn ∷ past) e = inl (record {
+        before = [];
+        now = turn;
+        after = past;
+        part = [];
+        parts = e;
+        count = sym whole;
+        is_part = no_part turn;
+        turns_are = refl;
+      })
+
+  -- ---- what it may be told
+
+  pub drives_may_tell : (x : TesterValue) (now : RunStage O) (told : TurnsTold) → IsHearing heard old.observer
+      → DrivesSo heard start x old now told → MayBeToldMore heard told now.observer
+  drives_may_tell x now told (first, turns, h) d = pick told.is_sent refl d.told_of
+    where
+      all_told : List Turn
+      all_told = turns_told [] d.drives.steps
+
+      now_heard : heard first now.observer (turns ++ all_told)
+      now_heard = d.drives.hears first turns h
+
+      in_turn : (before : List Turn) (turn : Turn) → all_told ≡ before ++ turn ∷ [] → IsInTurn heard now.observer
+      in_turn before turn e = (
+        first,
+        turns ++ before,
+        turn,
+        subst (λ (l : List Turn). heard first now.observer l)
+            (ap (λ (l : List Turn). turns ++ l) e ∙ sym (append_assoc turns before (turn ∷ []))) now_heard,
+      )
+
+      of_part : (before part : List Turn) (turn : Turn) → all_told ≡ before ++ part
+          → IsPartOf true told.got turn part → IsInTurn heard now.observer
+      of_part before part turn e (front, others, got, len, is) = in_turn before
+          (record { sent = turn.sent; got = front }) (e ∙ ap (λ (l : List Turn). before ++ l) is)
+
+      pick : (sent : Bool) → told.is_sent ≡ sent → IsToldOfRun told x.run all_told
+          → MayBeToldMore heard told now.observer
+      pick false e k = may_hearing heard told now.observer e (first, turns ++ all_told, now_heard)
+      pick true e (inl k) = may_in_turn heard told now.observer (of_part k.before k.part k.now k.turns_are
+          (subst (λ (b : Bool). IsPartOf b told.got k.now k.part) e k.is_part))
+      pick true e (inr k) = may_in_turn heard told now.observer (of_part x.run.past k.at.part x.run.turn k.at.turns_are
+          (subst (λ (b : Bool). IsPartOf b told.got x.run.turn k.at.part) e k.at.is_part))
+
+  -- ---- what is told
+
+  module _ (x : TesterValue) (now : RunStage O) (told next : TurnsTold) (observer : O)
+      (d : DrivesSo heard start x old now told)
+      (t : TellsRun heard x.run told next (turns_told [] d.drives.steps) now.observer observer)
+    where
+      then_told : turns_told [] (d.drives.steps ++ t.tells.steps) ≡ t.new_turns
+      then_told = told_then [] d.drives.steps t.tells.steps ∙ t.tells.told
+
+      then_called : calls_in (d.drives.steps ++ t.tells.steps) ≡ calls_in d.drives.steps
+      then_called = calls_then d.drives.steps t.tells.steps
+          ∙ (ap (λ (l : List Told). calls_in d.drives.steps ++ l) t.tells.no_call
+          ∙ append-nil (calls_in d.drives.steps))
+
+      pub drives_tell : DrivesSo heard start x old (record { connection = now.connection; observer = observer }) next
+      drives_tell = record {
+        drives = record {
+          steps = d.drives.steps ++ t.tells.steps;
+          did = did_then heard old now (record { connection = now.connection; observer = observer }) d.drives.steps
+              t.tells.steps d.drives.did (t.tells.did now.connection);
+          was_told = subst (λ (l : List Told). WasTold start x l) (sym then_called) d.drives.was_told;
+          in_order = subst (λ (l : List Told). FollowsInOrder start.run x.run l) (sym then_called) d.drives.in_order;
+          hears = λ first turns h. subst (λ (l : List Turn). heard first observer (turns ++ l)) (sym then_told)
+              (t.tells.hears first turns (d.drives.hears first turns h));
+          in_time = λ run pieces begins. in_time_then run.first [] d.drives.steps t.tells.steps
+              (d.drives.in_time run pieces begins)
+              (no_call_in_time run.first d.drives.steps t.tells.steps t.tells.no_call);
+        };
+        told_of = subst (λ (l : List Turn). IsToldOfRun next x.run l) (sym then_told) t.told_of;
+        none = λ e. then_told ∙ (t.none e ∙ d.none e);
+      }
+
+      pub all_told : x.run.begun ≡ true → (wanted_in x.run).write ≡ []
+          → turns_told [] drives_tell.drives.steps ≡ turns_of_run x.run
+      unfolding drives_tell
+      all_told begun none = then_told ∙ t.all begun none
+
+  -- ---- what is done
+
+  module _ (one : OneStanding) (x y : TesterValue) (now : RunStage O) (connection : ConnectionValue) (told : TurnsTold)
+      (begun : BeginsSomeRun start.run) (d : DrivesSo heard start x old now told) (going : x.run.ended ≡ None)
+      (all : x.run.begun ≡ true → (wanted_in x.run).write ≡ [] → turns_told [] d.drives.steps ≡ turns_of_run x.run)
+      (served : ServedOne WasTold (λ (v : TesterValue). wanted_in v.run) DidCalls x y now.connection connection)
+    where
+      abbrev event : Told
+      event = served.event
+
+      abbrev next : RunStage O
+      next = record { connection = connection; observer = now.observer }
+
+      holds : (run : ScriptValue) → HaveBytes run.script → BeginsRun run start.run
+          → Holds run (calls_in d.drives.steps) x.run
+      holds run pieces begins = (running_holds one run start.run x.run (calls_in d.drives.steps) pieces begins
+          d.drives.was_told.0 going).0
+
+      happens : Happens x.run event y.run
+      happens = one_event x y event d.drives.was_told.1 served.told
+
+      more_called : calls_in (d.drives.steps ++ Calls event ∷ []) ≡ calls_in d.drives.steps ++ event ∷ []
+      more_called = calls_then d.drives.steps (Calls event ∷ [])
+
+      same_told : turns_told [] (d.drives.steps ++ Calls event ∷ []) ≡ turns_told [] d.drives.steps
+      same_told = told_then [] d.drives.steps (Calls event ∷ [])
+
+      told_all : (run : ScriptValue) → HaveBytes run.script → BeginsRun run start.run → WasRead event
+          → IsToldAll run.first d.drives.steps
+      told_all run pieces begins read =
+          let h : Holds run (calls_in d.drives.steps) x.run = holds run pieces begins in
+          let e : turns_told [] d.drives.steps ≡ turns_of_run x.run =
+          all h.begun_is (read_behind (wanted_in x.run) event served.order read) in
+          record {
+            sent = ap (λ (l : List Turn). sent_in_all l) e ∙ h.sent;
+            got = ap (λ (l : List Turn). got_in_all l) e ∙ h.got;
+          }
+
+      fits : AllByRecursion has_bytes x.run.outgoing.rest
+      fits = (holds begun.0 begun.1 begun.2).pieces.0
+
+      goes_on : IsToldOfRun told y.run (turns_told [] d.drives.steps) × (y.run.begun ≡ x.run.begun)
+      goes_on =
+          let on = hears_on event x.run happens.heard fits happens.may happens.changes in
+          let goes = leads_goes (outcome_of_event happens.heard event) happens.heard y.run happens.goes_on in (
+            told_goes told x.run happens.heard y.run (turns_told [] d.drives.steps) going on goes d.told_of,
+            goes.0 ∙ on.begun,
+          )
+
+      pub drives_call : DrivesSo heard start y old next told
+      drives_call = record {
+        drives = record {
+          steps = d.drives.steps ++ Calls event ∷ [];
+          did = did_then heard old now next d.drives.steps (Calls event ∷ []) d.drives.did
+              (next, (one_call now.connection connection event served.done, refl), refl);
+          was_told = subst (λ (l : List Told). WasTold start y l) (sym more_called)
+              (served.told start (calls_in d.drives.steps) d.drives.was_told);
+          in_order = subst (λ (l : List Told). FollowsInOrder start.run y.run l) (sym more_called)
+              (order_then start.run x.run y.run (calls_in d.drives.steps) (event ∷ []) d.drives.in_order
+              (y.run, happens, served.order, refl));
+          hears = λ first turns h. subst (λ (l : List Turn). heard first now.observer (turns ++ l)) (sym same_told)
+              (d.drives.hears first turns h);
+          in_time = λ run pieces begins. in_time_then run.first [] d.drives.steps (Calls event ∷ [])
+              (d.drives.in_time run pieces begins) ((λ read. told_all run pieces begins read), tt);
+        };
+        told_of = subst (λ (l : List Turn). IsToldOfRun told y.run l) (sym same_told) goes_on.0;
+        none = λ e. same_told ∙ d.none (sym goes_on.1 ∙ e);
+      }
+
+  -- ---- the end
+
+  pub ends_driving : (x : TesterValue) (now : RunStage O) (told : TurnsTold) (d : DrivesSo heard start x old now told)
+      → (x.run.begun ≡ true → (wanted_in x.run).write ≡ [] → turns_told [] d.drives.steps ≡ turns_of_run x.run)
+      → (wanted_in x.run).done ≡ true → DrivesToEnd heard start x old now
+  ends_driving x now told d all done = record {
+    drives = d.drives;
+    recorded = pick x.run.begun refl;
+  }
+    where
+      no_write_left : (wanted_in x.run).write ≡ []
+      no_write_left = ap (λ (b : Bool). if b then [] else first_piece x.run.outgoing.rest) done
+
+      pick : (b : Bool) → x.run.begun ≡ b → turns_told [] d.drives.steps ≡ recorded x.run
+      pick true e = all e no_write_left ∙ sym (ap (λ (c : Bool). if c then turns_of_run x.run else []) e)
+      pick false e = d.none e ∙ sym (ap (λ (c : Bool). if c then turns_of_run x.run else []) e)
+
+-- a run that isn't done hasn't ended
+pub not_ended : (x : RunState) → (wanted_in x).done ≡ false → x.ended ≡ None
+not_ended x undone = pick x.ended refl
+  where
+    pick : (ended : Option Ended) → x.ended ≡ ended → x.ended ≡ None
+    pick None e = e
+    pick (Some how) e = absurd (let wrong : true ≡ false =
+        sym (ap (λ (o : Option Ended). is_some o) e) ∙ undone in cc)
