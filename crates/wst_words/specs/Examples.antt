@@ -372,12 +372,24 @@ pub test_roles : (places : Places)
 unfolding on_words
 test_roles places = refl
 
+-- `wst test --role client --wait 060 localhost:9001`: how long a client is waited for is a word here, beside --timeout
+abbrev client_wait_words : List Text
+client_wait_words = words (codes "test" ∷ codes "--role" ∷ codes "client" ∷ codes "--wait" ∷ codes "060"
+    ∷ codes "localhost:9001" ∷ [])
+
+pub test_wait : (places : Places)
+    → map (λ asked. option_map (λ met. first_of (codes "wait") met.1 ∷ first_of (codes "timeout") met.1 ∷ [])
+    (subcommand_of (wst_app places) asked)) (client_wait_words ∷ waiting_words ∷ [])
+    ≡ Some (Some (codes "060") ∷ None ∷ []) ∷ Some (None ∷ Some (codes "02") ∷ []) ∷ []
+unfolding on_words
+test_wait places = refl
+
 -- such words can fail for want of memory alone
 pub asking_words_are_taken : (places : Places)
     → map (takes (wst_app places)) (plain_words ∷ client_words ∷ head_words ∷ protocol_words ∷ no_protocol_words
     ∷ session_words ∷ echo_words ∷ judge_words ∷ convert_words ∷ cases_words ∷ some_cases_words ∷ test_words
-    ∷ titles_words ∷ serve_words ∷ waiting_words ∷ client_test_words ∷ known_words ∷ [])
+    ∷ titles_words ∷ serve_words ∷ waiting_words ∷ client_test_words ∷ known_words ∷ client_wait_words ∷ [])
     ≡ true ∷ true ∷ true ∷ true ∷ true ∷ true ∷ true ∷ true ∷ true ∷ true ∷ true ∷ true ∷ true ∷ true ∷ true ∷ true
-    ∷ true ∷ []
+    ∷ true ∷ true ∷ []
 unfolding on_words
 asking_words_are_taken places = refl

@@ -13,6 +13,7 @@ run_arguments timeout = argument_or (codes "role") End (codes "server")
     ∷ argument_or (codes "expect") Expected (codes "echo")
     ∷ argument_or (codes "key") Word (codes "37fa213d")
     ∷ timeout
+    ∷ argument (codes "wait") Word
     ∷ argument_or (codes "budget") Number (codes "67108864")
     ∷ argument (codes "protocols") Word
     ∷ argument (codes "header") EachWord
@@ -29,6 +30,7 @@ pub record AsksForRun (rows : List Row) (options : RunOptions) : Type 0 where
   pub expect : GivesExpectation rows (codes "expect") options.expect
   pub key : first_of (codes "key") rows ≡ Some options.key.now
   pub timeout : GivesWord rows (codes "timeout") options.timeout
+  pub wait : GivesWord rows (codes "wait") options.wait
   pub budget : GivesNumber rows (codes "budget") options.budget
   pub protocols : GivesProtocols rows options.protocols
   pub headers : map (λ word. word.now) options.headers.items ≡ given_words (codes "header") rows

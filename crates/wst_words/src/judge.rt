@@ -84,11 +84,11 @@ pub(crate) fn help<'a>() -> HelpText<'a> {
 const AFTER_HELP: &str = "A capture is read from stdin, in format 1 or 2. One line is printed: PASS,
 LOOSE WHY (permitted, but not the reference behaviour), or FAIL WHY (a rule is
 broken). VERDICTS in `man wst` says what each WHY means.
-With --explain, `due N` is what was expected in turn N (`end WHY`: wst had sent
-the violation WHY), `got N` what arrived (`failed WHY`: a violation; `cut`: the
-end inside a frame). `end WHO`: who ended the connection, `tester` (wst), `peer`
-(the tested endpoint), or `broken`: it broke off. `..` follows the first 16
-bytes. In a rule, `ours` marks what is stricter than RFC 6455.
+With --explain, `due N` is what was expected in turn N, `got N` what arrived.
+`due N end WHY`: wst broke WHY, so the peer had to end the connection. `got N
+failed WHY`: the peer broke WHY. `got N cut`: the end came inside a frame. `end
+WHO`: who ended the connection, `tester` (wst), `peer`, or `broken`: it broke
+off. `..` follows the first 16 bytes. `ours` in a rule: stricter than RFC 6455.
 
 Exit status:
   0  PASS or LOOSE

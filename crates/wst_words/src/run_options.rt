@@ -24,6 +24,8 @@ pub struct RunOptions<'a> {
     pub key: &'a str,
     /// For so many seconds, as a word, a byte is waited for, where that is given.
     pub timeout: Option<&'a str>,
+    /// For so many seconds, as a word, a client is waited for, where that is given.
+    pub wait: Option<&'a str>,
     /// At most so many bytes are read of the tested end in one script behind its head.
     pub budget: u64,
     /// The subprotocols that are offered, or of a server known, joined by commas, where they are given.
@@ -70,6 +72,15 @@ pub(crate) const TIMEOUT: Argument = Argument {
     value_name: "SECONDS",
     heading: Some("Limits"),
     help: "Wait SECONDS for a byte, 1 to 3600 [default: forever]",
+};
+
+pub(crate) const WAIT: Argument = Argument {
+    name: "wait",
+    kind: Word,
+    default: None,
+    value_name: "SECONDS",
+    heading: Some("Limits"),
+    help: "Wait SECONDS for a client to connect, 1 to 86400",
 };
 
 pub(crate) const BUDGET: Argument = Argument {
@@ -147,6 +158,7 @@ fn options_with<'a>(options: &ArgMatches<'a>, headers: Vec<&'a str>) -> Option<R
         expect,
         key,
         timeout: word_of(options, "timeout"),
+        wait: word_of(options, "wait"),
         budget,
         protocols: word_of(options, "protocols"),
         headers,

@@ -12,7 +12,8 @@ use crate::arguments::ArgumentKind::Flag;
 use crate::commands::HelpText;
 use crate::options::{flag_of, style_of, word_of};
 use crate::run_options::{
-    BUDGET, CONNECT, EXPECT, HEADER, KEY, PROTOCOLS, ROLE, RunOptions, TARGET, TIMEOUT, run_options,
+    BUDGET, CONNECT, EXPECT, HEADER, KEY, PROTOCOLS, ROLE, RunOptions, TARGET, TIMEOUT, WAIT,
+    run_options,
 };
 use crate::show::DATA;
 use clap::ArgMatches;
@@ -31,7 +32,7 @@ pub struct SendOptions<'a> {
 }
 
 /// Its arguments.
-static ARGUMENTS: [Argument; 11] = [
+static ARGUMENTS: [Argument; 12] = [
     ROLE,
     EXPECT,
     KEY,
@@ -40,6 +41,7 @@ static ARGUMENTS: [Argument; 11] = [
         help: "Wait SECONDS for a byte, 1 to 3600",
         ..TIMEOUT
     },
+    WAIT,
     BUDGET,
     PROTOCOLS,
     HEADER,
@@ -113,7 +115,7 @@ const AFTER_HELP: &str =
   text fin=0 rsv=4 c3  no FIN; rsv: 4 RSV1, 2 RSV2, 1 RSV3; payload c3 in hex
   ping key=- -         no mask (key=37fa213d sets one), no payload
   close=1000           a close frame with this code
-  wait                 the turn ends: wait for the replies
+  wait                 the turn ends: wait for the replies that are due
 A text in quotes is printable ASCII; any other payload is written in hex. A turn
 is sent whole, then replies are read: a peer that stops reading breaks the run.
 

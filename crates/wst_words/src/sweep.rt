@@ -12,7 +12,8 @@ use crate::arguments::ArgumentKind::{Flag, Number};
 use crate::commands::HelpText;
 use crate::options::{flag_of, number_of};
 use crate::run_options::{
-    BUDGET, CONNECT, EXPECT, HEADER, KEY, PROTOCOLS, ROLE, RunOptions, TARGET, TIMEOUT, run_options,
+    BUDGET, CONNECT, EXPECT, HEADER, KEY, PROTOCOLS, ROLE, RunOptions, TARGET, TIMEOUT, WAIT,
+    run_options,
 };
 use clap::ArgMatches;
 use std::alloc::{AllocError, Global};
@@ -31,11 +32,12 @@ pub struct SweepOptions<'a> {
 }
 
 /// Its arguments.
-static ARGUMENTS: [Argument; 12] = [
+static ARGUMENTS: [Argument; 13] = [
     ROLE,
     EXPECT,
     KEY,
     TIMEOUT,
+    WAIT,
     BUDGET,
     PROTOCOLS,
     HEADER,

@@ -12,7 +12,8 @@ use crate::arguments::ArgumentKind::{Flag, Words};
 use crate::commands::HelpText;
 use crate::options::{flag_of, words_of};
 use crate::run_options::{
-    BUDGET, CONNECT, EXPECT, HEADER, KEY, PROTOCOLS, ROLE, RunOptions, TARGET, TIMEOUT, run_options,
+    BUDGET, CONNECT, EXPECT, HEADER, KEY, PROTOCOLS, ROLE, RunOptions, TARGET, TIMEOUT, WAIT,
+    run_options,
 };
 use clap::ArgMatches;
 use std::alloc::{AllocError, Global};
@@ -37,11 +38,12 @@ pub struct TestOptions<'a> {
 }
 
 /// Its arguments.
-static ARGUMENTS: [Argument; 15] = [
+static ARGUMENTS: [Argument; 16] = [
     ROLE,
     EXPECT,
     KEY,
     TIMEOUT,
+    WAIT,
     BUDGET,
     PROTOCOLS,
     HEADER,
@@ -161,11 +163,10 @@ const AFTER_HELP: &str =
     "Each case gives PASS, LOOSE WHY (permitted, but not the reference behaviour),
 FAIL WHY (a rule is broken), FAIL Head NAME (the handshake was refused: see
 --header and --protocols) or `no connection`. `man wst` explains WHY and NAME.
-With --explain, `due N` is what was expected in turn N (`end WHY`: wst had sent
-the violation WHY), `got N` what arrived (`failed WHY`: a violation; `cut`: the
-end inside a frame). `end WHO`: who ended the connection, `tester` (wst), `peer`
-(the tested endpoint), or `broken`: it broke off. `..` follows the first 16
-bytes. In a rule, `ours` marks what is stricter than RFC 6455.
+With --explain, `due N` is what was expected in turn N, `got N` what came (`cut`
+inside a frame). `due N end WHY`: wst broke WHY, so the peer had to end; `got N
+failed WHY`: the peer broke WHY. `end WHO`: who ended it, `tester` (wst), `peer`
+or `broken`: it broke off. `..`: more bytes. `ours`: stricter than RFC 6455.
 With --role client, start your client after `listening on`: it must reconnect
 for each next case. Clients for Autobahn's fuzzing server run unchanged.
 
