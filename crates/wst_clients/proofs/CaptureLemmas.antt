@@ -18,7 +18,8 @@ use Rattle.ws_scripts.specs.declared.transcript.Transcript.{Transcript}
 use Rattle.wst_commands.specs.declared.exit.Exit.{Exit}
 use Rattle.wst_clients.specs.ClientCaptures.{EndsWithVisit, HavePassed, IsLast, LacksPassing, PassOn, WritesLast, ends_capture}
 use Rattle.wst_clients.specs.ClientCaptures.{notes_of_all}
-use Rattle.wst_clients.specs.ClientSends.{AreUnscripted, IsScriptRun, Scripts, ScriptsClient, notes_of_scripted}
+use Rattle.wst_clients.specs.ClientSends.{AreLastNotes, AreUnscripted, IsScriptRun, Scripts, ScriptsClient}
+use Rattle.wst_clients.specs.ClientSends.{notes_of_scripted}
 use Rattle.wst_clients.specs.ClientSends.{scripted_notes, scripted_probe}
 use Rattle.wst_testing.specs.Notes.{TellsEach}
 use Rattle.wst_testing.specs.Testing.{WritesCapture, run_capture}
@@ -160,11 +161,11 @@ is_last count (visit.Ran purpose transcript) ends = tt
 -- ---- a script
 
 -- it was run behind the head of an accepted request
-pub scripted_so : (expected : Expectation) (known : List (List ℕ)) (case : Case) (transcript : Transcript)
+pub scripted_so : (expected : Expectation) (timeouts : Bool) (known : List (List ℕ)) (case : Case) (transcript : Transcript)
     (request : AcceptedRequest) (x y z : ConnectionValue) → Admits known (admission.Accepted request) (record { old = x; new = y })
-    → RunsOver expected case request.behind.items transcript (record { old = y; new = z })
-    → Scripts expected known case (scripted.Ran transcript) (record { old = x; new = z })
-scripted_so expected known case transcript request x y z accepts runs =
+    → RunsOver expected timeouts case request.behind.items transcript (record { old = y; new = z })
+    → Scripts expected timeouts known case (scripted.Ran transcript) (record { old = x; new = z })
+scripted_so expected timeouts known case transcript request x y z accepts runs =
     record { behind = y; request = request; accepted = accepts; runs = runs }
 
 -- one over which it was not run
@@ -212,16 +213,18 @@ sent_more Meets case next f g a b c so is still told =
           (each_on (notes_of_scripted so.before) f g a b still so.noted) told);
     }
 
-pub sent_to : (Meets : Case → Scripted → Type 0) (case : Case) (sent : Option Transcript) (f g : Bool)
-    (a b c : Option (List ℕ)) → HasNotSent Meets case (record { failed = f; old = a; new = b })
-    → IsScriptRun Meets case sent → (f ≡ true → g ≡ true) → Keeps b c
-    → ScriptsClient Meets case sent (record { failed = g; old = a; new = c })
-sent_to Meets case sent f g a b c so runs still kept = record {
+pub sent_to : (MayBeLate : Type 0) (Meets : Case → Scripted → Type 0) (case : Case) (sent : Option Transcript)
+    (next : List (List ℕ)) (f g : Bool) (a b c : Option (List ℕ))
+    → HasNotSent Meets case (record { failed = f; old = a; new = b }) → IsScriptRun Meets case sent
+    → AreLastNotes MayBeLate sent next → (f ≡ true → g ≡ true)
+    → TellsEach next (record { failed = g; old = b; new = c })
+    → ScriptsClient MayBeLate Meets case sent (record { failed = g; old = a; new = c })
+sent_to MayBeLate Meets case sent next f g a b c so runs last still told = record {
   before = so.before;
   unscripted = so.unscripted;
   runs = runs;
-  noted = subst (λ (l : List (List ℕ)). TellsEach l (record { failed = g; old = a; new = c }))
-      (append-nil (notes_of_scripted so.before))
-      (each_then (notes_of_scripted so.before) [] g a b c
-      (each_on (notes_of_scripted so.before) f g a b still so.noted) kept);
+  next = next;
+  last = last;
+  noted = each_then (notes_of_scripted so.before) next g a b c
+      (each_on (notes_of_scripted so.before) f g a b still so.noted) told;
 }

@@ -215,18 +215,18 @@ visited_more Comes rules n standing after next score counted old mid new f g a b
 }
 
 -- one that ends it
-pub visits_end : (Comes : StandingValue → VisitOutcome → Type 0) (rules : VisitRules) (n : ℕ) (standing after : StandingValue) (next : VisitOutcome)
+pub visits_end : (MayBeLate : Type 0) (Comes : StandingValue → VisitOutcome → Type 0) (rules : VisitRules) (n : ℕ) (standing after : StandingValue) (next : VisitOutcome)
     (score counted : Score) (old mid new : Option (List ℕ)) (failed f g : Bool) (a b c : Option (List ℕ))
     → HasVisitedSo Comes rules n standing score old mid (record { failed = f; old = a; new = b })
     → VisitsNext Comes rules standing next f g b c → ends_with_outcome (length rules.cases.now) next ≡ true
     → counted ≡ score_with_all rules.telling score (tests_in rules next)
     → Appends mid new (lines_for rules.telling (tests_in rules next)) → failed ≡ false
     → after ≡ after_outcome standing next
-    → EndsVisits Comes rules after counted (record { failed = failed; old = old; new = new })
+    → EndsVisits MayBeLate Comes rules after counted (record { failed = failed; old = old; new = new })
     (record { failed = g; old = a; new = c })
-visits_end Comes rules n standing after next score counted old mid new failed f g a b c so is ends count line works stands = record {
+visits_end MayBeLate Comes rules n standing after next score counted old mid new failed f g a b c so is ends count line works stands = record {
   visits = so.visits ++ next ∷ [];
-  have_all = record {
+  have_all = inl (record {
     before = so.visits;
     earlier = standing;
     have_come = so.have_come;
@@ -235,7 +235,7 @@ visits_end Comes rules n standing after next score counted old mid new failed f 
     ends = ends;
     all = refl;
     stands = stands;
-  };
+  });
   counted = counted_more rules so.visits next score counted so.counted count;
   told = (
     subst (λ (l : List ℕ). Appends old new l) (lines_more rules so.visits next)
@@ -244,6 +244,19 @@ visits_end Comes rules n standing after next score counted old mid new failed f 
     works,
   );
   noted = noted_more rules so.visits next f g a b c so.noted is.still is.noted;
+}
+
+-- none comes in time
+pub visits_late : (MayBeLate : Type 0) (Comes : StandingValue → VisitOutcome → Type 0) (rules : VisitRules) (n : ℕ)
+    (standing : StandingValue) (score : Score) (old new : Option (List ℕ)) (failed : Bool) (faults : Device)
+    → HasVisitedSo Comes rules n standing score old new faults → failed ≡ false → MayBeLate
+    → EndsVisits MayBeLate Comes rules standing score (record { failed = failed; old = old; new = new }) faults
+visits_late MayBeLate Comes rules n standing score old new failed faults so works late = record {
+  visits = so.visits;
+  have_all = inr (late, so.have_come);
+  counted = so.counted;
+  told = (so.written, works);
+  noted = so.noted;
 }
 
 -- its line could not be written
@@ -301,39 +314,39 @@ visits_lack Comes rules n standing score old new failed f g a b c next so works 
     (next, some, has_visited Comes rules n standing score old new failed f g a b c next so works still told)
 
 -- the same, as a run answers it
-pub visits_err : (Comes : StandingValue → VisitOutcome → Type 0) (rules : VisitRules) (n : ℕ) (standing : StandingValue) (score : Score)
+pub visits_err : (MayBeLate : Type 0) (Comes : StandingValue → VisitOutcome → Type 0) (rules : VisitRules) (n : ℕ) (standing : StandingValue) (score : Score)
     (old new : Option (List ℕ)) (failed f g : Bool) (a b c : Option (List ℕ)) (next : List (List ℕ))
     (ended : Result VisitsEnd Fault)
     → HasVisitedSo Comes rules n standing score old new (record { failed = f; old = a; new = b }) → failed ≡ false
     → (f ≡ true → g ≡ true) → AreSomeNotes rules next → TellsEach next (record { failed = g; old = b; new = c })
     → IsErrAnd ended (λ fault. fault ≡ NoMemory)
-    → RunsVisits Comes rules ended (record { failed = failed; old = old; new = new })
+    → RunsVisits MayBeLate Comes rules ended (record { failed = failed; old = old; new = new })
     (record { failed = g; old = a; new = c })
-visits_err Comes rules n standing score old new failed f g a b c next (Ok end) so works still some told is = absurd is
-visits_err Comes rules n standing score old new failed f g a b c next (Err fault) so works still some told is =
+visits_err MayBeLate Comes rules n standing score old new failed f g a b c next (Ok end) so works still some told is = absurd is
+visits_err MayBeLate Comes rules n standing score old new failed f g a b c next (Err fault) so works still some told is =
     (is, visits_lack Comes rules n standing score old new failed f g a b c next so works still some told)
 
 -- one of the connections has ended the run
-pub visits_ended : (Comes : StandingValue → VisitOutcome → Type 0) (rules : VisitRules) (ended : Result VisitsEnd Fault)
+pub visits_ended : (MayBeLate : Type 0) (Comes : StandingValue → VisitOutcome → Type 0) (rules : VisitRules) (ended : Result VisitsEnd Fault)
     (standing : StandingValue) (score : Score) (output faults : Device) → ended ≡ Ok (Ended standing score)
-    → RunsVisits Comes rules ended output faults → EndsVisits Comes rules standing score output faults
-visits_ended Comes rules ended standing score output faults is runs =
-    subst (λ (e : Result VisitsEnd Fault). RunsVisits Comes rules e output faults) is runs
+    → RunsVisits MayBeLate Comes rules ended output faults → EndsVisits MayBeLate Comes rules standing score output faults
+visits_ended MayBeLate Comes rules ended standing score output faults is runs =
+    subst (λ (e : Result VisitsEnd Fault). RunsVisits MayBeLate Comes rules e output faults) is runs
 
 -- a run over clients ends as the taking of connections did, where that did not come to its end
-pub tests_stop : (Comes : StandingValue → VisitOutcome → Type 0) (rules : VisitRules) (stopped : Result VisitsEnd Fault)
-    (output faults : Device) → RunsVisits Comes rules stopped output faults → stopped ≡ Ok Stopped
-    → TestsClients Comes rules (Ok Failed) output faults
-tests_stop Comes rules stopped output faults runs is =
-    inr (refl, subst (λ (e : Result VisitsEnd Fault). RunsVisits Comes rules e output faults) is runs)
+pub tests_stop : (MayBeLate : Type 0) (Comes : StandingValue → VisitOutcome → Type 0) (rules : VisitRules) (stopped : Result VisitsEnd Fault)
+    (output faults : Device) → RunsVisits MayBeLate Comes rules stopped output faults → stopped ≡ Ok Stopped
+    → TestsClients MayBeLate Comes rules (Ok Failed) output faults
+tests_stop MayBeLate Comes rules stopped output faults runs is =
+    inr (refl, subst (λ (e : Result VisitsEnd Fault). RunsVisits MayBeLate Comes rules e output faults) is runs)
 
-pub tests_lack : (Comes : StandingValue → VisitOutcome → Type 0) (rules : VisitRules) (why : Fault)
+pub tests_lack : (MayBeLate : Type 0) (Comes : StandingValue → VisitOutcome → Type 0) (rules : VisitRules) (why : Fault)
     (stopped : Result VisitsEnd Fault) (ended : Result Exit Fault) (output faults : Device)
-    → RunsVisits Comes rules stopped output faults → stopped ≡ Err why → IsErrAnd ended (λ fault. fault ≡ why)
-    → TestsClients Comes rules ended output faults
-tests_lack Comes rules why stopped (Ok exit) output faults runs is same = absurd same
-tests_lack Comes rules why stopped (Err fault) output faults runs is same =
-    let (no_memory, lacks) = subst (λ (e : Result VisitsEnd Fault). RunsVisits Comes rules e output faults) is runs in
+    → RunsVisits MayBeLate Comes rules stopped output faults → stopped ≡ Err why → IsErrAnd ended (λ fault. fault ≡ why)
+    → TestsClients MayBeLate Comes rules ended output faults
+tests_lack MayBeLate Comes rules why stopped (Ok exit) output faults runs is same = absurd same
+tests_lack MayBeLate Comes rules why stopped (Err fault) output faults runs is same =
+    let (no_memory, lacks) = subst (λ (e : Result VisitsEnd Fault). RunsVisits MayBeLate Comes rules e output faults) is runs in
     (same ∙ no_memory, inl lacks)
 
 -- ---- counts
@@ -378,6 +391,15 @@ visits_fit Comes rules n standing after next score counted old new faults so cou
       omega (arith, few, long, loose, within is_loose outcomes, bound),
       omega (arith, few, long, fail, within is_fail outcomes, bound),
     )
+
+-- also where none comes in time
+pub late_fits : (Comes : StandingValue → VisitOutcome → Type 0) (rules : VisitRules) (n : ℕ) (standing : StandingValue)
+    (score : Score) (old new : Option (List ℕ)) (faults : Device)
+    → HasVisitedSo Comes rules n standing score old new faults → n ≤ 4611686018427387904
+    → length rules.cases.now < 4294967296 → FitsCases (length rules.cases.now) (Ended standing score)
+late_fits Comes rules n standing score old new faults so bound fits =
+    let (pass, loose, fail) = visited_bound Comes rules n standing score old new faults so in
+    (so.kept, fits, omega (arith, pass, bound), omega (arith, loose, bound), omega (arith, fail, bound))
 
 -- ---- the last lines
 
@@ -469,13 +491,13 @@ not_run_few case behavior.NonStrict = omega arith
 not_run_few case behavior.Failed = omega arith
 
 -- the whole run: what was written of the connections, and then the last lines
-pub tests_all : (Comes : StandingValue → VisitOutcome → Type 0) (rules : VisitRules) (standing : StandingValue) (score counted : Score) (bytes : List ℕ)
+pub tests_all : (MayBeLate : Type 0) (Comes : StandingValue → VisitOutcome → Type 0) (rules : VisitRules) (standing : StandingValue) (score counted : Score) (bytes : List ℕ)
     (old mid new : Option (List ℕ)) (failed works : Bool) (exit : Exit) (faults : Device)
-    → EndsVisits Comes rules standing score (record { failed = works; old = old; new = mid }) faults
+    → EndsVisits MayBeLate Comes rules standing score (record { failed = works; old = old; new = mid }) faults
     → AddsLastLines rules standing.behaviors score bytes counted
     → Delivers (exit_of_report counted.is_failed) bytes exit (record { failed = failed; old = mid; new = new })
-    → TestsClients Comes rules (Ok exit) (record { failed = failed; old = old; new = new }) faults
-tests_all Comes rules standing score counted bytes old mid new failed works exit faults so (lines, count) told =
+    → TestsClients MayBeLate Comes rules (Ok exit) (record { failed = failed; old = old; new = new }) faults
+tests_all MayBeLate Comes rules standing score counted bytes old mid new failed works exit faults so (lines, count) told =
     let run = tests_of rules so.visits in
     let more = not_run rules.cases.now standing.behaviors in
     let tests = run ++ more in

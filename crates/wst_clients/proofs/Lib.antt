@@ -2,3 +2,4 @@
 pub mod VisitLemmas
 pub mod ClientLemmas
 pub mod CaptureLemmas
+pub mod Late

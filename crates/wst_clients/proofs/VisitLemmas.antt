@@ -61,13 +61,13 @@ visited rules standing purpose (visit.Ran other transcript) request x y z accept
 pub plays_told : (rules : VisitRules) (standing : StandingValue) (purpose : Purpose) (first : List ℕ)
     (text : Option (String Global)) (script : Case) (transcript : Transcript) (run : ConnectionRun)
     → case_for rules.cases.now purpose ≡ None → IsTextFor rules standing purpose text → IsToldBy text script
-    → RunsOver rules.expected script first transcript run → PlaysTo rules standing purpose first (visit.Told purpose) run
+    → RunsOver rules.expected rules.has_timeouts script first transcript run → PlaysTo rules standing purpose first (visit.Told purpose) run
 plays_told rules standing purpose first text script transcript run none is told runs =
     (refl, none, (script, transcript, (text, is, told), runs))
 
 pub plays_ran : (rules : VisitRules) (standing : StandingValue) (purpose : Purpose) (first : List ℕ) (case : Case)
     (transcript : Transcript) (run : ConnectionRun) → case_for rules.cases.now purpose ≡ Some case
-    → RunsOver rules.expected case first transcript run → PlaysTo rules standing purpose first (visit.Ran purpose transcript) run
+    → RunsOver rules.expected rules.has_timeouts case first transcript run → PlaysTo rules standing purpose first (visit.Ran purpose transcript) run
 plays_ran rules standing purpose first case transcript run is runs = (refl, (case, is, runs))
 
 -- ---- what is told of it

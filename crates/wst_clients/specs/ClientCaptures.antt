@@ -1,6 +1,7 @@
--- The capture of one case that a client under test asks for: the first connection that runs it ends the run.
+-- The capture of one case that a client under test asks for: the first connection that runs it ends the run, and so
+-- does a client who may be waited for in vain, and was.
 use Rattle.std.specs.Prelude.{◌≡◌, ℕ, ◌⊎◌, ⊤, Bool, true, false, List, [], ◌∷◌, ◌++◌, Result, Ok, Err, length}
-use Rattle.std.specs.Prelude.{Option, None, Some, flat_map}
+use Rattle.std.specs.Prelude.{None, flat_map}
 use Rattle.ws_wire.specs.declared.role.Role.TheVariants.{Client}
 use Rattle.ws_frame.specs.Devices.{Device, IsUntouched}
 use Rattle.ws_paths.specs.Standings.{StandingValue, ends_run, none_run}
@@ -12,6 +13,8 @@ use Rattle.wst_commands.specs.declared.exit.Exit.{Exit}
 use Rattle.wst_commands.specs.declared.exit.Exit.TheVariants.{Damaged, Failed}
 use Rattle.wst_commands.specs.declared.fault.Fault.{Fault}
 use Rattle.wst_commands.specs.declared.fault.Fault.TheVariants.{NoMemory}
+use Rattle.wst_sockets.specs.Accepting.{IsWhy}
+use Rattle.wst_sockets.specs.declared.accepting.NoClient.{NoClient}
 use Rattle.wst_testing.specs.Notes.{TellsEach}
 use Rattle.wst_testing.specs.Testing.{WritesCapture, test_line}
 use Rattle.ws_scripts.specs.declared.expectation.Expectation.{Expectation}
@@ -72,13 +75,15 @@ LacksPassing Visits rules faults =
     (next : List (List ℕ)) × AreSomeNotes rules next × HavePassed Visits rules next faults
 
 -- How a run for a capture of this case ended: with a connection, with which the capture or the line was written; or
--- none can be taken any more. Where memory ran out nothing was written.
-abbrev pub CapturesClient : (StandingValue → Visit → Type 0) → VisitRules → Case → Result Exit Fault → Device →
-    Device → Type 0
-CapturesClient Visits rules case (Ok exit) output faults =
+-- none came in time, and the line was written of a case that was not run; or none can be taken any more. Where memory
+-- ran out nothing was written.
+abbrev pub CapturesClient : Type 0 → (StandingValue → Visit → Type 0) → VisitRules → Case → Result Exit Fault →
+    Device → Device → Type 0
+CapturesClient MayBeLate Visits rules case (Ok exit) output faults =
     ((last : Visit) × EndsWithVisit Visits rules last faults × WritesLast rules.expected case last exit output)
+    ⊎ (MayBeLate × HavePassed Visits rules [] faults × Delivers Damaged (test_line (case, NotRun)) exit output)
     ⊎ ((exit ≡ Failed) × HavePassed Visits rules [] faults × IsUntouched output)
-CapturesClient Visits rules case (Err fault) output faults = (fault ≡ NoMemory) × IsUntouched output
+CapturesClient MayBeLate Visits rules case (Err fault) output faults = (fault ≡ NoMemory) × IsUntouched output
     × (LacksPassing Visits rules faults ⊎ ((last : Visit) × EndsWithVisit Visits rules last faults))
 
 -- ---- inside the crate: for the contracts of private functions
@@ -90,8 +95,8 @@ IsLast (Refused fault) = ⊥
 IsLast (Told purpose) = ⊤
 IsLast (Ran purpose transcript) = ⊤
 
--- the connection with which a run ends, if one came
-abbrev pub EndsPassing : {X : Type 0} → (StandingValue → Visit → Type 0) → VisitRules → Option (Visit × X) → Device →
-    Type 0
-EndsPassing Visits rules None faults = HavePassed Visits rules [] faults
-EndsPassing Visits rules (Some last) faults = EndsWithVisit Visits rules last.0 faults
+-- the connection with which a run ends, or why none does
+abbrev pub EndsPassing : {X : Type 0} → Type 0 → (StandingValue → Visit → Type 0) → VisitRules →
+    Result (Visit × X) NoClient → Device → Type 0
+EndsPassing MayBeLate Visits rules (Ok last) faults = EndsWithVisit Visits rules last.0 faults
+EndsPassing MayBeLate Visits rules (Err why) faults = IsWhy MayBeLate why × HavePassed Visits rules [] faults

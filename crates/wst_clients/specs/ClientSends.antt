@@ -1,5 +1,5 @@
 -- A script that is sent to the first client whose request is accepted, whatever it asks for.
-use Rattle.std.specs.Prelude.{◌≡◌, ℕ, ⊤, List, [], ◌∷◌, Option, None, Some}
+use Rattle.std.specs.Prelude.{◌≡◌, ℕ, ⊤, Bool, List, [], ◌∷◌, ◌++◌, Option, None, Some}
 use Rattle.std.specs.Prelude.{flat_map, map}
 use Rattle.ws_frame.specs.Devices.{Device}
 use Rattle.ws_connection.specs.Admitting.{Admits}
@@ -11,6 +11,11 @@ use Rattle.ws_connection.specs.declared.probe_end.Probe.TheVariants as probe
 use Rattle.ws_scripts.specs.declared.expectation.Expectation.{Expectation}
 use Rattle.ws_scripts.specs.declared.script.Case.{Case}
 use Rattle.ws_scripts.specs.declared.transcript.Transcript.{Transcript}
+use Rattle.wst_sockets.specs.Accepting.{IsWhy}
+use Rattle.wst_sockets.specs.Meetings.{miss_line}
+use Rattle.wst_sockets.specs.declared.accepting.NoClient.{NoClient}
+use Rattle.wst_sockets.specs.declared.accepting.NoClient.TheVariants.{Never, TooLate}
+use Rattle.wst_sockets.specs.declared.meeting.ConnectFault.TheVariants.{TimedOut}
 use Rattle.wst_testing.specs.Notes.{TellsEach}
 use Rattle.wst_clients.specs.Visits.{RunsOver, refused_line}
 use Rattle.wst_clients.specs.declared.scripting.ScriptRules.{ScriptRules}
@@ -20,18 +25,18 @@ use Rattle.wst_clients.specs.declared.scripting.Scripted.TheVariants.{Lost, Ran,
 -- ---- one connection
 
 -- The request was accepted, whatever it asks for, and the script run behind it.
-pub record IsScripted (expected : Expectation) (known : List (List ℕ)) (case : Case) (transcript : Transcript)
-    (run : ConnectionRun) : Type 0 where
+pub record IsScripted (expected : Expectation) (timeouts : Bool) (known : List (List ℕ)) (case : Case)
+    (transcript : Transcript) (run : ConnectionRun) : Type 0 where
   pub behind : ConnectionValue
   pub request : AcceptedRequest
   pub accepted : Admits known (admission.Accepted request) (record { old = run.old; new = behind })
-  pub runs : RunsOver expected case request.behind.items transcript (record { old = behind; new = run.new })
+  pub runs : RunsOver expected timeouts case request.behind.items transcript (record { old = behind; new = run.new })
 
 -- what came of it
-abbrev pub Scripts : Expectation → List (List ℕ) → Case → Scripted → ConnectionRun → Type 0
-Scripts expected known case Lost run = Admits known admission.Lost run
-Scripts expected known case (Refused fault) run = Admits known (admission.Refused fault) run
-Scripts expected known case (Ran transcript) run = IsScripted expected known case transcript run
+abbrev pub Scripts : Expectation → Bool → List (List ℕ) → Case → Scripted → ConnectionRun → Type 0
+Scripts expected timeouts known case Lost run = Admits known admission.Lost run
+Scripts expected timeouts known case (Refused fault) run = Admits known (admission.Refused fault) run
+Scripts expected timeouts known case (Ran transcript) run = IsScripted expected timeouts known case transcript run
 
 abbrev pub protocols_known : ScriptRules → List (List ℕ)
 protocols_known rules = map (λ name. name.now) rules.protocols.now
@@ -39,7 +44,7 @@ protocols_known rules = map (λ name. name.now) rules.protocols.now
 -- There is a connection with this budget of which this came.
 abbrev pub IsScriptedSo : ScriptRules → Case → Scripted → Type 0
 IsScriptedSo rules case scripted = (run : ConnectionRun) × (run.old.input.allowance ≡ rules.budget)
-    × Scripts rules.expected (protocols_known rules) case scripted run
+    × Scripts rules.expected rules.has_timeouts (protocols_known rules) case scripted run
 
 -- what an observer is told of it
 abbrev pub scripted_probe : Scripted → Probe
@@ -75,10 +80,23 @@ abbrev pub IsScriptRun : (Case → Scripted → Type 0) → Case → Option Tran
 IsScriptRun Scripts case None = ⊤
 IsScriptRun Scripts case (Some transcript) = Scripts case (Ran transcript)
 
--- Connections came, each of which may come to that, and what was told of them.
-pub record ScriptsClient (Scripts : Case → Scripted → Type 0) (case : Case) (sent : Option Transcript)
-    (faults : Device) : Type 0 where
+-- what is told behind them, where no client has come in time
+abbrev pub late_notes : NoClient → List (List ℕ)
+late_notes TooLate = miss_line TimedOut ∷ []
+late_notes Never = []
+
+-- why the script was run over none, if it was: none came in time, which can be where a client may be waited for in
+-- vain, or none can be taken any more
+abbrev pub AreLastNotes : Type 0 → Option Transcript → List (List ℕ) → Type 0
+AreLastNotes MayBeLate None next = (why : NoClient) × IsWhy MayBeLate why × (next ≡ late_notes why)
+AreLastNotes MayBeLate (Some transcript) next = next ≡ []
+
+-- Connections came, each of which may come to that, and what was told of them, and behind them.
+pub record ScriptsClient (MayBeLate : Type 0) (Scripts : Case → Scripted → Type 0) (case : Case)
+    (sent : Option Transcript) (faults : Device) : Type 0 where
   pub before : List Scripted
   pub unscripted : AreUnscripted Scripts case before
   pub runs : IsScriptRun Scripts case sent
-  pub noted : TellsEach (notes_of_scripted before) faults
+  pub next : List (List ℕ)
+  pub last : AreLastNotes MayBeLate sent next
+  pub noted : TellsEach (notes_of_scripted before ++ next) faults

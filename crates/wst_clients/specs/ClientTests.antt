@@ -1,5 +1,6 @@
 -- Clients under test, one after the other: what is written of them, a line for each case that was run, one for each
--- that none has asked for, and the total; and what is told on the fault output.
+-- that none has asked for, and the total; and what is told on the fault output. `MayBeLate` says that a client may be
+-- waited for in vain.
 use Rattle.std.specs.Prelude.{◌≡◌, ℕ, ◌<◌, ◌^◌, ◌⊎◌, ⊤, Bool, true, false, List, [], ◌∷◌, ◌++◌, Option, Result, Ok}
 use Rattle.std.specs.Prelude.{Err, length}
 use Rattle.ws_frame.specs.Devices.{Device, HasBegun, HasWritten, IsUntouched}
@@ -44,6 +45,13 @@ pub record HaveAllCome (Comes : StandingValue → VisitOutcome → Type 0) (rule
   pub all : visits ≡ before ++ last ∷ []
   pub stands : standing ≡ after_outcome earlier last
 
+-- All connections of a run: the last of them ends it; or none does, and the next client, who may be waited for in vain,
+-- has not come in time. That it was so is not said.
+abbrev pub HaveBeenTaken : Type 0 → (StandingValue → VisitOutcome → Type 0) → VisitRules → List VisitOutcome →
+    StandingValue → Type 0
+HaveBeenTaken MayBeLate Comes rules visits standing =
+    HaveAllCome Comes rules visits standing ⊎ (MayBeLate × HaveCome Comes rules visits standing)
+
 -- the lines of the cases that were run were written
 abbrev pub HasToldVisits : VisitRules → List VisitOutcome → Device → Type 0
 HasToldVisits rules visits output =
@@ -77,12 +85,11 @@ abbrev pub StopsVisiting : (StandingValue → VisitOutcome → Type 0) → Visit
 StopsVisiting Comes rules output faults =
     HasVisited Comes rules [] output faults ⊎ StopsAtVisit Comes rules output faults
 
--- One of them ends the run.
-pub record EndsVisits (Comes : StandingValue → VisitOutcome → Type 0) (rules : VisitRules) (standing : StandingValue)
-    (score : Score)
-    (output faults : Device) : Type 0 where
+-- One of them ends the run, or no client has come in time.
+pub record EndsVisits (MayBeLate : Type 0) (Comes : StandingValue → VisitOutcome → Type 0) (rules : VisitRules)
+    (standing : StandingValue) (score : Score) (output faults : Device) : Type 0 where
   pub visits : List VisitOutcome
-  pub have_all : HaveAllCome Comes rules visits standing
+  pub have_all : HaveBeenTaken MayBeLate Comes rules visits standing
   pub counted : score ≡ score_for rules.telling (tests_of rules visits)
   pub told : HasToldVisits rules visits output
   pub noted : TellsEach (notes_of_visits rules visits) faults
@@ -93,21 +100,23 @@ LacksMemoryVisiting Comes rules output faults =
     (next : List (List ℕ)) × AreSomeNotes rules next × HasVisited Comes rules next output faults
 
 -- how the taking of connections ended
-abbrev pub RunsVisits : (StandingValue → VisitOutcome → Type 0) → VisitRules → Result VisitsEnd Fault → Device →
-    Device → Type 0
-RunsVisits Comes rules (Ok (Ended standing score)) output faults = EndsVisits Comes rules standing score output faults
-RunsVisits Comes rules (Ok Stopped) output faults = StopsVisiting Comes rules output faults
-RunsVisits Comes rules (Err fault) output faults = (fault ≡ NoMemory) × LacksMemoryVisiting Comes rules output faults
+abbrev pub RunsVisits : Type 0 → (StandingValue → VisitOutcome → Type 0) → VisitRules → Result VisitsEnd Fault →
+    Device → Device → Type 0
+RunsVisits MayBeLate Comes rules (Ok (Ended standing score)) output faults =
+    EndsVisits MayBeLate Comes rules standing score output faults
+RunsVisits MayBeLate Comes rules (Ok Stopped) output faults = StopsVisiting Comes rules output faults
+RunsVisits MayBeLate Comes rules (Err fault) output faults =
+    (fault ≡ NoMemory) × LacksMemoryVisiting Comes rules output faults
 
 -- ---- a run
 
--- One of the connections ends the run. The lines of the cases that were run were written, then those of the cases that
--- no client has asked for, and the total of all; or a write failed at last.
-pub record TestsAll (Comes : StandingValue → VisitOutcome → Type 0) (rules : VisitRules) (exit : Exit)
-    (output faults : Device) : Type 0 where
+-- One of the connections ends the run, or no client has come in time. The lines of the cases that were run were
+-- written, then those of the cases that no client has asked for, and the total of all; or a write failed at last.
+pub record TestsAll (MayBeLate : Type 0) (Comes : StandingValue → VisitOutcome → Type 0) (rules : VisitRules)
+    (exit : Exit) (output faults : Device) : Type 0 where
   pub visits : List VisitOutcome
   pub standing : StandingValue
-  pub have_all : HaveAllCome Comes rules visits standing
+  pub have_all : HaveBeenTaken MayBeLate Comes rules visits standing
   pub tests : List (Case × Outcome)
   pub are_tests : tests ≡ tests_of rules visits ++ not_run rules.cases.now standing.behaviors
   pub told : Delivers (exit_of_report (score_for rules.telling tests).is_failed)
@@ -116,32 +125,32 @@ pub record TestsAll (Comes : StandingValue → VisitOutcome → Type 0) (rules :
   pub noted : TellsEach (notes_of_visits rules visits) faults
 
 -- how a run over clients ended
-abbrev pub TestsClients : (StandingValue → VisitOutcome → Type 0) → VisitRules → Result Exit Fault → Device →
-    Device → Type 0
-TestsClients Comes rules (Ok exit) output faults = TestsAll Comes rules exit output faults
+abbrev pub TestsClients : Type 0 → (StandingValue → VisitOutcome → Type 0) → VisitRules → Result Exit Fault →
+    Device → Device → Type 0
+TestsClients MayBeLate Comes rules (Ok exit) output faults = TestsAll MayBeLate Comes rules exit output faults
     ⊎ ((exit ≡ Failed) × StopsVisiting Comes rules output faults)
-TestsClients Comes rules (Err fault) output faults = (fault ≡ NoMemory)
-    × (LacksMemoryVisiting Comes rules output faults
-    ⊎ ((standing : StandingValue) × (score : Score) × EndsVisits Comes rules standing score output faults))
+TestsClients MayBeLate Comes rules (Err fault) output faults = (fault ≡ NoMemory)
+    × (LacksMemoryVisiting Comes rules output faults ⊎ ((standing : StandingValue) × (score : Score)
+    × EndsVisits MayBeLate Comes rules standing score output faults))
 
 -- ---- a document
 
 -- What a report has before all cases was written, the clients were tested, and where that ended early, what it has
 -- behind all cases was written too, if the output works.
-pub record ReportsClients (Comes : StandingValue → VisitOutcome → Type 0) (rules : VisitRules) (target : List ℕ)
-    (report : ReportValue) (ended : Result Exit Fault) (output faults : Device) : Type 0 where
+pub record ReportsClients (MayBeLate : Type 0) (Comes : StandingValue → VisitOutcome → Type 0) (rules : VisitRules)
+    (target : List ℕ) (report : ReportValue) (ended : Result Exit Fault) (output faults : Device) : Type 0 where
   pub begun : Option (List ℕ)
   pub started : HasWritten (start_text report target) (record output { new = begun })
   pub failed : Bool
   pub behind : Option (List ℕ)
-  pub tests : TestsClients Comes rules ended (record { failed = failed; old = begun; new = behind }) faults
+  pub tests : TestsClients MayBeLate Comes rules ended (record { failed = failed; old = begun; new = behind }) faults
   pub closes : ClosesReport report ended failed (record output { old = behind })
 
 -- so a document about this target was written of clients; or what it has before all cases was not, and none was tested
-abbrev pub DocumentsClients : (StandingValue → VisitOutcome → Type 0) → VisitRules → List ℕ → ReportValue
+abbrev pub DocumentsClients : Type 0 → (StandingValue → VisitOutcome → Type 0) → VisitRules → List ℕ → ReportValue
     → Result Exit Fault → Device → Device → Type 0
-DocumentsClients Comes rules target report ended output faults =
-    ReportsClients Comes rules target report ended output faults
+DocumentsClients MayBeLate Comes rules target report ended output faults =
+    ReportsClients MayBeLate Comes rules target report ended output faults
     ⊎ (StopsAtStart target report ended output × IsUntouched faults)
 
 -- ---- inside the crate: the last lines, for the contracts of private functions

@@ -78,11 +78,12 @@ TellsFor rules standing purpose script =
 
 -- ---- what came of a connection
 
--- a script was run with a client of which this is expected, and the first turn has got these bytes; the frames of a
--- server are not masked
-abbrev pub RunsOver : Expectation → Case → List ℕ → Transcript → ConnectionRun → Type 0
-RunsOver expected script first transcript run =
-    Records expected Client (bytes_by_turn script None) first transcript run
+-- a script was run with a client of which this is expected, whether waits can be in vain or not, and the first turn has
+-- got these bytes; the frames of a server are not masked
+abbrev pub RunsOver : Expectation → Bool → Case → List ℕ → Transcript → ConnectionRun → Type 0
+RunsOver expected timeouts script first transcript run =
+    Records (record { tested = Client; expected = expected; timeouts = timeouts }) (bytes_by_turn script None) first
+    transcript run
 
 -- what was asked for was done behind the head: its text was told, or its case was run
 abbrev pub PlaysTo : VisitRules → StandingValue → Purpose → List ℕ → Visit → ConnectionRun → Type 0
@@ -90,10 +91,10 @@ PlaysTo rules standing purpose first Lost run = ⊥
 PlaysTo rules standing purpose first (Refused fault) run = ⊥
 PlaysTo rules standing purpose first (Told other) run = (other ≡ purpose) × (case_for rules.cases.now purpose ≡ None)
     × ((script : Case) × (transcript : Transcript) × TellsFor rules standing purpose script
-    × RunsOver rules.expected script first transcript run)
+    × RunsOver rules.expected rules.has_timeouts script first transcript run)
 PlaysTo rules standing purpose first (Ran other transcript) run = (other ≡ purpose)
     × ((case : Case) × (case_for rules.cases.now purpose ≡ Some case)
-    × RunsOver rules.expected case first transcript run)
+    × RunsOver rules.expected rules.has_timeouts case first transcript run)
 
 -- The request was accepted, whose path has this purpose, and that was done over the connection behind it.
 pub record IsVisited (rules : VisitRules) (standing : StandingValue) (purpose : Purpose) (visit : Visit)

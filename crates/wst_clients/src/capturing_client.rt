@@ -24,10 +24,12 @@ use ws_paths::Standing;
 use ws_suite::{Case, Expectation};
 use ws_wire::{NO_KEY, Role};
 use wst_commands::{Exit, Fault};
+use wst_sockets::NoClient;
 use wst_testing::{Outcome, RunRules, tell_capture, tell_case};
 
-/// Takes connections, one after the other, until one runs the case, whose capture is written, or one ends the run,
-/// where the line of a case is written that was not run. The one case of the rules is this one.
+/// Takes connections, one after the other, until one runs the case, whose capture is written, or one ends the run, or
+/// none comes in time, where the line of a case is written that was not run. The one case of the rules is this one.
+#[tactic(auto, using(crate::proofs::Late::captured, crate::proofs::Late::lacks_memory, crate::proofs::Late::never))]
 pub fn capture_client<C: TestedClients, W: Write, F: Write>(
     alloc: Global,
     clients: &C,
@@ -40,32 +42,36 @@ pub fn capture_client<C: TestedClients, W: Write, F: Write>(
     requires one { rules.now.cases.now ≡ case.now ∷ [] }
     requires can { CanBeRun case.now }
     requires known { AreOffers (known_by rules.now) }
-    ensures captures { CapturesClient (C.visits clients.now rules.now) rules.now case.now result
-        (watched W.contents writer.old writer.new) (watched F.contents faults.old faults.new) }
+    ensures captures { CapturesClient (C.may_be_late clients.now) (C.visits clients.now rules.now) rules.now case.now
+        result (watched W.contents writer.old writer.new) (watched F.contents faults.old faults.new) }
     ensures still { StaysFailed faults.old faults.new }
 {
     match last_visit(alloc, clients, rules, faults)? {
-        Some((visit, client)) => {
+        Ok((visit, client)) => {
             let told = tell_last(alloc, rules.expected, case, visit, writer)?;
             clients.leave(client);
             Ok(told)
         }
-        None => Ok(Exit::Failed),
+        Err(NoClient::TooLate) => {
+            let told = tell_case(alloc, case, &Outcome::NotRun, Exit::Damaged, writer)?;
+            Ok(told)
+        }
+        Err(NoClient::Never) => Ok(Exit::Failed),
     }
 }
 
-/// Takes connections, one after the other, until one ends the run, and answers what came of it. `None` where none can
-/// be taken any more.
+/// Takes connections, one after the other, until one ends the run, and answers what came of it, or why none did.
 fn last_visit<C: TestedClients, F: Write>(
     alloc: Global,
     clients: &C,
     rules: &VisitRules<'_>,
     faults: &mut Watched<F>,
-) -> Result<Option<(Visit, C::HalfClosed)>, NoMemory>
+) -> Result<Result<(Visit, C::HalfClosed), NoClient>, NoMemory>
     requires can { All CanBeRun rules.now.cases.now }
     requires known { AreOffers (known_by rules.now) }
     ensures ends { IfOk result (λ last.
-        EndsPassing (C.visits clients.now rules.now) rules.now last (watched F.contents faults.old faults.new)) }
+        EndsPassing (C.may_be_late clients.now) (C.visits clients.now rules.now) rules.now last
+        (watched F.contents faults.old faults.new)) }
     ensures lacks { OnErr result
         (LacksPassing (C.visits clients.now rules.now) rules.now (watched F.contents faults.old faults.new)) }
     ensures still { StaysFailed faults.old faults.new }
@@ -74,17 +80,18 @@ fn last_visit<C: TestedClients, F: Write>(
     let mut visited = 0;
     while visited < MAX_VISITS {
         visited += 1;
-        let Some(client) = clients.next_client() else {
-            return Ok(None);
+        let client = match clients.next_client(alloc) {
+            Ok(client) => client,
+            Err(why) => return Ok(Err(why)),
         };
         let visit = clients.visit(alloc, &client, rules, &standing, faults)?;
         let client = clients.half_close(client);
         if ends_capture(&standing, &visit) {
-            return Ok(Some((visit, client)));
+            return Ok(Ok((visit, client)));
         }
         clients.leave(client);
     }
-    Ok(None)
+    Ok(Err(NoClient::Never))
 }
 
 /// Whether the run ends with what came of a connection.

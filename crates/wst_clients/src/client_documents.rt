@@ -35,8 +35,9 @@ pub fn document_clients<C: TestedClients, W: Write, F: Write>(
     requires works { has_failed writer.old ≡ false }
     requires can { All CanBeRun rules.now.cases.now }
     requires known { AreOffers (known_by rules.now) }
-    ensures documents { DocumentsClients (ComesTo (C.visits clients.now rules.now) rules.now) rules.now target.now
-        report.now result (watched W.contents writer.old writer.new) (watched F.contents faults.old faults.new) }
+    ensures documents { DocumentsClients (C.may_be_late clients.now)
+        (ComesTo (C.visits clients.now rules.now) rules.now) rules.now target.now report.now result
+        (watched W.contents writer.old writer.new) (watched F.contents faults.old faults.new) }
     ensures still { StaysFailed faults.old faults.new }
 {
     let start = report.start_text(alloc, target)?;

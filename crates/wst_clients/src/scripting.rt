@@ -51,8 +51,8 @@ pub(crate) fn script_over<R: Read, W: EndsDirection, O: Observer>(
     requires can { CanBeRun case.now }
     requires known { AreOffers (protocols_known rules.now) }
     requires hearing { IsHearing O.heard observer.old }
-    ensures scripts { IfOk result (λ scripted. Scripts rules.now.expected (protocols_known rules.now) case.now scripted
-        (record { old = connection.old; new = connection.new })) }
+    ensures scripts { IfOk result (λ scripted. Scripts rules.now.expected rules.now.has_timeouts
+        (protocols_known rules.now) case.now scripted (record { old = connection.old; new = connection.new })) }
     ensures told { IfOk result (λ scripted.
         HearsProbe O.heard O.heard_all observer.old observer.new (scripted_probe scripted)) }
     ensures borrow { O.borrow observer.new ≡ O.borrow observer.old }

@@ -7,7 +7,7 @@ ghost use Rattle.ws_scripts.specs.Scripts.{CanBeRun};
 ghost use Rattle.ws_upgrade.specs.Protocols.{AreOffers};
 ghost use Rattle.wst_commands.specs.Devices.{StaysFailed};
 ghost use Rattle.wst_clients.specs.ClientSends.{ScriptsClient, protocols_known, scripted_notes, scripted_probe};
-ghost use Rattle.wst_clients.specs.ClientSends.{sent_probe};
+ghost use Rattle.wst_clients.specs.ClientSends.{late_notes, sent_probe};
 ghost use Rattle.wst_testing.specs.Notes.{TellsEach};
 ghost use Rattle.ws_connection.specs.declared.probe_end.Probe.TheVariants.{NoConnection};
 ghost use Rattle.wst_clients.specs.declared.scripting.Scripted.TheVariants.{Ran};
@@ -22,9 +22,12 @@ use ws_base::NoMemory;
 use ws_connection::Observer;
 use ws_frame::Watched;
 use ws_suite::{Case, Transcript};
+use wst_commands::tell;
+use wst_sockets::{ConnectFault, NoClient};
 
 /// Takes connections, one after the other, until the request of one is accepted, and runs a script over it. `None`
-/// where none can be taken any more. A request that is refused is told to `faults`.
+/// where none can be taken any more, or none came in time, which is told to `faults`, and so is a request that is
+/// refused.
 pub fn script_client<C: TestedClients, O: Observer, F: Write>(
     alloc: Global,
     clients: &C,
@@ -36,8 +39,8 @@ pub fn script_client<C: TestedClients, O: Observer, F: Write>(
     requires can { CanBeRun case.now }
     requires known { AreOffers (protocols_known rules.now) }
     requires hearing { IsHearing O.heard observer.old }
-    ensures scripts { IfOk result (λ sent. ScriptsClient (C.scripts clients.now rules.now) case.now sent
-        (watched F.contents faults.old faults.new)) }
+    ensures scripts { IfOk result (λ sent. ScriptsClient (C.may_be_late clients.now)
+        (C.scripts clients.now rules.now) case.now sent (watched F.contents faults.old faults.new)) }
     ensures told { IfOk result (λ sent.
         HearsProbe O.heard O.heard_all observer.old observer.new (sent_probe sent)) }
     ensures borrow { O.borrow observer.new ≡ O.borrow observer.old }
@@ -46,8 +49,12 @@ pub fn script_client<C: TestedClients, O: Observer, F: Write>(
     let mut visited = 0;
     while visited < MAX_VISITS {
         visited += 1;
-        let Some(client) = clients.next_client() else {
-            return Ok(None);
+        let client = match clients.next_client(alloc) {
+            Ok(client) => client,
+            Err(why) => {
+                tell_no_client(why, faults);
+                return Ok(None);
+            }
         };
         let scripted = clients.script(alloc, &client, rules, case, observer)?;
         tell_scripted(alloc, &scripted, faults)?;
@@ -57,6 +64,17 @@ pub fn script_client<C: TestedClients, O: Observer, F: Write>(
         }
     }
     Ok(None)
+}
+
+/// Tells that no client came in time, where none did.
+fn tell_no_client<F: Write>(why: NoClient, faults: &mut Watched<F>)
+    ensures told { TellsEach (late_notes why) (watched F.contents faults.old faults.new) }
+    ensures still { StaysFailed faults.old faults.new }
+{
+    match why {
+        NoClient::TooLate => tell(ConnectFault::TimedOut.line(), faults),
+        NoClient::Never => {}
+    }
 }
 
 /// What went over a connection, if the script was run over it.

@@ -13,15 +13,16 @@ ghost use Rattle.wst_clients.specs.Visits.{CanBeVisited, IsInside, IsVisitedSo, 
 use crate::scripting::{ScriptRules, Scripted, script_over};
 use crate::visiting::{Visit, VisitRules, visit_client};
 use std::alloc::Global;
-use std::cell::RefCell;
+use std::cell::{Cell, RefCell};
 use std::io::{Read, Write};
-use std::net::{Net, OpenListener, OpenStream};
+use std::net::{OpenListener, OpenStream};
+use std::os::fd::AsRawFd;
 use ws_base::NoMemory;
 use ws_connection::{Connection, Observer};
 use ws_frame::Watched;
 use ws_paths::Standing;
 use ws_suite::Case;
-use wst_sockets::{Clients, ListenerClients, Side};
+use wst_sockets::{Clients, ListenerClients, Network, PatientReader, Running, Side, WaitTeller};
 
 /// Clients of one kind that are tested.
 pub trait TestedClients: Clients {
@@ -73,7 +74,7 @@ pub trait TestedClients: Clients {
         ensures borrow { O.borrow observer.new ≡ O.borrow observer.old };
 }
 
-impl<N: Net, L: OpenListener> TestedClients for ListenerClients<'_, N, L>
+impl<N: Network, L: OpenListener + AsRawFd> TestedClients for ListenerClients<'_, N, L>
 where
     L::Stream: Read + Write + OpenStream,
 {
@@ -89,10 +90,13 @@ where
         standing: &Standing,
         faults: &mut Watched<F>,
     ) -> Result<Visit, NoMemory> {
-        let (reader, writer) = (Side::of(client), Side::of(client));
-        let mut connection = Connection::new(reader, writer, rules.budget);
-        let visit = visit_client(alloc, rules, standing, &mut connection, faults)?;
-        Ok(visit)
+        let number = Cell::new(None);
+        let running = Running {
+            cases: rules.cases,
+            number: &number,
+        };
+        let teller = self.teller(alloc, running);
+        visit_over(alloc, client, teller, rules, standing, faults)
     }
 
     fn script<O: Observer>(
@@ -108,4 +112,28 @@ where
         let scripted = script_over(alloc, rules, case, &mut connection, observer)?;
         Ok(scripted)
     }
+}
+
+/// Does what a client asks for over its stream, whose waits are told of.
+fn visit_over<'a, S: Read + Write + OpenStream, N: Network, F: Write>(
+    alloc: Global,
+    stream: &'a RefCell<S>,
+    teller: WaitTeller<'a, N>,
+    rules: &VisitRules<'_>,
+    standing: &Standing,
+    faults: &mut Watched<F>,
+) -> Result<Visit, NoMemory>
+    requires { CanBeVisited rules.now standing.now }
+    ensures visits { IfOk result (λ visit. IsVisitedSo rules.now standing.now visit) }
+    ensures inside { IfOk result (λ visit. IsInside rules.now visit) }
+    ensures told { IfOk result (λ visit.
+        TellsEach (visit_notes rules.now visit) (watched F.contents faults.old faults.new)) }
+    ensures lacks { OnErr result (TellsSome rules.now (watched F.contents faults.old faults.new)) }
+    ensures still { StaysFailed faults.old faults.new }
+{
+    let number = teller.number();
+    let (reader, writer) = (PatientReader::of(stream, teller), Side::of(stream));
+    let mut connection = Connection::new(reader, writer, rules.budget);
+    let visit = visit_client(alloc, rules, standing, number, &mut connection, faults)?;
+    Ok(visit)
 }

@@ -28,6 +28,7 @@ use ws_frame::Watched;
 use ws_paths::{Behavior, Standing};
 use ws_suite::Case;
 use wst_commands::{Exit, Fault, deliver};
+use wst_sockets::NoClient;
 use wst_testing::{Outcome, Score};
 
 /// At most so many connections are taken: more than can come.
@@ -36,15 +37,15 @@ pub(crate) const MAX_VISITS: u64 = 1 << 62;
 /// How the taking of connections ended.
 #[derive(Drop)]
 pub enum VisitsEnd {
-    /// With a connection that ends the run: the cases stand so, and the run has come to this.
+    /// With a connection that ends the run, or without one in time: the cases stand so, and the run has come to this.
     Ended(Standing, Score),
     /// None can come any more, or a line could not be written.
     Stopped,
 }
 
-/// Takes connections, one after the other, until one ends the run. Writes a line for each case that was run as it ends,
-/// then one for each case that was not run, and the total last. A line that can't be written ends the run, and so does
-/// a listener that takes no connection any more.
+/// Takes connections, one after the other, until one ends the run, or none comes in time. Writes a line for each case
+/// that was run as it ends, then one for each case that was not run, and the total last. A line that can't be written
+/// ends the run, and so does a listener that takes no connection any more.
 pub fn test_clients<C: TestedClients, W: Write, F: Write>(
     alloc: Global,
     clients: &C,
@@ -55,8 +56,8 @@ pub fn test_clients<C: TestedClients, W: Write, F: Write>(
     requires works { has_failed writer.old ≡ false }
     requires can { All CanBeRun rules.now.cases.now }
     requires known { AreOffers (known_by rules.now) }
-    ensures tests { TestsClients (ComesTo (C.visits clients.now rules.now) rules.now) rules.now result
-        (watched W.contents writer.old writer.new) (watched F.contents faults.old faults.new) }
+    ensures tests { TestsClients (C.may_be_late clients.now) (ComesTo (C.visits clients.now rules.now) rules.now)
+        rules.now result (watched W.contents writer.old writer.new) (watched F.contents faults.old faults.new) }
     ensures still { StaysFailed faults.old faults.new }
 {
     match run_visits(alloc, clients, rules, writer, faults)? {
@@ -68,7 +69,8 @@ pub fn test_clients<C: TestedClients, W: Write, F: Write>(
     }
 }
 
-/// Takes connections, one after the other, until one ends the run, and writes a line for each case that was run.
+/// Takes connections, one after the other, until one ends the run or none comes in time, and writes a line for each
+/// case that was run.
 fn run_visits<C: TestedClients, W: Write, F: Write>(
     alloc: Global,
     clients: &C,
@@ -79,8 +81,8 @@ fn run_visits<C: TestedClients, W: Write, F: Write>(
     requires works { has_failed writer.old ≡ false }
     requires can { All CanBeRun rules.now.cases.now }
     requires known { AreOffers (known_by rules.now) }
-    ensures runs { RunsVisits (ComesTo (C.visits clients.now rules.now) rules.now) rules.now result
-        (watched W.contents writer.old writer.new) (watched F.contents faults.old faults.new) }
+    ensures runs { RunsVisits (C.may_be_late clients.now) (ComesTo (C.visits clients.now rules.now) rules.now) rules.now
+        result (watched W.contents writer.old writer.new) (watched F.contents faults.old faults.new) }
     ensures fits { IfOk result (FitsCases (length rules.now.cases.now)) }
     ensures still { StaysFailed faults.old faults.new }
 {
@@ -89,8 +91,10 @@ fn run_visits<C: TestedClients, W: Write, F: Write>(
     let mut visited = 0;
     while visited < MAX_VISITS {
         visited += 1;
-        let Some(client) = clients.next_client() else {
-            return Ok(VisitsEnd::Stopped);
+        let client = match clients.next_client(alloc) {
+            Ok(client) => client,
+            Err(NoClient::TooLate) => return Ok(VisitsEnd::Ended(standing, score)),
+            Err(NoClient::Never) => return Ok(VisitsEnd::Stopped),
         };
         let outcome = outcome_of_client(alloc, clients, &client, rules, &standing, faults)?;
         let client = clients.half_close(client);

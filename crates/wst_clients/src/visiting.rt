@@ -6,18 +6,17 @@ ghost use Rattle.std.specs.Prelude.{string_bytes, Some, None};
 ghost use Rattle.std.specs.List.{All};
 ghost use Rattle.ws_frame.specs.Devices.{watched};
 ghost use Rattle.ws_connection.specs.Connections.{IsNewConnection, IsReady};
-ghost use Rattle.ws_connection.specs.Probing.{Records, bytes_by_turn};
 ghost use Rattle.ws_paths.specs.Paths.{AsksWithin};
 ghost use Rattle.ws_paths.specs.Texts.{info_text};
 ghost use Rattle.ws_scripts.specs.Scripts.{CanBeRun, turns_of};
-ghost use Rattle.ws_wire.specs.declared.role.Role.TheVariants.{Client};
 ghost use Rattle.wst_commands.specs.Devices.{StaysFailed};
 ghost use Rattle.wst_testing.specs.Notes.{TellsEach};
 ghost use Rattle.wst_clients.specs.Visits.{CanBeVisited, IsInside, IsTextFor, PlaysTo, TellsSome, Visits};
 ghost use Rattle.wst_clients.specs.ClientLines.{name_told};
-ghost use Rattle.wst_clients.specs.Visits.{case_for, refused_line, visit_notes};
+ghost use Rattle.wst_clients.specs.Visits.{RunsOver, case_for, refused_line, visit_notes};
 
 use std::alloc::Global;
+use std::cell::Cell;
 use std::io::{Read, Write};
 use ws_base::NoMemory;
 use ws_connection::{Admission, Connection, EndsDirection, ScriptRun, Silent, admit, run_script};
@@ -76,11 +75,12 @@ pub enum Visit {
 
 /// Answers the request of a connection, and runs the script of what its path asks for: that of a case, or the one that
 /// tells a text, if there is one, and closes. A request that is refused is told to `faults`, and so is the name of a
-/// case before it runs, where that is asked for.
+/// case before it runs, where that is asked for. Before a case runs its number is set.
 pub fn visit_client<R: Read, W: EndsDirection, F: Write>(
     alloc: Global,
     rules: &VisitRules<'_>,
     standing: &Standing,
+    number: &Cell<Option<u32>>,
     connection: &mut Connection<R, W>,
     faults: &mut Watched<F>,
 ) -> Result<Visit, NoMemory>
@@ -97,6 +97,7 @@ pub fn visit_client<R: Read, W: EndsDirection, F: Write>(
     match admit(alloc, rules.protocols, connection)? {
         Admission::Accepted(request) => {
             let purpose = standing.purpose(request.path.as_slice());
+            number.set(purpose.number_to_run());
             let behind = request.behind;
             let visit = play(alloc, rules, standing, purpose, behind, connection, faults)?;
             Ok(visit)
@@ -195,7 +196,7 @@ fn run_over<R: Read, W: EndsDirection>(
     requires ready { IsReady connection.old }
     requires can { CanBeRun script.now }
     ensures { IfOk result (λ transcript.
-        Records rules.now.expected Client (bytes_by_turn script.now None) behind.items transcript
+        RunsOver rules.now.expected rules.now.has_timeouts script.now behind.items transcript
         (record { old = connection.old; new = connection.new })) }
 {
     let run = ScriptRun {

@@ -1,12 +1,13 @@
 -- What is wrong with a line that is no step, where that is known to be typed often, and what is told of it.
-use Rattle.std.specs.Prelude.{◌≡◌, ℕ, zero, suc, ◌+◌, ◌-◌, ◌==◌, nat_eq, nat_lt, Bool, false, ◌||◌, if◌then◌else◌}
+use Rattle.std.specs.Prelude.{◌≡◌, ℕ, zero, suc, ◌+◌, ◌-◌, ◌==◌, nat_eq, nat_lt, Bool, false, ◌||◌, ◌&&◌, if◌then◌else◌}
 use Rattle.std.specs.Prelude.{List, [], ◌∷◌, drop, take, position, codes, Option, Some, None, MatchOption}
 use Rattle.std.specs.Borrow.{Bor}
-use Rattle.std.specs.List.{ends_with, list_any, starts_with}
+use Rattle.std.specs.List.{ends_with, list_all, list_any, starts_with}
+use Rattle.std.specs.Str.{bytes_eq}
 use Rattle.ws_formats.specs.Words.{words_of}
 use Rattle.wst_commands.specs.declared.step_damages.StepDamage.{StepDamage}
 use Rattle.wst_commands.specs.declared.step_damages.StepDamage.TheVariants.{EndsInCr, Order, Other, Quotes, Unended}
-use Rattle.wst_commands.specs.declared.step_damages.StepDamage.TheVariants.{Unprintable}
+use Rattle.wst_commands.specs.declared.step_damages.StepDamage.TheVariants.{NoPayload, Unprintable}
 
 -- ---- cutting
 
@@ -49,10 +50,24 @@ abbrev pub descend : ℕ → List (List ℕ) → Bool
 descend last [] = false
 descend last (word ∷ words) = nat_lt (field_rank word) last || descend (field_rank word) words
 
+-- the names of frames of which the payload is written: all but those of reserved opcodes
+abbrev pub is_frame_name : List ℕ → Bool
+is_frame_name name = bytes_eq name (codes "text") || (bytes_eq name (codes "binary")
+    || (bytes_eq name (codes "cont") || (bytes_eq name (codes "close")
+    || (bytes_eq name (codes "ping") || bytes_eq name (codes "pong")))))
+
+-- all words behind the name are fields, and none is a payload
+abbrev pub are_fields : List (List ℕ) → Bool
+are_fields words = list_all (λ word. nat_lt (field_rank word) 5) words
+
+-- the words of a line, of which none stands behind one that is to follow it
+abbrev pub ordered_damage : List ℕ → List (List ℕ) → StepDamage
+ordered_damage name fields = if is_frame_name name && are_fields fields then NoPayload else Other
+
 -- the words of a line: the name of the frame, and then its fields and its data
 abbrev pub words_damage : List (List ℕ) → StepDamage
 words_damage [] = Other
-words_damage (name ∷ fields) = if descend 0 fields then Order else Other
+words_damage (name ∷ fields) = if descend 0 fields then Order else ordered_damage name fields
 
 -- a line without quotes
 abbrev pub order_damage : List ℕ → StepDamage
@@ -66,9 +81,11 @@ behind_damage words = if descend 5 words then Order else Other
 abbrev pub is_unprintable : ℕ → Bool
 is_unprintable byte = nat_lt byte 32 || nat_lt 126 byte
 
--- a line that ends with this text, before which this is wrong: where that is nothing else, a byte of the text may be it
+-- a line that ends with this text, before which this is wrong: where that is nothing else (the payload is the text), a
+-- byte of the text may be it
 abbrev pub inner_damage : List ℕ → StepDamage → StepDamage
 inner_damage text Other = if list_any is_unprintable text then Unprintable else Other
+inner_damage text NoPayload = if list_any is_unprintable text then Unprintable else Other
 inner_damage text Unended = Unended
 inner_damage text EndsInCr = EndsInCr
 inner_damage text Quotes = Quotes
@@ -92,7 +109,7 @@ cut_damage line None = order_damage line
 cut_damage line (Some parts) = quoted_damage parts.0 parts.1
 
 -- a line that has an LF: it ends in CR; or else it has quotes, and not two; or else its fields stand in another order,
--- or one of them behind its data; or else its text has a byte that no text has
+-- or one of them behind its data; or else its text has a byte that no text has, or it names a frame and has no payload
 abbrev pub line_damage : List ℕ → StepDamage
 line_damage line = if ends_with nat_eq line (13 ∷ []) then EndsInCr else cut_damage line (cut_of 34 line)
 
@@ -113,4 +130,5 @@ damage_words EndsInCr = codes "not a step\n  end lines with LF alone, not with C
 damage_words Quotes = codes "not a step\n  a text has a quote at each end and none between: text \"hi\""
 damage_words Order = codes "not a step\n  the order is KIND fin= rsv= key= form= DATA"
 damage_words Unprintable = codes "not a step\n  a text is printable ASCII, other bytes are hex: text c3a9"
+damage_words NoPayload = codes "not a step\n  the payload stands last, - is an empty one: ping -"
 damage_words Other = codes "not a step"

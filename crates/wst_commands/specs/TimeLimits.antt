@@ -1,4 +1,4 @@
--- The limit of time that words give.
+-- The limits of time that words give.
 use Rattle.std.specs.Prelude.{◌≡◌, ℕ, ◌≤◌, ◌<◌, Bool, true, false, not, IsTrue, ⊤, List, length, drop, position, All}
 use Rattle.std.specs.Prelude.{Option, Some, None}
 use Rattle.std.specs.Char.{is_ascii_alphabetic, is_ascii_digit}
@@ -7,19 +7,33 @@ use Rattle.ws_formats.specs.Words.{IsNumberWord}
 use Rattle.wst_commands.specs.declared.time_limit.TimeLimit.{TimeLimit}
 use Rattle.wst_commands.specs.declared.time_limit.TimeLimit.TheVariants.{Seconds, Unlimited}
 
--- the word is that of so many seconds: 1 to 3600, in decimal digits without leading zeros
-abbrev pub IsSecondsWord : ℕ → List ℕ → Type 0
-IsSecondsWord seconds word = (1 ≤ seconds) × IsNumberWord 3600 seconds word
+-- the word is that of so many seconds: 1 to the most, in decimal digits without leading zeros
+abbrev pub IsSecondsWord : ℕ → ℕ → List ℕ → Type 0
+IsSecondsWord most seconds word = (1 ≤ seconds) × IsNumberWord most seconds word
 
--- the option gives this limit: that of its word, and none where it is left out
+-- the option gives this limit of at most so many seconds: that of its word, and none where it is left out
+abbrev pub GivesLimit : ℕ → Option (Bor (List ℕ)) → TimeLimit → Type 0
+GivesLimit most None limit = limit ≡ Unlimited
+GivesLimit most (Some word) Unlimited = ⊥
+GivesLimit most (Some word) (Seconds seconds) = IsSecondsWord most seconds word.now
+
+-- the option gives one, or is left out
+abbrev pub HasLimit : ℕ → Option (Bor (List ℕ)) → Type 0
+HasLimit most word = (limit : TimeLimit) × GivesLimit most word limit
+
+-- for how long a byte is waited for: an hour at most
 abbrev pub GivesTimeout : Option (Bor (List ℕ)) → TimeLimit → Type 0
-GivesTimeout None limit = limit ≡ Unlimited
-GivesTimeout (Some word) Unlimited = ⊥
-GivesTimeout (Some word) (Seconds seconds) = IsSecondsWord seconds word.now
+GivesTimeout word limit = GivesLimit 3600 word limit
 
--- the option gives a limit, or is left out
 abbrev pub HasTimeout : Option (Bor (List ℕ)) → Type 0
-HasTimeout word = (limit : TimeLimit) × GivesTimeout word limit
+HasTimeout word = HasLimit 3600 word
+
+-- for how long a client is waited for: a day at most
+abbrev pub GivesWait : Option (Bor (List ℕ)) → TimeLimit → Type 0
+GivesWait word limit = GivesLimit 86400 word limit
+
+abbrev pub HasWait : Option (Bor (List ℕ)) → Type 0
+HasWait word = HasLimit 86400 word
 
 abbrev pub is_no_digit : ℕ → Bool
 is_no_digit byte = not (is_ascii_digit byte)

@@ -4,7 +4,7 @@ ghost use Rattle.std.specs.Prelude.{◌≡◌, ◌==◌, IfOk, map, position};
 ghost use Rattle.std.specs.List.{list_any};
 ghost use Rattle.wst_commands.specs.StepDamages.{CutsAtMark, behind_damage, behind_lines, damage_words, descend};
 ghost use Rattle.wst_commands.specs.StepDamages.{inner_damage, is_unprintable};
-ghost use Rattle.wst_commands.specs.StepDamages.{field_rank, line_damage};
+ghost use Rattle.wst_commands.specs.StepDamages.{are_fields, field_rank, is_frame_name, line_damage, ordered_damage};
 ghost use Rattle.wst_commands.specs.StepDamages.{order_damage, quoted_damage, step_damage, words_damage};
 
 use memchr::memchr;
@@ -27,6 +27,8 @@ pub enum StepDamage {
     Order,
     /// A byte of its text is no printable ASCII.
     Unprintable,
+    /// It names a frame and has no payload.
+    NoPayload,
     /// It is none of these.
     Other,
 }
@@ -45,6 +47,8 @@ impl StepDamage {
             StepDamage::Order => "not a step\n  the order is KIND fin= rsv= key= form= DATA",
             StepDamage::Unprintable =>
                 "not a step\n  a text is printable ASCII, other bytes are hex: text c3a9",
+            StepDamage::NoPayload =>
+                "not a step\n  the payload stands last, - is an empty one: ping -",
             StepDamage::Other => "not a step",
         }
     }
@@ -116,7 +120,7 @@ fn inner_damage(text: &[u8], fields: StepDamage) -> StepDamage
         StepDamage::Quotes => StepDamage::Quotes,
         StepDamage::Order => StepDamage::Order,
         StepDamage::Unprintable => StepDamage::Unprintable,
-        StepDamage::Other => {
+        StepDamage::NoPayload | StepDamage::Other => {
             if has_unprintable(text) {
                 StepDamage::Unprintable
             } else {
@@ -165,8 +169,44 @@ fn words_damage(words: &[&[u8]]) -> StepDamage
 {
     match words {
         [_, fields @ ..] if descend(0, fields) => StepDamage::Order,
-        _ => StepDamage::Other,
+        [name, fields @ ..] => ordered_damage(*name, fields),
+        [] => StepDamage::Other,
     }
+}
+
+/// What is wrong with the words of a line, of which none stands behind one that is to follow it.
+fn ordered_damage(name: &[u8], fields: &[&[u8]]) -> StepDamage
+    ensures { result ≡ ordered_damage name.now (map (λ word. word.now) fields.now) }
+{
+    if is_frame_name(name) && are_fields(fields) {
+        StepDamage::NoPayload
+    } else {
+        StepDamage::Other
+    }
+}
+
+/// Whether a frame has this name, and its payload behind it.
+fn is_frame_name(name: &[u8]) -> bool
+    ensures { result ≡ is_frame_name name.now }
+{
+    name == b"text".as_slice()
+        || name == b"binary".as_slice()
+        || name == b"cont".as_slice()
+        || name == b"close".as_slice()
+        || name == b"ping".as_slice()
+        || name == b"pong".as_slice()
+}
+
+/// Whether all of these words are fields, and none is a payload.
+fn are_fields(words: &[&[u8]]) -> bool
+    ensures { result ≡ are_fields (map (λ word. word.now) words.now) }
+{
+    for word in words {
+        if field_rank(*word) >= DATA {
+            return false;
+        }
+    }
+    true
 }
 
 /// Whether a word of a frame stands behind one that is to follow it. The first stands behind one of this rank.

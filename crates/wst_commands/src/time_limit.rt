@@ -1,23 +1,27 @@
-//! The limit of time that words give.
+//! The limits of time that words give.
 
-ghost use Rattle.std.specs.Prelude.{◌≡◌, ◌↔◌, IsTrue, MatchOption, position};
+ghost use Rattle.std.specs.Prelude.{◌≡◌, ◌↔◌, ◌≤◌, IsTrue, MatchOption, position};
 ghost use Rattle.ws_base.specs.Finding.{Finds};
-ghost use Rattle.wst_commands.specs.TimeLimits.{GivesTimeout, HasTimeout, HasUnit, HasUnitAt, IsSecondsWord};
-ghost use Rattle.wst_commands.specs.TimeLimits.{IsWithUnit, Reaches, is_limited, is_no_digit};
+ghost use Rattle.wst_commands.specs.TimeLimits.{GivesLimit, GivesTimeout, GivesWait, HasLimit, HasTimeout, HasUnit};
+ghost use Rattle.wst_commands.specs.TimeLimits.{HasUnitAt, HasWait, IsSecondsWord, IsWithUnit, Reaches, is_limited};
+ghost use Rattle.wst_commands.specs.TimeLimits.{is_no_digit};
 
 use std::time::Duration;
-use ws_formats::read_u16;
+use ws_formats::read_u32;
 
-/// The most seconds that a limit can have.
-const MAX_SECONDS: u16 = 3600;
+/// For at most so many seconds a byte is waited for.
+const MAX_TIMEOUT: u32 = 3600;
 
-/// How long is waited for a peer that sends nothing.
+/// For at most so many seconds a client is waited for.
+const MAX_WAIT: u32 = 86_400;
+
+/// How long is waited for a peer that sends nothing, or for one that comes.
 #[derive(Clone, Copy, PartialEq, Eq)]
 pub enum TimeLimit {
     /// As long as it takes.
     Unlimited,
     /// So many seconds.
-    Seconds(u16),
+    Seconds(u32),
 }
 
 impl TimeLimit {
@@ -40,26 +44,42 @@ impl TimeLimit {
     }
 }
 
-/// The limit that the word of an option gives, none where the option is left out. `None` where the word is not a number
-/// of 1 to 3600 in decimal digits without leading zeros.
+/// The limit that the word of an option gives for a byte, none where the option is left out. `None` where the word is
+/// not a number of 1 to 3600 in decimal digits without leading zeros.
 pub fn timeout_given(word: Option<&str>) -> Option<TimeLimit>
     ensures { MatchOption result (¬ (HasTimeout word.entry)) (GivesTimeout word.entry) }
+{
+    limit_given(word, MAX_TIMEOUT)
+}
+
+/// The limit that it gives for a client to come: a number of 1 to 86400.
+pub fn wait_given(word: Option<&str>) -> Option<TimeLimit>
+    ensures { MatchOption result (¬ (HasWait word.entry)) (GivesWait word.entry) }
+{
+    limit_given(word, MAX_WAIT)
+}
+
+/// The limit of at most so many seconds that it gives.
+fn limit_given(word: Option<&str>, most: u32) -> Option<TimeLimit>
+    requires { most ≤ 86400 }
+    ensures { MatchOption result (¬ (HasLimit most word.entry)) (GivesLimit most word.entry) }
 {
     let Some(word) = word else {
         return Some(TimeLimit::Unlimited);
     };
-    match seconds_of(word) {
+    match seconds_of(word, most) {
         Some(seconds) => Some(TimeLimit::Seconds(seconds)),
         None => None,
     }
 }
 
 /// The seconds that a word gives.
-fn seconds_of(word: &str) -> Option<u16>
-    ensures { Finds result (λ seconds. IsSecondsWord seconds word.now) }
+fn seconds_of(word: &str, most: u32) -> Option<u32>
+    requires { most ≤ 86400 }
+    ensures { Finds result (λ seconds. IsSecondsWord most seconds word.now) }
 {
-    let seconds = read_u16(word.as_bytes())?;
-    if seconds >= 1 && seconds <= MAX_SECONDS {
+    let seconds = read_u32(word.as_bytes())?;
+    if seconds >= 1 && seconds <= most {
         Some(seconds)
     } else {
         None

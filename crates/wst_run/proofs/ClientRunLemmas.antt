@@ -10,7 +10,8 @@ use Rattle.wst_commands.specs.declared.exit.Exit.TheVariants.{Done}
 use Rattle.wst_commands.specs.declared.fault.Fault.{Fault}
 use Rattle.wst_commands.specs.declared.fault.Fault.TheVariants.{NoMemory}
 use Rattle.wst_clients.specs.ClientCaptures.{client_capture}
-use Rattle.wst_run.specs.ClientRuns.{AreScriptRulesOf, SendsScript, TestsNone, WritesClientRun}
+use Rattle.wst_commands.specs.declared.time_limit.TimeLimit.{TimeLimit}
+use Rattle.wst_run.specs.ClientRuns.{AreScriptRulesOf, MayBeLate, SendsScript, TestsNone, WritesClientRun}
 use Rattle.wst_clients.specs.ClientSends.{IsScriptedSo, ScriptsClient}
 use Rattle.wst_clients.specs.declared.scripting.ScriptRules.{ScriptRules}
 use Rattle.wst_run.specs.declared.send.SendPlan.{SendPlan}
@@ -22,13 +23,13 @@ none_lacks (Ok exit) output faults is same kept = absurd is
 none_lacks (Err fault) output faults is same kept = (inr (ap (λ (x : Fault). Err x) is), same, kept)
 
 -- the capture of a script that was sent is written, or that failed
-pub sends_captured : (plan : SendPlan) (rules : ScriptRules) (case : Case) (transcript : Transcript) (exit : Exit)
+pub sends_captured : (wait : TimeLimit) (plan : SendPlan) (rules : ScriptRules) (case : Case) (transcript : Transcript) (exit : Exit)
     (output faults : Device) → AreScriptRulesOf plan rules
-    → ScriptsClient (IsScriptedSo rules) case (Some transcript) faults → plan.capture ≡ true
+    → ScriptsClient (MayBeLate wait) (IsScriptedSo rules) case (Some transcript) faults → plan.capture ≡ true
     → Delivers Done (written_capture2 (client_capture transcript)) exit output
-    → SendsScript plan case (Ok exit) output faults
-sends_captured plan rules case transcript exit output faults are sent captures (inl (is, works, written)) =
-    subst (λ (e : Exit). SendsScript plan case (Ok e) output faults) (sym is) (
+    → SendsScript wait plan case (Ok exit) output faults
+sends_captured wait plan rules case transcript exit output faults are sent captures (inl (is, works, written)) =
+    subst (λ (e : Exit). SendsScript wait plan case (Ok e) output faults) (sym is) (
       rules,
       are,
       (
@@ -37,6 +38,6 @@ sends_captured plan rules case transcript exit output faults are sent captures (
         subst (λ (b : Bool). WritesClientRun plan.style b transcript output) (sym captures) (written, works),
       ),
     )
-sends_captured plan rules case transcript exit output faults are sent captures (inr (is, fails, begun)) =
-    subst (λ (e : Exit). SendsScript plan case (Ok e) output faults) (sym is)
+sends_captured wait plan rules case transcript exit output faults are sent captures (inr (is, fails, begun)) =
+    subst (λ (e : Exit). SendsScript wait plan case (Ok e) output faults) (sym is)
     (inl (fails, λ asked. (rules, are, (transcript, sent, begun))))

@@ -1,5 +1,6 @@
 -- Clients under test that come to an address of a network.
-use Rattle.std.specs.Prelude.{◌≡◌, ◌⊎◌, ℕ, Bool, true, false, List, [], ◌∷◌, Option, None, Some, Result, Ok, Err}
+use Rattle.std.specs.Prelude.{◌≡◌, ◌⊎◌, ℕ, Bool, true, false, IsTrue, List, [], ◌∷◌, Option, None, Some, Result, Ok}
+use Rattle.std.specs.Prelude.{Err}
 use Rattle.ws_base.specs.declared.text_fault.TextFault.{TextFault}
 use Rattle.ws_base.specs.declared.text_fault.TextFault.TheVariants as text_fault
 use Rattle.ws_formats.specs.Lines.{Damages}
@@ -17,6 +18,7 @@ use Rattle.wst_commands.specs.Faults.{Ends}
 use Rattle.wst_commands.specs.ReadingWhole.{ReadsAll, StopsReading, stopped}
 use Rattle.wst_commands.specs.StepDamages.{step_damage}
 use Rattle.wst_commands.specs.TimeLimits.{is_limited}
+use Rattle.wst_commands.specs.declared.time_limit.TimeLimit.{TimeLimit}
 use Rattle.wst_commands.specs.declared.exit.Exit.{Exit}
 use Rattle.wst_commands.specs.declared.exit.Exit.TheVariants.{Done, Failed}
 use Rattle.wst_commands.specs.declared.fault.Fault.{Fault}
@@ -59,7 +61,11 @@ NotesBefore address Runs faults = (first : Device) × GoesBefore first faults
 abbrev pub NotesCodes : List ℕ → Device → Type 0
 NotesCodes script faults = (notes : List ℕ) × HasCodeNotes script notes × Tells notes faults
 
--- ---- tests
+-- a client may be waited for in vain: there is a limit
+abbrev pub MayBeLate : TimeLimit → Type 0
+MayBeLate wait = IsTrue (is_limited wait)
+
+-- ---- tests. A client to come is waited for so long.
 
 -- cases are told of as this report has them
 abbrev pub TellsBy : ReportValue → Telling → Type 0
@@ -89,44 +95,48 @@ TestsNone ended output faults = (((why : ListenFault) × (ended ≡ Err (NotList
 
 -- It is told on the output at which address is listened, and clients are tested; or that line could not be written, or
 -- nothing was.
-abbrev pub TestsBehind : List ℕ → VisitRules → Result Exit Fault → Device → Device → Type 0
-TestsBehind address rules ended output faults =
+abbrev pub TestsBehind : TimeLimit → List ℕ → VisitRules → Result Exit Fault → Device → Device → Type 0
+TestsBehind wait address rules ended output faults =
     ((told : Option (List ℕ)) × HasWritten (listening_line address) (record output { new = told })
-    × TestsClients (ComesTo (IsVisitedSo rules) rules) rules ended (record output { old = told }) faults)
+    × TestsClients (MayBeLate wait) (ComesTo (IsVisitedSo rules) rules) rules ended (record output { old = told })
+    faults)
     ⊎ StopsAtFirstLine address ended output faults ⊎ TestsNone ended output faults
 
 -- the address is told on the fault output, and one client is captured
-abbrev pub CapturesTold : List ℕ → TestPlan → VisitRules → Result Exit Fault → Device → Device → Type 0
-CapturesTold address plan rules ended output faults = (case : Case) × (plan.cases.items ≡ case ∷ [])
-    × NotesBefore address (λ behind. CapturesClient (IsVisitedSo rules) rules case ended output behind) faults
+abbrev pub CapturesTold : TimeLimit → List ℕ → TestPlan → VisitRules → Result Exit Fault → Device → Device → Type 0
+CapturesTold wait address plan rules ended output faults = (case : Case) × (plan.cases.items ≡ case ∷ [])
+    × NotesBefore address
+    (λ behind. CapturesClient (MayBeLate wait) (IsVisitedSo rules) rules case ended output behind) faults
 
 -- the address is told on the fault output, and a document is written of the clients
-abbrev pub DocumentsTold : List ℕ → TestPlan → ReportValue → VisitRules → Result Exit Fault → Device → Device → Type 0
-DocumentsTold address plan report rules ended output faults = NotesBefore address
-    (λ behind. DocumentsClients (ComesTo (IsVisitedSo rules) rules) rules plan.target.now report ended output behind)
-    faults
+abbrev pub DocumentsTold : TimeLimit → List ℕ → TestPlan → ReportValue → VisitRules → Result Exit Fault → Device →
+    Device → Type 0
+DocumentsTold wait address plan report rules ended output faults = NotesBefore address
+    (λ behind. DocumentsClients (MayBeLate wait) (ComesTo (IsVisitedSo rules) rules) rules plan.target.now report ended
+    output behind) faults
 
 -- so, or nothing was written or told
-abbrev pub CapturesOrNone : List ℕ → TestPlan → VisitRules → Result Exit Fault → Device → Device → Type 0
-CapturesOrNone address plan rules ended output faults =
-    CapturesTold address plan rules ended output faults ⊎ TestsNone ended output faults
+abbrev pub CapturesOrNone : TimeLimit → List ℕ → TestPlan → VisitRules → Result Exit Fault → Device → Device → Type 0
+CapturesOrNone wait address plan rules ended output faults =
+    CapturesTold wait address plan rules ended output faults ⊎ TestsNone ended output faults
 
-abbrev pub DocumentsOrNone : List ℕ → TestPlan → ReportValue → VisitRules → Result Exit Fault → Device → Device → Type 0
-DocumentsOrNone address plan report rules ended output faults =
-    DocumentsTold address plan report rules ended output faults ⊎ TestsNone ended output faults
+abbrev pub DocumentsOrNone : TimeLimit → List ℕ → TestPlan → ReportValue → VisitRules → Result Exit Fault → Device →
+    Device → Type 0
+DocumentsOrNone wait address plan report rules ended output faults =
+    DocumentsTold wait address plan report rules ended output faults ⊎ TestsNone ended output faults
 
 -- so clients are tested; or they are captured, or a document is written of them, as is asked for
-abbrev pub TestsToldAt : List ℕ → TestPlan → ReportValue → Result Exit Fault → Device → Device → Type 0
-TestsToldAt address plan report ended output faults = (rules : VisitRules) × AreRulesOf plan report rules
-    × (((plan.capture ≡ true) × CapturesOrNone address plan rules ended output faults)
+abbrev pub TestsToldAt : TimeLimit → List ℕ → TestPlan → ReportValue → Result Exit Fault → Device → Device → Type 0
+TestsToldAt wait address plan report ended output faults = (rules : VisitRules) × AreRulesOf plan report rules
+    × (((plan.capture ≡ true) × CapturesOrNone wait address plan rules ended output faults)
     ⊎ ((plan.capture ≡ false)
-    × (((report.is_junit ≡ true) × DocumentsOrNone address plan report rules ended output faults)
-    ⊎ ((report.is_junit ≡ false) × TestsBehind address rules ended output faults))))
+    × (((report.is_junit ≡ true) × DocumentsOrNone wait address plan report rules ended output faults)
+    ⊎ ((report.is_junit ≡ false) × TestsBehind wait address rules ended output faults))))
 
 -- what is told of the address is told, and then clients are tested; or nothing is
 abbrev pub TestsAt : List ℕ → TestPlan → ReportValue → Result Exit Fault → Device → Device → Type 0
 TestsAt address plan report ended output faults =
-    ((told : List ℕ) × IsToldFor address told × TestsToldAt told plan report ended output faults)
+    ((told : List ℕ) × IsToldFor address told × TestsToldAt plan.run.wait told plan report ended output faults)
     ⊎ TestsNone ended output faults
 
 -- and how that ended is told behind what was told before
@@ -151,33 +161,34 @@ WritesClientRun style true transcript output =
     HasWritten (written_capture2 (client_capture transcript)) output × (output.failed ≡ false)
 
 -- a write failed: of a capture, where one is asked for, a beginning was written; of lines it is not said what was
-abbrev pub BreaksClientRun : SendPlan → Case → Device → Device → Type 0
-BreaksClientRun plan case output faults = (output.failed ≡ true) × ((plan.capture ≡ true) → (rules : ScriptRules)
+abbrev pub BreaksClientRun : TimeLimit → SendPlan → Case → Device → Device → Type 0
+BreaksClientRun wait plan case output faults = (output.failed ≡ true) × ((plan.capture ≡ true) → (rules : ScriptRules)
     × AreScriptRulesOf plan rules × ((transcript : Transcript)
-    × ScriptsClient (IsScriptedSo rules) case (Some transcript) faults
+    × ScriptsClient (MayBeLate wait) (IsScriptedSo rules) case (Some transcript) faults
     × HasBegun (written_capture2 (client_capture transcript)) output))
 
 -- the script was run over no connection that came, which were told of so, and nothing was written
-abbrev pub SendsToNone : SendPlan → Case → Device → Device → Type 0
-SendsToNone plan case output faults = (rules : ScriptRules) × AreScriptRulesOf plan rules
-    × ScriptsClient (IsScriptedSo rules) case None faults × IsUntouched output
+abbrev pub SendsToNone : TimeLimit → SendPlan → Case → Device → Device → Type 0
+SendsToNone wait plan case output faults = (rules : ScriptRules) × AreScriptRulesOf plan rules
+    × ScriptsClient (MayBeLate wait) (IsScriptedSo rules) case None faults × IsUntouched output
 
--- The script was run over a connection, and that was written; or a write failed, or no connection can be taken any
--- more; or memory ran out, and nothing was written of a capture.
-abbrev pub SendsScript : SendPlan → Case → Result Exit Fault → Device → Device → Type 0
-SendsScript plan case (Ok Done) output faults = (rules : ScriptRules) × AreScriptRulesOf plan rules
-    × ((transcript : Transcript) × ScriptsClient (IsScriptedSo rules) case (Some transcript) faults
+-- The script was run over a connection, and that was written; or a write failed, or no connection came in time or can
+-- be taken any more; or memory ran out, and nothing was written of a capture.
+abbrev pub SendsScript : TimeLimit → SendPlan → Case → Result Exit Fault → Device → Device → Type 0
+SendsScript wait plan case (Ok Done) output faults = (rules : ScriptRules) × AreScriptRulesOf plan rules
+    × ((transcript : Transcript)
+    × ScriptsClient (MayBeLate wait) (IsScriptedSo rules) case (Some transcript) faults
     × WritesClientRun plan.style plan.capture transcript output)
-SendsScript plan case (Ok Failed) output faults =
-    BreaksClientRun plan case output faults ⊎ SendsToNone plan case output faults
-SendsScript plan case (Ok other) output faults = ⊥
-SendsScript plan case (Err fault) output faults = (fault ≡ NoMemory) × ((plan.capture ≡ true) → IsUntouched output)
+SendsScript wait plan case (Ok Failed) output faults =
+    BreaksClientRun wait plan case output faults ⊎ SendsToNone wait plan case output faults
+SendsScript wait plan case (Ok other) output faults = ⊥
+SendsScript wait plan case (Err fault) output faults = (fault ≡ NoMemory) × ((plan.capture ≡ true) → IsUntouched output)
 
 -- It is told at which address is listened, and the script is sent; or nothing can be listened at, or memory ran out.
 abbrev pub SendsAt : List ℕ → SendPlan → Case → Result Exit Fault → Device → Device → Type 0
 SendsAt address plan case ended output faults =
     ((told : List ℕ) × IsToldFor address told
-    × NotesBefore told (λ behind. SendsScript plan case ended output behind) faults)
+    × NotesBefore told (λ behind. SendsScript plan.run.wait plan case ended output behind) faults)
     ⊎ TestsNone ended output faults
 
 -- what stops a text that is damaged at this line: what is wrong there is told, or memory ran out for it

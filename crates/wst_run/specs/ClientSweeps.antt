@@ -51,7 +51,8 @@ pub record AreSweepRulesOf (plan : SweepPlan) (given : List Case) (rules : Visit
 abbrev pub SweepsAt : List ℕ → SweepPlan → Result Exit Fault → Device → Device → Type 0
 SweepsAt address plan ended output faults =
     ((told : List ℕ) × IsToldFor address told × ((cases : List Case) × AreShortCases plan.run.expected plan.steps cases
-    × ((rules : VisitRules) × AreSweepRulesOf plan cases rules × TestsBehind told rules ended output faults)))
+    × ((rules : VisitRules) × AreSweepRulesOf plan cases rules
+    × TestsBehind plan.run.wait told rules ended output faults)))
     ⊎ TestsNone ended output faults
 
 -- and how that ended is told behind what was told before

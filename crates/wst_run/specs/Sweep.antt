@@ -8,7 +8,7 @@ use Rattle.wst_commands.specs.Devices.{Tells}
 use Rattle.wst_commands.specs.declared.exit.Exit.{Exit}
 use Rattle.wst_commands.specs.declared.exit.Exit.TheVariants.{WrongWords}
 use Rattle.wst_run.specs.ClientSweeps.{SweepsClientsAt}
-use Rattle.wst_testing.specs.RunPlans.{CanNotRun, IsRunPlan, TellsRefusal, tested_role}
+use Rattle.wst_testing.specs.RunPlans.{CanNotRun, IsRunPlan, TellsRefusal, tested_role, tells_waits}
 use Rattle.wst_testing.specs.Servers.{MeetsAtTarget, MeetsInMemory}
 use Rattle.wst_testing.specs.Sweeps.{SweepsScripts, TellsSweepEnd}
 use Rattle.wst_sockets.specs.declared.meeting.Meeting.{Meeting}
@@ -58,6 +58,7 @@ sweep_rules_of plan = record {
   all = plan.all;
   progress = plan.progress;
   key = plan.run.key;
+  names = tells_waits plan.run;
 }
 
 -- the plan is carried out over ends that meet cases so, and how that ended is told behind what was told before

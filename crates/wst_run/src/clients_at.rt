@@ -13,6 +13,7 @@ ghost use Rattle.wst_run.specs.ClientRuns.{SendsTextAt, SendsToClientAt, TestsAt
 ghost use Rattle.wst_run.specs.ClientRuns.{TestsToldAt};
 ghost use Rattle.wst_clients.specs.ClientSends.{protocols_known};
 ghost use Rattle.wst_testing.specs.Notes.{TellsEach};
+ghost use Rattle.wst_sockets.specs.Accepting.{client_wait};
 ghost use Rattle.wst_sockets.specs.Serve.{listening_line};
 ghost use Rattle.wst_run.specs.Test.{CanBeTested};
 ghost use Rattle.wst_clients.specs.Visits.{known_by};
@@ -21,7 +22,6 @@ use crate::send::{SendPlan, note_codes};
 use crate::test::TestPlan;
 use std::alloc::Global;
 use std::io::{Read, Write};
-use std::net::Net;
 use ws_base::{NoMemory, TextFault};
 use ws_connection::Silent;
 use ws_frame::Watched;
@@ -33,13 +33,15 @@ use wst_clients::{
     ScriptRules, Telling, VisitRules, capture_client, document_clients, script_client, test_clients,
 };
 use wst_commands::{Exit, Fault, ReadStop, deliver, end_run, read_whole, step_damage, tell};
-use wst_sockets::{ListenerClients, listen, listening_line, tell_listening, told_address};
-use wst_testing::{LineStop, LineWriter, capture_text};
+use wst_sockets::{
+    ListenerClients, Network, Waits, listen, listening_line, tell_listening, told_address,
+};
+use wst_testing::{LineStop, LineWriter, RunPlan, capture_text};
 
 /// Listens at an address, which is told in a line, with the port that the system chose in the place of a port 0, and
 /// tests the clients that come, as a plan asks, and tells of them as a report does. Where a capture or a document is
 /// asked for, that line goes to `faults`. Why nothing can be listened at is told there too.
-pub(crate) fn test_clients_at<N: Net, W: Write, F: Write>(
+pub(crate) fn test_clients_at<N: Network, W: Write, F: Write>(
     alloc: Global,
     net: &N,
     address: &str,
@@ -58,7 +60,7 @@ pub(crate) fn test_clients_at<N: Net, W: Write, F: Write>(
 }
 
 /// Listens at an address, and tests the clients that come.
-fn test_at<N: Net, W: Write, F: Write>(
+fn test_at<N: Network, W: Write, F: Write>(
     alloc: Global,
     net: &N,
     address: &str,
@@ -78,7 +80,7 @@ fn test_at<N: Net, W: Write, F: Write>(
         Err(why) => return Err(Fault::NotListening(why)),
     };
     let told = told_address(alloc, &listener, address)?;
-    let clients = ListenerClients::of(net, &listener, plan.run.timeout);
+    let clients = ListenerClients::of(net, &listener, waits_of(&plan.run));
     test_told(
         alloc,
         &clients,
@@ -90,8 +92,18 @@ fn test_at<N: Net, W: Write, F: Write>(
     )
 }
 
+/// How long the clients of a plan are waited for.
+pub(crate) fn waits_of(run: &RunPlan<'_>) -> Waits
+    ensures { result ≡ record { byte = run.now.timeout; client = run.now.wait } }
+{
+    Waits {
+        byte: run.timeout,
+        client: run.wait,
+    }
+}
+
 /// Tells at which address is listened, and tests the clients that come to it.
-fn test_told<N: Net, W: Write, F: Write>(
+fn test_told<N: Network, W: Write, F: Write>(
     alloc: Global,
     clients: &ListenerClients<'_, N, N::Listener>,
     address: &[u8],
@@ -102,8 +114,8 @@ fn test_told<N: Net, W: Write, F: Write>(
 ) -> Result<Exit, Fault>
     requires works { has_failed writer.old ≡ false }
     requires plan { CanBeTested plan.now }
-    ensures tests { TestsToldAt address.now plan.now report.now result (watched W.contents writer.old writer.new)
-        (watched F.contents faults.old faults.new) }
+    ensures tests { TestsToldAt (client_wait clients.now) address.now plan.now report.now result
+        (watched W.contents writer.old writer.new) (watched F.contents faults.old faults.new) }
     ensures still { StaysFailed faults.old faults.new }
 {
     let rules = visit_rules(plan, report);
@@ -119,7 +131,7 @@ fn test_told<N: Net, W: Write, F: Write>(
 }
 
 /// Tells on the fault output at which address is listened, and captures a client that comes to it.
-fn capture_noted<N: Net, W: Write, F: Write>(
+fn capture_noted<N: Network, W: Write, F: Write>(
     alloc: Global,
     clients: &ListenerClients<'_, N, N::Listener>,
     address: &[u8],
@@ -133,8 +145,8 @@ fn capture_noted<N: Net, W: Write, F: Write>(
     requires captures { plan.now.capture ≡ true }
     requires cases { rules.now.cases.now ≡ plan.now.cases.items }
     requires known { AreOffers (known_by rules.now) }
-    ensures captures { CapturesOrNone address.now plan.now rules.now result (watched W.contents writer.old writer.new)
-        (watched F.contents faults.old faults.new) }
+    ensures captures { CapturesOrNone (client_wait clients.now) address.now plan.now rules.now result
+        (watched W.contents writer.old writer.new) (watched F.contents faults.old faults.new) }
     ensures still { StaysFailed faults.old faults.new }
 {
     note_listening(alloc, address, faults)?;
@@ -143,7 +155,7 @@ fn capture_noted<N: Net, W: Write, F: Write>(
 }
 
 /// Tells on the fault output at which address is listened, and writes a document of the clients that come to it.
-fn document_noted<N: Net, W: Write, F: Write>(
+fn document_noted<N: Network, W: Write, F: Write>(
     alloc: Global,
     clients: &ListenerClients<'_, N, N::Listener>,
     address: &[u8],
@@ -156,7 +168,7 @@ fn document_noted<N: Net, W: Write, F: Write>(
     requires works { has_failed writer.old ≡ false }
     requires can { All CanBeRun rules.now.cases.now }
     requires known { AreOffers (known_by rules.now) }
-    ensures documents { DocumentsOrNone address.now plan.now report.now rules.now result
+    ensures documents { DocumentsOrNone (client_wait clients.now) address.now plan.now report.now rules.now result
         (watched W.contents writer.old writer.new) (watched F.contents faults.old faults.new) }
     ensures still { StaysFailed faults.old faults.new }
 {
@@ -165,7 +177,7 @@ fn document_noted<N: Net, W: Write, F: Write>(
 }
 
 /// Tells on the output at which address is listened, and tests the clients that come to it.
-pub(crate) fn test_all<N: Net, W: Write, F: Write>(
+pub(crate) fn test_all<N: Network, W: Write, F: Write>(
     alloc: Global,
     clients: &ListenerClients<'_, N, N::Listener>,
     address: &[u8],
@@ -176,8 +188,8 @@ pub(crate) fn test_all<N: Net, W: Write, F: Write>(
     requires works { has_failed writer.old ≡ false }
     requires can { All CanBeRun rules.now.cases.now }
     requires known { AreOffers (known_by rules.now) }
-    ensures tests { TestsBehind address.now rules.now result (watched W.contents writer.old writer.new)
-        (watched F.contents faults.old faults.new) }
+    ensures tests { TestsBehind (client_wait clients.now) address.now rules.now result
+        (watched W.contents writer.old writer.new) (watched F.contents faults.old faults.new) }
     ensures still { StaysFailed faults.old faults.new }
 {
     let told = tell_listening(alloc, address, writer)?;
@@ -222,7 +234,7 @@ pub(crate) fn note_listening<F: Write>(
 
 /// Reads a script, listens at an address, which is told to `faults` in a line, and sends the script to the first client
 /// whose request is accepted, as a plan asks.
-pub(crate) fn send_to_clients_at<N: Net, R: Read, W: Write, F: Write>(
+pub(crate) fn send_to_clients_at<N: Network, R: Read, W: Write, F: Write>(
     alloc: Global,
     net: &N,
     address: &str,
@@ -241,7 +253,7 @@ pub(crate) fn send_to_clients_at<N: Net, R: Read, W: Write, F: Write>(
 }
 
 /// Reads a script, and sends it to a client.
-fn send_input<N: Net, R: Read, W: Write, F: Write>(
+fn send_input<N: Network, R: Read, W: Write, F: Write>(
     alloc: Global,
     net: &N,
     address: &str,
@@ -264,7 +276,7 @@ fn send_input<N: Net, R: Read, W: Write, F: Write>(
 }
 
 /// Sends the script that a text is.
-fn send_text<N: Net, W: Write, F: Write>(
+fn send_text<N: Network, W: Write, F: Write>(
     alloc: Global,
     net: &N,
     address: &str,
@@ -299,7 +311,7 @@ fn damage_fault(alloc: Global, text: &[u8], line: u64) -> Fault
 }
 
 /// Listens at an address, and sends a script to a client that comes.
-fn send_at<N: Net, W: Write, F: Write>(
+fn send_at<N: Network, W: Write, F: Write>(
     alloc: Global,
     net: &N,
     address: &str,
@@ -320,12 +332,12 @@ fn send_at<N: Net, W: Write, F: Write>(
     };
     let told = told_address(alloc, &listener, address)?;
     note_listening(alloc, told.as_slice(), faults)?;
-    let clients = ListenerClients::of(net, &listener, plan.run.timeout);
+    let clients = ListenerClients::of(net, &listener, waits_of(&plan.run));
     send_script(alloc, &clients, plan, case, writer, faults)
 }
 
 /// Sends a script to a client, and writes the run as the plan asks.
-fn send_script<N: Net, W: Write, F: Write>(
+fn send_script<N: Network, W: Write, F: Write>(
     alloc: Global,
     clients: &ListenerClients<'_, N, N::Listener>,
     plan: &SendPlan<'_>,
@@ -335,8 +347,8 @@ fn send_script<N: Net, W: Write, F: Write>(
 ) -> Result<Exit, Fault>
     requires writer_works { has_failed writer.old ≡ false }
     requires can { CanBeRun case.now }
-    ensures sends { SendsScript plan.now case.now result (watched W.contents writer.old writer.new)
-        (watched F.contents faults.old faults.new) }
+    ensures sends { SendsScript (client_wait clients.now) plan.now case.now result
+        (watched W.contents writer.old writer.new) (watched F.contents faults.old faults.new) }
     ensures still { StaysFailed faults.old faults.new }
 {
     if plan.capture {
@@ -347,7 +359,7 @@ fn send_script<N: Net, W: Write, F: Write>(
 }
 
 /// Sends a script to a client, and writes the capture of the run.
-fn capture_script<N: Net, W: Write, F: Write>(
+fn capture_script<N: Network, W: Write, F: Write>(
     alloc: Global,
     clients: &ListenerClients<'_, N, N::Listener>,
     plan: &SendPlan<'_>,
@@ -358,8 +370,8 @@ fn capture_script<N: Net, W: Write, F: Write>(
     requires writer_works { has_failed writer.old ≡ false }
     requires can { CanBeRun case.now }
     requires captures { plan.now.capture ≡ true }
-    ensures sends { SendsScript plan.now case.now result (watched W.contents writer.old writer.new)
-        (watched F.contents faults.old faults.new) }
+    ensures sends { SendsScript (client_wait clients.now) plan.now case.now result
+        (watched W.contents writer.old writer.new) (watched F.contents faults.old faults.new) }
     ensures still { StaysFailed faults.old faults.new }
 {
     let rules = script_rules(plan);
@@ -373,7 +385,7 @@ fn capture_script<N: Net, W: Write, F: Write>(
 
 /// Sends a script to a client, and writes the lines of the run as it goes on.
 #[inline(never)]
-fn show_script<N: Net, W: Write, F: Write>(
+fn show_script<N: Network, W: Write, F: Write>(
     alloc: Global,
     clients: &ListenerClients<'_, N, N::Listener>,
     plan: &SendPlan<'_>,
@@ -384,8 +396,8 @@ fn show_script<N: Net, W: Write, F: Write>(
     requires writer_works { has_failed writer.old ≡ false }
     requires can { CanBeRun case.now }
     requires shows { plan.now.capture ≡ false }
-    ensures sends { SendsScript plan.now case.now result (watched W.contents writer.old writer.new)
-        (watched F.contents faults.old faults.new) }
+    ensures sends { SendsScript (client_wait clients.now) plan.now case.now result
+        (watched W.contents writer.old writer.new) (watched F.contents faults.old faults.new) }
     ensures still { StaysFailed faults.old faults.new }
 {
     let rules = script_rules(plan);

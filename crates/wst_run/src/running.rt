@@ -22,14 +22,13 @@ use clap::Error;
 use clap::error::ErrorKind;
 use std::alloc::Global;
 use std::io::{Read, Write};
-use std::net::Net;
 use ws_frame::Watched;
 use ws_reports::Report;
 use wst_commands::{
     Exit, Fault, end_run, run_cases, run_convert, run_head, run_judge, run_moves, run_report,
     run_session, run_show, tell_fault,
 };
-use wst_sockets::{plan_serve, run_serve};
+use wst_sockets::{Network, plan_serve, run_serve};
 use wst_testing::{known_given, tell_known_stop, tell_refusal};
 use wst_words::{
     SendOptions, ServeOptions, SweepOptions, Task, TestOptions, WordsFault, read_words,
@@ -38,9 +37,10 @@ use wst_words::{
 /// Runs what the words ask for, the program's name first, and answers how that ended: status 0 done, 1 a
 /// damaged or refused input or a rule that was broken, 2 wrong words, 3 where input, output, the network, the budget or
 /// memory failed. Help and the version go to the writer with status 0. What is wrong with the words goes to
-/// `faults`, and then nothing is read or written. Want of memory is told there as `no memory`.
+/// `faults`, and then nothing is read or written. Want of memory is told there as `no memory`. That a run still waits
+/// is told beside it, by the network.
 #[tactic(auto, using(crate::proofs::RunLemmas::status_up_to_3))]
-pub fn run<N: Net, R: Read, W: Write, F: Write>(
+pub fn run<N: Network, R: Read, W: Write, F: Write>(
     alloc: Global,
     words: &[String],
     net: &N,
@@ -63,7 +63,7 @@ pub fn run<N: Net, R: Read, W: Write, F: Write>(
 }
 
 /// Does what was asked for, and tells what is to be told.
-fn run_task<N: Net, R: Read, W: Write, F: Write>(
+fn run_task<N: Network, R: Read, W: Write, F: Write>(
     alloc: Global,
     task: Task<'_>,
     net: &N,
@@ -98,7 +98,7 @@ fn run_task<N: Net, R: Read, W: Write, F: Write>(
 
 /// Serves what the words ask for, or tells why there is nothing to serve.
 #[inline(never)]
-fn serve_as_asked<N: Net, W: Write, F: Write>(
+fn serve_as_asked<N: Network, W: Write, F: Write>(
     alloc: Global,
     options: &ServeOptions<'_>,
     net: &N,
@@ -118,7 +118,7 @@ fn serve_as_asked<N: Net, W: Write, F: Write>(
 /// Runs the cases that the words ask for over the server that they name, or tells on the fault output why nothing is
 /// run.
 #[inline(never)]
-fn run_test<N: Net, R: Read, W: Write, F: Write>(
+fn run_test<N: Network, R: Read, W: Write, F: Write>(
     alloc: Global,
     options: &TestOptions<'_>,
     net: &N,
@@ -138,7 +138,7 @@ fn run_test<N: Net, R: Read, W: Write, F: Write>(
 }
 
 /// Runs the cases of a plan beside the earlier run, where one is to be known, or tells why that isn't known.
-fn run_planned<N: Net, R: Read, W: Write, F: Write>(
+fn run_planned<N: Network, R: Read, W: Write, F: Write>(
     alloc: Global,
     options: &TestOptions<'_>,
     plan: &TestPlan<'_>,
@@ -164,7 +164,7 @@ fn run_planned<N: Net, R: Read, W: Write, F: Write>(
 
 /// Runs the script that comes in over the server that the words name, or tells on the fault output why it is not run.
 #[inline(never)]
-fn run_send<N: Net, R: Read, W: Write, F: Write>(
+fn run_send<N: Network, R: Read, W: Write, F: Write>(
     alloc: Global,
     options: &SendOptions<'_>,
     net: &N,
@@ -186,7 +186,7 @@ fn run_send<N: Net, R: Read, W: Write, F: Write>(
 /// Runs the short scripts that the words ask for over the server that they name, or tells on the fault output why none
 /// is run.
 #[inline(never)]
-fn run_sweep<N: Net, W: Write, F: Write>(
+fn run_sweep<N: Network, W: Write, F: Write>(
     alloc: Global,
     options: &SweepOptions<'_>,
     net: &N,

@@ -13,7 +13,6 @@ ghost use Rattle.wst_run.specs.Send.{IsDamageStop, TellsRefused, TellsSendEnd};
 use crate::clients_at::send_to_clients_at;
 use std::alloc::Global;
 use std::io::{Read, Write};
-use std::net::Net;
 use ws_base::{NoMemory, TextFault};
 use ws_connection::HeadRefusal;
 use ws_frame::{DataStyle, Watched, WriteFault, write_whole};
@@ -22,7 +21,7 @@ use ws_suite::{Case, read_script};
 use wst_commands::{
     Exit, Fault, ReadStop, StepDamage, code_notes, read_whole, step_damage, tell, tell_fault,
 };
-use wst_sockets::{ConnectFault, Meeting};
+use wst_sockets::{ConnectFault, Meeting, Network};
 use wst_testing::{
     AddressServer, CaseServer, LineStop, LineWriter, Outcome, Refusal, RunPlan, TestedEnd,
     capture_text, plan_run,
@@ -88,7 +87,7 @@ pub fn plan_send<'a>(alloc: Global, options: &SendOptions<'a>) -> Result<SendPla
 }
 
 /// Runs the script that comes in over the end that a plan names, and tells how that ended.
-pub(crate) fn send_to_target<N: Net, R: Read, W: Write, F: Write>(
+pub(crate) fn send_to_target<N: Network, R: Read, W: Write, F: Write>(
     alloc: Global,
     plan: &SendPlan<'_>,
     net: &N,

@@ -10,10 +10,10 @@ ghost use Rattle.wst_run.specs.Sweep.{HasTooManySteps, SweepsOver, sweep_rules_o
 use crate::sweeping_clients::sweep_clients_at;
 use std::alloc::Global;
 use std::io::Write;
-use std::net::Net;
 use ws_frame::Watched;
 use ws_sweep::MAX_STEPS;
 use wst_commands::{Exit, tell};
+use wst_sockets::Network;
 use wst_testing::{
     AddressServer, CaseServer, Refusal, RunPlan, SweepRules, TestedEnd, plan_run, sweep_scripts,
     tell_refusal, tell_sweep_end,
@@ -84,7 +84,7 @@ fn steps_given(steps: u64) -> Option<usize>
 }
 
 /// Runs the scripts of a plan over the end that it names, and tells how that ended.
-pub(crate) fn sweep_target<N: Net, W: Write, F: Write>(
+pub(crate) fn sweep_target<N: Network, W: Write, F: Write>(
     alloc: Global,
     plan: &SweepPlan<'_>,
     net: &N,
@@ -136,6 +136,7 @@ fn rules_of(plan: &SweepPlan<'_>) -> SweepRules
         all: plan.all,
         progress: plan.progress,
         key: plan.run.key,
+        names: plan.run.tells_waits(),
     }
 }
 

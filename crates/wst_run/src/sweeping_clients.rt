@@ -11,11 +11,10 @@ ghost use Rattle.wst_commands.specs.Devices.{StaysFailed};
 ghost use Rattle.wst_run.specs.ClientSweeps.{AreShortCases, AreSweepRulesOf, IsNamedCase, SweepsAt, SweepsClientsAt};
 ghost use Rattle.wst_clients.specs.Visits.{known_by};
 
-use crate::clients_at::test_all;
+use crate::clients_at::{test_all, waits_of};
 use crate::sweep::SweepPlan;
 use std::alloc::Global;
 use std::io::Write;
-use std::net::Net;
 use ws_base::NoMemory;
 use ws_frame::Watched;
 use ws_suite::{Case, Expectation};
@@ -23,12 +22,12 @@ use ws_sweep::{ShortScript, ShortScripts, short_case, tell_steps};
 use ws_wire::Role;
 use wst_clients::{Telling, VisitRules};
 use wst_commands::{Exit, Fault, end_run};
-use wst_sockets::{ListenerClients, listen, told_address};
+use wst_sockets::{ListenerClients, Network, listen, told_address};
 
 /// Listens at an address, which is told in a line, with the port that the system chose in the place of a port 0, and
 /// tests the clients that come, whose cases are the short scripts of a plan. Why nothing can be listened at is told to
 /// `faults`.
-pub(crate) fn sweep_clients_at<N: Net, W: Write, F: Write>(
+pub(crate) fn sweep_clients_at<N: Network, W: Write, F: Write>(
     alloc: Global,
     net: &N,
     address: &str,
@@ -46,7 +45,7 @@ pub(crate) fn sweep_clients_at<N: Net, W: Write, F: Write>(
 }
 
 /// Listens at an address, and tests the clients that come.
-fn sweep_at<N: Net, W: Write, F: Write>(
+fn sweep_at<N: Network, W: Write, F: Write>(
     alloc: Global,
     net: &N,
     address: &str,
@@ -66,7 +65,7 @@ fn sweep_at<N: Net, W: Write, F: Write>(
         Err(why) => return Err(Fault::NotListening(why)),
     };
     let told = told_address(alloc, &listener, address)?;
-    let clients = ListenerClients::of(net, &listener, plan.run.timeout);
+    let clients = ListenerClients::of(net, &listener, waits_of(&plan.run));
     let rules = sweep_rules(plan, cases.as_slice());
     test_all(alloc, &clients, told.as_slice(), &rules, writer, faults)
 }

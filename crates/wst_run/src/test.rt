@@ -11,11 +11,11 @@ ghost use Rattle.wst_run.specs.Test.{is_one_case, rules_of};
 use crate::clients_at::test_clients_at;
 use std::alloc::Global;
 use std::io::Write;
-use std::net::Net;
 use ws_frame::Watched;
 use ws_reports::Report;
 use ws_suite::Case;
 use wst_commands::{Exit, Fault, cases_of, deliver, end_run, is_glob};
+use wst_sockets::Network;
 use wst_testing::{
     AddressServer, CaseServer, Refusal, RunPlan, RunRules, TestedEnd, capture_case, close_report,
     plan_run, test_cases,
@@ -39,7 +39,7 @@ pub struct TestPlan<'a> {
 }
 
 /// Runs the cases of a plan over the end that it names, and tells how that ended.
-pub(crate) fn run_over_target<N: Net, W: Write, F: Write>(
+pub(crate) fn run_over_target<N: Network, W: Write, F: Write>(
     alloc: Global,
     plan: &TestPlan<'_>,
     report: &Report,

@@ -1,21 +1,28 @@
 //! Clients that are served one after the other: what is known of a connection to one, and those of a listener.
 
+ghost use Rattle.std.specs.Prelude.{◌≡◌, IfErr, IsTrue};
+ghost use Rattle.wst_commands.specs.TimeLimits.{is_limited};
+ghost use Rattle.wst_sockets.specs.Accepting.{IsWhy, client_wait};
 ghost use Rattle.wst_sockets.specs.Serve.{IsServedBy};
 
+use crate::accepting::{NoClient, accepted_in_time};
 use crate::lingering::linger;
-use crate::listening::accepted;
 use crate::serve::ServePlan;
 use crate::stream::{Side, half_closed, shared};
+use crate::waiting::{Network, Notice, Running, WaitTeller};
 use std::alloc::Global;
-use std::cell::RefCell;
+use std::cell::{Cell, RefCell};
 use std::io::{Read, Write};
 use std::net::{Net, OpenListener, OpenStream};
+use std::os::fd::AsRawFd;
 use ws_connection::{Served, serve_one};
 use ws_frame::Watched;
 use wst_commands::TimeLimit;
 
 /// Clients of one kind, which come one after the other.
 pub trait Clients {
+    ghost use Rattle.std.specs.Prelude.{IfErr};
+    ghost use Rattle.wst_sockets.specs.Accepting.{IsWhy};
     ghost use Rattle.ws_connection.specs.declared.serving.Served.{Served};
     ghost use Rattle.wst_sockets.specs.declared.serve.ServePlan.{ServePlan};
 
@@ -28,8 +35,12 @@ pub trait Clients {
     /// The connection of a client that is served as this plan asks may end so.
     ghost ends: { Self → ServePlan → Served → Type 0 };
 
-    /// The next client. `None` where none can come any more.
-    fn next_client(&self) -> Option<Self::Client>;
+    /// A client may be waited for in vain.
+    ghost may_be_late: { Self → Type 0 };
+
+    /// The next client, or why there is none.
+    fn next_client(&self, alloc: Global) -> Result<Self::Client, NoClient>
+        ensures { IfErr result (IsWhy (may_be_late self.now)) };
 
     /// Serves a client, and answers how its connection ended.
     fn serve(&self, alloc: Global, client: &Self::Client, plan: &ServePlan<'_>) -> Served
@@ -42,26 +53,46 @@ pub trait Clients {
     fn leave(&self, client: Self::HalfClosed);
 }
 
-/// The clients of a listener of a network, who are waited for no longer than a limit says.
+/// How long the clients of a listener are waited for.
+#[derive(Clone, Copy)]
+pub struct Waits {
+    /// A byte of one is waited for so long.
+    pub byte: TimeLimit,
+    /// The next one is waited for so long.
+    pub client: TimeLimit,
+}
+
+/// The clients of a listener of a network, who are waited for no longer than limits say.
 #[derive(Drop)]
 pub struct ListenerClients<'a, N, L> {
     net: &'a N,
     listener: &'a L,
-    timeout: TimeLimit,
+    waits: Waits,
+    notice: Cell<Notice>,
 }
 
 impl<'a, N, L> ListenerClients<'a, N, L> {
     /// Those of this listener.
-    pub fn of(net: &'a N, listener: &'a L, timeout: TimeLimit) -> ListenerClients<'a, N, L> {
+    pub fn of(net: &'a N, listener: &'a L, waits: Waits) -> ListenerClients<'a, N, L>
+        ensures { client_wait result ≡ waits.client }
+    {
         ListenerClients {
             net,
             listener,
-            timeout,
+            waits,
+            notice: Cell::new(Notice::of(waits.byte)),
         }
     }
 }
 
-impl<N: Net, L: OpenListener> Clients for ListenerClients<'_, N, L>
+impl<N: Network, L> ListenerClients<'_, N, L> {
+    /// Tells of the waits for bytes of them, by the name of the case that is run.
+    pub fn teller<'x>(&'x self, alloc: Global, running: Running<'x>) -> WaitTeller<'x, N> {
+        WaitTeller::of(alloc, self.net, &self.notice, running)
+    }
+}
+
+impl<N: Net, L: OpenListener + AsRawFd> Clients for ListenerClients<'_, N, L>
 where
     L::Stream: Read + Write + OpenStream,
 {
@@ -71,10 +102,12 @@ where
 
     ghost ends = { λ clients plan served. IsServedBy plan served };
 
-    fn next_client(&self) -> Option<RefCell<L::Stream>> {
-        match accepted(self.listener) {
-            Some(stream) => Some(shared(stream, self.timeout)),
-            None => None,
+    ghost may_be_late = { λ clients. IsTrue (is_limited (client_wait clients)) };
+
+    fn next_client(&self, alloc: Global) -> Result<RefCell<L::Stream>, NoClient> {
+        match accepted_in_time(alloc, self.net, self.listener, self.waits.client) {
+            Ok(stream) => Ok(shared(stream, self.waits.byte)),
+            Err(why) => Err(why),
         }
     }
 

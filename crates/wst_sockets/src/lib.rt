@@ -5,9 +5,11 @@
 //! `Noted`, a stream as a reader and a writer; `listen`, `told_address` and `tell_listening`, an address that is
 //! listened at and the line that tells it; `plan_serve` and `run_serve`, the command `serve`; `tap_pairs`, connections
 //! between clients and a server, which are told frame by frame; `Clients`, what is known of those that are served;
+//! `Network`, beside which it is told once that a run waits, by a `PatientReader`;
 //! `Resumed`, a device whose calls are made again where a signal interrupted them, as those of a `Side` are.
 #![tactic(auto)]
 
+mod accepting;
 mod clients;
 mod connecting;
 mod lingering;
@@ -19,9 +21,11 @@ mod serving_clients;
 mod stream;
 mod tapping_pairs;
 mod tapping_sockets;
+mod waiting;
 mod waking;
 
-pub use clients::{Clients, ListenerClients};
+pub use accepting::NoClient;
+pub use clients::{Clients, ListenerClients, Waits};
 pub use connecting::{connect, connect_fault};
 pub use listening::{listen, told_address};
 pub use meeting::{ConnectFault, Meeting};
@@ -31,3 +35,6 @@ pub use serving_clients::{listening_line, serve_clients, tell_listening};
 pub use stream::{Noted, Side, shared};
 pub use tapping_pairs::{PairEnd, Pairs, tap_pairs};
 pub use tapping_sockets::ListenerPairs;
+pub use waiting::{
+    Network, Notice, PatientReader, Running, WaitTeller, law_one_wait_is_told, tell_wait,
+};

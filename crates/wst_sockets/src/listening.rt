@@ -143,7 +143,7 @@ pub(crate) fn accepted<L: OpenListener>(listener: &L) -> Option<L::Stream> {
 }
 
 /// Whether the failure of an accept is of the client that waited, and not of the listener.
-fn is_of_one_client(error: &io::Error) -> bool
+pub(crate) fn is_of_one_client(error: &io::Error) -> bool
     ensures { (result ≡ true) ↔ IsOfOneClient error.now }
 {
     if is_client_kind(error.kind()) {

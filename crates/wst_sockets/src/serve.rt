@@ -5,7 +5,7 @@ ghost use Rattle.ws_frame.specs.Devices.{watched};
 ghost use Rattle.ws_frame.specs.Watching.{has_failed};
 ghost use Rattle.wst_sockets.specs.Serve.{CanNotServe, IsServePlan, RunsServer, ServesAt};
 
-use crate::clients::ListenerClients;
+use crate::clients::{ListenerClients, Waits};
 use crate::listening::{listen, told_address};
 use crate::serving_clients::{serve_clients, tell_listening};
 use std::alloc::Global;
@@ -100,6 +100,10 @@ fn serve_at<N: Net, W: Write>(
     if writer.failed() {
         return Ok(told);
     }
-    let clients = ListenerClients::of(net, &listener, plan.timeout);
+    let waits = Waits {
+        byte: plan.timeout,
+        client: TimeLimit::Unlimited,
+    };
+    let clients = ListenerClients::of(net, &listener, waits);
     serve_clients(alloc, &clients, plan, writer)
 }

@@ -31,7 +31,7 @@ pub fn serve_clients<C: Clients, W: Write>(
         (watched W.contents writer.old writer.new) }
 {
     for served_before in 0..plan.count {
-        let Some(client) = clients.next_client() else {
+        let Ok(client) = clients.next_client(alloc) else {
             return Ok(Exit::Failed);
         };
         let served = clients.serve(alloc, &client, plan);

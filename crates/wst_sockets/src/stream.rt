@@ -48,10 +48,19 @@ impl<S: Read> Read for Side<'_, S> {
         ensures bytes { ReadConsumes None None result buf.new }
         ensures uninterrupted { IsUninterrupted result }
     {
-        match self.stream.try_borrow_mut() {
-            Ok(mut stream) => read_resumed(&mut *stream, buf),
-            Err(_) => Err(io::Error::from(ErrorKind::Other)),
-        }
+        read_shared(self.stream, buf)
+    }
+}
+
+/// Reads a stream once, again as long as a signal interrupts it.
+pub(crate) fn read_shared<S: Read>(stream: &RefCell<S>, buf: &mut [u8]) -> io::Result<usize>
+    ensures bound { ReadsAtMost result buf.new }
+    ensures bytes { ReadConsumes None None result buf.new }
+    ensures uninterrupted { IsUninterrupted result }
+{
+    match stream.try_borrow_mut() {
+        Ok(mut stream) => read_resumed(&mut *stream, buf),
+        Err(_) => Err(io::Error::from(ErrorKind::Other)),
     }
 }
 

@@ -1,13 +1,19 @@
--- The end that a word names.
-use Rattle.std.proofs.Common.{◌≡◌, ℕ, List}
+-- The end that a word names, and seconds that are no limit of time.
+use Rattle.std.proofs.Common.{◌≡◌, ℕ, List, inl}
 use Rattle.ws_wire.specs.declared.role.Role.{Role}
 use Rattle.ws_wire.specs.declared.role.Role.TheVariants as role
 use Rattle.ws_targets.specs.Advice.{Advises}
 use Rattle.ws_targets.specs.Targets.{TargetValue, IsTargetText}
 use Rattle.ws_targets.specs.declared.advice.Advice.{Advice}
-use Rattle.wst_testing.specs.RunPlans.{AdvisesClients, IsClientsAddress, IsNoMemoryWord, NamesEnd, RefusesTarget, memory_word}
+use Rattle.wst_commands.specs.TimeLimits.{HasTimeout, HasWait}
+use Rattle.wst_commands.specs.declared.given_cases.NoCases.TheVariants.{NoMemory, NoSuchCase}
+use Rattle.wst_testing.specs.RunPlans.{AdvisesClients, CanNotRun, HasAllButEnd, HasRequestWords, IsClientsAddress}
+use Rattle.wst_testing.specs.RunPlans.{IsNoMemoryWord}
+use Rattle.wst_testing.specs.RunPlans.{IsTimeoutRefusal, IsWaitRefusal, NamesEnd, RefusesTarget, memory_word}
+use Rattle.wst_words.specs.declared.run_options.RunOptions.{RunOptions}
 use Rattle.wst_testing.specs.declared.case_server.MemoryPeer.{MemoryPeer}
 use Rattle.wst_testing.specs.declared.case_server.MemoryPeer.TheVariants.{Own, Tung}
+use Rattle.wst_testing.specs.declared.run_plans.Refusal.{Refusal}
 use Rattle.wst_testing.specs.declared.run_plans.Refusal.TheVariants as refusal
 use Rattle.wst_testing.specs.declared.run_plans.TestedEnd.TheVariants.{Clients, Memory, Server}
 
@@ -36,3 +42,56 @@ no_clients word none lacks (Clients address, asks) = lacks asks.2
 pub address_refused : (word : List ℕ) (given : Advice) → IsNoMemoryWord word → ¬ (IsClientsAddress word)
     → AdvisesClients word given → RefusesTarget role.Client word (refusal.BadAddress given)
 address_refused word given none lacks is = (no_clients word none lacks, is)
+
+-- ---- seconds
+
+-- what is told of seconds that are no limit of time for a byte
+pub timeout_refused : (options : RunOptions) (why : Refusal) → HasRequestWords options → ¬ (HasTimeout options.timeout)
+    → IsTimeoutRefusal options.timeout why → CanNotRun options why
+timeout_refused options refusal.BadTimeout head lacks is = (head, lacks, is)
+timeout_refused options refusal.TimeoutWithUnit head lacks is = (head, lacks, is)
+timeout_refused options refusal.WaitForServer head lacks is = absurd is
+timeout_refused options refusal.BadProtocols head lacks is = absurd is
+timeout_refused options refusal.BadHeader head lacks is = absurd is
+timeout_refused options refusal.BadWait head lacks is = absurd is
+timeout_refused options refusal.WaitWithUnit head lacks is = absurd is
+timeout_refused options refusal.BadKey head lacks is = absurd is
+timeout_refused options (refusal.BadAddress given) head lacks is = absurd is
+timeout_refused options refusal.CaptureInReport head lacks is = absurd is
+timeout_refused options refusal.NotOneCase head lacks is = absurd is
+timeout_refused options (refusal.NoCases why) head lacks is = absurd is
+
+-- and for a client to come
+pub wait_refused : (options : RunOptions) (why : Refusal) → HasRequestWords options → HasTimeout options.timeout
+    → ¬ (HasWait options.wait) → IsWaitRefusal options.wait why → CanNotRun options why
+wait_refused options refusal.BadWait head limit lacks is = (head, limit, lacks, is)
+wait_refused options refusal.WaitWithUnit head limit lacks is = (head, limit, lacks, is)
+wait_refused options refusal.WaitForServer head limit lacks is = absurd is
+wait_refused options refusal.BadProtocols head limit lacks is = absurd is
+wait_refused options refusal.BadHeader head limit lacks is = absurd is
+wait_refused options refusal.BadTimeout head limit lacks is = absurd is
+wait_refused options refusal.TimeoutWithUnit head limit lacks is = absurd is
+wait_refused options refusal.BadKey head limit lacks is = absurd is
+wait_refused options (refusal.BadAddress given) head limit lacks is = absurd is
+wait_refused options refusal.CaptureInReport head limit lacks is = absurd is
+wait_refused options refusal.NotOneCase head limit lacks is = absurd is
+wait_refused options (refusal.NoCases why) head limit lacks is = absurd is
+
+-- ---- the target
+
+-- what is told of a target that names no end of the role
+pub end_refused : (options : RunOptions) (why : Refusal) → HasAllButEnd options
+    → RefusesTarget options.role options.target.now why → CanNotRun options why
+end_refused options (refusal.BadAddress given) all is = (all, inl is)
+end_refused options (refusal.NoCases NoMemory) all is = tt
+end_refused options (refusal.NoCases (NoSuchCase id)) all is = absurd is
+end_refused options refusal.WaitForServer all is = absurd is
+end_refused options refusal.BadProtocols all is = absurd is
+end_refused options refusal.BadHeader all is = absurd is
+end_refused options refusal.BadTimeout all is = absurd is
+end_refused options refusal.TimeoutWithUnit all is = absurd is
+end_refused options refusal.BadWait all is = absurd is
+end_refused options refusal.WaitWithUnit all is = absurd is
+end_refused options refusal.BadKey all is = absurd is
+end_refused options refusal.CaptureInReport all is = absurd is
+end_refused options refusal.NotOneCase all is = absurd is

@@ -5,15 +5,15 @@ use Rattle.ws_connection.specs.Probing.{Probes}
 use Rattle.ws_connection.specs.declared.probe_end.Probe.{Probe}
 use Rattle.ws_scripts.specs.declared.script.Case.{Case}
 use Rattle.wst_sockets.specs.Meetings.{probe_of}
-use Rattle.wst_testing.specs.Servers.{AddressValue, IsProbedSo, MeetsAtAddress}
+use Rattle.wst_testing.specs.Servers.{AddressValue, IsProbedSo, MeetsAtAddress, plan_at}
 use Rattle.wst_sockets.specs.declared.meeting.Meeting.{Meeting}
 
 -- the connection has this budget, and the probe is this one
 pub probed_so : (server : AddressValue) (key : List ℕ) (case : Case) (given told : Probe) (run : ConnectionRun)
-    → Probes server.expected case key server.request given run → given ≡ told → run.old.input.allowance ≡ server.budget
+    → Probes (plan_at server) case key server.request given run → given ≡ told → run.old.input.allowance ≡ server.budget
     → IsProbedSo server key case told
 probed_so server key case given told run probes same has =
-    (run, has, subst (λ (p : Probe). Probes server.expected case key server.request p run) same probes)
+    (run, has, subst (λ (p : Probe). Probes (plan_at server) case key server.request p run) same probes)
 
 -- the server was probed
 pub meets_probed : {E : Type 0} (server : AddressValue) (key : List ℕ) (case : Case) (r : Result Meeting E)

@@ -1,5 +1,5 @@
 -- What the options that commands share ask for: over which end scripts are run, and how.
-use Rattle.std.specs.Prelude.{◌≡◌, ◌≢◌, ◌⊎◌, ⊤, ℕ, List, Option, None, Some, codes, map}
+use Rattle.std.specs.Prelude.{◌≡◌, ◌≢◌, ◌⊎◌, ⊤, ℕ, Bool, false, not, List, Option, None, Some, codes, map}
 use Rattle.std.specs.Prelude.{IsTrue}
 use Rattle.std.specs.Borrow.{Bor}
 use Rattle.std.specs.Str.Iter.{HasSubslice}
@@ -19,7 +19,8 @@ use Rattle.ws_upgrade.specs.Texts.{IsHost}
 use Rattle.wst_words.specs.declared.run_options.RunOptions.{RunOptions}
 use Rattle.wst_commands.specs.Devices.{Tells}
 use Rattle.wst_commands.specs.GivenCases.{TellsNoCases}
-use Rattle.wst_commands.specs.TimeLimits.{GivesTimeout, HasTimeout, HasUnit}
+use Rattle.wst_commands.specs.TimeLimits.{GivesTimeout, GivesWait, HasTimeout, HasUnit, HasWait, is_limited}
+use Rattle.wst_commands.specs.declared.time_limit.TimeLimit.{TimeLimit}
 use Rattle.wst_commands.specs.declared.exit.Exit.{Exit}
 use Rattle.wst_commands.specs.declared.exit.Exit.TheVariants.{WrongWords}
 use Rattle.wst_commands.specs.declared.given_cases.NoCases.TheVariants.{NoMemory, NoSuchCase}
@@ -94,19 +95,40 @@ HasHeaders options = AreHeaderWords (header_words options)
 abbrev pub HasKey : RunOptions → Type 0
 HasKey options = (key : List ℕ) × IsKeyWord key options.key.now
 
+-- a limit of time for a client to come is given, and a server is tested
+abbrev pub WaitsForServer : Role → Option (Bor (List ℕ)) → Type 0
+WaitsForServer role.Server None = ⊥
+WaitsForServer role.Server (Some word) = ⊤
+WaitsForServer role.Client word = ⊥
+
+-- a client alone is waited for
+abbrev pub FitsRole : RunOptions → Type 0
+FitsRole options = ¬ (WaitsForServer options.role options.wait)
+
 -- the words ask for this
 pub record IsRunPlan (options : RunOptions) (plan : RunPlan) : Type 0 where
+  pub fits_role : FitsRole options
   pub has_offers : HasOffers options
   pub protocols : plan.protocols ≡ protocols_given options.protocols
   pub has_headers : HasHeaders options
   pub headers : plan.headers ≡ headers_in (header_words options)
   pub timeout : GivesTimeout options.timeout plan.timeout
+  pub wait : GivesWait options.wait plan.wait
   pub key : IsKeyWord plan.key options.key.now
   pub named : NamesEnd options.role options.target.now
   pub can_connect : CanConnect options.connect
   pub tested : IsEndOf options.role options.target.now options.connect plan.tested
   pub expected : plan.expected ≡ options.expect
   pub budget : plan.budget ≡ options.budget
+
+-- it is told that a run of a plan waits for its end: a server that is met over a network, without a limit of time
+abbrev pub tells_waits_for : TestedEnd → TimeLimit → Bool
+tells_waits_for (Server target) limit = not (is_limited limit)
+tells_waits_for (Memory end) limit = false
+tells_waits_for (Clients address) limit = false
+
+abbrev pub tells_waits : RunPlan → Bool
+tells_waits plan = tells_waits_for plan.tested plan.timeout
 
 -- ---- what they can't ask for
 
@@ -128,22 +150,47 @@ RefusesTarget tested word (refusal.BadAddress given) = ¬ (NamesEnd tested word)
 RefusesTarget tested word (refusal.NoCases NoMemory) = ⊤
 RefusesTarget tested word _ = ⊥
 
--- nothing is wrong with what stands before the target
-abbrev pub HasAllButEnd : RunOptions → Type 0
-HasAllButEnd options = HasOffers options × HasHeaders options × HasTimeout options.timeout × HasKey options
+-- nothing is wrong with what stands before the limits of time
+abbrev pub HasRequestWords : RunOptions → Type 0
+HasRequestWords options = FitsRole options × HasOffers options × HasHeaders options
 
--- The first of these that applies: the names that are given can't be offered; the headers can't be added; the seconds
--- are no limit of time, and have a unit or not; the key is none; the target names no end of the role, or no connection
--- can be made at the address that is given for it. Memory may run out at any of them.
+-- nor with these
+abbrev pub HasTimes : RunOptions → Type 0
+HasTimes options = HasRequestWords options × HasTimeout options.timeout × HasWait options.wait
+
+-- nor with anything that stands before the target
+abbrev pub HasAllButEnd : RunOptions → Type 0
+HasAllButEnd options = HasTimes options × HasKey options
+
+-- what is wrong with a word that is no limit of time for a byte: it has a unit, or not
+abbrev pub IsTimeoutRefusal : Option (Bor (List ℕ)) → Refusal → Type 0
+IsTimeoutRefusal word refusal.TimeoutWithUnit = HasUnit word
+IsTimeoutRefusal word refusal.BadTimeout = ¬ (HasUnit word)
+IsTimeoutRefusal word _ = ⊥
+
+-- and with one that is none for a client to come
+abbrev pub IsWaitRefusal : Option (Bor (List ℕ)) → Refusal → Type 0
+IsWaitRefusal word refusal.WaitWithUnit = HasUnit word
+IsWaitRefusal word refusal.BadWait = ¬ (HasUnit word)
+IsWaitRefusal word _ = ⊥
+
+-- The first of these that applies: a client is to be waited for, and a server is tested; the names that are given
+-- can't be offered; the headers can't be added; the seconds are no limit of time for a byte, or for a client to come,
+-- and have a unit or not; the key is none; the target names no end of the role, or no connection can be made at the
+-- address that is given for it. Memory may run out at any of them.
 abbrev pub CanNotRun : RunOptions → Refusal → Type 0
-CanNotRun options refusal.BadProtocols = ¬ (HasOffers options)
-CanNotRun options refusal.BadHeader = HasOffers options × ¬ (HasHeaders options)
-CanNotRun options refusal.BadTimeout = HasOffers options × HasHeaders options × ¬ (HasTimeout options.timeout)
-    × ¬ (HasUnit options.timeout)
-CanNotRun options refusal.TimeoutWithUnit = HasOffers options × HasHeaders options × ¬ (HasTimeout options.timeout)
-    × HasUnit options.timeout
-CanNotRun options refusal.BadKey = HasOffers options × HasHeaders options × HasTimeout options.timeout
-    × ((key : List ℕ) → ¬ (IsKeyWord key options.key.now))
+CanNotRun options refusal.WaitForServer = WaitsForServer options.role options.wait
+CanNotRun options refusal.BadProtocols = FitsRole options × ¬ (HasOffers options)
+CanNotRun options refusal.BadHeader = FitsRole options × HasOffers options × ¬ (HasHeaders options)
+CanNotRun options refusal.BadTimeout =
+    HasRequestWords options × ¬ (HasTimeout options.timeout) × ¬ (HasUnit options.timeout)
+CanNotRun options refusal.TimeoutWithUnit =
+    HasRequestWords options × ¬ (HasTimeout options.timeout) × HasUnit options.timeout
+CanNotRun options refusal.BadWait =
+    HasRequestWords options × HasTimeout options.timeout × ¬ (HasWait options.wait) × ¬ (HasUnit options.wait)
+CanNotRun options refusal.WaitWithUnit =
+    HasRequestWords options × HasTimeout options.timeout × ¬ (HasWait options.wait) × HasUnit options.wait
+CanNotRun options refusal.BadKey = HasTimes options × ((key : List ℕ) → ¬ (IsKeyWord key options.key.now))
 CanNotRun options (refusal.BadAddress given) = HasAllButEnd options
     × (RefusesTarget options.role options.target.now (refusal.BadAddress given)
     ⊎ (NamesEnd options.role options.target.now × ¬ (CanConnect options.connect) × (given ≡ advice.Nothing)))
@@ -167,12 +214,18 @@ address_text advice.Nothing = codes "bad address\n"
 
 -- what is told of a refusal, and the exit
 abbrev pub TellsRefusal : Refusal → Exit → Device → Type 0
+TellsRefusal refusal.WaitForServer exit faults =
+    (exit ≡ WrongWords) × Tells (codes "--wait takes --role client\n") faults
 TellsRefusal refusal.BadProtocols exit faults = (exit ≡ WrongWords) × Tells (codes "bad protocol list\n") faults
 TellsRefusal refusal.BadHeader exit faults = (exit ≡ WrongWords) × Tells (codes "bad header\n") faults
 TellsRefusal refusal.BadTimeout exit faults = (exit ≡ WrongWords)
     × Tells (codes "bad timeout\n  a whole number of seconds, 1 to 3600: --timeout 5\n") faults
 TellsRefusal refusal.TimeoutWithUnit exit faults =
     (exit ≡ WrongWords) × Tells (codes "bad timeout\n  seconds without a unit: --timeout 5\n") faults
+TellsRefusal refusal.BadWait exit faults = (exit ≡ WrongWords)
+    × Tells (codes "bad wait\n  a whole number of seconds, 1 to 86400: --wait 60\n") faults
+TellsRefusal refusal.WaitWithUnit exit faults =
+    (exit ≡ WrongWords) × Tells (codes "bad wait\n  seconds without a unit: --wait 60\n") faults
 TellsRefusal refusal.BadKey exit faults = (exit ≡ WrongWords) × Tells (codes "bad key\n") faults
 TellsRefusal (refusal.BadAddress given) exit faults = (exit ≡ WrongWords) × Tells (address_text given) faults
 TellsRefusal refusal.CaptureInReport exit faults =

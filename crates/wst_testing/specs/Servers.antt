@@ -1,6 +1,7 @@
 -- Ends that cases are run over: what is known of a meeting with one in memory, and with a server at an address.
-use Rattle.std.specs.Prelude.{◌≡◌, ◌⊎◌, ℕ, List}
+use Rattle.std.specs.Prelude.{◌≡◌, ◌⊎◌, ℕ, Bool, List}
 use Rattle.ws_wire.specs.declared.role.Role.{Role}
+use Rattle.ws_wire.specs.declared.role.Role.TheVariants.{Server}
 use Rattle.ws_session.specs.Replies.{key_for}
 use Rattle.ws_suite.specs.Evidence.{other_role}
 use Rattle.ws_connection.specs.ConnectionValues.{ConnectionRun}
@@ -10,6 +11,8 @@ use Rattle.ws_peer.specs.Runs.{IsRunOf}
 use Rattle.ws_peer.specs.Talks.{Entry}
 use Rattle.ws_scripts.specs.Scripts.{AreTurns}
 use Rattle.ws_suite.specs.Verdicts.{IsVerdictOf}
+use Rattle.ws_tester.specs.RunStates.{PlanValue}
+use Rattle.wst_commands.specs.TimeLimits.{is_limited}
 use Rattle.ws_suite.specs.declared.verdict.Verdict.TheVariants.{Pass}
 use Rattle.ws_scripts.specs.declared.expectation.Expectation.{Expectation}
 use Rattle.ws_scripts.specs.declared.script.Case.{Case}
@@ -47,18 +50,23 @@ MeetsInMemory end key case (Ran transcript) = IsMemoryRun end.peer end.role key 
 MeetsInMemory end key case (Refused fault) = ⊥
 MeetsInMemory end key case (NoConnection why) = ⊥
 
--- a server that is met over a network: what it is asked for, what is expected of it, and how many bytes are read of it
--- at most in one case behind the head of its answer
+-- a server that is met over a network: what it is asked for, what is expected of it, whether waits for it can be in
+-- vain, and how many bytes are read of it at most in one case behind the head of its answer
 pub record AddressValue : Type 0 where
   pub request : RequestValue
   pub expected : Expectation
+  pub timeouts : Bool
   pub budget : ℕ
+
+-- how a case is run over it
+abbrev pub plan_at : AddressValue → PlanValue
+plan_at server = record { tested = Server; expected = server.expected; timeouts = server.timeouts }
 
 -- There is a connection with this budget over which the server was asked for an upgrade so, and the case run. Where its
 -- bytes are not known, this binds the turns of the transcript and its end alone, and not the request.
 abbrev pub IsProbedSo : AddressValue → List ℕ → Case → Probe → Type 0
 IsProbedSo server key case probe = (run : ConnectionRun) × (run.old.input.allowance ≡ server.budget)
-    × Probes server.expected case key server.request probe run
+    × Probes (plan_at server) case key server.request probe run
 
 -- there is no connection to the server, or one that was probed so; why there is none is not said
 abbrev pub MeetsAtAddress : AddressValue → List ℕ → Case → Meeting → Type 0
@@ -70,6 +78,7 @@ abbrev pub asked_by : RunPlan → TargetValue → AddressValue
 asked_by plan target = record {
   request = record { host = target.host; path = target.path; offers = plan.protocols; headers = plan.headers };
   expected = plan.expected;
+  timeouts = is_limited plan.timeout;
   budget = plan.budget;
 }
 

@@ -10,16 +10,20 @@ ghost use Rattle.wst_testing.specs.Servers.{IsProbedSo, MeetsAtAddress, asked_by
 use crate::case_server::CaseServer;
 use crate::run_plans::RunPlan;
 use std::alloc::Global;
-use std::cell::Cell;
+use std::cell::{Cell, RefCell};
 use std::io::{ErrorKind, Read, Write};
 use std::marker::Model;
 use std::net::{Net, OpenStream};
+use std::slice;
 use ws_base::NoMemory;
 use ws_connection::{Asked, Connection, Observer, Probe, Silent, UpgradeRequest, probe};
 use ws_suite::{Case, Expectation};
 use ws_targets::Target;
 use wst_commands::TimeLimit;
-use wst_sockets::{ConnectFault, Meeting, Noted, Side, connect, connect_fault, shared};
+use wst_sockets::{
+    ConnectFault, Meeting, Network, Noted, Notice, PatientReader, Running, Side, WaitTeller,
+    connect, connect_fault, shared,
+};
 
 /// How much is read of a server at an address in one case, and how long it is waited for.
 #[derive(Clone, Copy)]
@@ -30,8 +34,8 @@ pub struct Bounds {
     pub timeout: TimeLimit,
 }
 
-/// A server that is met over a network, at an address. Contracts see what it is asked for, what is expected of it, and
-/// the budget.
+/// A server that is met over a network, at an address. Contracts see what it is asked for, what is expected of it,
+/// whether waits for it can be in vain, and the budget.
 #[derive(Drop)]
 pub struct AddressServer<'a, N> {
     net: &'a N,
@@ -39,10 +43,12 @@ pub struct AddressServer<'a, N> {
     request: UpgradeRequest<'a>,
     expected: Expectation,
     bounds: Bounds,
+    notice: Cell<Notice>,
 }
 
 impl<'a, N> Model for AddressServer<'a, N> {
     ghost use Rattle.ws_connection.specs.UpgradeRequests.{CanBeAsked, request_value};
+    ghost use Rattle.wst_commands.specs.TimeLimits.{is_limited};
     ghost use Rattle.wst_testing.specs.Servers.{AddressValue};
 
     ghost Value = { AddressValue };
@@ -50,6 +56,7 @@ impl<'a, N> Model for AddressServer<'a, N> {
     ghost view = { λ server. record {
       request = request_value server.request;
       expected = server.expected;
+      timeouts = is_limited server.bounds.timeout;
       budget = server.bounds.budget;
     } };
 
@@ -75,11 +82,12 @@ impl<'a, N> AddressServer<'a, N> {
                 budget: plan.budget,
                 timeout: plan.timeout,
             },
+            notice: Cell::new(Notice::of(plan.timeout)),
         }
     }
 }
 
-impl<N: Net> CaseServer for AddressServer<'_, N> {
+impl<N: Network> CaseServer for AddressServer<'_, N> {
     ghost meets = { λ server key case meeting. MeetsAtAddress server key case meeting };
 
     fn run(&self, alloc: Global, case: &Case, key: [u8; 4]) -> Result<Meeting, NoMemory> {
@@ -101,19 +109,38 @@ impl<N: Net> CaseServer for AddressServer<'_, N> {
                     expected: self.expected,
                     has_timeouts: self.bounds.timeout.is_limited(),
                 };
-                meet_over(alloc, case, &asked, stream, self.bounds, observer)
+                let stream = shared(stream, self.bounds.timeout);
+                let (failure, number) = (Cell::new(None), Cell::new(Some(1)));
+                let running = Running {
+                    cases: slice::from_ref(case),
+                    number: &number,
+                };
+                let server = ServerStream {
+                    stream: &stream,
+                    failure: &failure,
+                    teller: WaitTeller::of(alloc, self.net, &self.notice, running),
+                };
+                meet_over(alloc, case, &asked, server, self.bounds, observer)
             }
             Err(why) => Ok(Meeting::NoConnection(why)),
         }
     }
 }
 
+/// The stream of a server, of which kind the first error of a call over it was, and what tells of its waits.
+#[derive(Clone, Copy)]
+struct ServerStream<'a, S, N> {
+    stream: &'a RefCell<S>,
+    failure: &'a Cell<Option<ErrorKind>>,
+    teller: WaitTeller<'a, N>,
+}
+
 /// Runs a case over a connection, and tells why its answer was not whole, if so.
-fn meet_over<S: Read + Write + OpenStream + Drop, O: Observer>(
+fn meet_over<S: Read + Write + OpenStream, N: Network, O: Observer>(
     alloc: Global,
     case: &Case,
     asked: &Asked<'_>,
-    stream: S,
+    server: ServerStream<'_, S, N>,
     bounds: Bounds,
     observer: &mut O,
 ) -> Result<Meeting, O::Fault>
@@ -121,23 +148,27 @@ fn meet_over<S: Read + Write + OpenStream + Drop, O: Observer>(
     requires request { CanBeAsked (request_value asked.now.request) }
     requires hearing { IsHearing O.heard observer.old }
     ensures probed { IfOk result (λ meeting. IsProbedSo
-        (record { request = request_value asked.now.request; expected = asked.now.expected; budget = bounds.budget })
+        (record {
+          request = request_value asked.now.request;
+          expected = asked.now.expected;
+          timeouts = asked.now.has_timeouts;
+          budget = bounds.budget;
+        })
         asked.now.key case.now (probe_of meeting)) }
     ensures told { IfOk result (λ meeting.
         HearsProbe O.heard O.heard_all observer.old observer.new (probe_of meeting)) }
     ensures borrow { O.borrow observer.new ≡ O.borrow observer.old }
 {
-    let stream = shared(stream, bounds.timeout);
-    let failure = Cell::new(None);
+    let reader = PatientReader::of(server.stream, server.teller);
     let (reader, writer) = (
-        Noted::of(Side::of(&stream), &failure),
-        Noted::of(Side::of(&stream), &failure),
+        Noted::of(reader, server.failure),
+        Noted::of(Side::of(server.stream), server.failure),
     );
     let mut connection = Connection::new(reader, writer, bounds.budget);
     match probe(alloc, case, asked, &mut connection, observer)? {
         Probe::Ran(transcript) => Ok(Meeting::Ran(transcript)),
         Probe::Refused(refusal) => Ok(Meeting::Refused(refusal)),
-        Probe::NoConnection => Ok(Meeting::NoConnection(fault_of(failure.get()))),
+        Probe::NoConnection => Ok(Meeting::NoConnection(fault_of(server.failure.get()))),
     }
 }
 

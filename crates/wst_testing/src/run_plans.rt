@@ -7,6 +7,7 @@ ghost use Rattle.ws_connection.specs.RequestHeaders.{headers_in};
 ghost use Rattle.wst_testing.specs.RunPlans.{HasHeaders, header_words};
 ghost use Rattle.wst_testing.specs.RunPlans.{CanConnect, IsClientsAddress, IsEndOf, IsRunPlan, IsUrl, CanNotRun};
 ghost use Rattle.wst_testing.specs.RunPlans.{AdvisesClients, RefusesTarget, TellsRefusal, address_text, tested_role};
+ghost use Rattle.wst_testing.specs.RunPlans.{IsTimeoutRefusal, IsWaitRefusal, WaitsForServer, tells_waits};
 ghost use Rattle.ws_wire.specs.declared.role.Role.{Role};
 ghost use Rattle.ws_wire.specs.declared.role.Role.TheVariants.{Client, Server};
 ghost use Rattle.wst_commands.specs.declared.exit.Exit.TheVariants.{WrongWords};
@@ -25,7 +26,9 @@ use ws_targets::{
 };
 use ws_upgrade::is_host;
 use ws_wire::Role;
-use wst_commands::{Exit, NoCases, TimeLimit, has_unit, tell, tell_no_cases, timeout_given};
+use wst_commands::{
+    Exit, NoCases, TimeLimit, has_unit, tell, tell_no_cases, timeout_given, wait_given,
+};
 use wst_words::RunOptions;
 
 /// The end that scripts are run over.
@@ -62,6 +65,8 @@ pub struct RunPlan<'a> {
     pub expected: Expectation,
     /// How long an end that is not in memory is waited for.
     pub timeout: TimeLimit,
+    /// How long a client is waited for that comes to an address.
+    pub wait: TimeLimit,
     /// At most so many bytes are read of such an end in one script behind its head.
     pub budget: u64,
     /// The subprotocols that are offered to a server, or of which one is chosen for a client.
@@ -70,9 +75,23 @@ pub struct RunPlan<'a> {
     pub headers: RequestHeaders<'a>,
 }
 
+impl RunPlan<'_> {
+    /// Whether it is told that a run waits for a server: one that is met over a network, without a limit of time.
+    pub fn tells_waits(&self) -> bool
+        ensures { result ≡ tells_waits self.now }
+    {
+        match self.tested {
+            TestedEnd::Server(_) => !self.timeout.is_limited(),
+            TestedEnd::Memory(_) | TestedEnd::Clients(_) => false,
+        }
+    }
+}
+
 /// Why nothing is run: the first of these that applies.
 #[derive(Clone, Copy)]
 pub enum Refusal<'a> {
+    /// It is given how long a client is waited for, and a server is tested.
+    WaitForServer,
     /// The names that are given can't be offered as subprotocols.
     BadProtocols,
     /// A word is no header that can be added to a request, or there are too many.
@@ -81,6 +100,10 @@ pub enum Refusal<'a> {
     BadTimeout,
     /// The same, and they are digits with a unit.
     TimeoutWithUnit,
+    /// The seconds are no limit of time for a client to come.
+    BadWait,
+    /// The same, and they are digits with a unit.
+    WaitWithUnit,
     /// The key is not eight lower-case hexadecimal digits.
     BadKey,
     /// The target names no end, with what is wrong with it; or no connection can be made at the address that is given
@@ -116,9 +139,13 @@ impl From<NoMemory> for Refusal<'_> {
 }
 
 /// What the options ask for, or the first reason against it.
+#[tactic(auto, using(crate::proofs::PlanLemmas::timeout_refused, crate::proofs::PlanLemmas::wait_refused))]
 pub fn plan_run<'a>(alloc: Global, options: &RunOptions<'a>) -> Result<RunPlan<'a>, Refusal<'a>>
     ensures { MatchResult result (IsRunPlan options.now) (CanNotRun options.now) }
 {
+    if waits_for_server(options.role, options.wait) {
+        return Err(Refusal::WaitForServer);
+    }
     let Some(protocols) = protocols_of(alloc, options.protocols)? else {
         return Err(Refusal::BadProtocols);
     };
@@ -126,10 +153,10 @@ pub fn plan_run<'a>(alloc: Global, options: &RunOptions<'a>) -> Result<RunPlan<'
         return Err(Refusal::BadHeader);
     };
     let Some(timeout) = timeout_given(options.timeout) else {
-        if has_unit(options.timeout) {
-            return Err(Refusal::TimeoutWithUnit);
-        }
-        return Err(Refusal::BadTimeout);
+        return Err(timeout_refusal(options.timeout));
+    };
+    let Some(wait) = wait_given(options.wait) else {
+        return Err(wait_refusal(options.wait));
     };
     let Some(key) = read_key(options.key.as_bytes()) else {
         return Err(Refusal::BadKey);
@@ -144,10 +171,43 @@ pub fn plan_run<'a>(alloc: Global, options: &RunOptions<'a>) -> Result<RunPlan<'
         tested,
         expected: options.expect,
         timeout,
+        wait,
         budget: options.budget,
         protocols,
         headers,
     })
+}
+
+/// Whether it is given how long a client is waited for, and a server is tested.
+fn waits_for_server(role: Role, wait: Option<&str>) -> bool
+    ensures { IsTrue result ↔ WaitsForServer role wait.entry }
+{
+    match (role, wait) {
+        (Role::Server, Some(_)) => true,
+        _ => false,
+    }
+}
+
+/// What is wrong with a word that is no limit of time for a byte.
+fn timeout_refusal<'a>(timeout: Option<&str>) -> Refusal<'a>
+    ensures { IsTimeoutRefusal timeout.entry result }
+{
+    if has_unit(timeout) {
+        Refusal::TimeoutWithUnit
+    } else {
+        Refusal::BadTimeout
+    }
+}
+
+/// What is wrong with a word that is no limit of time for a client.
+fn wait_refusal<'a>(wait: Option<&str>) -> Refusal<'a>
+    ensures { IsWaitRefusal wait.entry result }
+{
+    if has_unit(wait) {
+        Refusal::WaitWithUnit
+    } else {
+        Refusal::BadWait
+    }
 }
 
 /// The headers of the words. `None` where a request can't have them.
@@ -278,6 +338,7 @@ pub fn tell_refusal<F: Write>(alloc: Global, refusal: Refusal<'_>, faults: &mut 
     ensures { TellsRefusal refusal.entry result (watched F.contents faults.old faults.new) }
 {
     match refusal {
+        Refusal::WaitForServer => tell_wrong(b"--wait takes --role client\n", faults),
         Refusal::BadProtocols => tell_wrong(b"bad protocol list\n", faults),
         Refusal::BadHeader => tell_wrong(b"bad header\n", faults),
         Refusal::BadTimeout => tell_wrong(
@@ -286,6 +347,14 @@ pub fn tell_refusal<F: Write>(alloc: Global, refusal: Refusal<'_>, faults: &mut 
         ),
         Refusal::TimeoutWithUnit => tell_wrong(
             b"bad timeout\n  seconds without a unit: --timeout 5\n",
+            faults,
+        ),
+        Refusal::BadWait => tell_wrong(
+            b"bad wait\n  a whole number of seconds, 1 to 86400: --wait 60\n",
+            faults,
+        ),
+        Refusal::WaitWithUnit => tell_wrong(
+            b"bad wait\n  seconds without a unit: --wait 60\n",
             faults,
         ),
         Refusal::BadKey => tell_wrong(b"bad key\n", faults),

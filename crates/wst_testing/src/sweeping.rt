@@ -4,7 +4,9 @@
 ghost use Rattle.std.specs.Prelude.{◌≡◌, ◌≤◌, IfOk, OnErr, OnOk, false, string_bytes};
 ghost use Rattle.ws_frame.specs.Devices.{watched};
 ghost use Rattle.ws_frame.specs.Watching.{has_failed};
+ghost use Rattle.ws_scripts.specs.Scripts.{CanBeRun};
 ghost use Rattle.ws_sweep.specs.Order.{ArePlaces, max_steps};
+ghost use Rattle.ws_sweep.specs.ShortCases.{IsShortCase};
 ghost use Rattle.wst_testing.specs.Notes.{TellsEach};
 ghost use Rattle.wst_testing.specs.Sweeps.{CountsScripts, IsConnected, MakesCasesOf, SweepsScript, SweepsScripts};
 ghost use Rattle.wst_testing.specs.Sweeps.{TellsSweepEnd};
@@ -40,6 +42,8 @@ pub struct SweepRules {
     pub progress: bool,
     /// The masking key of the client's frames.
     pub key: [u8; 4],
+    /// Each case is named by its steps, so that a wait of it can be told.
+    pub names: bool,
 }
 
 /// Why a sweep ended before its total.
@@ -132,13 +136,37 @@ fn run_script<S: CaseServer, W: Write, F: Write>(
         (watched W.contents writer.old writer.new) }
     ensures cases { MakesCasesOf rules cases.new }
 {
-    let case = cases.case_of(alloc, script)?;
+    let case = next_case(alloc, rules, script, cases)?;
     tell_script(alloc, rules, script, &case, faults)?;
     let outcome = outcome_of(alloc, server, &case, case_rules(rules))?;
     let told = connected(outcome)?;
     tell_outcome(alloc, rules, script, &case, &told, writer)?;
     cases.give_back(case);
     Ok(told)
+}
+
+/// The case of a script, named by all its steps where that is asked for.
+fn next_case(
+    alloc: Global,
+    rules: SweepRules,
+    script: &ShortScript,
+    cases: &mut ShortCases,
+) -> Result<Case, NoMemory>
+    requires { ArePlaces script.now }
+    ensures is { IfOk result (λ case.
+        IsShortCase cases.old.tested cases.old.expected cases.old.key script.now case) }
+    ensures runs { IfOk result (λ case. CanBeRun case) }
+    ensures tested { cases.new.tested ≡ cases.old.tested }
+    ensures expected { cases.new.expected ≡ cases.old.expected }
+    ensures key { cases.new.key ≡ cases.old.key }
+{
+    let case = cases.case_of(alloc, script)?;
+    if !rules.names {
+        return Ok(case);
+    }
+    let id = text_of(alloc, rules, script, &case)?;
+    let Case { steps, chop, .. } = case;
+    Ok(Case { id, steps, chop })
 }
 
 /// How the case of a script is run.

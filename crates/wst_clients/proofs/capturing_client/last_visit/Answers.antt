@@ -27,10 +27,12 @@ returns-in_err-standing-clause-lacks g c =
     (passed_none Meets c.args.rules.now (watched g.F.Write.contents c.args.faults.now c.args.faults.now)
     (Keeps-refl held)) (λ failed. failed) ([], inl refl, Keeps-refl held))
 
-pub returns-in_default-clause-ends : goal.returns-in_default-clause-ends
-returns-in_default-clause-ends g c =
-    passed_all (g.C.TestedClients.visits c.args.clients.now c.args.rules.now) c.args.rules.now
-    (watched g.F.Write.contents c.args.faults.now c.loop-visited.faults) c.loop-visited.invariant.run
+pub returns-in-Err-clause-ends : goal.returns-in-Err-clause-ends
+returns-in-Err-clause-ends g c = (
+  c.in-Err.ensures,
+  passed_all (g.C.TestedClients.visits c.args.clients.now c.args.rules.now) c.args.rules.now
+      (watched g.F.Write.contents c.args.faults.now c.loop-visited.faults) c.loop-visited.invariant.run,
+)
 
 pub returns-in_err-visit-clause-lacks : goal.returns-in_err-visit-clause-lacks
 returns-in_err-visit-clause-lacks g c =
@@ -67,6 +69,8 @@ loop-visited-preserved g c =
     }
 
 pub returns-clause-ends : goal.returns-clause-ends
-returns-clause-ends g c =
-    passed_all (g.C.TestedClients.visits c.args.clients.now c.args.rules.now) c.args.rules.now
-    (watched g.F.Write.contents c.args.faults.now c.loop-visited.faults) c.loop-visited.invariant.run
+returns-clause-ends g c = (
+  tt,
+  passed_all (g.C.TestedClients.visits c.args.clients.now c.args.rules.now) c.args.rules.now
+      (watched g.F.Write.contents c.args.faults.now c.loop-visited.faults) c.loop-visited.invariant.run,
+)

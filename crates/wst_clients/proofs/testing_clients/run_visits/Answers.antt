@@ -1,5 +1,5 @@
 -- Each connection comes behind those before it, and the line of the case that it ran is written, if it ran one.
-use Rattle.std.proofs.Common.{◌≡◌, ◌∙◌, ℕ, Bool, IsErrAnd, [], ap, arith, false, true, inl, length, refl, rules, sym}
+use Rattle.std.proofs.Common.{◌≡◌, ◌∙◌, ℕ, Bool, IsErrAnd, [], ap, arith, false, true, inl, length, refl, rules, subst, sym}
 use Rattle.std.proofs.KnownBytes.{Keeps-refl}
 use Rattle.ws_frame.specs.Devices.{watched}
 use Rattle.ws_frame.specs.Watching.{has_failed, inner_of}
@@ -11,8 +11,11 @@ use Rattle.wst_testing.specs.Reporting.{no_score}
 use Rattle.ws_paths.specs.Standings.{StandingValue, none_run}
 use Rattle.wst_clients.specs.VisitOutcomes.{ComesTo, after_outcome, ends_with_outcome, outcome_notes, tests_in}
 use Rattle.wst_clients.specs.declared.visit_outcome.VisitOutcome.{VisitOutcome}
-use Rattle.wst_clients.proofs.ClientLemmas.{VisitsNext, after_keeps, visited_bound, visited_more, visited_none}
-use Rattle.wst_clients.proofs.ClientLemmas.{visits_end, visits_err, visits_fit, visits_no_more, visits_stop}
+use Rattle.wst_clients.proofs.ClientLemmas.{VisitsNext, after_keeps, late_fits, visited_bound, visited_more}
+use Rattle.wst_clients.proofs.ClientLemmas.{visited_none, visits_end, visits_err, visits_fit, visits_late}
+use Rattle.wst_clients.proofs.ClientLemmas.{visits_no_more, visits_stop}
+use Rattle.wst_sockets.specs.Accepting.{IsWhy}
+use Rattle.wst_sockets.specs.declared.accepting.NoClient.{NoClient}
 use Rattle.wst_sockets.proofs.WrittenLemmas.{was_begun, was_written}
 use Rattle.wst_clients.proofs.VisitLemmas.{some_of_outcome}
 use Rattle.wst_clients.proofs.testing_clients.run_visits.Goals as goal
@@ -36,7 +39,7 @@ returns-in_err-standing-clause-runs g c =
     let held = g.F.Write.contents (inner_of c.args.faults.now) in
     let written = g.W.Write.contents (inner_of c.args.writer.now) in
     let lacks : IsErrAnd c.from_residual.result (λ fault. fault ≡ NoMemory) = search rules in
-    visits_err (ComesTo (g.C.TestedClients.visits c.args.clients.now given) given) given 0
+    visits_err (g.C.Clients.may_be_late c.args.clients.now) (ComesTo (g.C.TestedClients.visits c.args.clients.now given) given) given 0
     (none_run (length given.cases.now)) no_score written written (has_failed c.args.writer.now)
     (has_failed c.args.faults.now) (has_failed c.args.faults.now) held held held [] c.from_residual.result
     (visited_none (ComesTo (g.C.TestedClients.visits c.args.clients.now given) given) given
@@ -44,8 +47,27 @@ returns-in_err-standing-clause-runs g c =
     (watched g.F.Write.contents c.args.faults.now c.args.faults.now) refl refl (Keeps-refl held)) c.requires.works
     (λ failed. failed) (inl refl) (Keeps-refl held) lacks
 
-pub returns-in_default-clause-runs : goal.returns-in_default-clause-runs
-returns-in_default-clause-runs g c =
+pub returns-in-Err-TooLate-clause-runs : goal.returns-in-Err-TooLate-clause-runs
+returns-in-Err-TooLate-clause-runs g c =
+    let given = c.args.rules.now in
+    let at = c.loop-visited in
+    let MayBeLate = g.C.Clients.may_be_late c.args.clients.now in
+    visits_late MayBeLate (ComesTo (g.C.TestedClients.visits c.args.clients.now given) given) given at.visited
+    at.standing at.score (g.W.Write.contents (inner_of c.args.writer.now)) (g.W.Write.contents (inner_of at.writer))
+    (has_failed at.writer) (watched g.F.Write.contents c.args.faults.now at.faults) at.invariant.run
+    at.invariant.works
+    (subst (λ (why : NoClient). IsWhy MayBeLate why) c.in-Err-TooLate.field-0-is c.in-Err-TooLate.ensures)
+
+pub returns-in-Err-TooLate-clause-fits : goal.returns-in-Err-TooLate-clause-fits
+returns-in-Err-TooLate-clause-fits g c =
+    let given = c.args.rules.now in
+    let at = c.loop-visited in
+    late_fits (ComesTo (g.C.TestedClients.visits c.args.clients.now given) given) given at.visited at.standing at.score
+    (g.W.Write.contents (inner_of c.args.writer.now)) (g.W.Write.contents (inner_of at.writer))
+    (watched g.F.Write.contents c.args.faults.now at.faults) at.invariant.run at.invariant.bound at.invariant.fits
+
+pub returns-in-Err-Never-clause-runs : goal.returns-in-Err-Never-clause-runs
+returns-in-Err-Never-clause-runs g c =
     let given = c.args.rules.now in
     let at = c.loop-visited in
     visits_no_more (ComesTo (g.C.TestedClients.visits c.args.clients.now given) given) given at.visited at.standing
@@ -60,7 +82,7 @@ returns-in_err-outcome-clause-runs g c =
     let at = c.loop-visited in
     let (next, some, told) = c.in_err-outcome.ensures.lacks in
     let lacks : IsErrAnd c.from_residual-in_err-outcome.result (λ fault. fault ≡ NoMemory) = search rules in
-    visits_err (ComesTo (g.C.TestedClients.visits c.args.clients.now given) given) given at.visited at.standing at.score
+    visits_err (g.C.Clients.may_be_late c.args.clients.now) (ComesTo (g.C.TestedClients.visits c.args.clients.now given) given) given at.visited at.standing at.score
     (g.W.Write.contents (inner_of c.args.writer.now)) (g.W.Write.contents (inner_of at.writer)) (has_failed at.writer)
     (has_failed at.faults) (has_failed c.outcome_of_client.new.faults)
     (g.F.Write.contents (inner_of c.args.faults.now)) (g.F.Write.contents (inner_of at.faults))
@@ -75,7 +97,7 @@ returns-in_err-reported-clause-runs g c =
     let some = some_of_outcome (g.C.TestedClients.visits c.args.clients.now given) given at.standing outcome
     c.in_ok-outcome.ensures.comes in
     let lacks : IsErrAnd c.from_residual-in_err-reported.result (λ fault. fault ≡ NoMemory) = search rules in
-    visits_err (ComesTo (g.C.TestedClients.visits c.args.clients.now given) given) given at.visited at.standing at.score
+    visits_err (g.C.Clients.may_be_late c.args.clients.now) (ComesTo (g.C.TestedClients.visits c.args.clients.now given) given) given at.visited at.standing at.score
     (g.W.Write.contents (inner_of c.args.writer.now)) (g.W.Write.contents (inner_of at.writer)) (has_failed at.writer)
     (has_failed at.faults) (has_failed c.outcome_of_client.new.faults)
     (g.F.Write.contents (inner_of c.args.faults.now)) (g.F.Write.contents (inner_of at.faults))
@@ -156,7 +178,7 @@ returns-then-ends_with-clause-runs g c =
       noted = c.in_ok-outcome.ensures.told;
       still = c.in_ok-outcome.ensures.still;
     } in
-    visits_end Comes given at.visited at.standing c.keep_outcome.new.standing outcome at.score
+    visits_end (g.C.Clients.may_be_late c.args.clients.now) Comes given at.visited at.standing c.keep_outcome.new.standing outcome at.score
     c.count_visit-score.result (g.W.Write.contents (inner_of c.args.writer.now))
     (g.W.Write.contents (inner_of at.writer)) (g.W.Write.contents (inner_of c.deliver.new.writer))
     (has_failed c.deliver.new.writer) (has_failed at.faults) (has_failed c.outcome_of_client.new.faults)

@@ -19,11 +19,11 @@ returns-in_ok-lines-in-Ended-clause-tests g c =
     let first = watched g.W.Write.contents c.args.writer.now c.run_visits.new.writer in
     let faults = watched g.F.Write.contents c.args.faults.now c.run_visits.new.faults in
     let output = watched g.W.Write.contents c.run_visits.new.writer c.deliver.new.writer in
-    let so = visits_ended Comes given c.run_visits.result c.in-Ended.standing c.in-Ended.score first faults
+    let so = visits_ended (g.C.Clients.may_be_late c.args.clients.now) Comes given c.run_visits.result c.in-Ended.standing c.in-Ended.score first faults
     (c.in_ok-standing.was ∙ ap (λ (e : VisitsEnd). Ok e) c.in-Ended.is) c.run_visits.ensures.runs in
     let told = delivers_same c.exit.result (exit_of_report counted.is_failed) c.as_bytes.result.now bytes
     c.deliver.result output c.exit.ensures text c.deliver.ensures in
-    tests_all Comes given c.in-Ended.standing c.in-Ended.score counted bytes
+    tests_all (g.C.Clients.may_be_late c.args.clients.now) Comes given c.in-Ended.standing c.in-Ended.score counted bytes
     (g.W.Write.contents (inner_of c.args.writer.now)) (g.W.Write.contents (inner_of c.run_visits.new.writer))
     (g.W.Write.contents (inner_of c.deliver.new.writer)) (has_failed c.deliver.new.writer)
     (has_failed c.run_visits.new.writer) c.deliver.result faults so c.in_ok-lines-in-Ended.ensures told

@@ -15,6 +15,7 @@ returns-in-Ran-clause-probed g c =
     let server : AddressValue = record {
       request = request_value asked.request;
       expected = asked.expected;
+      timeouts = asked.has_timeouts;
       budget = c.args.bounds.budget;
     } in
     let run : ConnectionRun = record { old = c.new-connection.result; new = c.probe.new.connection } in
@@ -28,6 +29,7 @@ returns-in-Refused-clause-probed g c =
     let server : AddressValue = record {
       request = request_value asked.request;
       expected = asked.expected;
+      timeouts = asked.has_timeouts;
       budget = c.args.bounds.budget;
     } in
     let run : ConnectionRun = record { old = c.new-connection.result; new = c.probe.new.connection } in
@@ -35,12 +37,13 @@ returns-in-Refused-clause-probed g c =
     c.in_ok-transcript.field-0 (Refused c.in-Refused.refusal) run c.in_ok-transcript.ensures.probes c.in-Refused.is
     c.new-connection.ensures.budget
 
-pub returns-clause-probed : goal.returns-clause-probed
-returns-clause-probed g c =
+pub returns-in-NoConnection-clause-probed : goal.returns-in-NoConnection-clause-probed
+returns-in-NoConnection-clause-probed g c =
     let asked = c.args.asked.now in
     let server : AddressValue = record {
       request = request_value asked.request;
       expected = asked.expected;
+      timeouts = asked.has_timeouts;
       budget = c.args.bounds.budget;
     } in
     let run : ConnectionRun = record { old = c.new-connection.result; new = c.probe.new.connection } in
@@ -58,7 +61,7 @@ returns-in-Refused-clause-told g c =
     subst (λ (p : Probe). HearsProbe g.O.Observer.heard g.O.Observer.heard_all c.args.observer.now c.probe.new.observer p)
     c.in-Refused.is c.in_ok-transcript.ensures.told
 
-pub returns-clause-told : goal.returns-clause-told
-returns-clause-told g c =
+pub returns-in-NoConnection-clause-told : goal.returns-in-NoConnection-clause-told
+returns-in-NoConnection-clause-told g c =
     subst (λ (p : Probe). HearsProbe g.O.Observer.heard g.O.Observer.heard_all c.args.observer.now c.probe.new.observer p)
     c.in-NoConnection.is c.in_ok-transcript.ensures.told

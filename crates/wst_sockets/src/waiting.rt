@@ -1,0 +1,244 @@
+//! A wait for a tested end that no limit of time ends: once in a run it is told that it goes on.
+
+ghost use Rattle.std.specs.Prelude.{◌≡◌, ◌↔◌, ◌≤◌, List, ℕ, [], IsTrue, None, OnErr, OnOk, length};
+ghost use Rattle.std.specs.Io.{ReadsAtMost};
+ghost use Rattle.std.specs.Io.KnownBytes.{ReadConsumes};
+ghost use Rattle.ws_frame.specs.Devices.{watched};
+ghost use Rattle.wst_commands.specs.declared.time_limit.TimeLimit.{TimeLimit};
+ghost use Rattle.wst_commands.specs.declared.time_limit.TimeLimit.TheVariants.{Seconds};
+ghost use Rattle.wst_sockets.specs.Resuming.{IsUninterrupted};
+ghost use Rattle.wst_sockets.specs.Waiting.{HasWaited, TellsWait, after_wait, notes_of_waits, notice_of};
+
+use crate::resuming::Resumed;
+use crate::stream::read_shared;
+use std::alloc::Global;
+use std::cell::{Cell, RefCell};
+use std::io;
+use std::io::{ErrorKind, Read, Write};
+use std::net::{Net, OpenStream};
+use std::rt::{HostRuntime, Stderr};
+use std::time::Duration;
+use ws_base::NoMemory;
+use ws_frame::Watched;
+use ws_suite::Case;
+use wst_commands::{TimeLimit, tell};
+
+/// After so many seconds in which nothing came it is told that a wait goes on.
+const PATIENCE: u64 = 10;
+
+/// A network, and beside it where it is told that a run waits: it waits inside of a read, to which no other device is
+/// lent.
+pub trait Network: Net {
+    /// Takes what is told.
+    type Notices: Write + Drop;
+
+    /// Where it is told.
+    fn notices(&self) -> Self::Notices;
+}
+
+/// It is told on the standard error.
+impl Network for HostRuntime {
+    type Notices = Resumed<Stderr>;
+
+    fn notices(&self) -> Resumed<Stderr> {
+        Resumed::of(self.stderr())
+    }
+}
+
+/// What a run has still to tell of its waits.
+#[derive(Clone, Copy, PartialEq, Eq)]
+pub enum Notice {
+    /// That it waits, at the first wait of ten seconds in which nothing comes.
+    Pending,
+    /// Nothing: it was told.
+    Told,
+    /// Nothing: a limit of time ends each wait.
+    Needless,
+}
+
+impl Notice {
+    /// That of a run whose end is waited for so long.
+    pub fn of(timeout: TimeLimit) -> Notice
+        ensures { result ≡ notice_of timeout }
+    {
+        match timeout {
+            TimeLimit::Unlimited => Notice::Pending,
+            TimeLimit::Seconds(_) => Notice::Needless,
+        }
+    }
+}
+
+/// Tells that the case of this name waits, where a run has still to tell it. Where memory runs out for the line,
+/// nothing is told.
+pub fn tell_wait<F: Write>(
+    alloc: Global,
+    notice: &mut Notice,
+    name: &str,
+    output: &mut Watched<F>,
+) -> Result<(), NoMemory>
+    ensures told { OnOk result (TellsWait notice.old name.now (watched F.contents output.old output.new)) }
+    ensures once { notice.new ≡ after_wait notice.old }
+    ensures kept { OnErr result (output.new ≡ output.old) }
+{
+    match *notice {
+        Notice::Pending => {
+            *notice = Notice::Told;
+            let line = format!(in alloc;
+                "still waiting: {name} (--timeout SECONDS ends a wait)\n"
+            )?;
+            tell(line.as_bytes(), output);
+            Ok(())
+        }
+        Notice::Told | Notice::Needless => Ok(()),
+    }
+}
+
+/// Of all waits of a run one is told at most, and none where a limit ends each.
+pub fn law_one_wait_is_told()
+    ensures one { (timeout : TimeLimit) (names : List (List ℕ)) →
+        length (notes_of_waits (notice_of timeout) names) ≤ 1 }
+    ensures none { (seconds : ℕ) (names : List (List ℕ)) → notes_of_waits (notice_of (Seconds seconds)) names ≡ [] }
+{}
+
+/// Which of some cases is run, if one is: its number, from 1.
+#[derive(Clone, Copy)]
+pub struct Running<'a> {
+    pub cases: &'a [Case],
+    pub number: &'a Cell<Option<u32>>,
+}
+
+impl<'a> Running<'a> {
+    /// Its name.
+    fn name(self) -> Option<&'a str> {
+        let number = self.number.get()?;
+        let place = (number as usize).checked_sub(1)?;
+        let case = self.cases.get(place)?;
+        Some(case.id.as_str())
+    }
+}
+
+/// Tells of the waits of a run over a network.
+#[derive(Clone, Copy)]
+pub struct WaitTeller<'a, N> {
+    alloc: Global,
+    net: &'a N,
+    notice: &'a Cell<Notice>,
+    running: Running<'a>,
+}
+
+impl<'a, N: Network> WaitTeller<'a, N> {
+    /// Tells it by this notice of the run, of the case that is run.
+    pub fn of(
+        alloc: Global,
+        net: &'a N,
+        notice: &'a Cell<Notice>,
+        running: Running<'a>,
+    ) -> WaitTeller<'a, N> {
+        WaitTeller {
+            alloc,
+            net,
+            notice,
+            running,
+        }
+    }
+
+    /// Where it stands which case is run.
+    pub fn number(&self) -> &'a Cell<Option<u32>> {
+        self.running.number
+    }
+
+    /// The name of the case whose wait is still to be told. `None` where none is.
+    fn name_to_tell(&self) -> Option<&'a str> {
+        match self.notice.get() {
+            Notice::Pending => self.running.name(),
+            Notice::Told | Notice::Needless => None,
+        }
+    }
+
+    /// Whether no limit of time ends a wait.
+    fn waits_on(&self) -> bool {
+        match self.notice.get() {
+            Notice::Pending | Notice::Told => true,
+            Notice::Needless => false,
+        }
+    }
+
+    /// Tells that a case waits, where that is still to be told.
+    fn tell(&self) {
+        let Some(name) = self.name_to_tell() else {
+            return;
+        };
+        let mut notice = self.notice.get();
+        let mut output = Watched::new(self.net.notices());
+        let _ = tell_wait(self.alloc, &mut notice, name, &mut output);
+        self.notice.set(notice);
+    }
+}
+
+/// The side of a tested end's stream that is read. Where its wait is still to be told, a read waits for ten seconds,
+/// tells it, and goes on.
+#[derive(Drop)]
+pub struct PatientReader<'a, S, N> {
+    stream: &'a RefCell<S>,
+    teller: WaitTeller<'a, N>,
+    is_limited: bool,
+}
+
+impl<'a, S, N> PatientReader<'a, S, N> {
+    /// That of this stream.
+    pub fn of(stream: &'a RefCell<S>, teller: WaitTeller<'a, N>) -> PatientReader<'a, S, N> {
+        PatientReader {
+            stream,
+            teller,
+            is_limited: false,
+        }
+    }
+}
+
+impl<S: OpenStream, N> PatientReader<'_, S, N> {
+    /// Has each read wait for ten seconds at most, or as long as it takes.
+    fn limit(&mut self, limited: bool) {
+        if self.is_limited == limited {
+            return;
+        }
+        let time = if limited {
+            Some(Duration::from_secs(PATIENCE))
+        } else {
+            None
+        };
+        if let Ok(stream) = self.stream.try_borrow_mut() {
+            let _ = stream.set_read_timeout(time);
+        }
+        self.is_limited = limited;
+    }
+}
+
+/// No contract of a stream says which bytes pass. A call that a signal interrupts is made again.
+impl<S: Read + OpenStream, N: Network> Read for PatientReader<'_, S, N> {
+    fn read(&mut self, buf: &mut [u8]) -> io::Result<usize>
+        ensures bound { ReadsAtMost result buf.new }
+        ensures bytes { ReadConsumes None None result buf.new }
+        ensures uninterrupted { IsUninterrupted result }
+    {
+        for _ in 0..u64::MAX {
+            let is_told = self.teller.name_to_tell().is_some();
+            self.limit(is_told);
+            let answer = read_shared(self.stream, buf);
+            if !has_waited(&answer) || !self.teller.waits_on() {
+                return answer;
+            }
+            self.teller.tell();
+        }
+        Err(io::Error::from(ErrorKind::Other))
+    }
+}
+
+/// Whether a read that answered this has waited in vain.
+fn has_waited(answer: &io::Result<usize>) -> bool
+    ensures { IsTrue result ↔ HasWaited answer.now }
+{
+    match answer {
+        Ok(_) => false,
+        Err(error) => error.kind() == ErrorKind::WouldBlock,
+    }
+}
