@@ -278,8 +278,9 @@ def a_fault_of_a_script_that_is_answered_late():
 
 
 def a_budget_of_a_client():
-    """A text of no bytes and a close are 14 bytes. Of one less the close isn't whole, and of 6 it isn't even sent."""
-    for budget, line, status in (("14", "PASS", 0), ("13", "FAIL Close", 1), ("6", "FAIL End", 1)):
+    """A text of no bytes and a close are 14 bytes. Of one less the close isn't whole. Of 6 the text is, so its turn is
+    over and the next one is sent, of which nothing is read."""
+    for budget, line, status in (("14", "PASS", 0), ("13", "FAIL Close", 1), ("6", "FAIL Close", 1)):
         run = Listening("test", f"--budget={budget}", ADDRESS, "1.1.1")
         client = run.client()
         assert client.get(len(EMPTY_TEXT)) == EMPTY_TEXT
@@ -361,6 +362,56 @@ def a_capture_of_a_client_that_runs_no_case():
     run = Listening("test", "--capture", ADDRESS, "1.1.1", told="faults")
     run.is_told("/updateReports")
     run.ends("1.1.1 FAIL NotRun", status=1)
+
+
+def no_client_in_time():
+    """What has no line is not run. How long bytes are waited for says nothing of it."""
+    for options in ((), ("--timeout=5",)):
+        started = time.monotonic()
+        run = Listening("test", "--wait=1", *options, ADDRESS, "1.1.1", "2.1")
+        run.ends("1.1.1 FAIL NotRun", "2.1 FAIL NotRun", "0 pass, 0 loose, 2 fail", status=1)
+        assert 0.9 < time.monotonic() - started < SECONDS
+
+
+def no_further_client_in_time():
+    """Each client is waited for so long. One that stays for longer than that is waited for."""
+    run = Listening("test", "--wait=2", ADDRESS, "1.1.1", "2.1")
+    time.sleep(1.2)
+    client = run.client("/runCase?case=1")
+    assert client.get(len(EMPTY_TEXT)) == EMPTY_TEXT
+    time.sleep(2.5)
+    client.send(EMPTY_BACK)
+    assert client.get(len(CLOSE)) == CLOSE
+    client.send(CLOSE_BACK)
+    client.close()
+    assert run.line() == "1.1.1 PASS"
+    time.sleep(1.2)
+    assert run.asks(REQUEST.replace(b"GET", b"PUT")) == BAD_REQUEST
+    time.sleep(1.2)
+    right_client(run, "/runCase?case=1")
+    run.ends("1.1.1 PASS", "2.1 FAIL NotRun", "2 pass, 0 loose, 1 fail", status=1, faults=b"refused Method\n")
+
+
+def all_cases_and_then_none_in_time():
+    run = Listening("test", "--wait=1", ADDRESS, "1.1.1")
+    right_client(run, "/runCase?case=1")
+    run.ends("1.1.1 PASS", "1 pass, 0 loose, 0 fail")
+
+
+def no_client_in_time_for_a_capture():
+    run = Listening("test", "--wait=1", "--capture", ADDRESS, "1.1.1", told="faults")
+    run.ends("1.1.1 FAIL NotRun", status=1)
+
+
+def no_client_in_time_for_a_script():
+    for options in ((), ("--capture",)):
+        run = Listening("send", "--wait=1", *options, ADDRESS, told="faults", text=b'text "Hello"\n')
+        run.ends(status=3, faults=b"no connection: timed out\n")
+
+
+def no_client_in_time_for_a_sweep():
+    run = Listening("sweep", "--wait=1", "--steps=0", ADDRESS)
+    run.ends("FAIL NotRun: close=1000", "1 scripts: 0 pass, 0 loose, 1 fail", status=1)
 
 
 def progress():
@@ -591,6 +642,12 @@ TESTS = [
     names_that_are_known,
     a_capture_of_a_client,
     a_capture_of_a_client_that_runs_no_case,
+    no_client_in_time,
+    no_further_client_in_time,
+    all_cases_and_then_none_in_time,
+    no_client_in_time_for_a_capture,
+    no_client_in_time_for_a_script,
+    no_client_in_time_for_a_sweep,
     progress,
     a_script_that_is_sent,
     a_long_script_that_is_sent,

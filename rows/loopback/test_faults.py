@@ -1,14 +1,17 @@
 """Servers that `wst test` meets and that go away, answer something else or nothing."""
 
+import select
 import socket
 import time
 
-from server import Server, Tested, max_resident, run
+from server import SECONDS, Server, Tested, max_resident, run
 from test_lines import passes
 from wire import CLOSE_BACK, EMPTY_BACK, EMPTY_TEXT, FAILED_1002, MASKED_CLOSE, RESPONSE, request_to
 
 CLOSED = b"no connection: closed before the answer\n"
 SILENT = b"no connection: timed out\n"
+
+STILL = b"still waiting: 1.1.1 (--timeout SECONDS ends a wait)\n"
 
 # The first byte of the case 5.11: a continuation, where no message is under way.
 FIRST_OF_5_11 = b"\x80"
@@ -213,6 +216,27 @@ def silent_in_a_frame():
     client.close()
 
 
+def silent_for_more_than_ten_seconds():
+    """It is told once that the run waits, and then waited on."""
+    server = Tested("1.1.1", "1.1.1")
+    client = server.next()
+    asked = request_to(server.address)
+    assert client.get(len(asked)) == asked
+    client.send(RESPONSE)
+    assert client.get(len(EMPTY_TEXT)) == EMPTY_TEXT
+    faults = server.process.stderr
+    assert not select.select([faults, server.process.stdout], [], [], 9)[0]
+    assert select.select([faults], [], [], SECONDS)[0]
+    assert faults.readline() == STILL
+    time.sleep(0.5)
+    client.send(EMPTY_BACK)
+    assert client.get(len(MASKED_CLOSE)) == MASKED_CLOSE
+    client.send(CLOSE_BACK)
+    client.close()
+    passes(server)
+    server.ends("1.1.1 PASS\n1.1.1 PASS\n2 pass, 0 loose, 0 fail\n")
+
+
 def stays_behind_its_close():
     """A server that closes the handshake and not the connection is to end it (RFC 6455 section 7.1.1)."""
     server = Tested("--timeout=1", "1.1.1")
@@ -262,11 +286,11 @@ def floods_a_case():
     server = Tested("--budget=16777216", "1.1.1")
     client = server.next()
     client.send(RESPONSE)
-    messages = b"\x82\x7e\xff\xff" + bytes(65535)
+    pings = (b"\x89\x7d" + bytes(125)) * 500  # of messages one is enough: it isn't what is due, and the run ends
     most = 0
     try:
         while True:
-            client.send(messages)
+            client.send(pings)
             most = max_resident(server.process.pid)
     except OSError:
         client.close()
@@ -362,6 +386,7 @@ TESTS = [
     silent_behind_the_head,
     silent_in_the_last_turn,
     silent_in_a_frame,
+    silent_for_more_than_ten_seconds,
     stays_behind_its_close,
     a_byte_each_half_second,
     sends_without_an_end,

@@ -63,8 +63,8 @@ fn kind_of(word: &str) -> Result<ErrorKind, RowFault> {
 }
 
 /// `+net`: how many connections were asked for, and ended from this side; `+net-reads`: how often all of them were
-/// read; `+seconds`: for how long a connection, a read and a write were to wait; `+sent`: what was written to all of
-/// them.
+/// read; `+seconds`: for how long a connection, a read and a write were to wait; `+notices`: what was told of waits;
+/// `+sent`: what was written to all of them.
 pub fn put_book(words: &[&str], book: &Book<'_>, out: &mut String) -> Result<(), RowFault> {
     if asks_for(words, "+net") {
         let (asked, ended) = (book.asked.get(), book.ended.get());
@@ -80,6 +80,12 @@ pub fn put_book(words: &[&str], book: &Book<'_>, out: &mut String) -> Result<(),
             ", seconds {connect} {read} {}",
             book.write_seconds.get()
         )?;
+    }
+    if asks_for(words, "+notices") {
+        match book.noted.try_borrow() {
+            Ok(noted) => write!(out, ", notices {}", Hex(noted.as_slice()))?,
+            Err(_) => return Err(RowFault::NotARow),
+        }
     }
     if asks_for(words, "+sent") {
         match book.written.try_borrow() {

@@ -10,6 +10,7 @@ use std::net::{Ipv4Addr, Net, OpenListener, OpenStream, Shutdown, SocketAddr};
 use std::os::fd::{AsRawFd, RawFd};
 use std::time::Duration;
 use ws_frame::{ByteReader, Failing};
+use wst_sockets::Network;
 
 /// The host that has an address.
 const HOST: &str = "localhost";
@@ -51,6 +52,8 @@ pub struct Book<'a> {
     pub written: RefCell<Vec<u8>>,
     /// How many of them were ended from this side.
     pub ended: Cell<u64>,
+    /// What was told of waits.
+    pub noted: RefCell<Vec<u8>>,
 }
 
 impl<'a> Book<'a> {
@@ -74,6 +77,7 @@ impl<'a> Book<'a> {
             read: Cell::new(0),
             written: RefCell::new(Vec::new(alloc)),
             ended: Cell::new(0),
+            noted: RefCell::new(Vec::new(alloc)),
         }
     }
 
@@ -159,6 +163,36 @@ impl<'a> Net for MemoryNet<'a> {
         }
         found[0] = local(port);
         Ok(1)
+    }
+}
+
+impl<'a> Network for MemoryNet<'a> {
+    type Notices = MemoryNotices<'a>;
+
+    fn notices(&self) -> MemoryNotices<'a> {
+        MemoryNotices { book: self.book }
+    }
+}
+
+/// Keeps what is told of waits over such a network.
+#[derive(Drop)]
+pub struct MemoryNotices<'a> {
+    book: &'a Book<'a>,
+}
+
+impl Write for MemoryNotices<'_> {
+    fn write(&mut self, buf: &[u8]) -> io::Result<usize> {
+        match self.book.noted.try_borrow_mut() {
+            Ok(mut noted) => {
+                noted.extend_from_slice(buf)?;
+                Ok(buf.len())
+            }
+            Err(_) => Err(io::Error::from(ErrorKind::Other)),
+        }
+    }
+
+    fn flush(&mut self) -> io::Result<()> {
+        Ok(())
     }
 }
 

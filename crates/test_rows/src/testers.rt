@@ -1,7 +1,7 @@
 //! Rows of the tester of a script as a machine: what it is told, what it wants then, and what is recorded.
 
-ghost use Rattle.std.specs.Prelude.{◌≡◌, [], false, IfOk};
-ghost use Rattle.ws_machines.specs.Machines.{HasNext};
+ghost use Rattle.std.specs.Prelude.{◌≡◌, [], false, IfOk, IfSome};
+ghost use Rattle.ws_machines.specs.Machines.{HasNext, MayBeTold};
 ghost use Rattle.ws_tester.specs.Following.{WasTold};
 ghost use Rattle.ws_tester.specs.RunStates.{wanted_in};
 
@@ -131,19 +131,32 @@ fn tell_event(
 ) -> Result<(), RowFault>
     requires { (wanted_in tester.old.run).done ≡ false }
 {
+    match event_of(tester, word) {
+        Some(event) => {
+            tester.on_event(event)?;
+            Ok(())
+        }
+        None => tell_came(alloc, tester, word, unread),
+    }
+}
+
+/// What a word tells that is no bytes, where it is wanted.
+fn event_of(tester: &Tester, word: &str) -> Option<StreamEvent<'static>>
+    requires { (wanted_in tester.now.run).done ≡ false }
+    ensures { IfSome result (λ event. MayBeTold (wanted_in tester.now.run) event) }
+{
     let reads = tester.room() > 0;
     let writes = !tester.to_write().is_empty();
     match word {
-        "ended" if reads => tester.on_event(StreamEvent::Ended)?,
-        "read_failed" if reads => tester.on_event(StreamEvent::ReadFailed)?,
-        "nothing_came" if reads && !writes => tester.on_event(StreamEvent::NothingCame)?,
-        "write_failed" if writes => tester.on_event(StreamEvent::WriteFailed)?,
-        "direction_ended" if tester.wants_end() => tester.on_event(StreamEvent::DirectionEnded)?,
-        "deadline" => tester.on_event(StreamEvent::DeadlinePassed(false))?,
-        "deadline_waited" => tester.on_event(StreamEvent::DeadlinePassed(true))?,
-        _ => tell_came(alloc, tester, word, unread)?,
+        "ended" if reads => Some(StreamEvent::Ended),
+        "read_failed" if reads => Some(StreamEvent::ReadFailed),
+        "nothing_came" if reads && !writes => Some(StreamEvent::NothingCame),
+        "write_failed" if writes => Some(StreamEvent::WriteFailed),
+        "direction_ended" if tester.wants_end() => Some(StreamEvent::DirectionEnded),
+        "deadline" => Some(StreamEvent::DeadlinePassed(false)),
+        "deadline_waited" => Some(StreamEvent::DeadlinePassed(true)),
+        _ => None,
     }
-    Ok(())
 }
 
 /// Bytes came, of which as many are read as it wants.

@@ -15,11 +15,11 @@ use crate::scripts::{Cut, calls, moves, steps};
 use anyhow::{Context, Result, bail};
 use std::alloc::{AllocError, Global};
 use std::fmt::Write;
-use std::net::Net;
 use ws_frame::Watched;
 use ws_peer::{DriveEnd, drive};
 use ws_session::{Limits, Session};
 use ws_wire::{NO_KEY, Role};
+use wst_sockets::Network;
 
 /// The largest message that is taken.
 const LIMIT: u32 = 1_048_576;
@@ -102,7 +102,7 @@ impl Cost {
     }
 
     /// Makes the call once, over a part of a megabyte that is made from the seed.
-    pub fn run<N: Net>(self, alloc: Global, net: &N, part: u32, seed: u32) -> Result<String>
+    pub fn run<N: Network>(self, alloc: Global, net: &N, part: u32, seed: u32) -> Result<String>
         requires { 0 < part }
     {
         let mut chance = Chance::new(seed);

@@ -5,9 +5,9 @@ use anyhow::Result;
 use std::alloc::Global;
 use std::fmt::Write;
 use std::io::{self, Read};
-use std::net::Net;
 use ws_frame::Watched;
 use wst_run::run;
+use wst_sockets::Network;
 
 /// A reader of a text in memory.
 #[derive(Drop)]
@@ -35,7 +35,7 @@ impl Read for Text<'_> {
 /// wrote and that of what it told on the fault output. It stays a function of its own, so that its instructions can be
 /// counted.
 #[inline(never)]
-pub fn run_wst<N: Net, R: Read + Drop>(
+pub fn run_wst<N: Network, R: Read + Drop>(
     alloc: Global,
     net: &N,
     words: &str,

@@ -13,7 +13,7 @@ use crate::scripts::{Cut, calls, moves, steps};
 use crate::showing::show;
 use anyhow::Result;
 use std::alloc::Global;
-use std::net::Net;
+use wst_sockets::Network;
 
 /// A job that a user waits for.
 #[derive(Clone, Copy)]
@@ -80,7 +80,7 @@ impl Job {
     }
 
     /// Does a part of it over the input of a seed.
-    pub fn run<N: Net>(self, alloc: Global, net: &N, part: u32, seed: u32) -> Result<String>
+    pub fn run<N: Network>(self, alloc: Global, net: &N, part: u32, seed: u32) -> Result<String>
         requires { 0 < part }
     {
         let mut chance = Chance::new(seed);
@@ -118,7 +118,7 @@ impl Job {
 }
 
 /// Captures of traffic, in both formats.
-fn captures<N: Net>(
+fn captures<N: Network>(
     alloc: Global,
     net: &N,
     part: u32,
@@ -150,7 +150,7 @@ fn captures<N: Net>(
 }
 
 /// Scripts of calls, of moves and of steps.
-fn scripts<N: Net>(
+fn scripts<N: Network>(
     alloc: Global,
     net: &N,
     part: u32,
@@ -219,7 +219,7 @@ fn endpoint(alloc: Global, part: u32, chance: &mut Chance, results: &mut String)
 }
 
 /// Short scripts of up to four steps against our echo as a server, and of up to three as a client, under two keys.
-fn sweep<N: Net>(
+fn sweep<N: Network>(
     alloc: Global,
     net: &N,
     part: u32,
@@ -241,7 +241,7 @@ fn sweep<N: Net>(
 }
 
 /// What is awkward: pongs that come late, frames of a few bytes, and wide letters byte by byte.
-fn awkward<N: Net>(
+fn awkward<N: Network>(
     alloc: Global,
     net: &N,
     part: u32,

@@ -13,9 +13,9 @@ use crate::telling::tell_stream;
 use anyhow::{Context, Result};
 use std::alloc::Global;
 use std::fmt::Write;
-use std::net::Net;
 use ws_session::Limits;
 use ws_wire::Role;
+use wst_sockets::Network;
 
 /// The largest message that is taken.
 const LIMIT: u32 = 1_048_576;
@@ -25,7 +25,7 @@ const STOPPED: &str = "a session has no memory";
 
 /// Sessions of both ends, captures of both, and sweeps at both peers. Each frame of a client has a masking key of its
 /// own.
-pub fn mixed<N: Net>(
+pub fn mixed<N: Network>(
     alloc: Global,
     net: &N,
     part: u32,
@@ -89,7 +89,7 @@ fn tell_short(
 }
 
 /// Captures of connections to a tested end: of pings that it doesn't all answer in order, and of messages.
-fn judge<N: Net>(
+fn judge<N: Network>(
     alloc: Global,
     net: &N,
     pools: &Pools,
@@ -114,7 +114,7 @@ fn judge<N: Net>(
 }
 
 /// Scripts of up to three steps against both echoes, each as a server and as a client, each script with its line.
-fn sweeps<N: Net>(
+fn sweeps<N: Network>(
     alloc: Global,
     net: &N,
     part: u32,

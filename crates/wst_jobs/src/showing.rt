@@ -7,10 +7,10 @@ use crate::input::run_wst;
 use anyhow::Result;
 use std::alloc::{AllocError, Global};
 use std::io::{self, ErrorKind, Read};
-use std::net::Net;
+use wst_sockets::Network;
 
 /// `show` over a stream of at least so many bytes.
-pub fn show<N: Net>(
+pub fn show<N: Network>(
     alloc: Global,
     net: &N,
     frames: Frames,
