@@ -4,6 +4,7 @@ pub mod Calls
 pub mod Faults
 pub mod Streams
 pub mod EventsGoOn
+pub mod PingsAndPongs
 pub mod Places
 pub mod Next
 pub mod OpenMessage

@@ -11,6 +11,7 @@ pub mod Lent
 pub mod Memory
 pub mod Sends
 pub mod Reach
+pub mod PingsAndPongs
 pub mod Words
 pub mod Examples
 pub mod InnerNextFrame

@@ -26,6 +26,7 @@ mod header_kind;
 mod header_rules;
 mod least_header;
 mod piece_check;
+mod ping_or_pong;
 mod quiet;
 mod under_way;
 mod whole_frame;

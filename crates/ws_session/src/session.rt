@@ -7,6 +7,7 @@ ghost use Rattle.ws_session.specs.declared.status.Status.TheVariants.{Lost};
 ghost use Rattle.ws_session.specs.Limits.{most_beside};
 ghost use Rattle.ws_session.specs.Faults.{open_payload};
 ghost use Rattle.ws_session.specs.Doomed.{IsDoomed, EndsDoomed};
+ghost use Rattle.ws_session.specs.PingsAndPongs.{begins_ping_or_pong};
 ghost use Rattle.ws_session.specs.Replies.{reply_to};
 ghost use Rattle.ws_session.specs.Exchange.{HasExchanged, HasSomeExchange, is_over};
 ghost use Rattle.ws_session.specs.Taking.{HasTaken, TakesNothing};
@@ -118,6 +119,14 @@ impl Session {
             × EndsDoomed self.now.role self.now.limits taken frames rest)) }
     {
         self.state.is_doomed()
+    }
+
+    /// Whether the frame under way is a ping or a pong, which each end may send at any time: its first byte says so.
+    /// False where no frame is under way.
+    pub fn is_in_ping_or_pong(&self) -> bool
+        ensures { result ≡ begins_ping_or_pong self.now.partial_frame }
+    {
+        self.state.is_in_ping_or_pong()
     }
 
     /// The stream has ended: a session that waits for the other's close is lost, and keeps neither its open message nor

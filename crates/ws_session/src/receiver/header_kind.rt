@@ -2,6 +2,7 @@
 
 ghost use Rattle.std.specs.Prelude.{◌≡◌, ◌≤◌, ◌⊎◌, ◌↔◌, IsTrue};
 ghost use Rattle.ws_session.specs.Faults.{IsControl};
+ghost use Rattle.ws_session.specs.PingsAndPongs.{means_ping_or_pong};
 
 use ws_wire::{Header, Opcode};
 
@@ -30,6 +31,13 @@ pub(super) fn is_close(header: &Header) -> bool
     ensures { IsTrue result ↔ (header.now.opcode ≡ 8) }
 {
     matches!(header.kind(), Opcode::Close)
+}
+
+/// Whether it is a ping or a pong (sections 5.5.2 and 5.5.3).
+pub(super) fn is_ping_or_pong(header: &Header) -> bool
+    ensures { result ≡ means_ping_or_pong header.now.opcode }
+{
+    matches!(header.kind(), Opcode::Ping | Opcode::Pong)
 }
 
 /// Whether its opcode is reserved (section 5.2).

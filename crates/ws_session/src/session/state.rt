@@ -9,6 +9,7 @@ ghost use Rattle.ws_session.specs.Limits.{most_beside};
 ghost use Rattle.ws_session.specs.Faults.{open_payload};
 ghost use Rattle.ws_session.specs.Doomed.{IsDoomed};
 ghost use Rattle.ws_session.specs.Exchange.{is_over};
+ghost use Rattle.ws_session.specs.PingsAndPongs.{begins_ping_or_pong};
 ghost use Rattle.ws_session.specs.Taking.{HasTaken, TakesNothing};
 ghost use Rattle.ws_session.specs.Lent.{event_if_any, payload_in};
 ghost use Rattle.ws_session.specs.Memory.{WantsMemory, WantsMemoryToTell};
@@ -100,6 +101,12 @@ impl State {
         ensures over { is_over self.now.status ≡ true → result ≡ false }
     {
         self.receiver.is_doomed()
+    }
+
+    pub(super) fn is_in_ping_or_pong(&self) -> bool
+        ensures { result ≡ begins_ping_or_pong self.now.partial_frame }
+    {
+        self.receiver.is_in_ping_or_pong()
     }
 
     /// All is over: nothing is kept any more.
