@@ -1,8 +1,9 @@
 -- The run of a turn, piece after piece, and that of a script, turn after turn.
-use Rattle.std.proofs.Common.{◌≡◌, ℕ, List, [], ◌∷◌, ◌++◌, refl, sym, ap, ◌∙◌, subst, append_assoc, append-nil, inl, inr, length, ◌<◌, arith}
+use Rattle.std.proofs.Common.{◌≡◌, ℕ, List, [], ◌∷◌, ◌++◌, refl, sym, ap, ◌∙◌, subst, append_assoc, append-nil, inl}
+use Rattle.std.proofs.Common.{inr, length, ◌+◌, ◌<◌, arith, get_or, take}
 use Rattle.std.specs.Prelude.{map}
-use Rattle.std.specs.List.{AllByRecursion}
-use Rattle.std.proofs.lemmas.List.{length-append, map-append}
+use Rattle.std.specs.List.{AllByRecursion, concat}
+use Rattle.std.proofs.lemmas.List.{length-append, map-append, take_more}
 use Rattle.std.proofs.lemmas.Grind.{flat_map-append}
 use Rattle.ws_scripts.specs.declared.transcript.Turn.{Turn}
 use Rattle.ws_scripts.specs.declared.transcript.Transcript.{Transcript}
@@ -60,6 +61,22 @@ fed_more agrees old mid new pieces piece sent sent_after got got_after going h s
       goes_on = goes_on_more h.part (Fed piece l.appended going) h.goes_on more;
       talked = l.talked;
     }
+
+-- the bytes of one more piece
+joined_more : (pieces : List (List ℕ)) (piece : List ℕ) → concat (pieces ++ piece ∷ []) ≡ concat pieces ++ piece
+joined_more [] piece = append-nil piece
+joined_more (x ∷ pieces) piece = ap (λ (l : List ℕ). x ++ l) (joined_more pieces piece)
+    ∙ sym (append_assoc x (concat pieces) piece)
+
+-- the first pieces, and one more, and the pieces after it
+pub one_piece_more : (pieces : List (List ℕ)) (i : ℕ) → i < length pieces
+    → take (i + 1) pieces ≡ take i pieces ++ get_or pieces i [] ∷ []
+one_piece_more pieces i more = take_more pieces i [] more
+
+pub joined_one_more : (pieces : List (List ℕ)) (i : ℕ) → i < length pieces
+    → concat (take (i + 1) pieces) ≡ concat (take i pieces) ++ get_or pieces i []
+joined_one_more pieces i more = ap (λ (l : List (List ℕ)). concat l) (one_piece_more pieces i more)
+    ∙ joined_more (take i pieces) (get_or pieces i [])
 
 -- a turn, and that each talk leads on
 pub record HasRunTurn {P : Type 0} (agrees : P → PeerEnd → List Entry → Type 0) (old new : P) (pieces : List (List ℕ)) (turn : Turn) (going : Going) : Type 0 where
@@ -140,6 +157,25 @@ run_more agrees old mid new turns pieces recorded after turn going h t more a =
       goes_on = subst (λ (l : List Entry). AllByRecursion PeerGoesOn l) (sym (joined-more h.parts t.part)) (goes_on_both (joined_talk h.parts) t.part h.goes_on r.ends.goes_on);
       talked = talked-more agrees old mid new h.parts t.part h.talked t.talked;
     }
+
+-- the first of these turns were run, and those left are still to be
+pub record HasRunFirst {P : Type 0} (agrees : P → PeerEnd → List Entry → Type 0) (old new : P)
+    (all left : List (List (List ℕ))) (recorded : List Turn) : Type 0 where
+  pub done : List (List (List ℕ))
+  pub split : all ≡ done ++ left
+  pub run : HasRunTurns agrees old new done recorded
+
+pub run_first : {P : Type 0} (agrees : P → PeerEnd → List Entry → Type 0) (old mid new : P)
+    (all left after : List (List (List ℕ))) (pieces : List (List ℕ)) (recorded written : List Turn) (turn : Turn)
+    (going : Going)
+    → HasRunFirst agrees old mid all left recorded → left ≡ pieces ∷ after
+    → HasRunTurn agrees mid new pieces turn going → going ≡ More → written ≡ recorded ++ turn ∷ []
+    → HasRunFirst agrees old new all after written
+run_first agrees old mid new all left after pieces recorded written turn going h e t more w = record {
+  done = h.done ++ pieces ∷ [];
+  split = h.split ∙ (ap (λ (l : List (List (List ℕ))). h.done ++ l) e ∙ sym (append_assoc h.done (pieces ∷ []) after));
+  run = run_more agrees old mid new h.done pieces recorded written turn going h.run t more w;
+}
 
 -- a run, and that each talk leads on
 pub record HasRun {P : Type 0} (agrees : P → PeerEnd → List Entry → Type 0) (old new : P) (turns : List (List (List ℕ))) (transcript : Transcript) : Type 0 where

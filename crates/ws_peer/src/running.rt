@@ -9,8 +9,9 @@ ghost use Rattle.ws_peer.specs.InnerTurnRuns.{IsTurnRun};
 
 use crate::peer::{Going, Peer};
 use std::alloc::Global;
+use std::collections::VecDeque;
 use ws_base::{NoMemory, Payload, Sequence};
-use ws_suite::{Case, Ended, Transcript, Turn, turns_with};
+use ws_suite::{Case, CutTurn, Ended, Transcript, Turn, turns_with};
 
 /// Runs a script over a peer that is a server, its frames masked with `key`: `run_case_with` with this key.
 pub fn run_case<P: Peer>(
@@ -41,10 +42,10 @@ pub fn run_case_with<P: Peer>(
         × (talk : List Entry) × IsRunOf turns talk transcript × Talked P.agrees peer.old peer.new talk) }
 {
     let script = turns_with(alloc, case, key)?;
-    let pieces_by_turn = script.as_slice();
+    let mut left = VecDeque::from(script.into_vec());
     let mut recorded = Vec::new(alloc);
-    for pieces in pieces_by_turn {
-        let (turn, going) = run_turn(alloc, pieces.as_slice(), peer)?;
+    while let Some(pieces) = left.pop_front() {
+        let (turn, going) = run_turn(alloc, pieces, peer)?;
         recorded.push(turn)?;
         if going == Going::Ended {
             return Ok(Transcript {
@@ -63,21 +64,22 @@ pub fn run_case_with<P: Peer>(
 /// Feeds the pieces of a turn until the peer ends: what is recorded of the turn, and whether the peer goes on.
 fn run_turn<P: Peer>(
     alloc: Global,
-    pieces: &[Payload],
+    pieces: CutTurn,
     peer: &mut P,
 ) -> Result<(Turn, Going), NoMemory>
-    ensures { IfOk result (λ run. (part : List Entry) × IsTurnRun pieces.now part run.0 run.1
+    ensures { IfOk result (λ run. (part : List Entry) × IsTurnRun pieces part run.0 run.1
         × Talked P.agrees peer.old peer.new part) }
 {
-    let mut sent = Vec::new(alloc);
     let mut got = Vec::new(alloc);
-    for piece in pieces {
-        let going = peer.feed(piece.as_slice(), &mut got)?;
-        sent.extend_from_slice(piece.as_slice())?;
+    let count = pieces.len();
+    for number in 0..count {
+        let going = peer.feed(pieces.piece(number), &mut got)?;
         if going == Going::Ended {
+            let sent = pieces.into_first(number + 1);
             return Ok((turn_of(sent, got), Going::Ended));
         }
     }
+    let sent = pieces.into_first(count);
     Ok((turn_of(sent, got), Going::More))
 }
 

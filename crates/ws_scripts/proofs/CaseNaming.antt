@@ -3,7 +3,7 @@ use Rattle.std.proofs.Common.{◌≡◌, ◌∙◌, ℕ, ◌+◌, ◌-◌, ◌^�
 use Rattle.std.proofs.Common.{[], ◌∷◌, ◌++◌, Option, Some, None, Result, Ok, Err, IfOk, MatchOption}
 use Rattle.std.proofs.Common.{true, false, refl, rules, append_assoc, ap, arith, codes, drop}
 use Rattle.std.proofs.Common.{flat_map, get_or, inl, inr, length, map, slice_index, subst, sym, take}
-use Rattle.std.specs.List.{Contains, range_with_len}
+use Rattle.std.specs.List.{Contains}
 use Rattle.std.specs.Fmt.{decimal}
 use Rattle.std.proofs.lemmas.Fmt.{decimal_injective}
 use Rattle.std.proofs.lemmas.Bool.Decides.{Decides-eqb, not_from_Decides}

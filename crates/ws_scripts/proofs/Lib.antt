@@ -1,5 +1,6 @@
 -- The lemmas behind scripts and captures: a text is read in one way, writing gives one, and a script can be run.
 mod TurnLemmas
+mod CutLemmas
 mod CaseNaming
 mod CaptureWords
 pub mod CaptureParts

@@ -1,11 +1,13 @@
 -- Steps cut into turns, and bytes into pieces.
 use Rattle.std.proofs.Common.{◌≡◌, ◌∙◌, ℕ, zero, suc, ◌+◌, ◌<◌, ◌≤◌, true, false, List, [], ◌∷◌, ◌++◌, length, take, drop, map, ap, sym, refl, subst, arith, append_assoc, append-nil, Option}
-use Rattle.std.proofs.lemmas.List.{take-append-drop}
+use Rattle.std.proofs.lemmas.List.{flat_map_more, take-append-drop}
 use Rattle.std.specs.List.{AllByRecursion, AllZip, concat, flat_map, onto_first}
 use Rattle.ws_scripts.specs.declared.script.Step.{Step}
 use Rattle.ws_scripts.specs.declared.script.Step.TheVariants.{Frame, Raw, Wait}
-use Rattle.ws_scripts.specs.declared.script.Chop.TheVariants.{PerFrame, Whole}
-use Rattle.ws_scripts.specs.Scripts.{AreOctets, ArePieces, IsAct, has_bytes, is_wait, step_bytes, turn_bytes, turns_of, without_empty}
+use Rattle.ws_scripts.specs.declared.script.Chop.TheVariants.{Octets, PerFrame, Whole}
+use Rattle.ws_scripts.proofs.CutLemmas.{ends_more}
+use Rattle.ws_scripts.specs.InnerCutting.{AreEndsOf, IsCutEvery, ends_of}
+use Rattle.ws_scripts.specs.Scripts.{ArePieces, IsAct, has_bytes, is_wait, step_bytes, turn_bytes, turns_of, without_empty}
 
 -- ---- turns
 
@@ -101,20 +103,6 @@ none_empty_without [] = tt
 none_empty_without ([] ∷ lists) = none_empty_without lists
 none_empty_without ((b ∷ bytes) ∷ lists) = (omega arith, none_empty_without lists)
 
-pub one_piece_at_most : (bytes : List ℕ) → length (without_empty (bytes ∷ [])) ≤ 1
-one_piece_at_most [] = omega arith
-one_piece_at_most (b ∷ bytes) = omega arith
-
-pub joined_more : (pieces : List (List ℕ)) (piece : List ℕ) → concat (pieces ++ piece ∷ []) ≡ concat pieces ++ piece
-joined_more [] piece = append-nil piece
-joined_more (x ∷ pieces) piece = ap (λ (l : List ℕ). x ++ l) (joined_more pieces piece) ∙ sym (append_assoc x (concat pieces) piece)
-
--- behind whole pieces the last may be shorter
-pub octets_more : (n : ℕ) (pieces : List (List ℕ)) (piece : List ℕ) → AllByRecursion (λ (x : List ℕ). length x ≡ n) pieces → length piece ≤ n → AreOctets n (pieces ++ piece ∷ [])
-octets_more n [] piece h less = less
-octets_more n (x ∷ []) piece h less = (h.0, less)
-octets_more n (x ∷ y ∷ pieces) piece h less = (h.0, octets_more n (y ∷ pieces) piece h.1 less)
-
 -- the bytes of each step, where there are any, are the pieces of a turn
 pub step_pieces : (key : Option (List ℕ)) (steps : List Step) (pieces : List (List ℕ)) → pieces ≡ without_empty (map (step_bytes key) steps) → ArePieces PerFrame key steps pieces
 step_pieces key steps pieces e =
@@ -125,21 +113,62 @@ step_pieces key steps pieces e =
       cut = e;
     }
 
--- the bytes of a turn, where there are any, are its one piece
-pub whole_piece : (key : Option (List ℕ)) (steps : List Step) (bytes : List ℕ) (pieces : List (List ℕ)) → bytes ≡ turn_bytes key steps → pieces ≡ without_empty (bytes ∷ []) → ArePieces Whole key steps pieces
-whole_piece key steps bytes pieces is e = record {
-  joined = ap (λ (l : List (List ℕ)). concat l) e ∙ (joined_without_empty (bytes ∷ []) ∙ (append-nil bytes ∙ is));
-  none_empty = subst (λ (l : List (List ℕ)). AllByRecursion has_bytes l) (sym e) (none_empty_without (bytes ∷ []));
-  cut = subst (λ (l : List (List ℕ)). length l ≤ 1) (sym e) (one_piece_at_most bytes);
+-- bytes that are cut in one place at most, or after each n of them
+pub whole_pieces : (key : Option (List ℕ)) (steps : List Step) (n : ℕ) (bytes : List ℕ) (pieces : List (List ℕ)) → bytes ≡ turn_bytes key steps → length bytes ≤ n → IsCutEvery n bytes pieces → ArePieces Whole key steps pieces
+whole_pieces key steps n bytes pieces is one every = record {
+  joined = every.joined ∙ is;
+  none_empty = every.none_empty;
+  cut = every.whole one;
 }
 
--- one piece more, of n bytes or all that are left
-pub octets_step : (n : ℕ) (all rest piece after : List ℕ) (old new : List (List ℕ)) → new ≡ old ++ piece ∷ [] → rest ≡ piece ++ after → length piece ≤ n → 0 < length piece
-    → (0 < length after → length piece ≡ n) → concat old ++ rest ≡ all → AllByRecursion has_bytes old → AllByRecursion (λ (x : List ℕ). length x ≡ n) old
-    → (concat new ++ after ≡ all) × AllByRecursion has_bytes new × (0 < length after → AllByRecursion (λ (x : List ℕ). length x ≡ n) new) × AreOctets n new
-octets_step n all rest piece after old new e f less some full joined none whole = (
-  ap (λ (l : List (List ℕ)). concat l ++ after) e ∙ (ap (λ (l : List ℕ). l ++ after) (joined_more old piece) ∙ (append_assoc (concat old) piece after ∙ (ap (λ (l : List ℕ). concat old ++ l) (sym f) ∙ joined))),
-  subst (λ (l : List (List ℕ)). AllByRecursion has_bytes l) (sym e) (all_added has_bytes old piece none some),
-  λ left. subst (λ (l : List (List ℕ)). AllByRecursion (λ (x : List ℕ). length x ≡ n) l) (sym e) (all_added (λ (x : List ℕ). length x ≡ n) old piece whole (full left)),
-  subst (λ (l : List (List ℕ)). AreOctets n l) (sym e) (octets_more n old piece whole less),
-)
+pub octet_pieces : (key : Option (List ℕ)) (steps : List Step) (n : ℕ) (bytes : List ℕ) (pieces : List (List ℕ)) → bytes ≡ turn_bytes key steps → IsCutEvery n bytes pieces → ArePieces (Octets n) key steps pieces
+octet_pieces key steps n bytes pieces is every = record {
+  joined = every.joined ∙ is;
+  none_empty = every.none_empty;
+  cut = every.octets;
+}
+
+-- ---- where the pieces of steps end
+
+-- a piece ends behind its bytes, and one without bytes is none
+pub end_of_some : (before end : ℕ) (piece : List ℕ) → before + length piece ≡ end → before < end → end ∷ [] ≡ ends_of before (without_empty (piece ∷ []))
+end_of_some before end [] e some = absurd (omega (arith, e, some))
+end_of_some before end (b ∷ piece) e some = ap (λ (k : ℕ). k ∷ []) (sym e)
+
+pub end_of_none : (before end : ℕ) (piece : List ℕ) → before + length piece ≡ end → end ≤ before → [] ≡ ends_of before (without_empty (piece ∷ []))
+end_of_none before end [] e none = refl
+end_of_none before end (b ∷ piece) e none = absurd (omega (arith, e, none))
+
+without_empty_more : (lists : List (List ℕ)) (piece : List ℕ) → without_empty (lists ++ piece ∷ []) ≡ without_empty lists ++ without_empty (piece ∷ [])
+without_empty_more [] piece = refl
+without_empty_more ([] ∷ lists) piece = without_empty_more lists piece
+without_empty_more ((b ∷ bytes) ∷ lists) piece = ap (λ (l : List (List ℕ)). (b ∷ bytes) ∷ l) (without_empty_more lists piece)
+
+map_one_more : (key : Option (List ℕ)) (steps : List Step) (step : Step) → map (step_bytes key) (steps ++ step ∷ []) ≡ map (step_bytes key) steps ++ step_bytes key step ∷ []
+map_one_more key [] step = refl
+map_one_more key (x ∷ steps) step = ap (λ (l : List (List ℕ)). step_bytes key x ∷ l) (map_one_more key steps step)
+
+-- the bytes of one step more
+pub bytes_of_step : (key : Option (List ℕ)) (steps : List Step) (step : Step) (bytes new : List ℕ) → bytes ≡ turn_bytes key steps → new ≡ bytes ++ step_bytes key step → new ≡ turn_bytes key (steps ++ step ∷ [])
+bytes_of_step key steps step bytes new is e = e ∙ (ap (λ (l : List ℕ). l ++ step_bytes key step) is ∙ flat_map_more (step_bytes key) [] steps step)
+
+-- the ends of the pieces of one step more
+pub ends_of_step : (key : Option (List ℕ)) (steps : List Step) (step : Step) (bytes old new : List ℕ) → bytes ≡ turn_bytes key steps → old ≡ ends_of 0 (without_empty (map (step_bytes key) steps))
+    → new ≡ old ++ ends_of (length bytes) (without_empty (step_bytes key step ∷ [])) → new ≡ ends_of 0 (without_empty (map (step_bytes key) (steps ++ step ∷ [])))
+ends_of_step key steps step bytes old new is o e =
+    let lists = map (step_bytes key) steps in
+    let piece = step_bytes key step in
+    let long : length bytes ≡ 0 + length (concat (without_empty lists)) =
+    omega (arith, ap (λ (l : List ℕ). length l) (is ∙ sym (joined_without_empty lists ∙ bytes_of_map key steps))) in
+    e ∙ (ap (λ (l : List ℕ). l ++ ends_of (length bytes) (without_empty (piece ∷ []))) o
+    ∙ (ap (λ (n : ℕ). ends_of 0 (without_empty lists) ++ ends_of n (without_empty (piece ∷ []))) long
+    ∙ (sym (ends_more 0 (without_empty lists) (without_empty (piece ∷ [])))
+    ∙ ap (λ (l : List (List ℕ)). ends_of 0 l) (sym (ap (λ (l : List (List ℕ)). without_empty l) (map_one_more key steps step) ∙ without_empty_more lists piece)))))
+
+-- the bytes and ends of all steps are those of their pieces
+pub ends_of_steps : (key : Option (List ℕ)) (steps : List Step) (bytes ends : List ℕ) → bytes ≡ turn_bytes key steps → ends ≡ ends_of 0 (without_empty (map (step_bytes key) steps))
+    → AreEndsOf (without_empty (map (step_bytes key) steps)) bytes ends
+ends_of_steps key steps bytes ends is e = record {
+  joined = joined_without_empty (map (step_bytes key) steps) ∙ (bytes_of_map key steps ∙ sym is);
+  ends_are = e;
+}

@@ -8,5 +8,6 @@ pub mod CaseNames
 pub mod InnerCapturing
 pub mod InnerScripting
 pub mod InnerCases
+pub mod InnerCutting
 pub mod Examples
 pub mod InnerComparing

@@ -1,8 +1,9 @@
 //! A script as what goes over the wire: turns, and the pieces of each (RFC 6455 section 5.2).
 
 ghost use Rattle.std.specs.Prelude.{◌≡◌, ◌+◌, ◌-◌, ◌^◌, ◌<◌, ◌≤◌, ◌++◌, [], ◌∷◌, length, take, drop, min, flat_map};
-ghost use Rattle.std.specs.Prelude.{IfOk, OnOk};
+ghost use Rattle.std.specs.Prelude.{IfOk, OnOk, List, ℕ};
 ghost use Rattle.std.specs.List.{AllByRecursion};
+ghost use Rattle.ws_scripts.specs.InnerCutting.{ends_of};
 ghost use Rattle.ws_scripts.specs.Scripts.{ArePieces, AreTurns, CanBeRun, CutsOff, FitHeaders, FitsAHeader};
 ghost use Rattle.ws_scripts.specs.Scripts.{IsAct, is_wait, step_bytes, turn_bytes, turns_of, without_empty};
 ghost use Rattle.ws_wire.specs.Frame.{Frame, KeyedFrame, frame_bytes, sent_as};
@@ -10,17 +11,14 @@ ghost use Rattle.ws_wire.specs.Header.{header_bytes};
 ghost use Rattle.ws_scripts.specs.declared.script.Chop.TheVariants.{Octets, PerFrame, Whole};
 ghost use Rattle.ws_scripts.specs.declared.script.Step.TheVariants.{Wait};
 
+use crate::cut_turn::CutTurn;
 use crate::script::{Case, Chop, Step};
 use std::alloc::Global;
-use ws_base::{NoMemory, Payload, Sequence};
+use ws_base::{NoMemory, Sequence};
 use ws_wire::{Header, append_frame};
 
 /// What a client sends for a script, its frames masked with `key`: that of `turns_with` with this key.
-pub fn turns(
-    alloc: Global,
-    case: &Case,
-    key: [u8; 4],
-) -> Result<Sequence<Sequence<Payload>>, NoMemory>
+pub fn turns(alloc: Global, case: &Case, key: [u8; 4]) -> Result<Sequence<CutTurn>, NoMemory>
     requires { CanBeRun case.now }
     ensures { IfOk result (λ turns. AreTurns case.now (Some key) turns) }
 {
@@ -34,7 +32,7 @@ pub fn turns_with(
     alloc: Global,
     case: &Case,
     key: Option<[u8; 4]>,
-) -> Result<Sequence<Sequence<Payload>>, NoMemory>
+) -> Result<Sequence<CutTurn>, NoMemory>
     requires { CanBeRun case.now }
     ensures { IfOk result (λ turns. AreTurns case.now key turns) }
 {
@@ -103,7 +101,7 @@ fn pieces_of(
     chop: Chop,
     key: Option<[u8; 4]>,
     steps: &[Step],
-) -> Result<Sequence<Payload>, NoMemory>
+) -> Result<CutTurn, NoMemory>
     requires fit { FitHeaders steps.now }
     requires cuts { CutsOff chop }
     ensures { IfOk result (λ pieces. ArePieces chop key steps.now pieces) }
@@ -116,28 +114,14 @@ fn pieces_of(
 }
 
 /// The bytes of a turn as one piece, or none where there are no bytes.
-fn one_piece(
-    alloc: Global,
-    key: Option<[u8; 4]>,
-    steps: &[Step],
-) -> Result<Sequence<Payload>, NoMemory>
+fn one_piece(alloc: Global, key: Option<[u8; 4]>, steps: &[Step]) -> Result<CutTurn, NoMemory>
     requires { FitHeaders steps.now }
     ensures { IfOk result (λ pieces. ArePieces Whole key steps.now pieces) }
 {
     let bytes = bytes_of(alloc, key, steps)?;
-    let mut pieces = Vec::new(alloc);
-    push_if_any(bytes, &mut pieces)?;
-    Ok(Sequence::from_vec(pieces))
-}
-
-/// Puts the bytes after the pieces where there are any.
-fn push_if_any(bytes: Vec<u8>, pieces: &mut Vec<Payload>) -> Result<(), NoMemory>
-    ensures { OnOk result (pieces.new.items ≡ pieces.old.items ++ without_empty (bytes.items ∷ [])) }
-{
-    if !bytes.is_empty() {
-        pieces.push(Payload::from_vec(bytes))?;
-    }
-    Ok(())
+    let count = bytes.len().max(1);
+    let pieces = CutTurn::every(bytes, count);
+    Ok(pieces)
 }
 
 /// The bytes of each step as a piece, where there are any.
@@ -145,39 +129,41 @@ fn one_piece_a_step(
     alloc: Global,
     key: Option<[u8; 4]>,
     steps: &[Step],
-) -> Result<Sequence<Payload>, NoMemory>
+) -> Result<CutTurn, NoMemory>
     requires { FitHeaders steps.now }
     ensures { IfOk result (λ pieces. ArePieces PerFrame key steps.now pieces) }
 {
-    let mut pieces = Vec::new(alloc);
+    let mut bytes = Vec::with_capacity(alloc, room_for(steps, key))?;
+    let mut ends = Vec::with_capacity(alloc, steps.len())?;
     for step in steps {
-        let mut bytes = Vec::new(alloc);
+        let before = bytes.len();
         append_step(step, key, &mut bytes)?;
-        push_if_any(bytes, &mut pieces)?;
+        push_end(before, bytes.len(), &mut ends)?;
     }
-    Ok(Sequence::from_vec(pieces))
+    let pieces = CutTurn::at(bytes, ends);
+    Ok(pieces)
+}
+
+/// Puts where a piece ends that begins at a place after the ends of those before it, where it has any bytes.
+fn push_end(before: usize, end: usize, ends: &mut Vec<usize>) -> Result<(), NoMemory>
+    ensures { (piece : List ℕ) → before + length piece ≡ end
+        → OnOk result (ends.new.items ≡ ends.old.items ++ ends_of before (without_empty (piece ∷ []))) }
+{
+    if before < end {
+        ends.push(end)?;
+    }
+    Ok(())
 }
 
 /// The bytes of a turn in pieces of `n` bytes, the last of them as long as it comes.
-fn octets(
-    alloc: Global,
-    n: u32,
-    key: Option<[u8; 4]>,
-    steps: &[Step],
-) -> Result<Sequence<Payload>, NoMemory>
+fn octets(alloc: Global, n: u32, key: Option<[u8; 4]>, steps: &[Step]) -> Result<CutTurn, NoMemory>
     requires fit { FitHeaders steps.now }
     requires cuts { 0 < n }
     ensures { IfOk result (λ pieces. ArePieces (Octets n) key steps.now pieces) }
 {
     let bytes = bytes_of(alloc, key, steps)?;
-    let mut pieces = Vec::new(alloc);
-    let mut rest = bytes.as_slice();
-    while !rest.is_empty() {
-        let (piece, after) = rest.split_at(rest.len().min(n as usize));
-        pieces.push(Payload::from_vec(piece.to_vec(alloc)?))?;
-        rest = after;
-    }
-    Ok(Sequence::from_vec(pieces))
+    let pieces = CutTurn::every(bytes, n as usize);
+    Ok(pieces)
 }
 
 /// The bytes of a turn.

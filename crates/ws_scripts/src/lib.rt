@@ -10,6 +10,7 @@
 
 mod capture;
 mod cases;
+mod cut_turn;
 mod cutting;
 mod expectation;
 pub mod laws;
@@ -21,6 +22,7 @@ pub use capture::{
     Capture, CaptureFault, read_capture, read_capture2, write_capture, write_capture2,
 };
 pub use cases::{all_ids, case, ids};
+pub use cut_turn::CutTurn;
 pub use cutting::{append_step, bytes_with, turns, turns_with};
 pub use expectation::Expectation;
 pub use script::{Case, Chop, Step};

@@ -1,5 +1,5 @@
 -- Each part is asked for the name.
-use Rattle.std.proofs.Common.{◌≡◌, ◌∙◌, ℕ, List, [], get_or, length, rules, string_bytes, subst, sym, arith, refl}
+use Rattle.std.proofs.Common.{ℕ, List, [], string_bytes, subst, sym, arith}
 use Rattle.std.specs.List.{Contains}
 use Rattle.ws_scripts.specs.declared.script.Case.{Case}
 use Rattle.ws_scripts.specs.CaseNames.{case_names}

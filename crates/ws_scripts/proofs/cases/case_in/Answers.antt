@@ -1,5 +1,5 @@
 -- Each section is asked for the name.
-use Rattle.std.proofs.Common.{List, rules, subst, sym}
+use Rattle.std.proofs.Common.{List, subst, sym}
 use Rattle.std.proofs.lemmas.List.{take_all}
 use Rattle.std.specs.List.{Contains}
 use Rattle.ws_scripts.specs.declared.cases.row.Section.{Section}

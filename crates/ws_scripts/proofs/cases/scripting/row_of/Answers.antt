@@ -1,5 +1,5 @@
 -- Each row is compared with the name.
-use Rattle.std.proofs.Common.{List, arith, map, rules, subst, sym}
+use Rattle.std.proofs.Common.{List, map, subst, sym}
 use Rattle.std.proofs.lemmas.List.{take_all}
 use Rattle.std.specs.List.{Contains}
 use Rattle.ws_scripts.specs.declared.cases.row.Row.{Row}
