@@ -83,6 +83,10 @@ write_event (write.Taken count) = event.Taken count
 write_event write.Failed = event.WriteFailed
 write_event (write.DeadlinePassed waited) = event.DeadlinePassed waited
 
+-- a stream has done one thing more
+abbrev pub DidOne : {S : Type 0} → (S → S → List Told → Type 0) → S → S → Type 0
+DidOne {S} did old new = (event : Told) × Extends did old new (event ∷ [])
+
 -- ---- a machine and its stream
 
 -- What a machine wants is done in this order: lines are reported, then its own direction is ended, then bytes are

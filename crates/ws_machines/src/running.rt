@@ -1,7 +1,7 @@
 //! The run of one machine over one stream that waits.
 
 ghost use Rattle.std.specs.Prelude.{◌≡◌, ◌<◌, [], true, false, length, OnOk};
-ghost use Rattle.ws_machines.specs.Machines.{HasNext, IsRunning, RunTogether, ServedOne};
+ghost use Rattle.ws_machines.specs.Machines.{DidOne, HasNext, IsRunning, RunTogether, ServedOne};
 
 use crate::machine::Machine;
 use crate::stream::{Stream, StreamEvent};
@@ -25,7 +25,8 @@ pub fn run_machine<M: Machine, S: Stream>(
 }
 
 /// Does one thing that the machine wants, and tells it what came of that: its lines are reported first, then its own
-/// direction is ended, then what it wants is written, and then it is read, into `room`.
+/// direction is ended, then what it wants is written, and then it is read, into `room`. Also where memory ran out the
+/// stream has done that one thing; only of lines that could not be reported nothing is said.
 pub fn serve<M: Machine, S: Stream>(
     machine: &mut M,
     stream: &mut S,
@@ -37,6 +38,7 @@ pub fn serve<M: Machine, S: Stream>(
     ensures served { OnOk result (ServedOne M.agrees M.wants S.did machine.old machine.new stream.old stream.new) }
     ensures goes_on { OnOk result (HasNext (M.wants machine.new)) }
     ensures nears { OnOk result (IsRunning M.agrees machine.old → M.left machine.new < M.left machine.old) }
+    ensures did { (M.wants machine.old).report ≡ [] → DidOne S.did stream.old stream.new }
     ensures len { length room.new ≡ length room.old }
 {
     act(machine, stream, room)?;
@@ -58,6 +60,7 @@ fn act<M: Machine, S: Stream>(
     ensures served { OnOk result (ServedOne M.agrees M.wants S.did machine.old machine.new stream.old stream.new) }
     ensures goes_on { OnOk result (HasNext (M.wants machine.new)) }
     ensures nears { OnOk result (IsRunning M.agrees machine.old → M.left machine.new < M.left machine.old) }
+    ensures did { (M.wants machine.old).report ≡ [] → DidOne S.did stream.old stream.new }
     ensures len { length room.new ≡ length room.old }
 {
     if !machine.to_report().is_empty() {
@@ -97,6 +100,7 @@ fn end_direction<M: Machine, S: Stream>(machine: &mut M, stream: &mut S) -> Resu
     ensures served { OnOk result (ServedOne M.agrees M.wants S.did machine.old machine.new stream.old stream.new) }
     ensures goes_on { OnOk result (HasNext (M.wants machine.new)) }
     ensures nears { OnOk result (IsRunning M.agrees machine.old → M.left machine.new < M.left machine.old) }
+    ensures did { DidOne S.did stream.old stream.new }
 {
     stream.end_direction();
     machine.on_event(StreamEvent::DirectionEnded)?;
@@ -112,6 +116,7 @@ fn write<M: Machine, S: Stream>(machine: &mut M, stream: &mut S) -> Result<(), S
     ensures served { OnOk result (ServedOne M.agrees M.wants S.did machine.old machine.new stream.old stream.new) }
     ensures goes_on { OnOk result (HasNext (M.wants machine.new)) }
     ensures nears { OnOk result (IsRunning M.agrees machine.old → M.left machine.new < M.left machine.old) }
+    ensures did { DidOne S.did stream.old stream.new }
 {
     let outcome = stream.write(machine.to_write());
     machine.on_event(outcome.event())?;
@@ -133,6 +138,7 @@ fn read<M: Machine, S: Stream>(
     ensures served { OnOk result (ServedOne M.agrees M.wants S.did machine.old machine.new stream.old stream.new) }
     ensures goes_on { OnOk result (HasNext (M.wants machine.new)) }
     ensures nears { OnOk result (IsRunning M.agrees machine.old → M.left machine.new < M.left machine.old) }
+    ensures did { DidOne S.did stream.old stream.new }
     ensures len { length room.new ≡ length room.old }
 {
     let len = machine.room().min(room.len());
