@@ -206,7 +206,7 @@ got_last turns turn = map-append (λ (t : Turn). t.got) turns (turn ∷ [])
 
 module _ {K : Type 0} {keeps : K → List (InTurn Reply) → Type 0} (tested : Role) (x v : GrowingValue K) (same : x ≡ v) where
   pub next_turn : (turns : List Turn) (n : ℕ) → n ≡ min (x.turns + 1) (2 ^ 64 - 1) → length turns + 1 < 2 ^ 64 → HasGrown keeps tested turns v
-      → HasGrown keeps tested (turns ++ new_turn ∷ []) (record { due = x.due; got = x.got; tested = x.tested; tester = x.tester; turns = n })
+      → HasGrown keeps tested (turns ++ new_turn ∷ []) (record { due = x.due; got = x.got; tested = x.tested; tester = x.tester; turns = n; pings = x.pings })
   next_turn turns n e room grown =
       let h = subst (λ (y : GrowingValue K). HasGrown keeps tested turns y) (sym same) grown in
       record {
@@ -233,10 +233,10 @@ module _ {K : Type 0} {keeps : K → List (InTurn Reply) → Type 0} (tested : R
     same_count other = omega (arith, h.count, length-append before (turn ∷ []), length-append before (other ∷ []))
 
     -- what was got is kept for the same replies, whatever is wanted of them from here on
-    pub more_sent : (bytes : List ℕ) (session : SessionValue) (due : Collected K) (replies : K)
+    pub more_sent : (bytes : List ℕ) (session : SessionValue) (due : Collected K) (replies : K) (pings : List (List ℕ))
         → ((l : List (InTurn Reply)) → keeps x.got.replies l → keeps replies l) → HasTakenTurns keeps due_for tested (sent_turns before ++ (turn.sent ++ bytes) ∷ []) session due
-        → HasGrown keeps tested (before ++ turn_with_sent turn bytes ∷ []) (record { due = due; got = record { replies = replies; ending = x.got.ending; has_rest = x.got.has_rest }; tested = session; tester = x.tester; turns = x.turns })
-    more_sent bytes session due replies same_replies t = record {
+        → HasGrown keeps tested (before ++ turn_with_sent turn bytes ∷ []) (record { due = due; got = record { replies = replies; ending = x.got.ending; has_rest = x.got.has_rest }; tested = session; tester = x.tester; turns = x.turns; pings = pings })
+    more_sent bytes session due replies pings same_replies t = record {
       due = subst (λ (l : List (List ℕ)). HasTakenTurns keeps due_for tested l session due) (sym (sent_last before (turn_with_sent turn bytes))) t;
       got = subst (λ (l : List (List ℕ)). HasTakenTurns keeps got_in (other_role tested) l x.tester (record { replies = replies; ending = x.got.ending; has_rest = x.got.has_rest })) (sym (got_last before (turn_with_sent turn bytes)))
           (record {
@@ -253,9 +253,9 @@ module _ {K : Type 0} {keeps : K → List (InTurn Reply) → Type 0} (tested : R
       count = same_count (turn_with_sent turn bytes);
     }
 
-    pub more_got : (bytes : List ℕ) (session : SessionValue) (got : Collected K) → HasTakenTurns keeps got_in (other_role tested) (got_turns before ++ (turn.got ++ bytes) ∷ []) session got
-        → HasGrown keeps tested (before ++ turn_with_got turn bytes ∷ []) (record { due = x.due; got = got; tested = x.tested; tester = session; turns = x.turns })
-    more_got bytes session got t = record {
+    pub more_got : (bytes : List ℕ) (session : SessionValue) (got : Collected K) (pings : List (List ℕ)) → HasTakenTurns keeps got_in (other_role tested) (got_turns before ++ (turn.got ++ bytes) ∷ []) session got
+        → HasGrown keeps tested (before ++ turn_with_got turn bytes ∷ []) (record { due = x.due; got = got; tested = x.tested; tester = session; turns = x.turns; pings = pings })
+    more_got bytes session got pings t = record {
       due = subst (λ (l : List (List ℕ)). HasTakenTurns keeps due_for tested l x.tested x.due) (sym (sent_last before (turn_with_got turn bytes))) due_so_far;
       got = subst (λ (l : List (List ℕ)). HasTakenTurns keeps got_in (other_role tested) l session got) (sym (got_last before (turn_with_got turn bytes))) t;
       count = same_count (turn_with_got turn bytes);

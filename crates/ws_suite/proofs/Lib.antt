@@ -9,6 +9,8 @@ mod PlaceLemmas
 mod LastTurns
 mod OwedLemmas
 mod TellingLemmas
+mod ProgressLemmas
+mod UnansweredLemmas
 mod GrowingLemmas
 mod DoomLemmas
 mod LastBytes

@@ -100,13 +100,15 @@ AnswersTally due got = (due.messages ≤ got.messages) × IsAnsweredPong due.las
 -- ---- the evidence that grows
 
 -- both directions as they were collected, with what is kept of their replies; the sessions of the tested end, which has
--- taken what was sent, and of the tester, which has taken what was got; and how many turns have begun
+-- taken what was sent, and of the tester, which has taken what was got; how many turns have begun; and the pings that
+-- were sent and aren't answered yet
 pub record GrowingValue (K : Type 0) : Type 0 where
   pub due : Collected K
   pub got : Collected K
   pub tested : SessionValue
   pub tester : SessionValue
   pub turns : ℕ
+  pub pings : List (List ℕ)
 
 -- A session of this role that takes the largest messages has taken the bytes of these turns, and what is collected is
 -- what is found in them. What is kept stands for the replies so as `keeps` tells.

@@ -8,6 +8,7 @@ pub mod Protocol
 pub mod Explanation
 pub mod Fairness
 pub mod AppFairness
+pub mod Progress
 pub mod Growing
 pub mod Waiting
 pub mod Words
@@ -21,3 +22,4 @@ pub mod InnerChosen
 pub mod InnerAnswered
 pub mod InnerInStep
 pub mod InnerTally
+pub mod InnerProgress

@@ -43,11 +43,13 @@ verdict_words (Fail why) = codes "FAIL " ++ fail_name why
 -- the rule that was broken, where the tested end has this role
 abbrev pub fail_rule : Role → FailWhy → List ℕ
 fail_rule Server fail.NotFrames =
-    codes "Whatever a server sends must be valid: whole frames without a mask (RFC 6455 section 5), text in "
-    ++ codes "UTF-8 (section 8.1), and nothing after its close frame (ours)"
+    codes "Whatever a server sends must be valid: whole unmasked frames in a valid order, with valid lengths "
+    ++ codes "and close payloads (RFC 6455 section 5), text in UTF-8 (section 8.1), and nothing after its close "
+    ++ codes "frame (ours)"
 fail_rule Client fail.NotFrames =
-    codes "Whatever a client sends must be valid: whole frames with a mask (RFC 6455 section 5), text in "
-    ++ codes "UTF-8 (section 8.1), and nothing after its close frame (ours)"
+    codes "Whatever a client sends must be valid: whole masked frames in a valid order, with valid lengths and "
+    ++ codes "close payloads (RFC 6455 section 5), text in UTF-8 (section 8.1), and nothing after its close frame "
+    ++ codes "(ours)"
 fail_rule tested fail.Early =
     codes "A pong, a close frame or an echo is sent only after what it answers (ours; RFC 6455 allows "
     ++ codes "unprompted pongs in section 5.5.3 and, from a server, an unprompted close in section 7.3)"
@@ -55,15 +57,15 @@ fail_rule tested fail.Messages =
     codes "An echo sends back each message, in order, with its kind and payload (ours; RFC 6455 sections 5.4 "
     ++ codes "and 5.6 define a message); if a violation was sent, messages just before it may be missing"
 fail_rule tested fail.Pongs =
-    codes "Each pong answers a ping, with its payload (RFC 6455 section 5.5.3), that came before any "
-    ++ codes "violation (section 7.1.7) and that no other pong answers (ours); the last ping is answered "
-    ++ codes "(section 5.5.2)"
+    codes "Each pong has the payload of the ping that it answers (RFC 6455 section 5.5.3); a ping is answered "
+    ++ codes "at most once (ours), one that is or follows a violation not at all (section 7.1.7), and the last of "
+    ++ codes "the others always (section 5.5.2)"
 fail_rule tested fail.Close =
     codes "A close frame is answered by a close frame (RFC 6455 section 5.5.1), and none is sent unless a "
     ++ codes "close frame or a violation was received (ours)"
 fail_rule Server fail.End =
-    codes "After a close frame or a violation, a server ends the connection (RFC 6455 sections 5.5.1 and "
-    ++ codes "7.1.7; for some violations ours); otherwise it does not (ours)"
+    codes "After a close frame (RFC 6455 section 5.5.1) or a violation (section 7.1.7; ours where the broken "
+    ++ codes "rule is), a server ends the connection; without either, it does not (ours)"
 fail_rule Client fail.End =
     codes "After a close frame or a violation, a client sends a close frame or ends the connection (RFC 6455 "
     ++ codes "sections 5.5.1 and 7.1.7); otherwise it does not end it (ours)"
@@ -114,12 +116,12 @@ loose_rule tested loose.TooBig =
 -- the rule of the standard that an end broke which needn't echo; it has no rule that an echo alone keeps
 abbrev pub protocol_rule : Role → FailWhy → List ℕ
 protocol_rule Server fail.NotFrames =
-    codes "Whatever a server sends must be valid: whole frames without a mask (RFC 6455 section 5), text in "
-    ++ codes "UTF-8 (section 8.1), close codes that may be sent (section 7.4) and no data frame after its close "
-    ++ codes "frame (section 5.5.1)"
+    codes "Whatever a server sends must be valid: whole unmasked frames in a valid order (RFC 6455 section 5), "
+    ++ codes "text in UTF-8 (section 8.1), close codes that may be sent (section 7.4) and no data frame after its "
+    ++ codes "close frame (section 5.5.1)"
 protocol_rule Client fail.NotFrames =
-    codes "Whatever a client sends must be valid: whole frames with a mask (RFC 6455 section 5), text in "
-    ++ codes "UTF-8 (section 8.1) and close codes that may be sent (section 7.4)"
+    codes "Whatever a client sends must be valid: whole masked frames in a valid order (RFC 6455 section 5), "
+    ++ codes "text in UTF-8 (section 8.1) and close codes that may be sent (section 7.4)"
 protocol_rule tested fail.Early = fail_rule tested fail.Early
 protocol_rule tested fail.Messages = fail_rule tested fail.Messages
 protocol_rule tested fail.Pongs =

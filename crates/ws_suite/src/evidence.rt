@@ -13,6 +13,8 @@ mod kept;
 mod marks;
 mod streams;
 mod telling;
+mod unanswered;
+mod watching;
 mod wire_frames;
 
 pub(crate) use doom::with_doom;

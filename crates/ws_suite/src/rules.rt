@@ -41,11 +41,13 @@ fn fail_rule(tested: Role, why: FailWhy) -> &'static str
     match why {
         FailWhy::NotFrames => match tested {
             Role::Server =>
-                "Whatever a server sends must be valid: whole frames without a mask (RFC 6455 \
-                 section 5), text in UTF-8 (section 8.1), and nothing after its close frame (ours)",
+                "Whatever a server sends must be valid: whole unmasked frames in a valid order, with valid lengths \
+                 and close payloads (RFC 6455 section 5), text in UTF-8 (section 8.1), and nothing after its close \
+                 frame (ours)",
             Role::Client =>
-                "Whatever a client sends must be valid: whole frames with a mask (RFC 6455 section \
-                 5), text in UTF-8 (section 8.1), and nothing after its close frame (ours)",
+                "Whatever a client sends must be valid: whole masked frames in a valid order, with valid lengths \
+                 and close payloads (RFC 6455 section 5), text in UTF-8 (section 8.1), and nothing after its close \
+                 frame (ours)",
         },
         FailWhy::Early =>
             "A pong, a close frame or an echo is sent only after what it answers (ours; RFC 6455 allows \
@@ -55,16 +57,16 @@ fn fail_rule(tested: Role, why: FailWhy) -> &'static str
              sections 5.4 and 5.6 define a message); if a violation was sent, messages just before \
              it may be missing",
         FailWhy::Pongs =>
-            "Each pong answers a ping, with its payload (RFC 6455 section 5.5.3), that came before \
-             any violation (section 7.1.7) and that no other pong answers (ours); the last ping is \
-             answered (section 5.5.2)",
+            "Each pong has the payload of the ping that it answers (RFC 6455 section 5.5.3); a ping is answered at \
+             most once (ours), one that is or follows a violation not at all (section 7.1.7), and the last of the \
+             others always (section 5.5.2)",
         FailWhy::Close =>
             "A close frame is answered by a close frame (RFC 6455 section 5.5.1), and none is sent unless \
              a close frame or a violation was received (ours)",
         FailWhy::End => match tested {
             Role::Server =>
-                "After a close frame or a violation, a server ends the connection (RFC 6455 \
-                 sections 5.5.1 and 7.1.7; for some violations ours); otherwise it does not (ours)",
+                "After a close frame (RFC 6455 section 5.5.1) or a violation (section 7.1.7; ours where the broken \
+                 rule is), a server ends the connection; without either, it does not (ours)",
             Role::Client =>
                 "After a close frame or a violation, a client sends a close frame or ends the \
                  connection (RFC 6455 sections 5.5.1 and 7.1.7); otherwise it does not end it \
@@ -134,12 +136,12 @@ fn protocol_rule(tested: Role, why: FailWhy) -> &'static str
     match why {
         FailWhy::NotFrames => match tested {
             Role::Server =>
-                "Whatever a server sends must be valid: whole frames without a mask (RFC 6455 \
-                 section 5), text in UTF-8 (section 8.1), close codes that may be sent (section \
-                 7.4) and no data frame after its close frame (section 5.5.1)",
+                "Whatever a server sends must be valid: whole unmasked frames in a valid order (RFC 6455 section \
+                 5), text in UTF-8 (section 8.1), close codes that may be sent (section 7.4) and no data frame \
+                 after its close frame (section 5.5.1)",
             Role::Client =>
-                "Whatever a client sends must be valid: whole frames with a mask (RFC 6455 section \
-                 5), text in UTF-8 (section 8.1) and close codes that may be sent (section 7.4)",
+                "Whatever a client sends must be valid: whole masked frames in a valid order (RFC 6455 section 5), \
+                 text in UTF-8 (section 8.1) and close codes that may be sent (section 7.4)",
         },
         FailWhy::Early | FailWhy::Messages => fail_rule(tested, why),
         FailWhy::Pongs =>

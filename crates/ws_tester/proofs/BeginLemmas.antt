@@ -1,11 +1,14 @@
 -- A run begins: what is shown of it before anything is sent, and what comes of that.
-use Rattle.std.proofs.Common.{◌≡◌, ◌∙◌, ℕ, ◌||◌, Bool, true, false, List, [], ◌∷◌, sym, ap, subst, append-nil}
+use Rattle.std.proofs.Common.{◌≡◌, ◌∙◌, ℕ, ◌||◌, Bool, true, false, List, [], ◌∷◌, refl, sym, ap, subst, append-nil}
 use Rattle.std.specs.Prelude.{None}
 use Rattle.ws_session.specs.Exchange.{is_over}
 use Rattle.ws_scripts.specs.declared.transcript.Ended.TheVariants.{Tester}
 use Rattle.ws_scripts.specs.declared.transcript.Turn.{Turn}
 use Rattle.ws_suite.specs.Evidence.{other_role}
+use Rattle.ws_session.specs.declared.event.Event.{Event}
+use Rattle.ws_session.specs.declared.event.Event.TheVariants as event
 use Rattle.ws_suite.specs.Growing.{HasGrown, IsTallyOf}
+use Rattle.ws_suite.specs.Progress.{after_pong, after_pongs}
 use Rattle.ws_tester.specs.Standings.{HasServerClose, HasStanding, is_server_close, standing_of_status}
 use Rattle.ws_tester.specs.Outcomes.{HasSentEnd, got_in_all}
 use Rattle.ws_tester.specs.Outgoings.{OutgoingValue, Pieces, after_first, first_turn}
@@ -15,9 +18,22 @@ use Rattle.ws_tester.proofs.FactsLemmas.{got_stands, sent_end}
 
 -- ---- the state before anything is sent
 
+-- pongs that come before any ping was sent answer none
+no_ping : (e : Event) → after_pong [] e ≡ []
+no_ping event.Part = refl
+no_ping (event.Message message) = refl
+no_ping (event.Ping payload) = refl
+no_ping (event.Pong payload) = refl
+no_ping (event.Close close) = refl
+no_ping (event.Failed reason) = refl
+
+pub no_pings : (events : List Event) → after_pongs [] events ≡ []
+no_pings [] = refl
+no_pings (e ∷ events) = ap (λ (l : List (List ℕ)). after_pongs l events) (no_ping e) ∙ no_pings events
+
 -- of these parts
-abbrev of_parts : ScriptValue → Bool → Bool → List Turn → List ℕ → Pieces → List Pieces → RunState
-of_parts run closing begun past sent rest later = record {
+abbrev of_parts : ScriptValue → Bool → Bool → List Turn → List ℕ → Pieces → List Pieces → List (List ℕ) → RunState
+of_parts run closing begun past sent rest later pings = record {
   plan = run.plan;
   past = past;
   turn = record { sent = sent; got = run.first };
@@ -26,20 +42,24 @@ of_parts run closing begun past sent rest later = record {
   closing = closing;
   half_closed = false;
   write_failed = false;
+  pings = pings;
+  waits_anew = true;
   begun = begun;
   ended = None;
 }
 
 pub first_state_is : (run : ScriptValue) (closing begun : Bool) (past : List Turn) (sent : List ℕ)
-    (outgoing : OutgoingValue) → past ≡ [] → sent ≡ [] → outgoing.rest ≡ first_turn run.script
-    → outgoing.later ≡ after_first run.script → begun ≡ (has_items run.script || has_items run.first)
-    → of_parts run closing begun past sent outgoing.rest outgoing.later ≡ first_state run closing
-first_state_is run closing begun past sent outgoing no_turn no_byte rest later some =
-    ap (λ (l : List Turn). of_parts run closing begun l sent outgoing.rest outgoing.later) no_turn
-    ∙ (ap (λ (l : List ℕ). of_parts run closing begun [] l outgoing.rest outgoing.later) no_byte
-    ∙ (ap (λ (l : Pieces). of_parts run closing begun [] [] l outgoing.later) rest
-    ∙ (ap (λ (l : List Pieces). of_parts run closing begun [] [] (first_turn run.script) l) later
-    ∙ ap (λ (b : Bool). of_parts run closing b [] [] (first_turn run.script) (after_first run.script)) some)))
+    (outgoing : OutgoingValue) (pings : List (List ℕ)) → past ≡ [] → sent ≡ [] → outgoing.rest ≡ first_turn run.script
+    → outgoing.later ≡ after_first run.script → begun ≡ (has_items run.script || has_items run.first) → pings ≡ []
+    → of_parts run closing begun past sent outgoing.rest outgoing.later pings ≡ first_state run closing
+first_state_is run closing begun past sent outgoing pings no_turn no_byte rest later some none =
+    ap (λ (l : List Turn). of_parts run closing begun l sent outgoing.rest outgoing.later pings) no_turn
+    ∙ (ap (λ (l : List ℕ). of_parts run closing begun [] l outgoing.rest outgoing.later pings) no_byte
+    ∙ (ap (λ (l : Pieces). of_parts run closing begun [] [] l outgoing.later pings) rest
+    ∙ (ap (λ (l : List Pieces). of_parts run closing begun [] [] (first_turn run.script) l pings) later
+    ∙ (ap (λ (b : Bool). of_parts run closing b [] [] (first_turn run.script) (after_first run.script) pings) some
+    ∙ ap (λ (l : List (List ℕ)). of_parts run closing (has_items run.script || has_items run.first) [] []
+    (first_turn run.script) (after_first run.script) l) none))))
 
 -- ---- the beginning
 

@@ -14,8 +14,10 @@ use Rattle.ws_tester.specs.Outgoings.{Pieces, after_first, first_piece}
 use Rattle.ws_tester.specs.Outcomes.{AreFacts, by_deadline, by_silence, next_or_end, outcome_of, outcome_of_event}
 use Rattle.ws_tester.specs.Outcomes.{unless_failed}
 use Rattle.ws_tester.specs.RunStates.{RunState, has_more, is_all_sent, run_left, some_turn, turns_of_run, wanted_in}
-use Rattle.ws_tester.specs.RunStates.{with_run_end, with_next_turn, with_taken}
-use Rattle.ws_tester.specs.Following.{Changes, LeadsOnBy, Happens, ShowsTurns, Settles, TesterValue, WasTold}
+use Rattle.ws_suite.specs.Progress.{NotesSent}
+use Rattle.ws_tester.specs.RunStates.{with_anew, with_run_end, with_next_turn, with_taken, with_unanswered}
+use Rattle.ws_tester.specs.Following.{Changes, LeadsOnBy, Happens, HearsTaken, ShowsTurns, Settles, TesterValue}
+use Rattle.ws_tester.specs.Following.{WasTold}
 use Rattle.ws_tester.specs.declared.outcome.Outcome.{Outcome}
 use Rattle.ws_tester.specs.declared.outcome.Outcome.TheVariants.{Rests, Next, Ends}
 use Rattle.ws_tester.specs.declared.outcome.TurnFacts.{TurnFacts}
@@ -97,17 +99,25 @@ module _ (old heard new : TesterValue) (ev : StreamEvent) (may : MayBeTold (want
 -- what is taken of what is wanted is taken of the piece that is next
 pub taken_changes : (old new : TesterValue) (ev : StreamEvent) (count : ℕ) → ev ≡ event.Taken count
     → is_some old.run.ended ≡ false
-    → new.run ≡ with_taken (take count (first_piece old.run.outgoing.rest)) old.run
+    → new.run ≡ with_anew true (with_unanswered new.run.pings
+    (with_taken (take count (first_piece old.run.outgoing.rest)) old.run))
     → new.had_sent_end ≡ old.had_sent_end
     → ((tested : Role) (past : List Turn) (turn : Turn) → HasGrown IsTallyOf tested (past ++ turn ∷ []) old.seen
     → HasGrown IsTallyOf tested
     (past ++ turn_with_sent turn (take count (first_piece old.run.outgoing.rest)) ∷ []) new.seen)
+    → ((tested : Role) (past : List Turn) (turn : Turn) → HasGrown IsTallyOf tested (past ++ turn ∷ []) old.seen
+    → NotesSent tested (past ++ turn ∷ []) (take count (first_piece old.run.outgoing.rest)) old.run.pings new.run.pings)
     → ShowsTurns old → Changes (told_at (wanted_in old.run) ev) old.run new.run × ShowsTurns new
-taken_changes old new ev count e undone taken before grown shown = (
+taken_changes old new ev count e undone taken before grown noted shown = (
   subst (λ (x : StreamEvent). Changes (told_at (wanted_in old.run) x) old.run new.run) (sym e)
-      (subst (λ (l : List ℕ). new.run ≡ with_taken (take count l) old.run) (sym (piece_of old.run (goes old.run undone)))
-      taken),
-  taken_shown old new (take count (first_piece old.run.outgoing.rest)) taken before
+      (subst (λ (l : List ℕ). HearsTaken (take count l) old.run (with_taken (take count l) old.run) new.run)
+      (sym (piece_of old.run (goes old.run undone)))
+      (record {
+        pings = new.run.pings;
+        noted = noted old.run.plan.tested old.run.past old.run.turn shown.grown;
+        is = taken;
+      })),
+  taken_shown old new (take count (first_piece old.run.outgoing.rest)) new.run.pings taken before
       (grown old.run.plan.tested old.run.past old.run.turn shown.grown) shown,
 )
 

@@ -16,7 +16,7 @@ use Rattle.ws_tester.specs.Outcomes.{by_deadline, by_silence, next_or_end, unles
 use Rattle.ws_tester.specs.Outgoings.{Pieces, after_first, first_piece, first_turn, without_front}
 use Rattle.ws_tester.specs.RunStates.{RunState, has_more, is_all_sent, is_nothing, run_left, some_turn, wanted_in}
 use Rattle.ws_tester.specs.RunStates.{with_came, with_closing, with_run_end, with_event, with_failure, with_next_turn}
-use Rattle.ws_tester.specs.RunStates.{with_nothing_to_send, with_taken}
+use Rattle.ws_tester.specs.RunStates.{with_anew, with_nothing_to_send, with_taken, with_unanswered}
 use Rattle.ws_tester.specs.Following.{Happens, Obeys, Settles, SettlesIn}
 use Rattle.ws_tester.specs.declared.outcome.Outcome.TheVariants.{Ends}
 use Rattle.ws_tester.proofs.OutcomeLemmas.{next_more}
@@ -62,7 +62,7 @@ settles_in (suc n) x now (h, rest) =
     let more : run_left (with_next_turn x) < run_left x = next_lowers x (next_more x h.facts h.is) in
     omega (arith, less, more)
 
-settles_lower : (x now : RunState) → Settles x now → run_left now ≤ run_left x
+pub settles_lower : (x now : RunState) → Settles x now → run_left now ≤ run_left x
 settles_lower x now (n, h) = settles_in n x now h
 
 -- what decides by itself
@@ -179,26 +179,29 @@ happens_lowers old new (event.Came piece) (undone, (some, fits)) h =
     let came : run_left (with_came piece.now old) < run_left old =
     came_less old piece.now some (came_fits old (length piece.now) undone fits) in
     let no_more : run_left h.heard ≤ run_left (with_came piece.now old) =
-    subst (λ (x : RunState). run_left x ≤ run_left (with_came piece.now old)) (sym heard.2)
-    (standing_no_more (is_server_close old.plan.tested heard.0 && not old.closing) (with_came piece.now old)) in
+    subst (λ (x : RunState). run_left x ≤ run_left (with_came piece.now old)) (sym heard.is)
+    (standing_no_more (is_server_close old.plan.tested heard.standing && not old.closing)
+    (with_anew heard.progress (with_unanswered heard.pings (with_came piece.now old)))) in
     changed_less old h.heard new (omega (arith, came, no_more)) h.goes_on
-happens_lowers old new event.Ended may h = same_less old h.heard new h.changes
-    (end_obeyed h.heard new h.heard.write_failed Peer (same_goes old h.heard h.changes h.goes) h.goes_on)
-happens_lowers old new event.ReadFailed may h = same_less old h.heard new h.changes
-    (ends_obeyed h.heard new Broken (same_goes old h.heard h.changes h.goes) h.goes_on)
+happens_lowers old new event.Ended may h = same_less (with_anew false old) h.heard new h.changes
+    (end_obeyed h.heard new h.heard.write_failed Peer (same_goes (with_anew false old) h.heard h.changes h.goes)
+    h.goes_on)
+happens_lowers old new event.ReadFailed may h = same_less (with_anew false old) h.heard new h.changes
+    (ends_obeyed h.heard new Broken (same_goes (with_anew false old) h.heard h.changes h.goes) h.goes_on)
 happens_lowers old new event.NothingCame (undone, (room, none)) h =
     let sent : is_all_sent h.heard ≡ true = ap (λ (x : RunState). is_all_sent x) h.changes
     ∙ nothing_there (first_piece old.outgoing.rest) (sym (piece_of old (goes old undone)) ∙ none) in
-    same_less old h.heard new h.changes
+    same_less (with_anew true old) h.heard new h.changes
     (silence_obeyed h.heard new (is_all_sent h.heard) h.heard.write_failed (has_more h.heard && not h.heard.closing)
-    (same_goes old h.heard h.changes h.goes) sent (both (has_more h.heard) (not h.heard.closing)) h.goes_on)
+    (same_goes (with_anew true old) h.heard h.changes h.goes) sent (both (has_more h.heard) (not h.heard.closing))
+    h.goes_on)
 happens_lowers old new (event.Taken count) (undone, (some, fits)) h =
     let len : length (take count (wanted_in old).write) ≡ count = length-take-le count (wanted_in old).write fits in
     let within : count ≤ length (first_piece old.outgoing.rest) = taken_fits old count undone fits in
     let less : run_left (with_taken (take count (wanted_in old).write) old) < run_left old =
     taken_less old (take count (wanted_in old).write) (omega (arith, len, some)) (omega (arith, len, within)) in
     changed_less old h.heard new
-    (subst (λ (x : RunState). run_left x < run_left old) (sym h.changes) less) h.goes_on
+    (subst (λ (x : RunState). run_left x < run_left old) (sym h.changes.is) less) h.goes_on
 happens_lowers old new event.WriteFailed (undone, some) h =
     let there : 0 < length (first_piece old.outgoing.rest) =
     subst (λ (l : List ℕ). 0 < length l) (piece_of old (goes old undone)) some in
@@ -208,6 +211,6 @@ happens_lowers old new event.DirectionEnded (undone, wants) h =
     changed_less old h.heard new (subst (λ (x : RunState). run_left x < run_left old) (sym h.changes)
     (closed_less old (half_open old.ended old.closing old.half_closed (is_all_sent old) wants))) h.goes_on
 happens_lowers old new event.Reported (undone, some) h = absurd (let wrong : 0 < 0 = some in omega arith)
-happens_lowers old new (event.DeadlinePassed waited) may h = same_less old h.heard new h.changes
+happens_lowers old new (event.DeadlinePassed waited) may h = same_less (with_anew false old) h.heard new h.changes
     (deadline_obeyed h.heard new (waited || not h.heard.plan.timeouts)
-    (same_goes old h.heard h.changes h.goes) h.goes_on)
+    (same_goes (with_anew false old) h.heard h.changes h.goes) h.goes_on)

@@ -1,6 +1,7 @@
 -- So many bytes of the first piece are sent: a part of it, or all.
-use Rattle.std.proofs.Common.{◌≡◌, ◌∙◌, ℕ, suc, ◌+◌, ◌-◌, ◌<◌, ◌≤◌, List, [], ◌∷◌, ◌++◌, length, drop, refl, sym, ap, arith}
-use Rattle.std.proofs.lemmas.List.{drop-drop, length-drop}
+use Rattle.std.proofs.Common.{◌≡◌, ◌∙◌, ℕ, zero, suc, get_or, ◌+◌, ◌-◌, ◌<◌, ◌≤◌, List, [], ◌∷◌, ◌++◌, length, drop}
+use Rattle.std.proofs.Common.{min, ◌^◌, refl, sym, ap, arith}
+use Rattle.std.proofs.lemmas.List.{drop-drop, drop_all, length-drop}
 use Rattle.ws_scripts.specs.Scripts.{without_empty}
 use Rattle.ws_tester.specs.Outgoings.{Pieces, first_piece, pieces_left, without_front}
 
@@ -25,9 +26,48 @@ from_start : (items : Pieces) → pieces_left 0 items ≡ items
 from_start [] = refl
 from_start (first ∷ items) = refl
 
-pub whole_sent : (items others : Pieces) (sent count : ℕ) → length (first_piece items) - sent ≤ count
-    → others ≡ drop 1 items → pieces_left 0 others ≡ without_front count (pieces_left sent items)
-whole_sent [] others sent count all e = ap (λ (l : Pieces). pieces_left 0 l) e
-whole_sent (first ∷ items) others sent count all e =
-    let none : length (drop count (drop sent first)) ≤ 0 = omega (arith, all, length-drop count (drop sent first), length-drop sent first) in
-    from_start others ∙ (e ∙ ap (λ (l : Pieces). l ++ items) (gone_piece (drop count (drop sent first)) none))
+-- where all of the first piece is sent, it is gone
+pub whole_sent : (rest : Pieces) (count : ℕ) → length (first_piece rest) ≤ count
+    → drop 1 rest ≡ without_front count rest
+whole_sent [] count all = refl
+whole_sent (first ∷ rest) count all =
+    let none : length (drop count first) ≤ 0 = omega (arith, all, length-drop count first) in
+    ap (λ (l : Pieces). l ++ rest) (gone_piece (drop count first) none)
+
+after_first_of : (items : Pieces) (sent : ℕ) → drop 1 (pieces_left sent items) ≡ drop 1 items
+after_first_of [] sent = refl
+after_first_of (first ∷ items) sent = refl
+
+-- the pieces after the one that is next
+pub after_next : (pieces : Pieces) (number sent : ℕ)
+    → drop 1 (pieces_left sent (drop number pieces)) ≡ drop (number + 1) pieces
+after_next pieces number sent = after_first_of (drop number pieces) sent ∙ drop-drop 1 number pieces
+
+pub one_piece_on : (pieces rest : Pieces) (number next sent : ℕ) → rest ≡ pieces_left sent (drop number pieces)
+    → next ≡ min (number + 1) (2 ^ 64 - 1)
+    → next < length pieces → length pieces < 2 ^ 64 → pieces_left 0 (drop next pieces) ≡ drop 1 rest
+one_piece_on pieces rest number next sent e n more fits =
+    let one : next ≡ number + 1 = omega (arith, n, more, fits) in
+    from_start (drop next pieces)
+    ∙ (ap (λ (k : ℕ). drop k pieces) one ∙ (sym (after_next pieces number sent) ∙ ap (λ (l : Pieces). drop 1 l) (sym e)))
+
+pub no_piece_on : (pieces rest : Pieces) (number next sent : ℕ) → rest ≡ pieces_left sent (drop number pieces)
+    → next ≡ min (number + 1) (2 ^ 64 - 1)
+    → length pieces ≤ next → [] ≡ drop 1 rest
+no_piece_on pieces rest number next sent e n none =
+    let all : length pieces ≤ number + 1 = omega (arith, n, none) in
+    sym (ap (λ (l : Pieces). drop 1 l) e ∙ (after_next pieces number sent ∙ drop_all (number + 1) pieces all))
+
+-- the piece of a number is the first of those from it on
+pub first_from : (pieces : Pieces) (number : ℕ) → first_piece (drop number pieces) ≡ get_or pieces number []
+first_from [] zero = refl
+first_from [] (suc number) = refl
+first_from (piece ∷ pieces) zero = refl
+first_from (piece ∷ pieces) (suc number) = first_from pieces number
+
+-- what is left of the first piece
+pub rest_of_first : (pieces : Pieces) (sent : ℕ) → first_piece (pieces_left sent pieces) ≡ drop sent
+    (first_piece pieces)
+rest_of_first [] zero = refl
+rest_of_first [] (suc sent) = refl
+rest_of_first (piece ∷ pieces) sent = refl

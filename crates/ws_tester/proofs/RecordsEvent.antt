@@ -10,7 +10,7 @@ use Rattle.ws_machines.specs.Told.Told.{ReadFailed, Reported, Taken, WriteFailed
 use Rattle.ws_tester.specs.Standings.{HasServerClose, is_server_close}
 use Rattle.ws_tester.specs.Outcomes.{got_in_all, by_deadline, by_silence, next_or_end, outcome_of_event, unless_failed}
 use Rattle.ws_tester.specs.RunStates.{PlanValue, RunState, has_more, is_all_sent, turns_of_run, with_came, with_closing}
-use Rattle.ws_tester.specs.RunStates.{with_next_turn, with_nothing_to_send}
+use Rattle.ws_tester.specs.RunStates.{with_anew, with_next_turn, with_nothing_to_send, with_unanswered}
 use Rattle.ws_tester.proofs.EventLemmas.{closes}
 use Rattle.ws_tester.specs.Following.{Changes, LeadsOnBy, MayHappen, Obeys, ScriptValue, Settles, StandsBy}
 use Rattle.ws_tester.specs.Records.{IsWaitedFor}
@@ -97,15 +97,17 @@ module _ (one : OneStanding) (run : ScriptValue) (before : List Told) where
   pub came_so : (old heard new : RunState) (bytes : List ℕ) → old.ended ≡ None → Holds run before old
       → MayHappen old (Came bytes) → Changes (Came bytes) old heard → Settles heard new
       → HoldsSo run (before ++ Came bytes ∷ []) new
-  came_so old heard new bytes going h fits (standing, stands, same) rest =
+  came_so old heard new bytes going h fits hears rest =
+      let x = with_anew hears.progress (with_unanswered hears.pings (with_came bytes old)) in
+      let closing = is_server_close old.plan.tested hears.standing && not old.closing in
       settled one run (before ++ Came bytes ∷ []) heard new
-      (ap (λ (y : RunState). y.ended) same
-      ∙ (standing_ends (is_server_close old.plan.tested standing && not old.closing) (with_came bytes old) ∙ going))
-      (subst (λ (y : RunState). Holds run (before ++ Came bytes ∷ []) y) (sym same)
-      (standing_so (is_server_close old.plan.tested standing && not old.closing) (with_came bytes old) bytes
-      (came_holds run before old h bytes fits.1.0 (λ c. closes_by old bytes standing h stands (stands.still c)))
-      (λ e. closes_by old bytes standing h stands
-      (both_true (is_server_close old.plan.tested standing) (not old.closing) e).0)))
+      (ap (λ (y : RunState). y.ended) hears.is ∙ (standing_ends closing x ∙ going))
+      (subst (λ (y : RunState). Holds run (before ++ Came bytes ∷ []) y) (sym hears.is)
+      (standing_so closing x bytes
+      (came_holds run before old h bytes fits.1.0
+      (λ c. closes_by old bytes hears.standing h hears.stands (hears.stands.still c)))
+      (λ e. closes_by old bytes hears.standing h hears.stands
+      (both_true (is_server_close old.plan.tested hears.standing) (not old.closing) e).0)))
       rest
 
   -- where an event changes nothing
@@ -125,17 +127,19 @@ module _ (one : OneStanding) (run : ScriptValue) (before : List Told) where
   event_so old heard new (Came bytes) going h may changes on = came_so old heard new bytes going h may changes on
   event_so old heard new StreamEnded going h may changes on =
       stream_end_so heard new heard.write_failed refl
-      (same_so old heard StreamEnded refl refl (λ e. absurd cc) h changes) on
+      (same_so (with_anew false old) heard StreamEnded refl refl (λ e. absurd cc) h changes) on
   event_so old heard new ReadFailed going h may changes on =
       ended_so one run (before ++ ReadFailed ∷ []) heard new Broken
-      (same_so old heard ReadFailed refl refl (λ e. absurd cc) h changes) (inl (was_now ReadFailed before)) on
+      (same_so (with_anew false old) heard ReadFailed refl refl (λ e. absurd cc) h changes)
+      (inl (was_now ReadFailed before)) on
   event_so old heard new NothingCame going h may changes on =
-      silence_so heard new (is_all_sent heard) heard.write_failed (going_so old heard changes going) refl refl
-      (same_so old heard NothingCame refl refl (λ e. absurd cc) h changes) on
+      silence_so heard new (is_all_sent heard) heard.write_failed
+      (going_so (with_anew true old) heard changes going) refl refl
+      (same_so (with_anew true old) heard NothingCame refl refl (λ e. absurd cc) h changes) on
   event_so old heard new (Taken bytes) going h (unsent, e) changes on =
       settled one run (before ++ Taken bytes ∷ []) heard new
-      (ap (λ (y : RunState). y.ended) changes ∙ going)
-      (subst (λ (y : RunState). Holds run (before ++ Taken bytes ∷ []) y) (sym changes)
+      (ap (λ (y : RunState). y.ended) changes.is ∙ going)
+      (subst (λ (y : RunState). Holds run (before ++ Taken bytes ∷ []) y) (sym changes.is)
       (taken_holds run before old h bytes unsent e)) on
   event_so old heard new WriteFailed going h may changes on =
       settled one run (before ++ WriteFailed ∷ []) heard new
@@ -150,8 +154,8 @@ module _ (one : OneStanding) (run : ScriptValue) (before : List Told) where
       (holds_more run before DirectionEnded refl refl old
       (λ e. closes old.ended old.closing old.half_closed (is_all_sent old) may) h)) on
   event_so old heard new (Reported lines) going h may changes on =
-      settled one run (before ++ Reported lines ∷ []) heard new (going_so old heard changes going)
-      (same_so old heard (Reported lines) refl refl (λ e. absurd cc) h changes) on
+      settled one run (before ++ Reported lines ∷ []) heard new (going_so (with_anew false old) heard changes going)
+      (same_so (with_anew false old) heard (Reported lines) refl refl (λ e. absurd cc) h changes) on
   event_so old heard new (DeadlinePassed waited) going h may changes on =
       deadline_so waited (not heard.plan.timeouts) heard new
-      (same_so old heard (DeadlinePassed waited) refl refl (λ e. absurd cc) h changes) on
+      (same_so (with_anew false old) heard (DeadlinePassed waited) refl refl (λ e. absurd cc) h changes) on

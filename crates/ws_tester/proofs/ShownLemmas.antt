@@ -9,12 +9,12 @@ use Rattle.ws_scripts.specs.declared.transcript.Turn.{Turn}
 use Rattle.ws_suite.specs.declared.evidence.keeping.ReplyTally.{ReplyTally}
 use Rattle.ws_suite.specs.Evidence.{other_role}
 use Rattle.ws_suite.specs.Growing.{GrowingValue, HasGrown, IsTallyOf, new_turn, turn_with_got, turn_with_sent}
-use Rattle.ws_machines.specs.Told.Told.{Came}
 use Rattle.ws_tester.specs.Standings.{HasServerClose, HasStanding, is_server_close, standing_of_status}
 use Rattle.ws_tester.specs.Outcomes.{HasSentEnd, got_in_all}
 use Rattle.ws_tester.specs.RunStates.{RunState, turns_of_run, with_came, with_closing, with_next_turn, with_nothing_to_send}
-use Rattle.ws_tester.specs.RunStates.{with_run_end, with_standing, with_taken}
-use Rattle.ws_tester.specs.Following.{Hears, ShowsTurns, TesterValue}
+use Rattle.ws_suite.specs.Progress.{NotesGot}
+use Rattle.ws_tester.specs.RunStates.{with_anew, with_run_end, with_standing, with_taken, with_unanswered}
+use Rattle.ws_tester.specs.Following.{HearsCame, ShowsTurns, TesterValue}
 use Rattle.ws_tester.specs.declared.standing.Standing.{Standing}
 use Rattle.ws_tester.proofs.StandingLemmas.{OneList, closes_is_over, stands_so}
 use Rattle.ws_tester.proofs.FactsLemmas.{got_stands, sent_end}
@@ -37,11 +37,12 @@ next_shown old new run before grown h = record {
 
 -- ---- bytes that are taken
 
-pub taken_shown : (old new : TesterValue) (bytes : List ℕ) → new.run ≡ with_taken bytes old.run
+pub taken_shown : (old new : TesterValue) (bytes : List ℕ) (pings : List (List ℕ))
+    → new.run ≡ with_anew true (with_unanswered pings (with_taken bytes old.run))
     → new.had_sent_end ≡ old.had_sent_end
     → HasGrown IsTallyOf old.run.plan.tested (old.run.past ++ turn_with_sent old.run.turn bytes ∷ []) new.seen
     → ShowsTurns old → ShowsTurns new
-taken_shown old new bytes run before grown h = record {
+taken_shown old new bytes pings run before grown h = record {
   grown = subst (λ (x : RunState). HasGrown IsTallyOf x.plan.tested (turns_of_run x) new.seen) (sym run) grown;
   before = subst (λ (b : Bool). HasSentEnd new.run.plan.tested new.run.past b) (sym before)
       (subst (λ (x : RunState). HasSentEnd x.plan.tested x.past old.had_sent_end) (sym run) h.before);
@@ -60,7 +61,12 @@ two_true false b e = absurd cc
 abbrev changed_by : Bool → RunState → RunState
 changed_by b x = if b then with_closing (with_nothing_to_send x) else x
 
-module _ (one : OneList) (old new : TesterValue) (bytes : List ℕ) (h : ShowsTurns old)
+-- the state with what came, before it is heard how that stands
+abbrev base : Bool → List (List ℕ) → List ℕ → RunState → RunState
+base progress pings bytes x = with_anew progress (with_unanswered pings (with_came bytes x))
+
+module _ (one : OneList) (old new : TesterValue) (bytes : List ℕ) (progress : Bool) (pings : List (List ℕ))
+    (h : ShowsTurns old)
     (grown : HasGrown IsTallyOf old.run.plan.tested (old.run.past ++ turn_with_got old.run.turn bytes ∷ []) new.seen)
     (over : is_over old.seen.tester.status ≡ true → new.seen.tester ≡ old.seen.tester) where
   came : RunState
@@ -84,12 +90,21 @@ module _ (one : OneList) (old new : TesterValue) (bytes : List ℕ) (h : ShowsTu
       over (closes_is_over old.run.plan.tested old.seen.tester.status before) in
       ap (λ (x : SessionValue). is_server_close old.run.plan.tested (standing_of_status x.status)) same ∙ before
 
-  pub came_hears : new.run ≡ with_standing (standing_of_status new.seen.tester.status) (with_came bytes old.run)
-      → Hears (Came bytes) (with_came bytes old.run) new.run
+  pub came_hears : NotesGot old.run.plan.tested (turns_of_run old.run) bytes old.run.pings pings progress
+      → new.run ≡ with_standing (standing_of_status new.seen.tester.status) (base progress pings bytes old.run)
+      → HearsCame bytes old.run (with_came bytes old.run) new.run
   unfolding came standing
-  came_hears run = (standing_of_status new.seen.tester.status, record { stands = stands; still = still }, run)
+  came_hears noted run = record {
+    standing = standing_of_status new.seen.tester.status;
+    stands = record { stands = stands; still = still };
+    pings = pings;
+    progress = progress;
+    noted = noted;
+    is = run;
+  }
 
-  pub came_shown : new.run ≡ with_standing (standing_of_status new.seen.tester.status) (with_came bytes old.run)
+  pub came_shown : new.run ≡ with_standing (standing_of_status new.seen.tester.status)
+      (base progress pings bytes old.run)
       → new.had_sent_end ≡ old.had_sent_end → ShowsTurns new
   unfolding came standing
   came_shown run before = record {
@@ -104,35 +119,39 @@ module _ (one : OneList) (old new : TesterValue) (bytes : List ℕ) (h : ShowsTu
         (two_true (is_server_close old.run.plan.tested (standing_of_status new.seen.tester.status)) (not old.run.closing)));
   }
     where
-      shown_at : (b : Bool) → HasGrown IsTallyOf (changed_by b (with_came bytes old.run)).plan.tested
-          (turns_of_run (changed_by b (with_came bytes old.run))) new.seen
+      shown_at : (b : Bool) → HasGrown IsTallyOf (changed_by b (base progress pings bytes old.run)).plan.tested
+          (turns_of_run (changed_by b (base progress pings bytes old.run))) new.seen
       shown_at true = grown
       shown_at false = grown
 
-      before_at : (b : Bool) → HasSentEnd (changed_by b (with_came bytes old.run)).plan.tested
-          (changed_by b (with_came bytes old.run)).past old.had_sent_end
+      before_at : (b : Bool) → HasSentEnd (changed_by b (base progress pings bytes old.run)).plan.tested
+          (changed_by b (base progress pings bytes old.run)).past old.had_sent_end
       before_at true = h.before
       before_at false = h.before
 
       closing_at : (b : Bool)
           → (b ≡ true → is_server_close old.run.plan.tested (standing_of_status new.seen.tester.status) ≡ true)
-          → (changed_by b (with_came bytes old.run)).closing ≡ true
-          → HasServerClose (changed_by b (with_came bytes old.run)).plan.tested
-          (got_in_all (turns_of_run (changed_by b (with_came bytes old.run))))
+          → (changed_by b (base progress pings bytes old.run)).closing ≡ true
+          → HasServerClose (changed_by b (base progress pings bytes old.run)).plan.tested
+          (got_in_all (turns_of_run (changed_by b (base progress pings bytes old.run))))
       closing_at true is c = (standing_of_status new.seen.tester.status, is refl, stands)
       closing_at false is c = (standing_of_status new.seen.tester.status, still c, stands)
 
 -- what came is kept, and then how it stands is heard
-pub came_told : OneList → (old mid new : TesterValue) (bytes : List ℕ) → mid.run ≡ with_came bytes old.run
+pub came_told : OneList → (old mid new : TesterValue) (bytes : List ℕ)
+    → mid.run ≡ base mid.run.waits_anew mid.run.pings bytes old.run
     → ((tested : Role) (past : List Turn) (turn : Turn) → HasGrown IsTallyOf tested (past ++ turn ∷ []) old.seen
     → HasGrown IsTallyOf tested (past ++ turn_with_got turn bytes ∷ []) mid.seen)
+    → ((tested : Role) (past : List Turn) (turn : Turn) → HasGrown IsTallyOf tested (past ++ turn ∷ []) old.seen
+    → NotesGot tested (past ++ turn ∷ []) bytes old.run.pings mid.run.pings mid.run.waits_anew)
     → (is_over old.seen.tester.status ≡ true → mid.seen.tester ≡ old.seen.tester)
     → mid.had_sent_end ≡ old.had_sent_end → new.run ≡ with_standing (standing_of_status mid.seen.tester.status) mid.run
     → new.seen ≡ mid.seen → new.had_sent_end ≡ mid.had_sent_end → ShowsTurns old
-    → Hears (Came bytes) (with_came bytes old.run) new.run × ShowsTurns new
-came_told one old mid new bytes came grown over kept heard seen before shown = (
-  came_hears one old new bytes shown grown_now over_now run_is,
-  came_shown one old new bytes shown grown_now over_now run_is (before ∙ kept),
+    → HearsCame bytes old.run (with_came bytes old.run) new.run × ShowsTurns new
+came_told one old mid new bytes came grown noted over kept heard seen before shown = (
+  came_hears one old new bytes mid.run.waits_anew mid.run.pings shown grown_now over_now
+      (noted old.run.plan.tested old.run.past old.run.turn shown.grown) run_is,
+  came_shown one old new bytes mid.run.waits_anew mid.run.pings shown grown_now over_now run_is (before ∙ kept),
 )
   where
     grown_now : HasGrown IsTallyOf old.run.plan.tested (old.run.past ++ turn_with_got old.run.turn bytes ∷ []) new.seen
@@ -143,16 +162,18 @@ came_told one old mid new bytes came grown over kept heard seen before shown = (
     over_now : is_over old.seen.tester.status ≡ true → new.seen.tester ≡ old.seen.tester
     over_now o = ap (λ (s : GrowingValue ReplyTally). s.tester) seen ∙ over o
 
-    run_is : new.run ≡ with_standing (standing_of_status new.seen.tester.status) (with_came bytes old.run)
+    run_is : new.run ≡ with_standing (standing_of_status new.seen.tester.status)
+        (base mid.run.waits_anew mid.run.pings bytes old.run)
     run_is = heard ∙ (ap (λ (x : RunState). with_standing (standing_of_status mid.seen.tester.status) x) came
-        ∙ ap (λ (s : GrowingValue ReplyTally). with_standing (standing_of_status s.tester.status) (with_came bytes old.run))
-        (sym seen))
+        ∙ ap (λ (s : GrowingValue ReplyTally). with_standing (standing_of_status s.tester.status)
+        (base mid.run.waits_anew mid.run.pings bytes old.run)) (sym seen))
 
 same_end : (b : Bool) (x : RunState) → (changed_by b x).ended ≡ x.ended
 same_end true x = refl
 same_end false x = refl
 
-pub came_going : (old mid new : TesterValue) (bytes : List ℕ) → mid.run ≡ with_came bytes old.run
+pub came_going : (old mid new : TesterValue) (bytes : List ℕ)
+    → mid.run ≡ base mid.run.waits_anew mid.run.pings bytes old.run
     → new.run ≡ with_standing (standing_of_status mid.seen.tester.status) mid.run → new.run.ended ≡ old.run.ended
 came_going old mid new bytes came heard = ap (λ (x : RunState). x.ended) heard
     ∙ (same_end (is_server_close mid.run.plan.tested (standing_of_status mid.seen.tester.status) && not mid.run.closing) mid.run

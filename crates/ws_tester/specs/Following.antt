@@ -6,13 +6,14 @@ use Rattle.ws_scripts.specs.declared.transcript.Ended.TheVariants.{Tester}
 use Rattle.ws_suite.specs.Evidence.{other_role}
 use Rattle.ws_suite.specs.declared.evidence.keeping.ReplyTally.{ReplyTally}
 use Rattle.ws_suite.specs.Growing.{GrowingValue, HasGrown, IsTallyOf}
+use Rattle.ws_suite.specs.Progress.{NotesGot, NotesSent}
 use Rattle.ws_machines.specs.Told.{Told}
 use Rattle.ws_machines.specs.Told.Told.{Came, Ended as StreamEnded, ReadFailed, NothingCame, Taken, DirectionEnded}
 use Rattle.ws_tester.specs.Standings.{HasServerClose, HasStanding, is_server_close}
 use Rattle.ws_tester.specs.Outgoings.{Pieces, after_first, first_piece, first_turn}
 use Rattle.ws_tester.specs.Outcomes.{AreFacts, HasSentEnd, got_in_all, outcome_of, outcome_of_event}
 use Rattle.ws_tester.specs.RunStates.{PlanValue, RunState, turns_of_run, with_event, with_next_turn, with_run_end}
-use Rattle.ws_tester.specs.RunStates.{max_read, wants_own_end, with_standing}
+use Rattle.ws_tester.specs.RunStates.{max_read, wants_own_end, with_anew, with_standing, with_unanswered}
 use Rattle.ws_tester.specs.declared.outcome.Outcome.{Outcome}
 use Rattle.ws_tester.specs.declared.outcome.Outcome.TheVariants.{Rests, Next, Ends}
 use Rattle.ws_tester.specs.declared.outcome.TurnFacts.{TurnFacts}
@@ -67,14 +68,33 @@ pub record StandsBy (x : RunState) (standing : Standing) : Type 0 where
   pub stands : HasStanding (other_role x.plan.tested) standing (got_in_all (turns_of_run x))
   pub still : x.closing ≡ true → is_server_close x.plan.tested standing ≡ true
 
--- how what was got stands after an event is heard; only what comes changes that
-abbrev pub Hears : Told → RunState → RunState → Type 0
-Hears (Came bytes) x now = (standing : Standing) × StandsBy x standing × (now ≡ with_standing standing x)
-Hears _ x now = now ≡ x
+-- What comes is heard: how what was got stands by now, which pings it answers, and whether it is progress. Only then
+-- the time limit of what is waited for begins anew.
+pub record HearsCame (bytes : List ℕ) (old x now : RunState) : Type 0 where
+  pub standing : Standing
+  pub stands : StandsBy x standing
+  pub pings : List (List ℕ)
+  pub progress : Bool
+  pub noted : NotesGot old.plan.tested (turns_of_run old) bytes old.pings pings progress
+  pub is : now ≡ with_standing standing (with_anew progress (with_unanswered pings x))
 
--- an event changes what it changes by itself, and what came is heard
+-- so is what is taken: its pings aren't answered yet, and the time limit begins with its last byte
+pub record HearsTaken (bytes : List ℕ) (old x now : RunState) : Type 0 where
+  pub pings : List (List ℕ)
+  pub noted : NotesSent old.plan.tested (turns_of_run old) bytes old.pings pings
+  pub is : now ≡ with_anew true (with_unanswered pings x)
+
+-- What is heard with an event, of the state before it and of the one that it makes. The time limit begins anew after a
+-- wait in vain too, since something else is waited for then; else it goes on.
+abbrev pub Hears : Told → RunState → RunState → RunState → Type 0
+Hears (Came bytes) old x now = HearsCame bytes old x now
+Hears (Taken bytes) old x now = HearsTaken bytes old x now
+Hears NothingCame old x now = now ≡ with_anew true x
+Hears _ old x now = now ≡ with_anew false x
+
+-- an event changes what it changes by itself, and is heard
 abbrev pub Changes : Told → RunState → RunState → Type 0
-Changes event old heard = Hears event (with_event event old) heard
+Changes event old heard = Hears event old (with_event event old) heard
 
 -- an event happens: it changes the state, and then the run goes on
 pub record Happens (old : RunState) (event : Told) (new : RunState) : Type 0 where
@@ -115,6 +135,8 @@ first_state run closing = record {
   closing = closing;
   half_closed = false;
   write_failed = false;
+  pings = [];
+  waits_anew = true;
   begun = has_items run.script || has_items run.first;
   ended = None;
 }

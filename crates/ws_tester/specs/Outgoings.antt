@@ -1,5 +1,5 @@
 -- What a script has still to send: the pieces of the turn under way, and those of the turns after it.
-use Rattle.std.specs.Prelude.{ℕ, ◌≤◌, List, [], ◌∷◌, ◌++◌, ⊤, length, drop}
+use Rattle.std.specs.Prelude.{ℕ, ◌≤◌, List, [], ◌∷◌, ◌++◌, length, drop}
 use Rattle.std.specs.List.{AllByRecursion}
 use Rattle.ws_scripts.specs.Scripts.{has_bytes, without_empty}
 
@@ -42,8 +42,7 @@ pieces_left sent (piece ∷ pieces) = drop sent piece ∷ pieces
 
 -- no more of the first piece was sent than it has
 abbrev pub FitsPiece : ℕ → Pieces → Type 0
-FitsPiece sent [] = ⊤
-FitsPiece sent (piece ∷ pieces) = sent ≤ length piece
+FitsPiece sent pieces = sent ≤ length (first_piece pieces)
 
 -- the next turn is under way
 abbrev pub next_outgoing : OutgoingValue → OutgoingValue

@@ -27,7 +27,8 @@ plan_value plan = record { tested = plan.tested; expected = plan.expected; timeo
 
 -- What the turns before have sent and got; the turn under way so far; what is still to be sent; how many bytes may
 -- still be read; whether a close was got from a server, whether the own direction was ended for that, and whether a
--- write has failed; whether there is anything to record; and how the run has ended, if it has.
+-- write has failed; the pings that were sent and aren't answered yet, and whether the time limit of what is waited for
+-- begins anew; whether there is anything to record; and how the run has ended, if it has.
 pub record RunState : Type 0 where
   pub plan : PlanValue
   pub past : List Turn
@@ -37,6 +38,8 @@ pub record RunState : Type 0 where
   pub closing : Bool
   pub half_closed : Bool
   pub write_failed : Bool
+  pub pings : List (List ℕ)
+  pub waits_anew : Bool
   pub begun : Bool
   pub ended : Option Ended
 
@@ -75,14 +78,14 @@ abbrev pub wants_own_end : RunState → Bool
 wants_own_end x = not (is_some x.ended) && (x.closing && (not x.half_closed && is_all_sent x))
 
 -- Until it has ended: the piece that is next; the end of the own direction; and while that isn't to be ended, as many
--- bytes as may be read. The time limit of a read begins anew with each thing that happens.
+-- bytes as may be read. The time limit of what is waited for begins anew as the state tells.
 abbrev pub wanted_in : RunState → Wants
 wanted_in x = record {
   write = if is_some x.ended then [] else first_piece x.outgoing.rest;
   report = [];
   room = if is_some x.ended || wants_own_end x then 0 else min x.allowance max_read;
   end = wants_own_end x;
-  waits_anew = true;
+  waits_anew = x.waits_anew;
   done = is_some x.ended;
 }
 
@@ -119,6 +122,14 @@ with_closing x = record x { closing = true }
 abbrev pub with_standing : Standing → RunState → RunState
 with_standing standing x =
     if is_server_close x.plan.tested standing && not x.closing then with_closing (with_nothing_to_send x) else x
+
+-- these pings aren't answered yet
+abbrev pub with_unanswered : List (List ℕ) → RunState → RunState
+with_unanswered pings x = record x { pings = pings }
+
+-- the time limit of what is waited for begins anew, or goes on
+abbrev pub with_anew : Bool → RunState → RunState
+with_anew anew x = record x { waits_anew = anew }
 
 -- a write has failed
 abbrev pub with_failure : RunState → RunState

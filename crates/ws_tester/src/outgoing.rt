@@ -1,6 +1,6 @@
 //! What a script has still to send.
 
-ghost use Rattle.std.specs.Prelude.{◌≡◌, ◌≤◌, [], length};
+ghost use Rattle.std.specs.Prelude.{◌≡◌, ◌≤◌, [], drop, length};
 ghost use Rattle.ws_tester.specs.Outgoings.{after_first, first_piece, first_turn, next_outgoing};
 ghost use Rattle.ws_tester.specs.Outgoings.{without_front};
 ghost use Rattle.ws_tester.specs.RunStates.{is_nothing, some_turn};
@@ -8,35 +8,41 @@ ghost use Rattle.ws_tester.specs.RunStates.{is_nothing, some_turn};
 use std::alloc::Global;
 use std::collections::VecDeque;
 use std::marker::Model;
-use ws_base::{Payload, Sequence};
+use ws_base::Sequence;
+use ws_suite::CutTurn;
 
-/// The pieces of the turn under way that are still to be sent, the first of them perhaps in part, and the turns after
-/// it. Contracts see their bytes.
+/// The turn under way, how many of its pieces were sent, and how many bytes of the next one; and the turns after it.
+/// Contracts see what is still to be sent.
 #[derive(Drop)]
 pub struct Outgoing {
-    pieces: VecDeque<Payload>,
+    alloc: Global,
+    turn: CutTurn,
+    number: usize,
     sent: usize,
-    later: VecDeque<Sequence<Payload>>,
+    later: VecDeque<CutTurn>,
 }
 
 impl Model for Outgoing {
+    ghost use Rattle.std.specs.Prelude.{drop};
     ghost use Rattle.ws_tester.specs.Outgoings.{FitsPiece, OutgoingValue, pieces_left};
 
     ghost Value = { OutgoingValue };
 
-    ghost view = { λ x. record { rest = pieces_left x.sent x.pieces.items; later = x.later.items } };
+    ghost view = { λ x. record { rest = pieces_left x.sent (drop x.number x.turn); later = x.later.items } };
 
-    ghost invariant = { λ x. FitsPiece x.sent x.pieces.items };
+    ghost invariant = { λ x. FitsPiece x.sent (drop x.number x.turn) };
 }
 
 impl Outgoing {
     /// All turns are still to be sent, and the first is under way.
-    pub fn new(alloc: Global, script: Sequence<Sequence<Payload>>) -> Outgoing
+    pub fn new(alloc: Global, script: Sequence<CutTurn>) -> Outgoing
         ensures rest { result.rest ≡ first_turn script }
         ensures later { result.later ≡ after_first script }
     {
         let mut outgoing = Outgoing {
-            pieces: VecDeque::new(alloc),
+            alloc,
+            turn: CutTurn::none(alloc),
+            number: 0,
             sent: 0,
             later: VecDeque::from(script.into_vec()),
         };
@@ -48,10 +54,7 @@ impl Outgoing {
     pub fn piece(&self) -> &[u8]
         ensures { result.now ≡ first_piece self.now.rest }
     {
-        match self.pieces.front() {
-            Some(piece) => &piece.as_slice()[self.sent..],
-            None => &[],
-        }
+        &self.turn.piece(self.number)[self.sent..]
     }
 
     /// Whether all of the turn is sent.
@@ -74,12 +77,25 @@ impl Outgoing {
         ensures rest { self.new.rest ≡ without_front count self.old.rest }
         ensures later { self.new.later ≡ self.old.later }
     {
-        let left = first_len(&self.pieces).saturating_sub(self.sent);
+        let left = self.turn.piece(self.number).len().saturating_sub(self.sent);
         if count < left {
             self.sent += count;
         } else {
-            self.pieces.pop_front();
+            self.next_piece();
+        }
+    }
+
+    /// The piece that is next was sent whole. Once no piece is left, the memory of the turn is given back.
+    fn next_piece(&mut self)
+        ensures rest { self.new.rest ≡ drop 1 self.old.rest }
+        ensures later { self.new.later ≡ self.old.later }
+    {
+        let next = self.number.saturating_add(1);
+        if next < self.turn.len() {
+            self.number = next;
             self.sent = 0;
+        } else {
+            self.stop();
         }
     }
 
@@ -88,7 +104,8 @@ impl Outgoing {
         ensures rest { self.new.rest ≡ [] }
         ensures later { self.new.later ≡ self.old.later }
     {
-        self.pieces.clear();
+        self.turn = CutTurn::none(self.alloc);
+        self.number = 0;
         self.sent = 0;
     }
 
@@ -96,20 +113,13 @@ impl Outgoing {
     pub fn next(&mut self)
         ensures { self.new ≡ next_outgoing self.old }
     {
-        self.sent = 0;
         match self.later.pop_front() {
-            Some(pieces) => self.pieces = VecDeque::from(pieces.into_vec()),
-            None => self.pieces.clear(),
+            Some(turn) => {
+                self.turn = turn;
+                self.number = 0;
+                self.sent = 0;
+            }
+            None => self.stop(),
         }
-    }
-}
-
-/// How many bytes the first piece has in all, none where there is no piece.
-fn first_len(pieces: &VecDeque<Payload>) -> usize
-    ensures { result ≡ length (first_piece pieces.now.items) }
-{
-    match pieces.front() {
-        Some(piece) => piece.len(),
-        None => 0,
     }
 }

@@ -17,10 +17,10 @@ use crate::standing::{is_server_close, standing_of};
 use crate::tester::changing::push_turn;
 use std::alloc::Global;
 use std::marker::Model;
-use ws_base::{NoMemory, Payload, Sequence};
+use ws_base::{NoMemory, Sequence};
 use ws_machines::{Machine, StreamEvent};
 use ws_session::laws::one_list_of_events;
-use ws_suite::{Ended, Expectation, RunEvidence, Transcript, Turn};
+use ws_suite::{CutTurn, Ended, Expectation, RunEvidence, Transcript, Turn};
 use ws_wire::Role;
 
 /// How many bytes are read at once at most.
@@ -56,6 +56,7 @@ pub struct Tester {
     is_closing: bool,
     is_half_closed: bool,
     write_failed: bool,
+    waits_anew: bool,
     has_begun: bool,
     ended: Option<Ended>,
 }
@@ -76,6 +77,8 @@ impl Model for Tester {
         closing = x.is_closing;
         half_closed = x.is_half_closed;
         write_failed = x.write_failed;
+        pings = x.evidence.pings;
+        waits_anew = x.waits_anew;
         begun = x.has_begun;
         ended = x.ended;
       };
@@ -90,7 +93,7 @@ impl Tester {
     pub fn new(
         alloc: Global,
         plan: TestPlan,
-        script: Sequence<Sequence<Payload>>,
+        script: Sequence<CutTurn>,
         first: Vec<u8>,
         budget: u64,
     ) -> Result<Tester, NoMemory>
@@ -141,7 +144,7 @@ impl Tester {
     fn first(
         alloc: Global,
         plan: TestPlan,
-        script: Sequence<Sequence<Payload>>,
+        script: Sequence<CutTurn>,
         first: Vec<u8>,
         budget: u64,
     ) -> Result<Tester, NoMemory>
@@ -169,6 +172,7 @@ impl Tester {
             is_closing,
             is_half_closed: false,
             write_failed: false,
+            waits_anew: true,
             has_begun,
             ended: None,
         })
@@ -201,7 +205,7 @@ impl Tester {
 }
 
 /// Whether there is any turn.
-fn has_turns(script: &Sequence<Sequence<Payload>>) -> bool
+fn has_turns(script: &Sequence<CutTurn>) -> bool
     ensures { result ≡ has_items script.now }
 {
     !script.as_slice().is_empty()
@@ -216,8 +220,9 @@ fn has_bytes(bytes: &[u8]) -> bool
 
 /// What is shown of a first turn in which this was got.
 fn first_evidence(alloc: Global, tested: Role, first: &[u8]) -> Result<RunEvidence, NoMemory>
-    ensures { IfOk result (λ evidence. HasGrown IsTallyOf tested
+    ensures grown { IfOk result (λ evidence. HasGrown IsTallyOf tested
         (record { sent = []; got = first.now } ∷ []) evidence) }
+    ensures pings { IfOk result (λ evidence. evidence.pings ≡ []) }
 {
     let mut evidence = RunEvidence::new(alloc, tested);
     evidence.begin_turn();
@@ -263,7 +268,7 @@ impl Machine for Tester {
     }
 
     fn waits_anew(&self) -> bool {
-        true
+        self.waits_anew
     }
 
     fn is_done(&self) -> bool {

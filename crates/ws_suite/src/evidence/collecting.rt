@@ -8,6 +8,7 @@ ghost use Rattle.ws_session.specs.Lent.{event_if_any, event_in};
 ghost use Rattle.ws_suite.specs.Evidence.{ending_in};
 ghost use Rattle.ws_suite.specs.InnerCollecting.{AreCollected, EventLaws, HasTakenWay, found_by, reply_if_any};
 ghost use Rattle.ws_suite.specs.InnerMarks.{HasSeenBytes, seen_if_any, seen_with};
+ghost use Rattle.ws_suite.specs.InnerProgress.{TellsAdded};
 
 use crate::evidence::streams::{LastFrame, Seen, StreamEnd};
 use crate::evidence::{Ending, InTurn, KeepsReplies, Kept, ReplyKind};
@@ -15,7 +16,7 @@ use crate::lemmas::session_laws;
 use std::alloc::Global;
 use ws_base::NoMemory;
 use ws_parts::cut_part;
-use ws_session::{EventKind, Kind, Limits, PayloadRoom, Session};
+use ws_session::{EventKind, Kind, Limits, PayloadRoom, Session, TakenInto};
 use ws_wire::{NO_KEY, Role};
 
 /// One of the two directions, and what is collected of it.
@@ -59,6 +60,13 @@ impl Rooms {
             told: PayloadRoom::new(alloc),
             put: Vec::new(alloc),
         }
+    }
+
+    /// The payload of the event that was told last.
+    pub(super) fn payload(&self) -> &[u8]
+        ensures { result.now ≡ self.now.told }
+    {
+        self.told.as_slice()
     }
 }
 
@@ -123,30 +131,33 @@ fn take_part<K: KeepsReplies>(
     session_laws();
     let mut rest = part;
     while !rest.is_empty() {
-        let used = take_front(way, number, rest, rooms, taken)?;
-        rest = &rest[used..];
+        let front = take_front(way, number, rest, rooms, taken)?;
+        rest = &rest[front.used..];
     }
     Ok(())
 }
 
-/// Takes the front of a piece, up to its next event, and collects that: how many bytes these are. Nobody reads what the
-/// session puts.
+/// Takes the front of a piece, up to its next event, and collects that: how many bytes these are, and the event, whose
+/// payload is in the room. Nobody reads what the session puts.
 #[inline]
-fn take_front<K: KeepsReplies>(
+pub(super) fn take_front<K: KeepsReplies>(
     way: Way,
     number: usize,
     piece: &[u8],
     rooms: &mut Rooms,
     taken: &mut Taken<K>,
-) -> Result<usize, NoMemory>
+) -> Result<TakenInto, NoMemory>
     requires { 0 < length piece.now }
-    ensures used { IfOk result (λ used. (0 < used) × (used ≤ length piece.now)) }
+    ensures used { IfOk result (λ front. (0 < front.used) × (front.used ≤ length piece.now)) }
+    ensures told { IfOk result (λ front. TellsAdded taken.old.session taken.new.session (take front.used piece.now)
+        (option_to_list (event_if_any front.event rooms.new.told))) }
     ensures taken { EventLaws → (role : Role) (turns : List (List ℕ)) (last : List ℕ) → number ≡ length turns →
         HasTakenWay K.keeps way role (turns ++ last ∷ []) taken.old.session taken.old.collected →
-        IfOk result (λ used. HasTakenWay K.keeps way role (turns ++ (last ++ take used piece.now) ∷ [])
+        IfOk result (λ front. HasTakenWay K.keeps way role (turns ++ (last ++ take front.used piece.now) ∷ [])
         taken.new.session taken.new.collected) }
     ensures seen { (role : Role) (bytes : List ℕ) → HasSeenBytes role taken.old.session bytes taken.old.seen →
-        IfOk result (λ used. HasSeenBytes role taken.new.session (bytes ++ take used piece.now) taken.new.seen) }
+        IfOk result (λ front. HasSeenBytes role taken.new.session (bytes ++ take front.used piece.now)
+        taken.new.seen) }
     ensures over { is_over taken.old.session.status ≡ true → taken.new.session ≡ taken.old.session }
 {
     rooms.put.clear();
@@ -163,7 +174,7 @@ fn take_front<K: KeepsReplies>(
         &mut taken.collected,
         &mut taken.seen,
     )?;
-    Ok(front.used)
+    Ok(front)
 }
 
 /// Collects what an event says, if there is one, and sees where it ends. Its payload is lent.

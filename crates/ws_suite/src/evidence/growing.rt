@@ -1,18 +1,24 @@
 //! Evidence that grows with a connection: turn by turn, and in a turn piece by piece, as bytes are sent and got. A run
 //! over a connection asks of it what has come.
 
-ghost use Rattle.std.specs.Prelude.{◌≡◌, ◌+◌, ◌^◌, ◌<◌, ◌↔◌, List, [], ◌∷◌, ◌++◌, length, true, IsTrue, OnOk};
+ghost use Rattle.std.specs.Prelude.{◌≡◌, ◌+◌, ◌^◌, ◌<◌, ◌↔◌, List, ℕ, [], ◌∷◌, ◌++◌, length, true, IfOk, IsTrue, OnOk};
+ghost use Rattle.std.specs.List.{concat};
 ghost use Rattle.ws_wire.specs.declared.role.Role.{Role};
 ghost use Rattle.ws_scripts.specs.declared.transcript.Turn.{Turn};
 ghost use Rattle.ws_session.specs.Exchange.{is_over};
 ghost use Rattle.ws_suite.specs.Evidence.{other_role};
 ghost use Rattle.ws_suite.specs.Growing.{AreTurnsAnswered, EndInsideFrame, HasGrown, HaveUnowedMessage, IsTallyOf};
 ghost use Rattle.ws_suite.specs.Growing.{is_clean, is_failed, new_turn, turn_with_got, turn_with_sent};
+ghost use Rattle.ws_suite.specs.InnerCollecting.{HasTakenWay};
+ghost use Rattle.ws_suite.specs.Progress.{EndInOtherFrame, NotesGot, NotesSent};
+ghost use Rattle.ws_suite.specs.declared.evidence.collecting.Way.{Way};
 ghost use Rattle.ws_suite.specs.Waiting.{AreTurnsAnsweredBy, AreTurnsSeenAnswered};
 
-use crate::evidence::collecting::{Rooms, Taken, Way, nothing_taken, take_piece};
+use crate::evidence::collecting::{Rooms, Taken, Way, nothing_taken};
 use crate::evidence::keeping::{KeepsReplies, ReplyTally};
-use crate::lemmas::session_laws;
+use crate::evidence::unanswered::UnansweredPings;
+use crate::evidence::watching::take_watched;
+use crate::lemmas::{frame_laws, session_laws};
 use std::alloc::Global;
 use std::marker::Model;
 use ws_base::NoMemory;
@@ -29,9 +35,11 @@ pub struct GrowingEvidence<K> {
     sent: Taken<K>,
     got: Taken<K>,
     turns: usize,
+    unanswered: UnansweredPings,
 }
 
-/// The evidence of a run that goes on. It takes memory for the messages that are under way, and for no others.
+/// The evidence of a run that goes on. It takes memory for the messages that are under way, and for the payloads of
+/// pings that aren't answered.
 pub type RunEvidence = GrowingEvidence<ReplyTally>;
 
 impl<K> Model for GrowingEvidence<K> {
@@ -45,38 +53,52 @@ impl<K> Model for GrowingEvidence<K> {
       tested = x.sent.session;
       tester = x.got.session;
       turns = x.turns;
+      pings = x.unanswered;
     } };
 }
 
 impl<K: KeepsReplies> GrowingEvidence<K> {
     /// Nothing went over the connection, and no turn has begun. The tested end has this role.
     pub fn new(alloc: Global, tested: Role) -> GrowingEvidence<K>
-        ensures { HasGrown K.keeps tested [] result }
+        ensures grown { HasGrown K.keeps tested [] result }
+        ensures pings { result.pings ≡ [] }
     {
         GrowingEvidence {
             rooms: Rooms::new(alloc),
             sent: nothing_taken(alloc, Way::Sent, tested),
             got: nothing_taken(alloc, Way::Got, other(tested)),
             turns: 0,
+            unanswered: UnansweredPings::new(alloc),
         }
     }
 
     /// The next turn begins. There are at most as many as a list can hold.
     pub fn begin_turn(&mut self)
-        ensures { (tested : Role) (turns : List Turn) → length turns + 1 < 2 ^ 64 →
+        ensures grown { (tested : Role) (turns : List Turn) → length turns + 1 < 2 ^ 64 →
             HasGrown K.keeps tested turns self.old → HasGrown K.keeps tested (turns ++ new_turn ∷ []) self.new }
+        ensures pings { self.new.pings ≡ self.old.pings }
     {
         self.turns = self.turns.saturating_add(1);
     }
 
     /// These bytes were sent in the turn that has begun last.
     pub fn on_sent(&mut self, bytes: &[u8]) -> Result<(), NoMemory>
-        ensures { (tested : Role) (before : List Turn) (turn : Turn) →
+        ensures grown { (tested : Role) (before : List Turn) (turn : Turn) →
             HasGrown K.keeps tested (before ++ turn ∷ []) self.old →
             OnOk result (HasGrown K.keeps tested (before ++ turn_with_sent turn bytes.now ∷ []) self.new) }
+        ensures noted { (tested : Role) (before : List Turn) (turn : Turn) →
+            HasGrown K.keeps tested (before ++ turn ∷ []) self.old →
+            OnOk result (NotesSent tested (before ++ turn ∷ []) bytes.now self.old.pings self.new.pings) }
     {
         let number = self.turns.saturating_sub(1);
-        take_piece(Way::Sent, number, bytes, &mut self.rooms, &mut self.sent)?;
+        take_watched(
+            Way::Sent,
+            number,
+            bytes,
+            &mut self.rooms,
+            &mut self.sent,
+            &mut self.unanswered,
+        )?;
         self.got
             .collected
             .replies
@@ -84,18 +106,33 @@ impl<K: KeepsReplies> GrowingEvidence<K> {
         Ok(())
     }
 
-    /// These bytes were got in the turn that has begun last.
-    pub fn on_got(&mut self, bytes: &[u8]) -> Result<(), NoMemory>
+    /// These bytes were got in the turn that has begun last: whether they are progress. That is a byte of a frame that
+    /// is neither a ping nor a pong, and a whole pong that is owed; behind a close or a fault nothing is.
+    pub fn on_got(&mut self, bytes: &[u8]) -> Result<bool, NoMemory>
         ensures grown { (tested : Role) (before : List Turn) (turn : Turn) →
             HasGrown K.keeps tested (before ++ turn ∷ []) self.old →
             OnOk result (HasGrown K.keeps tested (before ++ turn_with_got turn bytes.now ∷ []) self.new) }
 
+        ensures noted { (tested : Role) (before : List Turn) (turn : Turn) →
+            HasGrown K.keeps tested (before ++ turn ∷ []) self.old → IfOk result (λ progress.
+            NotesGot tested (before ++ turn ∷ []) bytes.now self.old.pings self.new.pings progress) }
+
         // Nothing is told of what comes after a close or a fault.
         ensures over { is_over self.old.tester.status ≡ true → self.new.tester ≡ self.old.tester }
     {
-        let number = self.turns.saturating_sub(1);
-        take_piece(Way::Got, number, bytes, &mut self.rooms, &mut self.got)?;
-        Ok(())
+        let turn = self.turns.saturating_sub(1);
+        let has_progress = take_watched(
+            Way::Got,
+            turn,
+            bytes,
+            &mut self.rooms,
+            &mut self.got,
+            &mut self.unanswered,
+        )?;
+        if has_progress {
+            return Ok(true);
+        }
+        Ok(is_in_other_frame(&self.got))
     }
 
     /// Whether a close was got: no event follows it.
@@ -179,6 +216,17 @@ impl GrowingEvidence<ReplyTally> {
         session_laws();
         self.got.collected.has_rest
     }
+}
+
+/// Whether what was taken ends inside a frame that is neither a ping nor a pong.
+fn is_in_other_frame<K: KeepsReplies>(taken: &Taken<K>) -> bool
+    ensures { (way : Way) (role : Role) (turns : List (List ℕ)) →
+        HasTakenWay K.keeps way role turns taken.now.session taken.now.collected →
+        IsTrue result ↔ EndInOtherFrame role (concat turns) }
+{
+    frame_laws();
+    let session = &taken.session;
+    taken.collected.has_rest && (!session.status().is_over() && !session.is_in_ping_or_pong())
 }
 
 /// The other end.

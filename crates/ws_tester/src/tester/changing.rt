@@ -3,16 +3,16 @@
 ghost use Rattle.std.specs.Prelude.{◌≡◌, ◌≤◌, ◌++◌, ◌∷◌, [], List, ℕ, length, take, true, false, None, OnOk};
 ghost use Rattle.ws_machines.specs.Machines.{HasNext, MayBeTold, told_at};
 ghost use Rattle.ws_machines.specs.Told.{told_of};
-ghost use Rattle.ws_machines.specs.Told.Told.{Came};
 ghost use Rattle.ws_scripts.specs.declared.transcript.Turn.{Turn};
 ghost use Rattle.ws_session.specs.Exchange.{is_over};
 ghost use Rattle.ws_wire.specs.declared.role.Role.{Role};
 ghost use Rattle.ws_suite.specs.Growing.{HasGrown, IsTallyOf, new_turn, turn_with_got, turn_with_sent};
-ghost use Rattle.ws_tester.specs.Following.{Changes, LeadsOnBy, Hears, ShowsTurns, Obeys, Settles};
+ghost use Rattle.ws_suite.specs.Progress.{NotesGot, NotesSent};
+ghost use Rattle.ws_tester.specs.Following.{Changes, LeadsOnBy, HearsCame, ShowsTurns, Obeys, Settles};
 ghost use Rattle.ws_tester.specs.Outcomes.{outcome_of_event};
 ghost use Rattle.ws_tester.specs.Outgoings.{first_piece};
 ghost use Rattle.ws_tester.specs.RunStates.{is_all_sent, turns_of_run, wanted_in, with_came, with_run_end};
-ghost use Rattle.ws_tester.specs.RunStates.{with_next_turn, with_standing, with_taken};
+ghost use Rattle.ws_tester.specs.RunStates.{with_anew, with_next_turn, with_standing, with_taken, with_unanswered};
 ghost use Rattle.ws_tester.specs.Standings.{standing_of_status};
 ghost use Rattle.ws_tester.specs.declared.outcome.Outcome.TheVariants.{Rests};
 
@@ -69,11 +69,11 @@ impl Tester {
         Ok(())
     }
 
-    /// These bytes came, and how what was got stands then is heard.
+    /// These bytes came, and how what was got stands then is heard, and whether they are progress.
     fn on_came(&mut self, piece: &[u8]) -> Result<(), NoMemory>
         requires { length piece.now ≤ self.old.run.allowance }
         ensures heard { OnOk result (ShowsTurns self.old →
-            Hears (Came piece.now) (with_came piece.now self.old.run) self.new.run × ShowsTurns self.new) }
+            HearsCame piece.now self.old.run (with_came piece.now self.old.run) self.new.run × ShowsTurns self.new) }
         ensures going { OnOk result (self.new.run.ended ≡ self.old.run.ended) }
     {
         one_list_of_events();
@@ -82,20 +82,25 @@ impl Tester {
         Ok(())
     }
 
-    /// These bytes came.
+    /// These bytes came, and it is told whether they are progress.
     fn keep_came(&mut self, piece: &[u8]) -> Result<(), NoMemory>
         requires { length piece.now ≤ self.old.run.allowance }
-        ensures came { OnOk result (self.new.run ≡ with_came piece.now self.old.run) }
+        ensures came { OnOk result (self.new.run ≡ with_anew self.new.run.waits_anew
+            (with_unanswered self.new.run.pings (with_came piece.now self.old.run))) }
         ensures grown { OnOk result ((tested : Role) (past : List Turn) (turn : Turn) →
             HasGrown IsTallyOf tested (past ++ turn ∷ []) self.old.seen →
             HasGrown IsTallyOf tested (past ++ turn_with_got turn piece.now ∷ []) self.new.seen) }
+        ensures noted { OnOk result ((tested : Role) (past : List Turn) (turn : Turn) →
+            HasGrown IsTallyOf tested (past ++ turn ∷ []) self.old.seen → NotesGot tested (past ++ turn ∷ [])
+            piece.now self.old.run.pings self.new.run.pings self.new.run.waits_anew) }
         ensures over { OnOk result (is_over self.old.seen.tester.status ≡ true →
             self.new.seen.tester ≡ self.old.seen.tester) }
         ensures before { OnOk result (self.new.had_sent_end ≡ self.old.had_sent_end) }
     {
         append(&mut self.got, piece)?;
-        self.evidence.on_got(piece)?;
+        let progress = self.evidence.on_got(piece)?;
         self.allowance -= piece.len() as u64;
+        self.waits_anew = progress;
         Ok(())
     }
 
@@ -114,17 +119,21 @@ impl Tester {
     /// So many bytes of the piece that is next were taken.
     fn on_taken(&mut self, count: usize) -> Result<(), NoMemory>
         requires { count ≤ length (first_piece self.old.run.outgoing.rest) }
-        ensures taken { OnOk result (self.new.run
-            ≡ with_taken (take count (first_piece self.old.run.outgoing.rest)) self.old.run) }
+        ensures taken { OnOk result (self.new.run ≡ with_anew true (with_unanswered self.new.run.pings
+            (with_taken (take count (first_piece self.old.run.outgoing.rest)) self.old.run))) }
         ensures grown { OnOk result ((tested : Role) (past : List Turn) (turn : Turn) →
             HasGrown IsTallyOf tested (past ++ turn ∷ []) self.old.seen → HasGrown IsTallyOf tested
             (past ++ turn_with_sent turn (take count (first_piece self.old.run.outgoing.rest)) ∷ []) self.new.seen) }
+        ensures noted { OnOk result ((tested : Role) (past : List Turn) (turn : Turn) →
+            HasGrown IsTallyOf tested (past ++ turn ∷ []) self.old.seen → NotesSent tested (past ++ turn ∷ [])
+            (take count (first_piece self.old.run.outgoing.rest)) self.old.run.pings self.new.run.pings) }
         ensures before { OnOk result (self.new.had_sent_end ≡ self.old.had_sent_end) }
     {
         let bytes = &self.outgoing.piece()[..count];
         append(&mut self.sent, bytes)?;
         self.evidence.on_sent(bytes)?;
         self.outgoing.take(count);
+        self.waits_anew = true;
         Ok(())
     }
 
@@ -147,17 +156,25 @@ impl Tester {
             StreamEvent::WriteFailed => {
                 self.outgoing.stop();
                 self.write_failed = true;
+                self.waits_anew = false;
                 Ok(())
             }
             StreamEvent::DirectionEnded => {
                 self.is_half_closed = true;
+                self.waits_anew = false;
+                Ok(())
+            }
+            StreamEvent::NothingCame => {
+                self.waits_anew = true;
                 Ok(())
             }
             StreamEvent::Ended
             | StreamEvent::ReadFailed
-            | StreamEvent::NothingCame
             | StreamEvent::Reported
-            | StreamEvent::DeadlinePassed(_) => Ok(()),
+            | StreamEvent::DeadlinePassed(_) => {
+                self.waits_anew = false;
+                Ok(())
+            }
         }
     }
 

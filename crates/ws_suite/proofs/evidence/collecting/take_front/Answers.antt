@@ -1,6 +1,6 @@
 -- What the session tells of the front of a piece is collected as an event of the last turn.
 use Rattle.std.proofs.Common.{◌≡◌, ◌∙◌, ◌<◌, ◌++◌, Bool, ℕ, Option, None, Some, ap, subst, sym, refl, rules, length, is_none}
-use Rattle.std.proofs.Common.{List, take}
+use Rattle.std.proofs.Common.{List, take, false}
 use Rattle.std.specs.Prelude.{option_to_list}
 use Rattle.ws_session.specs.Lent.{event_if_any, taken_in}
 use Rattle.ws_session.specs.declared.payload_room.EventKind.{EventKind}
@@ -15,6 +15,18 @@ use Rattle.ws_suite.proofs.evidence.collecting.take_front.Goals as goal
 as_told : (event : Option EventKind) (payload : List ℕ) → is_none event ≡ is_none (event_if_any event payload)
 as_told None payload = refl
 as_told (Some event) payload = refl
+
+pub returns-clause-told : goal.returns-clause-told
+returns-clause-told g c =
+    let took = c.in_ok-front.ensures in
+    record {
+      role = took.role;
+      limits = took.limits;
+      events = λ sent taken exchanged events has.
+          (took.taken (record { sent = sent; taken = taken; ended = false }) refl exchanged).event events has;
+      exchanged = λ sent taken exchanged.
+          (_, (took.taken (record { sent = sent; taken = taken; ended = false }) refl exchanged).agrees);
+    }
 
 pub returns-clause-taken : goal.returns-clause-taken
 returns-clause-taken g c = λ laws role turns last number h.

@@ -17,7 +17,7 @@ loop-rest-init g c = (
 pub loop-rest-preserved : goal.loop-rest-preserved
 loop-rest-preserved g c =
     let rest = c.loop-rest.rest.now in
-    let used = c.in_ok-used.used in
+    let used = c.in_ok-front.front.used in
     let part = take used rest in
     let after = take (length rest - used) (drop used rest) in
     let whole : after ≡ drop used rest = take_all (length rest - used) (drop used rest) (omega (arith, length-drop used rest)) in
@@ -26,8 +26,9 @@ loop-rest-preserved g c =
       i.0 ++ part,
       i.1 ∙ (ap (λ (l : List ℕ). i.0 ++ l) split ∙ sym (append_assoc i.0 part after)),
       λ role turns last number h. subst (λ (l : List ℕ). HasTakenWay g.K.KeepsReplies.keeps c.args.way role (turns ++ l ∷ []) c.take_front.new.taken.session c.take_front.new.taken.collected) (append_assoc last i.0 part)
-          (c.in_ok-used.ensures.taken c.session_laws.ensures role turns (last ++ i.0) number (i.2 role turns last number h)),
+          (c.in_ok-front.ensures.taken c.session_laws.ensures role turns (last ++ i.0) number
+          (i.2 role turns last number h)),
       λ role bytes h. subst (λ (l : List ℕ). HasSeenBytes role c.take_front.new.taken.session l c.take_front.new.taken.seen) (append_assoc bytes i.0 part)
-          (c.in_ok-used.ensures.seen role (bytes ++ i.0) (i.3 role bytes h)),
+          (c.in_ok-front.ensures.seen role (bytes ++ i.0) (i.3 role bytes h)),
       λ over. search rules,
     )

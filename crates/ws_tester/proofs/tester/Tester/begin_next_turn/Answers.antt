@@ -18,4 +18,4 @@ returns-clause-grown c = λ tested.
     ) in
     subst (λ (v : TesterValue). HasGrown IsTallyOf tested (turns_of_run v.run) v.seen
     → HasGrown IsTallyOf tested (turns_of_run v.run ++ new_turn ∷ []) c.begin_turn.new.self) c.self.view_is
-    (λ h. c.begin_turn.ensures tested turns room h)
+    (λ h. c.begin_turn.ensures.grown tested turns room h)

@@ -1,7 +1,7 @@
 -- A run has begun: it rests, or has ended.
-use Rattle.std.proofs.Common.{◌∙◌, refl, sym}
+use Rattle.std.proofs.Common.{◌∙◌, ap, refl, sym}
 use Rattle.ws_scripts.specs.declared.transcript.Ended.TheVariants.{Tester}
-use Rattle.ws_tester.specs.RunStates.{plan_value}
+use Rattle.ws_tester.specs.RunStates.{RunState, plan_value}
 use Rattle.ws_tester.specs.Following.{ScriptValue}
 use Rattle.ws_tester.proofs.BeginLemmas.{begins_ended, begins_settled, first_shown}
 use Rattle.ws_tester.proofs.ShownLemmas.{ended_shown}
@@ -32,6 +32,10 @@ returns-then-has_turns-clause-told c =
     let first = c.in_ok-tester.tester in
     let laws = c.in_ok-tester.ensures in
     (refl, (c.in_ok-settle.ensures.settles (first_shown run first laws.state laws.grown laws.before)).1)
+
+pub returns-then-has_turns-clause-goes_on : goal.returns-then-has_turns-clause-goes_on
+returns-then-has_turns-clause-goes_on c =
+    c.in_ok-settle.ensures.goes_on (ap (λ (x : RunState). x.ended) c.in_ok-tester.ensures.state)
 
 pub returns-clause-begins : goal.returns-clause-begins
 returns-clause-begins c =
