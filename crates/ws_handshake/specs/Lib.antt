@@ -1,0 +1,5 @@
+pub mod Requests
+pub mod Responses
+pub mod ReadingHeads
+pub mod Probes
+pub mod InnerProbes
