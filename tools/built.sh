@@ -1,7 +1,8 @@
 # shellcheck shell=sh disable=SC2154 # (root is set by the reader)
-# What the programs wst, test_rows, test_devices and test_refusals were built from, for the launchers and the test command,
-# which read this file with the variable `root` set to the top of the repository. The stamp of a program says from which
-# sources it was built: a checksum of their paths and contents, and one of the program. Times are not looked at.
+# What the programs wst, test_rows, test_devices, test_loops and test_refusals were built from, for the launchers and the
+# test command, which read this file with the variable `root` set to the top of the repository. The stamp of a program
+# says from which sources it was built: a checksum of their paths and contents, and one of the program. Times are not
+# looked at.
 
 # The file of a program.
 program_of() {

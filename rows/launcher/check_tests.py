@@ -1,12 +1,12 @@
 """Tests of the test command `check`: which programs it trusts."""
 
-from clone import DEVICES_PROGRAM, DEVICES_SOURCE, PROGRAM, REFUSALS_PROGRAM, REFUSALS_SOURCE, ROWS_PROGRAM
-from clone import ROWS_SOURCE, SOURCE
+from clone import DEVICES_PROGRAM, DEVICES_SOURCE, LOOPS_PROGRAM, LOOPS_SOURCE, PROGRAM, REFUSALS_PROGRAM
+from clone import REFUSALS_SOURCE, ROWS_PROGRAM, ROWS_SOURCE, SOURCE
 
 CHECK = ("./check",)
 PLANTED = "#!/bin/sh\necho planted\n"
 PROGRAMS = (("wst", PROGRAM), ("test_rows", ROWS_PROGRAM), ("test_devices", DEVICES_PROGRAM))
-PROGRAMS += (("test_refusals", REFUSALS_PROGRAM),)
+PROGRAMS += (("test_loops", LOOPS_PROGRAM), ("test_refusals", REFUSALS_PROGRAM))
 
 
 def last_line(text):
@@ -50,7 +50,7 @@ def rows_of_built_programs_pass(clone):
     assert clone.run("build", how=CHECK)[0] == 0
     rows_pass(clone)
     begun = sorted(note.split()[0] for note in clone.notes() if " begins " in note)
-    assert begun == ["test_devices", "test_refusals", "test_rows", "wst"], clone.notes()
+    assert begun == ["test_devices", "test_loops", "test_refusals", "test_rows", "wst"], clone.notes()
 
 
 def a_build_goes_on_from_what_checks_left(clone):
@@ -58,13 +58,14 @@ def a_build_goes_on_from_what_checks_left(clone):
     (clone.top / "crates/test_rows/out/incremental").mkdir(parents=True)
     assert clone.run("build", how=CHECK)[0] == 0
     rows_pass(clone)
-    built = [f"{clone.top}/crates/{name}: run" for name in ("wst", "test_rows", "test_devices", "test_refusals")]
+    names = ("wst", "test_rows", "test_devices", "test_loops", "test_refusals")
+    built = [f"{clone.top}/crates/{name}: run" for name in names]
     assert clone.notes() == [f"{built[0]} -- --help", *built[1:]], clone.notes()
 
 
 def rows_of_older_sources_fail(clone):
     clone.add_check()
-    for path in (SOURCE, ROWS_SOURCE, DEVICES_SOURCE, "crates/low/src/a.rt", "crates.txt"):
+    for path in (SOURCE, ROWS_SOURCE, DEVICES_SOURCE, LOOPS_SOURCE, "crates/low/src/a.rt", "crates.txt"):
         clone.run("build", how=CHECK)
         rows_pass(clone)
         clone.write(path, "second\n")
@@ -73,7 +74,7 @@ def rows_of_older_sources_fail(clone):
 
 def rows_of_another_program_fail(clone):
     clone.add_check()
-    for name, program in (("wst", PROGRAM), ("test_rows", ROWS_PROGRAM), ("test_devices", DEVICES_PROGRAM)):
+    for name, program in PROGRAMS[:-1]:
         clone.run("build", how=CHECK)
         clone.program(program, PLANTED)
         rows_fail(clone, name)
@@ -118,7 +119,7 @@ def what_stood_before_is_removed(clone):
 
 def what_no_run_built_is_not_trusted(clone):
     clone.add_check()
-    sources = (SOURCE, ROWS_SOURCE, DEVICES_SOURCE, REFUSALS_SOURCE)
+    sources = (SOURCE, ROWS_SOURCE, DEVICES_SOURCE, LOOPS_SOURCE, REFUSALS_SOURCE)
     for source, (name, _) in zip(sources, PROGRAMS):
         clone.write(source, "lazy\n")
         plant(clone)

@@ -12,6 +12,8 @@ ROWS_SOURCE = "crates/test_rows/src/main.rt"
 ROWS_PROGRAM = "crates/test_rows/out/test_rows"
 DEVICES_SOURCE = "crates/test_devices/src/main.rt"
 DEVICES_PROGRAM = "crates/test_devices/out/test_devices"
+LOOPS_SOURCE = "crates/test_loops/src/main.rt"
+LOOPS_PROGRAM = "crates/test_loops/out/test_loops"
 REFUSALS_SOURCE = "crates/test_refusals/src/main.rt"
 REFUSALS_PROGRAM = "crates/test_refusals/out/test_refusals"
 
@@ -63,7 +65,7 @@ case $1 in
 run) build "${PWD##*/}" ;;
 try) try "$@" ;;
 ci)
-    for name in wst test_rows test_devices test_refusals; do
+    for name in wst test_rows test_devices test_loops test_refusals; do
         cd "$(dirname "$0")/../a clone/crates/$name" || exit 1
         [ ! -e "out/$name" ] || echo "left from before: $name" >>"$BUILDS"
         build "$name"
@@ -136,7 +138,7 @@ class Clone:
         shutil.copy(ROOT / "wst", self.top)
         shutil.copy(ROOT / "try", self.top)
         shutil.copytree(ROOT / "tools", self.top / "tools")
-        self.write("crates.txt", "wst:\ntest_rows:\ntest_devices:\ntest_refusals:\n")
+        self.write("crates.txt", "wst:\ntest_rows:\ntest_devices:\ntest_loops:\ntest_refusals:\n")
         self.write("HANDLES", "Handles allowed: none.\n")
         self.write(SOURCE, "first\n")
         self.program("../bin/rt", STAND_IN)
@@ -145,10 +147,11 @@ class Clone:
         (self.folder / "rlibs/std.rlib").mkdir(parents=True)
 
     def add_check(self):
-        """Adds the test command, with the sources of its three programs, and stand-ins for what it runs."""
+        """Adds the test command, with the sources of its programs, and stand-ins for what it runs."""
         shutil.copy(ROOT / "check", self.top)
         self.write(ROWS_SOURCE, "calls\n")
         self.write(DEVICES_SOURCE, "devices\n")
+        self.write(LOOPS_SOURCE, "loops\n")
         self.write(REFUSALS_SOURCE, "lists\n")
         self.program("rows/run", COUNTED)
         self.program("rows/refusals/run", COUNTED)

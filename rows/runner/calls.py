@@ -1,4 +1,4 @@
-"""Rows of calls, answered by the program `test_rows` or `test_devices`, all those of a file in one run, or by the
+"""Rows of calls, answered by `test_rows`, `test_devices` or `test_loops`, all those of a file in one run, or by the
 command `wst session`."""
 
 import re

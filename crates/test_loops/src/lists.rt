@@ -1,0 +1,132 @@
+//! Rows of loops over streams that do what lists say.
+
+ghost use Rattle.std.specs.Prelude.{IfOk};
+ghost use Rattle.ws_loops.specs.Rounds.{AreAble};
+ghost use Rattle.test_loops.specs.Noted.{IsAbleNoted, noted_agrees, noted_wants};
+
+use crate::listed_poller::{ListedPoller, wakes_by};
+use crate::listed_stream::{ListedStream, found_by, given_by};
+use crate::noted_exchange::NotedExchange;
+use crate::row_fault::RowFault;
+use crate::runs::{Tells, no_places, room, run_all};
+use std::alloc::Global;
+use std::fmt::Write;
+use ws_formats::{Hex, read_hex};
+use ws_loops::{Pace, Slot, add_slot};
+use ws_machines::Machine;
+
+/// `loop LIMIT DEADLINE WAKES SLOT ..`: exchanges over streams that do what lists say, with a time limit and a
+/// deadline, or `-` for none, found ready as `WAKES` says; a `SLOT` is `BYTES/MOST/READS/WRITES`. What each was told,
+/// in the order in which they are done, and how often was waited.
+pub fn run_lists(alloc: Global, words: &[&str], out: &mut String) -> Result<(), RowFault> {
+    let [limit, deadline, wakes, slots @ ..] = words else {
+        return Err(RowFault::NotARow);
+    };
+    let pace = Pace::begun(0, time_of(limit)?, time_of(deadline)?);
+    let mut poller = ListedPoller::new(wakes_by(alloc, wakes)?);
+    let mut places = places_by(alloc, slots, pace)?;
+    let mut lines = Lines { out };
+    let mut room = room(alloc)?;
+    run_all(
+        alloc,
+        &mut poller,
+        places.as_mut_slice(),
+        room.as_mut_slice(),
+        &mut lines,
+    )?;
+    write!(lines.out, "waits {}", poller.waits)?;
+    Ok(())
+}
+
+/// A time, or none.
+fn time_of(word: &str) -> Result<Option<u64>, RowFault> {
+    if word == "-" {
+        return Ok(None);
+    }
+    match word.parse::<u64>() {
+        Ok(time) => Ok(Some(time)),
+        Err(_) => Err(RowFault::NotARow),
+    }
+}
+
+/// The slots of these words.
+fn places_by(
+    alloc: Global,
+    words: &[&str],
+    pace: Pace,
+) -> Result<Vec<Option<Slot<NotedExchange, ListedStream>>>, RowFault>
+    ensures { IfOk result (λ places. AreAble noted_agrees noted_wants places.items) }
+{
+    let mut places = no_places(alloc);
+    for word in words {
+        let machine = machine_by(alloc, word)?;
+        let stream = stream_by(alloc, word)?;
+        add_slot(
+            &mut places,
+            Slot {
+                machine,
+                stream,
+                pace,
+            },
+        )?;
+    }
+    Ok(places)
+}
+
+/// The exchange of a word `BYTES/MOST/READS/WRITES`.
+fn machine_by(alloc: Global, word: &str) -> Result<NotedExchange, RowFault>
+    ensures { IfOk result (λ machine. IsAbleNoted machine) }
+{
+    let parts: Vec<&str> = word.split('/').collect(alloc)?;
+    let [bytes, most, _reads, _writes] = parts.as_slice() else {
+        return Err(RowFault::NotARow);
+    };
+    let Ok(most) = most.parse::<usize>() else {
+        return Err(RowFault::NotARow);
+    };
+    let bytes = read_hex(alloc, bytes.as_bytes())?;
+    let machine = NotedExchange::new(alloc, bytes.into_vec(), most);
+    Ok(machine)
+}
+
+/// The stream of a word `BYTES/MOST/READS/WRITES`.
+fn stream_by(alloc: Global, word: &str) -> Result<ListedStream, RowFault> {
+    let parts: Vec<&str> = word.split('/').collect(alloc)?;
+    let [_bytes, _most, reads, writes] = parts.as_slice() else {
+        return Err(RowFault::NotARow);
+    };
+    let (found, given) = (found_by(alloc, reads)?, given_by(alloc, writes)?);
+    Ok(ListedStream::new(alloc, found, given))
+}
+
+/// What is told of each slot.
+#[derive(Drop)]
+struct Lines<'a> {
+    out: &'a mut String,
+}
+
+impl Tells<NotedExchange, ListedStream> for Lines<'_> {
+    fn tell(
+        &mut self,
+        at: usize,
+        time: u64,
+        slot: Slot<NotedExchange, ListedStream>,
+    ) -> Result<(), RowFault> {
+        let Slot {
+            machine,
+            stream,
+            ..
+        } = slot;
+        write!(
+            self.out,
+            "{at} at {time}: told{}; did{}; ",
+            machine.told, stream.did
+        )?;
+        write!(self.out, "wrote {}; ", Hex(stream.written.as_slice()))?;
+        if machine.is_done() {
+            let came = machine.into_end()?;
+            write!(self.out, "got {}; ", Hex(came.as_slice()))?;
+        }
+        Ok(())
+    }
+}

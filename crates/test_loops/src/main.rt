@@ -1,0 +1,51 @@
+//! `test_loops`: answers rows of loops over streams in memory, which are ready, fail and end as a row says. Each line
+//! of the standard input is a row: the name of a call and its arguments, parted by one space. Each row is answered by
+//! one line. The rows stand in `rows/loops`, and `rows/run` compares the answers with those that are wanted.
+#![tactic(auto)]
+
+mod bounded_echo;
+mod chance;
+mod chances;
+mod echoes;
+mod listed_poller;
+mod listed_stream;
+mod lists;
+mod noted_exchange;
+mod row_fault;
+mod runs;
+
+use row_fault::RowFault;
+use std::alloc::Global;
+use std::io;
+use std::process::ExitCode;
+
+fn main(rt: HostRuntime) -> io::Result<ExitCode> {
+    let rows = io::read_to_string(rt.alloc(), rt.stdin())?;
+    for (place, row) in rows.as_str().lines().enumerate() {
+        match answer_to(rt.alloc(), row) {
+            Ok(answer) => println!(rt; "{answer}")?,
+            Err(RowFault::Stuck) => println!(rt; "stuck")?,
+            Err(fault) => {
+                println!(rt; "row {}: {fault}", place.saturating_add(1))?;
+                return Ok(ExitCode::FAILURE);
+            }
+        }
+    }
+    Ok(ExitCode::SUCCESS)
+}
+
+/// The answer to a row.
+fn answer_to(alloc: Global, row: &str) -> Result<String, RowFault> {
+    let words: Vec<&str> = row.split(' ').collect(alloc)?;
+    let mut out = String::new(alloc);
+    let [call, words @ ..] = words.as_slice() else {
+        return Err(RowFault::NotARow);
+    };
+    match *call {
+        "loop" => lists::run_lists(alloc, words, &mut out)?,
+        "chances" => chances::run_chances(alloc, words, &mut out)?,
+        "echo" => echoes::run_echoes(alloc, words, &mut out)?,
+        _ => return Err(RowFault::NotARow),
+    }
+    Ok(out)
+}

@@ -1,0 +1,137 @@
+-- What happened in a slot: nothing yet, one thing, and one list of things after the other.
+use Rattle.std.proofs.Common.{◌≡◌, ◌∙◌, ℕ, ◌+◌, ◌-◌, ◌≤◌, ◌⊎◌, false, List, [], ◌∷◌, ◌++◌, refl, sym, ap, subst}
+use Rattle.std.proofs.Common.{arith, append_assoc, append-nil, inl, inr}
+use Rattle.std.proofs.lemmas.Grind.{flat_map-append}
+use Rattle.ws_machines.specs.Told.{Told}
+use Rattle.ws_machines.specs.Machines.{Extends, Wants}
+use Rattle.ws_loops.specs.Deeds.{Deed, Happened, HasDone, all_done, all_moved, all_told, done_by, moved_by, told_by}
+use Rattle.ws_loops.specs.Deeds.Deed.{Woken}
+use Rattle.ws_loops.specs.Paces.{is_due, woken_pace}
+use Rattle.ws_loops.specs.Slots.{AreSteps, HasRunBy, HasServedShare, HasTurn, IsStep, share_len}
+use Rattle.ws_loops.specs.declared.pace.Pace.{Pace}
+use Rattle.ws_loops.specs.declared.poller.Readiness.{Readiness}
+use Rattle.ws_loops.specs.declared.slot.Slot.{Slot}
+
+-- bytes that were moved, and then
+pub moved_then : (one other : List Happened) → all_moved (one ++ other) ≡ all_moved one + all_moved other
+moved_then [] other = omega arith
+moved_then (x ∷ one) other = ap (λ (n : ℕ). moved_by x.deed + n) (moved_then one other)
+    ∙ sum_so (moved_by x.deed) (all_moved one) (all_moved other)
+  where
+    sum_so : (a b c : ℕ) → a + (b + c) ≡ (a + b) + c
+    sum_so a b c = omega arith
+
+module _ {M S : Type 0} (agrees : M → M → List Told → Type 0) (wants : M → Wants) (did : S → S → List Deed → Type 0)
+  where
+    -- nothing has happened
+    pub nothing_happened : (from to : ℕ) (x : Slot M S) → from ≤ to → HasRunBy agrees wants did from x [] to x
+    nothing_happened from to x h = record {
+      told = λ start told a. subst (λ (l : List Told). agrees start x.machine l) (sym (append-nil told)) a;
+      done = λ start deeds a. subst (λ (l : List Deed). did start x.stream l) (sym (append-nil deeds)) a;
+      steps = (h, refl);
+    }
+
+    -- one thing has
+    pub one_happened : (now : ℕ) (old new : Slot M S) (deed : Deed) → IsStep agrees wants did old now deed new
+        → HasRunBy agrees wants did now old (record { at = now; deed = deed } ∷ []) now new
+    one_happened now old new deed h = record {
+      told = subst (λ (l : List Told). Extends agrees old.machine new.machine l) (sym (append-nil (told_by deed))) h.told;
+      done = subst (λ (l : List Deed). HasDone did old.stream new.stream l) (sym (append-nil (done_by deed))) h.done;
+      steps = (omega arith, (new, h, (omega arith, refl)));
+    }
+
+    wider_steps : (from mid to : ℕ) (x z : Slot M S) (happened : List Happened) → from ≤ mid
+        → AreSteps agrees wants did mid x happened to z → AreSteps agrees wants did from x happened to z
+    wider_steps from mid to x z [] h (k, same) = (omega (arith, h, k), same)
+    wider_steps from mid to x z (e ∷ happened) h (k, rest) = (omega (arith, h, k), rest)
+
+    longer_steps : (from to last : ℕ) (x z : Slot M S) (happened : List Happened) → to ≤ last
+        → AreSteps agrees wants did from x happened to z → AreSteps agrees wants did from x happened last z
+    longer_steps from to last x z [] h (k, same) = (omega (arith, h, k), same)
+    longer_steps from to last x z (e ∷ happened) h (k, (next, step, rest)) =
+        (k, (next, step, longer_steps e.at to last next z happened h rest))
+
+    then_steps : (from mid to : ℕ) (x y z : Slot M S) (one other : List Happened)
+        → AreSteps agrees wants did from x one mid y → AreSteps agrees wants did mid y other to z
+        → AreSteps agrees wants did from x (one ++ other) to z
+    then_steps from mid to x y z [] other (h, same) k = wider_steps from mid to x z other h
+        (subst (λ (s : Slot M S). AreSteps agrees wants did mid s other to z) (sym same) k)
+    then_steps from mid to x y z (e ∷ one) other (h, (next, step, rest)) k =
+        (h, (next, step, then_steps e.at mid to next y z one other rest k))
+
+    -- these things, and then those
+    pub then_happened : (from mid to : ℕ) (x y z : Slot M S) (one other : List Happened)
+        → HasRunBy agrees wants did from x one mid y → HasRunBy agrees wants did mid y other to z
+        → HasRunBy agrees wants did from x (one ++ other) to z
+    then_happened from mid to x y z one other h k = record {
+      told = λ start told a. subst (λ (l : List Told). agrees start z.machine l)
+          (append_assoc told (all_told one) (all_told other)
+          ∙ ap (λ (l : List Told). told ++ l) (sym (flat_map-append (λ (e : Happened). told_by e.deed) one other)))
+          (k.told start (told ++ all_told one) (h.told start told a));
+      done = λ start deeds a. subst (λ (l : List Deed). did start z.stream l)
+          (append_assoc deeds (all_done one) (all_done other)
+          ∙ ap (λ (l : List Deed). deeds ++ l) (sym (flat_map-append (λ (e : Happened). done_by e.deed) one other)))
+          (k.done start (deeds ++ all_done one) (h.done start deeds a));
+      steps = then_steps from mid to x y z one other h.steps k.steps;
+    }
+
+    -- also since an earlier time, and until a later one
+    pub happened_within : (from mid to last : ℕ) (x z : Slot M S) (happened : List Happened) → from ≤ mid → to ≤ last
+        → HasRunBy agrees wants did mid x happened to z → HasRunBy agrees wants did from x happened last z
+    happened_within from mid to last x z happened h k run = record {
+      told = run.told;
+      done = run.done;
+      steps = longer_steps from to last x z happened k (wider_steps from mid to x z happened h run.steps);
+    }
+
+    -- what happened in a turn, and so much of its share is left
+    abbrev pub SoFar : ℕ → Slot M S → Slot M S → ℕ → Type 0
+    SoFar now first x share = (happened : List Happened) × HasRunBy agrees wants did now first happened now x
+        × (all_moved happened + share ≡ share_len)
+
+    pub one_more : (now : ℕ) (first old new : Slot M S) (share moved : ℕ) (deed : Deed) → SoFar now first old share
+        → IsStep agrees wants did old now deed new → moved_by deed ≡ moved → moved ≤ share
+        → SoFar now first new (share - moved)
+    one_more now first old new share moved deed (happened, run, sum) step m le =
+        let x : Happened = record { at = now; deed = deed } in (
+          happened ++ x ∷ [],
+          then_happened now now now first old new happened (x ∷ []) run
+              (one_happened now old new deed step),
+          omega (arith, moved_then happened (x ∷ []), sum, m, le),
+        )
+
+    pub served_so : (now : ℕ) (first x : Slot M S) (share : ℕ) → SoFar now first x share
+        → ((is_due (wants x.machine) x.pace now ≡ false) ⊎ (share ≡ 0)) → HasServedShare agrees wants did now first x
+    served_so now first x share (happened, run, sum) ends = record {
+      happened = happened;
+      run = run;
+      share = omega (arith, sum);
+      served = how ends;
+    }
+      where
+        how : ((is_due (wants x.machine) x.pace now ≡ false) ⊎ (share ≡ 0))
+            → (is_due (wants x.machine) x.pace now ≡ false) ⊎ (all_moved happened ≡ share_len)
+        how (inl rests) = inl rests
+        how (inr none) = inr (omega (arith, sum, none))
+
+    -- it was woken, and then served
+    pub woken_so : (now : ℕ) (old : Slot M S) (p : Pace) (new : Slot M S) (ready : Readiness)
+        → p ≡ woken_pace ready.read ready.write old.pace
+        → HasServedShare agrees wants did now (record { machine = old.machine; stream = old.stream; pace = p }) new
+        → HasTurn agrees wants did ready now old new
+    woken_so now old p new ready e h =
+        let x : Happened = record { at = now; deed = Woken ready.read ready.write } in
+        let mid : Slot M S = record { machine = old.machine; stream = old.stream; pace = p } in
+        let step : IsStep agrees wants did old now (Woken ready.read ready.write) mid = record {
+          told = λ start told a. subst (λ (l : List Told). agrees start old.machine l) (sym (append-nil told)) a;
+          done = λ start deeds a. subst (λ (l : List Deed). did start old.stream l) (sym (append-nil deeds)) a;
+          paced = e;
+          order = tt;
+        } in
+        record {
+          happened = h.happened;
+          run = then_happened now now now old mid new (x ∷ []) h.happened
+              (one_happened now old mid (Woken ready.read ready.write) step) h.run;
+          share = h.share;
+          served = h.served;
+        }

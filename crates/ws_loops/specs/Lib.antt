@@ -1,0 +1,4 @@
+pub mod Deeds
+pub mod Paces
+pub mod Slots
+pub mod Rounds
