@@ -10,13 +10,13 @@ use Rattle.ws_upgrade.specs.declared.faults.HeadFault.{HeadFault}
 use Rattle.ws_connection.specs.Admitting.{Admits, AnswersRequest, IsTakenFrom, PutsRefusal}
 use Rattle.ws_connection.specs.ConnectionValues.{ConnectionValue, InputValue, OutputValue}
 use Rattle.ws_connection.specs.Connections.{IsReady, ReadsBytes, ReadsHeadOver, WritesBytes, is_open}
-use Rattle.ws_connection.specs.Requests.{DecidesRequest, NeedsRequest}
+use Rattle.ws_handshake.specs.Requests.{DecidesRequest, NeedsRequest}
 use Rattle.ws_connection.specs.declared.admitting.AcceptedRequest.{AcceptedRequest}
 use Rattle.ws_connection.specs.declared.admitting.Admission.{Admission}
 use Rattle.ws_connection.specs.declared.admitting.Admission.TheVariants as admission
 use Rattle.ws_connection.specs.declared.reading_head.HeadEnd.TheVariants.{Decided}
-use Rattle.ws_connection.specs.declared.request_head.RequestDecision.{RequestDecision}
-use Rattle.ws_connection.specs.declared.request_head.RequestDecision.TheVariants.{Accepted, Refused as RefusedHead}
+use Rattle.ws_handshake.specs.declared.request_head.RequestDecision.{RequestDecision}
+use Rattle.ws_handshake.specs.declared.request_head.RequestDecision.TheVariants.{Accepted, Refused as RefusedHead}
 use Rattle.ws_connection.proofs.ProbingLemmas.{between, put_whole}
 
 -- ---- what went over the connection

@@ -1,4 +1,4 @@
--- A tester that is run over a connection: its beginning, one step more, and its end.
+-- A tester that is run on a stage: its beginning, one step more, and its end.
 use Rattle.std.proofs.Common.{◌≡◌, ◌∙◌, Bool, true, false, if◌then◌else◌, List, [], ◌∷◌, ◌++◌, length}
 use Rattle.std.proofs.Common.{refl, sym, ap, subst, inl, inr, append_assoc, append-nil}
 use Rattle.std.specs.Prelude.{Option, None, Some, is_some}
@@ -10,7 +10,7 @@ use Rattle.ws_scripts.specs.declared.transcript.Ended.TheVariants.{Tester}
 use Rattle.ws_machines.specs.Told.{Told}
 use Rattle.ws_machines.specs.Told.Told.{Came, DeadlinePassed, DirectionEnded, Ended as StreamEnded, NothingCame}
 use Rattle.ws_machines.specs.Told.Told.{ReadFailed, Reported, Taken, WriteFailed}
-use Rattle.ws_machines.specs.Machines.{Extends, IsFirstWanted, ServedOne, Wants}
+use Rattle.ws_machines.specs.Machines.{Extends, IsFirstWanted, Wants}
 use Rattle.ws_tester.specs.Standings.{is_server_close}
 use Rattle.ws_tester.specs.Outcomes.{got_in_all, outcome_of_event, sent_in_all}
 use Rattle.ws_tester.specs.Outgoings.{HaveBytes, Pieces, first_piece}
@@ -21,16 +21,14 @@ use Rattle.ws_tester.proofs.RecordsHolds.{Holds, HoldsSo}
 use Rattle.ws_tester.proofs.RecordsTests.{OneStanding}
 use Rattle.ws_tester.proofs.RecordsSettled.{settled}
 use Rattle.ws_tester.proofs.RecordLemmas.{begins_so, follows_so}
-use Rattle.ws_connection.specs.ConnectionValues.{ConnectionValue}
-use Rattle.ws_connection.specs.StreamCalls.{DidCalls, IsCallOf}
-use Rattle.ws_connection.specs.Observing.{IsHearing, IsInTurn}
 use Rattle.ws_connection.specs.Probing.{FollowsInOrder}
-use Rattle.ws_connection.specs.RunSteps.{IsToldAll, RunStage, WasRead, calls_in, turns_told}
+use Rattle.ws_connection.specs.RunSteps.{IsToldAll, RunStep, WasRead, calls_in, turns_told}
 use Rattle.ws_connection.specs.RunSteps.RunStep.{Calls}
-use Rattle.ws_connection.specs.InnerDriving.{BeginsSomeRun, DrivesSo, DrivesToEnd, IsPartOf}
-use Rattle.ws_connection.specs.InnerDriving.{IsToldOfRun, MayBeToldMore, TellsRun}
+use Rattle.ws_connection.specs.Stages.{BeginsSomeRun, IsTelling, RunsOnStage}
+use Rattle.ws_connection.specs.InnerDriving.{DrivesSo, IsPartOf}
+use Rattle.ws_connection.specs.InnerDriving.{IsToldOfRun, MayBeToldMore, ServedOnStage, TellsRun}
 use Rattle.ws_connection.specs.declared.probing.telling.TurnsTold.{TurnsTold}
-use Rattle.ws_connection.proofs.StepLemmas.{calls_then, did_then, in_time_then, no_call_in_time, told_then}
+use Rattle.ws_connection.proofs.StepLemmas.{calls_then, in_time_then, no_call_in_time, told_then}
 use Rattle.ws_connection.proofs.TellingLemmas.{may_hearing, may_in_turn}
 use Rattle.ws_connection.proofs.GrowthLemmas.{hears_on, leads_goes, told_goes}
 
@@ -59,16 +57,6 @@ running_holds one run start now told pieces (standing, stands, begins) follows g
 
 -- ---- one call
 
--- what a connection did that did one thing
-pub one_call : (old new : ConnectionValue) (event : Told) → Extends DidCalls old new (event ∷ [])
-    → IsCallOf event (record { old = old; new = new })
-one_call old new event did = pick (did old [] refl)
-  where
-    pick : (next : ConnectionValue) × IsCallOf event (record { old = old; new = next }) × (new ≡ next)
-        → IsCallOf event (record { old = old; new = new })
-    pick (next, call, same) =
-        subst (λ (x : ConnectionValue). IsCallOf event (record { old = old; new = x })) (sym same) call
-
 -- what happened to a tester that was told one thing
 pub one_event : (x y : TesterValue) (event : Told) → ShowsTurns x → Extends WasTold x y (event ∷ [])
     → Happens x.run event y.run
@@ -95,18 +83,17 @@ read_behind wants DirectionEnded order read = absurd read
 read_behind wants (Reported lines) order read = absurd read
 read_behind wants (DeadlinePassed waited) order read = absurd read
 
-module _ {O : Type 0} (heard : O → O → List Turn → Type 0) (start : TesterValue) (old : RunStage O) where
+module _ {S : Type 0} (did : S → S → List RunStep → Type 0) (start : TesterValue) (old : S) where
   -- ---- the beginning
 
-  pub begins_driving : WasTold start start [] → (told : TurnsTold) → told.whole ≡ 0 → told.is_sent ≡ false
-      → DrivesSo heard start start old old told
-  begins_driving was told whole none = record {
+  pub begins_driving : WasTold start start [] → did old old [] → (told : TurnsTold) → told.whole ≡ 0
+      → told.is_sent ≡ false → DrivesSo did start start old old told
+  begins_driving was staged told whole none = record {
     drives = record {
       steps = [];
-      did = refl;
+      done = staged;
       was_told = was;
       in_order = refl;
-      hears = λ first turns h. subst (λ (l : List Turn). heard first old.observer l) (sym (append-nil turns)) h;
       in_time = λ run pieces begins. tt;
     };
     told_of = pick start.run.past refl;
@@ -139,43 +126,32 @@ module _ {O : Type 0} (heard : O → O → List Turn → Type 0) (start : Tester
 
   -- ---- what it may be told
 
-  pub drives_may_tell : (x : TesterValue) (now : RunStage O) (told : TurnsTold) → IsHearing heard old.observer
-      → DrivesSo heard start x old now told → MayBeToldMore heard told now.observer
-  drives_may_tell x now told (first, turns, h) d = pick told.is_sent refl d.told_of
+  pub drives_may_tell : (x : TesterValue) (now : S) (told : TurnsTold) → DrivesSo did start x old now told
+      → MayBeToldMore did told now
+  drives_may_tell x now told d = pick told.is_sent refl d.told_of
     where
       all_told : List Turn
       all_told = turns_told [] d.drives.steps
 
-      now_heard : heard first now.observer (turns ++ all_told)
-      now_heard = d.drives.hears first turns h
-
-      in_turn : (before : List Turn) (turn : Turn) → all_told ≡ before ++ turn ∷ [] → IsInTurn heard now.observer
-      in_turn before turn e = (
-        first,
-        turns ++ before,
-        turn,
-        subst (λ (l : List Turn). heard first now.observer l)
-            (ap (λ (l : List Turn). turns ++ l) e ∙ sym (append_assoc turns before (turn ∷ []))) now_heard,
-      )
+      in_turn : (before : List Turn) (turn : Turn) → all_told ≡ before ++ turn ∷ [] → IsTelling did now
+      in_turn before turn e = (old, d.drives.steps, before, turn, d.drives.done, e)
 
       of_part : (before part : List Turn) (turn : Turn) → all_told ≡ before ++ part
-          → IsPartOf true told.got turn part → IsInTurn heard now.observer
+          → IsPartOf true told.got turn part → IsTelling did now
       of_part before part turn e (front, others, got, len, is) = in_turn before
           (record { sent = turn.sent; got = front }) (e ∙ ap (λ (l : List Turn). before ++ l) is)
 
-      pick : (sent : Bool) → told.is_sent ≡ sent → IsToldOfRun told x.run all_told
-          → MayBeToldMore heard told now.observer
-      pick false e k = may_hearing heard told now.observer e (first, turns ++ all_told, now_heard)
-      pick true e (inl k) = may_in_turn heard told now.observer (of_part k.before k.part k.now k.turns_are
+      pick : (sent : Bool) → told.is_sent ≡ sent → IsToldOfRun told x.run all_told → MayBeToldMore did told now
+      pick false e k = may_hearing did told now e (old, d.drives.steps, d.drives.done)
+      pick true e (inl k) = may_in_turn did told now (of_part k.before k.part k.now k.turns_are
           (subst (λ (b : Bool). IsPartOf b told.got k.now k.part) e k.is_part))
-      pick true e (inr k) = may_in_turn heard told now.observer (of_part x.run.past k.at.part x.run.turn k.at.turns_are
+      pick true e (inr k) = may_in_turn did told now (of_part x.run.past k.at.part x.run.turn k.at.turns_are
           (subst (λ (b : Bool). IsPartOf b told.got x.run.turn k.at.part) e k.at.is_part))
 
   -- ---- what is told
 
-  module _ (x : TesterValue) (now : RunStage O) (told next : TurnsTold) (observer : O)
-      (d : DrivesSo heard start x old now told)
-      (t : TellsRun heard x.run told next (turns_told [] d.drives.steps) now.observer observer)
+  module _ (x : TesterValue) (now next : S) (told later : TurnsTold) (d : DrivesSo did start x old now told)
+      (t : TellsRun did x.run told later (turns_told [] d.drives.steps) now next)
     where
       then_told : turns_told [] (d.drives.steps ++ t.tells.steps) ≡ t.new_turns
       then_told = told_then [] d.drives.steps t.tells.steps ∙ t.tells.told
@@ -185,21 +161,18 @@ module _ {O : Type 0} (heard : O → O → List Turn → Type 0) (start : Tester
           ∙ (ap (λ (l : List Told). calls_in d.drives.steps ++ l) t.tells.no_call
           ∙ append-nil (calls_in d.drives.steps))
 
-      pub drives_tell : DrivesSo heard start x old (record { connection = now.connection; observer = observer }) next
+      pub drives_tell : DrivesSo did start x old next later
       drives_tell = record {
         drives = record {
           steps = d.drives.steps ++ t.tells.steps;
-          did = did_then heard old now (record { connection = now.connection; observer = observer }) d.drives.steps
-              t.tells.steps d.drives.did (t.tells.did now.connection);
+          done = t.tells.goes old d.drives.steps refl d.drives.done;
           was_told = subst (λ (l : List Told). WasTold start x l) (sym then_called) d.drives.was_told;
           in_order = subst (λ (l : List Told). FollowsInOrder start.run x.run l) (sym then_called) d.drives.in_order;
-          hears = λ first turns h. subst (λ (l : List Turn). heard first observer (turns ++ l)) (sym then_told)
-              (t.tells.hears first turns (d.drives.hears first turns h));
           in_time = λ run pieces begins. in_time_then run.first [] d.drives.steps t.tells.steps
               (d.drives.in_time run pieces begins)
               (no_call_in_time run.first d.drives.steps t.tells.steps t.tells.no_call);
         };
-        told_of = subst (λ (l : List Turn). IsToldOfRun next x.run l) (sym then_told) t.told_of;
+        told_of = subst (λ (l : List Turn). IsToldOfRun later x.run l) (sym then_told) t.told_of;
         none = λ e. then_told ∙ (t.none e ∙ d.none e);
       }
 
@@ -210,16 +183,13 @@ module _ {O : Type 0} (heard : O → O → List Turn → Type 0) (start : Tester
 
   -- ---- what is done
 
-  module _ (one : OneStanding) (x y : TesterValue) (now : RunStage O) (connection : ConnectionValue) (told : TurnsTold)
-      (begun : BeginsSomeRun start.run) (d : DrivesSo heard start x old now told) (going : x.run.ended ≡ None)
+  module _ (one : OneStanding) (x y : TesterValue) (now next : S) (told : TurnsTold)
+      (begun : BeginsSomeRun start.run) (d : DrivesSo did start x old now told) (going : x.run.ended ≡ None)
       (all : x.run.begun ≡ true → (wanted_in x.run).write ≡ [] → turns_told [] d.drives.steps ≡ turns_of_run x.run)
-      (served : ServedOne WasTold (λ (v : TesterValue). wanted_in v.run) DidCalls x y now.connection connection)
+      (served : ServedOnStage WasTold (λ (v : TesterValue). wanted_in v.run) did x y now next)
     where
       abbrev event : Told
       event = served.event
-
-      abbrev next : RunStage O
-      next = record { connection = connection; observer = now.observer }
 
       holds : (run : ScriptValue) → HaveBytes run.script → BeginsRun run start.run
           → Holds run (calls_in d.drives.steps) x.run
@@ -257,19 +227,16 @@ module _ {O : Type 0} (heard : O → O → List Turn → Type 0) (start : Tester
             goes.0 ∙ on.begun,
           )
 
-      pub drives_call : DrivesSo heard start y old next told
+      pub drives_call : DrivesSo did start y old next told
       drives_call = record {
         drives = record {
           steps = d.drives.steps ++ Calls event ∷ [];
-          did = did_then heard old now next d.drives.steps (Calls event ∷ []) d.drives.did
-              (next, (one_call now.connection connection event served.done, refl), refl);
+          done = served.done old d.drives.steps d.drives.done;
           was_told = subst (λ (l : List Told). WasTold start y l) (sym more_called)
               (served.told start (calls_in d.drives.steps) d.drives.was_told);
           in_order = subst (λ (l : List Told). FollowsInOrder start.run y.run l) (sym more_called)
               (order_then start.run x.run y.run (calls_in d.drives.steps) (event ∷ []) d.drives.in_order
               (y.run, happens, served.order, refl));
-          hears = λ first turns h. subst (λ (l : List Turn). heard first now.observer (turns ++ l)) (sym same_told)
-              (d.drives.hears first turns h);
           in_time = λ run pieces begins. in_time_then run.first [] d.drives.steps (Calls event ∷ [])
               (d.drives.in_time run pieces begins) ((λ read. told_all run pieces begins read), tt);
         };
@@ -279,12 +246,16 @@ module _ {O : Type 0} (heard : O → O → List Turn → Type 0) (start : Tester
 
   -- ---- the end
 
-  pub ends_driving : (x : TesterValue) (now : RunStage O) (told : TurnsTold) (d : DrivesSo heard start x old now told)
+  pub ends_driving : (x : TesterValue) (now : S) (told : TurnsTold) (d : DrivesSo did start x old now told)
       → (x.run.begun ≡ true → (wanted_in x.run).write ≡ [] → turns_told [] d.drives.steps ≡ turns_of_run x.run)
-      → (wanted_in x.run).done ≡ true → DrivesToEnd heard start x old now
+      → (wanted_in x.run).done ≡ true → RunsOnStage did start x old now
   ends_driving x now told d all done = record {
-    drives = d.drives;
-    recorded = pick x.run.begun refl;
+    steps = d.drives.steps;
+    done = d.drives.done;
+    was_told = d.drives.was_told;
+    in_order = d.drives.in_order;
+    turns = pick x.run.begun refl;
+    in_time = d.drives.in_time;
   }
     where
       no_write_left : (wanted_in x.run).write ≡ []

@@ -13,7 +13,7 @@ use Rattle.ws_machines.specs.Told.Told.{ReadFailed, Reported, Taken, WriteFailed
 use Rattle.ws_tester.specs.Standings.{is_server_close}
 use Rattle.ws_tester.specs.Outgoings.{Pieces, first_piece, without_front}
 use Rattle.ws_tester.specs.RunStates.{RunState, is_all_sent, is_nothing, wanted_in, with_came, with_closing}
-use Rattle.ws_tester.specs.RunStates.{with_next_turn, with_nothing_to_send, with_taken}
+use Rattle.ws_tester.specs.RunStates.{with_anew, with_next_turn, with_nothing_to_send, with_taken, with_unanswered}
 use Rattle.ws_tester.specs.Following.{Changes, LeadsOnBy, MayHappen, SettlesIn}
 use Rattle.ws_tester.specs.declared.outcome.Outcome.{Outcome}
 use Rattle.ws_tester.specs.declared.outcome.Outcome.TheVariants.{Rests, Next, Ends}
@@ -35,15 +35,16 @@ pub record HearsOn (x heard : RunState) : Type 0 where
   pub still : is_all_sent x ≡ true → is_all_sent heard ≡ true
   pub begun : heard.begun ≡ x.begun
 
-pub came_on : (b : Bool) (x : RunState) (bytes : List ℕ)
-    → HearsOn x (if b then with_closing (with_nothing_to_send (with_came bytes x)) else with_came bytes x)
-came_on true x bytes = record {
+pub came_on : (b : Bool) (x : RunState) (bytes : List ℕ) (pings : List (List ℕ)) (anew : Bool)
+    → HearsOn x (if b then with_closing (with_nothing_to_send (with_anew anew (with_unanswered pings (with_came bytes x))))
+    else with_anew anew (with_unanswered pings (with_came bytes x)))
+came_on true x bytes pings anew = record {
   turn = record { more = bytes; got = refl; sent = λ e. refl };
   past = refl;
   still = λ e. refl;
   begun = refl;
 }
-came_on false x bytes = record {
+came_on false x bytes pings anew = record {
   turn = record { more = bytes; got = refl; sent = λ e. refl };
   past = refl;
   still = λ e. e;
@@ -61,8 +62,9 @@ still_nothing [] count h e = refl
 still_nothing (piece ∷ pieces) count h e = absurd (no_byte piece e h.0)
 
 pub taken_on : (x : RunState) (bytes unsent : List ℕ) → AllByRecursion has_bytes x.outgoing.rest
-    → first_piece x.outgoing.rest ≡ bytes ++ unsent → HearsOn x (with_taken bytes x)
-taken_on x bytes unsent pieces e = record {
+    → first_piece x.outgoing.rest ≡ bytes ++ unsent → (pings : List (List ℕ))
+    → HearsOn x (with_anew true (with_unanswered pings (with_taken bytes x)))
+taken_on x bytes unsent pieces e pings = record {
   turn = record {
     more = [];
     got = sym (append-nil x.turn.got);
@@ -74,8 +76,8 @@ taken_on x bytes unsent pieces e = record {
   begun = refl;
 }
 
-pub same_on : (x : RunState) → HearsOn x x
-same_on x = record {
+pub same_on : (anew : Bool) (x : RunState) → HearsOn x (with_anew anew x)
+same_on anew x = record {
   turn = record { more = []; got = sym (append-nil x.turn.got); sent = λ e. refl };
   past = refl;
   still = λ e. e;
@@ -84,10 +86,10 @@ same_on x = record {
 
 pub hears_on : (event : Told) (x heard : RunState) → AllByRecursion has_bytes x.outgoing.rest → MayHappen x event
     → Changes event x heard → HearsOn x heard
-hears_on (Came bytes) x heard pieces may (standing, stands, same) = subst (λ (y : RunState). HearsOn x y) (sym same)
-    (came_on (is_server_close x.plan.tested standing && not x.closing) x bytes)
-hears_on (Taken bytes) x heard pieces (unsent, e) same =
-    subst (λ (y : RunState). HearsOn x y) (sym same) (taken_on x bytes unsent pieces e)
+hears_on (Came bytes) x heard pieces may hears = subst (λ (y : RunState). HearsOn x y) (sym hears.is)
+    (came_on (is_server_close x.plan.tested hears.standing && not x.closing) x bytes hears.pings hears.progress)
+hears_on (Taken bytes) x heard pieces may hears = subst (λ (y : RunState). HearsOn x y) (sym hears.is)
+    (taken_on x bytes may.0 pieces may.1 hears.pings)
 hears_on WriteFailed x heard pieces may same = subst (λ (y : RunState). HearsOn x y) (sym same) (record {
   turn = record { more = []; got = sym (append-nil x.turn.got); sent = λ e. refl };
   past = refl;
@@ -100,12 +102,12 @@ hears_on DirectionEnded x heard pieces may same = subst (λ (y : RunState). Hear
   still = λ e. e;
   begun = refl;
 })
-hears_on StreamEnded x heard pieces may same = subst (λ (y : RunState). HearsOn x y) (sym same) (same_on x)
-hears_on ReadFailed x heard pieces may same = subst (λ (y : RunState). HearsOn x y) (sym same) (same_on x)
-hears_on NothingCame x heard pieces may same = subst (λ (y : RunState). HearsOn x y) (sym same) (same_on x)
-hears_on (Reported lines) x heard pieces may same = subst (λ (y : RunState). HearsOn x y) (sym same) (same_on x)
+hears_on StreamEnded x heard pieces may same = subst (λ (y : RunState). HearsOn x y) (sym same) (same_on false x)
+hears_on ReadFailed x heard pieces may same = subst (λ (y : RunState). HearsOn x y) (sym same) (same_on false x)
+hears_on NothingCame x heard pieces may same = subst (λ (y : RunState). HearsOn x y) (sym same) (same_on true x)
+hears_on (Reported lines) x heard pieces may same = subst (λ (y : RunState). HearsOn x y) (sym same) (same_on false x)
 hears_on (DeadlinePassed waited) x heard pieces may same =
-    subst (λ (y : RunState). HearsOn x y) (sym same) (same_on x)
+    subst (λ (y : RunState). HearsOn x y) (sym same) (same_on false x)
 
 -- ---- how the run goes on
 

@@ -5,6 +5,7 @@ pub mod ConnectionLemmas
 pub mod StreamLemmas
 pub mod StreamLaws
 pub mod StepLemmas
+pub mod StageLemmas
 pub mod TellingLemmas
 pub mod GrowthLemmas
 pub mod DrivingLemmas

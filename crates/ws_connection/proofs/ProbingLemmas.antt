@@ -11,24 +11,25 @@ use Rattle.ws_scripts.specs.declared.script.Chop.{Chop}
 use Rattle.ws_scripts.specs.declared.script.Step.{Step}
 use Rattle.ws_scripts.specs.declared.transcript.Transcript.{Transcript}
 use Rattle.ws_scripts.specs.declared.transcript.Turn.{Turn}
-use Rattle.ws_tester.specs.Following.{BeginsRun, ScriptValue, TesterValue, WasTold}
+use Rattle.ws_tester.specs.Following.{BeginsRun, TesterValue, WasTold}
 use Rattle.ws_machines.specs.Told.{Told}
 use Rattle.ws_tester.specs.Outgoings.{HaveBytes, Pieces}
 use Rattle.ws_tester.specs.Records.{IsRecorded}
 use Rattle.ws_tester.specs.RunStates.{PlanValue, RunState, recorded}
 use Rattle.ws_connection.specs.ConnectionValues.{ConnectionRun, ConnectionValue, InputValue, OutputValue}
 use Rattle.ws_connection.specs.Connections.{IsNewConnection, ReadsHeadOver, WritesBytes, read_failed}
-use Rattle.ws_connection.specs.InnerDriving.{AnswersBehind, DrivesTo, DrivesToEnd}
+use Rattle.ws_connection.specs.InnerDriving.{AnswersBehind, DidObserved}
 use Rattle.ws_connection.specs.Observing.{HearsTurns}
 use Rattle.ws_connection.specs.Probing.{AnswersProbe, FollowsInOrder, Records, probe_nonce}
 use Rattle.ws_connection.specs.ReadingHeads.{ReadsHead}
-use Rattle.ws_connection.specs.RunSteps.{RunStage, TellsAsItGoes, calls_in, turns_told}
+use Rattle.ws_connection.specs.RunSteps.{IsToldInTime, RunStage, RunStep, TellsAsItGoes, TellsBehindHead, TellsProbe}
+use Rattle.ws_connection.specs.RunSteps.{calls_in, turns_told}
 use Rattle.ws_connection.specs.StreamCalls.{DidCalls}
-use Rattle.ws_connection.specs.Responses.{DecidesResponse, NeedsResponse}
-use Rattle.ws_connection.specs.declared.probe_end.Probe.{Probe}
-use Rattle.ws_connection.specs.declared.probe_end.Probe.TheVariants.{Ran, Refused, NoConnection}
+use Rattle.ws_handshake.specs.Responses.{DecidesResponse, NeedsResponse}
+use Rattle.ws_handshake.specs.declared.probe_end.Probe.{Probe}
+use Rattle.ws_handshake.specs.declared.probe_end.Probe.TheVariants.{Ran, Refused, NoConnection}
 use Rattle.ws_connection.specs.declared.reading_head.HeadEnd.TheVariants.{Cut, Decided, ReadFault}
-use Rattle.ws_connection.specs.declared.response_head.ResponseDecision.TheVariants.{Accepted}
+use Rattle.ws_handshake.specs.declared.response_head.ResponseDecision.TheVariants.{Accepted}
 use Rattle.ws_connection.proofs.StepLemmas.{steps_calls}
 use Rattle.ws_connection.proofs.StreamLaws.{did_read, did_write}
 
@@ -55,31 +56,31 @@ pieces_have_bytes chop key (steps ∷ turns) [] h = absurd h
 pieces_have_bytes chop key (steps ∷ turns) (pieces ∷ script) (is, h) =
     (is.none_empty, pieces_have_bytes chop key turns script h)
 
--- a tester that was driven to its end has recorded what went over the connection
-pub drives_records : {O : Type 0} (heard : O → O → List Turn → Type 0) (plan : PlanValue) (script : List Pieces)
+-- a tester that was run to its end has recorded what went over the connection
+pub runs_record : {O : Type 0} (heard : O → O → List Turn → Type 0) (plan : PlanValue) (script : List Pieces)
     (first : List ℕ) (budget : ℕ) (start now : TesterValue) (x y : RunStage O) (transcript : Transcript)
     → HaveBytes script → budget ≡ x.connection.input.allowance
     → BeginsRun (record { plan = plan; script = script; budget = budget; first = first }) start.run
-    → (d : DrivesTo heard start now x y) → IsRecorded start.run (calls_in d.steps) transcript
-    → IsRecorded now.run [] transcript
+    → (steps : List RunStep) → DidObserved heard x y steps → FollowsInOrder start.run now.run (calls_in steps)
+    → IsRecorded start.run (calls_in steps) transcript → IsRecorded now.run [] transcript
     → Records plan (map concat script) first transcript (between x.connection y.connection)
-drives_records heard plan script first budget start now x y transcript pieces is begins d recorded at_end =
-    let did : DidCalls x.connection y.connection (calls_in d.steps) = steps_calls heard x y d.steps d.did in
+runs_record heard plan script first budget start now x y transcript pieces is begins steps done order recorded at_end =
+    let did : DidCalls x.connection y.connection (calls_in steps) = steps_calls heard x y steps done.did in
     record {
       script = script;
       bytes = refl;
       has_bytes = pieces;
-      told = calls_in d.steps;
+      told = calls_in steps;
       did = did;
-      has_got = did_read x.connection y.connection (calls_in d.steps) did;
-      has_put = did_write x.connection y.connection (calls_in d.steps) did;
+      has_got = did_read x.connection y.connection (calls_in steps) did;
+      has_put = did_write x.connection y.connection (calls_in steps) did;
       start = start.run;
       begins = subst (λ (n : ℕ). BeginsRun (record { plan = plan; script = script; budget = n; first = first })
           start.run) is begins;
       in_order = record {
         now = at_end.of_run.now;
-        follows = subst (λ (s : RunState). FollowsInOrder start.run s (calls_in d.steps)) (sym at_end.of_run.follows)
-            d.in_order;
+        follows = subst (λ (s : RunState). FollowsInOrder start.run s (calls_in steps)) (sym at_end.of_run.follows)
+            order;
         turns = at_end.of_run.turns;
         ended = at_end.of_run.ended;
       };
@@ -87,28 +88,29 @@ drives_records heard plan script first budget start now x y transcript pieces is
     }
 
 -- and the observer was told of just the turns that are recorded
-pub drives_hears : {O : Type 0} (heard : O → O → List Turn → Type 0) (start now : TesterValue) (x y : RunStage O)
-    (transcript : Transcript) → DrivesToEnd heard start now x y
+pub runs_hears : {O : Type 0} (heard : O → O → List Turn → Type 0) (start now : TesterValue) (x y : RunStage O)
+    (transcript : Transcript) (steps : List RunStep) → DidObserved heard x y steps
+    → WasTold start now (calls_in steps) → turns_told [] steps ≡ recorded now.run
     → ((first : TesterValue) (told : List Told) → WasTold first now told → IsRecorded first.run told transcript)
     → HearsTurns heard x.observer y.observer transcript.turns
-drives_hears heard start now x y transcript d gives = λ first turns h.
-    subst (λ (l : List Turn). heard first y.observer (turns ++ l)) all_told (d.drives.hears first turns h)
+runs_hears heard start now x y transcript steps done was told gives = λ first turns h.
+    subst (λ (l : List Turn). heard first y.observer (turns ++ l)) all_told (done.hears first turns h)
   where
     itself : IsRecorded now.run [] transcript
-    itself = gives now [] (refl, d.drives.was_told.1)
+    itself = gives now [] (refl, was.1)
 
-    all_told : turns_told [] d.drives.steps ≡ transcript.turns
-    all_told = d.recorded ∙ sym (itself.of_run.turns ∙ ap (λ (r : RunState). recorded r) itself.of_run.follows)
+    all_told : turns_told [] steps ≡ transcript.turns
+    all_told = told ∙ sym (itself.of_run.turns ∙ ap (λ (r : RunState). recorded r) itself.of_run.follows)
 
 -- before more was read of all by then
-pub drives_in_time : {O : Type 0} (heard : O → O → List Turn → Type 0) (run : ScriptValue) (start now : TesterValue)
-    (x y : RunStage O) → HaveBytes run.script → BeginsRun run start.run → DrivesTo heard start now x y
-    → TellsAsItGoes heard run.first x y.connection
-drives_in_time heard run start now x y pieces begins d = record {
+pub runs_in_time : {O : Type 0} (heard : O → O → List Turn → Type 0) (first : List ℕ) (x y : RunStage O)
+    (steps : List RunStep) → DidObserved heard x y steps → IsToldInTime first [] steps
+    → TellsAsItGoes heard first x y.connection
+runs_in_time heard first x y steps done in_time = record {
   observer = y.observer;
-  steps = d.steps;
-  did = d.did;
-  in_time = d.in_time run pieces begins;
+  steps = steps;
+  did = done.did;
+  in_time = in_time;
 }
 
 -- ---- the head of the answer
@@ -136,6 +138,43 @@ runs_after {protocol} plan turns offers transcript head first used x y z h behin
     written_none : (known : Option (List ℕ)) → Appends known known []
     written_none Option.None = tt
     written_none (Some bytes) = sym (append-nil bytes)
+
+-- and of it an observer was told in time
+pub tells_behind : {O : Type 0} {protocol : Option ℕ} (heard : O → O → List Turn → Type 0) (offers : List (List ℕ))
+    (head first : List ℕ) (used : ℕ) (x y z : ConnectionValue) (observer : O)
+    → ReadsHeadOver (NeedsResponse probe_nonce offers) (DecidesResponse probe_nonce offers)
+    (Decided (Accepted used protocol)) head (between x y) → first ≡ drop used head
+    → TellsAsItGoes heard first (record { connection = y; observer = observer }) z
+    → TellsBehindHead heard offers (record { connection = x; observer = observer }) z
+tells_behind {O} {protocol} heard offers head first used x y z observer h behind tells =
+    let (read, bound, no_further, (decides, works)) = h.reads in
+    record {
+      head = head;
+      used = used;
+      protocol = protocol;
+      is_head = record { decides = decides; bound = bound; no_further = no_further };
+      ready = y;
+      has_got = read;
+      tells = subst (λ (l : List ℕ). TellsAsItGoes heard l (record { connection = y; observer = observer }) z) behind
+          tells;
+    }
+
+-- where nothing was read before
+pub tells_after : {O : Type 0} (heard : O → O → List Turn → Type 0) (offers : List (List ℕ)) (probe : Probe)
+    (x y z : ConnectionValue) (observer : O) → y.input ≡ x.input
+    → TellsProbe heard offers (record { connection = y; observer = observer }) z probe
+    → TellsProbe heard offers (record { connection = x; observer = observer }) z probe
+tells_after heard offers (Ran transcript) x y z observer same h = record {
+  head = h.head;
+  used = h.used;
+  protocol = h.protocol;
+  is_head = h.is_head;
+  ready = h.ready;
+  has_got = subst (λ (i : InputValue). Consumes i.left h.ready.input.left h.head) same h.has_got;
+  tells = h.tells;
+}
+tells_after heard offers (Refused refusal) x y z observer same h = tt
+tells_after heard offers NoConnection x y z observer same h = tt
 
 -- ---- the request
 

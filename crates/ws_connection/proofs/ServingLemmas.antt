@@ -12,10 +12,10 @@ use Rattle.ws_peer.specs.Driving.{Drives, IsDrivenTo, IsFairDriveEnd}
 use Rattle.ws_peer.specs.declared.driving.DriveEnd.{DriveEnd}
 use Rattle.ws_peer.specs.declared.driving.DriveEnd.TheVariants as end
 use Rattle.ws_connection.specs.ReadingHeads.{ReadsHead}
-use Rattle.ws_connection.specs.Requests.{DecidesRequest, NeedsRequest}
+use Rattle.ws_handshake.specs.Requests.{DecidesRequest, NeedsRequest}
 use Rattle.ws_connection.specs.declared.reading_head.HeadEnd.TheVariants.{Decided}
-use Rattle.ws_connection.specs.declared.request_head.RequestDecision.{RequestDecision}
-use Rattle.ws_connection.specs.declared.request_head.RequestDecision.TheVariants.{Accepted, Refused as RefusedHead}
+use Rattle.ws_handshake.specs.declared.request_head.RequestDecision.{RequestDecision}
+use Rattle.ws_handshake.specs.declared.request_head.RequestDecision.TheVariants.{Accepted, Refused as RefusedHead}
 use Rattle.ws_connection.specs.declared.serving.Served.{Served}
 use Rattle.ws_connection.specs.declared.serving.Served.TheVariants.{Ended, Refused, Stopped}
 use Rattle.ws_connection.specs.Serving.{connection, ReadsRequest, ServesAccepted, Serves, DrivesAfter, AnswersAccepted, ServesDecision, response_of, served_by}

@@ -1,5 +1,5 @@
 -- What the calls of a connection come to: all that came was read, and all that was taken was written.
-use Rattle.std.proofs.Common.{◌≡◌, ℕ, List, [], ◌∷◌, Option, Some, None, refl, sym, subst, append-nil}
+use Rattle.std.proofs.Common.{◌≡◌, ℕ, List, [], ◌∷◌, Option, Some, None, refl, sym, subst, append-nil, Bool, inl, inr}
 use Rattle.std.proofs.KnownBytes.{Appends-trans, Consumes-trans}
 use Rattle.std.specs.Io.KnownBytes.{Appends, Consumes}
 use Rattle.ws_machines.specs.Told.{Told, all_came, all_taken, came_by, taken_by}
@@ -34,11 +34,13 @@ call_reads Ended x y call = call.0.has_got
 call_reads ReadFailed x y call = call.has_got
 call_reads NothingCame x y call = call.has_got
 call_reads (Taken bytes) x y call = same_input x.input y.input call.1.input
-call_reads WriteFailed x y call = same_input x.input y.input call.input
+call_reads WriteFailed x y call = same_input x.input y.input call.0.input
 call_reads DirectionEnded x y call = same_input x.input y.input call.input
 call_reads (Reported lines) x y same =
     subst (λ (v : ConnectionValue). Consumes x.input.left v.input.left []) (sym same) (reads_none x.input.left)
-call_reads (DeadlinePassed waited) x y call = absurd call
+call_reads (DeadlinePassed waited) x y (inl call) = call.makes.has_got
+call_reads (DeadlinePassed waited) x y (inr call) = subst (λ (i : InputValue). Consumes x.input.left i.left [])
+    (sym call.input) (reads_none x.input.left)
 
 call_writes : (event : Told) (x y : ConnectionValue) → IsCallOf event (record { old = x; new = y })
     → WritesBytes (taken_by event) (record { old = x; new = y })
@@ -47,11 +49,12 @@ call_writes Ended x y call = same_output x.output y.output call.0.output
 call_writes ReadFailed x y call = same_output x.output y.output call.output
 call_writes NothingCame x y call = same_output x.output y.output call.output
 call_writes (Taken bytes) x y call = call.1.has_put
-call_writes WriteFailed x y call = call.has_put
+call_writes WriteFailed x y call = call.0.has_put
 call_writes DirectionEnded x y call = call.has_put
 call_writes (Reported lines) x y same =
     subst (λ (v : ConnectionValue). Appends x.output.held v.output.held []) (sym same) (writes_none x.output.held)
-call_writes (DeadlinePassed waited) x y call = absurd call
+call_writes (DeadlinePassed waited) x y (inl call) = same_output x.output y.output call.makes.output
+call_writes (DeadlinePassed waited) x y (inr call) = call.has_put
 
 -- ---- all of them
 

@@ -1,4 +1,4 @@
--- What an observer is told more of some turns, and how that stays what was told of a run that goes on.
+-- What a stage is told more of some turns, and how that stays what was told of a run that goes on.
 use Rattle.std.proofs.Common.{◌≡◌, ◌∙◌, ℕ, ◌+◌, ◌≤◌, ◌==◌, Bool, true, false, List, [], ◌∷◌, ◌++◌, length}
 use Rattle.std.proofs.Common.{drop, refl, sym, ap, subst, inl, inr, arith, append_assoc, append-nil, length-append}
 use Rattle.std.proofs.Math.Seq.{drop-append_seam, drop-append-add}
@@ -10,11 +10,11 @@ use Rattle.ws_machines.specs.Told.{Told}
 use Rattle.ws_tester.specs.RunStates.{RunState, wanted_in}
 use Rattle.ws_connection.specs.InnerDriving.{IsPartOf, IsToldAtTurn, IsToldInPast, IsToldOfRun, IsToldSoFar, MayBeToldMore}
 use Rattle.ws_connection.specs.InnerDriving.{TellsMore, TellsPast, TellsRun}
-use Rattle.ws_connection.specs.Observing.{HearsGot, HearsTurn, IsHearing, IsInTurn}
-use Rattle.ws_connection.specs.RunSteps.{calls_in, turns_told}
+use Rattle.ws_connection.specs.RunSteps.{RunStep, calls_in, turns_told, with_last_got}
 use Rattle.ws_connection.specs.RunSteps.RunStep.{TellsSent, TellsGot}
+use Rattle.ws_connection.specs.Stages.{ExtendsBy, ExtendsTurn, IsStaged, IsTelling}
 use Rattle.ws_connection.specs.declared.probing.telling.TurnsTold.{TurnsTold}
-use Rattle.ws_connection.proofs.StepLemmas.{calls_then, did_then, last_got, told_then}
+use Rattle.ws_connection.proofs.StepLemmas.{calls_then, last_got, told_then}
 
 -- a turn is what it has sent and got
 pub of_parts : (turn : Turn) (sent got : List ℕ) → sent ≡ turn.sent → got ≡ turn.got
@@ -31,83 +31,94 @@ pub not_empty : (bytes : List ℕ) → (length bytes == 0) ≡ false → bytes �
 not_empty [] e same = cc
 not_empty (byte ∷ bytes) e same = cc
 
-module _ {O : Type 0} (heard : O → O → List Turn → Type 0) where
-  -- ---- calls of the observer
+module _ {S : Type 0} (did : S → S → List RunStep → Type 0) where
+  -- ---- what is told
 
-  pub tells_nothing : (turns : List Turn) (now : O) → TellsMore heard turns turns now now
+  pub tells_nothing : (turns : List Turn) (now : S) → TellsMore did turns turns now now
   tells_nothing turns now = record {
     steps = [];
-    did = λ c. refl;
+    goes = λ start before e h. subst (λ (l : List RunStep). did start now l) (sym (append-nil before)) h;
     no_call = refl;
     told = refl;
-    hears = λ start past h. h;
   }
 
-  pub tells_then : (ts us vs : List Turn) (o p q : O) → TellsMore heard ts us o p → TellsMore heard us vs p q
-      → TellsMore heard ts vs o q
+  pub tells_then : (ts us vs : List Turn) (o p q : S) → TellsMore did ts us o p → TellsMore did us vs p q
+      → TellsMore did ts vs o q
   tells_then ts us vs o p q h k = record {
     steps = h.steps ++ k.steps;
-    did = λ c. did_then heard (record { connection = c; observer = o }) (record { connection = c; observer = p })
-        (record { connection = c; observer = q }) h.steps k.steps (h.did c) (k.did c);
+    goes = λ start before e x. subst (λ (l : List RunStep). did start q l) (append_assoc before h.steps k.steps)
+        (k.goes start (before ++ h.steps)
+        (told_then [] before h.steps ∙ (ap (λ (l : List Turn). turns_told l h.steps) e ∙ h.told))
+        (h.goes start before e x));
     no_call = calls_then h.steps k.steps
         ∙ (ap (λ (l : List Told). l ++ calls_in k.steps) h.no_call ∙ k.no_call);
     told = told_then ts h.steps k.steps ∙ (ap (λ (l : List Turn). turns_told l k.steps) h.told ∙ k.told);
-    hears = λ start past x. k.hears start past (h.hears start past x);
   }
 
-  pub tells_sent : (before : List Turn) (sent : List ℕ) (o p : O) → HearsTurn heard o p sent
-      → TellsMore heard before (before ++ record { sent = sent; got = [] } ∷ []) o p
+  pub tells_sent : (before : List Turn) (sent : List ℕ) (o p : S) → ExtendsBy did o p (TellsSent sent ∷ [])
+      → TellsMore did before (before ++ record { sent = sent; got = [] } ∷ []) o p
   tells_sent before sent o p h = record {
     steps = TellsSent sent ∷ [];
-    did = λ c. (record { connection = c; observer = p }, (h, refl), refl);
+    goes = λ start steps e x. h start steps x;
     no_call = refl;
     told = refl;
-    hears = λ start past x. subst (λ (l : List Turn). heard start p l)
-        (append_assoc past before (record { sent = sent; got = [] } ∷ [])) (h start (past ++ before) x);
   }
 
-  pub tells_got : (before : List Turn) (turn : Turn) (bytes : List ℕ) (o p : O) → HearsGot heard o p bytes
-      → TellsMore heard (before ++ turn ∷ []) (before ++ turn_with_got turn bytes ∷ []) o p
+  pub tells_got : (before : List Turn) (turn : Turn) (bytes : List ℕ) (o p : S)
+      → ExtendsTurn did o p (TellsGot bytes ∷ [])
+      → TellsMore did (before ++ turn ∷ []) (before ++ turn_with_got turn bytes ∷ []) o p
   tells_got before turn bytes o p h = record {
     steps = TellsGot bytes ∷ [];
-    did = λ c. (record { connection = c; observer = p }, (h, refl), refl);
+    goes = λ start steps e x. h start steps before turn e x;
     no_call = refl;
     told = last_got before turn bytes;
-    hears = λ start past x. subst (λ (l : List Turn). heard start p l)
-        (append_assoc past before (turn_with_got turn bytes ∷ []))
-        (h start (past ++ before) turn
-        (subst (λ (l : List Turn). heard start o l) (sym (append_assoc past before (turn ∷ []))) x));
   }
 
   -- ---- whether it can be told of more
 
-  pub hearing_sent : (o p : O) (sent : List ℕ) → HearsTurn heard o p sent → IsHearing heard o → IsInTurn heard p
-  hearing_sent o p sent h (start, turns, x) = (start, turns, record { sent = sent; got = [] }, h start turns x)
+  pub hearing_sent : (o p : S) (sent : List ℕ) → ExtendsBy did o p (TellsSent sent ∷ []) → IsStaged did o
+      → IsTelling did p
+  hearing_sent o p sent h (start, steps, x) = (
+    start,
+    steps ++ TellsSent sent ∷ [],
+    turns_told [] steps,
+    record { sent = sent; got = [] },
+    h start steps x,
+    told_then [] steps (TellsSent sent ∷ []),
+  )
 
-  pub hearing_got : (o p : O) (bytes : List ℕ) → HearsGot heard o p bytes → IsInTurn heard o → IsInTurn heard p
-  hearing_got o p bytes h (start, turns, turn, x) =
-      (start, turns, turn_with_got turn bytes, h start turns turn x)
+  pub hearing_got : (o p : S) (bytes : List ℕ) → ExtendsTurn did o p (TellsGot bytes ∷ []) → IsTelling did o
+      → IsTelling did p
+  hearing_got o p bytes h (start, steps, turns, turn, x, e) = (
+    start,
+    steps ++ TellsGot bytes ∷ [],
+    turns,
+    turn_with_got turn bytes,
+    h start steps turns turn e x,
+    told_then [] steps (TellsGot bytes ∷ [])
+        ∙ (ap (λ (l : List Turn). with_last_got l bytes) e ∙ last_got turns turn bytes),
+  )
 
-  pub in_turn_hears : (o : O) → IsInTurn heard o → IsHearing heard o
-  in_turn_hears o (start, turns, turn, x) = (start, turns ++ turn ∷ [], x)
+  pub in_turn_hears : (o : S) → IsTelling did o → IsStaged did o
+  in_turn_hears o (start, steps, turns, turn, x, e) = (start, steps, x)
 
-  pub may_in_turn : (told : TurnsTold) (o : O) → IsInTurn heard o → MayBeToldMore heard told o
-  may_in_turn told o x = record { hearing = in_turn_hears o x; in_turn = λ e. x }
+  pub may_in_turn : (told : TurnsTold) (o : S) → IsTelling did o → MayBeToldMore did told o
+  may_in_turn told o x = record { staged = in_turn_hears o x; in_turn = λ e. x }
 
-  pub may_hearing : (told : TurnsTold) (o : O) → told.is_sent ≡ false → IsHearing heard o → MayBeToldMore heard told o
-  may_hearing told o none x = record { hearing = x; in_turn = λ e. absurd (let wrong : false ≡ true = sym none ∙ e in cc) }
+  pub may_hearing : (told : TurnsTold) (o : S) → told.is_sent ≡ false → IsStaged did o → MayBeToldMore did told o
+  may_hearing told o none x = record { staged = x; in_turn = λ e. absurd (let wrong : false ≡ true = sym none ∙ e in cc) }
 
   -- ---- one turn
 
   -- what it has got besides is told, where the rest of it is
-  pub tells_rest : (before : List Turn) (sent front others got piece : List ℕ) (count : ℕ) (o p : O)
-      → got ≡ front ++ others → length front ≡ count → piece ≡ drop count got → HearsGot heard o p piece
-      → TellsMore heard (before ++ record { sent = sent; got = front } ∷ [])
+  pub tells_rest : (before : List Turn) (sent front others got piece : List ℕ) (count : ℕ) (o p : S)
+      → got ≡ front ++ others → length front ≡ count → piece ≡ drop count got → ExtendsTurn did o p (TellsGot piece ∷ [])
+      → TellsMore did (before ++ record { sent = sent; got = front } ∷ [])
       (before ++ record { sent = sent; got = got } ∷ []) o p
   tells_rest before sent front others got piece count o p e len is h =
       let rest : piece ≡ others = is ∙ (ap (λ (n : ℕ). drop n got) (sym len)
       ∙ (ap (λ (l : List ℕ). drop (length front) l) e ∙ drop-append_seam front others)) in
-      subst (λ (l : List ℕ). TellsMore heard (before ++ record { sent = sent; got = front } ∷ [])
+      subst (λ (l : List ℕ). TellsMore did (before ++ record { sent = sent; got = front } ∷ [])
       (before ++ record { sent = sent; got = l } ∷ []) o p) (ap (λ (l : List ℕ). front ++ l) rest ∙ sym e)
       (tells_got before (record { sent = sent; got = front }) piece o p h)
 
@@ -118,12 +129,12 @@ module _ {O : Type 0} (heard : O → O → List Turn → Type 0) where
   no_rest front (byte ∷ others) got count e len all = absurd (let long : length got ≡ length front + length (byte ∷ others) =
       ap (λ (l : List ℕ). length l) e ∙ length-append front (byte ∷ others) in omega (arith, long, len, all))
 
-  pub tells_no_rest : (before : List Turn) (sent front others got : List ℕ) (count : ℕ) (o : O)
+  pub tells_no_rest : (before : List Turn) (sent front others got : List ℕ) (count : ℕ) (o : S)
       → got ≡ front ++ others → length front ≡ count → length got ≤ count
-      → TellsMore heard (before ++ record { sent = sent; got = front } ∷ [])
+      → TellsMore did (before ++ record { sent = sent; got = front } ∷ [])
       (before ++ record { sent = sent; got = got } ∷ []) o o
   tells_no_rest before sent front others got count o e len all =
-      subst (λ (l : List ℕ). TellsMore heard (before ++ record { sent = sent; got = front } ∷ [])
+      subst (λ (l : List ℕ). TellsMore did (before ++ record { sent = sent; got = front } ∷ [])
       (before ++ record { sent = sent; got = l } ∷ []) o o) (sym (no_rest front others got count e len all))
       (tells_nothing (before ++ record { sent = sent; got = front } ∷ []) o)
 
@@ -137,28 +148,28 @@ module _ {O : Type 0} (heard : O → O → List Turn → Type 0) where
       (sym len ∙ sym (ap (λ (l : List ℕ). length l) (no_rest front others got told.got e len all)))
 
   -- a turn of which a part was told, and one of which nothing was
-  pub turn_on : (before part : List Turn) (told : TurnsTold) (turn : Turn) (o p : O) → told.is_sent ≡ true
+  pub turn_on : (before part : List Turn) (told : TurnsTold) (turn : Turn) (o p : S) → told.is_sent ≡ true
       → ((others : List Turn) (sent front rest : List ℕ) → turn.got ≡ front ++ rest → length front ≡ told.got
-      → TellsMore heard (others ++ record { sent = sent; got = front } ∷ [])
+      → TellsMore did (others ++ record { sent = sent; got = front } ∷ [])
       (others ++ record { sent = sent; got = turn.got } ∷ []) o p)
-      → IsPartOf told.is_sent told.got turn part → TellsMore heard (before ++ part) (before ++ turn ∷ []) o p
+      → IsPartOf told.is_sent told.got turn part → TellsMore did (before ++ part) (before ++ turn ∷ []) o p
   turn_on before part told turn o p sent tells h =
       pick (subst (λ (b : Bool). IsPartOf b told.got turn part) sent h)
     where
-      pick : IsPartOf true told.got turn part → TellsMore heard (before ++ part) (before ++ turn ∷ []) o p
-      pick (front, others, e, len, is) = subst (λ (l : List Turn). TellsMore heard (before ++ l) (before ++ turn ∷ []) o p)
+      pick : IsPartOf true told.got turn part → TellsMore did (before ++ part) (before ++ turn ∷ []) o p
+      pick (front, others, e, len, is) = subst (λ (l : List Turn). TellsMore did (before ++ l) (before ++ turn ∷ []) o p)
           (sym is) (tells before turn.sent front others e len)
 
-  pub turn_anew : (before part : List Turn) (told next : TurnsTold) (turn : Turn) (o p q : O) → told.is_sent ≡ false
+  pub turn_anew : (before part : List Turn) (told next : TurnsTold) (turn : Turn) (o p q : S) → told.is_sent ≡ false
       → next.got ≡ 0
-      → ((others : List Turn) → TellsMore heard others (others ++ record { sent = turn.sent; got = [] } ∷ []) o p)
+      → ((others : List Turn) → TellsMore did others (others ++ record { sent = turn.sent; got = [] } ∷ []) o p)
       → ((others : List Turn) (sent front rest : List ℕ) → turn.got ≡ front ++ rest → length front ≡ next.got
-      → TellsMore heard (others ++ record { sent = sent; got = front } ∷ [])
+      → TellsMore did (others ++ record { sent = sent; got = front } ∷ [])
       (others ++ record { sent = sent; got = turn.got } ∷ []) p q)
-      → IsPartOf told.is_sent told.got turn part → TellsMore heard (before ++ part) (before ++ turn ∷ []) o q
+      → IsPartOf told.is_sent told.got turn part → TellsMore did (before ++ part) (before ++ turn ∷ []) o q
   turn_anew before part told next turn o p q none zero sends tells h =
       let no_part : part ≡ [] = subst (λ (b : Bool). IsPartOf b told.got turn part) none h in
-      subst (λ (l : List Turn). TellsMore heard l (before ++ turn ∷ []) o q)
+      subst (λ (l : List Turn). TellsMore did l (before ++ turn ∷ []) o q)
       (sym (append-nil before) ∙ ap (λ (l : List Turn). before ++ l) (sym no_part))
       (tells_then before (before ++ record { sent = turn.sent; got = [] } ∷ []) (before ++ turn ∷ []) o p q
       (sends before) (tells before turn.sent [] turn.got refl (sym zero)))
@@ -232,37 +243,37 @@ module _ {O : Type 0} (heard : O → O → List Turn → Type 0) where
   first_of turn [] = turn
   first_of turn (first ∷ turns) = first
 
-  pub past_step : (told next : TurnsTold) (past : List Turn) (turn one : Turn) (others turns : List Turn) (o p : O)
+  pub past_step : (told next : TurnsTold) (past : List Turn) (turn one : Turn) (others turns : List Turn) (o p : S)
       → drop told.whole past ≡ one ∷ others → next.whole ≡ told.whole + 1 → next.is_sent ≡ false
       → ((before part : List Turn) → IsPartOf told.is_sent told.got one part
-      → TellsMore heard (before ++ part) (before ++ one ∷ []) o p)
+      → TellsMore did (before ++ part) (before ++ one ∷ []) o p)
       → IsToldSoFar told past turn turns
-      → (now : List Turn) × TellsMore heard turns now o p × IsToldSoFar next past turn now
+      → (now : List Turn) × TellsMore did turns now o p × IsToldSoFar next past turn now
   past_step told next past turn one others turns o p left whole none tells h =
       let k : IsToldInPast told past turns = one_left told past turn one others turns left h in
       let same : k.now ≡ one = ap (λ (l : List Turn). first_of one l) (sym (left_is told past turns k) ∙ left) in (
         k.before ++ k.now ∷ [],
-        subst (λ (l : List Turn). TellsMore heard l (k.before ++ k.now ∷ []) o p) (sym k.turns_are)
-            (subst (λ (t : Turn). TellsMore heard (k.before ++ k.part) (k.before ++ t ∷ []) o p) (sym same)
+        subst (λ (l : List Turn). TellsMore did l (k.before ++ k.now ∷ []) o p) (sym k.turns_are)
+            (subst (λ (t : Turn). TellsMore did (k.before ++ k.part) (k.before ++ t ∷ []) o p) (sym same)
             (tells k.before k.part (subst (λ (t : Turn). IsPartOf told.is_sent told.got t k.part) same k.is_part))),
         next_told told next past turn turns k whole none,
       )
 
-  pub past_then : (told next : TurnsTold) (past : List Turn) (turn : Turn) (turns : List Turn) (o p q : O)
-      (k : (now : List Turn) × TellsMore heard turns now o p × IsToldSoFar told past turn now)
+  pub past_then : (told next : TurnsTold) (past : List Turn) (turn : Turn) (turns : List Turn) (o p q : S)
+      (k : (now : List Turn) × TellsMore did turns now o p × IsToldSoFar told past turn now)
       → ((now : List Turn) → IsToldSoFar told past turn now
-      → (more_turns : List Turn) × TellsMore heard now more_turns p q × IsToldSoFar next past turn more_turns)
-      → (more_turns : List Turn) × TellsMore heard turns more_turns o q × IsToldSoFar next past turn more_turns
+      → (more_turns : List Turn) × TellsMore did now more_turns p q × IsToldSoFar next past turn more_turns)
+      → (more_turns : List Turn) × TellsMore did turns more_turns o q × IsToldSoFar next past turn more_turns
   past_then told next past turn turns o p q (now, tells, at) step = pick (step now at)
     where
-      pick : (more_turns : List Turn) × TellsMore heard now more_turns p q × IsToldSoFar next past turn more_turns
-          → (more_turns : List Turn) × TellsMore heard turns more_turns o q × IsToldSoFar next past turn more_turns
+      pick : (more_turns : List Turn) × TellsMore did now more_turns p q × IsToldSoFar next past turn more_turns
+          → (more_turns : List Turn) × TellsMore did turns more_turns o q × IsToldSoFar next past turn more_turns
       pick (more_turns, more, is) = (more_turns, tells_then turns now more_turns o p q tells more, is)
 
   -- all of them were told to their end
-  pub past_ends : (told : TurnsTold) (past : List Turn) (turn : Turn) (turns : List Turn) (o p : O)
-      → length past ≤ told.whole → (now : List Turn) × TellsMore heard turns now o p × IsToldSoFar told past turn now
-      → TellsPast heard told past turn turns o p
+  pub past_ends : (told : TurnsTold) (past : List Turn) (turn : Turn) (turns : List Turn) (o p : S)
+      → length past ≤ told.whole → (now : List Turn) × TellsMore did turns now o p × IsToldSoFar told past turn now
+      → TellsPast did told past turn turns o p
   past_ends told past turn turns o p all (now, tells, at) = record {
     new_turns = now;
     tells = tells;
@@ -295,8 +306,8 @@ module _ {O : Type 0} (heard : O → O → List Turn → Type 0) where
   so_far told x turns (inr h) = inr h.at
 
   -- of one that has nothing to record nothing is told
-  pub run_not_begun : (x : RunState) (told : TurnsTold) (turns : List Turn) (o : O) → x.begun ≡ false
-      → IsToldOfRun told x turns → TellsRun heard x told told turns o o
+  pub run_not_begun : (x : RunState) (told : TurnsTold) (turns : List Turn) (o : S) → x.begun ≡ false
+      → IsToldOfRun told x turns → TellsRun did x told told turns o o
   run_not_begun x told turns o none h = record {
     new_turns = turns;
     tells = tells_nothing turns o;
@@ -306,9 +317,9 @@ module _ {O : Type 0} (heard : O → O → List Turn → Type 0) where
   }
 
   -- while the turn under way is sent, those that are over are told
-  pub run_unsent : (x : RunState) (old next : TurnsTold) (turns : List Turn) (o p : O) → x.begun ≡ true
+  pub run_unsent : (x : RunState) (old next : TurnsTold) (turns : List Turn) (o p : S) → x.begun ≡ true
       → ((wanted_in x).write ≡ [] → ⊥) → IsToldOfRun old x turns → (next.is_sent ≡ true → next ≡ old)
-      → TellsPast heard next x.past x.turn turns o p → TellsRun heard x old next turns o p
+      → TellsPast did next x.past x.turn turns o p → TellsRun did x old next turns o p
   run_unsent x old next turns o p begun unsent h same k = record {
     new_turns = k.new_turns;
     tells = k.tells;
@@ -326,17 +337,17 @@ module _ {O : Type 0} (heard : O → O → List Turn → Type 0) where
       still (inr at) e sent = at.is_sent (sym (ap (λ (t : TurnsTold). t.is_sent) e) ∙ sent)
 
   -- and it is told too once all of it is sent
-  pub run_sent : (x : RunState) (old mid next : TurnsTold) (turns : List Turn) (o p q : O) → x.begun ≡ true
-      → (wanted_in x).write ≡ [] → TellsPast heard mid x.past x.turn turns o p
+  pub run_sent : (x : RunState) (old mid next : TurnsTold) (turns : List Turn) (o p q : S) → x.begun ≡ true
+      → (wanted_in x).write ≡ [] → TellsPast did mid x.past x.turn turns o p
       → ((before part : List Turn) → IsPartOf mid.is_sent mid.got x.turn part
-      → TellsMore heard (before ++ part) (before ++ x.turn ∷ []) p q)
+      → TellsMore did (before ++ part) (before ++ x.turn ∷ []) p q)
       → ((part : List Turn) → IsPartOf mid.is_sent mid.got x.turn part
       → next ≡ record { whole = mid.whole; is_sent = true; got = length x.turn.got })
-      → TellsRun heard x old next turns o q
+      → TellsRun did x old next turns o q
   run_sent x old mid next turns o p q begun sent k tells told = record {
     new_turns = x.past ++ x.turn ∷ [];
     tells = tells_then turns k.new_turns (x.past ++ x.turn ∷ []) o p q k.tells
-        (subst (λ (l : List Turn). TellsMore heard l (x.past ++ x.turn ∷ []) p q) (sym k.told_at.turns_are)
+        (subst (λ (l : List Turn). TellsMore did l (x.past ++ x.turn ∷ []) p q) (sym k.told_at.turns_are)
         (tells x.past k.told_at.part k.told_at.is_part));
     told_of = inr (record { at = at (told k.told_at.part k.told_at.is_part); is_sent = λ e. sent });
     all = λ e w. refl;

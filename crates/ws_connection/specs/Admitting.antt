@@ -8,10 +8,10 @@ use Rattle.ws_upgrade.specs.declared.requests.Upgrade.{Upgrade}
 use Rattle.ws_upgrade.specs.declared.requests.RequestRead.TheVariants as read
 use Rattle.ws_connection.specs.ConnectionValues.{ConnectionRun}
 use Rattle.ws_connection.specs.Connections.{IsReady, ReadsBytes, WritesBytes, input_of, output_of}
-use Rattle.ws_connection.specs.Requests.{IsAnswer}
+use Rattle.ws_handshake.specs.Requests.{IsAnswer}
 use Rattle.ws_connection.specs.Serving.{ReadsRequest, StopsInHead, response_of}
-use Rattle.ws_connection.specs.declared.request_head.RequestDecision.{RequestDecision}
-use Rattle.ws_connection.specs.declared.request_head.RequestDecision.TheVariants.{Accepted, Refused as RefusedHead}
+use Rattle.ws_handshake.specs.declared.request_head.RequestDecision.{RequestDecision}
+use Rattle.ws_handshake.specs.declared.request_head.RequestDecision.TheVariants.{Accepted, Refused as RefusedHead}
 use Rattle.ws_connection.specs.declared.admitting.AcceptedRequest.{AcceptedRequest}
 use Rattle.ws_connection.specs.declared.admitting.Admission.{Admission}
 use Rattle.ws_connection.specs.declared.admitting.Admission.TheVariants as admission

@@ -1,5 +1,5 @@
 -- A connection as a tester holds it: what may be called when, and what a run does to it.
-use Rattle.std.specs.Prelude.{◌≡◌, ℕ, ◌+◌, ◌<◌, Bool, true, false, List}
+use Rattle.std.specs.Prelude.{◌≡◌, ℕ, Bool, true, false, List}
 use Rattle.ws_frame.specs.Devices.{Device, HasRead, HasWritten}
 use Rattle.ws_connection.specs.ConnectionValues.{ConnectionRun, ConnectionValue}
 use Rattle.ws_connection.specs.ReadingHeads.{ReadsHead}
@@ -24,10 +24,6 @@ is_open Open = true
 is_open Waited = true
 is_open _ = false
 
--- what may be read: a stream that has not ended, behind the head, while the budget is not used up
-abbrev pub MayRead : ConnectionValue → Type 0
-MayRead connection = (is_open connection.input.state ≡ true) × (0 < connection.input.allowance)
-
 -- the other end takes part: the stream has not ended, and no read has failed
 abbrev pub takes_part : Incoming → Bool
 takes_part AtEnd = false
@@ -50,22 +46,10 @@ abbrev pub IsNewConnection : ConnectionValue → Type 0
 IsNewConnection connection = (connection.input.state ≡ Unread) × (connection.output.failed ≡ false)
     × (connection.output.ended ≡ false)
 
--- how the reads stand after one that has brought so many bytes
-abbrev pub brings : ℕ → Incoming → Type 0
-brings count Unread = ⊥
-brings count Open = 0 < count
-brings count Waited = count ≡ 0
-brings count AtEnd = count ≡ 0
-brings count Failed = count ≡ 0
-
 -- the last read has waited in vain
 abbrev pub waited_in_vain : Incoming → Bool
 waited_in_vain Waited = true
 waited_in_vain _ = false
-
--- so many bytes fewer may still be read
-abbrev pub spent : ℕ → ℕ → ℕ → Type 0
-spent before count after = before ≡ count + after
 
 -- ---- what a run does to a connection
 

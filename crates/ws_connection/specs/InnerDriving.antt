@@ -1,17 +1,21 @@
--- Inside the crate: a tester that is run over a connection, while an observer is told of its turns. A reader may skip
--- this file.
-use Rattle.std.specs.Prelude.{◌≡◌, ℕ, ◌⊎◌, Bool, true, false, List, [], ◌∷◌, ◌++◌, length}
+-- Inside the crate: a tester that is run on a stage, which is told of its turns. A reader may skip this file.
+use Rattle.std.specs.Prelude.{◌≡◌, ℕ, ◌⊎◌, Bool, true, false, List, [], ◌∷◌, ◌++◌, length, map, Option}
+use Rattle.std.specs.Borrow.{GName}
 use Rattle.ws_scripts.specs.declared.transcript.Turn.{Turn}
+use Rattle.ws_machines.specs.Told.{Told}
+use Rattle.ws_machines.specs.Machines.{Extends, IsFirstWanted, Wants}
 use Rattle.ws_tester.specs.Following.{BeginsRun, ScriptValue, TesterValue, WasTold}
 use Rattle.ws_tester.specs.Outgoings.{HaveBytes}
-use Rattle.ws_tester.specs.RunStates.{PlanValue, RunState, recorded, wanted_in}
-use Rattle.ws_connection.specs.ConnectionValues.{ConnectionRun, ConnectionValue}
+use Rattle.ws_tester.specs.RunStates.{PlanValue, RunState, wanted_in}
+use Rattle.ws_connection.specs.ConnectionValues.{ConnectionRun}
 use Rattle.ws_connection.specs.Connections.{WritesBytes}
-use Rattle.ws_connection.specs.Observing.{HearsTurns, IsHearing, IsInTurn}
+use Rattle.ws_connection.specs.Observing.{HearsTurns, IsHearing}
 use Rattle.ws_connection.specs.Probing.{FollowsInOrder, RefusesResponse, RunsScript, StopsInResponse}
 use Rattle.ws_connection.specs.RunSteps.{DidSteps, IsToldInTime, RunStage, RunStep, calls_in, turns_told}
-use Rattle.ws_connection.specs.declared.probe_end.Probe.{Probe}
-use Rattle.ws_connection.specs.declared.probe_end.Probe.TheVariants.{Ran, Refused, NoConnection}
+use Rattle.ws_handshake.specs.declared.probe_end.Probe.{Probe}
+use Rattle.ws_handshake.specs.declared.probe_end.Probe.TheVariants.{Ran, Refused, NoConnection}
+use Rattle.ws_connection.specs.RunSteps.RunStep.{Calls}
+use Rattle.ws_connection.specs.Stages.{ExtendsBy, IsStaged, IsTelling}
 use Rattle.ws_connection.specs.declared.probing.telling.TurnsTold.{TurnsTold}
 
 -- ---- which turns were told
@@ -55,67 +59,84 @@ IsToldOfRun told x turns = IsToldInPast told x.past turns ⊎ IsToldAtSent told 
 
 -- ---- what is told of them
 
--- an observer that was told of some turns was then told of others: only by calls of its own
-pub record TellsMore {O : Type 0} (heard : O → O → List Turn → Type 0) (old_turns new_turns : List Turn)
-    (old new : O) : Type 0 where
+-- a stage that told of some turns then told of others: only by telling
+pub record TellsMore {S : Type 0} (did : S → S → List RunStep → Type 0) (old_turns new_turns : List Turn)
+    (old new : S) : Type 0 where
   pub steps : List RunStep
-  pub did : (connection : ConnectionValue) → DidSteps heard (record { connection = connection; observer = old })
-      (record { connection = connection; observer = new }) steps
+  pub goes : (start : S) (before : List RunStep) → turns_told [] before ≡ old_turns → did start old before
+      → did start new (before ++ steps)
   pub no_call : calls_in steps ≡ []
   pub told : turns_told old_turns steps ≡ new_turns
-  pub hears : (start : O) (turns : List Turn) → heard start old (turns ++ old_turns)
-      → heard start new (turns ++ new_turns)
 
 -- it can be told of more
-pub record MayBeToldMore {O : Type 0} (heard : O → O → List Turn → Type 0) (told : TurnsTold) (observer : O) : Type 0
+pub record MayBeToldMore {S : Type 0} (did : S → S → List RunStep → Type 0) (told : TurnsTold) (stage : S) : Type 0
   where
-    pub hearing : IsHearing heard observer
-    pub in_turn : told.is_sent ≡ true → IsInTurn heard observer
+    pub staged : IsStaged did stage
+    pub in_turn : told.is_sent ≡ true → IsTelling did stage
 
 -- what was told of the turns that are over is told on, to their end
-pub record TellsPast {O : Type 0} (heard : O → O → List Turn → Type 0) (told : TurnsTold) (past : List Turn)
-    (turn : Turn) (turns : List Turn) (old new : O) : Type 0 where
+pub record TellsPast {S : Type 0} (did : S → S → List RunStep → Type 0) (told : TurnsTold) (past : List Turn)
+    (turn : Turn) (turns : List Turn) (old new : S) : Type 0 where
   pub new_turns : List Turn
-  pub tells : TellsMore heard turns new_turns old new
+  pub tells : TellsMore did turns new_turns old new
   pub told_at : IsToldAtTurn told past turn new_turns
 
 -- what was told of the turns of a run is told on, up to the turn under way, of which all is told once all of it is sent
-pub record TellsRun {O : Type 0} (heard : O → O → List Turn → Type 0) (x : RunState) (old_told new_told : TurnsTold)
-    (turns : List Turn) (old new : O) : Type 0 where
+pub record TellsRun {S : Type 0} (did : S → S → List RunStep → Type 0) (x : RunState) (old_told new_told : TurnsTold)
+    (turns : List Turn) (old new : S) : Type 0 where
   pub new_turns : List Turn
-  pub tells : TellsMore heard turns new_turns old new
+  pub tells : TellsMore did turns new_turns old new
   pub told_of : IsToldOfRun new_told x new_turns
   pub all : x.begun ≡ true → (wanted_in x).write ≡ [] → new_turns ≡ x.past ++ x.turn ∷ []
   pub none : x.begun ≡ false → new_turns ≡ turns
 
+-- ---- a stage as a stream
+
+abbrev pub calls_of : List Told → List RunStep
+calls_of told = map Calls told
+
+-- one that is lent was called for just this; the borrows stay
+pub record DidOnStage {S : Type 0} (did : S → S → List RunStep → Type 0) (borrows : S → List (Option GName))
+    (old_name new_name : GName) (old new : S) (told : List Told) : Type 0 where
+  pub done : ExtendsBy did old new (calls_of told)
+  pub name : new_name ≡ old_name
+  pub same : borrows new ≡ borrows old
+
+-- one thing that the machine wanted was done by its stage, and the machine was told just that
+pub record ServedOnStage {M S : Type 0} (agrees : M → M → List Told → Type 0) (wants : M → Wants)
+    (did : S → S → List RunStep → Type 0) (old_machine new_machine : M) (old_stage new_stage : S) : Type 0 where
+  pub event : Told
+  pub told : Extends agrees old_machine new_machine (event ∷ [])
+  pub done : ExtendsBy did old_stage new_stage (Calls event ∷ [])
+  pub order : IsFirstWanted (wants old_machine) event
+
 -- ---- the run
 
--- a run that began so, over a connection and with an observer
-pub record DrivesTo {O : Type 0} (heard : O → O → List Turn → Type 0) (start now : TesterValue)
-    (old new : RunStage O) : Type 0 where
+-- a run that began so, on a stage
+pub record DrivesTo {S : Type 0} (did : S → S → List RunStep → Type 0) (start now : TesterValue) (old new : S)
+    : Type 0 where
   pub steps : List RunStep
-  pub did : DidSteps heard old new steps
+  pub done : did old new steps
   pub was_told : WasTold start now (calls_in steps)
   pub in_order : FollowsInOrder start.run now.run (calls_in steps)
-  pub hears : HearsTurns heard old.observer new.observer (turns_told [] steps)
   pub in_time : (run : ScriptValue) → HaveBytes run.script → BeginsRun run start.run → IsToldInTime run.first [] steps
 
 -- and whose turns were told so far
-pub record DrivesSo {O : Type 0} (heard : O → O → List Turn → Type 0) (start now : TesterValue) (old new : RunStage O)
+pub record DrivesSo {S : Type 0} (did : S → S → List RunStep → Type 0) (start now : TesterValue) (old new : S)
     (told : TurnsTold) : Type 0 where
-  pub drives : DrivesTo heard start now old new
+  pub drives : DrivesTo did start now old new
   pub told_of : IsToldOfRun told now.run (turns_told [] drives.steps)
   pub none : now.run.begun ≡ false → turns_told [] drives.steps ≡ []
 
--- the run is over, and all of it that is recorded was told
-pub record DrivesToEnd {O : Type 0} (heard : O → O → List Turn → Type 0) (start now : TesterValue)
-    (old new : RunStage O) : Type 0 where
-  pub drives : DrivesTo heard start now old new
-  pub recorded : turns_told [] drives.steps ≡ recorded now.run
+-- ---- a connection and an observer
 
--- it began in some way
-abbrev pub BeginsSomeRun : RunState → Type 0
-BeginsSomeRun start = (run : ScriptValue) × HaveBytes run.script × BeginsRun run start
+-- from the first stage to the second one just these steps were done, and the observer, which was told of some turns
+-- before, was told of just the turns in them
+pub record DidObserved {O : Type 0} (heard : O → O → List Turn → Type 0) (start now : RunStage O)
+    (steps : List RunStep) : Type 0 where
+  pub did : DidSteps heard start now steps
+  pub hearing : IsHearing heard start.observer
+  pub hears : HearsTurns heard start.observer now.observer (turns_told [] steps)
 
 -- ---- behind the request
 

@@ -2,8 +2,6 @@ pub mod ReadingHeads
 pub mod Protocols
 pub mod RequestHeaders
 pub mod UpgradeRequests
-pub mod Requests
-pub mod Responses
 pub mod ConnectionValues
 pub mod Connections
 pub mod DeviceCalls
@@ -11,6 +9,7 @@ pub mod StreamCalls
 pub mod Probing
 pub mod Observing
 pub mod RunSteps
+pub mod Stages
 pub mod Serving
 pub mod Admitting
 pub mod InnerDriving

@@ -5,8 +5,8 @@ use Rattle.ws_scripts.specs.declared.transcript.Ended.{Ended}
 use Rattle.ws_scripts.specs.declared.transcript.Turn.{Turn}
 use Rattle.ws_scripts.specs.declared.transcript.Transcript.{Transcript}
 use Rattle.ws_suite.specs.Growing.{turn_with_got}
-use Rattle.ws_connection.specs.declared.probe_end.Probe.{Probe}
-use Rattle.ws_connection.specs.declared.probe_end.Probe.TheVariants.{Ran, Refused, NoConnection}
+use Rattle.ws_handshake.specs.declared.probe_end.Probe.{Probe}
+use Rattle.ws_handshake.specs.declared.probe_end.Probe.TheVariants.{Ran, Refused, NoConnection}
 
 -- it was told of some turns; and the last of them may go on
 abbrev pub IsHearing : {O : Type 0} → (O → O → List Turn → Type 0) → O → Type 0

@@ -19,18 +19,19 @@ use Rattle.ws_tester.specs.RunStates.{PlanValue, RunState, recorded, wanted_in}
 use Rattle.ws_connection.specs.ConnectionValues.{ConnectionRun, ConnectionValue}
 use Rattle.ws_connection.specs.Connections.{HasWorked, ReadsBytes, WritesBytes, input_of, output_of}
 use Rattle.ws_connection.specs.StreamCalls.{DidCalls}
-use Rattle.ws_connection.specs.ReadingHeads.{ReadsHead, ReadsNoFurther}
-use Rattle.ws_connection.specs.Responses.{DecidesResponse, NeedsResponse}
+use Rattle.ws_connection.specs.ReadingHeads.{ReadsHead}
+use Rattle.ws_handshake.specs.ReadingHeads.{ReadsNoFurther}
+use Rattle.ws_handshake.specs.Responses.{DecidesResponse, NeedsResponse}
 use Rattle.ws_connection.specs.UpgradeRequests.{RequestValue, text_of_request}
 use Rattle.ws_connection.specs.declared.incoming.Incoming.TheVariants.{Unread}
 use Rattle.ws_connection.specs.declared.reading_head.HeadEnd.TheVariants.{Cut, ReadFault}
-use Rattle.ws_connection.specs.declared.response_head.ResponseDecision.{ResponseDecision}
-use Rattle.ws_connection.specs.declared.response_head.ResponseDecision.TheVariants.{Accepted, Refused as RefusedHead}
+use Rattle.ws_handshake.specs.declared.response_head.ResponseDecision.{ResponseDecision}
+use Rattle.ws_handshake.specs.declared.response_head.ResponseDecision.TheVariants.{Accepted, Refused as RefusedHead}
 use Rattle.ws_connection.specs.declared.probing.Asked.{Asked}
 use Rattle.ws_connection.specs.declared.probing.run.ScriptRun.{ScriptRun}
-use Rattle.ws_connection.specs.declared.probe_end.HeadRefusal.{HeadRefusal}
-use Rattle.ws_connection.specs.declared.probe_end.Probe.{Probe}
-use Rattle.ws_connection.specs.declared.probe_end.Probe.TheVariants.{Ran, Refused, NoConnection}
+use Rattle.ws_handshake.specs.declared.probe_end.HeadRefusal.{HeadRefusal}
+use Rattle.ws_handshake.specs.declared.probe_end.Probe.{Probe}
+use Rattle.ws_handshake.specs.declared.probe_end.Probe.TheVariants.{Ran, Refused, NoConnection}
 
 -- the bytes of each turn of a script, its frames masked with this key if there is one
 abbrev pub bytes_by_turn : Case → Option (List ℕ) → List (List ℕ)

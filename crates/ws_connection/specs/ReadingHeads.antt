@@ -1,9 +1,10 @@
 -- Reading the head of an opening handshake from a stream (RFC 6455 section 4), no further than it takes. Which bytes
 -- need more, and what the others decide, is said of requests and of responses by themselves.
-use Rattle.std.specs.Prelude.{◌≡◌, ℕ, ◌≤◌, ◌⊎◌, true, false, List, [], ◌++◌, length, Result, MatchResult}
+use Rattle.std.specs.Prelude.{◌≡◌, ℕ, ◌≤◌, true, false, List, [], ◌++◌, length, Result, MatchResult}
 use Rattle.std.specs.Io.KnownBytes.{IsAtEnd}
 use Rattle.ws_frame.specs.Devices.{Device, HasRead, IsUntouched}
 use Rattle.ws_upgrade.specs.Reading.{max_head}
+use Rattle.ws_handshake.specs.ReadingHeads.{ReadsNoFurther}
 use Rattle.ws_connection.specs.declared.reading_head.HeadEnd.{HeadEnd}
 use Rattle.ws_connection.specs.declared.reading_head.HeadEnd.TheVariants.{Decided, Cut, ReadFault}
 
@@ -12,14 +13,6 @@ abbrev pub IsHeadEnd : {D : Type 0} → (List ℕ → Type 0) → (List ℕ → 
 IsHeadEnd needs decides (Decided decision) read input = decides read decision × (input.failed ≡ false)
 IsHeadEnd needs decides Cut read input = needs read × (input.failed ≡ false) × IsAtEnd input.new
 IsHeadEnd needs decides ReadFault read input = needs read × (input.failed ≡ true)
-
--- at most 1024 bytes were read behind bytes that need more
-pub record ReadsNoFurther (needs : List ℕ → Type 0) (read : List ℕ) : Type 0 where
-  pub before : List ℕ
-  pub last : List ℕ
-  pub parts : read ≡ before ++ last
-  pub undecided : (before ≡ []) ⊎ needs before
-  pub bound : length last ≤ 1024
 
 -- the head was read so: these bytes, at most 8192, and no further than it takes
 abbrev pub ReadsHead : {D : Type 0} → (List ℕ → Type 0) → (List ℕ → D → Type 0) → HeadEnd D → List ℕ → Device → Type 0

@@ -1,6 +1,6 @@
 -- A run over a connection, step by step: what its devices were called for, and what its observer was told, in their
 -- order.
-use Rattle.std.specs.Prelude.{◌≡◌, ℕ, ⊤, List, [], ◌∷◌, ◌++◌}
+use Rattle.std.specs.Prelude.{◌≡◌, ℕ, ⊤, List, [], ◌∷◌, ◌++◌, drop, Option}
 use Rattle.std.specs.List.{flat_map}
 use Rattle.ws_scripts.specs.declared.transcript.Turn.{Turn}
 use Rattle.ws_suite.specs.Growing.{turn_with_got}
@@ -8,8 +8,13 @@ use Rattle.ws_machines.specs.Told.{Told, all_came, all_taken}
 use Rattle.ws_machines.specs.Told.Told.{Came, Ended, ReadFailed, NothingCame}
 use Rattle.ws_tester.specs.Outcomes.{got_in_all, sent_in_all}
 use Rattle.ws_connection.specs.ConnectionValues.{ConnectionValue}
+use Rattle.ws_connection.specs.Connections.{ReadsBytes}
 use Rattle.ws_connection.specs.Observing.{HearsGot, HearsTurn}
+use Rattle.ws_connection.specs.Probing.{ReadsResponse}
 use Rattle.ws_connection.specs.StreamCalls.{IsCallOf}
+use Rattle.ws_handshake.specs.declared.probe_end.Probe.{Probe}
+use Rattle.ws_handshake.specs.declared.probe_end.Probe.TheVariants.{Ran, Refused, NoConnection}
+use Rattle.ws_handshake.specs.declared.response_head.ResponseDecision.TheVariants.{Accepted}
 
 -- A call of a device, with what is told of it; or the observer is told what a turn has sent, or what the last one has
 -- got besides.
@@ -92,3 +97,24 @@ pub record TellsAsItGoes {O : Type 0} (heard : O → O → List Turn → Type 0)
   pub steps : List RunStep
   pub did : DidSteps heard old (record { connection = connection; observer = observer }) steps
   pub in_time : IsToldInTime first [] steps
+
+-- ---- a connection to a server
+
+-- The answer was read that accepts, with one of these offers or none, and over the connection as it was then an
+-- observer was told of the run behind the head as it went on.
+pub record TellsBehindHead {O : Type 0} (heard : O → O → List Turn → Type 0) (offers : List (List ℕ))
+    (old : RunStage O) (connection : ConnectionValue) : Type 0 where
+  pub head : List ℕ
+  pub used : ℕ
+  pub protocol : Option ℕ
+  pub is_head : ReadsResponse offers head (Accepted used protocol)
+  pub ready : ConnectionValue
+  pub has_got : ReadsBytes head (record { old = old.connection; new = ready })
+  pub tells : TellsAsItGoes heard (drop used head) (record { connection = ready; observer = old.observer }) connection
+
+-- what came of a connection: where a script was run, its observer was told as the run went on
+abbrev pub TellsProbe : {O : Type 0} → (O → O → List Turn → Type 0) → List (List ℕ) → RunStage O → ConnectionValue
+    → Probe → Type 0
+TellsProbe heard offers old connection (Ran transcript) = TellsBehindHead heard offers old connection
+TellsProbe heard offers old connection (Refused refusal) = ⊤
+TellsProbe heard offers old connection NoConnection = ⊤

@@ -14,11 +14,12 @@ use Rattle.ws_upgrade.specs.declared.faults.HeadFault.{HeadFault}
 use Rattle.ws_peer.specs.Driving.{DriveCall, ReadsInTurn, IsDrivenTo, IsFairDriveEnd}
 use Rattle.ws_peer.specs.declared.driving.DriveEnd.{DriveEnd}
 use Rattle.ws_peer.specs.declared.driving.DriveEnd.TheVariants as end
-use Rattle.ws_connection.specs.ReadingHeads.{ReadsHead, ReadsNoFurther}
-use Rattle.ws_connection.specs.Requests.{DecidesRequest, NeedsRequest}
+use Rattle.ws_connection.specs.ReadingHeads.{ReadsHead}
+use Rattle.ws_handshake.specs.ReadingHeads.{ReadsNoFurther}
+use Rattle.ws_handshake.specs.Requests.{DecidesRequest, NeedsRequest}
 use Rattle.ws_connection.specs.declared.reading_head.HeadEnd.TheVariants.{Cut, ReadFault}
-use Rattle.ws_connection.specs.declared.request_head.RequestDecision.{RequestDecision}
-use Rattle.ws_connection.specs.declared.request_head.RequestDecision.TheVariants.{Accepted, Refused as RefusedHead}
+use Rattle.ws_handshake.specs.declared.request_head.RequestDecision.{RequestDecision}
+use Rattle.ws_handshake.specs.declared.request_head.RequestDecision.TheVariants.{Accepted, Refused as RefusedHead}
 use Rattle.ws_connection.specs.declared.serving.Served.{Served}
 use Rattle.ws_connection.specs.declared.serving.Served.TheVariants.{Ended, Refused, Stopped}
 

@@ -5,15 +5,15 @@ ghost use Rattle.std.specs.Prelude.{◌≡◌, IfOk, map};
 ghost use Rattle.ws_upgrade.specs.Protocols.{AreOffers};
 ghost use Rattle.ws_connection.specs.Admitting.{Admits, AnswersRequest, HoldsUpgrade, IsTakenFrom, PutsRefusal};
 ghost use Rattle.ws_connection.specs.Connections.{IsNewConnection, IsReady};
-ghost use Rattle.ws_connection.specs.Requests.{DecidesRequest};
+ghost use Rattle.ws_handshake.specs.Requests.{DecidesRequest};
 
 use crate::connection::Connection;
 use crate::ending::EndsDirection;
 use crate::reading_head::{HeadEnd, HeadRoom};
-use crate::request_head::{RequestDecision, RequestHead};
+use crate::waiting::WaitingRead;
 use std::alloc::Global;
-use std::io::Read;
 use ws_base::NoMemory;
+use ws_handshake::{RequestDecision, RequestHead};
 use ws_upgrade::{HeadFault, Offers, RequestRead, read_request_with, refusal, response_of};
 
 /// A request that was accepted.
@@ -39,7 +39,7 @@ pub enum Admission {
 /// Reads the head of a request, at most 8192 bytes, and writes the response, or the refusal. The response names the
 /// first subprotocol that the request offers and that is known. Neither the head nor what came with it counts for the
 /// budget of the connection.
-pub fn admit<R: Read, W: EndsDirection>(
+pub fn admit<R: WaitingRead, W: EndsDirection>(
     alloc: Global,
     known: &[&[u8]],
     connection: &mut Connection<R, W>,
@@ -61,7 +61,7 @@ pub fn admit<R: Read, W: EndsDirection>(
 }
 
 /// Answers a head that was read.
-fn answer_head<R: Read, W: EndsDirection>(
+fn answer_head<R: WaitingRead, W: EndsDirection>(
     alloc: Global,
     known: &[&[u8]],
     decision: RequestDecision,
@@ -116,7 +116,7 @@ fn request_in(
 }
 
 /// Writes the refusal of a head.
-fn refuse<R: Read, W: EndsDirection>(fault: HeadFault, connection: &mut Connection<R, W>)
+fn refuse<R: WaitingRead, W: EndsDirection>(fault: HeadFault, connection: &mut Connection<R, W>)
     requires { IsReady connection.old }
     ensures put { PutsRefusal fault (record { old = connection.old; new = connection.new }) }
     ensures input { connection.new.input ≡ connection.old.input }

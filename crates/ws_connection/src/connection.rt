@@ -3,36 +3,37 @@
 //! own direction.
 
 ghost use Rattle.std.specs.Prelude.{◌≡◌, ◌≤◌, ◌<◌, ◌||◌, length, take, nat_lt, true, false};
-ghost use Rattle.std.specs.Io.KnownBytes.{Appends, IsAtEnd, Keeps};
+ghost use Rattle.std.specs.Io.KnownBytes.{Appends, Keeps};
 ghost use Rattle.ws_machines.specs.Machines.{FitsRead, FitsWrite};
 ghost use Rattle.ws_machines.specs.Told.{told_by_read, told_by_write};
 ghost use Rattle.ws_machines.specs.Told.Told.{DirectionEnded};
-ghost use Rattle.ws_connection.specs.Connections.{IsNewConnection, MayRead, MayWrite, ReadsBytes, ReadsHeadOver};
-ghost use Rattle.ws_connection.specs.Connections.{WritesBytes, brings, waited_in_vain, spent};
-ghost use Rattle.ws_connection.specs.DeviceCalls.{one_call_more};
+ghost use Rattle.ws_connection.specs.Connections.{IsNewConnection, MayWrite, ReadsHeadOver, WritesBytes};
 ghost use Rattle.ws_connection.specs.StreamCalls.{IsCallOf};
-ghost use Rattle.ws_connection.specs.declared.incoming.Incoming.TheVariants.{AtEnd, Unread};
+ghost use Rattle.ws_connection.specs.declared.incoming.Incoming.TheVariants.{Unread};
 
 use crate::device_calls::{ReadCalls, WriteCalls};
 use crate::ending::EndsDirection;
 use crate::incoming::Incoming;
-use crate::reading_head::{HeadDecider, HeadEnd, HeadRoom};
-use std::io::Read;
+use crate::reading_head::{HeadEnd, HeadRoom};
+use crate::waiting::{WaitTimer, WaitingRead};
 use std::marker::Model;
+use ws_handshake::HeadDecider;
 use ws_machines::{ReadOutcome, WriteOutcome};
 
 /// A reader and a writer that belong together, and how both directions stand. An error of the kind `WouldBlock`, which
-/// a socket answers where its time-out has expired, is a read that has waited in vain, and no failure. It is a stream:
-/// each thing that it tells is one call of one of them (`IsCallOf`).
+/// a socket answers where its time-out has expired, is a read that has waited in vain, and no failure. One of the kind
+/// `TimedOut` says that the deadline of the connection has passed. It is a stream: each thing that it tells is one call
+/// of one of them (`IsCallOf`).
 #[derive(Drop)]
-pub struct Connection<R: Read, W: EndsDirection> {
+pub struct Connection<R: WaitingRead, W: EndsDirection> {
     reader: ReadCalls<R>,
+    timer: R::Timer,
     writer: WriteCalls<W>,
     has_waited: bool,
     allowance: u64,
 }
 
-impl<R: Read, W: EndsDirection> Model for Connection<R, W> {
+impl<R: WaitingRead, W: EndsDirection> Model for Connection<R, W> {
     ghost use Rattle.ws_connection.specs.ConnectionValues.{ConnectionValue};
 
     ghost Value = { ConnectionValue };
@@ -42,19 +43,21 @@ impl<R: Read, W: EndsDirection> Model for Connection<R, W> {
         left = connection.reader.left;
         state = connection.reader.state;
         waited = connection.has_waited;
+        enough = R.Timer.has_waited connection.timer;
         allowance = connection.allowance;
         calls = connection.reader.calls;
       };
       output = record {
         held = connection.writer.held;
         failed = connection.writer.failed;
+        late = connection.writer.late;
         ended = connection.writer.ended;
         calls = connection.writer.calls;
       };
     } };
 }
 
-impl<R: Read, W: EndsDirection> Connection<R, W> {
+impl<R: WaitingRead, W: EndsDirection> Connection<R, W> {
     /// A connection over which nothing has gone yet, and behind whose head at most `budget` bytes are to be read.
     pub fn new(reader: R, writer: W, budget: u64) -> Connection<R, W>
         ensures new { IsNewConnection result }
@@ -63,8 +66,10 @@ impl<R: Read, W: EndsDirection> Connection<R, W> {
         ensures waited { result.input.waited ≡ false }
         ensures budget { result.input.allowance ≡ budget }
     {
+        let timer = reader.timer();
         Connection {
             reader: ReadCalls::new(reader),
+            timer,
             writer: WriteCalls::new(writer),
             has_waited: false,
             allowance: budget,
@@ -128,31 +133,7 @@ impl<R: Read, W: EndsDirection> Connection<R, W> {
         self.reader.read_head(room, decider)
     }
 
-    /// Reads once behind the head, no more bytes than may still be read: how many they are. Where none came, `incoming`
-    /// tells why.
-    pub fn read(&mut self, room: &mut [u8]) -> usize
-        requires may { MayRead self.old }
-        requires room { 0 < length room.old }
-        ensures bound { result ≤ length room.new }
-        ensures got { ReadsBytes (take result room.new) (record { old = self.old; new = self.new }) }
-        ensures spent { spent self.old.input.allowance result self.new.input.allowance }
-        ensures brings { brings result self.new.input.state }
-        ensures waited { self.new.input.waited ≡ (self.old.input.waited || waited_in_vain self.new.input.state) }
-        ensures end { self.new.input.state ≡ AtEnd → IsAtEnd self.new.input.left }
-        ensures output { self.new.output ≡ self.old.output }
-        ensures calls { self.new.input.calls ≡ one_call_more self.old.input.calls }
-    {
-        let len = self.allowance.min(room.len() as u64) as usize;
-        match self.read_once(&mut room[..len]) {
-            ReadOutcome::Came(count) => count,
-            ReadOutcome::Ended
-            | ReadOutcome::Failed
-            | ReadOutcome::NothingCame
-            | ReadOutcome::DeadlinePassed(_) => 0,
-        }
-    }
-
-    /// Reads once behind the head, also where no more bytes than there are room for may still be read.
+    /// Reads once behind the head. What came counts as read behind it, of what may still be read.
     pub fn read_once(&mut self, room: &mut [u8]) -> ReadOutcome
         requires { 0 < length room.old }
         ensures fits { FitsRead (length room.new) result }
@@ -169,6 +150,9 @@ impl<R: Read, W: EndsDirection> Connection<R, W> {
             Err(_) if self.reader.state() == Incoming::Waited => {
                 self.has_waited = true;
                 ReadOutcome::NothingCame
+            }
+            Err(_) if self.reader.state() == Incoming::Late => {
+                ReadOutcome::DeadlinePassed(self.timer.has_waited())
             }
             Err(_) => ReadOutcome::Failed,
         }
@@ -193,8 +177,12 @@ impl<R: Read, W: EndsDirection> Connection<R, W> {
         ensures call { IsCallOf (told_by_write bytes.now result) (record { old = self.old; new = self.new }) }
     {
         match self.writer.write(bytes) {
-            Ok(0) | Err(_) => WriteOutcome::Failed,
+            Ok(0) => WriteOutcome::Failed,
             Ok(taken) => WriteOutcome::Taken(taken),
+            Err(_) if self.writer.is_late() => {
+                WriteOutcome::DeadlinePassed(self.timer.has_waited())
+            }
+            Err(_) => WriteOutcome::Failed,
         }
     }
 
@@ -208,6 +196,13 @@ impl<R: Read, W: EndsDirection> Connection<R, W> {
         ensures call { IsCallOf DirectionEnded (record { old = self.old; new = self.new }) }
     {
         self.end_once();
+    }
+
+    /// The time limit of what is waited for begins anew.
+    pub fn wait_anew(&mut self)
+        ensures { self.new ≡ self.old }
+    {
+        self.timer.begin_wait();
     }
 
     /// Ends its own direction, also where it was ended before.

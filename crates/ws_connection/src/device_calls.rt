@@ -5,17 +5,18 @@ ghost use Rattle.std.specs.Io.{ReadsAtMost, WritesAtMost};
 ghost use Rattle.std.specs.Io.KnownBytes.{Keeps, ReadConsumes, WriteAppends};
 ghost use Rattle.ws_frame.specs.Watching.{write_fails};
 ghost use Rattle.ws_connection.specs.Connections.{read_failed, state_after_head};
-ghost use Rattle.ws_connection.specs.DeviceCalls.{one_call_more, state_after_read};
+ghost use Rattle.ws_connection.specs.DeviceCalls.{is_late, one_call_more, state_after_read};
 ghost use Rattle.ws_connection.specs.ReadingHeads.{ReadsHead};
 ghost use Rattle.ws_connection.specs.declared.incoming.Incoming.TheVariants.{Unread};
 
 use crate::ending::EndsDirection;
 use crate::incoming::Incoming;
-use crate::reading_head::{HeadDecider, HeadEnd, HeadRoom, read_head};
+use crate::reading_head::{HeadEnd, HeadRoom, read_head};
 use std::io;
 use std::io::{ErrorKind, Read};
 use std::marker::Model;
 use ws_frame::Watched;
+use ws_handshake::HeadDecider;
 
 /// A reader, how its reads stand, and how many of them were made behind the head, modulo 2^64.
 #[derive(Drop)]
@@ -109,7 +110,8 @@ impl<R: Read> ReadCalls<R> {
 }
 
 /// How the reads stand after one that has answered so. An error of the kind `WouldBlock`, which a socket answers where
-/// its time-out has expired, is a read that has waited in vain, and no failure.
+/// its time-out has expired, is a read that has waited in vain, and no failure; nor is one of the kind `TimedOut`,
+/// behind the deadline.
 fn state_after(answer: &io::Result<usize>) -> Incoming
     ensures { result ≡ state_after_read answer.now }
 {
@@ -118,16 +120,19 @@ fn state_after(answer: &io::Result<usize>) -> Incoming
         Ok(_) => Incoming::Open,
         Err(error) => match error.kind() {
             ErrorKind::WouldBlock => Incoming::Waited,
+            ErrorKind::TimedOut => Incoming::Late,
             _ => Incoming::Failed,
         },
     }
 }
 
-/// A writer, whether a write has failed, whether its direction was ended, and how many calls it has got, modulo 2^64.
+/// A writer, whether a write has failed, whether the deadline had passed by the last one, whether its direction was
+/// ended, and how many calls it has got, modulo 2^64.
 #[derive(Drop)]
 pub(crate) struct WriteCalls<W: EndsDirection> {
     writer: W,
     has_failed: bool,
+    is_late: bool,
     is_ended: bool,
     calls: u64,
 }
@@ -140,6 +145,7 @@ impl<W: EndsDirection> Model for WriteCalls<W> {
     ghost view = { λ writes. record {
       held = W.contents writes.writer;
       failed = writes.has_failed;
+      late = writes.is_late;
       ended = writes.is_ended;
       knows_end = W.is_ended writes.writer;
       calls = writes.calls;
@@ -156,6 +162,7 @@ impl<W: EndsDirection> WriteCalls<W> {
         WriteCalls {
             writer,
             has_failed: false,
+            is_late: false,
             is_ended: false,
             calls: 0,
         }
@@ -175,6 +182,13 @@ impl<W: EndsDirection> WriteCalls<W> {
         self.has_failed
     }
 
+    /// Whether the deadline had passed by the last write.
+    pub fn is_late(&self) -> bool
+        ensures { result ≡ self.now.late }
+    {
+        self.is_late
+    }
+
     /// Whether its direction was ended.
     pub fn is_ended(&self) -> bool
         ensures { result ≡ self.now.ended }
@@ -188,12 +202,14 @@ impl<W: EndsDirection> WriteCalls<W> {
         ensures bound { WritesAtMost result bytes.now }
         ensures bytes { WriteAppends self.old.held self.new.held result bytes.now }
         ensures failed { self.new.failed ≡ (self.old.failed || write_fails result bytes.now) }
+        ensures late { self.new.late ≡ is_late result }
         ensures ended { self.new.ended ≡ self.old.ended }
         ensures calls { self.new.calls ≡ one_call_more self.old.calls }
     {
         let answer = self.writer.write(bytes);
         self.calls = self.calls.wrapping_add(1);
         self.has_failed = self.has_failed || is_failure(&answer);
+        self.is_late = is_late(&answer);
         answer
     }
 
@@ -201,6 +217,7 @@ impl<W: EndsDirection> WriteCalls<W> {
     pub fn end_direction(&mut self) -> io::Result<()>
         ensures held { Keeps self.old.held self.new.held }
         ensures failed { self.new.failed ≡ self.old.failed }
+        ensures late { self.new.late ≡ self.old.late }
         ensures ended { self.new.ended ≡ true }
         ensures known { IfOk result (λ done. self.new.knows_end ≡ true) }
         ensures calls { self.new.calls ≡ one_call_more self.old.calls }
@@ -208,6 +225,19 @@ impl<W: EndsDirection> WriteCalls<W> {
         self.is_ended = true;
         self.calls = self.calls.wrapping_add(1);
         self.writer.end_direction()
+    }
+}
+
+/// Whether the deadline had passed by a write that has answered so.
+fn is_late(answer: &io::Result<usize>) -> bool
+    ensures { result ≡ is_late answer.now }
+{
+    match answer {
+        Ok(_) => false,
+        Err(error) => match error.kind() {
+            ErrorKind::TimedOut => true,
+            _ => false,
+        },
     }
 }
 

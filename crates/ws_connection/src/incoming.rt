@@ -9,6 +9,8 @@ pub enum Incoming {
     Open,
     /// The last read has waited in vain.
     Waited,
+    /// By the last read the deadline of the connection had passed.
+    Late,
     /// The stream has ended.
     AtEnd,
     /// A read has failed.

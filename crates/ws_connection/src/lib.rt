@@ -6,7 +6,8 @@
 //! (`Admits`) over one as a server, and `run_script` (`Records`) over one whose handshake is done, `read_head` (the
 //! clauses with `ReadsHead`) with `RequestHead` and `ResponseHead`, `protocols_of`, whose `Protocols` they take, and
 //! `headers_of`, whose `RequestHeaders` a request has. A `Connection` is a stream of `ws_machines`: what it tells is
-//! what its devices did (`DidCalls`).
+//! what its devices did (`DidCalls`). Its devices keep its limits of time (`WaitingRead`). `drive_stage`
+//! (`RunsOnStage`) runs a tester on any `Stage`: `probe` and `run_script` are that over a connection and its observer.
 #![tactic(auto)]
 
 mod admitting;
@@ -15,28 +16,29 @@ mod device_calls;
 mod ending;
 mod incoming;
 mod observer;
-mod probe_end;
 mod probing;
 mod protocols;
 mod reading_head;
-mod request_head;
 mod request_headers;
-mod response_head;
 mod serving;
+mod stage;
 mod streaming;
 mod upgrade_request;
+mod waiting;
 
 pub use admitting::{AcceptedRequest, Admission, admit};
 pub use connection::Connection;
 pub use ending::EndsDirection;
 pub use incoming::Incoming;
 pub use observer::{Observer, Silent};
-pub use probe_end::{HeadRefusal, Probe};
-pub use probing::{Asked, NONCE, ScriptRun, probe, run_script};
+pub use probing::{Asked, NONCE, ScriptRun, drive_stage, probe, run_script};
 pub use protocols::{Protocols, protocols_of};
-pub use reading_head::{HeadDecider, HeadEnd, HeadRoom, read_head};
-pub use request_head::{RequestDecision, RequestHead};
+pub use reading_head::{HeadEnd, HeadRoom, read_head};
 pub use request_headers::{RequestHeaders, headers_of};
-pub use response_head::{ResponseDecision, ResponseHead};
 pub use serving::{Served, serve_one};
+pub use stage::Stage;
 pub use upgrade_request::UpgradeRequest;
+pub use waiting::{NoTimer, WaitTimer, WaitingRead};
+pub use ws_handshake::{
+    HeadDecider, HeadRefusal, Probe, RequestDecision, RequestHead, ResponseDecision, ResponseHead,
+};

@@ -1,7 +1,9 @@
 //! A script that is run against a server: the opening handshake, and then its turns (RFC 6455 sections 4.1 and 5 to 7).
 
 mod driving;
+mod observed;
 mod run;
+mod stage_stream;
 mod telling;
 
 ghost use Rattle.std.specs.Prelude.{◌≡◌, ◌≤◌, drop, length, map, IfOk, MatchOption};
@@ -12,6 +14,7 @@ ghost use Rattle.ws_scripts.specs.Scripts.{CanBeRun};
 ghost use Rattle.ws_connection.specs.Connections.{IsNewConnection};
 ghost use Rattle.ws_connection.specs.Observing.{HearsProbe, IsHearing};
 ghost use Rattle.ws_connection.specs.Probing.{Probes, plan_asked, probe_nonce};
+ghost use Rattle.ws_connection.specs.RunSteps.{TellsProbe};
 ghost use Rattle.ws_tester.specs.RunStates.{plan_value};
 ghost use Rattle.ws_connection.specs.InnerDriving.{AnswersBehind};
 ghost use Rattle.ws_tester.specs.Outgoings.{HaveBytes};
@@ -20,16 +23,16 @@ ghost use Rattle.ws_connection.specs.UpgradeRequests.{CanBeAsked, request_value,
 use crate::connection::Connection;
 use crate::ending::EndsDirection;
 use crate::observer::Observer;
-use crate::probe_end::{HeadRefusal, Probe};
 use crate::probing::run::run_turns;
 use crate::reading_head::{HeadEnd, HeadRoom};
-use crate::response_head::{ResponseDecision, ResponseHead};
 use crate::upgrade_request::UpgradeRequest;
+use crate::waiting::WaitingRead;
+pub use driving::drive_stage;
 pub use run::{ScriptRun, run_script};
 use std::alloc::Global;
-use std::io::Read;
-use ws_base::{NoMemory, Payload, Sequence};
-use ws_suite::{Case, Expectation, turns};
+use ws_base::{NoMemory, Sequence};
+use ws_handshake::{HeadRefusal, Probe, ResponseDecision, ResponseHead};
+use ws_suite::{Case, CutTurn, Expectation, turns};
 use ws_tester::TestPlan;
 use ws_upgrade::{AddedHeaders, HeadFault, Host, Offers, Path, request_of, status_of};
 use ws_wire::Role;
@@ -69,7 +72,7 @@ impl Asked<'_> {
 ///
 /// The observer is told of the run as it goes on, before more is read, and last of how it ended; of a connection over
 /// which no script was run, nothing. The run ends with an error of the observer's, as with want of memory.
-pub fn probe<R: Read, W: EndsDirection, O: Observer>(
+pub fn probe<R: WaitingRead, W: EndsDirection, O: Observer>(
     alloc: Global,
     case: &Case,
     asked: &Asked<'_>,
@@ -84,6 +87,8 @@ pub fn probe<R: Read, W: EndsDirection, O: Observer>(
         Probes (plan_asked asked.now) case.now asked.now.key (request_value asked.now.request) probe
         (record { old = connection.old; new = connection.new })) }
     ensures told { IfOk result (HearsProbe O.heard O.heard_all observer.old observer.new) }
+    ensures in_time { IfOk result (TellsProbe O.heard (request_value asked.now.request).offers
+        (record { connection = connection.old; observer = observer.old }) connection.new) }
     ensures borrow { O.borrow observer.new ≡ O.borrow observer.old }
 {
     let script = turns(alloc, case, asked.key)?;
@@ -111,9 +116,9 @@ fn request_text(alloc: Global, request: &UpgradeRequest<'_>) -> Result<Vec<u8>, 
 }
 
 /// Reads the head of the answer, and where it accepts runs the turns.
-fn after_request<R: Read, W: EndsDirection, O: Observer>(
+fn after_request<R: WaitingRead, W: EndsDirection, O: Observer>(
     alloc: Global,
-    script: Sequence<Sequence<Payload>>,
+    script: Sequence<CutTurn>,
     asked: &Asked<'_>,
     connection: &mut Connection<R, W>,
     observer: &mut O,
@@ -125,6 +130,8 @@ fn after_request<R: Read, W: EndsDirection, O: Observer>(
         (map (λ name. name.now) asked.now.request.protocols.now) probe
         (record { old = connection.old; new = connection.new })) }
     ensures told { IfOk result (HearsProbe O.heard O.heard_all observer.old observer.new) }
+    ensures in_time { IfOk result (TellsProbe O.heard (map (λ name. name.now) asked.now.request.protocols.now)
+        (record { connection = connection.old; observer = observer.old }) connection.new) }
     ensures borrow { O.borrow observer.new ≡ O.borrow observer.old }
 {
     let mut room = HeadRoom::new();

@@ -1,6 +1,6 @@
 //! Reading the head of an opening handshake from a stream (RFC 6455 section 4), no further than it takes.
 
-ghost use Rattle.std.specs.Prelude.{◌≡◌, ◌≤◌, ◌<◌, ◌||◌, [], length, false, is_err, IfNone, MatchOption};
+ghost use Rattle.std.specs.Prelude.{◌≡◌, ◌≤◌, ◌<◌, ◌||◌, [], length, false, is_err};
 ghost use Rattle.ws_frame.specs.Devices.{watched};
 ghost use Rattle.ws_frame.specs.Watching.{has_failed};
 ghost use Rattle.ws_upgrade.specs.Reading.{max_head};
@@ -10,32 +10,11 @@ use std::io;
 use std::io::Read;
 use ws_base::ShortBytes;
 use ws_frame::Watched;
+use ws_handshake::{HEAD_READ_SIZE, HeadDecider};
 use ws_upgrade::MAX_HEAD;
-
-/// How many bytes one read asks for at most.
-const HEAD_READ_SIZE: usize = 1024;
 
 /// Room for the bytes that are read for a head, at most 8192, kept in place.
 pub type HeadRoom = ShortBytes<MAX_HEAD>;
-
-/// What decides the heads of requests, or of responses.
-pub trait HeadDecider {
-    /// What is decided.
-    type Decision: Copy;
-
-    ghost use Rattle.std.specs.Prelude.{List, ℕ};
-
-    /// These bytes need more.
-    ghost needs: { Self → List ℕ → Type 0 };
-
-    /// These bytes are decided so.
-    ghost decides: { Self → List ℕ → Self.Decision → Type 0 };
-
-    /// What these bytes decide. `None` where more are needed, and they are less than the most that are read.
-    fn decide(&self, bytes: &[u8]) -> Option<Self::Decision>
-        ensures decided { MatchOption result (needs self.now bytes.now) (decides self.now bytes.now) }
-        ensures room { IfNone result (length bytes.now < max_head) };
-}
 
 /// How the reading of a head ended.
 #[derive(Clone, Copy)]

@@ -2,11 +2,11 @@
 
 use crate::connection::Connection;
 use crate::ending::EndsDirection;
-use std::io::Read;
+use crate::waiting::WaitingRead;
 use ws_base::NoMemory;
 use ws_machines::{ReadOutcome, Stream, WriteOutcome};
 
-impl<R: Read, W: EndsDirection> Stream for Connection<R, W> {
+impl<R: WaitingRead, W: EndsDirection> Stream for Connection<R, W> {
     ghost use Rattle.ws_connection.specs.StreamCalls.{DidCalls};
 
     type Fault = NoMemory;
@@ -27,8 +27,9 @@ impl<R: Read, W: EndsDirection> Stream for Connection<R, W> {
         self.end_once();
     }
 
-    /// Its devices keep the time limits of their calls.
-    fn begin_wait(&mut self) {}
+    fn begin_wait(&mut self) {
+        self.wait_anew();
+    }
 
     /// Lines are reported to nobody.
     fn report(&mut self, _lines: &[u8]) -> Result<(), NoMemory> {

@@ -1,26 +1,31 @@
 //! The run of a script over a connection whose handshake is done (RFC 6455 sections 5 to 7).
 
-ghost use Rattle.std.specs.Prelude.{◌≡◌, map, IfOk};
+ghost use Rattle.std.specs.Prelude.{◌≡◌, ◌∷◌, [], true, map, IfOk, OnOk, Some};
 ghost use Rattle.std.specs.List.{concat};
 ghost use Rattle.ws_scripts.specs.Scripts.{CanBeRun};
 ghost use Rattle.ws_connection.specs.Connections.{IsReady};
 ghost use Rattle.ws_connection.specs.Observing.{HearsProbe, HearsTurns, IsHearing};
 ghost use Rattle.ws_connection.specs.Probing.{Records, bytes_by_turn};
+ghost use Rattle.ws_machines.specs.Machines.{HasNext};
+ghost use Rattle.ws_tester.specs.Following.{WasTold};
+ghost use Rattle.ws_connection.specs.InnerDriving.{DidObserved};
 ghost use Rattle.ws_connection.specs.RunSteps.{TellsAsItGoes};
+ghost use Rattle.ws_connection.specs.Stages.{BeginsSomeRun, RunsOnStage};
 ghost use Rattle.ws_connection.specs.Probing.{plan_of};
 ghost use Rattle.ws_tester.specs.Outgoings.{HaveBytes};
-ghost use Rattle.ws_tester.specs.RunStates.{plan_value};
-ghost use Rattle.ws_connection.specs.declared.probe_end.Probe.TheVariants.{Ran};
+ghost use Rattle.ws_tester.specs.RunStates.{plan_value, wanted_in};
+ghost use Rattle.ws_handshake.specs.declared.probe_end.Probe.TheVariants.{Ran};
 
 use crate::connection::Connection;
 use crate::ending::EndsDirection;
 use crate::observer::Observer;
-use crate::probing::driving::drive_tester;
+use crate::probing::driving::drive_stage;
+use crate::probing::observed::ObservedConnection;
+use crate::waiting::WaitingRead;
 use std::alloc::Global;
-use std::io::Read;
-use ws_base::{Payload, Sequence};
+use ws_base::Sequence;
 use ws_machines::Machine;
-use ws_suite::{Case, Expectation, Transcript, turns_with};
+use ws_suite::{Case, CutTurn, Expectation, Transcript, turns_with};
 use ws_tester::{TestPlan, Tester};
 use ws_wire::Role;
 
@@ -56,7 +61,7 @@ impl ScriptRun {
 /// aren't answered.
 ///
 /// The observer is told of the run as it goes on, before more is read, and last of how it ended.
-pub fn run_script<R: Read, W: EndsDirection, O: Observer>(
+pub fn run_script<R: WaitingRead, W: EndsDirection, O: Observer>(
     alloc: Global,
     case: &Case,
     plan: ScriptRun,
@@ -83,10 +88,10 @@ pub fn run_script<R: Read, W: EndsDirection, O: Observer>(
 }
 
 /// Runs a script, of whose turns these are the pieces.
-pub(super) fn run_turns<R: Read, W: EndsDirection, O: Observer>(
+pub(super) fn run_turns<R: WaitingRead, W: EndsDirection, O: Observer>(
     alloc: Global,
     plan: TestPlan,
-    script: Sequence<Sequence<Payload>>,
+    script: Sequence<CutTurn>,
     first: Vec<u8>,
     connection: &mut Connection<R, W>,
     observer: &mut O,
@@ -101,7 +106,33 @@ pub(super) fn run_turns<R: Read, W: EndsDirection, O: Observer>(
     ensures borrow { O.borrow observer.new ≡ O.borrow observer.old }
 {
     let mut tester = Tester::new(alloc, plan, script, first, connection.allowance())?;
-    drive_tester(&mut tester, connection, observer)?;
+    let mut stage = ObservedConnection {
+        connection,
+        observer,
+    };
+    drive_observed(&mut tester, &mut stage)?;
     let transcript = tester.into_end()?;
     Ok(transcript)
+}
+
+/// Runs a tester over a connection until it is done, as on any stage. Before each further step the observer is told
+/// what is certain by then.
+fn drive_observed<R: WaitingRead, W: EndsDirection, O: Observer>(
+    tester: &mut Tester,
+    stage: &mut ObservedConnection<'_, '_, R, W, O>,
+) -> Result<(), O::Fault>
+    requires begun { BeginsSomeRun tester.old.run }
+    requires told { WasTold tester.old tester.old [] }
+    requires goes_on { HasNext (wanted_in tester.old.run) }
+    requires hearing { IsHearing O.heard stage.old.observer.now }
+    ensures runs { OnOk result (RunsOnStage (DidObserved O.heard) tester.old tester.new
+        (record { connection = stage.old.connection.now; observer = stage.old.observer.now })
+        (record { connection = stage.new.connection.now; observer = stage.new.observer.now })) }
+    ensures done { OnOk result ((wanted_in tester.new.run).done ≡ true) }
+    ensures borrows { (Some stage.new.connection.ghost_name ∷ Some stage.new.observer.ghost_name
+        ∷ O.borrow stage.new.observer.now ∷ []) ≡ (Some stage.old.connection.ghost_name
+        ∷ Some stage.old.observer.ghost_name ∷ O.borrow stage.old.observer.now ∷ []) }
+{
+    drive_stage(tester, stage)?;
+    Ok(())
 }

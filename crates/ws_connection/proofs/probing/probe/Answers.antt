@@ -9,6 +9,7 @@ use Rattle.ws_connection.specs.InnerDriving.{AnswersBehind}
 use Rattle.ws_connection.specs.Probing.{bytes_by_turn, plan_asked, probe_nonce}
 use Rattle.ws_connection.specs.UpgradeRequests.{request_value, text_of_request}
 use Rattle.ws_connection.proofs.ProbingLemmas.{answers, between, bytes_are, not_asked, pieces_have_bytes, put_whole}
+use Rattle.ws_connection.proofs.ProbingLemmas.{tells_after}
 use Rattle.ws_connection.proofs.probing.probe.Goals as goal
 
 pub after_request-requires-clause-bytes : goal.after_request-requires-clause-bytes
@@ -46,3 +47,8 @@ returns-clause-probes g c =
     c.write-taken.ensures.put) c.write-taken.ensures.input
     (subst (λ (l : List (List ℕ)). AnswersBehind plan l offers c.in_ok-came.came
     (between c.write-taken.new.self c.after_request.new.connection)) bytes c.in_ok-came.ensures.answers)
+
+pub returns-clause-in_time : goal.returns-clause-in_time
+returns-clause-in_time g c = tells_after g.O.Observer.heard (request_value c.args.asked.now.request).offers
+    c.in_ok-came.came c.args.connection.now c.write-taken.new.self c.after_request.new.connection c.args.observer.now
+    c.write-taken.ensures.input c.in_ok-came.ensures.in_time

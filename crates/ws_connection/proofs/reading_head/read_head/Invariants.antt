@@ -2,7 +2,7 @@
 use Rattle.std.proofs.Common.{◌≡◌, ◌≤◌, length, false, ◌-◌}
 use Rattle.std.specs.Io.KnownBytes.{Consumes}
 use Rattle.ws_frame.specs.Watching.{has_failed, inner_of}
-use Rattle.ws_connection.specs.ReadingHeads.{ReadsNoFurther}
+use Rattle.ws_handshake.specs.ReadingHeads.{ReadsNoFurther}
 use Rattle.ws_connection.proofs.reading_head.read_head.Given as goal
 
 -- what was read is in the room, and all but the last piece of it needs more

@@ -3,7 +3,7 @@ use Rattle.std.proofs.Common.{List, ℕ, map, refl, sym, subst}
 use Rattle.std.specs.Borrow.{Bor}
 use Rattle.ws_frame.specs.Devices.{watched}
 use Rattle.ws_connection.specs.ReadingHeads.{ReadsHead}
-use Rattle.ws_connection.specs.Requests.{DecidesRequest, NeedsRequest}
+use Rattle.ws_handshake.specs.Requests.{DecidesRequest, NeedsRequest}
 use Rattle.ws_connection.specs.declared.reading_head.HeadEnd.TheVariants.{Decided}
 use Rattle.ws_connection.proofs.ServingLemmas.{serves}
 use Rattle.ws_connection.proofs.serving.serve_one.Goals as goal

@@ -9,16 +9,16 @@ use Rattle.ws_connection.proofs.probing.telling.tell_past.Goals as goal
 
 pub turns-init : goal.turns-init
 turns-init g c = record {
-  tells = λ turn turns h. (turns, tells_nothing g.O.Observer.heard turns c.args.observer.now, h);
+  tells = λ turn turns h. (turns, tells_nothing g.S.Stage.did turns c.args.stage.now, h);
   within = c.requires.within;
   same = λ e. refl;
   may = c.requires.may;
-  borrow = refl;
+  borrows = refl;
 }
 
 pub returns-clause-tells : goal.returns-clause-tells
-returns-clause-tells g c = λ turn turns h. past_ends g.O.Observer.heard c.turns.told c.args.past.now turn turns
-    c.args.observer.now c.turns.observer c.turns-test.false (c.turns.invariant.tells turn turns h)
+returns-clause-tells g c = λ turn turns h. past_ends g.S.Stage.did c.turns.told c.args.past.now turn turns
+    c.args.stage.now c.turns.stage c.turns-test.false (c.turns.invariant.tells turn turns h)
 
 pub turns-preserved : goal.turns-preserved
 turns-preserved g c =
@@ -32,16 +32,16 @@ turns-preserved g c =
     drop_more past told.whole one c.turns-test.true
     ∙ ap (λ (t : Turn). t ∷ drop (told.whole + 1) past) (sym c.index-past-told.is) in
     record {
-      tells = λ turn turns h. past_then g.O.Observer.heard told next past turn turns c.args.observer.now c.turns.observer
-          c.tell_turn.new.observer (c.turns.invariant.tells turn turns h)
-          (λ now at. past_step g.O.Observer.heard told next past turn one (drop (told.whole + 1) past) now
-          c.turns.observer c.tell_turn.new.observer left
+      tells = λ turn turns h. past_then g.S.Stage.did told next past turn turns c.args.stage.now c.turns.stage
+          c.tell_turn.new.stage (c.turns.invariant.tells turn turns h)
+          (λ now at. past_step g.S.Stage.did told next past turn one (drop (told.whole + 1) past) now
+          c.turns.stage c.tell_turn.new.stage left
           (ap (λ (n : ℕ). n + 1) c.in_ok-tell_turn.ensures.whole) refl
           (subst (λ (t : Turn). (before part : List Turn) → IsPartOf told.is_sent told.got t part
-          → TellsMore g.O.Observer.heard (before ++ part) (before ++ t ∷ []) c.turns.observer c.tell_turn.new.observer)
+          → TellsMore g.S.Stage.did (before ++ part) (before ++ t ∷ []) c.turns.stage c.tell_turn.new.stage)
           same (λ before part is. c.in_ok-tell_turn.ensures.tells before part is)) at);
       within = omega (arith, c.turns-test.true, c.in_ok-tell_turn.ensures.whole);
       same = λ e. absurd cc;
-      may = may_hearing g.O.Observer.heard next c.tell_turn.new.observer refl c.in_ok-tell_turn.ensures.may.hearing;
-      borrow = c.in_ok-tell_turn.ensures.borrow ∙ c.turns.invariant.borrow;
+      may = may_hearing g.S.Stage.did next c.tell_turn.new.stage refl c.in_ok-tell_turn.ensures.may.staged;
+      borrows = c.in_ok-tell_turn.ensures.borrows ∙ c.turns.invariant.borrows;
     }

@@ -7,11 +7,11 @@ use Rattle.ws_connection.proofs.probing.telling.tell_past.Given as goal
 abbrev pub invariant-turns : goal.invariant-turns
 invariant-turns g l = record {
   tells : (turn : Turn) (turns : List Turn) → IsToldSoFar l.fn.told l.past turn turns → (now : List Turn)
-      × TellsMore g.O.Observer.heard turns now l.fn.observer l.observer × IsToldSoFar l.told l.past turn now;
+      × TellsMore g.S.Stage.did turns now l.fn.stage l.stage × IsToldSoFar l.told l.past turn now;
   within : l.told.whole ≤ length l.past;
   same : l.told.is_sent ≡ true → l.told ≡ l.fn.told;
-  may : MayBeToldMore g.O.Observer.heard l.told l.observer;
-  borrow : g.O.Observer.borrow l.observer ≡ g.O.Observer.borrow l.fn.observer;
+  may : MayBeToldMore g.S.Stage.did l.told l.stage;
+  borrows : g.S.Stage.borrows l.stage ≡ g.S.Stage.borrows l.fn.stage;
 }
 
 abbrev pub decreases-turns : goal.decreases-turns

@@ -5,9 +5,9 @@ use Rattle.ws_connection.proofs.TellingLemmas.{turn_anew}
 use Rattle.ws_connection.proofs.probing.telling.tell_turn.Goals as goal
 
 pub returns-clause-tells : goal.returns-clause-tells
-returns-clause-tells g c = λ before part h. turn_anew g.O.Observer.heard before part c.args.told.now c.tell_sent.new.told
-    (record { sent = c.args.sent.now; got = c.args.got.now }) c.args.observer.now c.tell_sent.new.observer
-    c.tell_got-2.new.observer c.if-told.false
+returns-clause-tells g c = λ before part h. turn_anew g.S.Stage.did before part c.args.told.now c.tell_sent.new.told
+    (record { sent = c.args.sent.now; got = c.args.got.now }) c.args.stage.now c.tell_sent.new.stage
+    c.tell_got-2.new.stage c.if-told.false
     (ap (λ (t : TurnsTold). t.got) c.in_ok-tell_sent.ensures.told) c.in_ok-tell_sent.ensures.tells
     c.in_ok-tell_got-2.ensures.tells h
 
