@@ -149,14 +149,17 @@ run_lacks rows options more none (inl role) asks = role options.role asks.role
 run_lacks rows options more none (inr (inl expect)) asks = expect options.expect asks.expect
 run_lacks rows options more none (inr (inr (inl key))) asks = no_word rows (codes "key") options.key.now key asks.key
 run_lacks rows options more none (inr (inr (inr (inl timeout)))) asks = absurd timeout
-run_lacks rows options more none (inr (inr (inr (inr (inl wait))))) asks = absurd wait
-run_lacks rows options more none (inr (inr (inr (inr (inr (inl budget)))))) asks = budget options.budget asks.budget
-run_lacks rows options more none (inr (inr (inr (inr (inr (inr (inl protocols))))))) asks = absurd protocols
-run_lacks rows options more none (inr (inr (inr (inr (inr (inr (inr (inl header)))))))) asks = absurd header
-run_lacks rows options more none (inr (inr (inr (inr (inr (inr (inr (inr (inl connect))))))))) asks = absurd connect
-run_lacks rows options more none (inr (inr (inr (inr (inr (inr (inr (inr (inr (inl target)))))))))) asks =
+run_lacks rows options more none (inr (inr (inr (inr (inl deadline))))) asks = absurd deadline
+run_lacks rows options more none (inr (inr (inr (inr (inr (inl wait)))))) asks = absurd wait
+run_lacks rows options more none (inr (inr (inr (inr (inr (inr (inl budget))))))) asks =
+    budget options.budget asks.budget
+run_lacks rows options more none (inr (inr (inr (inr (inr (inr (inr (inl protocols)))))))) asks = absurd protocols
+run_lacks rows options more none (inr (inr (inr (inr (inr (inr (inr (inr (inl header))))))))) asks = absurd header
+run_lacks rows options more none (inr (inr (inr (inr (inr (inr (inr (inr (inr (inl connect)))))))))) asks =
+    absurd connect
+run_lacks rows options more none (inr (inr (inr (inr (inr (inr (inr (inr (inr (inr (inl target))))))))))) asks =
     no_word rows (codes "target") options.target.now target asks.target
-run_lacks rows options more none (inr (inr (inr (inr (inr (inr (inr (inr (inr (inr rest)))))))))) asks = none rest
+run_lacks rows options more none (inr (inr (inr (inr (inr (inr (inr (inr (inr (inr (inr rest))))))))))) asks = none rest
 
 -- what `test`, `send` and `sweep` have beside them
 abbrev sweep_own : List ArgumentRow

@@ -384,12 +384,25 @@ pub test_wait : (places : Places)
 unfolding on_words
 test_wait places = refl
 
+-- `wst test --timeout 2 --deadline 09 own`: so is how long a connection may last
+abbrev deadline_words : List Text
+deadline_words =
+    words (codes "test" ∷ codes "--timeout" ∷ codes "2" ∷ codes "--deadline" ∷ codes "09" ∷ codes "own" ∷ [])
+
+pub test_deadline : (places : Places)
+    → map (λ asked. option_map (λ met. first_of (codes "deadline") met.1 ∷ first_of (codes "timeout") met.1 ∷ [])
+    (subcommand_of (wst_app places) asked)) (deadline_words ∷ waiting_words ∷ [])
+    ≡ Some (Some (codes "09") ∷ Some (codes "2") ∷ []) ∷ Some (None ∷ Some (codes "02") ∷ []) ∷ []
+unfolding on_words
+test_deadline places = refl
+
 -- such words can fail for want of memory alone
 pub asking_words_are_taken : (places : Places)
     → map (takes (wst_app places)) (plain_words ∷ client_words ∷ head_words ∷ protocol_words ∷ no_protocol_words
     ∷ session_words ∷ echo_words ∷ judge_words ∷ convert_words ∷ cases_words ∷ some_cases_words ∷ test_words
-    ∷ titles_words ∷ serve_words ∷ waiting_words ∷ client_test_words ∷ known_words ∷ client_wait_words ∷ [])
+    ∷ titles_words ∷ serve_words ∷ waiting_words ∷ client_test_words ∷ known_words ∷ client_wait_words
+    ∷ deadline_words ∷ [])
     ≡ true ∷ true ∷ true ∷ true ∷ true ∷ true ∷ true ∷ true ∷ true ∷ true ∷ true ∷ true ∷ true ∷ true ∷ true ∷ true
-    ∷ true ∷ true ∷ []
+    ∷ true ∷ true ∷ true ∷ []
 unfolding on_words
 asking_words_are_taken places = refl

@@ -13,6 +13,7 @@ run_arguments timeout = argument_or (codes "role") End (codes "server")
     ∷ argument_or (codes "expect") Expected (codes "echo")
     ∷ argument_or (codes "key") Word (codes "37fa213d")
     ∷ timeout
+    ∷ argument (codes "deadline") Word
     ∷ argument (codes "wait") Word
     ∷ argument_or (codes "budget") Number (codes "67108864")
     ∷ argument (codes "protocols") Word
@@ -30,6 +31,7 @@ pub record AsksForRun (rows : List Row) (options : RunOptions) : Type 0 where
   pub expect : GivesExpectation rows (codes "expect") options.expect
   pub key : first_of (codes "key") rows ≡ Some options.key.now
   pub timeout : GivesWord rows (codes "timeout") options.timeout
+  pub deadline : GivesWord rows (codes "deadline") options.deadline
   pub wait : GivesWord rows (codes "wait") options.wait
   pub budget : GivesNumber rows (codes "budget") options.budget
   pub protocols : GivesProtocols rows options.protocols

@@ -85,10 +85,11 @@ const AFTER_HELP: &str = "A capture is read from stdin, in format 1 or 2. One li
 LOOSE WHY (permitted, but not the reference behaviour), or FAIL WHY (a rule is
 broken). VERDICTS in `man wst` says what each WHY means.
 With --explain, `due N` is what was expected in turn N, `got N` what arrived.
-`due N end WHY`: wst broke WHY, so the peer had to end the connection. `got N
-failed WHY`: the peer broke WHY. `got N cut`: the end came inside a frame. `end
-WHO`: who ended the connection, `tester` (wst), `peer`, or `broken`: it broke
-off. `..` follows the first 16 bytes. `ours` in a rule: stricter than RFC 6455.
+`due N end RULE`: the tester broke RULE, so the peer had to end the connection.
+`got N failed RULE`: the peer broke RULE. `got N cut`: the end came inside a
+frame. `end WHO`: who ended the connection, `tester` or `peer`; `broken`: it
+broke off. `..` follows the first 16 bytes. `ours` in a rule: RFC 6455 asks less
+than that.
 
 Exit status:
   0  PASS or LOOSE

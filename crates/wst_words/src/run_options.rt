@@ -22,8 +22,10 @@ pub struct RunOptions<'a> {
     pub expect: Expectation,
     /// The masking key of the client's frames that have none of their own, as a word.
     pub key: &'a str,
-    /// For so many seconds, as a word, a byte is waited for, where that is given.
+    /// For so many seconds, as a word, the tested end is waited for, where that is given.
     pub timeout: Option<&'a str>,
+    /// For so many seconds, as a word, a connection may last, where that is given.
+    pub deadline: Option<&'a str>,
     /// For so many seconds, as a word, a client is waited for, where that is given.
     pub wait: Option<&'a str>,
     /// At most so many bytes are read of the tested end in one script behind its head.
@@ -71,7 +73,16 @@ pub(crate) const TIMEOUT: Argument = Argument {
     default: None,
     value_name: "SECONDS",
     heading: Some("Limits"),
-    help: "Wait SECONDS for a byte, 1 to 3600 [default: forever]",
+    help: "Wait SECONDS for progress, 1 to 3600 [default: none]",
+};
+
+pub(crate) const DEADLINE: Argument = Argument {
+    name: "deadline",
+    kind: Word,
+    default: None,
+    value_name: "SECONDS",
+    heading: Some("Limits"),
+    help: "End connection after SECONDS [default: 10 x timeout]",
 };
 
 pub(crate) const WAIT: Argument = Argument {
@@ -89,7 +100,7 @@ pub(crate) const BUDGET: Argument = Argument {
     default: Some("67108864"),
     value_name: "N",
     heading: Some("Limits"),
-    help: "Read up to N bytes per connection",
+    help: "Read up to N bytes a connection",
 };
 
 pub(crate) const PROTOCOLS: Argument = Argument {
@@ -126,7 +137,7 @@ pub(crate) const TARGET: Argument = Argument {
     value_name: "TARGET",
     heading: None,
     help: "HOST:PORT, a ws:// URL, or in memory the echo of wst (`own`) or of
-tungstenite (`tung`). With --role client: where clients connect",
+tungstenite (`tung`). With --role client: where wst listens",
 };
 
 /// What the words give. `None` where a word has no value.
@@ -158,6 +169,7 @@ fn options_with<'a>(options: &ArgMatches<'a>, headers: Vec<&'a str>) -> Option<R
         expect,
         key,
         timeout: word_of(options, "timeout"),
+        deadline: word_of(options, "deadline"),
         wait: word_of(options, "wait"),
         budget,
         protocols: word_of(options, "protocols"),

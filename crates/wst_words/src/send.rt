@@ -12,8 +12,8 @@ use crate::arguments::ArgumentKind::Flag;
 use crate::commands::HelpText;
 use crate::options::{flag_of, style_of, word_of};
 use crate::run_options::{
-    BUDGET, CONNECT, EXPECT, HEADER, KEY, PROTOCOLS, ROLE, RunOptions, TARGET, TIMEOUT, WAIT,
-    run_options,
+    BUDGET, CONNECT, DEADLINE, EXPECT, HEADER, KEY, PROTOCOLS, ROLE, RunOptions, TARGET, TIMEOUT,
+    WAIT, run_options,
 };
 use crate::show::DATA;
 use clap::ArgMatches;
@@ -32,14 +32,18 @@ pub struct SendOptions<'a> {
 }
 
 /// Its arguments.
-static ARGUMENTS: [Argument; 12] = [
+static ARGUMENTS: [Argument; 13] = [
     ROLE,
     EXPECT,
     KEY,
     Argument {
         default: Some("2"),
-        help: "Wait SECONDS for a byte, 1 to 3600",
+        help: "Wait SECONDS for progress, 1 to 3600",
         ..TIMEOUT
+    },
+    Argument {
+        help: "End connection after SECONDS [default: none]",
+        ..DEADLINE
     },
     WAIT,
     BUDGET,
@@ -116,13 +120,13 @@ const AFTER_HELP: &str =
   ping key=- -         no mask (key=37fa213d sets one), no payload
   close=1000           a close frame with this code
   wait                 the turn ends: wait for the replies that are due
-A text in quotes is printable ASCII; any other payload is written in hex. A turn
-is sent whole, then replies are read: a peer that stops reading breaks the run.
+A text in quotes is printable ASCII; any other payload is written in hex. All of
+a turn is sent before replies are read.
 
 Printed are frames sent (`>`), frames received (`<`), and `end WHO`: who ended
-the connection, `tester` (wst: nothing more was to come, or a rule was broken),
-`peer` (the tested endpoint), or `broken`: it broke off. With --role client, the
-first client to connect gets the script, whatever it requests.
+the connection. `peer` is the tested endpoint. `tester` is wst: all that is due
+has come, a rule was broken, or --timeout has passed. `broken`: it broke off.
+With --role client, the first client to connect gets the script.
 
 Exit status:
   0  the script was run, whoever ended the connection

@@ -12,8 +12,8 @@ use crate::arguments::ArgumentKind::{Flag, Number};
 use crate::commands::HelpText;
 use crate::options::{flag_of, number_of};
 use crate::run_options::{
-    BUDGET, CONNECT, EXPECT, HEADER, KEY, PROTOCOLS, ROLE, RunOptions, TARGET, TIMEOUT, WAIT,
-    run_options,
+    BUDGET, CONNECT, DEADLINE, EXPECT, HEADER, KEY, PROTOCOLS, ROLE, RunOptions, TARGET, TIMEOUT,
+    WAIT, run_options,
 };
 use clap::ArgMatches;
 use std::alloc::{AllocError, Global};
@@ -32,11 +32,12 @@ pub struct SweepOptions<'a> {
 }
 
 /// Its arguments.
-static ARGUMENTS: [Argument; 13] = [
+static ARGUMENTS: [Argument; 14] = [
     ROLE,
     EXPECT,
     KEY,
     TIMEOUT,
+    DEADLINE,
     WAIT,
     BUDGET,
     PROTOCOLS,
@@ -120,10 +121,10 @@ pub(crate) fn help<'a>() -> HelpText<'a> {
 /// What follows the options of `sweep`.
 const AFTER_HELP: &str =
     "A script has up to N of 27 steps, each a frame or a wait; `man wst` lists them.
-If they end nothing, a step close=1000 follows. Short ones run first: the first
-that is printed is among the shortest that break a rule. Up to 2 steps are 757
-scripts, 3 are 20440, and 4 are 551881. Like `test`, it can be given a client
-for Autobahn's fuzzing server, unchanged.
+close=1000 is added where no step ends the connection. Short ones run first: the
+first that is printed is among the shortest that break a rule. Up to 2 steps are
+757 scripts, 3 are 20440, and 4 are 551881. With --role client, a client for
+Autobahn's fuzzing server can be tested unchanged, as with `test`.
 
 Exit status:
   0  no FAIL

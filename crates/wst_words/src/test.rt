@@ -12,8 +12,8 @@ use crate::arguments::ArgumentKind::{Flag, Words};
 use crate::commands::HelpText;
 use crate::options::{flag_of, words_of};
 use crate::run_options::{
-    BUDGET, CONNECT, EXPECT, HEADER, KEY, PROTOCOLS, ROLE, RunOptions, TARGET, TIMEOUT, WAIT,
-    run_options,
+    BUDGET, CONNECT, DEADLINE, EXPECT, HEADER, KEY, PROTOCOLS, ROLE, RunOptions, TARGET, TIMEOUT,
+    WAIT, run_options,
 };
 use clap::ArgMatches;
 use std::alloc::{AllocError, Global};
@@ -38,11 +38,12 @@ pub struct TestOptions<'a> {
 }
 
 /// Its arguments.
-static ARGUMENTS: [Argument; 16] = [
+static ARGUMENTS: [Argument; 17] = [
     ROLE,
     EXPECT,
     KEY,
     TIMEOUT,
+    DEADLINE,
     WAIT,
     BUDGET,
     PROTOCOLS,
@@ -161,25 +162,24 @@ pub(crate) fn help<'a>() -> HelpText<'a> {
 /// What follows the options of `test`.
 const AFTER_HELP: &str =
     "Each case gives PASS, LOOSE WHY (permitted, but not the reference behaviour),
-FAIL WHY (a rule is broken), FAIL Head NAME (the handshake was refused: see
---header and --protocols) or `no connection`. `man wst` explains WHY and NAME.
+FAIL WHY (a rule is broken), FAIL Head NAME (the handshake failed; --header and
+--protocols may mend it) or `no connection`. `man wst` explains WHY and NAME.
 With --explain, `due N` is what was expected in turn N, `got N` what came (`cut`
-inside a frame). `due N end WHY`: wst broke WHY, so the peer had to end; `got N
-failed WHY`: the peer broke WHY. `end WHO`: who ended it, `tester` (wst), `peer`
-or `broken`: it broke off. `..`: more bytes. `ours`: stricter than RFC 6455.
+in a frame). `due N end RULE`: wst broke RULE on purpose: the peer had to end.
+`got N failed RULE`: the peer broke RULE. `end WHO`: who ended the connection,
+`tester` (wst) or `peer`; `broken`: it broke off. `ours`: RFC 6455 asks less.
 With --role client, start your client after `listening on`: it must reconnect
 for each next case. Clients for Autobahn's fuzzing server run unchanged.
 
 Exit status:
   0  no FAIL; with --known, no new case and no other result
-  1  a FAIL; with --known, a new case or another result
+  1  a FAIL or, with --timeout, no connection; with --known, what differs
   2  usage error
-  3  no connection, cannot listen, or an I/O or memory error
+  3  no connection (with --timeout, three in a row), cannot listen, or an I/O or
+     memory error
 
 Examples:
-  # an echo server
+  # an echo; any other server; a client, which connects once per case
   wst test --timeout 5 --explain ws://localhost:9001/echo
-  # any other server
   wst test --timeout 5 --expect protocol ws://localhost:9001/chat
-  # a client, which connects to this address once per case
   wst test --timeout 5 --role client 127.0.0.1:9001";
