@@ -9,7 +9,7 @@ use Rattle.ws_connection.specs.Admitting.{Admits}
 use Rattle.ws_connection.specs.ConnectionValues.{ConnectionValue}
 use Rattle.ws_connection.specs.declared.admitting.AcceptedRequest.{AcceptedRequest}
 use Rattle.ws_connection.specs.declared.admitting.Admission.TheVariants as admission
-use Rattle.ws_connection.specs.declared.probe_end.Probe.TheVariants as probe
+use Rattle.ws_handshake.specs.declared.probe_end.Probe.TheVariants as probe
 use Rattle.ws_paths.specs.Standings.{StandingValue, none_run}
 use Rattle.ws_paths.specs.declared.behavior.Behavior.TheVariants.{Unimplemented}
 use Rattle.ws_scripts.specs.declared.expectation.Expectation.{Expectation}

@@ -8,8 +8,9 @@ ghost use Rattle.ws_upgrade.specs.Protocols.{AreOffers};
 ghost use Rattle.wst_clients.specs.ClientSends.{Scripts, protocols_known, scripted_probe};
 
 use std::alloc::Global;
-use std::io::Read;
-use ws_connection::{Admission, Connection, EndsDirection, Observer, ScriptRun, admit, run_script};
+use ws_connection::{
+    Admission, Connection, EndsDirection, Observer, ScriptRun, WaitingRead, admit, run_script,
+};
 use ws_suite::{Case, Expectation, Transcript};
 use ws_upgrade::HeadFault;
 use ws_wire::Role;
@@ -40,7 +41,7 @@ pub enum Scripted {
 
 /// Answers the request of a connection, and where it is accepted runs a script over it.
 #[tactic(auto, using(crate::proofs::CaptureLemmas::scripted_so))]
-pub(crate) fn script_over<R: Read, W: EndsDirection, O: Observer>(
+pub(crate) fn script_over<R: WaitingRead, W: EndsDirection, O: Observer>(
     alloc: Global,
     rules: &ScriptRules<'_>,
     case: &Case,

@@ -9,7 +9,7 @@ ghost use Rattle.wst_commands.specs.Devices.{StaysFailed};
 ghost use Rattle.wst_clients.specs.ClientSends.{ScriptsClient, protocols_known, scripted_notes, scripted_probe};
 ghost use Rattle.wst_clients.specs.ClientSends.{late_notes, sent_probe};
 ghost use Rattle.wst_testing.specs.Notes.{TellsEach};
-ghost use Rattle.ws_connection.specs.declared.probe_end.Probe.TheVariants.{NoConnection};
+ghost use Rattle.ws_handshake.specs.declared.probe_end.Probe.TheVariants.{NoConnection};
 ghost use Rattle.wst_clients.specs.declared.scripting.Scripted.TheVariants.{Ran};
 
 use crate::scripting::{ScriptRules, Scripted};

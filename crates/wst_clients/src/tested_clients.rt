@@ -17,12 +17,15 @@ use std::cell::{Cell, RefCell};
 use std::io::{Read, Write};
 use std::net::{OpenListener, OpenStream};
 use std::os::fd::AsRawFd;
+use std::slice;
 use ws_base::NoMemory;
 use ws_connection::{Connection, Observer};
 use ws_frame::Watched;
 use ws_paths::Standing;
 use ws_suite::Case;
-use wst_sockets::{Clients, ListenerClients, Network, PatientReader, Running, Side, WaitTeller};
+use wst_sockets::{
+    Clients, ListenerClients, Network, Pace, PatientReader, PatientWriter, Running, WaitTeller,
+};
 
 /// Clients of one kind that are tested.
 pub trait TestedClients: Clients {
@@ -95,8 +98,9 @@ where
             cases: rules.cases,
             number: &number,
         };
+        let pace = self.pace();
         let teller = self.teller(alloc, running);
-        visit_over(alloc, client, teller, rules, standing, faults)
+        visit_over(alloc, client, &pace, teller, rules, standing, faults)
     }
 
     fn script<O: Observer>(
@@ -107,17 +111,47 @@ where
         case: &Case,
         observer: &mut O,
     ) -> Result<Scripted, O::Fault> {
-        let (reader, writer) = (Side::of(client), Side::of(client));
-        let mut connection = Connection::new(reader, writer, rules.budget);
-        let scripted = script_over(alloc, rules, case, &mut connection, observer)?;
-        Ok(scripted)
+        let number = Cell::new(Some(1));
+        let running = Running {
+            cases: slice::from_ref(case),
+            number: &number,
+        };
+        let pace = self.pace();
+        let teller = self.teller(alloc, running);
+        script_to(alloc, client, &pace, teller, rules, case, observer)
     }
 }
 
-/// Does what a client asks for over its stream, whose waits are told of.
+/// Sends a script to a client over its stream, in its times, whose waits are told of.
+fn script_to<'a, S: Read + Write + OpenStream, N: Network, O: Observer>(
+    alloc: Global,
+    stream: &'a RefCell<S>,
+    pace: &'a Pace<'a, N>,
+    teller: WaitTeller<'a, N>,
+    rules: &ScriptRules<'_>,
+    case: &Case,
+    observer: &mut O,
+) -> Result<Scripted, O::Fault>
+    requires can { CanBeRun case.now }
+    requires known { AreOffers (protocols_known rules.now) }
+    requires hearing { IsHearing O.heard observer.old }
+    ensures scripts { IfOk result (λ scripted. IsScriptedSo rules.now case.now scripted) }
+    ensures told { IfOk result (λ scripted.
+        HearsProbe O.heard O.heard_all observer.old observer.new (scripted_probe scripted)) }
+    ensures borrow { O.borrow observer.new ≡ O.borrow observer.old }
+{
+    let reader = PatientReader::of(stream, pace, teller);
+    let writer = PatientWriter::of(stream, pace);
+    let mut connection = Connection::new(reader, writer, rules.budget);
+    let scripted = script_over(alloc, rules, case, &mut connection, observer)?;
+    Ok(scripted)
+}
+
+/// Does what a client asks for over its stream, in its times, whose waits are told of.
 fn visit_over<'a, S: Read + Write + OpenStream, N: Network, F: Write>(
     alloc: Global,
     stream: &'a RefCell<S>,
+    pace: &'a Pace<'a, N>,
     teller: WaitTeller<'a, N>,
     rules: &VisitRules<'_>,
     standing: &Standing,
@@ -132,7 +166,8 @@ fn visit_over<'a, S: Read + Write + OpenStream, N: Network, F: Write>(
     ensures still { StaysFailed faults.old faults.new }
 {
     let number = teller.number();
-    let (reader, writer) = (PatientReader::of(stream, teller), Side::of(stream));
+    let reader = PatientReader::of(stream, pace, teller);
+    let writer = PatientWriter::of(stream, pace);
     let mut connection = Connection::new(reader, writer, rules.budget);
     let visit = visit_client(alloc, rules, standing, number, &mut connection, faults)?;
     Ok(visit)

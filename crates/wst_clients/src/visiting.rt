@@ -17,9 +17,11 @@ ghost use Rattle.wst_clients.specs.Visits.{RunsOver, case_for, refused_line, vis
 
 use std::alloc::Global;
 use std::cell::Cell;
-use std::io::{Read, Write};
+use std::io::Write;
 use ws_base::NoMemory;
-use ws_connection::{Admission, Connection, EndsDirection, ScriptRun, Silent, admit, run_script};
+use ws_connection::{
+    Admission, Connection, EndsDirection, ScriptRun, Silent, WaitingRead, admit, run_script,
+};
 use ws_frame::Watched;
 use ws_paths::{Purpose, Standing, count_text, info_text, script_of, status_text};
 use ws_reports::Report;
@@ -76,7 +78,7 @@ pub enum Visit {
 /// Answers the request of a connection, and runs the script of what its path asks for: that of a case, or the one that
 /// tells a text, if there is one, and closes. A request that is refused is told to `faults`, and so is the name of a
 /// case before it runs, where that is asked for. Before a case runs its number is set.
-pub fn visit_client<R: Read, W: EndsDirection, F: Write>(
+pub fn visit_client<R: WaitingRead, W: EndsDirection, F: Write>(
     alloc: Global,
     rules: &VisitRules<'_>,
     standing: &Standing,
@@ -126,7 +128,7 @@ pub(crate) fn tell_refused<F: Write>(
 }
 
 /// Runs the script of what is asked for, over a connection whose request was answered.
-fn play<R: Read, W: EndsDirection, F: Write>(
+fn play<R: WaitingRead, W: EndsDirection, F: Write>(
     alloc: Global,
     rules: &VisitRules<'_>,
     standing: &Standing,
@@ -186,7 +188,7 @@ fn case_at(cases: &[Case], number: u32) -> &Case
 }
 
 /// Runs a script over a connection to a client, whose request was answered.
-fn run_over<R: Read, W: EndsDirection>(
+fn run_over<R: WaitingRead, W: EndsDirection>(
     alloc: Global,
     rules: &VisitRules<'_>,
     script: &Case,

@@ -7,15 +7,15 @@ use Rattle.wst_words.specs.declared.head.HeadOptions.{HeadOptions}
 use Rattle.wst_commands.specs.Devices.{Delivers}
 use Rattle.ws_connection.specs.Protocols.{protocols_given}
 use Rattle.ws_connection.specs.ReadingHeads.{ReadsHead}
-use Rattle.ws_connection.specs.Requests.{DecidesRequest, NeedsRequest}
+use Rattle.ws_handshake.specs.Requests.{DecidesRequest, NeedsRequest}
 use Rattle.wst_commands.specs.declared.exit.Exit.{Exit}
 use Rattle.wst_commands.specs.declared.exit.Exit.TheVariants.{Done, Damaged, Failed}
 use Rattle.wst_commands.specs.declared.fault.Fault.{Fault}
 use Rattle.wst_commands.specs.declared.fault.Fault.TheVariants.{BadProtocols, HeadIsCut, NoMemory}
 use Rattle.ws_connection.specs.declared.reading_head.HeadEnd.{HeadEnd}
 use Rattle.ws_connection.specs.declared.reading_head.HeadEnd.TheVariants.{Decided, Cut, ReadFault}
-use Rattle.ws_connection.specs.declared.request_head.RequestDecision.{RequestDecision}
-use Rattle.ws_connection.specs.declared.request_head.RequestDecision.TheVariants.{Accepted, Refused}
+use Rattle.ws_handshake.specs.declared.request_head.RequestDecision.{RequestDecision}
+use Rattle.ws_handshake.specs.declared.request_head.RequestDecision.TheVariants.{Accepted, Refused}
 
 -- a head that is accepted is answered by the response with its accept value and the name that was chosen among these,
 -- unless memory ran out, and any other by its refusal

@@ -1,5 +1,6 @@
 -- The limits of time that words give.
-use Rattle.std.specs.Prelude.{◌≡◌, ℕ, ◌≤◌, ◌<◌, Bool, true, false, not, IsTrue, ⊤, List, length, drop, position, All}
+use Rattle.std.specs.Prelude.{◌≡◌, ℕ, ◌*◌, ◌≤◌, ◌<◌, min, Bool, true, false, not, IsTrue, ⊤, List, length, drop}
+use Rattle.std.specs.Prelude.{position, All}
 use Rattle.std.specs.Prelude.{Option, Some, None}
 use Rattle.std.specs.Char.{is_ascii_alphabetic, is_ascii_digit}
 use Rattle.std.specs.Borrow.{Bor}
@@ -21,7 +22,7 @@ GivesLimit most (Some word) (Seconds seconds) = IsSecondsWord most seconds word.
 abbrev pub HasLimit : ℕ → Option (Bor (List ℕ)) → Type 0
 HasLimit most word = (limit : TimeLimit) × GivesLimit most word limit
 
--- for how long a byte is waited for: an hour at most
+-- for how long the tested end is waited for: an hour at most
 abbrev pub GivesTimeout : Option (Bor (List ℕ)) → TimeLimit → Type 0
 GivesTimeout word limit = GivesLimit 3600 word limit
 
@@ -34,6 +35,25 @@ GivesWait word limit = GivesLimit 86400 word limit
 
 abbrev pub HasWait : Option (Bor (List ℕ)) → Type 0
 HasWait word = HasLimit 86400 word
+
+-- how long a connection lasts: a day at most, and so long where the option is left out
+abbrev pub GivesDeadline : TimeLimit → Option (Bor (List ℕ)) → TimeLimit → Type 0
+GivesDeadline usual None limit = limit ≡ usual
+GivesDeadline usual (Some word) limit = GivesLimit 86400 (Some word) limit
+
+abbrev pub HasDeadline : Option (Bor (List ℕ)) → Type 0
+HasDeadline word = HasLimit 86400 word
+
+-- ten times as long, and no more than a day
+abbrev pub ten_times : TimeLimit → TimeLimit
+ten_times Unlimited = Unlimited
+ten_times (Seconds seconds) = Seconds (min seconds 8640 * 10)
+
+-- the shorter one of two
+abbrev pub shorter : TimeLimit → TimeLimit → TimeLimit
+shorter Unlimited other = other
+shorter (Seconds seconds) Unlimited = Seconds seconds
+shorter (Seconds seconds) (Seconds others) = Seconds (min seconds others)
 
 abbrev pub is_no_digit : ℕ → Bool
 is_no_digit byte = not (is_ascii_digit byte)

@@ -2,20 +2,20 @@
 
 ghost use Rattle.std.specs.Prelude.{◌≡◌, ◌↔◌, ◌≤◌, IsTrue, MatchOption, position};
 ghost use Rattle.ws_base.specs.Finding.{Finds};
-ghost use Rattle.wst_commands.specs.TimeLimits.{GivesLimit, GivesTimeout, GivesWait, HasLimit, HasTimeout, HasUnit};
-ghost use Rattle.wst_commands.specs.TimeLimits.{HasUnitAt, HasWait, IsSecondsWord, IsWithUnit, Reaches, is_limited};
-ghost use Rattle.wst_commands.specs.TimeLimits.{is_no_digit};
+ghost use Rattle.wst_commands.specs.TimeLimits.{GivesDeadline, GivesLimit, GivesTimeout, GivesWait, HasDeadline};
+ghost use Rattle.wst_commands.specs.TimeLimits.{HasLimit, HasTimeout, HasUnit, HasUnitAt, HasWait, IsSecondsWord};
+ghost use Rattle.wst_commands.specs.TimeLimits.{IsWithUnit, Reaches, is_limited, is_no_digit, shorter, ten_times};
 
 use std::time::Duration;
 use ws_formats::read_u32;
 
-/// For at most so many seconds a byte is waited for.
+/// For at most so many seconds the tested end is waited for.
 const MAX_TIMEOUT: u32 = 3600;
 
-/// For at most so many seconds a client is waited for.
+/// For at most so many seconds a client is waited for, and at most so many a connection may last: a day.
 const MAX_WAIT: u32 = 86_400;
 
-/// How long is waited for a peer that sends nothing, or for one that comes.
+/// How long is waited for a peer that sends nothing, or for one that comes, or how long a connection may last.
 #[derive(Clone, Copy, PartialEq, Eq)]
 pub enum TimeLimit {
     /// As long as it takes.
@@ -35,6 +35,29 @@ impl TimeLimit {
         }
     }
 
+    /// Ten times as long, and no more than a day.
+    pub fn ten_times(self) -> TimeLimit
+        ensures { result ≡ ten_times self }
+    {
+        match self {
+            TimeLimit::Unlimited => TimeLimit::Unlimited,
+            TimeLimit::Seconds(seconds) => TimeLimit::Seconds(seconds.min(MAX_WAIT / 10) * 10),
+        }
+    }
+
+    /// The shorter one of two.
+    pub fn shorter(self, other: TimeLimit) -> TimeLimit
+        ensures { result ≡ shorter self other }
+    {
+        match (self, other) {
+            (TimeLimit::Unlimited, other) => other,
+            (limit, TimeLimit::Unlimited) => limit,
+            (TimeLimit::Seconds(seconds), TimeLimit::Seconds(others)) => {
+                TimeLimit::Seconds(seconds.min(others))
+            }
+        }
+    }
+
     /// The time that is waited for, `None` where there is no limit.
     pub fn duration(self) -> Option<Duration> {
         match self {
@@ -44,8 +67,8 @@ impl TimeLimit {
     }
 }
 
-/// The limit that the word of an option gives for a byte, none where the option is left out. `None` where the word is
-/// not a number of 1 to 3600 in decimal digits without leading zeros.
+/// The limit that the word of an option gives for the tested end, none where the option is left out. `None` where the
+/// word is not a number of 1 to 3600 in decimal digits without leading zeros.
 pub fn timeout_given(word: Option<&str>) -> Option<TimeLimit>
     ensures { MatchOption result (¬ (HasTimeout word.entry)) (GivesTimeout word.entry) }
 {
@@ -57,6 +80,16 @@ pub fn wait_given(word: Option<&str>) -> Option<TimeLimit>
     ensures { MatchOption result (¬ (HasWait word.entry)) (GivesWait word.entry) }
 {
     limit_given(word, MAX_WAIT)
+}
+
+/// The limit that it gives for a connection, a number of 1 to 86400, or this one where it is left out.
+pub fn deadline_given(word: Option<&str>, usual: TimeLimit) -> Option<TimeLimit>
+    ensures { MatchOption result (¬ (HasDeadline word.entry)) (GivesDeadline usual word.entry) }
+{
+    match word {
+        Some(_) => wait_given(word),
+        None => Some(usual),
+    }
 }
 
 /// The limit of at most so many seconds that it gives.

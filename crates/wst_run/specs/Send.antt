@@ -25,8 +25,9 @@ use Rattle.wst_testing.specs.LineWriting.{HasWrittenRun}
 use Rattle.wst_sockets.specs.Meetings.{miss_line}
 use Rattle.wst_testing.specs.Outcomes.{outcome_words}
 use Rattle.wst_testing.specs.Testing.{run_capture}
-use Rattle.ws_connection.specs.declared.probe_end.HeadRefusal.{HeadRefusal}
+use Rattle.ws_handshake.specs.declared.probe_end.HeadRefusal.{HeadRefusal}
 use Rattle.wst_testing.specs.RunPlans.{IsRunPlan, CanNotRun, TellsRefusal, tested_role}
+use Rattle.wst_testing.specs.declared.run_plans.UsualDeadline.TheVariants.{Never}
 use Rattle.wst_testing.specs.Servers.{MeetsAtTarget, MeetsInMemory}
 use Rattle.wst_testing.specs.declared.run_plans.Refusal.{Refusal}
 use Rattle.wst_testing.specs.declared.run_plans.TestedEnd.{TestedEnd}
@@ -42,7 +43,7 @@ use Rattle.wst_run.specs.declared.send.SendStop.TheVariants as stop
 
 -- the words ask for this
 pub record IsSendPlan (options : SendOptions) (plan : SendPlan) : Type 0 where
-  pub run : IsRunPlan options.run plan.run
+  pub run : IsRunPlan Never options.run plan.run
   pub capture : plan.capture ≡ options.capture
   pub style : plan.style ≡ options.style
 

@@ -17,6 +17,7 @@ use Rattle.wst_run.specs.ClientRuns.{TestsClientsAt}
 use Rattle.wst_testing.specs.KnownInput.{IsKnownBy, StopsKnowing, TellsKnownStop}
 use Rattle.wst_testing.specs.Reporting.{ClosesReport, StopsAtStart}
 use Rattle.wst_testing.specs.RunPlans.{IsRunPlan, CanNotRun, TellsRefusal, tested_role}
+use Rattle.wst_testing.specs.declared.run_plans.UsualDeadline.TheVariants.{TenTimeouts}
 use Rattle.wst_testing.specs.Servers.{MeetsAtTarget, MeetsInMemory}
 use Rattle.wst_testing.specs.Testing.{RunsCapture, RunsCases}
 use Rattle.wst_testing.specs.declared.known_input.KnownStop.{KnownStop}
@@ -60,7 +61,7 @@ words_given options = or_all (names_of options.ids.items)
 -- the words ask for this
 pub record IsPlan (options : TestOptions) (plan : TestPlan) : Type 0 where
   pub can_report : CanReport options
-  pub run : IsRunPlan options.run plan.run
+  pub run : IsRunPlan TenTimeouts options.run plan.run
   pub target : plan.target.now ≡ options.run.target.now
   pub capture : plan.capture ≡ options.capture
   pub explain : plan.explain ≡ (options.explain || options.junit)
@@ -76,7 +77,7 @@ CanBeTested plan = All CanBeRun plan.cases.items × (plan.capture ≡ true → l
 
 -- a report can be made where one is asked for, and nothing is wrong with the words that are shared
 abbrev pub CanRun : TestOptions → Type 0
-CanRun options = CanReport options × ((run : RunPlan) × IsRunPlan options.run run)
+CanRun options = CanReport options × ((run : RunPlan) × IsRunPlan TenTimeouts options.run run)
 
 -- The first of these that applies: a capture is asked for beside a report; the shared words can't be run; a capture is
 -- not of one case; a word stands for no case. Memory may run out at any of them but the first.

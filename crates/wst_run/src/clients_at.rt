@@ -92,13 +92,14 @@ fn test_at<N: Network, W: Write, F: Write>(
     )
 }
 
-/// How long the clients of a plan are waited for.
+/// How long the clients of a plan are waited for, and how long a connection to one lasts.
 pub(crate) fn waits_of(run: &RunPlan<'_>) -> Waits
-    ensures { result ≡ record { byte = run.now.timeout; client = run.now.wait } }
+    ensures { result ≡ record { byte = run.now.timeout; client = run.now.wait; deadline = run.now.deadline } }
 {
     Waits {
         byte: run.timeout,
         client: run.wait,
+        deadline: run.deadline,
     }
 }
 

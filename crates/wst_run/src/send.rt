@@ -24,7 +24,7 @@ use wst_commands::{
 use wst_sockets::{ConnectFault, Meeting, Network};
 use wst_testing::{
     AddressServer, CaseServer, LineStop, LineWriter, Outcome, Refusal, RunPlan, TestedEnd,
-    capture_text, plan_run,
+    UsualDeadline, capture_text, plan_run,
 };
 use wst_words::SendOptions;
 
@@ -78,7 +78,7 @@ impl From<WriteFault> for SendStop {
 pub fn plan_send<'a>(alloc: Global, options: &SendOptions<'a>) -> Result<SendPlan<'a>, Refusal<'a>>
     ensures { MatchResult result (IsSendPlan options.now) (CanNotRun options.now.run) }
 {
-    let run = plan_run(alloc, &options.run)?;
+    let run = plan_run(alloc, &options.run, UsualDeadline::Never)?;
     Ok(SendPlan {
         run,
         capture: options.capture,

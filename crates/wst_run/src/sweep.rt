@@ -15,8 +15,8 @@ use ws_sweep::MAX_STEPS;
 use wst_commands::{Exit, tell};
 use wst_sockets::Network;
 use wst_testing::{
-    AddressServer, CaseServer, Refusal, RunPlan, SweepRules, TestedEnd, plan_run, sweep_scripts,
-    tell_refusal, tell_sweep_end,
+    AddressServer, CaseServer, Refusal, RunPlan, SweepRules, TestedEnd, UsualDeadline, plan_run,
+    sweep_scripts, tell_refusal, tell_sweep_end,
 };
 use wst_words::SweepOptions;
 
@@ -63,7 +63,7 @@ pub fn plan_sweep<'a>(
     let Some(steps) = steps_given(options.steps) else {
         return Err(SweepRefusal::TooManySteps);
     };
-    let run = plan_run(alloc, &options.run)?;
+    let run = plan_run(alloc, &options.run, UsualDeadline::TenTimeouts)?;
     Ok(SweepPlan {
         run,
         steps,

@@ -17,8 +17,8 @@ use ws_suite::Case;
 use wst_commands::{Exit, Fault, cases_of, deliver, end_run, is_glob};
 use wst_sockets::Network;
 use wst_testing::{
-    AddressServer, CaseServer, Refusal, RunPlan, RunRules, TestedEnd, capture_case, close_report,
-    plan_run, test_cases,
+    AddressServer, CaseServer, Refusal, RunPlan, RunRules, TestedEnd, UsualDeadline, capture_case,
+    close_report, plan_run, test_cases,
 };
 use wst_words::TestOptions;
 
@@ -163,7 +163,7 @@ pub fn plan_test<'a>(alloc: Global, options: &TestOptions<'a>) -> Result<TestPla
     if options.capture && (options.known || options.junit) {
         return Err(Refusal::CaptureInReport);
     }
-    let run = plan_run(alloc, &options.run)?;
+    let run = plan_run(alloc, &options.run, UsualDeadline::TenTimeouts)?;
     if options.capture && !is_one_case(options.ids.as_slice()) {
         return Err(Refusal::NotOneCase);
     }

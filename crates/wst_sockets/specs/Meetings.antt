@@ -1,7 +1,7 @@
 -- What comes of a case over a server: what a probe tells, and why there is no connection.
 use Rattle.std.specs.Prelude.{List, ℕ, codes}
-use Rattle.ws_connection.specs.declared.probe_end.Probe.{Probe}
-use Rattle.ws_connection.specs.declared.probe_end.Probe.TheVariants as probe
+use Rattle.ws_handshake.specs.declared.probe_end.Probe.{Probe}
+use Rattle.ws_handshake.specs.declared.probe_end.Probe.TheVariants as probe
 use Rattle.wst_sockets.specs.declared.meeting.ConnectFault.{ConnectFault}
 use Rattle.wst_sockets.specs.declared.meeting.ConnectFault.TheVariants as why
 use Rattle.wst_sockets.specs.declared.meeting.Meeting.{Meeting}

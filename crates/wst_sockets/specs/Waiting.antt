@@ -1,9 +1,6 @@
 -- That a run still waits for its tested end, which is told once, where no limit of time ends a wait.
-use Rattle.std.specs.Prelude.{◌≡◌, ℕ, List, [], ◌∷◌, ◌++◌, Result, Ok, Err, codes}
-use Rattle.std.specs.IoError.{error_kind}
+use Rattle.std.specs.Prelude.{ℕ, List, [], ◌∷◌, ◌++◌, codes}
 use Rattle.std.specs.List.{concat}
-use Rattle.std.specs.declared.io.Error.{Error}
-use Rattle.std.specs.declared.io.ErrorKind.TheVariants.{WouldBlock}
 use Rattle.ws_frame.specs.Devices.{Device, IsUntouched}
 use Rattle.wst_commands.specs.Devices.{Tells}
 use Rattle.wst_commands.specs.declared.time_limit.TimeLimit.{TimeLimit}
@@ -42,8 +39,3 @@ abbrev pub TellsWait : Notice → List ℕ → Device → Type 0
 TellsWait Pending name output = Tells (wait_line name) output
 TellsWait Told name output = IsUntouched output
 TellsWait Needless name output = IsUntouched output
-
--- a read that answered this has waited in vain
-abbrev pub HasWaited : Result ℕ Error → Type 0
-HasWaited (Ok count) = ⊥
-HasWaited (Err error) = error_kind error ≡ WouldBlock

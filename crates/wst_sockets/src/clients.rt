@@ -7,6 +7,7 @@ ghost use Rattle.wst_sockets.specs.Serve.{IsServedBy};
 
 use crate::accepting::{NoClient, accepted_in_time};
 use crate::lingering::linger;
+use crate::pace::Pace;
 use crate::serve::ServePlan;
 use crate::stream::{Side, half_closed, shared};
 use crate::waiting::{Network, Notice, Running, WaitTeller};
@@ -56,10 +57,12 @@ pub trait Clients {
 /// How long the clients of a listener are waited for.
 #[derive(Clone, Copy)]
 pub struct Waits {
-    /// A byte of one is waited for so long.
+    /// One that has come is waited for so long.
     pub byte: TimeLimit,
     /// The next one is waited for so long.
     pub client: TimeLimit,
+    /// A connection lasts so long.
+    pub deadline: TimeLimit,
 }
 
 /// The clients of a listener of a network, who are waited for no longer than limits say.
@@ -89,6 +92,11 @@ impl<N: Network, L> ListenerClients<'_, N, L> {
     /// Tells of the waits for bytes of them, by the name of the case that is run.
     pub fn teller<'x>(&'x self, alloc: Global, running: Running<'x>) -> WaitTeller<'x, N> {
         WaitTeller::of(alloc, self.net, &self.notice, running)
+    }
+
+    /// The times of a connection to one of them, which begins now.
+    pub fn pace(&self) -> Pace<'_, N> {
+        Pace::of(self.net, self.waits.byte, self.waits.deadline)
     }
 }
 

@@ -5,8 +5,9 @@
 //! `Noted`, a stream as a reader and a writer; `listen`, `told_address` and `tell_listening`, an address that is
 //! listened at and the line that tells it; `plan_serve` and `run_serve`, the command `serve`; `tap_pairs`, connections
 //! between clients and a server, which are told frame by frame; `Clients`, what is known of those that are served;
-//! `Network`, beside which it is told once that a run waits, by a `PatientReader`;
-//! `Resumed`, a device whose calls are made again where a signal interrupted them, as those of a `Side` are.
+//! `Network`, beside which it is told once that a run waits, by a `PatientReader`, which with
+//! its `PatientWriter` keeps the `Pace` of a connection; `Resumed`, a device whose calls are made again where a signal
+//! interrupted them, as those of a `Side` are.
 #![tactic(auto)]
 
 mod accepting;
@@ -15,6 +16,9 @@ mod connecting;
 mod lingering;
 mod listening;
 mod meeting;
+mod one_call;
+mod pace;
+mod patient_writer;
 mod resuming;
 mod serve;
 mod serving_clients;
@@ -29,6 +33,8 @@ pub use clients::{Clients, ListenerClients, Waits};
 pub use connecting::{connect, connect_fault};
 pub use listening::{listen, told_address};
 pub use meeting::{ConnectFault, Meeting};
+pub use pace::{Pace, PaceTimer};
+pub use patient_writer::PatientWriter;
 pub use resuming::Resumed;
 pub use serve::{ServePlan, plan_serve, run_serve};
 pub use serving_clients::{listening_line, serve_clients, tell_listening};

@@ -103,6 +103,7 @@ fn serve_at<N: Net, W: Write>(
     let waits = Waits {
         byte: plan.timeout,
         client: TimeLimit::Unlimited,
+        deadline: TimeLimit::Unlimited,
     };
     let clients = ListenerClients::of(net, &listener, waits);
     serve_clients(alloc, &clients, plan, writer)

@@ -110,6 +110,11 @@ impl<'a, T> Noted<'a, T> {
         Noted { inner, failure }
     }
 
+    /// What notes it here.
+    pub(crate) fn inner(&self) -> &T {
+        &self.inner
+    }
+
     /// Notes the error that a call answered.
     fn note<A>(&self, answer: &io::Result<A>) {
         if let Err(error) = answer {

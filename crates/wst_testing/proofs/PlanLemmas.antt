@@ -1,15 +1,19 @@
 -- The end that a word names, and seconds that are no limit of time.
-use Rattle.std.proofs.Common.{◌≡◌, ℕ, List, inl}
+use Rattle.std.proofs.Common.{◌≡◌, ℕ, List, Option, Some, None, inl, refl}
+use Rattle.std.specs.Borrow.{Bor}
 use Rattle.ws_wire.specs.declared.role.Role.{Role}
 use Rattle.ws_wire.specs.declared.role.Role.TheVariants as role
 use Rattle.ws_targets.specs.Advice.{Advises}
 use Rattle.ws_targets.specs.Targets.{TargetValue, IsTargetText}
 use Rattle.ws_targets.specs.declared.advice.Advice.{Advice}
-use Rattle.wst_commands.specs.TimeLimits.{HasTimeout, HasWait}
+use Rattle.wst_commands.specs.TimeLimits.{GivesDeadline, HasDeadline, HasTimeout, HasWait}
+use Rattle.wst_commands.specs.declared.time_limit.TimeLimit.{TimeLimit}
+use Rattle.wst_commands.specs.declared.time_limit.TimeLimit.TheVariants.{Unlimited}
 use Rattle.wst_commands.specs.declared.given_cases.NoCases.TheVariants.{NoMemory, NoSuchCase}
 use Rattle.wst_testing.specs.RunPlans.{AdvisesClients, CanNotRun, HasAllButEnd, HasRequestWords, IsClientsAddress}
 use Rattle.wst_testing.specs.RunPlans.{IsNoMemoryWord}
-use Rattle.wst_testing.specs.RunPlans.{IsTimeoutRefusal, IsWaitRefusal, NamesEnd, RefusesTarget, memory_word}
+use Rattle.wst_testing.specs.RunPlans.{IsDeadlineRefusal, IsTimeoutRefusal, IsWaitRefusal, NamesEnd, RefusesTarget}
+use Rattle.wst_testing.specs.RunPlans.{memory_word}
 use Rattle.wst_words.specs.declared.run_options.RunOptions.{RunOptions}
 use Rattle.wst_testing.specs.declared.case_server.MemoryPeer.{MemoryPeer}
 use Rattle.wst_testing.specs.declared.case_server.MemoryPeer.TheVariants.{Own, Tung}
@@ -55,6 +59,8 @@ timeout_refused options refusal.BadProtocols head lacks is = absurd is
 timeout_refused options refusal.BadHeader head lacks is = absurd is
 timeout_refused options refusal.BadWait head lacks is = absurd is
 timeout_refused options refusal.WaitWithUnit head lacks is = absurd is
+timeout_refused options refusal.BadDeadline head lacks is = absurd is
+timeout_refused options refusal.DeadlineWithUnit head lacks is = absurd is
 timeout_refused options refusal.BadKey head lacks is = absurd is
 timeout_refused options (refusal.BadAddress given) head lacks is = absurd is
 timeout_refused options refusal.CaptureInReport head lacks is = absurd is
@@ -71,11 +77,38 @@ wait_refused options refusal.BadProtocols head limit lacks is = absurd is
 wait_refused options refusal.BadHeader head limit lacks is = absurd is
 wait_refused options refusal.BadTimeout head limit lacks is = absurd is
 wait_refused options refusal.TimeoutWithUnit head limit lacks is = absurd is
+wait_refused options refusal.BadDeadline head limit lacks is = absurd is
+wait_refused options refusal.DeadlineWithUnit head limit lacks is = absurd is
 wait_refused options refusal.BadKey head limit lacks is = absurd is
 wait_refused options (refusal.BadAddress given) head limit lacks is = absurd is
 wait_refused options refusal.CaptureInReport head limit lacks is = absurd is
 wait_refused options refusal.NotOneCase head limit lacks is = absurd is
 wait_refused options (refusal.NoCases why) head limit lacks is = absurd is
+
+-- and for a connection
+pub deadline_refused : (options : RunOptions) (why : Refusal) → HasRequestWords options → HasTimeout options.timeout
+    → HasWait options.wait → ¬ (HasDeadline options.deadline) → IsDeadlineRefusal options.deadline why
+    → CanNotRun options why
+deadline_refused options refusal.BadDeadline head limit wait lacks is = (head, limit, wait, lacks, is)
+deadline_refused options refusal.DeadlineWithUnit head limit wait lacks is = (head, limit, wait, lacks, is)
+deadline_refused options refusal.WaitForServer head limit wait lacks is = absurd is
+deadline_refused options refusal.BadProtocols head limit wait lacks is = absurd is
+deadline_refused options refusal.BadHeader head limit wait lacks is = absurd is
+deadline_refused options refusal.BadTimeout head limit wait lacks is = absurd is
+deadline_refused options refusal.TimeoutWithUnit head limit wait lacks is = absurd is
+deadline_refused options refusal.BadWait head limit wait lacks is = absurd is
+deadline_refused options refusal.WaitWithUnit head limit wait lacks is = absurd is
+deadline_refused options refusal.BadKey head limit wait lacks is = absurd is
+deadline_refused options (refusal.BadAddress given) head limit wait lacks is = absurd is
+deadline_refused options refusal.CaptureInReport head limit wait lacks is = absurd is
+deadline_refused options refusal.NotOneCase head limit wait lacks is = absurd is
+deadline_refused options (refusal.NoCases why) head limit wait lacks is = absurd is
+
+-- a word that gives one has one
+pub has_deadline : (usual : TimeLimit) (word : Option (Bor (List ℕ))) (limit : TimeLimit)
+    → GivesDeadline usual word limit → HasDeadline word
+has_deadline usual None limit given = (Unlimited, refl)
+has_deadline usual (Some word) limit given = (limit, given)
 
 -- ---- the target
 
@@ -92,6 +125,8 @@ end_refused options refusal.BadTimeout all is = absurd is
 end_refused options refusal.TimeoutWithUnit all is = absurd is
 end_refused options refusal.BadWait all is = absurd is
 end_refused options refusal.WaitWithUnit all is = absurd is
+end_refused options refusal.BadDeadline all is = absurd is
+end_refused options refusal.DeadlineWithUnit all is = absurd is
 end_refused options refusal.BadKey all is = absurd is
 end_refused options refusal.CaptureInReport all is = absurd is
 end_refused options refusal.NotOneCase all is = absurd is

@@ -2,7 +2,7 @@
 use Rattle.std.proofs.Common.{◌≡◌, ℕ, List, IfOk, Result, Ok, Err, inr, subst}
 use Rattle.ws_connection.specs.ConnectionValues.{ConnectionRun}
 use Rattle.ws_connection.specs.Probing.{Probes}
-use Rattle.ws_connection.specs.declared.probe_end.Probe.{Probe}
+use Rattle.ws_handshake.specs.declared.probe_end.Probe.{Probe}
 use Rattle.ws_scripts.specs.declared.script.Case.{Case}
 use Rattle.wst_sockets.specs.Meetings.{probe_of}
 use Rattle.wst_testing.specs.Servers.{AddressValue, IsProbedSo, MeetsAtAddress, plan_at}

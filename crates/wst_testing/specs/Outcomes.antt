@@ -9,7 +9,7 @@ use Rattle.ws_suite.specs.declared.verdict.Verdict.TheVariants as verdict
 use Rattle.ws_upgrade.specs.Words.{head_fault_name}
 use Rattle.ws_upgrade.specs.declared.faults.HeadFault.{HeadFault}
 use Rattle.ws_upgrade.specs.declared.faults.HeadFault.TheVariants.{Status}
-use Rattle.ws_connection.specs.declared.probe_end.HeadRefusal.{HeadRefusal}
+use Rattle.ws_handshake.specs.declared.probe_end.HeadRefusal.{HeadRefusal}
 use Rattle.wst_commands.specs.declared.exit.Exit.{Exit}
 use Rattle.wst_commands.specs.declared.exit.Exit.TheVariants.{Damaged, Done}
 use Rattle.wst_testing.specs.declared.outcome.Outcome.{Outcome}

@@ -19,8 +19,10 @@ use Rattle.ws_upgrade.specs.Texts.{IsHost}
 use Rattle.wst_words.specs.declared.run_options.RunOptions.{RunOptions}
 use Rattle.wst_commands.specs.Devices.{Tells}
 use Rattle.wst_commands.specs.GivenCases.{TellsNoCases}
-use Rattle.wst_commands.specs.TimeLimits.{GivesTimeout, GivesWait, HasTimeout, HasUnit, HasWait, is_limited}
+use Rattle.wst_commands.specs.TimeLimits.{GivesDeadline, GivesTimeout, GivesWait, HasDeadline, HasTimeout, HasUnit}
+use Rattle.wst_commands.specs.TimeLimits.{HasWait, is_limited, ten_times}
 use Rattle.wst_commands.specs.declared.time_limit.TimeLimit.{TimeLimit}
+use Rattle.wst_commands.specs.declared.time_limit.TimeLimit.TheVariants.{Unlimited}
 use Rattle.wst_commands.specs.declared.exit.Exit.{Exit}
 use Rattle.wst_commands.specs.declared.exit.Exit.TheVariants.{WrongWords}
 use Rattle.wst_commands.specs.declared.given_cases.NoCases.TheVariants.{NoMemory, NoSuchCase}
@@ -31,6 +33,8 @@ use Rattle.wst_testing.specs.declared.run_plans.Refusal.TheVariants as refusal
 use Rattle.wst_testing.specs.declared.run_plans.RunPlan.{RunPlan}
 use Rattle.wst_testing.specs.declared.run_plans.TestedEnd.{TestedEnd}
 use Rattle.wst_testing.specs.declared.run_plans.TestedEnd.TheVariants.{Clients, Memory, Server}
+use Rattle.wst_testing.specs.declared.run_plans.UsualDeadline.{UsualDeadline}
+use Rattle.wst_testing.specs.declared.run_plans.UsualDeadline.TheVariants.{Never, TenTimeouts}
 
 -- ---- the tested end
 
@@ -105,8 +109,13 @@ WaitsForServer role.Client word = ⊥
 abbrev pub FitsRole : RunOptions → Type 0
 FitsRole options = ¬ (WaitsForServer options.role options.wait)
 
--- the words ask for this
-pub record IsRunPlan (options : RunOptions) (plan : RunPlan) : Type 0 where
+-- how long a connection lasts whose end is waited for so long, where that isn't given
+abbrev pub usual_deadline : UsualDeadline → TimeLimit → TimeLimit
+usual_deadline Never timeout = Unlimited
+usual_deadline TenTimeouts timeout = ten_times timeout
+
+-- the words ask for this, where a connection lasts so long if none of them says it
+pub record IsRunPlan (usual : UsualDeadline) (options : RunOptions) (plan : RunPlan) : Type 0 where
   pub fits_role : FitsRole options
   pub has_offers : HasOffers options
   pub protocols : plan.protocols ≡ protocols_given options.protocols
@@ -114,6 +123,7 @@ pub record IsRunPlan (options : RunOptions) (plan : RunPlan) : Type 0 where
   pub headers : plan.headers ≡ headers_in (header_words options)
   pub timeout : GivesTimeout options.timeout plan.timeout
   pub wait : GivesWait options.wait plan.wait
+  pub deadline : GivesDeadline (usual_deadline usual plan.timeout) options.deadline plan.deadline
   pub key : IsKeyWord plan.key options.key.now
   pub named : NamesEnd options.role options.target.now
   pub can_connect : CanConnect options.connect
@@ -157,6 +167,7 @@ HasRequestWords options = FitsRole options × HasOffers options × HasHeaders op
 -- nor with these
 abbrev pub HasTimes : RunOptions → Type 0
 HasTimes options = HasRequestWords options × HasTimeout options.timeout × HasWait options.wait
+    × HasDeadline options.deadline
 
 -- nor with anything that stands before the target
 abbrev pub HasAllButEnd : RunOptions → Type 0
@@ -174,10 +185,16 @@ IsWaitRefusal word refusal.WaitWithUnit = HasUnit word
 IsWaitRefusal word refusal.BadWait = ¬ (HasUnit word)
 IsWaitRefusal word _ = ⊥
 
+-- and with one that is none for a connection
+abbrev pub IsDeadlineRefusal : Option (Bor (List ℕ)) → Refusal → Type 0
+IsDeadlineRefusal word refusal.DeadlineWithUnit = HasUnit word
+IsDeadlineRefusal word refusal.BadDeadline = ¬ (HasUnit word)
+IsDeadlineRefusal word _ = ⊥
+
 -- The first of these that applies: a client is to be waited for, and a server is tested; the names that are given
--- can't be offered; the headers can't be added; the seconds are no limit of time for a byte, or for a client to come,
--- and have a unit or not; the key is none; the target names no end of the role, or no connection can be made at the
--- address that is given for it. Memory may run out at any of them.
+-- can't be offered; the headers can't be added; the seconds are no limit of time for the tested end, or for a client
+-- to come, or for a connection, and have a unit or not; the key is none; the target names no end of the role, or no
+-- connection can be made at the address that is given for it. Memory may run out at any of them.
 abbrev pub CanNotRun : RunOptions → Refusal → Type 0
 CanNotRun options refusal.WaitForServer = WaitsForServer options.role options.wait
 CanNotRun options refusal.BadProtocols = FitsRole options × ¬ (HasOffers options)
@@ -190,6 +207,10 @@ CanNotRun options refusal.BadWait =
     HasRequestWords options × HasTimeout options.timeout × ¬ (HasWait options.wait) × ¬ (HasUnit options.wait)
 CanNotRun options refusal.WaitWithUnit =
     HasRequestWords options × HasTimeout options.timeout × ¬ (HasWait options.wait) × HasUnit options.wait
+CanNotRun options refusal.BadDeadline = HasRequestWords options × HasTimeout options.timeout × HasWait options.wait
+    × ¬ (HasDeadline options.deadline) × ¬ (HasUnit options.deadline)
+CanNotRun options refusal.DeadlineWithUnit = HasRequestWords options × HasTimeout options.timeout
+    × HasWait options.wait × ¬ (HasDeadline options.deadline) × HasUnit options.deadline
 CanNotRun options refusal.BadKey = HasTimes options × ((key : List ℕ) → ¬ (IsKeyWord key options.key.now))
 CanNotRun options (refusal.BadAddress given) = HasAllButEnd options
     × (RefusesTarget options.role options.target.now (refusal.BadAddress given)
@@ -226,6 +247,10 @@ TellsRefusal refusal.BadWait exit faults = (exit ≡ WrongWords)
     × Tells (codes "bad wait\n  a whole number of seconds, 1 to 86400: --wait 60\n") faults
 TellsRefusal refusal.WaitWithUnit exit faults =
     (exit ≡ WrongWords) × Tells (codes "bad wait\n  seconds without a unit: --wait 60\n") faults
+TellsRefusal refusal.BadDeadline exit faults = (exit ≡ WrongWords)
+    × Tells (codes "bad timeout\n  a whole number of seconds, 1 to 86400: --deadline 60\n") faults
+TellsRefusal refusal.DeadlineWithUnit exit faults =
+    (exit ≡ WrongWords) × Tells (codes "bad timeout\n  seconds without a unit: --deadline 60\n") faults
 TellsRefusal refusal.BadKey exit faults = (exit ≡ WrongWords) × Tells (codes "bad key\n") faults
 TellsRefusal (refusal.BadAddress given) exit faults = (exit ≡ WrongWords) × Tells (address_text given) faults
 TellsRefusal refusal.CaptureInReport exit faults =

@@ -13,6 +13,7 @@ use Rattle.ws_scripts.specs.Scripts.{AreTurns}
 use Rattle.ws_suite.specs.Verdicts.{IsVerdictOf}
 use Rattle.ws_tester.specs.RunStates.{PlanValue}
 use Rattle.wst_commands.specs.TimeLimits.{is_limited}
+use Rattle.wst_commands.specs.declared.time_limit.TimeLimit.{TimeLimit}
 use Rattle.ws_suite.specs.declared.verdict.Verdict.TheVariants.{Pass}
 use Rattle.ws_scripts.specs.declared.expectation.Expectation.{Expectation}
 use Rattle.ws_scripts.specs.declared.script.Case.{Case}
@@ -20,8 +21,8 @@ use Rattle.ws_scripts.specs.declared.transcript.Transcript.{Transcript}
 use Rattle.wst_testing.specs.declared.case_server.MemoryEnd.{MemoryEnd}
 use Rattle.wst_testing.specs.declared.case_server.MemoryPeer.{MemoryPeer}
 use Rattle.wst_testing.specs.declared.case_server.MemoryPeer.TheVariants.{Own, Tung}
-use Rattle.ws_connection.specs.declared.probe_end.Probe.{Probe}
-use Rattle.ws_connection.specs.declared.probe_end.Probe.TheVariants as probe
+use Rattle.ws_handshake.specs.declared.probe_end.Probe.{Probe}
+use Rattle.ws_handshake.specs.declared.probe_end.Probe.TheVariants as probe
 use Rattle.wst_sockets.specs.Meetings.{probe_of}
 use Rattle.wst_sockets.specs.declared.meeting.Meeting.{Meeting}
 use Rattle.wst_sockets.specs.declared.meeting.Meeting.TheVariants.{NoConnection, Ran, Refused}
@@ -51,11 +52,13 @@ MeetsInMemory end key case (Refused fault) = ⊥
 MeetsInMemory end key case (NoConnection why) = ⊥
 
 -- a server that is met over a network: what it is asked for, what is expected of it, whether waits for it can be in
--- vain, and how many bytes are read of it at most in one case behind the head of its answer
+-- vain, how long a connection to it may last, and how many bytes are read of it at most in one case behind the head of
+-- its answer
 pub record AddressValue : Type 0 where
   pub request : RequestValue
   pub expected : Expectation
   pub timeouts : Bool
+  pub deadline : TimeLimit
   pub budget : ℕ
 
 -- how a case is run over it
@@ -79,6 +82,7 @@ asked_by plan target = record {
   request = record { host = target.host; path = target.path; offers = plan.protocols; headers = plan.headers };
   expected = plan.expected;
   timeouts = is_limited plan.timeout;
+  deadline = plan.deadline;
   budget = plan.budget;
 }
 

@@ -21,21 +21,23 @@ use ws_suite::{Case, Expectation};
 use ws_targets::Target;
 use wst_commands::TimeLimit;
 use wst_sockets::{
-    ConnectFault, Meeting, Network, Noted, Notice, PatientReader, Running, Side, WaitTeller,
-    connect, connect_fault, shared,
+    ConnectFault, Meeting, Network, Noted, Notice, Pace, PatientReader, PatientWriter, Running,
+    WaitTeller, connect, connect_fault, shared,
 };
 
-/// How much is read of a server at an address in one case, and how long it is waited for.
+/// How much is read of a server at an address in one case, how long it is waited for, and how long that may last.
 #[derive(Clone, Copy)]
 pub struct Bounds {
     /// At most so many bytes are read behind the head of its answer.
     pub budget: u64,
-    /// A connection, and each byte, is waited for so long.
+    /// A connection, and the server, is waited for so long.
     pub timeout: TimeLimit,
+    /// The connection lasts so long.
+    pub deadline: TimeLimit,
 }
 
 /// A server that is met over a network, at an address. Contracts see what it is asked for, what is expected of it,
-/// whether waits for it can be in vain, and the budget.
+/// whether waits for it can be in vain, how long a connection to it may last, and the budget.
 #[derive(Drop)]
 pub struct AddressServer<'a, N> {
     net: &'a N,
@@ -57,6 +59,7 @@ impl<'a, N> Model for AddressServer<'a, N> {
       request = request_value server.request;
       expected = server.expected;
       timeouts = is_limited server.bounds.timeout;
+      deadline = server.bounds.deadline;
       budget = server.bounds.budget;
     } };
 
@@ -81,6 +84,7 @@ impl<'a, N> AddressServer<'a, N> {
             bounds: Bounds {
                 budget: plan.budget,
                 timeout: plan.timeout,
+                deadline: plan.deadline,
             },
             notice: Cell::new(Notice::of(plan.timeout)),
         }
@@ -101,15 +105,17 @@ impl<N: Network> CaseServer for AddressServer<'_, N> {
         key: [u8; 4],
         observer: &mut O,
     ) -> Result<Meeting, O::Fault> {
-        match connect(self.net, self.address, self.bounds.timeout) {
+        let (timeout, deadline) = (self.bounds.timeout, self.bounds.deadline);
+        match connect(self.net, self.address, timeout.shorter(deadline)) {
             Ok(stream) => {
                 let asked = Asked {
                     request: self.request,
                     key,
                     expected: self.expected,
-                    has_timeouts: self.bounds.timeout.is_limited(),
+                    has_timeouts: timeout.is_limited(),
                 };
-                let stream = shared(stream, self.bounds.timeout);
+                let stream = shared(stream, timeout);
+                let pace = Pace::of(self.net, timeout, deadline);
                 let (failure, number) = (Cell::new(None), Cell::new(Some(1)));
                 let running = Running {
                     cases: slice::from_ref(case),
@@ -118,6 +124,7 @@ impl<N: Network> CaseServer for AddressServer<'_, N> {
                 let server = ServerStream {
                     stream: &stream,
                     failure: &failure,
+                    pace: &pace,
                     teller: WaitTeller::of(alloc, self.net, &self.notice, running),
                 };
                 meet_over(alloc, case, &asked, server, self.bounds, observer)
@@ -127,11 +134,12 @@ impl<N: Network> CaseServer for AddressServer<'_, N> {
     }
 }
 
-/// The stream of a server, of which kind the first error of a call over it was, and what tells of its waits.
+/// The stream of a server, of which kind the first error of a call over it was, its times, and what tells of its waits.
 #[derive(Clone, Copy)]
 struct ServerStream<'a, S, N> {
     stream: &'a RefCell<S>,
     failure: &'a Cell<Option<ErrorKind>>,
+    pace: &'a Pace<'a, N>,
     teller: WaitTeller<'a, N>,
 }
 
@@ -152,6 +160,7 @@ fn meet_over<S: Read + Write + OpenStream, N: Network, O: Observer>(
           request = request_value asked.now.request;
           expected = asked.now.expected;
           timeouts = asked.now.has_timeouts;
+          deadline = bounds.deadline;
           budget = bounds.budget;
         })
         asked.now.key case.now (probe_of meeting)) }
@@ -159,10 +168,11 @@ fn meet_over<S: Read + Write + OpenStream, N: Network, O: Observer>(
         HearsProbe O.heard O.heard_all observer.old observer.new (probe_of meeting)) }
     ensures borrow { O.borrow observer.new ≡ O.borrow observer.old }
 {
-    let reader = PatientReader::of(server.stream, server.teller);
+    let reader = PatientReader::of(server.stream, server.pace, server.teller);
+    let writer = PatientWriter::of(server.stream, server.pace);
     let (reader, writer) = (
         Noted::of(reader, server.failure),
-        Noted::of(Side::of(server.stream), server.failure),
+        Noted::of(writer, server.failure),
     );
     let mut connection = Connection::new(reader, writer, bounds.budget);
     match probe(alloc, case, asked, &mut connection, observer)? {

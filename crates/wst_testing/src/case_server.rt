@@ -2,7 +2,7 @@
 
 ghost use Rattle.std.specs.Prelude.{◌≡◌, IfOk, OnOk};
 ghost use Rattle.ws_connection.specs.Observing.{HearsProbe, IsHearing};
-ghost use Rattle.ws_connection.specs.declared.probe_end.Probe.TheVariants.{Ran};
+ghost use Rattle.ws_handshake.specs.declared.probe_end.Probe.TheVariants.{Ran};
 ghost use Rattle.ws_scripts.specs.Scripts.{CanBeRun};
 ghost use Rattle.wst_sockets.specs.Meetings.{probe_of};
 ghost use Rattle.wst_testing.specs.Servers.{IsMemoryRun, IsPeerRun, MeetsInMemory};

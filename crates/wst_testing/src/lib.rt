@@ -26,7 +26,7 @@ pub use known_input::{KnownStop, known_given, tell_known_stop};
 pub use line_writer::{LineStop, LineWriter};
 pub use outcome::{Outcome, Tally, total_line};
 pub use reporting::{Reported, close_report, report_case};
-pub use run_plans::{Refusal, RunPlan, TestedEnd, is_url, plan_run, tell_refusal};
+pub use run_plans::{Refusal, RunPlan, TestedEnd, UsualDeadline, is_url, plan_run, tell_refusal};
 pub use score::Score;
 pub use sweeping::{SweepRules, SweepStop, is_told, sweep_scripts, tell_sweep_end, total_of};
 pub use testing::{

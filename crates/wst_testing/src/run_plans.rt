@@ -7,7 +7,8 @@ ghost use Rattle.ws_connection.specs.RequestHeaders.{headers_in};
 ghost use Rattle.wst_testing.specs.RunPlans.{HasHeaders, header_words};
 ghost use Rattle.wst_testing.specs.RunPlans.{CanConnect, IsClientsAddress, IsEndOf, IsRunPlan, IsUrl, CanNotRun};
 ghost use Rattle.wst_testing.specs.RunPlans.{AdvisesClients, RefusesTarget, TellsRefusal, address_text, tested_role};
-ghost use Rattle.wst_testing.specs.RunPlans.{IsTimeoutRefusal, IsWaitRefusal, WaitsForServer, tells_waits};
+ghost use Rattle.wst_testing.specs.RunPlans.{IsDeadlineRefusal, IsTimeoutRefusal, IsWaitRefusal, WaitsForServer};
+ghost use Rattle.wst_testing.specs.RunPlans.{tells_waits, usual_deadline};
 ghost use Rattle.ws_wire.specs.declared.role.Role.{Role};
 ghost use Rattle.ws_wire.specs.declared.role.Role.TheVariants.{Client, Server};
 ghost use Rattle.wst_commands.specs.declared.exit.Exit.TheVariants.{WrongWords};
@@ -27,7 +28,8 @@ use ws_targets::{
 use ws_upgrade::is_host;
 use ws_wire::Role;
 use wst_commands::{
-    Exit, NoCases, TimeLimit, has_unit, tell, tell_no_cases, timeout_given, wait_given,
+    Exit, NoCases, TimeLimit, deadline_given, has_unit, tell, tell_no_cases, timeout_given,
+    wait_given,
 };
 use wst_words::RunOptions;
 
@@ -65,6 +67,8 @@ pub struct RunPlan<'a> {
     pub expected: Expectation,
     /// How long an end that is not in memory is waited for.
     pub timeout: TimeLimit,
+    /// How long a connection to such an end may last.
+    pub deadline: TimeLimit,
     /// How long a client is waited for that comes to an address.
     pub wait: TimeLimit,
     /// At most so many bytes are read of such an end in one script behind its head.
@@ -87,6 +91,27 @@ impl RunPlan<'_> {
     }
 }
 
+/// How long a connection may last, where that isn't given.
+#[derive(Clone, Copy, PartialEq, Eq)]
+pub enum UsualDeadline {
+    /// As long as it takes.
+    Never,
+    /// Ten times as long as the tested end is waited for.
+    TenTimeouts,
+}
+
+impl UsualDeadline {
+    /// How long that is, where the tested end is waited for so long.
+    fn limit(self, timeout: TimeLimit) -> TimeLimit
+        ensures { result ≡ usual_deadline self timeout }
+    {
+        match self {
+            UsualDeadline::Never => TimeLimit::Unlimited,
+            UsualDeadline::TenTimeouts => timeout.ten_times(),
+        }
+    }
+}
+
 /// Why nothing is run: the first of these that applies.
 #[derive(Clone, Copy)]
 pub enum Refusal<'a> {
@@ -104,6 +129,10 @@ pub enum Refusal<'a> {
     BadWait,
     /// The same, and they are digits with a unit.
     WaitWithUnit,
+    /// The seconds are no limit of time for a connection.
+    BadDeadline,
+    /// The same, and they are digits with a unit.
+    DeadlineWithUnit,
     /// The key is not eight lower-case hexadecimal digits.
     BadKey,
     /// The target names no end, with what is wrong with it; or no connection can be made at the address that is given
@@ -138,10 +167,14 @@ impl From<NoMemory> for Refusal<'_> {
     }
 }
 
-/// What the options ask for, or the first reason against it.
+/// What the options ask for, with this deadline where none is given, or the first reason against it.
 #[tactic(auto, using(crate::proofs::PlanLemmas::timeout_refused, crate::proofs::PlanLemmas::wait_refused))]
-pub fn plan_run<'a>(alloc: Global, options: &RunOptions<'a>) -> Result<RunPlan<'a>, Refusal<'a>>
-    ensures { MatchResult result (IsRunPlan options.now) (CanNotRun options.now) }
+pub fn plan_run<'a>(
+    alloc: Global,
+    options: &RunOptions<'a>,
+    usual: UsualDeadline,
+) -> Result<RunPlan<'a>, Refusal<'a>>
+    ensures { MatchResult result (IsRunPlan usual options.now) (CanNotRun options.now) }
 {
     if waits_for_server(options.role, options.wait) {
         return Err(Refusal::WaitForServer);
@@ -158,6 +191,9 @@ pub fn plan_run<'a>(alloc: Global, options: &RunOptions<'a>) -> Result<RunPlan<'
     let Some(wait) = wait_given(options.wait) else {
         return Err(wait_refusal(options.wait));
     };
+    let Some(deadline) = deadline_given(options.deadline, usual.limit(timeout)) else {
+        return Err(deadline_refusal(options.deadline));
+    };
     let Some(key) = read_key(options.key.as_bytes()) else {
         return Err(Refusal::BadKey);
     };
@@ -171,6 +207,7 @@ pub fn plan_run<'a>(alloc: Global, options: &RunOptions<'a>) -> Result<RunPlan<'
         tested,
         expected: options.expect,
         timeout,
+        deadline,
         wait,
         budget: options.budget,
         protocols,
@@ -207,6 +244,17 @@ fn wait_refusal<'a>(wait: Option<&str>) -> Refusal<'a>
         Refusal::WaitWithUnit
     } else {
         Refusal::BadWait
+    }
+}
+
+/// What is wrong with a word that is no limit of time for a connection.
+fn deadline_refusal<'a>(deadline: Option<&str>) -> Refusal<'a>
+    ensures { IsDeadlineRefusal deadline.entry result }
+{
+    if has_unit(deadline) {
+        Refusal::DeadlineWithUnit
+    } else {
+        Refusal::BadDeadline
     }
 }
 
@@ -355,6 +403,14 @@ pub fn tell_refusal<F: Write>(alloc: Global, refusal: Refusal<'_>, faults: &mut 
         ),
         Refusal::WaitWithUnit => tell_wrong(
             b"bad wait\n  seconds without a unit: --wait 60\n",
+            faults,
+        ),
+        Refusal::BadDeadline => tell_wrong(
+            b"bad timeout\n  a whole number of seconds, 1 to 86400: --deadline 60\n",
+            faults,
+        ),
+        Refusal::DeadlineWithUnit => tell_wrong(
+            b"bad timeout\n  seconds without a unit: --deadline 60\n",
             faults,
         ),
         Refusal::BadKey => tell_wrong(b"bad key\n", faults),

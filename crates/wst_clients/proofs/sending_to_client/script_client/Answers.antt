@@ -4,7 +4,7 @@ use Rattle.std.proofs.KnownBytes.{Keeps-refl}
 use Rattle.ws_frame.specs.Devices.{watched}
 use Rattle.ws_frame.specs.Watching.{has_failed, inner_of}
 use Rattle.ws_connection.specs.Observing.{HearsProbe}
-use Rattle.ws_connection.specs.declared.probe_end.Probe.{Probe}
+use Rattle.ws_handshake.specs.declared.probe_end.Probe.{Probe}
 use Rattle.wst_clients.specs.ClientSends.{late_notes, scripted_notes}
 use Rattle.wst_sockets.specs.declared.accepting.NoClient.TheVariants.{Never}
 use Rattle.wst_testing.specs.Notes.{TellsEach}

@@ -2,8 +2,8 @@
 use Rattle.std.proofs.Common.{subst}
 use Rattle.ws_connection.specs.ConnectionValues.{ConnectionRun}
 use Rattle.ws_connection.specs.Observing.{HearsProbe}
-use Rattle.ws_connection.specs.declared.probe_end.Probe.{Probe}
-use Rattle.ws_connection.specs.declared.probe_end.Probe.TheVariants.{NoConnection, Ran, Refused}
+use Rattle.ws_handshake.specs.declared.probe_end.Probe.{Probe}
+use Rattle.ws_handshake.specs.declared.probe_end.Probe.TheVariants.{NoConnection, Ran, Refused}
 use Rattle.ws_connection.specs.UpgradeRequests.{request_value}
 use Rattle.wst_testing.specs.Servers.{AddressValue}
 use Rattle.wst_testing.proofs.TargetLemmas.{probed_so}
@@ -16,6 +16,7 @@ returns-in-Ran-clause-probed g c =
       request = request_value asked.request;
       expected = asked.expected;
       timeouts = asked.has_timeouts;
+      deadline = c.args.bounds.deadline;
       budget = c.args.bounds.budget;
     } in
     let run : ConnectionRun = record { old = c.new-connection.result; new = c.probe.new.connection } in
@@ -30,6 +31,7 @@ returns-in-Refused-clause-probed g c =
       request = request_value asked.request;
       expected = asked.expected;
       timeouts = asked.has_timeouts;
+      deadline = c.args.bounds.deadline;
       budget = c.args.bounds.budget;
     } in
     let run : ConnectionRun = record { old = c.new-connection.result; new = c.probe.new.connection } in
@@ -44,6 +46,7 @@ returns-in-NoConnection-clause-probed g c =
       request = request_value asked.request;
       expected = asked.expected;
       timeouts = asked.has_timeouts;
+      deadline = c.args.bounds.deadline;
       budget = c.args.bounds.budget;
     } in
     let run : ConnectionRun = record { old = c.new-connection.result; new = c.probe.new.connection } in

@@ -6,8 +6,10 @@ use Rattle.ws_connection.specs.Protocols.{protocols_given}
 use Rattle.ws_connection.specs.RequestHeaders.{headers_in}
 use Rattle.wst_testing.specs.RunPlans.{CanConnect, FitsRole, HasHeaders, HasOffers, header_words}
 use Rattle.wst_testing.specs.RunPlans.{RefusesTarget}
+use Rattle.wst_commands.specs.TimeLimits.{GivesDeadline}
+use Rattle.wst_commands.specs.declared.time_limit.TimeLimit.{TimeLimit}
 use Rattle.wst_testing.specs.declared.run_plans.Refusal.{Refusal}
-use Rattle.wst_testing.proofs.PlanLemmas.{end_refused, wait_refused}
+use Rattle.wst_testing.proofs.PlanLemmas.{deadline_refused, end_refused, has_deadline, wait_refused}
 use Rattle.wst_testing.proofs.run_plans.plan_run.Goals as goal
 
 pub returns : goal.returns
@@ -25,6 +27,8 @@ returns c =
       headers = added.0;
       timeout = c.in-Some-timeout_given.ensures;
       wait = c.in-Some-wait_given.ensures;
+      deadline = subst (λ (usual : TimeLimit). GivesDeadline usual options.deadline c.in-Some-deadline_given.deadline)
+          c.limit.ensures c.in-Some-deadline_given.ensures;
       key = subst (λ (word : List ℕ). IsKeyWord c.in-Some-read_key.key word) c.as_bytes.ensures.value c.in-Some-read_key.ensures;
       named = (c.in_ok-named.named, c.in_ok-named.ensures);
       can_connect = can;
@@ -47,6 +51,7 @@ returns-then-not-can_connect c =
           (fits, offered.1, added.1),
           (c.in-Some-timeout_given.timeout, c.in-Some-timeout_given.ensures),
           (c.in-Some-wait_given.wait, c.in-Some-wait_given.ensures),
+          has_deadline _ options.deadline _ c.in-Some-deadline_given.ensures,
         ),
         (c.in-Some-read_key.key, key),
       ),
@@ -63,6 +68,17 @@ returns-in_default-wait_given c =
     (c.in-Some-timeout_given.timeout, c.in-Some-timeout_given.ensures) c.in_default-wait_given.ensures
     c.wait_refusal.ensures
 
+pub returns-in_default-deadline_given : goal.returns-in_default-deadline_given
+returns-in_default-deadline_given c =
+    let options = c.args.options.now in
+    let offered : (c.in-Some.protocols ≡ protocols_given options.protocols) × HasOffers options = search rules in
+    let added : (c.in-Some-2.headers ≡ headers_in (header_words options)) × HasHeaders options = search rules in
+    let fits : FitsRole options = search rules in
+    deadline_refused options c.deadline_refusal.result (fits, offered.1, added.1)
+    (c.in-Some-timeout_given.timeout, c.in-Some-timeout_given.ensures)
+    (c.in-Some-wait_given.wait, c.in-Some-wait_given.ensures) c.in_default-deadline_given.ensures
+    c.deadline_refusal.ensures
+
 pub returns-in_err-named : goal.returns-in_err-named
 returns-in_err-named c =
     let options = c.args.options.now in
@@ -77,6 +93,7 @@ returns-in_err-named c =
         (fits, offered.1, added.1),
         (c.in-Some-timeout_given.timeout, c.in-Some-timeout_given.ensures),
         (c.in-Some-wait_given.wait, c.in-Some-wait_given.ensures),
+        has_deadline _ options.deadline _ c.in-Some-deadline_given.ensures,
       ),
       (c.in-Some-read_key.key, key),
     )

@@ -12,6 +12,7 @@ returns-in-Ok-clause-meets g c =
       request = request_value inside.request;
       expected = inside.expected;
       timeouts = limited;
+      deadline = inside.bounds.deadline;
       budget = inside.bounds.budget;
     } in
     subst (λ (s : AddressValue). IfOk c.meet_over.result (λ meeting. MeetsAtAddress s c.args.key c.args.case.now
