@@ -200,8 +200,8 @@ def a_client_that_forgets_the_mask():
         "  due 1 text -",
         "  got 1 failed MaskWrong",
         "  end tester 1",
-        "  rule Whatever a client sends must be valid: whole frames with a mask (RFC 6455 section 5), text in UTF-8 "
-        "(section 8.1), and nothing after its close frame (ours)",
+        "  rule Whatever a client sends must be valid: whole masked frames in a valid order, with valid lengths and close "
+        "payloads (RFC 6455 section 5), text in UTF-8 (section 8.1), and nothing after its close frame (ours)",
         "0 pass, 0 loose, 1 fail",
         status=1,
     )

@@ -2,12 +2,12 @@
 //! note their calls.
 
 use crate::row_fault::RowFault;
-use crate::words::{failing_of, number_or};
+use crate::words::{asks_for, failing_of, number_or};
 use std::alloc::Global;
 use std::cell::RefCell;
 use std::io;
 use std::io::{ErrorKind, Read, Write};
-use ws_connection::EndsDirection;
+use ws_connection::{EndsDirection, WaitTimer, WaitingRead};
 use ws_frame::Failing;
 use ws_tap::TapWriter;
 
@@ -26,7 +26,7 @@ fn note(notes: &Notes, letter: u8) -> io::Result<()> {
 }
 
 /// Gives pieces one after the other, never of two in one call. It notes `r` for bytes, `z` for none, `-` for a wait in
-/// vain, and `x` for a failure.
+/// vain, `l` behind the deadline, and `x` for a failure.
 #[derive(Drop)]
 pub struct Source<'a> {
     /// What is left of the piece that was begun.
@@ -41,12 +41,19 @@ pub struct Source<'a> {
     breaks: Failing,
     /// Which calls wait in vain.
     waits: Failing,
+    /// Behind which calls the deadline has passed.
+    late: Failing,
+    /// Its timer says that it was waited long enough.
+    is_long: bool,
+    /// Its timer notes each wait that begins.
+    notes_waits: bool,
     /// How many calls it has got.
     pub calls: u64,
     notes: &'a Notes,
 }
 
-/// A reader of these pieces: `reads=`, `breaks=`, `waits=`, and `give=` for the most bytes a call.
+/// A reader of these pieces: `reads=`, `breaks=`, `waits=`, `late=`, and `give=` for the most bytes a call; `+long`
+/// where it was waited long enough by the deadline, and `+begins` where each wait that begins is noted.
 pub fn source_of<'a>(
     words: &[&str],
     pieces: &'a [Vec<u8>],
@@ -59,6 +66,9 @@ pub fn source_of<'a>(
         reads: failing_of(words, "reads=")?,
         breaks: failing_of(words, "breaks=")?,
         waits: failing_of(words, "waits=")?,
+        late: failing_of(words, "late=")?,
+        is_long: asks_for(words, "+long"),
+        notes_waits: asks_for(words, "+begins"),
         calls: 0,
         notes,
     })
@@ -72,9 +82,13 @@ impl Source<'_> {
             note(self.notes, b'-')?;
             return Err(io::Error::from(ErrorKind::WouldBlock));
         }
+        if self.late.fails_at(self.calls) {
+            note(self.notes, b'l')?;
+            return Err(io::Error::from(ErrorKind::TimedOut));
+        }
         if self.breaks.fails_at(self.calls) {
             note(self.notes, b'x')?;
-            return Err(io::Error::from(ErrorKind::TimedOut));
+            return Err(io::Error::from(ErrorKind::ConnectionReset));
         }
         if self.reads.fails_at(self.calls) {
             note(self.notes, b'x')?;
@@ -108,6 +122,40 @@ impl Read for Source<'_> {
     }
 }
 
+/// The timer of such a reader. It notes `b` where a wait begins, if that is to be noted.
+#[derive(Drop)]
+pub struct SourceTimer<'a> {
+    is_long: bool,
+    notes_waits: bool,
+    notes: &'a Notes,
+}
+
+impl WaitTimer for SourceTimer<'_> {
+    ghost has_waited = { λ timer. timer.is_long };
+
+    fn begin_wait(&mut self) {
+        if self.notes_waits {
+            let _ = note(self.notes, b'b');
+        }
+    }
+
+    fn has_waited(&mut self) -> bool {
+        self.is_long
+    }
+}
+
+impl<'a> WaitingRead for Source<'a> {
+    type Timer = SourceTimer<'a>;
+
+    fn timer(&self) -> SourceTimer<'a> {
+        SourceTimer {
+            is_long: self.is_long,
+            notes_waits: self.notes_waits,
+            notes: self.notes,
+        }
+    }
+}
+
 /// Keeps what is written. It notes `w` for a write, and `e` where its direction is ended.
 #[derive(Drop)]
 pub struct Sink<'a> {
@@ -121,6 +169,8 @@ pub struct Sink<'a> {
     pub writes: Failing,
     /// Which writes take nothing yet.
     pub waits: Failing,
+    /// Behind which writes the deadline has passed.
+    late: Failing,
     /// Which flushes fail.
     flushes: Failing,
     /// How many writes it has got, and flushes.
@@ -133,8 +183,8 @@ pub struct Sink<'a> {
     notes: &'a Notes,
 }
 
-/// A writer that has taken nothing: `writes=`, `flushes=`, and `take=` and `room=` for the most bytes a call and in
-/// all.
+/// A writer that has taken nothing: `writes=`, `write-late=`, `flushes=`, and `take=` and `room=` for the most bytes a
+/// call and in all.
 pub fn sink_of<'a>(alloc: Global, words: &[&str], notes: &'a Notes) -> Result<Sink<'a>, RowFault> {
     Ok(Sink {
         taken: Vec::new(alloc),
@@ -142,6 +192,7 @@ pub fn sink_of<'a>(alloc: Global, words: &[&str], notes: &'a Notes) -> Result<Si
         room: number_or(words, "room=", 1_000_000_000)? as usize,
         writes: failing_of(words, "writes=")?,
         waits: Failing::Never,
+        late: failing_of(words, "write-late=")?,
         flushes: failing_of(words, "flushes=")?,
         calls: 0,
         flush_calls: 0,
@@ -161,6 +212,9 @@ impl Write for Sink<'_> {
         note(self.notes, b'w')?;
         if self.waits.fails_at(self.calls) {
             return Err(io::Error::from(ErrorKind::WouldBlock));
+        }
+        if self.late.fails_at(self.calls) {
+            return Err(io::Error::from(ErrorKind::TimedOut));
         }
         if self.writes.fails_at(self.calls) {
             return Err(io::Error::from(ErrorKind::Other));

@@ -8,7 +8,7 @@ use std::io;
 use std::io::{ErrorKind, Read, Write};
 use std::net::{Ipv4Addr, Net, OpenListener, OpenStream, Shutdown, SocketAddr};
 use std::os::fd::{AsRawFd, RawFd};
-use std::time::Duration;
+use std::time::{Clock, Duration};
 use ws_frame::{ByteReader, Failing};
 use wst_sockets::Network;
 
@@ -163,6 +163,17 @@ impl<'a> Net for MemoryNet<'a> {
         }
         found[0] = local(port);
         Ok(1)
+    }
+}
+
+/// In memory no time passes.
+impl Clock for MemoryNet<'_> {
+    fn monotonic(&self) -> io::Result<Duration> {
+        Ok(Duration::from_secs(1))
+    }
+
+    fn since_1970(&self) -> io::Result<Duration> {
+        Ok(Duration::from_secs(1))
     }
 }
 

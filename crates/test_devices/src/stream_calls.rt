@@ -15,9 +15,9 @@ use ws_machines::{Exchange, Machine, ReadOutcome, Stream, WriteOutcome, run_mach
 /// How many bytes a connection may be read of.
 const BUDGET: u64 = 1_000_000;
 
-/// `stream SETTING .. PIECE .. ; CALL ..`, of which a call is `read=NUMBER` of at most 16 bytes, `write=BYTES` or
-/// `end`: what a connection that brings these pieces tells of each; then what was written, and the calls of both
-/// devices.
+/// `stream SETTING .. PIECE .. ; CALL ..`, of which a call is `read=NUMBER` of at most 16 bytes, `write=BYTES`, `end`
+/// or `begin`, a wait begins: what a connection that brings these pieces tells of each; then what was written, and the
+/// calls of both devices.
 pub fn call_stream(alloc: Global, words: &[&str], out: &mut String) -> Result<(), RowFault> {
     let mut parts = words.split(|word| *word == ";");
     let (Some(settings), Some(calls)) = (parts.next(), parts.next()) else {
@@ -46,6 +46,10 @@ fn call_once<S: Stream>(
         out.push_str("end, ")?;
         return Ok(());
     }
+    if call == "begin" {
+        stream.begin_wait();
+        return Ok(());
+    }
     if let Some(word) = value_of(&[call], "write=") {
         let bytes = bytes_of(alloc, word)?;
         return write_once(stream, bytes.as_slice(), out);
@@ -67,7 +71,7 @@ fn read_once<S: Stream>(stream: &mut S, len: usize, out: &mut String) -> Result<
         ReadOutcome::Ended => out.push_str("ended, ")?,
         ReadOutcome::Failed => out.push_str("read failed, ")?,
         ReadOutcome::NothingCame => out.push_str("nothing came, ")?,
-        ReadOutcome::DeadlinePassed(_) => out.push_str("too late, ")?,
+        ReadOutcome::DeadlinePassed(waited) => out.push_str(late_word(waited))?,
     }
     Ok(())
 }
@@ -80,9 +84,18 @@ fn write_once<S: Stream>(stream: &mut S, bytes: &[u8], out: &mut String) -> Resu
     match stream.write(bytes) {
         WriteOutcome::Taken(count) => write!(out, "took {count}, ")?,
         WriteOutcome::Failed => out.push_str("write failed, ")?,
-        WriteOutcome::DeadlinePassed(_) => out.push_str("too late, ")?,
+        WriteOutcome::DeadlinePassed(waited) => out.push_str(late_word(waited))?,
     }
     Ok(())
+}
+
+/// What is put where the deadline has passed.
+fn late_word(waited: bool) -> &'static str {
+    if waited {
+        "too late and waited, "
+    } else {
+        "too late, "
+    }
 }
 
 /// `exchange SETTING .. PIECE .. ; MOST BYTES`: what comes for these bytes, at most so many, of a connection that

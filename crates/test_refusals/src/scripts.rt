@@ -6,8 +6,8 @@ ghost use Rattle.ws_scripts.specs.Scripts.{CanBeRun};
 use crate::streams;
 use crate::tally::Tally;
 use std::alloc::Global;
-use ws_base::{NoMemory, Payload, Sequence};
-use ws_suite::{Case, case, ids, turns};
+use ws_base::{NoMemory, Sequence};
+use ws_suite::{Case, CutTurn, case, ids, turns};
 
 /// The case that is made and sent.
 const NAME: &str = "5.19";
@@ -23,7 +23,7 @@ pub fn make(alloc: Global, tally: &mut Tally) -> Result<(), NoMemory> {
     let turns = turns_again(alloc, &case, tally)?;
     tally.compare(turns.len() == streams::FRAGMENTS.pieces.len());
     for (place, pieces) in turns.as_slice().iter().enumerate() {
-        tally.compare(is_turn(pieces.as_slice(), place));
+        tally.compare(is_turn(pieces, place));
     }
     Ok(())
 }
@@ -36,10 +36,10 @@ fn compare_names(names: &[String], tally: &mut Tally) {
 }
 
 /// Whether these are the pieces of the turn at this place: one piece.
-fn is_turn(pieces: &[Payload], place: usize) -> bool {
-    match (pieces, streams::FRAGMENTS.pieces.get(place)) {
-        ([piece], Some(wanted)) => piece.as_slice() == *wanted,
-        _ => false,
+fn is_turn(pieces: &CutTurn, place: usize) -> bool {
+    match streams::FRAGMENTS.pieces.get(place) {
+        Some(wanted) => pieces.len() == 1 && pieces.piece(0) == *wanted,
+        None => false,
     }
 }
 
@@ -72,11 +72,7 @@ pub fn script(alloc: Global, tally: &mut Tally) -> Result<Case, NoMemory>
 }
 
 /// What is sent, asked for again where memory runs out.
-fn turns_again(
-    alloc: Global,
-    case: &Case,
-    tally: &mut Tally,
-) -> Result<Sequence<Sequence<Payload>>, NoMemory>
+fn turns_again(alloc: Global, case: &Case, tally: &mut Tally) -> Result<Sequence<CutTurn>, NoMemory>
     requires { CanBeRun case.now }
 {
     tally.call();

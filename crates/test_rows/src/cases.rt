@@ -94,8 +94,8 @@ fn put_fault(alloc: Global, tested: Role, case: &Case, out: &mut String) -> Resu
     let key = mask_key_of("37fa213d")?;
     let mut pieces = Vec::new(alloc);
     for turn in turns_with(alloc, case, tester_key(tested, key))?.into_vec() {
-        for piece in turn.into_vec() {
-            pieces.push(piece.into_vec())?;
+        for number in 0..turn.len() {
+            pieces.push(turn.piece(number).to_vec(alloc)?)?;
         }
     }
     match feed_all(alloc, tested, Limits::largest(), &pieces, key)?.status {

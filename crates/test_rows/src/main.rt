@@ -11,9 +11,11 @@ mod explanations;
 mod frames;
 mod machine_runs;
 mod machine_stream;
+mod machine_words;
 mod paths;
 mod peers;
 mod printing;
+mod probes;
 mod protocols;
 mod row_fault;
 mod scripts;
@@ -77,6 +79,8 @@ fn answer_of_sessions(
         "echo" => echoes::take_frames(alloc, words, out),
         "doomed" => dooms::mark_lengths(alloc, words, out),
         "tester" => testers::tell_tester(alloc, words, out),
+        "exchange" => machine_runs::run_exchange(alloc, words, out),
+        "probe" => probes::tell_probe(alloc, words, out),
         "test_over" => machine_runs::run_tester(alloc, words, out),
         "tap" => taps::tap_moves(alloc, words, out),
         "tap_orders" => taps::tap_orders(alloc, words, out),

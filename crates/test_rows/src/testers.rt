@@ -9,10 +9,10 @@ use crate::row_fault::RowFault;
 use crate::words::{bytes_of, expectation_of, number_of, role_of};
 use std::alloc::Global;
 use std::fmt::Write;
-use ws_base::{Payload, Sequence};
+use ws_base::Sequence;
 use ws_formats::Hex;
 use ws_machines::{Machine, StreamEvent};
-use ws_suite::{Ended, Transcript, read_script, turns_with};
+use ws_suite::{CutTurn, Ended, Transcript, read_script, turns_with};
 use ws_tester::{TestPlan, Tester};
 use ws_wire::Role;
 
@@ -24,8 +24,9 @@ const MOST_WRITES: usize = 100_000;
 /// `FIRST` came with the head. The frames to a server are masked with a key of zeros. Each word tells what happened:
 /// bytes that came; `out=N`, so many bytes were taken; `send=N`, all bytes were taken that are wanted one after the
 /// other, at most so many a time; `ended`, `read_failed`, `nothing_came`, `write_failed`, `direction_ended`, `deadline`
-/// and `deadline_waited`. Or it asks, `?`, what is wanted: `write HEX room N`, and `end`; or `done`. At the end stands
-/// how the run ended with the bytes of each turn behind `>` and `<`, or `goes on`, and how many bytes weren't read.
+/// and `deadline_waited`. Or it asks, `?`, what is wanted: `write HEX room N`, and `end`; or `done`; or, `limit`, if a
+/// time limit of what is waited for begins anew: `anew` or `kept`. At the end stands how the run ended with the bytes
+/// of each turn behind `>` and `<`, or `goes on`, and how many bytes weren't read.
 pub fn tell_tester(alloc: Global, words: &[&str], out: &mut String) -> Result<(), RowFault> {
     let [role, expected, waits, budget, text, first, words @ ..] = words else {
         return Err(RowFault::NotARow);
@@ -70,7 +71,7 @@ pub fn tester_of(
     let Ok(case) = read_script(alloc, text.as_slice()) else {
         return Err(RowFault::NotARow);
     };
-    let turns: Sequence<Sequence<Payload>> = turns_with(alloc, &case, key_for(plan.tested))?;
+    let turns: Sequence<CutTurn> = turns_with(alloc, &case, key_for(plan.tested))?;
     let first = bytes_of(alloc, first)?.into_vec();
     let tester = Tester::new(alloc, plan, turns, first, budget)?;
     Ok(tester)
@@ -94,6 +95,9 @@ fn tell_word(
 ) -> Result<(), RowFault> {
     if word == "?" {
         return put_wants(tester, out);
+    }
+    if word == "limit" {
+        return put_limit(tester, out);
     }
     if let Some(count) = word.strip_prefix("out=") {
         return tell_taken(tester, count_of(count)?);
@@ -217,6 +221,16 @@ fn put_wants(tester: &Tester, out: &mut String) -> Result<(), RowFault> {
         out.push_str(" end")?;
     }
     out.push_str(", ")?;
+    Ok(())
+}
+
+/// Whether the time limit of what it waits for begins anew.
+fn put_limit(tester: &Tester, out: &mut String) -> Result<(), RowFault> {
+    if tester.waits_anew() {
+        out.push_str("anew, ")?;
+        return Ok(());
+    }
+    out.push_str("kept, ")?;
     Ok(())
 }
 

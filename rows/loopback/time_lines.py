@@ -1,0 +1,184 @@
+"""How long `wst` waits for servers that are silent, send what is no progress, send a little without an end, read nothing,
+or answer while `wst` is stopped; and how long a connection lasts."""
+
+import os
+import signal
+import threading
+import time
+
+from send_lines import SCRIPT, SENT_HELLO, TURN_1, Sent
+from server import SECONDS, Tested
+from wire import EMPTY_TEXT, HELLO, HELLO_BACK, RESPONSE, request_to
+
+TWO_FAIL = "1.1.1 FAIL Messages\n0 pass, 0 loose, 1 fail\n"
+SILENT = b"no connection: timed out\n"
+PING = b"\x89\x00"
+SENT_16_MIB = b"binary 00*16777216\n"
+
+
+class Clock:
+    """How long something took, between these seconds."""
+
+    def __init__(self, least, most):
+        self.least, self.most = least, most
+
+    def __enter__(self):
+        self.begun = time.monotonic()
+
+    def __exit__(self, kind, error, trace):
+        took = time.monotonic() - self.begun
+        assert kind or self.least <= took <= self.most, f"it took {took:.2f} s"
+
+
+def keeps_sending(client, front, piece, pause):
+    """Sends a front, and then a piece after each pause, until the other end is gone."""
+
+    def send():
+        try:
+            client.send(front)
+            while True:
+                time.sleep(pause)
+                client.send(piece)
+        except OSError:
+            pass
+
+    threading.Thread(target=send, daemon=True).start()
+
+
+def met(server, bytes_of_turn=EMPTY_TEXT):
+    """The server's end of the next connection, which was answered, and whose first turn has come."""
+    client = server.next()
+    asked = request_to(server.address)
+    assert client.get(len(asked)) == asked
+    client.send(RESPONSE)
+    assert client.get(len(bytes_of_turn)) == bytes_of_turn
+    return client
+
+
+def pings_are_no_progress():
+    """A wait that each ping began anew would never end."""
+    server = Tested("--timeout=1", "1.1.1")
+    client = met(server)
+    with Clock(1.9, 4):
+        keeps_sending(client, PING, PING, 0.3)
+        server.ends(TWO_FAIL, status=1)
+
+
+def bytes_of_a_frame_are_progress():
+    """Nothing but the deadline ends a case in which a byte comes now and then."""
+    server = Tested("--timeout=1", "--deadline=3", "1.1.1")
+    client = met(server)
+    with Clock(2.5, 4.5):
+        keeps_sending(client, b"\x81\x7e\x01\x00", b"a", 0.3)
+        server.ends(TWO_FAIL.replace("Messages", "NotFrames"), status=1)
+
+
+def a_wait_is_not_that_of_a_read():
+    """Bytes that are no progress leave a wait what is left of it."""
+    server = Sent(SCRIPT, "--timeout=2")
+    client = server.accepted(RESPONSE)
+    assert client.get(len(HELLO)) == HELLO
+    with Clock(1.8, 3):
+        time.sleep(1.5)
+        client.send(PING)
+        server.ends(f"{TURN_1}\n{SENT_HELLO}\n< 0 ping fin=1 rsv=0 key=- len=0 short -\nend tester\n")
+
+
+def a_write_that_is_blocked():
+    """It fails after the time limit, also where a part of it was taken, and the wait behind it has nothing left."""
+    server = Sent(SENT_16_MIB, "--timeout=2")
+    client = server.accepted(RESPONSE)
+    with Clock(1.8, 3):
+        lines = server_lines(server)
+        assert lines[-1] == "end broken", lines
+    assert server.process.wait(SECONDS) == 0
+    client.close()
+
+
+def server_lines(server):
+    """All lines that it writes."""
+    return list(iter(server.line, ""))
+
+
+def a_deadline_at_a_silent_server():
+    """Without --timeout it ends the case by the tester."""
+    server = Tested("--deadline=2", "1.1.1")
+    client = met(server)
+    with Clock(1.5, 3):
+        server.ends(TWO_FAIL, status=1)
+    client.close()
+
+
+def a_deadline_in_the_head():
+    server = Tested("--deadline=1", "1.1.1")
+    client = server.next()
+    keeps_sending(client, b"HTTP/1.1 101 ", b"a", 0.2)
+    with Clock(0.5, 2):
+        server.ends("1.1.1 no connection\n", status=3, faults=SILENT)
+
+
+def a_deadline_before_the_time_limit():
+    """By then nothing was waited for long enough: it is broken off."""
+    server = Sent(SCRIPT, "--timeout=9", "--deadline=1")
+    client = server.accepted(RESPONSE)
+    assert client.get(len(HELLO)) == HELLO
+    with Clock(0.5, 2):
+        server.ends(f"{TURN_1}\n{SENT_HELLO}\nend broken\n")
+    client.close()
+
+
+def a_deadline_in_a_write():
+    server = Sent(SENT_16_MIB, "--timeout=9", "--deadline=1")
+    client = server.accepted(RESPONSE)
+    with Clock(0.5, 2):
+        lines = server_lines(server)
+        assert lines[-1] == "end broken", lines
+    client.close()
+
+
+def a_stop_in_a_wait():
+    """A wait that a stop interrupts has what is left of it."""
+    server = Sent(SCRIPT, "--timeout=2")
+    client = server.accepted(RESPONSE)
+    assert client.get(len(HELLO)) == HELLO
+    with Clock(1.8, 3):
+        for _ in range(3):
+            time.sleep(0.4)
+            stop(server)
+            server.process.send_signal(signal.SIGCONT)
+        server.ends(f"{TURN_1}\n{SENT_HELLO}\nend tester\n")
+    client.close()
+
+
+def an_answer_during_a_stop():
+    """What has come while it was stopped, for longer than the limit, is read."""
+    server = Sent(SCRIPT, "--timeout=1")
+    client = server.accepted(RESPONSE)
+    assert client.get(len(HELLO)) == HELLO
+    time.sleep(0.3)
+    stop(server)
+    client.send(HELLO_BACK)
+    client.close()
+    time.sleep(1.5)
+    server.process.send_signal(signal.SIGCONT)
+    server.ends(f"{TURN_1}\n{SENT_HELLO}\n< 0 text fin=1 rsv=0 key=- len=5 short 48656c6c6f\nend peer\n")
+
+
+def stop(server):
+    """Stops a run, and waits until it is stopped."""
+    server.process.send_signal(signal.SIGSTOP)
+    os.waitid(os.P_PID, server.process.pid, os.WSTOPPED)
+
+
+TESTS = [
+    pings_are_no_progress,
+    bytes_of_a_frame_are_progress,
+    a_wait_is_not_that_of_a_read,
+    a_write_that_is_blocked,
+    a_deadline_at_a_silent_server,
+    a_deadline_in_the_head,
+    a_deadline_before_the_time_limit,
+    a_deadline_in_a_write,
+    a_stop_in_a_wait,
+    an_answer_during_a_stop,
+]
