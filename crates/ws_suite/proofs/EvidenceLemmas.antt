@@ -44,9 +44,9 @@ last_joined {X} o (x ∷ xs) ys = last_joined (Some x) xs ys
 
 -- ---- events of one turn
 
-pub nothing_collected : {K : Type 0} {keeps : K → List (InTurn Reply) → Type 0} (way : Way) (turn : ℕ) (c : Collected K) → AreCollected keeps way turn [] c c
+pub nothing_collected : {K : Type 0} {keeps : List (InTurn Reply) → K → List (InTurn Reply) → Type 0} (way : Way) (turn : ℕ) (c : Collected K) → AreCollected keeps way turn [] c c
 nothing_collected {K} {keeps} way turn c = record {
-  replies = λ replies h. subst (λ (l : List (InTurn Reply)). keeps c.replies l) (sym (append-nil replies)) h;
+  replies = λ handed replies h. subst (λ (l : List (InTurn Reply)). keeps handed c.replies l) (sym (append-nil replies)) h;
   ending = refl;
   has_rest = refl;
 }

@@ -14,10 +14,14 @@ use Rattle.ws_suite.specs.declared.evidence.Reply.TheVariants as reply
 use Rattle.ws_suite.specs.declared.evidence.Evidence.{Evidence}
 use Rattle.ws_suite.specs.declared.evidence.collecting.Collected.{Collected}
 use Rattle.ws_suite.specs.declared.evidence.keeping.ReplyTally.{ReplyTally}
-use Rattle.ws_suite.specs.Evidence.{IsEvidenceOf, due_for, got_in, got_turns, other_role, sent_turns}
-use Rattle.ws_suite.specs.Growing.{AnswersTally, AreTurnsAnswered, EndInsideFrame, GrowingValue, HasGrown, HasTakenTurns, HaveUnowedMessage, IsAmong, IsAnswered, IsAnsweredPong, IsTallyOf, new_turn, turn_with_got, turn_with_sent}
+use Rattle.ws_suite.specs.declared.evidence.keeping.RunReplies.{RunReplies}
+use Rattle.ws_suite.specs.declared.evidence.pairing.Pairing.{Pairing}
+use Rattle.ws_suite.specs.Evidence.{IsEvidenceOf, by_turn, due_for, got_in, got_turns, other_role, sent_turns}
+use Rattle.ws_suite.specs.Growing.{AnswersTally, AreKeptSince, AreTurnsAnswered, EndInsideFrame, GrowingValue, HasGrown, HasTakenTurns, IsAmong, IsAnswered, IsAnsweredPong, IsTallyOf, new_turn, turn_with_got, turn_with_sent}
+use Rattle.ws_session.specs.declared.event.Event.{Event}
 use Rattle.ws_suite.specs.InnerCollecting.{EventLaws}
-use Rattle.ws_suite.specs.Matching.{IsLastPong, due_messages, got_messages, is_message, is_pong, message_replies, pong_replies}
+use Rattle.ws_suite.specs.Matching.{IsLastPong, is_message, is_pong, message_replies, pong_replies}
+use Rattle.ws_suite.specs.Pairings.{IsPairingOf}
 use Rattle.ws_suite.proofs.EvidenceLemmas.{last_joined}
 use Rattle.ws_suite.proofs.JudgeLemmas.{last_same, last_turns}
 use Rattle.ws_suite.proofs.OneVerdict.{one_evidence}
@@ -25,7 +29,7 @@ use Rattle.ws_suite.proofs.TurnsCollected.{turn_begun}
 
 -- ---- what is kept
 
-pong_is_no_message : (r : Reply) → is_pong r ≡ true → is_message r ≡ false
+pub pong_is_no_message : (r : Reply) → is_pong r ≡ true → is_message r ≡ false
 pong_is_no_message (reply.Message message) e = absurd cc
 pong_is_no_message (reply.Pong payload) e = refl
 pong_is_no_message (reply.Ping payload) e = refl
@@ -140,56 +144,20 @@ tallies_tell x due got d g = (
 
 -- ---- what the turns show
 
-pub tells_answered : EventLaws → (tested : Role) (turns : List Turn) (x v : GrowingValue ReplyTally) (r : Bool) → x ≡ v → ((r ≡ true) ↔ AnswersTally x.due.replies x.got.replies) → HasGrown IsTallyOf tested turns v
+pub tells_answered : EventLaws → (tested : Role) (turns : List Turn) (x v : GrowingValue) (r : Bool) → x ≡ v → ((r ≡ true) ↔ AnswersTally x.due.replies.tally x.got.replies.tally) → HasGrown tested turns v
     → ((r ≡ true) ↔ AreTurnsAnswered tested turns)
 tells_answered laws tested turns x v r same tells grown =
-    let h = subst (λ (y : GrowingValue ReplyTally). HasGrown IsTallyOf tested turns y) (sym same) grown in
+    let h = subst (λ (y : GrowingValue). HasGrown tested turns y) (sym same) grown in
     let shown : Evidence = record { due = h.due.shown; got = h.got.shown; turns = length turns; ended = Tester; answers_doom = false } in
     let is : IsEvidenceOf tested (record { turns = turns; ended = Tester }) shown = record { due = h.due.is_shown; got = h.got.is_shown; turns = refl; ended = refl; uncounted = refl } in
-    let both = tallies_tell shown x.due.replies x.got.replies h.due.replies h.got.replies in (
+    let both = tallies_tell shown x.due.replies.tally x.got.replies.tally h.due.replies.tally h.got.replies.tally in (
       λ e. record { evidence = shown; is_evidence = is; answered = both.0 (tells.0 e) },
       λ a. tells.1 (both.1 (subst (λ (v : Evidence). IsAnswered v) (one_evidence laws tested (record { turns = turns; ended = Tester }) a.evidence shown a.is_evidence is) a.answered)),
     )
 
-pub tells_unowed : EventLaws → (tested : Role) (turns : List Turn) (x v : GrowingValue ReplyTally) (r : Bool) → x ≡ v
-    → ((r ≡ true) ↔ (x.due.replies.messages < x.got.replies.messages)) → HasGrown IsTallyOf tested turns v
-    → ((r ≡ true) ↔ HaveUnowedMessage tested turns)
-tells_unowed laws tested turns x v r same tells grown =
-    let h = subst (λ (y : GrowingValue ReplyTally). HasGrown IsTallyOf tested turns y) (sym same) grown in
-    let shown : Evidence = record {
-      due = h.due.shown;
-      got = h.got.shown;
-      turns = length turns;
-      ended = Tester;
-      answers_doom = false;
-    } in
-    let is : IsEvidenceOf tested (record { turns = turns; ended = Tester }) shown = record {
-      due = h.due.is_shown;
-      got = h.got.is_shown;
-      turns = refl;
-      ended = refl;
-      uncounted = refl;
-    } in
-    let due : x.due.replies.messages ≡ length (due_messages shown) = h.due.replies.messages in
-    let got : x.got.replies.messages ≡ length (got_messages shown) = h.got.replies.messages in (
-      λ e. record {
-        evidence = shown;
-        is_evidence = is;
-        more =
-            let less : x.due.replies.messages < x.got.replies.messages = tells.0 e in
-            omega (arith, less, due, got);
-      },
-      λ a. tells.1 (
-          let more : length (due_messages shown) < length (got_messages shown) =
-          subst (λ (w : Evidence). length (due_messages w) < length (got_messages w))
-          (one_evidence laws tested (record { turns = turns; ended = Tester }) a.evidence shown a.is_evidence is) a.more in
-          omega (arith, more, due, got)
-          ),
-    )
-
-pub tells_inside : EventLaws → (tested : Role) (turns : List Turn) (x v : GrowingValue ReplyTally) (r : Bool) → x ≡ v → r ≡ x.got.has_rest → HasGrown IsTallyOf tested turns v → ((r ≡ true) ↔ EndInsideFrame tested turns)
+pub tells_inside : EventLaws → (tested : Role) (turns : List Turn) (x v : GrowingValue) (r : Bool) → x ≡ v → r ≡ x.got.has_rest → HasGrown tested turns v → ((r ≡ true) ↔ EndInsideFrame tested turns)
 tells_inside laws tested turns x v r same tells grown =
-    let h = subst (λ (y : GrowingValue ReplyTally). HasGrown IsTallyOf tested turns y) (sym same) grown in
+    let h = subst (λ (y : GrowingValue). HasGrown tested turns y) (sym same) grown in
     let shown : Evidence = record { due = h.due.shown; got = h.got.shown; turns = length turns; ended = Tester; answers_doom = false } in
     let is : IsEvidenceOf tested (record { turns = turns; ended = Tester }) shown = record { due = h.due.is_shown; got = h.got.is_shown; turns = refl; ended = refl; uncounted = refl } in (
       λ e. record { evidence = shown; is_evidence = is; inside = sym h.got.has_rest ∙ (sym tells ∙ e) },
@@ -204,67 +172,189 @@ sent_last turns turn = map-append (λ (t : Turn). t.sent) turns (turn ∷ [])
 got_last : (turns : List Turn) (turn : Turn) → got_turns (turns ++ turn ∷ []) ≡ got_turns turns ++ turn.got ∷ []
 got_last turns turn = map-append (λ (t : Turn). t.got) turns (turn ∷ [])
 
-module _ {K : Type 0} {keeps : K → List (InTurn Reply) → Type 0} (tested : Role) (x v : GrowingValue K) (same : x ≡ v) where
-  pub next_turn : (turns : List Turn) (n : ℕ) → n ≡ min (x.turns + 1) (2 ^ 64 - 1) → length turns + 1 < 2 ^ 64 → HasGrown keeps tested turns v
-      → HasGrown keeps tested (turns ++ new_turn ∷ []) (record { due = x.due; got = x.got; tested = x.tested; tester = x.tester; turns = n; pings = x.pings })
+-- nothing is kept of no turns
+none_found : (found : Event → List Reply) (events : List (List Event)) → length events ≡ 0 → by_turn found 0 events ≡ []
+none_found found [] e = refl
+none_found found (x ∷ events) e = absurd (omega (arith, e))
+
+pub none_fresh : (found : Event → List Reply) (role : Role) (session : SessionValue) (c : Collected RunReplies)
+    → HasTakenTurns (AreKeptSince []) found role [] session c → c.replies.fresh ≡ []
+none_fresh found role session c h =
+    sym h.replies.fresh ∙ (h.is_shown.replies
+    ∙ none_found found h.is_shown.events (omega (arith, h.is_shown.are_events.each)))
+
+-- all that was told since is handed on
+pub all_handed : (found : Event → List Reply) (role : Role) (turns : List (List ℕ)) (session : SessionValue)
+    (c : Collected RunReplies) (handed : List (InTurn Reply)) (replies : RunReplies) → replies.tally ≡ c.replies.tally
+    → replies.fresh ≡ [] → HasTakenTurns (AreKeptSince handed) found role turns session c
+    → HasTakenTurns (AreKeptSince (handed ++ c.replies.fresh)) found role turns session
+    (record { replies = replies; ending = c.ending; has_rest = c.has_rest })
+all_handed found role turns session c handed replies tally fresh h = record {
+  shown = h.shown;
+  is_shown = h.is_shown;
+  replies = record {
+    tally = subst (λ (t : ReplyTally). IsTallyOf t h.shown.replies) (sym tally) h.replies.tally;
+    fresh =
+        h.replies.fresh ∙ (sym (append-nil (handed ++ c.replies.fresh))
+        ∙ ap (λ (l : List (InTurn Reply)). (handed ++ c.replies.fresh) ++ l) (sym fresh));
+  };
+  ending = h.ending;
+  has_rest = h.has_rest;
+  sent = h.sent;
+  exchanged = h.exchanged;
+  same_role = h.same_role;
+  limits = h.limits;
+}
+
+-- what is kept has the tally of the same replies, whatever is wanted of them from here on
+other_tally : (found : Event → List Reply) (role : Role) (turns : List (List ℕ)) (session : SessionValue)
+    (c : Collected RunReplies) (handed : List (InTurn Reply)) (tally : ReplyTally)
+    → ((l : List (InTurn Reply)) → IsTallyOf c.replies.tally l → IsTallyOf tally l)
+    → HasTakenTurns (AreKeptSince handed) found role turns session c
+    → HasTakenTurns (AreKeptSince handed) found role turns session (record {
+      replies = record { tally = tally; fresh = c.replies.fresh };
+      ending = c.ending;
+      has_rest = c.has_rest;
+    })
+other_tally found role turns session c handed tally same h = record {
+  shown = h.shown;
+  is_shown = h.is_shown;
+  replies = record { tally = same h.shown.replies h.replies.tally; fresh = h.replies.fresh };
+  ending = h.ending;
+  has_rest = h.has_rest;
+  sent = h.sent;
+  exchanged = h.exchanged;
+  same_role = h.same_role;
+  limits = h.limits;
+}
+
+module _ (tested : Role) (x v : GrowingValue) (same : x ≡ v) where
+  pub next_turn : (turns : List Turn) (n : ℕ) → n ≡ min (x.turns + 1) (2 ^ 64 - 1) → length turns + 1 < 2 ^ 64
+      → HasGrown tested turns v
+      → HasGrown tested (turns ++ new_turn ∷ []) (record {
+        due = x.due;
+        got = x.got;
+        pairing = x.pairing;
+        tested = x.tested;
+        tester = x.tester;
+        turns = n;
+        pings = x.pings;
+      })
   next_turn turns n e room grown =
-      let h = subst (λ (y : GrowingValue K). HasGrown keeps tested turns y) (sym same) grown in
+      let h = subst (λ (y : GrowingValue). HasGrown tested turns y) (sym same) grown in
       record {
-        due = subst (λ (l : List (List ℕ)). HasTakenTurns keeps due_for tested l x.tested x.due) (sym (sent_last turns new_turn)) (turn_begun due_for tested (sent_turns turns) x.tested x.due h.due);
-        got = subst (λ (l : List (List ℕ)). HasTakenTurns keeps got_in (other_role tested) l x.tester x.got) (sym (got_last turns new_turn)) (turn_begun got_in (other_role tested) (got_turns turns) x.tester x.got h.got);
+        dues = h.dues;
+        gots = h.gots;
+        due = subst (λ (l : List (List ℕ)). HasTakenTurns (AreKeptSince h.dues) due_for tested l x.tested x.due)
+            (sym (sent_last turns new_turn)) (turn_begun due_for tested (sent_turns turns) x.tested x.due h.due);
+        got = subst (λ (l : List (List ℕ)). HasTakenTurns (AreKeptSince h.gots) got_in (other_role tested) l x.tester x.got)
+            (sym (got_last turns new_turn)) (turn_begun got_in (other_role tested) (got_turns turns) x.tester x.got h.got);
+        no_due = h.no_due;
+        no_got = h.no_got;
+        pairing = h.pairing;
         count = omega (arith, e, room, h.count, length-append turns (new_turn ∷ []));
       }
 
-  module _ (before : List Turn) (turn : Turn) (grown : HasGrown keeps tested (before ++ turn ∷ []) v) where
-    h : HasGrown keeps tested (before ++ turn ∷ []) x
-    h = subst (λ (y : GrowingValue K). HasGrown keeps tested (before ++ turn ∷ []) y) (sym same) grown
+  module _ (before : List Turn) (turn : Turn) (grown : HasGrown tested (before ++ turn ∷ []) v) where
+    pub so_far : HasGrown tested (before ++ turn ∷ []) x
+    so_far = subst (λ (y : GrowingValue). HasGrown tested (before ++ turn ∷ []) y) (sym same) grown
 
     -- the number of the last turn
     pub last_number : (n : ℕ) → n ≡ x.turns - 1 → n ≡ length before
-    last_number n e = omega (arith, e, h.count, length-append before (turn ∷ []))
+    last_number n e = omega (arith, e, so_far.count, length-append before (turn ∷ []))
 
-    pub due_so_far : HasTakenTurns keeps due_for tested (sent_turns before ++ turn.sent ∷ []) x.tested x.due
-    due_so_far = subst (λ (l : List (List ℕ)). HasTakenTurns keeps due_for tested l x.tested x.due) (sent_last before turn) h.due
+    pub due_so_far : HasTakenTurns (AreKeptSince so_far.dues) due_for tested (sent_turns before ++ turn.sent ∷ []) x.tested x.due
+    due_so_far = subst (λ (l : List (List ℕ)). HasTakenTurns (AreKeptSince so_far.dues) due_for tested l x.tested x.due)
+        (sent_last before turn) so_far.due
 
-    pub got_so_far : HasTakenTurns keeps got_in (other_role tested) (got_turns before ++ turn.got ∷ []) x.tester x.got
-    got_so_far = subst (λ (l : List (List ℕ)). HasTakenTurns keeps got_in (other_role tested) l x.tester x.got) (got_last before turn) h.got
+    pub got_so_far : HasTakenTurns (AreKeptSince so_far.gots) got_in (other_role tested) (got_turns before ++ turn.got ∷ []) x.tester x.got
+    got_so_far = subst (λ (l : List (List ℕ)). HasTakenTurns (AreKeptSince so_far.gots) got_in (other_role tested) l x.tester x.got)
+        (got_last before turn) so_far.got
 
     same_count : (other : Turn) → x.turns ≡ length (before ++ other ∷ [])
-    same_count other = omega (arith, h.count, length-append before (turn ∷ []), length-append before (other ∷ []))
+    same_count other = omega (arith, so_far.count, length-append before (turn ∷ []), length-append before (other ∷ []))
 
-    -- what was got is kept for the same replies, whatever is wanted of them from here on
-    pub more_sent : (bytes : List ℕ) (session : SessionValue) (due : Collected K) (replies : K) (pings : List (List ℕ))
-        → ((l : List (InTurn Reply)) → keeps x.got.replies l → keeps replies l) → HasTakenTurns keeps due_for tested (sent_turns before ++ (turn.sent ++ bytes) ∷ []) session due
-        → HasGrown keeps tested (before ++ turn_with_sent turn bytes ∷ []) (record { due = due; got = record { replies = replies; ending = x.got.ending; has_rest = x.got.has_rest }; tested = session; tester = x.tester; turns = x.turns; pings = pings })
-    more_sent bytes session due replies pings same_replies t = record {
-      due = subst (λ (l : List (List ℕ)). HasTakenTurns keeps due_for tested l session due) (sym (sent_last before (turn_with_sent turn bytes))) t;
-      got = subst (λ (l : List (List ℕ)). HasTakenTurns keeps got_in (other_role tested) l x.tester (record { replies = replies; ending = x.got.ending; has_rest = x.got.has_rest })) (sym (got_last before (turn_with_sent turn bytes)))
-          (record {
-            shown = got_so_far.shown;
-            is_shown = got_so_far.is_shown;
-            replies = same_replies got_so_far.shown.replies got_so_far.replies;
-            ending = got_so_far.ending;
-            has_rest = got_so_far.has_rest;
-            sent = got_so_far.sent;
-            exchanged = got_so_far.exchanged;
-            same_role = got_so_far.same_role;
-            limits = got_so_far.limits;
-          });
-      count = same_count (turn_with_sent turn bytes);
-    }
+    -- a piece more was sent, what is due for it was handed on, and what was got is kept as it was
+    pub more_sent : (bytes : List ℕ) (session : SessionValue) (due : Collected RunReplies) (replies : RunReplies)
+        (tally : ReplyTally) (pairing : Pairing) (pings : List (List ℕ))
+        → HasTakenTurns (AreKeptSince so_far.dues) due_for tested (sent_turns before ++ (turn.sent ++ bytes) ∷ []) session due
+        → replies.tally ≡ due.replies.tally → replies.fresh ≡ []
+        → ((l : List (InTurn Reply)) → IsTallyOf x.got.replies.tally l → IsTallyOf tally l)
+        → ((dues gots : List (InTurn Reply)) → IsPairingOf dues gots x.pairing
+        → IsPairingOf (dues ++ due.replies.fresh) gots pairing)
+        → HasGrown tested (before ++ turn_with_sent turn bytes ∷ []) (record {
+          due = record { replies = replies; ending = due.ending; has_rest = due.has_rest };
+          got = record {
+            replies = record { tally = tally; fresh = x.got.replies.fresh };
+            ending = x.got.ending;
+            has_rest = x.got.has_rest;
+          };
+          pairing = pairing;
+          tested = session;
+          tester = x.tester;
+          turns = x.turns;
+          pings = pings;
+        })
+    more_sent bytes session due replies tally pairing pings t same_tally fresh wanted paired =
+        let dues = so_far.dues ++ due.replies.fresh in
+        let new_due : Collected RunReplies = record { replies = replies; ending = due.ending; has_rest = due.has_rest } in
+        let new_got : Collected RunReplies = record {
+          replies = record { tally = tally; fresh = x.got.replies.fresh };
+          ending = x.got.ending;
+          has_rest = x.got.has_rest;
+        } in
+        record {
+          dues = dues;
+          gots = so_far.gots;
+          due = subst (λ (l : List (List ℕ)). HasTakenTurns (AreKeptSince dues) due_for tested l session new_due)
+              (sym (sent_last before (turn_with_sent turn bytes)))
+              (all_handed due_for tested _ session due so_far.dues replies same_tally fresh t);
+          got = subst (λ (l : List (List ℕ)). HasTakenTurns (AreKeptSince so_far.gots) got_in (other_role tested) l x.tester new_got)
+              (sym (got_last before (turn_with_sent turn bytes)))
+              (other_tally got_in (other_role tested) _ x.tester x.got so_far.gots tally wanted got_so_far);
+          no_due = fresh;
+          no_got = so_far.no_got;
+          pairing = paired so_far.dues so_far.gots so_far.pairing;
+          count = same_count (turn_with_sent turn bytes);
+        }
 
-    pub more_got : (bytes : List ℕ) (session : SessionValue) (got : Collected K) (pings : List (List ℕ)) → HasTakenTurns keeps got_in (other_role tested) (got_turns before ++ (turn.got ++ bytes) ∷ []) session got
-        → HasGrown keeps tested (before ++ turn_with_got turn bytes ∷ []) (record { due = x.due; got = got; tested = x.tested; tester = session; turns = x.turns; pings = pings })
-    more_got bytes session got pings t = record {
-      due = subst (λ (l : List (List ℕ)). HasTakenTurns keeps due_for tested l x.tested x.due) (sym (sent_last before (turn_with_got turn bytes))) due_so_far;
-      got = subst (λ (l : List (List ℕ)). HasTakenTurns keeps got_in (other_role tested) l session got) (sym (got_last before (turn_with_got turn bytes))) t;
-      count = same_count (turn_with_got turn bytes);
-    }
+    -- a piece more was got, and what it says was handed on
+    pub more_got : (bytes : List ℕ) (session : SessionValue) (got : Collected RunReplies) (replies : RunReplies)
+        (pairing : Pairing) (pings : List (List ℕ))
+        → HasTakenTurns (AreKeptSince so_far.gots) got_in (other_role tested) (got_turns before ++ (turn.got ++ bytes) ∷ []) session got
+        → replies.tally ≡ got.replies.tally → replies.fresh ≡ []
+        → ((dues gots : List (InTurn Reply)) → IsPairingOf dues gots x.pairing
+        → IsPairingOf dues (gots ++ got.replies.fresh) pairing)
+        → HasGrown tested (before ++ turn_with_got turn bytes ∷ []) (record {
+          due = x.due;
+          got = record { replies = replies; ending = got.ending; has_rest = got.has_rest };
+          pairing = pairing;
+          tested = x.tested;
+          tester = session;
+          turns = x.turns;
+          pings = pings;
+        })
+    more_got bytes session got replies pairing pings t same_tally fresh paired =
+        let gots = so_far.gots ++ got.replies.fresh in
+        let new_got : Collected RunReplies = record { replies = replies; ending = got.ending; has_rest = got.has_rest } in
+        record {
+          dues = so_far.dues;
+          gots = gots;
+          due = subst (λ (l : List (List ℕ)). HasTakenTurns (AreKeptSince so_far.dues) due_for tested l x.tested x.due)
+              (sym (sent_last before (turn_with_got turn bytes))) due_so_far;
+          got = subst (λ (l : List (List ℕ)). HasTakenTurns (AreKeptSince gots) got_in (other_role tested) l session new_got)
+              (sym (got_last before (turn_with_got turn bytes)))
+              (all_handed got_in (other_role tested) _ session got so_far.gots replies same_tally fresh t);
+          no_due = so_far.no_due;
+          no_got = fresh;
+          pairing = paired so_far.dues so_far.gots so_far.pairing;
+          count = same_count (turn_with_got turn bytes);
+        }
 
 -- a turn of the transcript was sent and got
-pub turn_by_turn : {K : Type 0} {keeps : K → List (InTurn Reply) → Type 0} (turns : List Turn) (i : ℕ) (turn : Turn) (sent got : List ℕ) (tested : Role) (x : GrowingValue K) → i < length turns → turn ≡ get_or turns i turn
-    → sent ≡ turn.sent → got ≡ turn.got → HasGrown keeps tested (take i turns ++ turn_with_got (turn_with_sent new_turn sent) got ∷ []) x → HasGrown keeps tested (take (i + 1) turns) x
-turn_by_turn {K} {keeps} turns i turn sent got tested x less is s g h =
-    subst (λ (l : List Turn). HasGrown keeps tested l x) (sym (take_more turns i turn less ∙ ap (λ (t : Turn). take i turns ++ t ∷ []) (sym is)))
-    (subst (λ (l : List ℕ). HasGrown keeps tested (take i turns ++ record { sent = turn.sent; got = l } ∷ []) x) g
-    (subst (λ (l : List ℕ). HasGrown keeps tested (take i turns ++ record { sent = l; got = got } ∷ []) x) s h))
+pub turn_by_turn : (turns : List Turn) (i : ℕ) (turn : Turn) (sent got : List ℕ) (tested : Role) (x : GrowingValue) → i < length turns → turn ≡ get_or turns i turn
+    → sent ≡ turn.sent → got ≡ turn.got → HasGrown tested (take i turns ++ turn_with_got (turn_with_sent new_turn sent) got ∷ []) x → HasGrown tested (take (i + 1) turns) x
+turn_by_turn turns i turn sent got tested x less is s g h =
+    subst (λ (l : List Turn). HasGrown tested l x) (sym (take_more turns i turn less ∙ ap (λ (t : Turn). take i turns ++ t ∷ []) (sym is)))
+    (subst (λ (l : List ℕ). HasGrown tested (take i turns ++ record { sent = turn.sent; got = l } ∷ []) x) g
+    (subst (λ (l : List ℕ). HasGrown tested (take i turns ++ record { sent = l; got = got } ∷ []) x) s h))

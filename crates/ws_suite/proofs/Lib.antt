@@ -54,3 +54,6 @@ mod RightStreams
 mod LaterLooses
 mod CountedLemmas
 mod MarkedStreams
+mod PairingLemmas
+mod AstrayLemmas
+mod WaitLemmas

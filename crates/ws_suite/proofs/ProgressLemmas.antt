@@ -217,14 +217,13 @@ module _ {K : Type 0} {keeps : K → List (InTurn Reply) → Type 0} (found : Ev
 
 -- ---- the evidence as it is inside
 
-pub grown_so : {K : Type 0} {keeps : K → List (InTurn Reply) → Type 0} (tested : Role) (turns : List Turn)
-    (x v : GrowingValue K) → x ≡ v → HasGrown keeps tested turns v → HasGrown keeps tested turns x
-grown_so {K} {keeps} tested turns x v same h =
-    subst (λ (y : GrowingValue K). HasGrown keeps tested turns y) (sym same) h
+pub grown_so : (tested : Role) (turns : List Turn) (x v : GrowingValue) → x ≡ v → HasGrown tested turns v
+    → HasGrown tested turns x
+grown_so tested turns x v same h = subst (λ (y : GrowingValue). HasGrown tested turns y) (sym same) h
 
-pub same_pings : {K : Type 0} {X : Type 0} (f : List (List ℕ) → X) (x v : GrowingValue K) → x ≡ v
+pub same_pings : {X : Type 0} (f : List (List ℕ) → X) (x v : GrowingValue) → x ≡ v
     → f x.pings ≡ f v.pings
-same_pings {K} f x v same = ap (λ (y : GrowingValue K). f y.pings) same
+same_pings f x v same = ap (λ (y : GrowingValue). f y.pings) same
 
 pub or_other : (a b : Bool) → (a || b) ≡ (b || a)
 or_other true true = refl

@@ -88,9 +88,9 @@ rest_told laws role before bytes events told some has places = (
     pick rest false e = absurd (no_rest_is_there laws role before bytes events told some (grind (arith, nat_tests)) has places rest)
 
 -- a piece of the last turn that the session took
-module _ {K : Type 0} {keeps : K → List (InTurn Reply) → Type 0} (laws : EventLaws) (way : Way) (role : Role) (turns : List (List ℕ)) (last piece key x y : List ℕ) (first placed : List PlacedEvent)
+module _ {K : Type 0} {keeps : List (InTurn Reply) → K → List (InTurn Reply) → Type 0} (handed : List (InTurn Reply)) (laws : EventLaws) (way : Way) (role : Role) (turns : List (List ℕ)) (last piece key x y : List ℕ) (first placed : List PlacedEvent)
     (old new : SessionValue) (a b : Collected K) (some : 0 < length piece) (empty : first ≡ []) (taken : HasTakenAll reply_to old new (record { piece = piece; key = key; before = x; after = y }) first placed)
-    (h : HasTakenWay keeps way role (turns ++ last ∷ []) old a) (kept : new.role ≡ old.role) (limits : new.limits ≡ old.limits)
+    (h : HasTakenWay (keeps handed) way role (turns ++ last ∷ []) old a) (kept : new.role ≡ old.role) (limits : new.limits ≡ old.limits)
     (are : AreCollected keeps way (length turns) (events_in placed) (make_collected a (nat_lt (last_end placed) (length piece))) b) where
   abbrev before : List (List ℕ)
   before = turns ++ last ∷ []
@@ -170,7 +170,7 @@ module _ {K : Type 0} {keeps : K → List (InTurn Reply) → Type 0} (laws : Eve
       ap (λ (l : List (InTurn X)). l ++ at_turn (length turns) (flat_map found added)) (e ∙ ap (λ (l : List (List Event)). by_turn found 0 l) apart.2)
       ∙ ap (λ (n : ℕ). by_turn found 0 (front ++ told ∷ []) ++ at_turn n (flat_map found added)) (let n : length turns ≡ 0 + length front = omega (arith, as_many) in n) ∙ sym (by_turn_grown found front told added)
 
-  pub piece_taken : HasTakenWay keeps way role (turns ++ (last ++ piece) ∷ []) new b
+  pub piece_taken : HasTakenWay (keeps handed) way role (turns ++ (last ++ piece) ∷ []) new b
   piece_taken = record {
     shown = record { replies = by_turn (found_by way) 0 after; ending = last_or None (by_turn ending_in 0 after); has_rest = nat_lt (last_end placed) (length piece) };
     is_shown = record {
@@ -183,7 +183,7 @@ module _ {K : Type 0} {keeps : K → List (InTurn Reply) → Type 0} (laws : Eve
           (subst (λ (l : List Event). (nat_lt (last_end placed) (length piece) ≡ true) ↔ HasRest role (concat before ++ piece) l) (sym all_events)
           (rest_told laws role (concat before) piece (joined_events events) placed some whole places));
     };
-    replies = subst (λ (l : List (InTurn Reply)). keeps b.replies l) (more_found (found_by way) h.shown.replies h.is_shown.replies) (are.replies h.shown.replies h.replies);
+    replies = subst (λ (l : List (InTurn Reply)). keeps handed b.replies l) (more_found (found_by way) h.shown.replies h.is_shown.replies) (are.replies handed h.shown.replies h.replies);
     ending =
         are.ending ∙ ap (λ (o : Option (InTurn Ending)). last_or o (at_turn (length turns) (flat_map ending_in added))) (h.ending ∙ h.is_shown.ending)
         ∙ sym (last_joined None (by_turn ending_in 0 events) (at_turn (length turns) (flat_map ending_in added)))
@@ -261,11 +261,11 @@ module _ (piece key x y : List ℕ) (old new : SessionValue) (t : Taken) (less :
   rest_after some (Some event) = let all : length (take t.used piece) ≤ max t.used 0 = omega (arith, size) in grind (arith, nat_tests, all)
 
   -- the front was taken and its event, if there is one, collected
-  pub front_taken_too : {K : Type 0} {keeps : K → List (InTurn Reply) → Type 0} (laws : EventLaws) (way : Way) (role : Role) (turns : List (List ℕ)) (last : List ℕ) (a b : Collected K) → 0 < t.used
-      → HasTakenWay keeps way role (turns ++ last ∷ []) old a → AreCollected keeps way (length turns) (option_to_list t.event) (make_collected a (is_none t.event)) b
-      → HasTakenWay keeps way role (turns ++ (last ++ take t.used piece) ∷ []) new b
-  front_taken_too {K} {keeps} laws way role turns last a b some h are =
-      piece_taken laws way role turns last (take t.used piece) key x y [] (placed_in t.event t.used) old new a b (omega (arith, size, some)) refl front_is_whole h same limits
+  pub front_taken_too : {K : Type 0} {keeps : List (InTurn Reply) → K → List (InTurn Reply) → Type 0} (handed : List (InTurn Reply)) (laws : EventLaws) (way : Way) (role : Role) (turns : List (List ℕ)) (last : List ℕ) (a b : Collected K) → 0 < t.used
+      → HasTakenWay (keeps handed) way role (turns ++ last ∷ []) old a → AreCollected keeps way (length turns) (option_to_list t.event) (make_collected a (is_none t.event)) b
+      → HasTakenWay (keeps handed) way role (turns ++ (last ++ take t.used piece) ∷ []) new b
+  front_taken_too {K} {keeps} handed laws way role turns last a b some h are =
+      piece_taken handed laws way role turns last (take t.used piece) key x y [] (placed_in t.event t.used) old new a b (omega (arith, size, some)) refl front_is_whole h same limits
       (subst (λ (r : Bool). AreCollected keeps way (length turns) (events_in (placed_in t.event t.used)) (make_collected a r) b) (rest_after some t.event)
       (subst (λ (l : List Event). AreCollected keeps way (length turns) l (make_collected a (is_none t.event)) b) (sym (events_placed t.event t.used)) are))
 

@@ -152,11 +152,11 @@ tallies_see Protocol x due got d g h =
     inl (there_pong (due_pongs x) (got_pongs x) due.last_pong got.last_pong (sym d.last_pong) (sym g.last_pong) h)
 
 module _ (laws : EventLaws) (expected : Expectation) (tested : Role) (turns : List Turn)
-    (x v : GrowingValue ReplyTally) (r : Bool) (same : x ≡ v)
-    (tells : (r ≡ true) ↔ AnswersTallyBy expected x.due.replies x.got.replies)
-    (grown : HasGrown IsTallyOf tested turns v) where
-  h : HasGrown IsTallyOf tested turns x
-  h = subst (λ (y : GrowingValue ReplyTally). HasGrown IsTallyOf tested turns y) (sym same) grown
+    (x v : GrowingValue) (r : Bool) (same : x ≡ v)
+    (tells : (r ≡ true) ↔ AnswersTallyBy expected x.due.replies.tally x.got.replies.tally)
+    (grown : HasGrown tested turns v) where
+  h : HasGrown tested turns x
+  h = subst (λ (y : GrowingValue). HasGrown tested turns y) (sym same) grown
 
   shown : Evidence
   shown = record {
@@ -180,7 +180,7 @@ module _ (laws : EventLaws) (expected : Expectation) (tested : Role) (turns : Li
   -- what a run sees in these turns is told
   pub tells_seen : AreTurnsSeenAnswered expected tested turns → r ≡ true
   unfolding shown h
-  tells_seen a = tells.1 (tallies_see expected shown x.due.replies x.got.replies h.due.replies h.got.replies
+  tells_seen a = tells.1 (tallies_see expected shown x.due.replies.tally x.got.replies.tally h.due.replies.tally h.got.replies.tally
       (subst (λ (v : Evidence). IsSeenAnswered expected v)
       (one_evidence laws tested (record { turns = turns; ended = Tester }) a.evidence shown a.is_evidence is) a.answered))
 
@@ -190,5 +190,5 @@ module _ (laws : EventLaws) (expected : Expectation) (tested : Role) (turns : Li
   tells_come e = record {
     evidence = shown;
     is_evidence = is;
-    answered = tallies_tell_by expected shown x.due.replies x.got.replies h.due.replies h.got.replies (tells.0 e);
+    answered = tallies_tell_by expected shown x.due.replies.tally x.got.replies.tally h.due.replies.tally h.got.replies.tally (tells.0 e);
   }

@@ -1,6 +1,7 @@
 -- Evidence that grows with a connection: what went over it so far, turn by turn, and in a turn piece by piece.
-use Rattle.std.specs.Prelude.{◌≡◌, ℕ, ◌<◌, ◌≤◌, Bool, true, false, ⊤, List, [], ◌∷◌, ◌++◌, length, Option, Some, None}
-use Rattle.std.specs.List.{concat, last_or}
+use Rattle.std.specs.Prelude.{◌≡◌, ℕ, ◌<◌, ◌≤◌, ◌⊎◌, Bool, true, false, ⊤, List, [], ◌∷◌, ◌++◌, length}
+use Rattle.std.specs.Prelude.{Option, Some, None}
+use Rattle.std.specs.List.{concat, last_or, list_any}
 use Rattle.ws_wire.specs.declared.role.Role.{Role}
 use Rattle.ws_wire.specs.Frame.{Frame}
 use Rattle.ws_session.specs.declared.event.Event.{Event}
@@ -17,9 +18,13 @@ use Rattle.ws_suite.specs.declared.evidence.Evidence.{Evidence}
 use Rattle.ws_suite.specs.declared.evidence.collecting.Collected.{Collected}
 use Rattle.ws_suite.specs.declared.evidence.keeping.AllReplies.{AllReplies}
 use Rattle.ws_suite.specs.declared.evidence.keeping.ReplyTally.{ReplyTally}
+use Rattle.ws_suite.specs.declared.evidence.keeping.RunReplies.{RunReplies}
+use Rattle.ws_suite.specs.declared.evidence.pairing.Pairing.{Pairing}
 use Rattle.ws_suite.specs.Evidence.{IsDirectionOf, IsEvidenceOf, due_for, got_in, got_turns, other_role, sent_turns}
-use Rattle.ws_suite.specs.Matching.{HasLastPong, IsShortOfMessages, due_messages, due_pongs, got_messages}
-use Rattle.ws_suite.specs.Matching.{message_replies, pong_replies}
+use Rattle.ws_suite.specs.Matching.{HasLastPong, IsBeginningOf, IsShortOfMessages, bare, due_messages, due_pongs}
+use Rattle.ws_suite.specs.Matching.{got_messages, matches, message_replies, pong_replies}
+use Rattle.ws_suite.specs.Pairings.{IsPairingOf}
+use Rattle.ws_suite.specs.Verdicts.{is_unmatched}
 
 -- ---- turns that grow
 
@@ -46,12 +51,23 @@ pub record AreTurnsAnswered (tested : Role) (turns : List Turn) : Type 0 where
   pub is_evidence : IsEvidenceOf tested (record { turns = turns; ended = Tester }) evidence
   pub answered : IsAnswered evidence
 
--- More messages were got than are due, by what these turns show: so those that were got are no beginning of those due,
--- and can't become them.
-pub record HaveUnowedMessage (tested : Role) (turns : List Turn) : Type 0 where
+-- ---- what is due can't come any more
+
+-- the messages that were got are all that are due, and no others
+abbrev pub AreAllMessages : Evidence → Type 0
+AreAllMessages x = bare (got_messages x) ≡ bare (due_messages x)
+
+-- What was got can't become what is due, whatever comes: the messages are no beginning of those due, or they are all
+-- there, and a pong has no match. Nothing is asked of the turns in which they came.
+abbrev pub CannotCome : Evidence → Type 0
+CannotCome x = (¬ (IsBeginningOf (bare (got_messages x)) (bare (due_messages x))))
+    ⊎ (AreAllMessages x × (list_any is_unmatched (matches x) ≡ true))
+
+-- by what these turns show
+pub record CannotComeAfter (tested : Role) (turns : List Turn) : Type 0 where
   pub evidence : Evidence
   pub is_evidence : IsEvidenceOf tested (record { turns = turns; ended = Tester }) evidence
-  pub more : length (due_messages evidence) < length (got_messages evidence)
+  pub cannot : CannotCome evidence
 
 -- What these turns have got ends inside a frame, by what they show: bytes stand behind its last event, as the verdict
 -- on frames asks for it.
@@ -93,18 +109,25 @@ IsAnsweredPong None got = ⊤
 IsAnsweredPong (Some due) None = ⊥
 IsAnsweredPong (Some due) (Some got) = (got.what ≡ due.what) × (due.turn ≤ got.turn)
 
+-- what a run keeps of the replies: the tally of all, and those that were told since these were handed on
+pub record AreKeptSince (handed : List (InTurn Reply)) (kept : RunReplies) (replies : List (InTurn Reply))
+    : Type 0 where
+  pub tally : IsTallyOf kept.tally replies
+  pub fresh : replies ≡ handed ++ kept.fresh
+
 -- by what is kept, what is due has come
 abbrev pub AnswersTally : ReplyTally → ReplyTally → Type 0
 AnswersTally due got = (due.messages ≤ got.messages) × IsAnsweredPong due.last_pong got.last_pong
 
 -- ---- the evidence that grows
 
--- both directions as they were collected, with what is kept of their replies; the sessions of the tested end, which has
--- taken what was sent, and of the tester, which has taken what was got; how many turns have begun; and the pings that
--- were sent and aren't answered yet
-pub record GrowingValue (K : Type 0) : Type 0 where
-  pub due : Collected K
-  pub got : Collected K
+-- both directions as they were collected, with what is kept of their replies; what has come of comparing them; the
+-- sessions of the tested end, which has taken what was sent, and of the tester, which has taken what was got; how many
+-- turns have begun; and the pings that were sent and aren't answered yet
+pub record GrowingValue : Type 0 where
+  pub due : Collected RunReplies
+  pub got : Collected RunReplies
+  pub pairing : Pairing
   pub tested : SessionValue
   pub tester : SessionValue
   pub turns : ℕ
@@ -125,10 +148,15 @@ pub record HasTakenTurns {K : Type 0} (keeps : K → List (InTurn Reply) → Typ
   pub limits : session.limits ≡ most_limits
 
 -- It has grown with just these turns, where the tested end has this role: so it shows the evidence of them.
-pub record HasGrown {K : Type 0} (keeps : K → List (InTurn Reply) → Type 0) (tested : Role) (turns : List Turn)
-    (x : GrowingValue K) : Type 0 where
-  pub due : HasTakenTurns keeps due_for tested (sent_turns turns) x.tested x.due
-  pub got : HasTakenTurns keeps got_in (other_role tested) (got_turns turns) x.tester x.got
+-- All replies of both directions were handed on, to be compared.
+pub record HasGrown (tested : Role) (turns : List Turn) (x : GrowingValue) : Type 0 where
+  pub dues : List (InTurn Reply)
+  pub gots : List (InTurn Reply)
+  pub due : HasTakenTurns (AreKeptSince dues) due_for tested (sent_turns turns) x.tested x.due
+  pub got : HasTakenTurns (AreKeptSince gots) got_in (other_role tested) (got_turns turns) x.tester x.got
+  pub no_due : x.due.replies.fresh ≡ []
+  pub no_got : x.got.replies.fresh ≡ []
+  pub pairing : IsPairingOf dues gots x.pairing
   pub count : x.turns ≡ length turns
 
 -- ---- how a session stands whose stream has not ended

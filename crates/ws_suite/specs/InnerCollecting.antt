@@ -80,10 +80,10 @@ HasTakenWay keeps way role turns session collected =
     HasTakenTurns keeps (found_by way) role turns session collected
 
 -- events of one turn are collected after what was
-pub record AreCollected {K : Type 0} (keeps : K → List (InTurn Reply) → Type 0) (way : Way) (turn : ℕ)
-    (events : List Event) (old new : Collected K) : Type 0 where
-  pub replies : (replies : List (InTurn Reply)) → keeps old.replies replies
-      → keeps new.replies (replies ++ at_turn turn (flat_map (found_by way) events))
+pub record AreCollected {K : Type 0} (keeps : List (InTurn Reply) → K → List (InTurn Reply) → Type 0) (way : Way)
+    (turn : ℕ) (events : List Event) (old new : Collected K) : Type 0 where
+  pub replies : (handed replies : List (InTurn Reply)) → keeps handed old.replies replies
+      → keeps handed new.replies (replies ++ at_turn turn (flat_map (found_by way) events))
   pub ending : new.ending ≡ last_or old.ending (at_turn turn (flat_map ending_in events))
   pub has_rest : new.has_rest ≡ old.has_rest
 

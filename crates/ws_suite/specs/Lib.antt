@@ -8,6 +8,7 @@ pub mod Protocol
 pub mod Explanation
 pub mod Fairness
 pub mod AppFairness
+pub mod Pairings
 pub mod Progress
 pub mod Growing
 pub mod Waiting
@@ -22,4 +23,6 @@ pub mod InnerChosen
 pub mod InnerAnswered
 pub mod InnerInStep
 pub mod InnerTally
+pub mod InnerWaiting
+pub mod InnerPairing
 pub mod InnerProgress

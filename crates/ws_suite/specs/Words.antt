@@ -43,23 +43,24 @@ verdict_words (Fail why) = codes "FAIL " ++ fail_name why
 -- the rule that was broken, where the tested end has this role
 abbrev pub fail_rule : Role → FailWhy → List ℕ
 fail_rule Server fail.NotFrames =
-    codes "Whatever a server sends must be valid: whole unmasked frames in a valid order, with valid lengths "
-    ++ codes "and close payloads (RFC 6455 section 5), text in UTF-8 (section 8.1), and nothing after its close "
-    ++ codes "frame (ours)"
+    codes "All that a server sends must be valid (the last `got` line says what was not): whole unmasked frames "
+    ++ codes "in a valid order, with valid lengths and close payloads (RFC 6455 section 5), text in UTF-8 "
+    ++ codes "(section 8.1), and nothing after its close frame (ours)"
 fail_rule Client fail.NotFrames =
-    codes "Whatever a client sends must be valid: whole masked frames in a valid order, with valid lengths and "
-    ++ codes "close payloads (RFC 6455 section 5), text in UTF-8 (section 8.1), and nothing after its close frame "
-    ++ codes "(ours)"
+    codes "All that a client sends must be valid (the last `got` line says what was not): whole masked frames "
+    ++ codes "in a valid order, with valid lengths and close payloads (RFC 6455 section 5), text in UTF-8 "
+    ++ codes "(section 8.1), and nothing after its close frame (ours)"
 fail_rule tested fail.Early =
     codes "A pong, a close frame or an echo is sent only after what it answers (ours; RFC 6455 allows "
     ++ codes "unprompted pongs in section 5.5.3 and, from a server, an unprompted close in section 7.3)"
 fail_rule tested fail.Messages =
     codes "An echo sends back each message, in order, with its kind and payload (ours; RFC 6455 sections 5.4 "
-    ++ codes "and 5.6 define a message); if a violation was sent, messages just before it may be missing"
+    ++ codes "and 5.6 define a message); after a violation nothing is sent back, and messages just before it may "
+    ++ codes "be missing"
 fail_rule tested fail.Pongs =
-    codes "Each pong has the payload of the ping that it answers (RFC 6455 section 5.5.3); a ping is answered "
-    ++ codes "at most once (ours), one that is or follows a violation not at all (section 7.1.7), and the last of "
-    ++ codes "the others always (section 5.5.2)"
+    codes "A pong answers a ping (ours) with its payload (RFC 6455 section 5.5.3), and no ping is answered twice "
+    ++ codes "(ours). The last ping, or the last before a violation, is always answered (section 5.5.2), and none "
+    ++ codes "after a violation (section 7.1.7)"
 fail_rule tested fail.Close =
     codes "A close frame is answered by a close frame (RFC 6455 section 5.5.1), and none is sent unless a "
     ++ codes "close frame or a violation was received (ours)"
@@ -102,7 +103,7 @@ loose_rule tested loose.LateFault =
     ++ codes "frame with the violation, or the message with invalid text, was not sent completely"
 loose_rule tested loose.Tolerated =
     codes "A sender keeps the rules for lengths, fragments and control frames (RFC 6455 sections 5.2, 5.4 and "
-    ++ codes "5.5); if it breaks one, the RFC does not order the receiver to fail the connection"
+    ++ codes "5.5); if it breaks one, the receiver may fail the connection or not"
 loose_rule tested loose.NoClose =
     codes "An endpoint that receives a close frame sends one (RFC 6455 section 5.5.1), unless it ended the "
     ++ codes "connection before it read that frame"
@@ -116,12 +117,13 @@ loose_rule tested loose.TooBig =
 -- the rule of the standard that an end broke which needn't echo; it has no rule that an echo alone keeps
 abbrev pub protocol_rule : Role → FailWhy → List ℕ
 protocol_rule Server fail.NotFrames =
-    codes "Whatever a server sends must be valid: whole unmasked frames in a valid order (RFC 6455 section 5), "
-    ++ codes "text in UTF-8 (section 8.1), close codes that may be sent (section 7.4) and no data frame after its "
-    ++ codes "close frame (section 5.5.1)"
+    codes "All that a server sends must be valid (the last `got` line says what was not): whole unmasked frames "
+    ++ codes "in a valid order (RFC 6455 section 5), text in UTF-8 (section 8.1), close codes that may be sent "
+    ++ codes "(section 7.4) and no data frame after its close frame (section 5.5.1)"
 protocol_rule Client fail.NotFrames =
-    codes "Whatever a client sends must be valid: whole masked frames in a valid order (RFC 6455 section 5), "
-    ++ codes "text in UTF-8 (section 8.1) and close codes that may be sent (section 7.4)"
+    codes "All that a client sends must be valid (the last `got` line says what was not): whole masked frames "
+    ++ codes "in a valid order (RFC 6455 section 5), text in UTF-8 (section 8.1) and close codes that may be sent "
+    ++ codes "(section 7.4)"
 protocol_rule tested fail.Early = fail_rule tested fail.Early
 protocol_rule tested fail.Messages = fail_rule tested fail.Messages
 protocol_rule tested fail.Pongs =

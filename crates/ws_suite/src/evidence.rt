@@ -11,6 +11,7 @@ mod growing;
 mod keeping;
 mod kept;
 mod marks;
+mod pairing;
 mod streams;
 mod telling;
 mod unanswered;
@@ -18,8 +19,8 @@ mod watching;
 mod wire_frames;
 
 pub(crate) use doom::with_doom;
-pub use growing::{GrowingEvidence, RunEvidence};
-pub use keeping::{KeepsReplies, ReplyTally};
+pub use growing::RunEvidence;
+pub(crate) use keeping::KeepsReplies;
 pub(crate) use kept::is_same;
 pub use kept::{Kept, Replies, ReplyKind, Walk};
 pub(crate) use marks::{MarkedEvidence, Marks, marked};

@@ -15,10 +15,7 @@ mod lemmas;
 mod rules;
 mod verdict;
 
-pub use evidence::{
-    Direction, Ending, GrowingEvidence, InTurn, KeepsReplies, Kept, Replies, Reply, ReplyKind,
-    ReplyTally, RunEvidence, Walk,
-};
+pub use evidence::{Direction, Ending, InTurn, Kept, Replies, Reply, ReplyKind, RunEvidence, Walk};
 pub use explaining::{Explanation, explain, explain_with};
 pub use judging::{judge, judge_end, judge_with};
 pub use rules::{rule, rule_with};

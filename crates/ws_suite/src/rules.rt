@@ -41,25 +41,25 @@ fn fail_rule(tested: Role, why: FailWhy) -> &'static str
     match why {
         FailWhy::NotFrames => match tested {
             Role::Server =>
-                "Whatever a server sends must be valid: whole unmasked frames in a valid order, with valid lengths \
-                 and close payloads (RFC 6455 section 5), text in UTF-8 (section 8.1), and nothing after its close \
-                 frame (ours)",
+                "All that a server sends must be valid (the last `got` line says what was not): whole unmasked \
+                 frames in a valid order, with valid lengths and close payloads (RFC 6455 section 5), text in UTF-8 \
+                 (section 8.1), and nothing after its close frame (ours)",
             Role::Client =>
-                "Whatever a client sends must be valid: whole masked frames in a valid order, with valid lengths \
-                 and close payloads (RFC 6455 section 5), text in UTF-8 (section 8.1), and nothing after its close \
-                 frame (ours)",
+                "All that a client sends must be valid (the last `got` line says what was not): whole masked \
+                 frames in a valid order, with valid lengths and close payloads (RFC 6455 section 5), text in UTF-8 \
+                 (section 8.1), and nothing after its close frame (ours)",
         },
         FailWhy::Early =>
             "A pong, a close frame or an echo is sent only after what it answers (ours; RFC 6455 allows \
              unprompted pongs in section 5.5.3 and, from a server, an unprompted close in section 7.3)",
         FailWhy::Messages =>
             "An echo sends back each message, in order, with its kind and payload (ours; RFC 6455 \
-             sections 5.4 and 5.6 define a message); if a violation was sent, messages just before \
-             it may be missing",
+             sections 5.4 and 5.6 define a message); after a violation nothing is sent back, and \
+             messages just before it may be missing",
         FailWhy::Pongs =>
-            "Each pong has the payload of the ping that it answers (RFC 6455 section 5.5.3); a ping is answered at \
-             most once (ours), one that is or follows a violation not at all (section 7.1.7), and the last of the \
-             others always (section 5.5.2)",
+            "A pong answers a ping (ours) with its payload (RFC 6455 section 5.5.3), and no ping is answered twice \
+             (ours). The last ping, or the last before a violation, is always answered (section 5.5.2), and none \
+             after a violation (section 7.1.7)",
         FailWhy::Close =>
             "A close frame is answered by a close frame (RFC 6455 section 5.5.1), and none is sent unless \
              a close frame or a violation was received (ours)",
@@ -116,7 +116,7 @@ fn loose_rule(tested: Role, why: LooseWhy) -> &'static str
              the frame with the violation, or the message with invalid text, was not sent completely",
         LooseWhy::Tolerated =>
             "A sender keeps the rules for lengths, fragments and control frames (RFC 6455 sections 5.2, \
-             5.4 and 5.5); if it breaks one, the RFC does not order the receiver to fail the connection",
+             5.4 and 5.5); if it breaks one, the receiver may fail the connection or not",
         LooseWhy::NoClose =>
             "An endpoint that receives a close frame sends one (RFC 6455 section 5.5.1), unless it ended \
              the connection before it read that frame",
@@ -136,12 +136,13 @@ fn protocol_rule(tested: Role, why: FailWhy) -> &'static str
     match why {
         FailWhy::NotFrames => match tested {
             Role::Server =>
-                "Whatever a server sends must be valid: whole unmasked frames in a valid order (RFC 6455 section \
-                 5), text in UTF-8 (section 8.1), close codes that may be sent (section 7.4) and no data frame \
-                 after its close frame (section 5.5.1)",
+                "All that a server sends must be valid (the last `got` line says what was not): whole unmasked \
+                 frames in a valid order (RFC 6455 section 5), text in UTF-8 (section 8.1), close codes that may be \
+                 sent (section 7.4) and no data frame after its close frame (section 5.5.1)",
             Role::Client =>
-                "Whatever a client sends must be valid: whole masked frames in a valid order (RFC 6455 section 5), \
-                 text in UTF-8 (section 8.1) and close codes that may be sent (section 7.4)",
+                "All that a client sends must be valid (the last `got` line says what was not): whole masked \
+                 frames in a valid order (RFC 6455 section 5), text in UTF-8 (section 8.1) and close codes that may \
+                 be sent (section 7.4)",
         },
         FailWhy::Early | FailWhy::Messages => fail_rule(tested, why),
         FailWhy::Pongs =>

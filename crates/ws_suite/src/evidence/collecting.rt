@@ -5,6 +5,8 @@ ghost use Rattle.std.specs.Prelude.{option_to_list};
 ghost use Rattle.ws_wire.specs.declared.role.Role.{Role};
 ghost use Rattle.ws_session.specs.Exchange.{is_over};
 ghost use Rattle.ws_session.specs.Lent.{event_if_any, event_in};
+ghost use Rattle.ws_suite.specs.declared.evidence.InTurn.{InTurn};
+ghost use Rattle.ws_suite.specs.declared.evidence.Reply.{Reply};
 ghost use Rattle.ws_suite.specs.Evidence.{ending_in};
 ghost use Rattle.ws_suite.specs.InnerCollecting.{AreCollected, EventLaws, HasTakenWay, found_by, reply_if_any};
 ghost use Rattle.ws_suite.specs.InnerMarks.{HasSeenBytes, seen_if_any, seen_with};
@@ -72,7 +74,7 @@ impl Rooms {
 
 /// A direction of which an end with this role has taken nothing.
 pub(super) fn nothing_taken<K: KeepsReplies>(alloc: Global, way: Way, role: Role) -> Taken<K>
-    ensures taken { HasTakenWay K.keeps way role [] result.session result.collected }
+    ensures taken { HasTakenWay (K.keeps []) way role [] result.session result.collected }
     ensures seen { HasSeenBytes role result.session [] result.seen }
 {
     Taken {
@@ -95,9 +97,10 @@ pub(super) fn take_piece<K: KeepsReplies>(
     rooms: &mut Rooms,
     taken: &mut Taken<K>,
 ) -> Result<(), NoMemory>
-    ensures taken { (role : Role) (turns : List (List ℕ)) (last : List ℕ) → number ≡ length turns →
-        HasTakenWay K.keeps way role (turns ++ last ∷ []) taken.old.session taken.old.collected →
-        OnOk result (HasTakenWay K.keeps way role (turns ++ (last ++ piece.now) ∷ [])
+    ensures taken { (handed : List (InTurn Reply)) (role : Role) (turns : List (List ℕ)) (last : List ℕ) →
+        number ≡ length turns →
+        HasTakenWay (K.keeps handed) way role (turns ++ last ∷ []) taken.old.session taken.old.collected →
+        OnOk result (HasTakenWay (K.keeps handed) way role (turns ++ (last ++ piece.now) ∷ [])
         taken.new.session taken.new.collected) }
     ensures seen { (role : Role) (bytes : List ℕ) → HasSeenBytes role taken.old.session bytes taken.old.seen →
         OnOk result (HasSeenBytes role taken.new.session (bytes ++ piece.now) taken.new.seen) }
@@ -120,9 +123,10 @@ fn take_part<K: KeepsReplies>(
     rooms: &mut Rooms,
     taken: &mut Taken<K>,
 ) -> Result<(), NoMemory>
-    ensures taken { (role : Role) (turns : List (List ℕ)) (last : List ℕ) → number ≡ length turns →
-        HasTakenWay K.keeps way role (turns ++ last ∷ []) taken.old.session taken.old.collected →
-        OnOk result (HasTakenWay K.keeps way role (turns ++ (last ++ part.now) ∷ [])
+    ensures taken { (handed : List (InTurn Reply)) (role : Role) (turns : List (List ℕ)) (last : List ℕ) →
+        number ≡ length turns →
+        HasTakenWay (K.keeps handed) way role (turns ++ last ∷ []) taken.old.session taken.old.collected →
+        OnOk result (HasTakenWay (K.keeps handed) way role (turns ++ (last ++ part.now) ∷ [])
         taken.new.session taken.new.collected) }
     ensures seen { (role : Role) (bytes : List ℕ) → HasSeenBytes role taken.old.session bytes taken.old.seen →
         OnOk result (HasSeenBytes role taken.new.session (bytes ++ part.now) taken.new.seen) }
@@ -151,9 +155,10 @@ pub(super) fn take_front<K: KeepsReplies>(
     ensures used { IfOk result (λ front. (0 < front.used) × (front.used ≤ length piece.now)) }
     ensures told { IfOk result (λ front. TellsAdded taken.old.session taken.new.session (take front.used piece.now)
         (option_to_list (event_if_any front.event rooms.new.told))) }
-    ensures taken { EventLaws → (role : Role) (turns : List (List ℕ)) (last : List ℕ) → number ≡ length turns →
-        HasTakenWay K.keeps way role (turns ++ last ∷ []) taken.old.session taken.old.collected →
-        IfOk result (λ front. HasTakenWay K.keeps way role (turns ++ (last ++ take front.used piece.now) ∷ [])
+    ensures taken { EventLaws → (handed : List (InTurn Reply)) (role : Role) (turns : List (List ℕ)) (last : List ℕ) →
+        number ≡ length turns →
+        HasTakenWay (K.keeps handed) way role (turns ++ last ∷ []) taken.old.session taken.old.collected →
+        IfOk result (λ front. HasTakenWay (K.keeps handed) way role (turns ++ (last ++ take front.used piece.now) ∷ [])
         taken.new.session taken.new.collected) }
     ensures seen { (role : Role) (bytes : List ℕ) → HasSeenBytes role taken.old.session bytes taken.old.seen →
         IfOk result (λ front. HasSeenBytes role taken.new.session (bytes ++ take front.used piece.now)

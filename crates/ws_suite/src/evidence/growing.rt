@@ -7,15 +7,18 @@ ghost use Rattle.ws_wire.specs.declared.role.Role.{Role};
 ghost use Rattle.ws_scripts.specs.declared.transcript.Turn.{Turn};
 ghost use Rattle.ws_session.specs.Exchange.{is_over};
 ghost use Rattle.ws_suite.specs.Evidence.{other_role};
-ghost use Rattle.ws_suite.specs.Growing.{AreTurnsAnswered, EndInsideFrame, HasGrown, HaveUnowedMessage, IsTallyOf};
+ghost use Rattle.ws_suite.specs.Growing.{AreTurnsAnswered, CannotComeAfter, EndInsideFrame, HasGrown};
 ghost use Rattle.ws_suite.specs.Growing.{is_clean, is_failed, new_turn, turn_with_got, turn_with_sent};
 ghost use Rattle.ws_suite.specs.InnerCollecting.{HasTakenWay};
 ghost use Rattle.ws_suite.specs.Progress.{EndInOtherFrame, NotesGot, NotesSent};
+ghost use Rattle.ws_suite.specs.declared.evidence.InTurn.{InTurn};
+ghost use Rattle.ws_suite.specs.declared.evidence.Reply.{Reply};
 ghost use Rattle.ws_suite.specs.declared.evidence.collecting.Way.{Way};
 ghost use Rattle.ws_suite.specs.Waiting.{AreTurnsAnsweredBy, AreTurnsSeenAnswered};
 
 use crate::evidence::collecting::{Rooms, Taken, Way, nothing_taken};
-use crate::evidence::keeping::{KeepsReplies, ReplyTally};
+use crate::evidence::keeping::{KeepsReplies, RunReplies};
+use crate::evidence::pairing::Pairing;
 use crate::evidence::unanswered::UnansweredPings;
 use crate::evidence::watching::take_watched;
 use crate::lemmas::{frame_laws, session_laws};
@@ -27,29 +30,27 @@ use ws_session::Status;
 use ws_wire::Role;
 
 /// What went over a connection so far, as far as it shows whether the tested end keeps the rules: what is due for what
-/// was sent, what was got, and how the sessions of both ends stand. `K` keeps the replies. After `NoMemory` it shows
-/// nothing more.
+/// was sent, what was got, and how the sessions of both ends stand. It takes memory for the messages that are under
+/// way, and for what isn't answered yet. After `NoMemory` it shows nothing more.
 #[derive(Drop)]
-pub struct GrowingEvidence<K> {
+pub struct RunEvidence {
     rooms: Rooms,
-    sent: Taken<K>,
-    got: Taken<K>,
+    sent: Taken<RunReplies>,
+    got: Taken<RunReplies>,
+    pairing: Pairing,
     turns: usize,
     unanswered: UnansweredPings,
 }
 
-/// The evidence of a run that goes on. It takes memory for the messages that are under way, and for the payloads of
-/// pings that aren't answered.
-pub type RunEvidence = GrowingEvidence<ReplyTally>;
-
-impl<K> Model for GrowingEvidence<K> {
+impl Model for RunEvidence {
     ghost use Rattle.ws_suite.specs.Growing.{GrowingValue};
 
-    ghost Value = { GrowingValue K };
+    ghost Value = { GrowingValue };
 
     ghost view = { λ x. record {
       due = x.sent.collected;
       got = x.got.collected;
+      pairing = x.pairing;
       tested = x.sent.session;
       tester = x.got.session;
       turns = x.turns;
@@ -57,16 +58,17 @@ impl<K> Model for GrowingEvidence<K> {
     } };
 }
 
-impl<K: KeepsReplies> GrowingEvidence<K> {
+impl RunEvidence {
     /// Nothing went over the connection, and no turn has begun. The tested end has this role.
-    pub fn new(alloc: Global, tested: Role) -> GrowingEvidence<K>
-        ensures grown { HasGrown K.keeps tested [] result }
+    pub fn new(alloc: Global, tested: Role) -> RunEvidence
+        ensures grown { HasGrown tested [] result }
         ensures pings { result.pings ≡ [] }
     {
-        GrowingEvidence {
+        RunEvidence {
             rooms: Rooms::new(alloc),
             sent: nothing_taken(alloc, Way::Sent, tested),
             got: nothing_taken(alloc, Way::Got, other(tested)),
+            pairing: Pairing::new(alloc),
             turns: 0,
             unanswered: UnansweredPings::new(alloc),
         }
@@ -75,7 +77,7 @@ impl<K: KeepsReplies> GrowingEvidence<K> {
     /// The next turn begins. There are at most as many as a list can hold.
     pub fn begin_turn(&mut self)
         ensures grown { (tested : Role) (turns : List Turn) → length turns + 1 < 2 ^ 64 →
-            HasGrown K.keeps tested turns self.old → HasGrown K.keeps tested (turns ++ new_turn ∷ []) self.new }
+            HasGrown tested turns self.old → HasGrown tested (turns ++ new_turn ∷ []) self.new }
         ensures pings { self.new.pings ≡ self.old.pings }
     {
         self.turns = self.turns.saturating_add(1);
@@ -84,10 +86,10 @@ impl<K: KeepsReplies> GrowingEvidence<K> {
     /// These bytes were sent in the turn that has begun last.
     pub fn on_sent(&mut self, bytes: &[u8]) -> Result<(), NoMemory>
         ensures grown { (tested : Role) (before : List Turn) (turn : Turn) →
-            HasGrown K.keeps tested (before ++ turn ∷ []) self.old →
-            OnOk result (HasGrown K.keeps tested (before ++ turn_with_sent turn bytes.now ∷ []) self.new) }
+            HasGrown tested (before ++ turn ∷ []) self.old →
+            OnOk result (HasGrown tested (before ++ turn_with_sent turn bytes.now ∷ []) self.new) }
         ensures noted { (tested : Role) (before : List Turn) (turn : Turn) →
-            HasGrown K.keeps tested (before ++ turn ∷ []) self.old →
+            HasGrown tested (before ++ turn ∷ []) self.old →
             OnOk result (NotesSent tested (before ++ turn ∷ []) bytes.now self.old.pings self.new.pings) }
     {
         let number = self.turns.saturating_sub(1);
@@ -99,10 +101,13 @@ impl<K: KeepsReplies> GrowingEvidence<K> {
             &mut self.sent,
             &mut self.unanswered,
         )?;
+        self.pairing.take_due(&self.sent.collected.replies.fresh)?;
+        self.sent.collected.replies.hand_on();
         self.got
             .collected
             .replies
-            .want(&self.sent.collected.replies);
+            .tally
+            .want(&self.sent.collected.replies.tally);
         Ok(())
     }
 
@@ -110,11 +115,11 @@ impl<K: KeepsReplies> GrowingEvidence<K> {
     /// is neither a ping nor a pong, and a whole pong that is owed; behind a close or a fault nothing is.
     pub fn on_got(&mut self, bytes: &[u8]) -> Result<bool, NoMemory>
         ensures grown { (tested : Role) (before : List Turn) (turn : Turn) →
-            HasGrown K.keeps tested (before ++ turn ∷ []) self.old →
-            OnOk result (HasGrown K.keeps tested (before ++ turn_with_got turn bytes.now ∷ []) self.new) }
+            HasGrown tested (before ++ turn ∷ []) self.old →
+            OnOk result (HasGrown tested (before ++ turn_with_got turn bytes.now ∷ []) self.new) }
 
         ensures noted { (tested : Role) (before : List Turn) (turn : Turn) →
-            HasGrown K.keeps tested (before ++ turn ∷ []) self.old → IfOk result (λ progress.
+            HasGrown tested (before ++ turn ∷ []) self.old → IfOk result (λ progress.
             NotesGot tested (before ++ turn ∷ []) bytes.now self.old.pings self.new.pings progress) }
 
         // Nothing is told of what comes after a close or a fault.
@@ -129,6 +134,8 @@ impl<K: KeepsReplies> GrowingEvidence<K> {
             &mut self.got,
             &mut self.unanswered,
         )?;
+        self.pairing.take_got(&self.got.collected.replies.fresh)?;
+        self.got.collected.replies.hand_on();
         if has_progress {
             return Ok(true);
         }
@@ -161,20 +168,19 @@ impl<K: KeepsReplies> GrowingEvidence<K> {
     {
         self.sent.session.status().is_over()
     }
-}
 
-impl GrowingEvidence<ReplyTally> {
     /// Whether what is due for what was sent has come: no fewer messages were got than are due, and the last due pong
     /// is there. It takes the same time whatever went over the connection.
     pub fn is_answered(&self) -> bool
-        ensures { (tested : Role) (turns : List Turn) → HasGrown IsTallyOf tested turns self.now →
+        ensures { (tested : Role) (turns : List Turn) → HasGrown tested turns self.now →
             IsTrue result ↔ AreTurnsAnswered tested turns }
     {
         session_laws();
         self.got
             .collected
             .replies
-            .answers(&self.sent.collected.replies)
+            .tally
+            .answers(&self.sent.collected.replies.tally)
     }
 
     /// Whether what a turn is waited for has come, by what is expected of the tested end: of an echo as `is_answered`
@@ -184,33 +190,32 @@ impl GrowingEvidence<ReplyTally> {
     /// the tested end's own before and behind it change nothing. One pong isn't seen: that with the same payload that
     /// came in the same turn before the ping, and behind which others came.
     pub fn is_answered_by(&self, expected: Expectation) -> bool
-        ensures seen { (tested : Role) (turns : List Turn) → HasGrown IsTallyOf tested turns self.now →
+        ensures seen { (tested : Role) (turns : List Turn) → HasGrown tested turns self.now →
             AreTurnsSeenAnswered expected tested turns → IsTrue result }
-        ensures answered { (tested : Role) (turns : List Turn) → HasGrown IsTallyOf tested turns self.now →
+        ensures answered { (tested : Role) (turns : List Turn) → HasGrown tested turns self.now →
             result ≡ true → AreTurnsAnsweredBy expected tested turns }
     {
         session_laws();
         self.got
             .collected
             .replies
-            .answers_by(expected, &self.sent.collected.replies)
+            .tally
+            .answers_by(expected, &self.sent.collected.replies.tally)
     }
 
-    /// Whether more messages were got than are due: then what an echo owes can't come any more.
-    pub fn has_unowed_message(&self) -> bool
-        ensures { (tested : Role) (turns : List Turn) → HasGrown IsTallyOf tested turns self.now →
-            IsTrue result ↔ HaveUnowedMessage tested turns }
+    /// Whether what an echo owes for these turns can't come any more: the messages that were got are no beginning of
+    /// those due, or all are there and a pong has no match. It takes the same time whatever went over the connection.
+    pub fn cannot_come(&self) -> bool
+        ensures { (tested : Role) (turns : List Turn) → HasGrown tested turns self.now →
+            IsTrue result ↔ CannotComeAfter tested turns }
     {
         session_laws();
-        self.got
-            .collected
-            .replies
-            .exceeds(&self.sent.collected.replies)
+        self.pairing.cannot_come()
     }
 
     /// Whether what was got ends inside a frame: bytes came behind the last that said something.
     pub fn ends_inside_frame(&self) -> bool
-        ensures { (tested : Role) (turns : List Turn) → HasGrown IsTallyOf tested turns self.now →
+        ensures { (tested : Role) (turns : List Turn) → HasGrown tested turns self.now →
             IsTrue result ↔ EndInsideFrame tested turns }
     {
         session_laws();
@@ -220,8 +225,8 @@ impl GrowingEvidence<ReplyTally> {
 
 /// Whether what was taken ends inside a frame that is neither a ping nor a pong.
 fn is_in_other_frame<K: KeepsReplies>(taken: &Taken<K>) -> bool
-    ensures { (way : Way) (role : Role) (turns : List (List ℕ)) →
-        HasTakenWay K.keeps way role turns taken.now.session taken.now.collected →
+    ensures { (handed : List (InTurn Reply)) (way : Way) (role : Role) (turns : List (List ℕ)) →
+        HasTakenWay (K.keeps handed) way role turns taken.now.session taken.now.collected →
         IsTrue result ↔ EndInOtherFrame role (concat turns) }
 {
     frame_laws();

@@ -1,9 +1,9 @@
 //! What is kept of the replies of a direction: all of them, or what a run asks about.
 
-ghost use Rattle.std.specs.Prelude.{◌≡◌, ◌<◌, ◌↔◌, [], ◌∷◌, ◌++◌, List, IsTrue, None, OnOk, Some};
+ghost use Rattle.std.specs.Prelude.{◌≡◌, ◌↔◌, [], ◌∷◌, ◌++◌, List, IsTrue, None, OnOk, Some};
 ghost use Rattle.ws_suite.specs.declared.evidence.InTurn.{InTurn};
 ghost use Rattle.ws_suite.specs.declared.evidence.Reply.{Reply};
-ghost use Rattle.ws_suite.specs.Growing.{AnswersTally, IsAnsweredPong};
+ghost use Rattle.ws_suite.specs.Growing.{AnswersTally, IsAnsweredPong, IsTallyOf};
 ghost use Rattle.ws_suite.specs.Kept.{reply_in};
 ghost use Rattle.ws_suite.specs.InnerTally.{pong_of};
 ghost use Rattle.ws_suite.specs.Waiting.{AnswersTallyBy};
@@ -16,22 +16,18 @@ use ws_scripts::Expectation;
 use ws_text::{ControlBytes, MAX_CONTROL_PAYLOAD};
 
 /// Keeps the replies of a direction, which are told one after the other, or as much of them as will be asked about.
-pub trait KeepsReplies {
-    /// What is kept stands for this list of replies.
-    ghost keeps: { Self → List (InTurn Reply) → Type 0 };
+pub(crate) trait KeepsReplies {
+    /// What is kept stands for this list of replies, of which the first ones may have been handed on before.
+    ghost keeps: { List (InTurn Reply) → Self → List (InTurn Reply) → Type 0 };
 
     /// Stands for no replies.
     fn none(alloc: Global) -> Self
-        ensures { keeps result [] };
+        ensures { keeps [] result [] };
 
     /// One more reply is told, whose payload is lent. Answers `NoMemory` where it can't be kept.
     fn keep(&mut self, reply: Kept<'_>) -> Result<(), NoMemory>
-        ensures { OnOk result ((replies : List (InTurn Reply)) → keeps self.old replies →
-            keeps self.new (replies ++ reply_in reply.entry ∷ [])) };
-
-    /// These replies are due by now: who keeps only what is asked about looks from here on for the last of their pongs.
-    fn want(&mut self, due: &Self)
-        ensures { (replies : List (InTurn Reply)) → keeps self.old replies → keeps self.new replies };
+        ensures { OnOk result ((handed replies : List (InTurn Reply)) → keeps handed self.old replies →
+            keeps handed self.new (replies ++ reply_in reply.entry ∷ [])) };
 }
 
 /// All replies.
@@ -43,7 +39,7 @@ pub(crate) struct AllReplies {
 impl KeepsReplies for AllReplies {
     ghost use Rattle.ws_suite.specs.Growing.{AreAll};
 
-    ghost keeps = { λ kept replies. AreAll kept replies };
+    ghost keeps = { λ handed kept replies. AreAll kept replies };
 
     fn none(alloc: Global) -> AllReplies {
         AllReplies {
@@ -55,26 +51,59 @@ impl KeepsReplies for AllReplies {
         self.list.push(reply)?;
         Ok(())
     }
+}
 
-    fn want(&mut self, _due: &AllReplies) {}
+/// What a run keeps: the tally of all replies, and those that were told since the last ones were handed on.
+#[derive(Drop)]
+pub(crate) struct RunReplies {
+    pub(crate) tally: ReplyTally,
+    pub(crate) fresh: Replies,
+}
+
+impl KeepsReplies for RunReplies {
+    ghost use Rattle.ws_suite.specs.Growing.{AreKeptSince};
+
+    ghost keeps = { λ handed kept replies. AreKeptSince handed kept replies };
+
+    fn none(alloc: Global) -> RunReplies {
+        RunReplies {
+            tally: ReplyTally::none(),
+            fresh: Replies::new(alloc),
+        }
+    }
+
+    fn keep(&mut self, reply: Kept<'_>) -> Result<(), NoMemory> {
+        self.tally.keep(reply)?;
+        self.fresh.push(reply)?;
+        Ok(())
+    }
+}
+
+impl RunReplies {
+    /// All that were told were handed on.
+    pub(crate) fn hand_on(&mut self)
+        ensures tally { self.new.tally ≡ self.old.tally }
+        ensures fresh { self.new.fresh ≡ [] }
+    {
+        self.fresh.clear();
+    }
 }
 
 /// How many messages there are, the last pong, and whether the pong that is wanted has come since it is: all that is
 /// asked to tell whether what is due has come. It takes the same memory however many replies there are.
 #[derive(Drop)]
-pub struct ReplyTally {
+pub(crate) struct ReplyTally {
     pub(crate) messages: u64,
     pub(crate) last_pong: LastPong,
     pub(crate) wanted: LastPong,
     pub(crate) has_wanted: bool,
 }
 
-impl KeepsReplies for ReplyTally {
-    ghost use Rattle.ws_suite.specs.Growing.{IsTallyOf};
-
-    ghost keeps = { λ tally replies. IsTallyOf tally replies };
-
-    fn none(_alloc: Global) -> ReplyTally {
+impl ReplyTally {
+    /// That of no replies.
+    fn none() -> ReplyTally
+        ensures { IsTallyOf result [] }
+    {
         ReplyTally {
             messages: 0,
             last_pong: LastPong::none(),
@@ -83,7 +112,11 @@ impl KeepsReplies for ReplyTally {
         }
     }
 
-    fn keep(&mut self, reply: Kept<'_>) -> Result<(), NoMemory> {
+    /// One more reply is told.
+    fn keep(&mut self, reply: Kept<'_>) -> Result<(), NoMemory>
+        ensures { OnOk result ((replies : List (InTurn Reply)) → IsTallyOf self.old replies →
+            IsTallyOf self.new (replies ++ reply_in reply.entry ∷ [])) }
+    {
         match reply.kind {
             ReplyKind::Text | ReplyKind::Binary => {
                 // There is no room for a greater number, as there is none for a list of so many.
@@ -103,28 +136,22 @@ impl KeepsReplies for ReplyTally {
         Ok(())
     }
 
-    fn want(&mut self, due: &ReplyTally) {
+    /// These replies are due by now: from here on the last of their pongs is looked for.
+    pub(crate) fn want(&mut self, due: &ReplyTally)
+        ensures { (replies : List (InTurn Reply)) → IsTallyOf self.old replies → IsTallyOf self.new replies }
+    {
         // A pong with the same payload of no later turn is wanted already.
         if !self.wanted.answers(&due.last_pong) {
             self.wanted = due.last_pong.copied();
             self.has_wanted = false;
         }
     }
-}
 
-impl ReplyTally {
     /// Whether these replies answer the due ones: there are no fewer messages, and the last due pong is there.
     pub(crate) fn answers(&self, due: &ReplyTally) -> bool
         ensures { IsTrue result ↔ AnswersTally due.now self.now }
     {
         self.messages >= due.messages && self.last_pong.answers(&due.last_pong)
-    }
-
-    /// Whether there are more messages than are due.
-    pub(crate) fn exceeds(&self, due: &ReplyTally) -> bool
-        ensures { IsTrue result ↔ (due.now.messages < self.now.messages) }
-    {
-        self.messages > due.messages
     }
 
     /// Whether these replies are what is waited for: what an echo owes, or by the protocol the last due pong alone, be

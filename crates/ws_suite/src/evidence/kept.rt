@@ -8,6 +8,10 @@ use std::alloc::Global;
 use std::marker::Model;
 use ws_base::NoMemory;
 
+mod waiting;
+
+pub(crate) use waiting::{Waiting, place_of_match};
+
 /// What a reply is, but for its payload.
 #[derive(Clone, Copy)]
 pub enum ReplyKind {
@@ -72,6 +76,14 @@ impl Replies {
             kind: reply.kind,
         });
         Ok(())
+    }
+
+    /// None of them is there any more. Their room stays.
+    pub(crate) fn clear(&mut self)
+        ensures { self.new ≡ [] }
+    {
+        self.heads.clear();
+        self.payloads.clear();
     }
 
     /// Whether these are the due ones, one for one, and none stands in an earlier turn than its cause. They are

@@ -6,6 +6,8 @@ ghost use Rattle.ws_wire.specs.declared.role.Role.{Role};
 ghost use Rattle.ws_session.specs.declared.event.Event.{Event};
 ghost use Rattle.ws_session.specs.Exchange.{is_over};
 ghost use Rattle.ws_session.specs.Lent.{event_if_any, event_in};
+ghost use Rattle.ws_suite.specs.declared.evidence.InTurn.{InTurn};
+ghost use Rattle.ws_suite.specs.declared.evidence.Reply.{Reply};
 ghost use Rattle.ws_suite.specs.InnerCollecting.{HasTakenWay};
 ghost use Rattle.ws_suite.specs.InnerProgress.{TellsAdded, noted_pings, notes_progress};
 ghost use Rattle.ws_suite.specs.Progress.{after_pongs, has_progress, with_pings};
@@ -28,9 +30,10 @@ pub(super) fn take_watched<K: KeepsReplies>(
     taken: &mut Taken<K>,
     pings: &mut UnansweredPings,
 ) -> Result<bool, NoMemory>
-    ensures taken { (role : Role) (turns : List (List ℕ)) (last : List ℕ) → number ≡ length turns →
-        HasTakenWay K.keeps way role (turns ++ last ∷ []) taken.old.session taken.old.collected →
-        OnOk result (HasTakenWay K.keeps way role (turns ++ (last ++ piece.now) ∷ [])
+    ensures taken { (handed : List (InTurn Reply)) (role : Role) (turns : List (List ℕ)) (last : List ℕ) →
+        number ≡ length turns →
+        HasTakenWay (K.keeps handed) way role (turns ++ last ∷ []) taken.old.session taken.old.collected →
+        OnOk result (HasTakenWay (K.keeps handed) way role (turns ++ (last ++ piece.now) ∷ [])
         taken.new.session taken.new.collected) }
     ensures noted { IfOk result (λ progress. (later : List Event)
         × TellsAdded taken.old.session taken.new.session piece.now later

@@ -29,7 +29,7 @@ returns-clause-told g c =
     }
 
 pub returns-clause-taken : goal.returns-clause-taken
-returns-clause-taken g c = λ laws role turns last number h.
+returns-clause-taken g c = λ laws handed role turns last number h.
     let front = c.in_ok-front.front in
     let payload = c.take_into.new.room in
     let told = taken_in front payload in
@@ -46,7 +46,7 @@ returns-clause-taken g c = λ laws role turns last number h.
     let kept = subst (λ (b : Bool). AreCollected g.K.KeepsReplies.keeps c.args.way (length turns)
     (option_to_list told.event) (make_collected old b) new) rest there in
     front_taken_too c.args.piece.now _ _ _ c.args.taken.now.session c.take_into.new.self told took.used.1 took.taken took.role took.limits
-    laws c.args.way role turns last old new (took.used.0 some) h kept
+    handed laws c.args.way role turns last old new (took.used.0 some) h kept
 
 pub returns-clause-seen : goal.returns-clause-seen
 returns-clause-seen g c = λ role bytes h.

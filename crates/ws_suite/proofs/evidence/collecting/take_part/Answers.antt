@@ -9,7 +9,7 @@ pub loop-rest-init : goal.loop-rest-init
 loop-rest-init g c = (
   [],
   refl,
-  λ role turns last number h. subst (λ (l : List ℕ). HasTakenWay g.K.KeepsReplies.keeps c.args.way role (turns ++ l ∷ []) c.args.taken.now.session c.args.taken.now.collected) (sym (append-nil last)) h,
+  λ handed role turns last number h. subst (λ (l : List ℕ). HasTakenWay (g.K.KeepsReplies.keeps handed) c.args.way role (turns ++ l ∷ []) c.args.taken.now.session c.args.taken.now.collected) (sym (append-nil last)) h,
   λ role bytes h. subst (λ (l : List ℕ). HasSeenBytes role c.args.taken.now.session l c.args.taken.now.seen) (sym (append-nil bytes)) h,
   λ over. refl,
 )
@@ -25,9 +25,8 @@ loop-rest-preserved g c =
     let i = c.loop-rest.invariant in (
       i.0 ++ part,
       i.1 ∙ (ap (λ (l : List ℕ). i.0 ++ l) split ∙ sym (append_assoc i.0 part after)),
-      λ role turns last number h. subst (λ (l : List ℕ). HasTakenWay g.K.KeepsReplies.keeps c.args.way role (turns ++ l ∷ []) c.take_front.new.taken.session c.take_front.new.taken.collected) (append_assoc last i.0 part)
-          (c.in_ok-front.ensures.taken c.session_laws.ensures role turns (last ++ i.0) number
-          (i.2 role turns last number h)),
+      λ handed role turns last number h. subst (λ (l : List ℕ). HasTakenWay (g.K.KeepsReplies.keeps handed) c.args.way role (turns ++ l ∷ []) c.take_front.new.taken.session c.take_front.new.taken.collected) (append_assoc last i.0 part)
+          (c.in_ok-front.ensures.taken c.session_laws.ensures handed role turns (last ++ i.0) number (i.2 handed role turns last number h)),
       λ role bytes h. subst (λ (l : List ℕ). HasSeenBytes role c.take_front.new.taken.session l c.take_front.new.taken.seen) (append_assoc bytes i.0 part)
           (c.in_ok-front.ensures.seen role (bytes ++ i.0) (i.3 role bytes h)),
       λ over. search rules,

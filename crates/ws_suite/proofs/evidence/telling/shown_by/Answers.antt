@@ -56,10 +56,10 @@ loop-number-preserved c =
     let less : i < length turns = omega (arith, c.loop-number-test.true) in
     let sent = turn_taken Sent tested turns i turn c.as_slice.result.now loop.sent.session put.session
     loop.sent.collected put.collected less is c.as_slice.ensures
-    (λ before last count h. c.in_ok-take_piece.ensures.taken tested before last count h) old.sent in
+    (λ before last count h. c.in_ok-take_piece.ensures.taken [] tested before last count h) old.sent in
     let got = turn_taken way tester turns i turn c.bytes_of.result.now loop.got.session new.session
     loop.got.collected new.collected less is c.bytes_of.ensures
-    (λ before last count h. c.in_ok-take_piece-2.ensures.taken tester before last count h) old.got in
+    (λ before last count h. c.in_ok-take_piece-2.ensures.taken [] tester before last count h) old.got in
     let tells : c.goes_on.result ≡ (ends_with_close got.shown.ending && got.shown.has_rest) = c.goes_on.ensures
     ∙ ap₂ (λ (o : Option (InTurn Ending)) (b : Bool). ends_with_close o && b) got.ending got.has_rest in
     let all = map (way_bytes way) turns in

@@ -15,7 +15,7 @@ pub loop-rest-init : goal.loop-rest-init
 loop-rest-init g c = (
   [],
   refl,
-  λ role turns last number h. subst (λ (l : List ℕ). HasTakenWay g.K.KeepsReplies.keeps c.args.way role
+  λ handed role turns last number h. subst (λ (l : List ℕ). HasTakenWay (g.K.KeepsReplies.keeps handed) c.args.way role
       (turns ++ l ∷ []) c.args.taken.now.session c.args.taken.now.collected) (sym (append-nil last)) h,
   (
     [],
@@ -49,11 +49,11 @@ loop-rest-preserved g c =
     let pings = c.args.pings.now in (
       i.0 ++ part,
       i.1 ∙ (ap (λ (l : List ℕ). i.0 ++ l) split ∙ sym (append_assoc i.0 part after)),
-      λ role turns last number taken.
-          subst (λ (l : List ℕ). HasTakenWay g.K.KeepsReplies.keeps way role (turns ++ l ∷ [])
+      λ handed role turns last number taken.
+          subst (λ (l : List ℕ). HasTakenWay (g.K.KeepsReplies.keeps handed) way role (turns ++ l ∷ [])
           c.take_front.new.taken.session c.take_front.new.taken.collected)
           (ap (λ (l : List ℕ). (last ++ i.0) ++ l) same ∙ append_assoc last i.0 part)
-          (h.taken c.session_laws.ensures role turns (last ++ i.0) number (i.2 role turns last number taken)),
+          (h.taken c.session_laws.ensures handed role turns (last ++ i.0) number (i.2 handed role turns last number taken)),
       (
         later ++ more,
         tells_more c.args.taken.now.session c.loop-rest.taken.session c.take_front.new.taken.session i.0 part later more

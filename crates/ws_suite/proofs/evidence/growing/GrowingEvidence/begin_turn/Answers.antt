@@ -1,6 +1,0 @@
--- One turn more.
-use Rattle.ws_suite.proofs.GrowingLemmas.{next_turn}
-use Rattle.ws_suite.proofs.evidence.growing.GrowingEvidence.begin_turn.Goals as goal
-
-pub returns-clause-grown : goal.returns-clause-grown
-returns-clause-grown g c = λ tested turns room h. next_turn tested _ _ c.self.view_is turns c.saturating_add-self-inside.result c.saturating_add-self-inside.ensures room h
