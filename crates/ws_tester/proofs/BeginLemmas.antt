@@ -7,7 +7,7 @@ use Rattle.ws_scripts.specs.declared.transcript.Turn.{Turn}
 use Rattle.ws_suite.specs.Evidence.{other_role}
 use Rattle.ws_session.specs.declared.event.Event.{Event}
 use Rattle.ws_session.specs.declared.event.Event.TheVariants as event
-use Rattle.ws_suite.specs.Growing.{HasGrown, IsTallyOf}
+use Rattle.ws_suite.specs.Growing.{HasGrown}
 use Rattle.ws_suite.specs.Progress.{after_pong, after_pongs}
 use Rattle.ws_tester.specs.Standings.{HasServerClose, HasStanding, is_server_close, standing_of_status}
 use Rattle.ws_tester.specs.Outcomes.{HasSentEnd, got_in_all}
@@ -75,11 +75,11 @@ by_nothing (pieces ∷ turns) x start e h = absurd cc
 
 module _ (run : ScriptValue) (first : TesterValue)
     (state : first.run ≡ first_state run (is_server_close run.plan.tested (standing_of_status first.seen.tester.status)))
-    (grown : HasGrown IsTallyOf run.plan.tested (record { sent = []; got = run.first } ∷ []) first.seen)
+    (grown : HasGrown run.plan.tested (record { sent = []; got = run.first } ∷ []) first.seen)
     (before : first.had_sent_end ≡ is_over first.seen.tested.status) where
   pub first_shown : ShowsTurns first
   first_shown = record {
-    grown = subst (λ (x : RunState). HasGrown IsTallyOf x.plan.tested (turns_of_run x) first.seen) (sym state) grown;
+    grown = subst (λ (x : RunState). HasGrown x.plan.tested (turns_of_run x) first.seen) (sym state) grown;
     before = subst (λ (b : Bool). HasSentEnd first.run.plan.tested first.run.past b) (sym before)
         (subst (λ (x : RunState). HasSentEnd x.plan.tested x.past (is_over first.seen.tested.status)) (sym state)
         (sent_end run.plan.tested (record { sent = []; got = run.first } ∷ []) first.seen grown));

@@ -10,9 +10,8 @@ use Rattle.ws_session.specs.declared.status.Status.TheVariants as status
 use Rattle.ws_session.specs.Exchange.{is_over, last_event, status_after}
 use Rattle.ws_session.specs.Replies.{has_close}
 use Rattle.ws_scripts.specs.declared.transcript.Turn.{Turn}
-use Rattle.ws_suite.specs.declared.evidence.keeping.ReplyTally.{ReplyTally}
 use Rattle.ws_suite.specs.Evidence.{other_role}
-use Rattle.ws_suite.specs.Growing.{EndInsideFrame, GrowingValue, HasGrown, HaveUnowedMessage, IsTallyOf}
+use Rattle.ws_suite.specs.Growing.{EndInsideFrame, GrowingValue, HasGrown, CannotComeAfter}
 use Rattle.ws_suite.specs.Waiting.{AreTurnsAnsweredBy, AreTurnsSeenAnswered}
 use Rattle.ws_tester.specs.Standings.{HearsAll, HasStanding, standing_of_status}
 use Rattle.ws_tester.specs.Outcomes.{AreFacts, HasSentEnd, got_in_all, sent_in_all, has_end}
@@ -39,8 +38,8 @@ over_at sent (Some (event.Pong payload)) = before_end (has_close sent)
 over_at sent (Some (event.Close close)) = refl
 over_at sent (Some (event.Failed reason)) = refl
 
-module _ (tested : Role) (turns : List Turn) (seen : GrowingValue ReplyTally)
-    (grown : HasGrown IsTallyOf tested turns seen) where
+module _ (tested : Role) (turns : List Turn) (seen : GrowingValue)
+    (grown : HasGrown tested turns seen) where
   -- how what was got stands
   pub got_stands : HasStanding (other_role tested) (standing_of_status seen.tester.status) (got_in_all turns)
   got_stands = heard_stands (other_role tested) seen.tester (got_in_all turns) (record {
@@ -71,16 +70,16 @@ module _ (tested : Role) (turns : List Turn) (seen : GrowingValue ReplyTally)
 -- what the evidence tells is so
 pub facts_are : (x v : TesterValue) → x ≡ v → (facts : TurnFacts) → facts.standing ≡ standing_of_status x.seen.tester.status
     → facts.has_sent_end ≡ is_over x.seen.tested.status → facts.had_sent_end ≡ x.had_sent_end
-    → ((tested : Role) (turns : List Turn) → HasGrown IsTallyOf tested turns x.seen
+    → ((tested : Role) (turns : List Turn) → HasGrown tested turns x.seen
     → facts.is_answered ≡ true → AreTurnsAnsweredBy x.run.plan.expected tested turns)
-    → ((tested : Role) (turns : List Turn) → HasGrown IsTallyOf tested turns x.seen
+    → ((tested : Role) (turns : List Turn) → HasGrown tested turns x.seen
     → AreTurnsSeenAnswered x.run.plan.expected tested turns → facts.is_answered ≡ true)
-    → ((tested : Role) (turns : List Turn) → HasGrown IsTallyOf tested turns x.seen
+    → ((tested : Role) (turns : List Turn) → HasGrown tested turns x.seen
     → (facts.is_inside ≡ true) ↔ EndInsideFrame tested turns)
-    → ((tested : Role) (turns : List Turn) → HasGrown IsTallyOf tested turns x.seen
-    → (facts.has_unowed ≡ true) ↔ HaveUnowedMessage tested turns)
+    → ((tested : Role) (turns : List Turn) → HasGrown tested turns x.seen
+    → (facts.cannot_come ≡ true) ↔ CannotComeAfter tested turns)
     → ShowsTurns v → AreFacts v.run.plan v.run.past (turns_of_run v.run) facts
-facts_are x v same facts stands sent before come seen inside unowed shown =
+facts_are x v same facts stands sent before come seen inside cannot shown =
     subst (λ (y : TesterValue). AreFacts y.run.plan y.run.past (turns_of_run y.run) facts) same (record {
       standing = subst (λ (s : Standing). HasStanding (other_role x.run.plan.tested) s (got_in_all (turns_of_run x.run)))
           (sym stands)
@@ -91,7 +90,7 @@ facts_are x v same facts stands sent before come seen inside unowed shown =
       come = come x.run.plan.tested (turns_of_run x.run) h.grown;
       seen = seen x.run.plan.tested (turns_of_run x.run) h.grown;
       inside = inside x.run.plan.tested (turns_of_run x.run) h.grown;
-      unowed = unowed x.run.plan.tested (turns_of_run x.run) h.grown;
+      cannot = cannot x.run.plan.tested (turns_of_run x.run) h.grown;
     })
   where
     h : ShowsTurns x

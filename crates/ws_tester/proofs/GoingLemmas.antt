@@ -9,7 +9,7 @@ use Rattle.ws_machines.specs.declared.stream.StreamEvent.{StreamEvent}
 use Rattle.ws_machines.specs.declared.stream.StreamEvent.TheVariants as event
 use Rattle.ws_scripts.specs.declared.transcript.Ended.{Ended}
 use Rattle.ws_scripts.specs.declared.transcript.Turn.{Turn}
-use Rattle.ws_suite.specs.Growing.{HasGrown, IsTallyOf, turn_with_sent}
+use Rattle.ws_suite.specs.Growing.{HasGrown, turn_with_sent}
 use Rattle.ws_tester.specs.Outgoings.{Pieces, after_first, first_piece}
 use Rattle.ws_tester.specs.Outcomes.{AreFacts, by_deadline, by_silence, next_or_end, outcome_of, outcome_of_event}
 use Rattle.ws_tester.specs.Outcomes.{unless_failed}
@@ -102,10 +102,10 @@ pub taken_changes : (old new : TesterValue) (ev : StreamEvent) (count : ℕ) →
     → new.run ≡ with_anew true (with_unanswered new.run.pings
     (with_taken (take count (first_piece old.run.outgoing.rest)) old.run))
     → new.had_sent_end ≡ old.had_sent_end
-    → ((tested : Role) (past : List Turn) (turn : Turn) → HasGrown IsTallyOf tested (past ++ turn ∷ []) old.seen
-    → HasGrown IsTallyOf tested
+    → ((tested : Role) (past : List Turn) (turn : Turn) → HasGrown tested (past ++ turn ∷ []) old.seen
+    → HasGrown tested
     (past ++ turn_with_sent turn (take count (first_piece old.run.outgoing.rest)) ∷ []) new.seen)
-    → ((tested : Role) (past : List Turn) (turn : Turn) → HasGrown IsTallyOf tested (past ++ turn ∷ []) old.seen
+    → ((tested : Role) (past : List Turn) (turn : Turn) → HasGrown tested (past ++ turn ∷ []) old.seen
     → NotesSent tested (past ++ turn ∷ []) (take count (first_piece old.run.outgoing.rest)) old.run.pings new.run.pings)
     → ShowsTurns old → Changes (told_at (wanted_in old.run) ev) old.run new.run × ShowsTurns new
 taken_changes old new ev count e undone taken before grown noted shown = (

@@ -17,6 +17,10 @@ pub mod RecordsNext
 pub mod RecordsTester
 pub mod RecordsSettled
 pub mod RecordsEvent
+pub mod RecordsCloses
+pub mod RecordsGoing
+pub mod RecordsOver
+pub mod RecordsWaiting
 pub mod RecordLemmas
 pub mod RecordsEnd
 pub mod ShownLemmas

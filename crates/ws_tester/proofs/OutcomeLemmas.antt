@@ -106,5 +106,5 @@ next_come x facts e =
     let over : is_turn_over x facts ≡ true = (next_by (stops_run x.plan.tested facts.standing) (is_all_sent x)
     (is_turn_over x facts) (is_spent x) (has_more x) e).1 in
     come_by (has_come x facts) (owes_messages x.plan.expected) (has_more x)
-    (not x.write_failed && (not (has_end facts.standing) && (facts.has_unowed && not facts.is_inside)))
+    (not x.write_failed && (not (has_end facts.standing) && (facts.cannot_come && not facts.is_inside)))
     (next_more x facts e) over

@@ -16,12 +16,15 @@ use Rattle.ws_tester.specs.Outcomes.{got_in_all, sent_in_all}
 use Rattle.ws_tester.specs.Outgoings.{HaveBytes, Pieces, after_first, first_turn}
 use Rattle.ws_tester.specs.RunStates.{RunState, recorded, turns_of_run, with_run_end}
 use Rattle.ws_tester.specs.Following.{BeginsRun, BeginsBy, Follows, ScriptValue, first_state, has_items}
-use Rattle.ws_tester.specs.Records.{IsEndedByTester, IsRecordOf, IsWaitedFor}
+use Rattle.ws_tester.specs.Records.{IsEndedByTester, IsHalfClosed, IsRecordOf, IsWaitedFor}
 use Rattle.ws_tester.specs.declared.standing.Standing.{Standing}
 use Rattle.ws_tester.proofs.RecordsHolds.{Holds, EndsBy, HoldsSo}
 use Rattle.ws_tester.proofs.RecordsTests.{OneStanding}
 use Rattle.ws_tester.proofs.RecordsSettled.{settled}
 use Rattle.ws_tester.proofs.RecordsEvent.{event_so}
+use Rattle.ws_tester.proofs.RecordsGoing.{IsGoing, Went, WentSo, follows_went, nothing_went, settled_went}
+use Rattle.ws_tester.proofs.RecordsWaiting.{Waited, WaitsSo, follows_waits, nothing_waited, settled_waits}
+use Rattle.ws_tester.proofs.RecordsCloses.{ClosesSo, begins_closes, closed_so, follows_closes, settled_closes}
 
 -- ---- all events
 
@@ -67,8 +70,11 @@ begins_so run first others standing stands pieces e = record {
 }
 
 pub recorded_so : (run : ScriptValue) (told : List Told) (now : RunState) (transcript : Transcript) → Holds run told now
-    → EndsBy run told (turns_of_run now) (Some transcript.ended) → transcript.turns ≡ turns_of_run now → IsRecordOf run told transcript
-recorded_so run told now transcript h ends e = record {
+    → EndsBy run told (turns_of_run now) (Some transcript.ended)
+    → (HasServerClose run.plan.tested (got_in_all (turns_of_run now)) → IsHalfClosed run told (turns_of_run now))
+    → Went run told now.past → Waited run told (turns_of_run now) → transcript.turns ≡ turns_of_run now
+    → IsRecordOf run told transcript
+recorded_so run told now transcript h ends closed went waited e = record {
   sent = ap (λ (l : List Turn). sent_in_all l) e ∙ h.sent;
   got = ap (λ (l : List Turn). got_in_all l) e ∙ h.got;
   budget = omega (arith, h.budget);
@@ -80,20 +86,31 @@ recorded_so run told now transcript h ends e = record {
     sent_turns = ap (λ (l : List Turn). sent_turns l) e ∙ map-append (λ (t : Turn). t.sent) now.past (now.turn ∷ []);
     turns = h.bytes.split;
   });
-  waited_for = λ n some less. waits n some
-      (let len : length transcript.turns ≡ length now.past + 1 = ap (λ (l : List Turn). length l) e
-      ∙ length-append now.past (now.turn ∷ []) in omega (arith, less, len));
+  waited_for = λ n some less. waits n some (within n less);
+  in_time = went.sent;
+  follows = λ n some less. subst (λ (l : List Turn). IsGoing run (got_in_all l))
+      (sym (ap (λ (l : List Turn). take n l) e ∙ take-append-le n now.past (now.turn ∷ []) (within n less)))
+      (went.turns n some (within n less));
+  waits = subst (λ (l : List Turn). Waited run told l) (sym e) waited;
   broken = λ b. subst (λ (how : Ended). EndsBy run told (turns_of_run now) (Some how)) b ends;
   tester = λ b. inr (subst (λ (l : List Turn). IsEndedByTester run told l) (sym e)
       (subst (λ (how : Ended). EndsBy run told (turns_of_run now) (Some how)) b ends));
   peer = λ b. subst (λ (how : Ended). EndsBy run told (turns_of_run now) (Some how)) b ends;
   half_closed = λ w. subst (λ (l : List Turn). HasServerClose run.plan.tested (got_in_all l)) (sym e) (h.closed (h.half w));
+  closes = λ s. inr (subst (λ (l : List Turn). IsHalfClosed run told l) (sym e)
+      (closed (subst (λ (l : List Turn). HasServerClose run.plan.tested (got_in_all l)) e s)));
 }
   where
+    within : (n : ℕ) → n < length transcript.turns → n ≤ length now.past
+    within n less =
+        let len : length transcript.turns ≡ length now.past + 1 = ap (λ (l : List Turn). length l) e
+        ∙ length-append now.past (now.turn ∷ []) in
+        omega (arith, less, len)
+
     waits : (n : ℕ) → 0 < n → n ≤ length now.past → IsWaitedFor run (take n transcript.turns) told
-    waits n some within = subst (λ (l : List Turn). IsWaitedFor run l told)
-        (sym (ap (λ (l : List Turn). take n l) e ∙ take-append-le n now.past (now.turn ∷ []) within))
-        (h.waited n some within)
+    waits n some enough = subst (λ (l : List Turn). IsWaitedFor run l told)
+        (sym (ap (λ (l : List Turn). take n l) e ∙ take-append-le n now.past (now.turn ∷ []) enough))
+        (h.waited n some enough)
 
 -- ---- a script without turns
 
@@ -127,6 +144,11 @@ nothing_run run closing transcript e turns how = record {
   broken = λ b. absurd (let wrong : Some Tester ≡ Some Broken = how ∙ ap (λ (x : Ended). Some x) b in cc);
   peer = λ b. absurd (let wrong : Some Tester ≡ Some Peer = how ∙ ap (λ (x : Ended). Some x) b in cc);
   half_closed = λ w. absurd w;
+  closes = λ s. inl e;
+  in_time = (nothing_went run).sent;
+  waits = nothing_waited run transcript.turns;
+  follows = λ n some less. absurd (let len : length transcript.turns ≡ length (alone run.first) =
+      ap (λ (l : List Turn). length l) is in omega (arith, some, less, len, at_most_one run.first));
 }
   where
     is : transcript.turns ≡ alone run.first
@@ -155,17 +177,29 @@ recorded_is one run start now told transcript pieces (standing, stands, begins) 
     none_told (event ∷ told) same (next, happens, rest) e =
         absurd (let wrong : Some Tester ≡ None = sym (ap (λ (y : RunState). y.ended) same) ∙ happens.goes in cc)
 
-    some_told : (holds : HoldsSo run [] start) → IsRecordOf run told transcript
-    some_told holds =
+    some_told : (holds : HoldsSo run [] start) → ClosesSo run [] start → WentSo run [] start → WaitsSo run [] start
+        → IsRecordOf run told transcript
+    some_told holds closes goes waits =
         let at : HoldsSo run told now = follows_so one run [] start now told holds follows in
         recorded_so run told now transcript at.0
         (subst (λ (o : Option Ended). EndsBy run told (turns_of_run now) o) ended at.1)
+        (λ s. closed_so run told now transcript.ended (follows_closes one run [] start now told holds closes follows)
+        ended s)
+        (follows_went one run [] start now told holds closes goes follows).0
+        (follows_waits one run [] start now told holds waits follows).0
         (turns ∙ begun_recorded now at.0.begun_is)
 
     pick : (script : List Pieces) → run.script ≡ script
         → BeginsBy script (first_state run (is_server_close run.plan.tested standing)) start
         → IsRecordOf run told transcript
     pick [] e same = none_told told same follows e
-    pick (pieces_first ∷ others) e settles = some_told (settled one run [] (first_state run
-        (is_server_close run.plan.tested standing)) start refl (begins_so run pieces_first others standing stands
-        (subst (λ (l : List Pieces). HaveBytes l) e pieces) e) settles)
+    pick (pieces_first ∷ others) e settles =
+        let state = first_state run (is_server_close run.plan.tested standing) in
+        let holds : Holds run [] state = begins_so run pieces_first others standing stands
+        (subst (λ (l : List Pieces). HaveBytes l) e pieces) e in
+        let begun : HoldsSo run [] start = settled one run [] state start refl holds settles in
+        some_told begun
+        (settled_closes one run [] state start refl holds (begins_closes one run standing stands) settles)
+        (settled_went one run [] state start refl holds (begins_closes one run standing stands) (nothing_went run)
+        settles)
+        (settled_waits one run [] state start begun.0 (nothing_waited run (turns_of_run state)) settles)

@@ -4,17 +4,16 @@ use Rattle.std.specs.Prelude.{Option, None, Some, is_some}
 use Rattle.ws_scripts.specs.declared.transcript.Ended.{Ended}
 use Rattle.ws_scripts.specs.declared.transcript.Transcript.{Transcript}
 use Rattle.ws_machines.specs.Told.{Told}
-use Rattle.ws_tester.specs.Standings.{is_server_close}
 use Rattle.ws_tester.specs.RunStates.{RunState, recorded}
 use Rattle.ws_tester.specs.Following.{Follows}
 use Rattle.ws_tester.specs.Records.{IsRecorded}
-use Rattle.ws_tester.proofs.StandingLemmas.{OneList, stands_so}
+use Rattle.ws_tester.proofs.StandingLemmas.{OneList, one_standing}
 use Rattle.ws_tester.proofs.RecordsTests.{OneStanding}
 use Rattle.ws_tester.proofs.RecordLemmas.{recorded_is}
 
 -- then what was got stands in one way
 pub one_standing_is : OneList → OneStanding
-one_standing_is one tested standing got stands closes = stands_so one is_server_close true tested standing got stands closes
+one_standing_is one reader s t bytes a b = one_standing one reader s t bytes a b
 
 -- how it has ended
 ended_so : (ended : Option Ended) (how : Ended) → is_some ended ≡ true → ((some : Ended) → ended ≡ Some some → how ≡ some)

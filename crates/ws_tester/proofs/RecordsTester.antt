@@ -7,7 +7,7 @@ use Rattle.ws_scripts.specs.declared.expectation.Expectation.{Expectation}
 use Rattle.ws_scripts.specs.declared.expectation.Expectation.TheVariants.{Echo, Protocol}
 use Rattle.ws_scripts.specs.declared.transcript.Turn.{Turn}
 use Rattle.ws_suite.specs.Evidence.{other_role, sent_turns}
-use Rattle.ws_suite.specs.Growing.{EndInsideFrame, HaveUnowedMessage}
+use Rattle.ws_suite.specs.Growing.{EndInsideFrame, CannotComeAfter}
 use Rattle.ws_suite.specs.Waiting.{AreTurnsAnsweredBy}
 use Rattle.ws_machines.specs.Told.{Told}
 use Rattle.ws_tester.specs.Standings.{HasStanding, HasStandingBy, stops_run}
@@ -16,13 +16,13 @@ use Rattle.ws_tester.specs.Outcomes.{owes_messages}
 use Rattle.ws_tester.specs.Outgoings.{Pieces}
 use Rattle.ws_tester.specs.RunStates.{PlanValue, RunState, has_more, is_all_sent, some_turn, turns_of_run}
 use Rattle.ws_tester.specs.Following.{ScriptValue}
-use Rattle.ws_tester.specs.Records.{HasAllOwed, HasMoreThanOwed, IsEndedByTester}
+use Rattle.ws_tester.specs.Records.{HasAllOwed, CannotComeAnyMore, IsEndedByTester}
 use Rattle.ws_tester.specs.declared.outcome.TurnFacts.{TurnFacts}
 use Rattle.ws_tester.specs.declared.standing.Standing.{Standing}
 use Rattle.ws_tester.specs.declared.standing.Standing.TheVariants.{Going, Closed, Faulty}
 use Rattle.ws_tester.proofs.RecordsHolds.{Holds}
 use Rattle.ws_tester.proofs.RecordsPieces.{no_piece}
-use Rattle.ws_tester.proofs.RecordsTests.{OneStanding, open_where_come}
+use Rattle.ws_tester.proofs.RecordsTests.{OneStanding, closing_ends, is_false, open_where_come}
 
 -- ---- what the tests say
 
@@ -47,17 +47,17 @@ come_whole false false false true true inside last e = absurd cc
 come_whole false false false true false true last e = absurd cc
 come_whole false false false true false false last e = refl
 
-vain_parts : (owes more failed : Bool) (standing : Standing) (unowed inside : Bool)
-    → (owes && (not more && (not failed && (not (has_end standing) && (unowed && not inside))))) ≡ true
-    → (owes ≡ true) × (standing ≡ Going) × (unowed ≡ true) × (inside ≡ false)
-vain_parts false more failed standing unowed inside e = absurd cc
-vain_parts true true failed standing unowed inside e = absurd cc
-vain_parts true false true standing unowed inside e = absurd cc
-vain_parts true false false Closed unowed inside e = absurd cc
-vain_parts true false false Faulty unowed inside e = absurd cc
+vain_parts : (owes more failed : Bool) (standing : Standing) (cannot inside : Bool)
+    → (owes && (not more && (not failed && (not (has_end standing) && (cannot && not inside))))) ≡ true
+    → (owes ≡ true) × (failed ≡ false) × (standing ≡ Going) × (cannot ≡ true) × (inside ≡ false)
+vain_parts false more failed standing cannot inside e = absurd cc
+vain_parts true true failed standing cannot inside e = absurd cc
+vain_parts true false true standing cannot inside e = absurd cc
+vain_parts true false false Closed cannot inside e = absurd cc
+vain_parts true false false Faulty cannot inside e = absurd cc
 vain_parts true false false Going false inside e = absurd cc
 vain_parts true false false Going true true e = absurd cc
-vain_parts true false false Going true false e = (refl, refl, refl, refl)
+vain_parts true false false Going true false e = (refl, refl, refl, refl, refl)
 
 is_echo : (expected : Expectation) → owes_messages expected ≡ true → expected ≡ Echo
 is_echo Echo e = refl
@@ -102,18 +102,22 @@ module _ (one : OneStanding) (run : ScriptValue) (told : List Told) (x : RunStat
             facts.is_answered (has_more x) facts.is_inside last come);
       }
 
-  vain : is_in_vain x facts ≡ true → HasMoreThanOwed run (turns_of_run x)
-  vain e =
+  vain : is_all_sent x ≡ true → has_more x ≡ false → is_in_vain x facts ≡ true → CannotComeAnyMore run (turns_of_run x)
+  vain sent last e =
       let parts = vain_parts (owes_messages x.plan.expected) (has_more x) x.write_failed facts.standing
-      facts.has_unowed facts.is_inside e in
+      facts.cannot_come facts.is_inside e in
+      let unclosed : x.closing ≡ false = is_false x.closing (λ c.
+      (let ends : has_end facts.standing ≡ true = closing_ends one run told x facts h are c in
+      let none : has_end facts.standing ≡ false = ap (λ (s : Standing). has_end s) parts.2 in cc)) in
       record {
+        sent = all_sent sent last unclosed parts.1;
         echo = subst (λ (plan : PlanValue). plan.expected ≡ Echo) h.plan_is (is_echo x.plan.expected parts.0);
         going = subst (λ (plan : PlanValue). HasStanding (other_role plan.tested) Going (got_in_all (turns_of_run x)))
             h.plan_is (subst (λ (s : Standing). HasStanding (other_role x.plan.tested) s (got_in_all (turns_of_run x)))
-            parts.1 are.standing);
-        unowed = subst (λ (plan : PlanValue). HaveUnowedMessage plan.tested (turns_of_run x)) h.plan_is
-            (are.unowed.0 parts.2);
-        whole = whole parts.3;
+            parts.2 are.standing);
+        cannot = subst (λ (plan : PlanValue). CannotComeAfter plan.tested (turns_of_run x)) h.plan_is
+            (are.cannot.0 parts.3);
+        whole = whole parts.4;
       }
 
   pub tester_so : (stops_run x.plan.tested facts.standing ≡ true)
@@ -125,4 +129,4 @@ module _ (one : OneStanding) (run : ScriptValue) (told : List Told) (x : RunStat
     where
       pick : (has_come x facts ≡ true) ⊎ (is_in_vain x facts ≡ true) → IsEndedByTester run told (turns_of_run x)
       pick (inl come) = inr (inr (inr (inl (owed sent last come))))
-      pick (inr in_vain) = inr (inr (inr (inr (vain in_vain))))
+      pick (inr in_vain) = inr (inr (inr (inr (vain sent last in_vain))))

@@ -1,5 +1,5 @@
 -- What the table of outcomes says of a run of which it holds.
-use Rattle.std.proofs.Common.{◌≡◌, ℕ, ◌⊎◌, ◌&&◌, ◌||◌, not, Bool, true, false, nat_eq, List, refl, inl, inr, subst, arith}
+use Rattle.std.proofs.Common.{◌≡◌, ◌∙◌, ap, ℕ, ◌⊎◌, ◌&&◌, ◌||◌, not, Bool, true, false, nat_eq, List, refl, inl, inr, subst, arith}
 use Rattle.std.proofs.lemmas.Bool.Decides.{nat_tests}
 use Rattle.ws_wire.specs.declared.role.Role.{Role}
 use Rattle.ws_scripts.specs.declared.transcript.Ended.TheVariants.{Tester, Peer, Broken}
@@ -15,10 +15,16 @@ use Rattle.ws_tester.specs.declared.standing.Standing.{Standing}
 use Rattle.ws_tester.specs.declared.standing.Standing.TheVariants.{Going, Closed, Faulty}
 use Rattle.ws_tester.proofs.RecordsHolds.{Holds}
 
--- where what was got stands so, a server's close is its last event or isn't
+-- bytes stand in one way
 abbrev pub OneStanding : Type 0
-OneStanding = (tested : Role) (standing : Standing) (got : List ℕ) → HasStanding (other_role tested) standing got
-    → HasServerClose tested got → is_server_close tested standing ≡ true
+OneStanding = (reader : Role) (s t : Standing) (bytes : List ℕ) → HasStanding reader s bytes
+    → HasStanding reader t bytes → s ≡ t
+
+-- where what was got stands so, a server's close is its last event or isn't
+pub one_close : OneStanding → (tested : Role) (standing : Standing) (got : List ℕ)
+    → HasStanding (other_role tested) standing got → HasServerClose tested got → is_server_close tested standing ≡ true
+one_close one tested standing got at (t, is, stands) =
+    ap (λ (s : Standing). is_server_close tested s) (one (other_role tested) standing t got at stands) ∙ is
 
 pub both_true : (a b : Bool) → (a && b) ≡ true → (a ≡ true) × (b ≡ true)
 both_true true true e = (refl, refl)
@@ -47,7 +53,7 @@ closing_ends one run told x facts h are c =
     subst (λ (plan : PlanValue). HasStanding (other_role plan.tested) facts.standing (got_in_all (turns_of_run x)))
     h.plan_is are.standing in
     close_ends run.plan.tested facts.standing
-    (one run.plan.tested facts.standing (got_in_all (turns_of_run x)) stands (h.closed c))
+    (one_close one run.plan.tested facts.standing (got_in_all (turns_of_run x)) stands (h.closed c))
 
 -- what has to be so where what is waited for has come
 come_parts : (ends failed out answered whole : Bool)

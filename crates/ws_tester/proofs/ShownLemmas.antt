@@ -6,9 +6,8 @@ use Rattle.ws_wire.specs.declared.role.Role.{Role}
 use Rattle.ws_session.specs.Exchange.{SessionValue, is_over}
 use Rattle.ws_scripts.specs.declared.transcript.Ended.{Ended}
 use Rattle.ws_scripts.specs.declared.transcript.Turn.{Turn}
-use Rattle.ws_suite.specs.declared.evidence.keeping.ReplyTally.{ReplyTally}
 use Rattle.ws_suite.specs.Evidence.{other_role}
-use Rattle.ws_suite.specs.Growing.{GrowingValue, HasGrown, IsTallyOf, new_turn, turn_with_got, turn_with_sent}
+use Rattle.ws_suite.specs.Growing.{GrowingValue, HasGrown, new_turn, turn_with_got, turn_with_sent}
 use Rattle.ws_tester.specs.Standings.{HasServerClose, HasStanding, is_server_close, standing_of_status}
 use Rattle.ws_tester.specs.Outcomes.{HasSentEnd, got_in_all}
 use Rattle.ws_tester.specs.RunStates.{RunState, turns_of_run, with_came, with_closing, with_next_turn, with_nothing_to_send}
@@ -24,9 +23,9 @@ use Rattle.ws_tester.proofs.RecordsTurns.{got_begun, got_stays}
 
 pub next_shown : (old new : TesterValue) → new.run ≡ with_next_turn old.run
     → new.had_sent_end ≡ is_over old.seen.tested.status
-    → HasGrown IsTallyOf old.run.plan.tested (turns_of_run old.run ++ new_turn ∷ []) new.seen → ShowsTurns old → ShowsTurns new
+    → HasGrown old.run.plan.tested (turns_of_run old.run ++ new_turn ∷ []) new.seen → ShowsTurns old → ShowsTurns new
 next_shown old new run before grown h = record {
-  grown = subst (λ (x : RunState). HasGrown IsTallyOf x.plan.tested (turns_of_run x) new.seen) (sym run) grown;
+  grown = subst (λ (x : RunState). HasGrown x.plan.tested (turns_of_run x) new.seen) (sym run) grown;
   before = subst (λ (b : Bool). HasSentEnd new.run.plan.tested new.run.past b) (sym before)
       (subst (λ (x : RunState). HasSentEnd x.plan.tested x.past (is_over old.seen.tested.status)) (sym run)
       (sent_end old.run.plan.tested (turns_of_run old.run) old.seen h.grown));
@@ -40,10 +39,10 @@ next_shown old new run before grown h = record {
 pub taken_shown : (old new : TesterValue) (bytes : List ℕ) (pings : List (List ℕ))
     → new.run ≡ with_anew true (with_unanswered pings (with_taken bytes old.run))
     → new.had_sent_end ≡ old.had_sent_end
-    → HasGrown IsTallyOf old.run.plan.tested (old.run.past ++ turn_with_sent old.run.turn bytes ∷ []) new.seen
+    → HasGrown old.run.plan.tested (old.run.past ++ turn_with_sent old.run.turn bytes ∷ []) new.seen
     → ShowsTurns old → ShowsTurns new
 taken_shown old new bytes pings run before grown h = record {
-  grown = subst (λ (x : RunState). HasGrown IsTallyOf x.plan.tested (turns_of_run x) new.seen) (sym run) grown;
+  grown = subst (λ (x : RunState). HasGrown x.plan.tested (turns_of_run x) new.seen) (sym run) grown;
   before = subst (λ (b : Bool). HasSentEnd new.run.plan.tested new.run.past b) (sym before)
       (subst (λ (x : RunState). HasSentEnd x.plan.tested x.past old.had_sent_end) (sym run) h.before);
   closing = subst (λ (x : RunState). x.closing ≡ true → HasServerClose x.plan.tested (got_in_all (turns_of_run x))) (sym run)
@@ -67,7 +66,7 @@ base progress pings bytes x = with_anew progress (with_unanswered pings (with_ca
 
 module _ (one : OneList) (old new : TesterValue) (bytes : List ℕ) (progress : Bool) (pings : List (List ℕ))
     (h : ShowsTurns old)
-    (grown : HasGrown IsTallyOf old.run.plan.tested (old.run.past ++ turn_with_got old.run.turn bytes ∷ []) new.seen)
+    (grown : HasGrown old.run.plan.tested (old.run.past ++ turn_with_got old.run.turn bytes ∷ []) new.seen)
     (over : is_over old.seen.tester.status ≡ true → new.seen.tester ≡ old.seen.tester) where
   came : RunState
   came = with_came bytes old.run
@@ -108,7 +107,7 @@ module _ (one : OneList) (old new : TesterValue) (bytes : List ℕ) (progress : 
       → new.had_sent_end ≡ old.had_sent_end → ShowsTurns new
   unfolding came standing
   came_shown run before = record {
-    grown = subst (λ (x : RunState). HasGrown IsTallyOf x.plan.tested (turns_of_run x) new.seen) (sym run) (shown_at
+    grown = subst (λ (x : RunState). HasGrown x.plan.tested (turns_of_run x) new.seen) (sym run) (shown_at
         (is_server_close old.run.plan.tested (standing_of_status new.seen.tester.status) && not old.run.closing));
     before = subst (λ (had : Bool). HasSentEnd new.run.plan.tested new.run.past had) (sym before)
         (subst (λ (x : RunState). HasSentEnd x.plan.tested x.past old.had_sent_end) (sym run) (before_at
@@ -119,7 +118,7 @@ module _ (one : OneList) (old new : TesterValue) (bytes : List ℕ) (progress : 
         (two_true (is_server_close old.run.plan.tested (standing_of_status new.seen.tester.status)) (not old.run.closing)));
   }
     where
-      shown_at : (b : Bool) → HasGrown IsTallyOf (changed_by b (base progress pings bytes old.run)).plan.tested
+      shown_at : (b : Bool) → HasGrown (changed_by b (base progress pings bytes old.run)).plan.tested
           (turns_of_run (changed_by b (base progress pings bytes old.run))) new.seen
       shown_at true = grown
       shown_at false = grown
@@ -140,9 +139,9 @@ module _ (one : OneList) (old new : TesterValue) (bytes : List ℕ) (progress : 
 -- what came is kept, and then how it stands is heard
 pub came_told : OneList → (old mid new : TesterValue) (bytes : List ℕ)
     → mid.run ≡ base mid.run.waits_anew mid.run.pings bytes old.run
-    → ((tested : Role) (past : List Turn) (turn : Turn) → HasGrown IsTallyOf tested (past ++ turn ∷ []) old.seen
-    → HasGrown IsTallyOf tested (past ++ turn_with_got turn bytes ∷ []) mid.seen)
-    → ((tested : Role) (past : List Turn) (turn : Turn) → HasGrown IsTallyOf tested (past ++ turn ∷ []) old.seen
+    → ((tested : Role) (past : List Turn) (turn : Turn) → HasGrown tested (past ++ turn ∷ []) old.seen
+    → HasGrown tested (past ++ turn_with_got turn bytes ∷ []) mid.seen)
+    → ((tested : Role) (past : List Turn) (turn : Turn) → HasGrown tested (past ++ turn ∷ []) old.seen
     → NotesGot tested (past ++ turn ∷ []) bytes old.run.pings mid.run.pings mid.run.waits_anew)
     → (is_over old.seen.tester.status ≡ true → mid.seen.tester ≡ old.seen.tester)
     → mid.had_sent_end ≡ old.had_sent_end → new.run ≡ with_standing (standing_of_status mid.seen.tester.status) mid.run
@@ -154,18 +153,18 @@ came_told one old mid new bytes came grown noted over kept heard seen before sho
   came_shown one old new bytes mid.run.waits_anew mid.run.pings shown grown_now over_now run_is (before ∙ kept),
 )
   where
-    grown_now : HasGrown IsTallyOf old.run.plan.tested (old.run.past ++ turn_with_got old.run.turn bytes ∷ []) new.seen
-    grown_now = subst (λ (s : GrowingValue ReplyTally). HasGrown IsTallyOf old.run.plan.tested
+    grown_now : HasGrown old.run.plan.tested (old.run.past ++ turn_with_got old.run.turn bytes ∷ []) new.seen
+    grown_now = subst (λ (s : GrowingValue). HasGrown old.run.plan.tested
         (old.run.past ++ turn_with_got old.run.turn bytes ∷ []) s) (sym seen)
         (grown old.run.plan.tested old.run.past old.run.turn shown.grown)
 
     over_now : is_over old.seen.tester.status ≡ true → new.seen.tester ≡ old.seen.tester
-    over_now o = ap (λ (s : GrowingValue ReplyTally). s.tester) seen ∙ over o
+    over_now o = ap (λ (s : GrowingValue). s.tester) seen ∙ over o
 
     run_is : new.run ≡ with_standing (standing_of_status new.seen.tester.status)
         (base mid.run.waits_anew mid.run.pings bytes old.run)
     run_is = heard ∙ (ap (λ (x : RunState). with_standing (standing_of_status mid.seen.tester.status) x) came
-        ∙ ap (λ (s : GrowingValue ReplyTally). with_standing (standing_of_status s.tester.status)
+        ∙ ap (λ (s : GrowingValue). with_standing (standing_of_status s.tester.status)
         (base mid.run.waits_anew mid.run.pings bytes old.run)) (sym seen))
 
 same_end : (b : Bool) (x : RunState) → (changed_by b x).ended ≡ x.ended

@@ -4,8 +4,7 @@ use Rattle.std.specs.Prelude.{Option, Some, None}
 use Rattle.ws_scripts.specs.declared.transcript.Ended.{Ended}
 use Rattle.ws_scripts.specs.declared.transcript.Ended.TheVariants.{Tester}
 use Rattle.ws_suite.specs.Evidence.{other_role}
-use Rattle.ws_suite.specs.declared.evidence.keeping.ReplyTally.{ReplyTally}
-use Rattle.ws_suite.specs.Growing.{GrowingValue, HasGrown, IsTallyOf}
+use Rattle.ws_suite.specs.Growing.{GrowingValue, HasGrown}
 use Rattle.ws_suite.specs.Progress.{NotesGot, NotesSent}
 use Rattle.ws_machines.specs.Told.{Told}
 use Rattle.ws_machines.specs.Told.Told.{Came, Ended as StreamEnded, ReadFailed, NothingCame, Taken, DirectionEnded}
@@ -156,12 +155,12 @@ BeginsRun run start = (standing : Standing) × HasStanding (other_role run.plan.
 -- a run as its machine has it: the state, what is shown of it, and whether a close or a fault was sent before the turn
 pub record TesterValue : Type 0 where
   pub run : RunState
-  pub seen : GrowingValue ReplyTally
+  pub seen : GrowingValue
   pub had_sent_end : Bool
 
 -- what is shown is that of the turns so far
 pub record ShowsTurns (x : TesterValue) : Type 0 where
-  pub grown : HasGrown IsTallyOf x.run.plan.tested (turns_of_run x.run) x.seen
+  pub grown : HasGrown x.run.plan.tested (turns_of_run x.run) x.seen
   pub before : HasSentEnd x.run.plan.tested x.run.past x.had_sent_end
   pub closing : x.run.closing ≡ true → HasServerClose x.run.plan.tested (got_in_all (turns_of_run x.run))
 

@@ -10,7 +10,7 @@ use Rattle.ws_scripts.specs.declared.transcript.Ended.TheVariants.{Tester, Peer,
 use Rattle.ws_scripts.specs.declared.transcript.Turn.{Turn}
 use Rattle.ws_suite.specs.Evidence.{got_turns, other_role, sent_turns}
 use Rattle.ws_scripts.specs.declared.expectation.Expectation.TheVariants.{Echo, Protocol}
-use Rattle.ws_suite.specs.Growing.{EndInsideFrame, HaveUnowedMessage}
+use Rattle.ws_suite.specs.Growing.{EndInsideFrame, CannotComeAfter}
 use Rattle.ws_suite.specs.Waiting.{AreTurnsAnsweredBy, AreTurnsSeenAnswered}
 use Rattle.ws_machines.specs.Told.{Told}
 use Rattle.ws_machines.specs.Told.Told.{ReadFailed, Ended as StreamEnded, NothingCame, DeadlinePassed}
@@ -43,7 +43,7 @@ HasSentEnd tested turns answer =
 
 -- The answers are right: how what was got stands; whether what was sent has a close or a fault by now, and whether that
 -- was so before the turn; whether what is owed has come, where a yes is right and what a run sees is a yes; whether
--- what was got ends inside a frame; and whether more messages were got than are due.
+-- what was got ends inside a frame; and whether what an echo owes can't come any more.
 pub record AreFacts (plan : PlanValue) (past turns : List Turn) (facts : TurnFacts) : Type 0 where
   pub standing : HasStanding (other_role plan.tested) facts.standing (got_in_all turns)
   pub sent_end : HasSentEnd plan.tested turns facts.has_sent_end
@@ -51,7 +51,7 @@ pub record AreFacts (plan : PlanValue) (past turns : List Turn) (facts : TurnFac
   pub come : facts.is_answered ≡ true → AreTurnsAnsweredBy plan.expected plan.tested turns
   pub seen : AreTurnsSeenAnswered plan.expected plan.tested turns → facts.is_answered ≡ true
   pub inside : (facts.is_inside ≡ true) ↔ EndInsideFrame plan.tested turns
-  pub unowed : (facts.has_unowed ≡ true) ↔ HaveUnowedMessage plan.tested turns
+  pub cannot : (facts.cannot_come ≡ true) ↔ CannotComeAfter plan.tested turns
 
 -- ---- the table
 
@@ -78,11 +78,11 @@ abbrev pub owes_messages : Expectation → Bool
 owes_messages Echo = true
 owes_messages Protocol = false
 
--- What is waited for can't come any more: in the last turn more messages were got than an echo owes. No write has
+-- What is waited for can't come any more: in the last turn what was got can't become what an echo owes. No write has
 -- failed, and what was got has neither a close nor a fault and doesn't end inside a frame.
 abbrev pub is_in_vain : RunState → TurnFacts → Bool
 is_in_vain x facts = owes_messages x.plan.expected && (not (has_more x) && (not x.write_failed
-    && (not (has_end facts.standing) && (facts.has_unowed && not facts.is_inside))))
+    && (not (has_end facts.standing) && (facts.cannot_come && not facts.is_inside))))
 
 -- nothing is waited for in the turn any more
 abbrev pub is_turn_over : RunState → TurnFacts → Bool

@@ -2,18 +2,20 @@
 use Rattle.std.specs.Prelude.{◌≡◌, ℕ, ◌<◌, ◌≤◌, ◌⊎◌, Bool, true, false, List, [], ◌∷◌, ◌++◌, length, take, map}
 use Rattle.std.specs.Prelude.{Some}
 use Rattle.std.specs.List.{concat}
+use Rattle.ws_wire.specs.declared.role.Role.TheVariants.{Client}
 use Rattle.ws_scripts.specs.declared.expectation.Expectation.TheVariants.{Echo}
 use Rattle.ws_scripts.specs.declared.transcript.Ended.TheVariants.{Tester, Peer, Broken}
 use Rattle.ws_scripts.specs.declared.transcript.Turn.{Turn}
 use Rattle.ws_scripts.specs.declared.transcript.Transcript.{Transcript}
 use Rattle.ws_suite.specs.Evidence.{other_role, sent_turns}
-use Rattle.ws_suite.specs.Growing.{EndInsideFrame, HaveUnowedMessage}
-use Rattle.ws_suite.specs.Waiting.{AreTurnsAnsweredBy}
+use Rattle.ws_suite.specs.Growing.{EndInsideFrame, CannotComeAfter}
+use Rattle.ws_suite.specs.Waiting.{AreTurnsAnsweredBy, AreTurnsSeenAnswered}
 use Rattle.ws_machines.specs.Told.{Told, all_came, all_taken}
 use Rattle.ws_machines.specs.Told.Told.{ReadFailed, WriteFailed, Ended, NothingCame, DirectionEnded, DeadlinePassed}
+use Rattle.ws_machines.specs.Told.Told.{Taken}
 use Rattle.ws_tester.specs.Standings.{HasServerClose, HasStanding, HasStandingBy, stops_run}
-use Rattle.ws_tester.specs.Outgoings.{HaveBytes}
-use Rattle.ws_tester.specs.Outcomes.{got_in_all, sent_in_all}
+use Rattle.ws_tester.specs.Outgoings.{HaveBytes, first_turn}
+use Rattle.ws_tester.specs.Outcomes.{HasSentEnd, got_in_all, sent_in_all}
 use Rattle.ws_tester.specs.Following.{BeginsRun, Follows, ScriptValue}
 use Rattle.ws_tester.specs.RunStates.{RunState, recorded}
 use Rattle.ws_tester.specs.declared.standing.Standing.TheVariants.{Going}
@@ -63,11 +65,13 @@ pub record HasAllOwed (run : ScriptValue) (turns : List Turn) : Type 0 where
   pub answered : AreTurnsAnsweredBy run.plan.expected run.plan.tested turns
   pub whole : ¬ (EndInsideFrame run.plan.tested turns)
 
--- more messages came than an echo owes, but neither a close nor a fault, and no frame is under way
-pub record HasMoreThanOwed (run : ScriptValue) (turns : List Turn) : Type 0 where
+-- All turns of the script were sent, and what an echo owes can't come any more. Neither a close nor a fault came, and
+-- no frame is under way.
+pub record CannotComeAnyMore (run : ScriptValue) (turns : List Turn) : Type 0 where
+  pub sent : map concat run.script ≡ sent_turns turns
   pub echo : run.plan.expected ≡ Echo
   pub going : HasStanding (other_role run.plan.tested) Going (got_in_all turns)
-  pub unowed : HaveUnowedMessage run.plan.tested turns
+  pub cannot : CannotComeAfter run.plan.tested turns
   pub whole : ¬ (EndInsideFrame run.plan.tested turns)
 
 -- The tester ends a run that has turns where what was got stops it, by a fault or from a client by a close; where it
@@ -76,13 +80,84 @@ pub record HasMoreThanOwed (run : ScriptValue) (turns : List Turn) : Type 0 wher
 abbrev pub IsEndedByTester : ScriptValue → List Told → List Turn → Type 0
 IsEndedByTester run told turns = HasStandingBy stops_run true run.plan.tested (got_in_all turns)
     ⊎ (WasLast NothingCame told ⊎ (((waited : Bool) × WasLast (DeadlinePassed waited) told)
-    ⊎ (HasAllOwed run turns ⊎ HasMoreThanOwed run turns)))
+    ⊎ (HasAllOwed run turns ⊎ CannotComeAnyMore run turns)))
+
+-- The own direction was ended; or before that could be, the deadline passed, or, where the close came with the head,
+-- the stream ended or a read failed before the first turn was all sent.
+abbrev pub IsHalfClosed : ScriptValue → List Told → List Turn → Type 0
+IsHalfClosed run told turns = Was DirectionEnded told ⊎ (((waited : Bool) × WasLast (DeadlinePassed waited) told)
+    ⊎ (HasServerClose run.plan.tested run.first × (WasLast Ended told ⊎ WasLast ReadFailed told)
+    × (length (sent_in_all turns) < length (concat (first_turn run.script)))))
+
+-- by then neither a close nor a fault was got; or a close of a server came with the head
+abbrev pub IsSentInTime : ScriptValue → List Told → Type 0
+IsSentInTime run before = HasStanding (other_role run.plan.tested) Going (run.first ++ all_came before)
+    ⊎ HasServerClose run.plan.tested run.first
+
+-- ---- when nothing is waited for any more
+
+-- What was got has neither a close nor a fault, and no write has failed.
+pub record IsUnbroken (run : ScriptValue) (told : List Told) (turns : List Turn) : Type 0 where
+  pub going : HasStanding (other_role run.plan.tested) Going (got_in_all turns)
+  pub works : ¬ (Was WriteFailed told)
+
+-- The script has a turn after these, all of which were sent, and what is owed has come, so that a run sees it. Where
+-- waits can be in vain, the last of them isn't the one that has sent a close or a fault.
+pub record IsNextDue (run : ScriptValue) (past : List Turn) (turn : Turn) : Type 0 where
+  pub next : List ℕ
+  pub later : List (List ℕ)
+  pub sent : map concat run.script ≡ sent_turns past ++ turn.sent ∷ next ∷ later
+  pub answered : AreTurnsSeenAnswered run.plan.expected run.plan.tested (past ++ turn ∷ [])
+  pub unended : run.plan.timeouts ≡ true → HasSentEnd run.plan.tested (past ++ turn ∷ []) true
+      → HasSentEnd run.plan.tested past true
+
+-- All turns of the script were sent to a client, and neither a close nor a fault was; what is owed has come, so that a
+-- run sees it, and no frame is under way.
+pub record IsClientAnswered (run : ScriptValue) (turns : List Turn) : Type 0 where
+  pub client : run.plan.tested ≡ Client
+  pub sent : map concat run.script ≡ sent_turns turns
+  pub unended : HasSentEnd run.plan.tested turns false
+  pub answered : AreTurnsSeenAnswered run.plan.expected run.plan.tested turns
+  pub whole : ¬ (EndInsideFrame run.plan.tested turns)
+
+-- Nothing is waited for any more in a turn behind these: what was got stops the run, by a fault or from a client by a
+-- close; or it is unbroken, and what is owed has come and the next turn is due, or the client of the last one has
+-- answered; or what is owed can't come any more.
+abbrev pub IsOver : ScriptValue → List Told → List Turn → Turn → Type 0
+IsOver run told past turn = HasStandingBy stops_run true run.plan.tested (got_in_all (past ++ turn ∷ []))
+    ⊎ (IsUnbroken run told (past ++ turn ∷ []) × (IsNextDue run past turn
+    ⊎ (IsClientAnswered run (past ++ turn ∷ []) ⊎ CannotComeAnyMore run (past ++ turn ∷ []))))
+
+-- what a turn has sent and got is a beginning of what it has in the end
+pub record HasBegunTurn (turn whole : Turn) : Type 0 where
+  pub unsent : List ℕ
+  pub sent : whole.sent ≡ turn.sent ++ unsent
+  pub ungot : List ℕ
+  pub got : whole.got ≡ turn.got ++ ungot
+
+-- the first of these turns, and a beginning of the next one
+abbrev pub AreTurnsSoFar : List Turn → Turn → List Turn → Type 0
+AreTurnsSoFar past turn [] = ⊥
+AreTurnsSoFar [] turn (whole ∷ later) = HasBegunTurn turn whole
+AreTurnsSoFar (first ∷ past) turn (whole ∷ later) = (first ≡ whole) × AreTurnsSoFar past turn later
+
+-- When just this had been told something was still waited for in these turns: of the first of them, and of a beginning
+-- of the next one, just this had been sent and got, and that wasn't over.
+pub record WasWaiting (run : ScriptValue) (turns : List Turn) (told : List Told) : Type 0 where
+  pub past : List Turn
+  pub turn : Turn
+  pub so_far : AreTurnsSoFar past turn turns
+  pub sent : sent_in_all (past ++ turn ∷ []) ≡ all_taken told
+  pub got : got_in_all (past ++ turn ∷ []) ≡ run.first ++ all_came told
+  pub waits : ¬ (IsOver run told past turn)
 
 -- A run that was told just this is recorded so: just what was taken was sent, and just what came was got, behind what
 -- came with the head, no more than the budget. Each turn but the last is sent whole, and was waited for. The run is
 -- broken off only where that was told, was ended by the tested end only where its stream has ended, and by the tester
 -- only where the script has no turns or as `IsEndedByTester` says. The own direction was ended only where a server's
--- close was got.
+-- close was got, and there it was, as `IsHalfClosed` says, where the script has turns. Each byte was sent in time, and
+-- a turn follows others only where these have got neither a close nor a fault. Whatever was told, something was still
+-- waited for by then: once nothing is, the next turn begins, or the run ends.
 pub record IsRecordOf (run : ScriptValue) (told : List Told) (transcript : Transcript) : Type 0 where
   pub sent : sent_in_all transcript.turns ≡ all_taken told
   pub got : got_in_all transcript.turns ≡ run.first ++ all_came told
@@ -93,6 +168,13 @@ pub record IsRecordOf (run : ScriptValue) (told : List Told) (transcript : Trans
   pub tester : transcript.ended ≡ Tester → (run.script ≡ []) ⊎ IsEndedByTester run told transcript.turns
   pub peer : transcript.ended ≡ Peer → WasLast Ended told
   pub half_closed : Was DirectionEnded told → HasServerClose run.plan.tested (got_in_all transcript.turns)
+  pub closes : HasServerClose run.plan.tested (got_in_all transcript.turns) → (run.script ≡ [])
+      ⊎ IsHalfClosed run told transcript.turns
+  pub in_time : (before : List Told) (byte : ℕ) (bytes : List ℕ) → WasAt (Taken (byte ∷ bytes)) told before
+      → IsSentInTime run before
+  pub follows : (n : ℕ) → 0 < n → n < length transcript.turns
+      → HasStanding (other_role run.plan.tested) Going (got_in_all (take n transcript.turns))
+  pub waits : (before : List Told) (event : Told) → WasAt event told before → WasWaiting run transcript.turns before
 
 -- the transcript is that of the state to which a run has come that was told just this
 pub record IsOfRun (start : RunState) (told : List Told) (transcript : Transcript) : Type 0 where

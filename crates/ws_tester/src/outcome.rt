@@ -16,8 +16,8 @@ pub struct TurnFacts {
     pub is_answered: bool,
     /// What was got ends inside a frame.
     pub is_inside: bool,
-    /// More messages were got than are due.
-    pub has_unowed: bool,
+    /// What an echo owes can't come any more.
+    pub cannot_come: bool,
 }
 
 /// What comes of a state.

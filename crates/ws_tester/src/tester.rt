@@ -6,7 +6,7 @@ mod deciding;
 ghost use Rattle.std.specs.Prelude.{◌≡◌, ◌∷◌, [], Some, IfOk};
 ghost use Rattle.ws_session.specs.Exchange.{is_over};
 ghost use Rattle.ws_scripts.specs.declared.transcript.Ended.{Ended};
-ghost use Rattle.ws_suite.specs.Growing.{HasGrown, IsTallyOf};
+ghost use Rattle.ws_suite.specs.Growing.{HasGrown};
 ghost use Rattle.ws_machines.specs.Machines.{HasNext};
 ghost use Rattle.ws_tester.specs.Standings.{is_server_close, standing_of_status};
 ghost use Rattle.ws_tester.specs.Following.{BeginsRun, WasTold, first_state, has_items};
@@ -151,7 +151,7 @@ impl Tester {
         ensures state { IfOk result (λ tester. tester.run ≡ first_state
             (record { plan = plan_value plan; script = script; budget = budget; first = first.items })
             (is_server_close plan.tested (standing_of_status tester.seen.tester.status))) }
-        ensures grown { IfOk result (λ tester. HasGrown IsTallyOf plan.tested
+        ensures grown { IfOk result (λ tester. HasGrown plan.tested
             (record { sent = []; got = first.items } ∷ []) tester.seen) }
         ensures before { IfOk result (λ tester. tester.had_sent_end ≡ is_over tester.seen.tested.status) }
     {
@@ -220,7 +220,7 @@ fn has_bytes(bytes: &[u8]) -> bool
 
 /// What is shown of a first turn in which this was got.
 fn first_evidence(alloc: Global, tested: Role, first: &[u8]) -> Result<RunEvidence, NoMemory>
-    ensures grown { IfOk result (λ evidence. HasGrown IsTallyOf tested
+    ensures grown { IfOk result (λ evidence. HasGrown tested
         (record { sent = []; got = first.now } ∷ []) evidence) }
     ensures pings { IfOk result (λ evidence. evidence.pings ≡ []) }
 {

@@ -6,7 +6,7 @@ ghost use Rattle.ws_machines.specs.Told.{told_of};
 ghost use Rattle.ws_scripts.specs.declared.transcript.Turn.{Turn};
 ghost use Rattle.ws_session.specs.Exchange.{is_over};
 ghost use Rattle.ws_wire.specs.declared.role.Role.{Role};
-ghost use Rattle.ws_suite.specs.Growing.{HasGrown, IsTallyOf, new_turn, turn_with_got, turn_with_sent};
+ghost use Rattle.ws_suite.specs.Growing.{HasGrown, new_turn, turn_with_got, turn_with_sent};
 ghost use Rattle.ws_suite.specs.Progress.{NotesGot, NotesSent};
 ghost use Rattle.ws_tester.specs.Following.{Changes, LeadsOnBy, HearsCame, ShowsTurns, Obeys, Settles};
 ghost use Rattle.ws_tester.specs.Outcomes.{outcome_of_event};
@@ -56,8 +56,8 @@ impl Tester {
     fn begin_next_turn(&mut self) -> Result<(), NoMemory>
         ensures next { OnOk result (self.new.run ≡ with_next_turn self.old.run) }
         ensures grown { OnOk result ((tested : Role) →
-            HasGrown IsTallyOf tested (turns_of_run self.old.run) self.old.seen →
-            HasGrown IsTallyOf tested (turns_of_run self.old.run ++ new_turn ∷ []) self.new.seen) }
+            HasGrown tested (turns_of_run self.old.run) self.old.seen →
+            HasGrown tested (turns_of_run self.old.run ++ new_turn ∷ []) self.new.seen) }
         ensures before { OnOk result (self.new.had_sent_end ≡ is_over self.old.seen.tested.status) }
     {
         let sent = mem::replace(&mut self.sent, Vec::new(self.alloc));
@@ -88,10 +88,10 @@ impl Tester {
         ensures came { OnOk result (self.new.run ≡ with_anew self.new.run.waits_anew
             (with_unanswered self.new.run.pings (with_came piece.now self.old.run))) }
         ensures grown { OnOk result ((tested : Role) (past : List Turn) (turn : Turn) →
-            HasGrown IsTallyOf tested (past ++ turn ∷ []) self.old.seen →
-            HasGrown IsTallyOf tested (past ++ turn_with_got turn piece.now ∷ []) self.new.seen) }
+            HasGrown tested (past ++ turn ∷ []) self.old.seen →
+            HasGrown tested (past ++ turn_with_got turn piece.now ∷ []) self.new.seen) }
         ensures noted { OnOk result ((tested : Role) (past : List Turn) (turn : Turn) →
-            HasGrown IsTallyOf tested (past ++ turn ∷ []) self.old.seen → NotesGot tested (past ++ turn ∷ [])
+            HasGrown tested (past ++ turn ∷ []) self.old.seen → NotesGot tested (past ++ turn ∷ [])
             piece.now self.old.run.pings self.new.run.pings self.new.run.waits_anew) }
         ensures over { OnOk result (is_over self.old.seen.tester.status ≡ true →
             self.new.seen.tester ≡ self.old.seen.tester) }
@@ -122,10 +122,10 @@ impl Tester {
         ensures taken { OnOk result (self.new.run ≡ with_anew true (with_unanswered self.new.run.pings
             (with_taken (take count (first_piece self.old.run.outgoing.rest)) self.old.run))) }
         ensures grown { OnOk result ((tested : Role) (past : List Turn) (turn : Turn) →
-            HasGrown IsTallyOf tested (past ++ turn ∷ []) self.old.seen → HasGrown IsTallyOf tested
+            HasGrown tested (past ++ turn ∷ []) self.old.seen → HasGrown tested
             (past ++ turn_with_sent turn (take count (first_piece self.old.run.outgoing.rest)) ∷ []) self.new.seen) }
         ensures noted { OnOk result ((tested : Role) (past : List Turn) (turn : Turn) →
-            HasGrown IsTallyOf tested (past ++ turn ∷ []) self.old.seen → NotesSent tested (past ++ turn ∷ [])
+            HasGrown tested (past ++ turn ∷ []) self.old.seen → NotesSent tested (past ++ turn ∷ [])
             (take count (first_piece self.old.run.outgoing.rest)) self.old.run.pings self.new.run.pings) }
         ensures before { OnOk result (self.new.had_sent_end ≡ self.old.had_sent_end) }
     {

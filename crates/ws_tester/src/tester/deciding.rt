@@ -27,7 +27,7 @@ impl Tester {
             had_sent_end: self.had_sent_end,
             is_answered: self.evidence.is_answered_by(self.plan.expected),
             is_inside: self.evidence.ends_inside_frame(),
-            has_unowed: self.evidence.has_unowed_message(),
+            cannot_come: self.evidence.cannot_come(),
         }
     }
 
@@ -55,7 +55,7 @@ impl Tester {
             && (self.outgoing.has_more() || !facts.is_inside)
     }
 
-    /// Whether what is waited for can't come any more: more messages were got than an echo owes. Behind a server's
+    /// Whether what is waited for can't come any more: what was got can't become what an echo owes. Behind a server's
     /// close the own direction is to be ended first.
     pub(super) fn is_in_vain(&self, facts: TurnFacts) -> bool
         ensures { result ≡ is_in_vain self.now.run facts }
@@ -64,7 +64,7 @@ impl Tester {
             && !self.outgoing.has_more()
             && !self.write_failed
             && facts.standing == Standing::Going
-            && facts.has_unowed
+            && facts.cannot_come
             && !facts.is_inside
     }
 

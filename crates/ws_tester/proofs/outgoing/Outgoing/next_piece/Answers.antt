@@ -1,5 +1,5 @@
 -- The piece after the one that is next, or no piece where there is none.
-use Rattle.std.proofs.Common.{◌≡◌, ◌∙◌, ◌<◌, ◌≤◌, ◌^◌, ap, length, rules, sym}
+use Rattle.std.proofs.Common.{◌∙◌, ◌<◌, ◌≤◌, ◌^◌, ap, length, rules, sym}
 use Rattle.ws_tester.specs.Outgoings.{OutgoingValue}
 use Rattle.ws_tester.proofs.OutgoingLemmas.{no_piece_on, one_piece_on}
 use Rattle.ws_tester.proofs.outgoing.Outgoing.next_piece.Goals as goal

@@ -1,7 +1,7 @@
 -- The evidence has grown with one turn more.
 use Rattle.std.proofs.Common.{◌<◌, ◌+◌, ◌^◌, ◌++◌, ◌∷◌, [], List, arith, length, length-append, subst}
 use Rattle.ws_scripts.specs.declared.transcript.Turn.{Turn}
-use Rattle.ws_suite.specs.Growing.{HasGrown, IsTallyOf, new_turn}
+use Rattle.ws_suite.specs.Growing.{HasGrown, new_turn}
 use Rattle.ws_tester.specs.Following.{TesterValue}
 use Rattle.ws_tester.specs.RunStates.{turns_of_run}
 use Rattle.ws_tester.proofs.tester.Tester.begin_next_turn.Goals as goal
@@ -16,6 +16,6 @@ returns-clause-grown c = λ tested.
       c.self.inside.past.small,
       length-append c.self.inside.past.items (turn ∷ []),
     ) in
-    subst (λ (v : TesterValue). HasGrown IsTallyOf tested (turns_of_run v.run) v.seen
-    → HasGrown IsTallyOf tested (turns_of_run v.run ++ new_turn ∷ []) c.begin_turn.new.self) c.self.view_is
+    subst (λ (v : TesterValue). HasGrown tested (turns_of_run v.run) v.seen
+    → HasGrown tested (turns_of_run v.run ++ new_turn ∷ []) c.begin_turn.new.self) c.self.view_is
     (λ h. c.begin_turn.ensures.grown tested turns room h)

@@ -6,4 +6,4 @@ use Rattle.ws_tester.proofs.tester.Tester.facts.Goals as goal
 pub returns : goal.returns
 returns c = facts_are _ c.args.self.now c.self.view_is _ c.standing_of.ensures c.has_sent_end.ensures refl
     c.is_answered_by.ensures.answered c.is_answered_by.ensures.seen c.ends_inside_frame.ensures
-    c.has_unowed_message.ensures
+    c.cannot_come.ensures
