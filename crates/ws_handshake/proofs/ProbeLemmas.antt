@@ -26,24 +26,27 @@ use Rattle.ws_handshake.proofs.HeadLemmas.{decided_head, fits_piece, more_pieces
 
 -- ---- the request, and the head of the answer
 
-pub nothing_asked : (request : List ℕ) → WasAsked request request [] []
-nothing_asked request = record {
+pub nothing_asked : (request read : List ℕ) → WasAsked request request read read []
+nothing_asked request read = record {
   writes = [];
   reads = [];
   parts = refl;
   taken = [];
   are_taken = none_taken;
   put = refl;
+  came = [];
   got = no_pieces;
+  adds = sym (append-nil read);
   order = inl refl;
 }
 
 -- more of the request was taken
-asked_taken : (request rest read : List ℕ) (told : List Told) (count : ℕ) → 0 < count → count ≤ length rest
-    → WasAsked request rest read told → WasAsked request (drop count rest) read (told ++ Taken (take count rest) ∷ [])
-asked_taken request rest read told count some fits h = by h.order
+asked_taken : (request rest had read : List ℕ) (told : List Told) (count : ℕ) → 0 < count → count ≤ length rest
+    → WasAsked request rest had read told
+    → WasAsked request (drop count rest) had read (told ++ Taken (take count rest) ∷ [])
+asked_taken request rest had read told count some fits h = by h.order
   where
-    by : (h.reads ≡ []) ⊎ (rest ≡ []) → WasAsked request (drop count rest) read (told ++ Taken (take count rest) ∷ [])
+    by : (h.reads ≡ []) ⊎ (rest ≡ []) → WasAsked request (drop count rest) had read (told ++ Taken (take count rest) ∷ [])
     by (inl none) = record {
       writes = h.writes ++ Taken (take count rest) ∷ [];
       reads = [];
@@ -54,23 +57,28 @@ asked_taken request rest read told count some fits h = by h.order
       are_taken = more_taken h.writes h.taken (take count rest) h.are_taken;
       put = h.put ∙ (ap (λ (l : List ℕ). h.taken ++ l) (sym (take-append-drop count rest))
           ∙ sym (append_assoc h.taken (take count rest) (drop count rest)));
-      got = subst (λ (l : List Told). AreHeadPieces l read) none h.got;
+      came = h.came;
+      got = subst (λ (l : List Told). AreHeadPieces l h.came) none h.got;
+      adds = h.adds;
       order = inl refl;
     }
     by (inr done) = absurd
         (let len : length rest ≡ 0 = ap (λ (l : List ℕ). length l) done in omega (arith, some, fits, len))
 
 -- more of the answer came
-asked_came : (request rest read piece : List ℕ) (told : List Told) → rest ≡ [] → length piece ≤ max_head_piece
-    → WasAsked request rest read told → WasAsked request rest (read ++ piece) (told ++ Came piece ∷ [])
-asked_came request rest read piece told done fits h = record {
+pub asked_came : (request rest had read piece : List ℕ) (told : List Told) → rest ≡ []
+    → length piece ≤ max_head_piece → WasAsked request rest had read told
+    → WasAsked request rest had (read ++ piece) (told ++ Came piece ∷ [])
+asked_came request rest had read piece told done fits h = record {
   writes = h.writes;
   reads = h.reads ++ Came piece ∷ [];
   parts = ap (λ (l : List Told). l ++ Came piece ∷ []) h.parts ∙ append_assoc h.writes h.reads (Came piece ∷ []);
   taken = h.taken;
   are_taken = h.are_taken;
   put = h.put;
-  got = more_pieces h.reads read piece fits h.got;
+  came = h.came ++ piece;
+  got = more_pieces h.reads h.came piece fits h.got;
+  adds = ap (λ (l : List ℕ). l ++ piece) h.adds ∙ append_assoc had h.came piece;
   order = inr done;
 }
 
@@ -89,15 +97,15 @@ reads_now rest room some = all_written rest room (if is_nothing rest then room e
 -- ---- one thing more, before the head is whole
 
 module _ (start old new : ProbeValue) (told : List Told) (h : StillAsks start old told) where
-  stays_so : (rest read : List ℕ) (now : List Told) → StaysUndecided old new rest read → WasAsked start.rest rest read now
+  stays_so : (rest read : List ℕ) (now : List Told) → StaysUndecided old new rest read → WasAsked start.rest rest start.read read now
       → IsOpen start.asked read → WasProbed start new now
   stays_so rest read now stays asked is_open = subst (λ (s : ProbeStage). WasProbedAt s start new now) (sym stays.stage)
       (record {
         asking = h.asking;
         asked = stays.asked ∙ h.asked;
         script = stays.script ∙ h.script;
-        was_asked = subst (λ (l : List ℕ). WasAsked start.rest l new.read now) (sym stays.left)
-            (subst (λ (l : List ℕ). WasAsked start.rest rest l now) (sym stays.got) asked);
+        was_asked = subst (λ (l : List ℕ). WasAsked start.rest l start.read new.read now) (sym stays.left)
+            (subst (λ (l : List ℕ). WasAsked start.rest rest start.read l now) (sym stays.got) asked);
         is_open = subst (λ (l : List ℕ). IsOpen start.asked l) (sym stays.got) is_open;
       })
 
@@ -137,8 +145,8 @@ module _ (start old new : ProbeValue) (told : List Told) (h : StillAsks start ol
     abbrev now : List Told
     now = told ++ Came piece ∷ []
 
-    came_so : WasAsked start.rest old.rest (old.read ++ piece) now
-    came_so = asked_came start.rest old.rest old.read piece told done (fits_piece old.read (length piece) fits)
+    came_so : WasAsked start.rest old.rest start.read (old.read ++ piece) now
+    came_so = asked_came start.rest old.rest start.read old.read piece told done (fits_piece old.read (length piece) fits)
         h.was_asked
 
     got_so : (decision : ResponseDecision)
@@ -146,7 +154,8 @@ module _ (start old new : ProbeValue) (told : List Told) (h : StillAsks start ol
         → GotHead start (old.read ++ piece) decision now
     got_so decision k = record {
       asking = h.asking;
-      was_asked = subst (λ (l : List ℕ). WasAsked start.rest l (old.read ++ piece) now) done came_so;
+      was_asked = subst (λ (l : List ℕ). WasAsked start.rest l start.read (old.read ++ piece) now) done came_so;
+      ends = record { before = told; last = piece; parts = refl };
       is_head = decided_head (NeedsResponse start.asked.nonce start.asked.offers)
           (DecidesResponse start.asked.nonce start.asked.offers) old.read piece decision h.is_open fits
           (decides_so (old.read ++ piece) decision k);
@@ -189,7 +198,7 @@ module _ (start old new : ProbeValue) (told : List Told) (h : StillAsks start ol
   opens_so event.NothingCame (undone, (room, none)) k = loses NothingCame none k
   opens_so (event.Taken count) (undone, (some, fits)) k =
       stays_so (drop count old.rest) old.read (told ++ Taken (take count old.rest) ∷ []) k
-      (asked_taken start.rest old.rest old.read told count some fits h.was_asked) h.is_open
+      (asked_taken start.rest old.rest start.read old.read told count some fits h.was_asked) h.is_open
   opens_so event.WriteFailed (undone, some) k = loses WriteFailed some k
   opens_so event.DirectionEnded (undone, wrong) k = absurd cc
   opens_so event.Reported (undone, some) k = absurd (let wrong : 0 < 0 = some in omega arith)

@@ -1,6 +1,6 @@
 -- The opening handshake of a client that then tests its server (RFC 6455 sections 4.1 and 5 to 7): its state, what it
 -- wants, what it was told, and what comes of it.
-use Rattle.std.specs.Prelude.{◌≡◌, ℕ, suc, ◌+◌, ◌-◌, ◌<◌, ◌⊎◌, ⊤, true, false, if◌then◌else◌, List, [], ◌∷◌, ◌++◌}
+use Rattle.std.specs.Prelude.{◌≡◌, ℕ, suc, ◌+◌, ◌-◌, ◌<◌, ◌⊎◌, ⊤, Bool, true, false, if◌then◌else◌, List, [], ◌∷◌, ◌++◌}
 use Rattle.std.specs.Prelude.{length, drop, map, Option, MatchOption}
 use Rattle.ws_upgrade.specs.Reading.{HasStatusCode, LacksStatusCode, max_head}
 use Rattle.ws_scripts.specs.declared.transcript.Transcript.{Transcript}
@@ -11,7 +11,7 @@ use Rattle.ws_tester.specs.Outgoings.{Pieces}
 use Rattle.ws_tester.specs.RunStates.{PlanValue, is_nothing, plan_value, run_left, wanted_in}
 use Rattle.ws_tester.specs.Following.{BeginsRun, ScriptValue, TesterValue, WasTold, first_state}
 use Rattle.ws_tester.specs.Records.{IsRecorded}
-use Rattle.ws_handshake.specs.ReadingHeads.{AreHeadPieces, AreTaken, IsWholeHead, IsUndecided, head_room}
+use Rattle.ws_handshake.specs.ReadingHeads.{AreHeadPieces, AreTaken, EndsInPiece, IsWholeHead, IsUndecided, head_room}
 use Rattle.ws_handshake.specs.Responses.{DecidesResponse, NeedsResponse}
 use Rattle.ws_handshake.specs.declared.response_head.ResponseDecision.{ResponseDecision}
 use Rattle.ws_handshake.specs.declared.response_head.ResponseDecision.TheVariants.{Accepted, Refused as RefusedHead}
@@ -48,6 +48,11 @@ pub record ProbeValue : Type 0 where
   pub rest : List ℕ
   pub read : List ℕ
   pub stage : ProbeStage
+
+-- the head of the answer isn't whole yet
+abbrev pub is_opening : ProbeStage → Bool
+is_opening Opening = true
+is_opening _ = false
 
 -- the script, where these bytes came behind the head
 abbrev pub script_asked : AskedValue → List Pieces → List ℕ → ScriptValue
@@ -95,21 +100,22 @@ probe_left x = probe_left_at x.stage x
 
 -- ---- what was told before the head is whole
 
--- nothing was told yet
+-- its request is written, or the head of the answer read
 pub record IsAsking (start : ProbeValue) : Type 0 where
   pub stage : start.stage ≡ Opening
-  pub read : start.read ≡ []
 
--- First only that bytes of this request were taken was told, of which this is left; and then, once none is, that these
--- bytes of the answer came.
-pub record WasAsked (request rest read : List ℕ) (told : List Told) : Type 0 where
+-- First only that bytes of this request were taken was told, of which this is left; and then, once none is, that bytes
+-- of the answer came: with those that were read before they are these.
+pub record WasAsked (request rest had read : List ℕ) (told : List Told) : Type 0 where
   pub writes : List Told
   pub reads : List Told
   pub parts : told ≡ writes ++ reads
   pub taken : List ℕ
   pub are_taken : AreTaken writes taken
   pub put : request ≡ taken ++ rest
-  pub got : AreHeadPieces reads read
+  pub came : List ℕ
+  pub got : AreHeadPieces reads came
+  pub adds : read ≡ had ++ came
   pub order : (reads ≡ []) ⊎ (rest ≡ [])
 
 -- the answer decides nothing yet
@@ -121,7 +127,8 @@ IsOpen asked read = IsUndecided (NeedsResponse asked.nonce asked.offers) read
 pub record GotHead (start : ProbeValue) (head : List ℕ) (decision : ResponseDecision) (told : List Told) : Type 0
   where
     pub asking : IsAsking start
-    pub was_asked : WasAsked start.rest [] head told
+    pub was_asked : WasAsked start.rest [] start.read head told
+    pub ends : EndsInPiece told
     pub is_head : IsWholeHead (NeedsResponse start.asked.nonce start.asked.offers)
         (DecidesResponse start.asked.nonce start.asked.offers) head decision
 
@@ -132,7 +139,7 @@ pub record StillAsks (start now : ProbeValue) (told : List Told) : Type 0 where
   pub asking : IsAsking start
   pub asked : now.asked ≡ start.asked
   pub script : now.script ≡ start.script
-  pub was_asked : WasAsked start.rest now.rest now.read told
+  pub was_asked : WasAsked start.rest now.rest start.read now.read told
   pub is_open : IsOpen start.asked now.read
 
 -- The head of the answer is accepted. What was told has two parts: that of the head, and then that of a tester which
@@ -173,7 +180,7 @@ pub record LosesAnswer (start : ProbeValue) (told : List Told) : Type 0 where
   pub rest : List ℕ
   pub read : List ℕ
   pub asking : IsAsking start
-  pub was_asked : WasAsked start.rest rest read before
+  pub was_asked : WasAsked start.rest rest start.read read before
   pub is_open : IsOpen start.asked read
   pub loses : LosesHead rest last
 

@@ -1,6 +1,6 @@
 -- A head of an opening handshake that is read piece by piece (RFC 6455 section 4), no further than it takes. Which
 -- bytes need more, and what the others decide, is said of requests and of responses by themselves.
-use Rattle.std.specs.Prelude.{◌≡◌, ℕ, ◌-◌, ◌<◌, ◌≤◌, ◌⊎◌, ⊤, min, List, [], ◌++◌, length}
+use Rattle.std.specs.Prelude.{◌≡◌, ℕ, ◌-◌, ◌<◌, ◌≤◌, ◌⊎◌, ⊤, min, List, [], ◌∷◌, ◌++◌, length}
 use Rattle.std.specs.List.{All}
 use Rattle.ws_upgrade.specs.Reading.{max_head}
 use Rattle.ws_machines.specs.Told.{Told, all_came, all_taken}
@@ -57,3 +57,9 @@ pub record AreTaken (told : List Told) (bytes : List ℕ) : Type 0 where
 pub record AreHeadPieces (told : List Told) (bytes : List ℕ) : Type 0 where
   pub only : All TellsPiece told
   pub bytes_are : all_came told ≡ bytes
+
+-- the last that was told is that some bytes came
+pub record EndsInPiece (told : List Told) : Type 0 where
+  pub before : List Told
+  pub last : List ℕ
+  pub parts : told ≡ before ++ Came last ∷ []

@@ -1,6 +1,6 @@
 //! Bytes that are still to be written.
 
-ghost use Rattle.std.specs.Prelude.{◌≡◌, ◌≤◌, drop, length};
+ghost use Rattle.std.specs.Prelude.{◌≡◌, ◌≤◌, [], drop, length};
 ghost use Rattle.ws_tester.specs.RunStates.{is_nothing};
 
 use std::marker::Model;
@@ -48,5 +48,13 @@ impl Pending {
         ensures { self.new ≡ drop count self.old }
     {
         self.written += count;
+    }
+
+    /// Nothing more of them is written.
+    pub fn stop(&mut self)
+        ensures { self.new ≡ [] }
+    {
+        self.bytes.clear();
+        self.written = 0;
     }
 }

@@ -5,7 +5,7 @@ ghost use Rattle.ws_machines.specs.Machines.{HasNext, MayBeTold};
 ghost use Rattle.ws_tester.specs.Following.{BeginsRun, WasTold};
 ghost use Rattle.ws_tester.specs.RunStates.{plan_value, wanted_in};
 ghost use Rattle.ws_upgrade.specs.Reading.{HasStatusCode, LacksStatusCode, max_head};
-ghost use Rattle.ws_handshake.specs.Probes.{WasProbed, asked_of, script_behind, wanted_of};
+ghost use Rattle.ws_handshake.specs.Probes.{WasProbed, asked_of, is_opening, script_behind, wanted_of};
 ghost use Rattle.ws_handshake.specs.InnerProbes.{ReadsAnswer, IsStageBehind, OpensOn};
 ghost use Rattle.ws_handshake.specs.Responses.{DecidesResponse};
 ghost use Rattle.ws_handshake.specs.declared.probe_machine.ProbeStage.TheVariants.{Opening};
@@ -89,6 +89,7 @@ impl<'a> ProbeMachine<'a> {
         ensures asked { result.asked ≡ asked_of plan.entry }
         ensures script { result.script ≡ script }
         ensures request { result.rest ≡ request.items }
+        ensures read { result.read ≡ [] }
         ensures stage { result.stage ≡ Opening }
         ensures told { WasProbed result result [] }
         ensures goes_on { HasNext (wanted_of result) }
@@ -101,6 +102,24 @@ impl<'a> ProbeMachine<'a> {
             reading: HeadReading::new(alloc),
             stage: ProbeStage::Opening,
         }
+    }
+
+    /// Whether the head of the answer isn't whole yet.
+    pub fn is_opening(&self) -> bool
+        ensures { result ≡ is_opening self.now.stage }
+    {
+        match &self.stage {
+            ProbeStage::Opening => true,
+            ProbeStage::Running(_) | ProbeStage::Refused(_) | ProbeStage::Lost => false,
+        }
+    }
+
+    /// How far it has come: the tester, once the head of the answer is accepted.
+    pub fn into_stage(self) -> ProbeStage
+        ensures { result ≡ self.entry.stage }
+    {
+        let ProbeMachine { stage, .. } = self;
+        stage
     }
 
     /// Something happened before the head of the answer is whole.
