@@ -1,7 +1,6 @@
 -- The lemmas behind a connection: what is read for its head, served, written, recorded, observed and admitted.
 pub mod HeadLemmas
 pub mod ServingLemmas
-pub mod ConnectionLemmas
 pub mod StreamLemmas
 pub mod StreamLaws
 pub mod StepLemmas
@@ -10,6 +9,7 @@ pub mod TellingLemmas
 pub mod GrowthLemmas
 pub mod DrivingLemmas
 pub mod ProbingLemmas
+pub mod OpeningLemmas
 pub mod ObservingLemmas
 pub mod HeaderLemmas
 pub mod AdmittingLemmas

@@ -18,7 +18,8 @@ use Rattle.ws_handshake.specs.declared.request_head.RequestDecision.{RequestDeci
 use Rattle.ws_handshake.specs.declared.request_head.RequestDecision.TheVariants.{Accepted, Refused as RefusedHead}
 use Rattle.ws_connection.specs.declared.serving.Served.{Served}
 use Rattle.ws_connection.specs.declared.serving.Served.TheVariants.{Ended, Refused, Stopped}
-use Rattle.ws_connection.specs.Serving.{connection, ReadsRequest, ServesAccepted, Serves, DrivesAfter, AnswersAccepted, ServesDecision, response_of, served_by}
+use Rattle.ws_connection.specs.Serving.{connection, ReadsRequest, ServesAccepted, Serves, DrivesAfter, AnswersAccepted, ServesDecision, served_by}
+use Rattle.ws_handshake.specs.Admissions.{response_of}
 
 -- ---- the response and the echo
 

@@ -2,9 +2,9 @@
 use Rattle.std.specs.Prelude.{ℕ, Bool, List, Option}
 use Rattle.ws_connection.specs.declared.incoming.Incoming.{Incoming}
 
--- the direction that is read: what the reader has left, where that is known; how its reads stand; whether some read
--- behind the head of the answer has waited in vain; what its timer has said last of whether it was waited long enough;
--- how many bytes may still be read behind the head; and how many calls the reader has got for that, counted modulo 2^64
+-- the direction that is read: what the reader has left, where that is known; how its reads stand; whether some read has
+-- waited in vain; what its timer has said last of whether it was waited long enough; how many bytes may be read behind
+-- the head; and how many calls the reader has got, counted modulo 2^64
 pub record InputValue : Type 0 where
   pub left : Option (List ℕ)
   pub state : Incoming

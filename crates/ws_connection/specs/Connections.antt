@@ -2,11 +2,8 @@
 use Rattle.std.specs.Prelude.{◌≡◌, ℕ, Bool, true, false, List}
 use Rattle.ws_frame.specs.Devices.{Device, HasRead, HasWritten}
 use Rattle.ws_connection.specs.ConnectionValues.{ConnectionRun, ConnectionValue}
-use Rattle.ws_connection.specs.ReadingHeads.{ReadsHead}
 use Rattle.ws_connection.specs.declared.incoming.Incoming.{Incoming}
-use Rattle.ws_connection.specs.declared.incoming.Incoming.TheVariants.{Unread, Open, Waited, AtEnd, Failed}
-use Rattle.ws_connection.specs.declared.reading_head.HeadEnd.{HeadEnd}
-use Rattle.ws_connection.specs.declared.reading_head.HeadEnd.TheVariants.{Decided, Cut, ReadFault}
+use Rattle.ws_connection.specs.declared.incoming.Incoming.TheVariants.{Unread, Open, Waited, Failed}
 
 -- ---- how a connection stands
 
@@ -23,18 +20,6 @@ abbrev pub is_open : Incoming → Bool
 is_open Open = true
 is_open Waited = true
 is_open _ = false
-
--- the other end takes part: the stream has not ended, and no read has failed
-abbrev pub takes_part : Incoming → Bool
-takes_part AtEnd = false
-takes_part Failed = false
-takes_part _ = true
-
--- what may be written to: a direction that was not ended, over which no write has failed, while the stream of the other
--- one has not ended either
-abbrev pub MayWrite : ConnectionValue → Type 0
-MayWrite connection = (takes_part connection.input.state ≡ true) × (connection.output.failed ≡ false)
-    × (connection.output.ended ≡ false)
 
 -- a turn can be sent, and more can be read: the handshake is done
 abbrev pub IsReady : ConnectionValue → Type 0
@@ -70,18 +55,3 @@ ReadsBytes bytes run = HasRead bytes (input_of run)
 -- these bytes were put
 abbrev pub WritesBytes : List ℕ → ConnectionRun → Type 0
 WritesBytes bytes run = HasWritten bytes (output_of run)
-
--- how the reads stand once the head was read
-abbrev pub state_after_head : {D : Type 0} → HeadEnd D → Incoming
-state_after_head (Decided decision) = Open
-state_after_head Cut = AtEnd
-state_after_head ReadFault = Failed
-
--- the head was read so: nothing was written, and no byte behind the head is counted
-pub record ReadsHeadOver {D : Type 0} (needs : List ℕ → Type 0) (decides : List ℕ → D → Type 0)
-    (end : HeadEnd D) (read : List ℕ) (run : ConnectionRun) : Type 0 where
-  pub reads : ReadsHead needs decides end read (input_of run)
-  pub state : run.new.input.state ≡ state_after_head end
-  pub waited : run.new.input.waited ≡ run.old.input.waited
-  pub allowance : run.new.input.allowance ≡ run.old.input.allowance
-  pub output : run.new.output ≡ run.old.output

@@ -9,7 +9,7 @@ use Rattle.ws_connection.specs.declared.incoming.Incoming.{Incoming}
 use Rattle.ws_connection.specs.declared.incoming.Incoming.TheVariants.{Open, Waited, Late, AtEnd, Failed}
 
 -- a reader with its reads: what it has left, where that is known; what the last read has answered; and how many were
--- made behind the head, counted modulo 2^64
+-- made, counted modulo 2^64
 pub record ReadsValue : Type 0 where
   pub left : Option (List ℕ)
   pub state : Incoming

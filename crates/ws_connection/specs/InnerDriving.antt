@@ -1,19 +1,18 @@
 -- Inside the crate: a tester that is run on a stage, which is told of its turns. A reader may skip this file.
 use Rattle.std.specs.Prelude.{◌≡◌, ℕ, ◌⊎◌, Bool, true, false, List, [], ◌∷◌, ◌++◌, length, map, Option}
 use Rattle.std.specs.Borrow.{GName}
+use Rattle.std.specs.List.{concat}
+use Rattle.ws_scripts.specs.declared.transcript.Transcript.{Transcript}
 use Rattle.ws_scripts.specs.declared.transcript.Turn.{Turn}
 use Rattle.ws_machines.specs.Told.{Told}
 use Rattle.ws_machines.specs.Machines.{Extends, IsFirstWanted, Wants}
 use Rattle.ws_tester.specs.Following.{BeginsRun, ScriptValue, TesterValue, WasTold}
 use Rattle.ws_tester.specs.Outgoings.{HaveBytes}
-use Rattle.ws_tester.specs.RunStates.{PlanValue, RunState, wanted_in}
-use Rattle.ws_connection.specs.ConnectionValues.{ConnectionRun}
-use Rattle.ws_connection.specs.Connections.{WritesBytes}
+use Rattle.ws_tester.specs.RunStates.{RunState, wanted_in}
+use Rattle.ws_connection.specs.ConnectionValues.{ConnectionRun, ConnectionValue}
 use Rattle.ws_connection.specs.Observing.{HearsTurns, IsHearing}
-use Rattle.ws_connection.specs.Probing.{FollowsInOrder, RefusesResponse, RunsScript, StopsInResponse}
-use Rattle.ws_connection.specs.RunSteps.{DidSteps, IsToldInTime, RunStage, RunStep, calls_in, turns_told}
-use Rattle.ws_handshake.specs.declared.probe_end.Probe.{Probe}
-use Rattle.ws_handshake.specs.declared.probe_end.Probe.TheVariants.{Ran, Refused, NoConnection}
+use Rattle.ws_connection.specs.Probing.{FollowsInOrder, Records}
+use Rattle.ws_connection.specs.RunSteps.{DidSteps, IsToldInTime, RunStage, RunStep, TellsAsItGoes, calls_in, turns_told}
 use Rattle.ws_connection.specs.RunSteps.RunStep.{Calls}
 use Rattle.ws_connection.specs.Stages.{ExtendsBy, IsStaged, IsTelling}
 use Rattle.ws_connection.specs.declared.probing.telling.TurnsTold.{TurnsTold}
@@ -138,11 +137,14 @@ pub record DidObserved {O : Type 0} (heard : O → O → List Turn → Type 0) (
   pub hearing : IsHearing heard start.observer
   pub hears : HearsTurns heard start.observer now.observer (turns_told [] steps)
 
--- ---- behind the request
+-- a tester that was told nothing yet was run to its end over a connection, from this state on, as any script that
+-- begins so is recorded
+abbrev pub RecordsFrom : RunState → Transcript → ConnectionRun → Type 0
+RecordsFrom start transcript run = (script : ScriptValue) → HaveBytes script.script → BeginsRun script start
+    → script.budget ≡ run.old.input.allowance
+    → Records script.plan (map concat script.script) script.first transcript run
 
--- what came of a connection once the request was written
-abbrev pub AnswersBehind : PlanValue → List (List ℕ) → List (List ℕ) → Probe → ConnectionRun → Type 0
-AnswersBehind plan turns offers (Ran transcript) run = RunsScript plan turns offers [] transcript run
-AnswersBehind plan turns offers (Refused refusal) run = RefusesResponse offers [] refusal run
-AnswersBehind plan turns offers NoConnection run =
-    WritesBytes [] run × (run.new.output.failed ≡ false) × StopsInResponse offers run
+-- and its observer was told in time
+abbrev pub TellsFrom : {O : Type 0} → (O → O → List Turn → Type 0) → RunState → RunStage O → ConnectionValue → Type 0
+TellsFrom heard start old connection = (script : ScriptValue) → HaveBytes script.script → BeginsRun script start
+    → TellsAsItGoes heard script.first old connection

@@ -13,3 +13,4 @@ pub mod Stages
 pub mod Serving
 pub mod Admitting
 pub mod InnerDriving
+pub mod InnerOpening

@@ -1,9 +1,9 @@
 -- A script that is run against a tested end (RFC 6455 sections 4.1 and 5 to 7): what is recorded is what went over the
 -- connection, and how it ended.
-use Rattle.std.specs.Prelude.{◌≡◌, ℕ, ◌≤◌, ◌⊎◌, true, false, List, [], ◌∷◌, length, drop, map, codes, MatchOption}
+use Rattle.std.specs.Prelude.{◌≡◌, ℕ, ◌≤◌, false, List, [], ◌∷◌, ◌++◌, length, drop, map, codes, MatchOption}
 use Rattle.std.specs.Prelude.{Option, Some}
 use Rattle.std.specs.List.{concat}
-use Rattle.ws_frame.specs.Devices.{HasBegun, IsUntouched}
+use Rattle.ws_frame.specs.Devices.{HasBegun}
 use Rattle.ws_wire.specs.declared.role.Role.TheVariants.{Server}
 use Rattle.ws_upgrade.specs.Accept.{key_of}
 use Rattle.ws_upgrade.specs.Reading.{HasStatusCode, LacksStatusCode, max_head}
@@ -17,14 +17,12 @@ use Rattle.ws_tester.specs.Outgoings.{HaveBytes, Pieces}
 use Rattle.ws_tester.specs.Records.{IsRecorded}
 use Rattle.ws_tester.specs.RunStates.{PlanValue, RunState, recorded, wanted_in}
 use Rattle.ws_connection.specs.ConnectionValues.{ConnectionRun, ConnectionValue}
-use Rattle.ws_connection.specs.Connections.{HasWorked, ReadsBytes, WritesBytes, input_of, output_of}
+use Rattle.ws_connection.specs.Connections.{HasWorked, ReadsBytes, WritesBytes, output_of}
 use Rattle.ws_connection.specs.StreamCalls.{DidCalls}
-use Rattle.ws_connection.specs.ReadingHeads.{ReadsHead}
-use Rattle.ws_handshake.specs.ReadingHeads.{ReadsNoFurther}
+use Rattle.ws_handshake.specs.ReadingHeads.{IsUndecided, ReadsNoFurther}
+use Rattle.ws_handshake.specs.Probes.{LosesHead, WasAsked}
 use Rattle.ws_handshake.specs.Responses.{DecidesResponse, NeedsResponse}
 use Rattle.ws_connection.specs.UpgradeRequests.{RequestValue, text_of_request}
-use Rattle.ws_connection.specs.declared.incoming.Incoming.TheVariants.{Unread}
-use Rattle.ws_connection.specs.declared.reading_head.HeadEnd.TheVariants.{Cut, ReadFault}
 use Rattle.ws_handshake.specs.declared.response_head.ResponseDecision.{ResponseDecision}
 use Rattle.ws_handshake.specs.declared.response_head.ResponseDecision.TheVariants.{Accepted, Refused as RefusedHead}
 use Rattle.ws_connection.specs.declared.probing.Asked.{Asked}
@@ -90,11 +88,11 @@ pub record ReadsResponse (offers : List (List ℕ)) (head : List ℕ) (decision 
   pub bound : length head ≤ max_head
   pub no_further : ReadsNoFurther (NeedsResponse probe_nonce offers) head
 
--- the reader was at its end inside the head of the answer, or a read failed there
-abbrev pub StopsInResponse : List (List ℕ) → ConnectionRun → Type 0
-StopsInResponse offers run = (head : List ℕ)
-    × (ReadsHead (NeedsResponse probe_nonce offers) (DecidesResponse probe_nonce offers) Cut head (input_of run)
-    ⊎ ReadsHead (NeedsResponse probe_nonce offers) (DecidesResponse probe_nonce offers) ReadFault head (input_of run))
+-- Call by call this request was written, to its last byte, and then this head of its answer was read.
+pub record AsksServer (request head : List ℕ) (run : ConnectionRun) : Type 0 where
+  pub told : List Told
+  pub did : DidCalls run.old run.new told
+  pub was_asked : WasAsked request [] [] head told
 
 -- The request was written, `request`, its answer was read, which accepts it with one of these offers or none, and
 -- behind its head a script was run by this plan whose turns have these bytes.
@@ -105,6 +103,7 @@ pub record RunsScript (plan : PlanValue) (turns offers : List (List ℕ)) (reque
   pub protocol : Option ℕ
   pub is_head : ReadsResponse offers head (Accepted used protocol)
   pub ready : ConnectionValue
+  pub asks : AsksServer request head (record { old = run.old; new = ready })
   pub has_got : ReadsBytes head (record { old = run.old; new = ready })
   pub has_put : WritesBytes request (record { old = run.old; new = ready })
   pub budget : ready.input.allowance ≡ run.old.input.allowance
@@ -116,17 +115,27 @@ pub record RefusesResponse (offers : List (List ℕ)) (request : List ℕ) (refu
   pub head : List ℕ
   pub is_head : ReadsResponse offers head (RefusedHead refusal.fault)
   pub status : MatchOption refusal.status (LacksStatusCode head) (HasStatusCode head)
+  pub asks : AsksServer request head run
   pub has_got : ReadsBytes head run
   pub has_put : WritesBytes request run
   pub works : HasWorked run.new
   pub both_open : run.new.output.ended ≡ false
 
--- A write failed, and nothing was read; or the request was written, and there was no whole answer.
-abbrev pub HasNoAnswer : List (List ℕ) → List ℕ → ConnectionRun → Type 0
-HasNoAnswer offers request run =
-    ((run.new.output.failed ≡ true) × HasBegun request (output_of run) × IsUntouched (input_of run)
-    × (run.new.input.state ≡ Unread))
-    ⊎ (WritesBytes request run × (run.new.output.failed ≡ false) × StopsInResponse offers run)
+-- There was no whole answer: call by call a beginning of the request was written, and once all of it was, these bytes
+-- of the answer were read, which decide nothing; and then the last call has ended it. While some of the request was
+-- left that is a write that failed; behind it a read that failed or waited in vain, or the end of the stream; or by it
+-- the deadline had passed.
+pub record HasNoAnswer (offers : List (List ℕ)) (request : List ℕ) (run : ConnectionRun) : Type 0 where
+  pub before : List Told
+  pub last : Told
+  pub did : DidCalls run.old run.new (before ++ last ∷ [])
+  pub rest : List ℕ
+  pub read : List ℕ
+  pub was_asked : WasAsked request rest [] read before
+  pub is_open : IsUndecided (NeedsResponse probe_nonce offers) read
+  pub loses : LosesHead rest last
+  pub has_got : ReadsBytes read run
+  pub has_put : HasBegun request (output_of run)
 
 -- what came of a connection, over which this request with these offers was put before what the turns sent
 abbrev pub AnswersProbe : PlanValue → List (List ℕ) → List (List ℕ) → List ℕ → Probe → ConnectionRun → Type 0

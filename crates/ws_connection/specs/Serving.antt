@@ -6,15 +6,15 @@ use Rattle.ws_frame.specs.Devices.{Device, HasBegun, HasRead, HasWritten, IsUnto
 use Rattle.ws_session.specs.Limits.{LimitsValue}
 use Rattle.ws_session.specs.Words.{status_words}
 use Rattle.ws_session.specs.declared.status.Status.{Status}
-use Rattle.ws_upgrade.specs.Protocols.{name_chosen}
 use Rattle.ws_upgrade.specs.Reading.{max_head}
-use Rattle.ws_upgrade.specs.Texts.{refusal_bytes, response_text}
+use Rattle.ws_upgrade.specs.Texts.{refusal_bytes}
 use Rattle.ws_upgrade.specs.Words.{head_fault_name}
 use Rattle.ws_upgrade.specs.declared.faults.HeadFault.{HeadFault}
 use Rattle.ws_peer.specs.Driving.{DriveCall, ReadsInTurn, IsDrivenTo, IsFairDriveEnd}
 use Rattle.ws_peer.specs.declared.driving.DriveEnd.{DriveEnd}
 use Rattle.ws_peer.specs.declared.driving.DriveEnd.TheVariants as end
 use Rattle.ws_connection.specs.ReadingHeads.{ReadsHead}
+use Rattle.ws_handshake.specs.Admissions.{response_of}
 use Rattle.ws_handshake.specs.ReadingHeads.{ReadsNoFurther}
 use Rattle.ws_handshake.specs.Requests.{DecidesRequest, NeedsRequest}
 use Rattle.ws_connection.specs.declared.reading_head.HeadEnd.TheVariants.{Cut, ReadFault}
@@ -35,10 +35,6 @@ pub record ReadsRequest (known : List (List ℕ)) (head : List ℕ) (decision : 
   pub decides : DecidesRequest known head decision
   pub bound : length head ≤ max_head
   pub no_further : ReadsNoFurther (NeedsRequest known) head
-
--- the response with this accept value that names what was chosen among these
-abbrev pub response_of : List (List ℕ) → List ℕ → Option ℕ → List ℕ
-response_of known accept protocol = response_text accept (name_chosen known protocol)
 
 -- a head was read and accepted; the response was written, which names what was chosen, and the echo driven over what
 -- came after the head

@@ -1,6 +1,6 @@
 -- What a connection does as a stream: each thing that it tells is one call of one of its devices, and what that has
 -- answered.
-use Rattle.std.specs.Prelude.{◌≡◌, ℕ, ◌-◌, ◌<◌, ◌||◌, ◌⊎◌, Bool, true, false, List, [], ◌∷◌, length}
+use Rattle.std.specs.Prelude.{◌≡◌, ℕ, ◌<◌, ◌||◌, ◌⊎◌, Bool, true, false, List, [], ◌∷◌, length}
 use Rattle.std.specs.Io.KnownBytes.{IsAtEnd}
 use Rattle.ws_machines.specs.Told.{Told}
 use Rattle.ws_machines.specs.Told.Told.{Came, Ended, ReadFailed, NothingCame, Taken, WriteFailed, DirectionEnded}
@@ -16,7 +16,7 @@ pub record MakesRead (bytes : List ℕ) (state : Incoming) (run : ConnectionRun)
   pub calls : run.new.input.calls ≡ one_call_more run.old.input.calls
   pub stands : run.new.input.state ≡ state
   pub has_got : ReadsBytes bytes run
-  pub allowance : run.new.input.allowance ≡ run.old.input.allowance - length bytes
+  pub allowance : run.new.input.allowance ≡ run.old.input.allowance
   pub waited : run.new.input.waited ≡ (run.old.input.waited || waited_in_vain state)
   pub output : run.new.output ≡ run.old.output
 

@@ -1,23 +1,18 @@
-//! A connection as a tester holds it: a reader and a writer that belong together, watched as one. What may be called
-//! when is asked of the caller: nothing is read behind the end of a stream, and nothing is written behind that of its
-//! own direction.
+//! A connection as a tester holds it: a reader and a writer that belong together, watched as one.
 
-ghost use Rattle.std.specs.Prelude.{◌≡◌, ◌≤◌, ◌<◌, ◌||◌, length, take, nat_lt, true, false};
-ghost use Rattle.std.specs.Io.KnownBytes.{Appends, Keeps};
+ghost use Rattle.std.specs.Prelude.{◌≡◌, ◌<◌, length, true, false};
+ghost use Rattle.std.specs.Io.KnownBytes.{Keeps};
 ghost use Rattle.ws_machines.specs.Machines.{FitsRead, FitsWrite};
 ghost use Rattle.ws_machines.specs.Told.{told_by_read, told_by_write};
 ghost use Rattle.ws_machines.specs.Told.Told.{DirectionEnded};
-ghost use Rattle.ws_connection.specs.Connections.{IsNewConnection, MayWrite, ReadsHeadOver, WritesBytes};
+ghost use Rattle.ws_connection.specs.Connections.{IsNewConnection};
 ghost use Rattle.ws_connection.specs.StreamCalls.{IsCallOf};
-ghost use Rattle.ws_connection.specs.declared.incoming.Incoming.TheVariants.{Unread};
 
 use crate::device_calls::{ReadCalls, WriteCalls};
 use crate::ending::EndsDirection;
 use crate::incoming::Incoming;
-use crate::reading_head::{HeadEnd, HeadRoom};
 use crate::waiting::{WaitTimer, WaitingRead};
 use std::marker::Model;
-use ws_handshake::HeadDecider;
 use ws_machines::{ReadOutcome, WriteOutcome};
 
 /// A reader and a writer that belong together, and how both directions stand. An error of the kind `WouldBlock`, which
@@ -58,7 +53,8 @@ impl<R: WaitingRead, W: EndsDirection> Model for Connection<R, W> {
 }
 
 impl<R: WaitingRead, W: EndsDirection> Connection<R, W> {
-    /// A connection over which nothing has gone yet, and behind whose head at most `budget` bytes are to be read.
+    /// A connection over which nothing has gone yet, and behind whose head at most `budget` bytes are to be read by
+    /// whoever reads it.
     pub fn new(reader: R, writer: W, budget: u64) -> Connection<R, W>
         ensures new { IsNewConnection result }
         ensures left { result.input.left ≡ R.remaining reader }
@@ -92,14 +88,14 @@ impl<R: WaitingRead, W: EndsDirection> Connection<R, W> {
         self.reader.state()
     }
 
-    /// Whether some read behind the head has waited in vain.
+    /// Whether some read has waited in vain.
     pub fn has_waited(&self) -> bool
         ensures { result ≡ self.now.input.waited }
     {
         self.has_waited
     }
 
-    /// How many bytes may still be read behind the head.
+    /// How many bytes may be read behind the head. Whoever reads them counts them.
     pub fn allowance(&self) -> u64
         ensures { result ≡ self.now.input.allowance }
     {
@@ -120,20 +116,7 @@ impl<R: WaitingRead, W: EndsDirection> Connection<R, W> {
         self.writer.is_ended()
     }
 
-    /// Reads the head of an answer, as `read_head` does. An error of any kind is a failed read here.
-    pub fn read_head<D: HeadDecider>(
-        &mut self,
-        room: &mut HeadRoom,
-        decider: &D,
-    ) -> HeadEnd<D::Decision>
-        requires { self.old.input.state ≡ Unread }
-        ensures { ReadsHeadOver (D.needs decider.now) (D.decides decider.now) result room.new
-            (record { old = self.old; new = self.new }) }
-    {
-        self.reader.read_head(room, decider)
-    }
-
-    /// Reads once behind the head. What came counts as read behind it, of what may still be read.
+    /// Reads once.
     pub fn read_once(&mut self, room: &mut [u8]) -> ReadOutcome
         requires { 0 < length room.old }
         ensures fits { FitsRead (length room.new) result }
@@ -143,10 +126,7 @@ impl<R: WaitingRead, W: EndsDirection> Connection<R, W> {
         let answer = self.reader.read(room);
         match answer {
             Ok(0) => ReadOutcome::Ended,
-            Ok(count) => {
-                self.allowance = self.allowance.saturating_sub(count as u64);
-                ReadOutcome::Came(count)
-            }
+            Ok(count) => ReadOutcome::Came(count),
             Err(_) if self.reader.state() == Incoming::Waited => {
                 self.has_waited = true;
                 ReadOutcome::NothingCame
@@ -156,18 +136,6 @@ impl<R: WaitingRead, W: EndsDirection> Connection<R, W> {
             }
             Err(_) => ReadOutcome::Failed,
         }
-    }
-
-    /// Writes the bytes, or as many of them as the writer takes before a write fails: how many.
-    pub fn write(&mut self, bytes: &[u8]) -> usize
-        requires { MayWrite self.old }
-        ensures bound { result ≤ length bytes.now }
-        ensures put { WritesBytes (take result bytes.now) (record { old = self.old; new = self.new }) }
-        ensures failed { self.new.output.failed ≡ nat_lt result (length bytes.now) }
-        ensures input { self.new.input ≡ self.old.input }
-        ensures ended { self.new.output.ended ≡ self.old.output.ended }
-    {
-        write_part(&mut self.writer, bytes)
     }
 
     /// Writes once.
@@ -211,21 +179,4 @@ impl<R: WaitingRead, W: EndsDirection> Connection<R, W> {
     {
         let _ = self.writer.end_direction();
     }
-}
-
-/// Writes the bytes, or as many of them as the writer takes before a write fails or takes none: how many.
-fn write_part<W: EndsDirection>(writer: &mut WriteCalls<W>, bytes: &[u8]) -> usize
-    ensures bound { result ≤ length bytes.now }
-    ensures written { Appends writer.old.held writer.new.held (take result bytes.now) }
-    ensures failed { writer.new.failed ≡ (writer.old.failed || nat_lt result (length bytes.now)) }
-    ensures ended { writer.new.ended ≡ writer.old.ended }
-{
-    let mut at = 0;
-    while at < bytes.len() {
-        match writer.write(&bytes[at..]) {
-            Ok(0) | Err(_) => return at,
-            Ok(taken) => at += taken,
-        }
-    }
-    at
 }

@@ -4,45 +4,38 @@ ghost use Rattle.std.specs.Prelude.{◌≡◌, ◌<◌, ◌||◌, ℕ, List, len
 ghost use Rattle.std.specs.Io.{ReadsAtMost, WritesAtMost};
 ghost use Rattle.std.specs.Io.KnownBytes.{Keeps, ReadConsumes, WriteAppends};
 ghost use Rattle.ws_frame.specs.Watching.{write_fails};
-ghost use Rattle.ws_connection.specs.Connections.{read_failed, state_after_head};
 ghost use Rattle.ws_connection.specs.DeviceCalls.{is_late, one_call_more, state_after_read};
-ghost use Rattle.ws_connection.specs.ReadingHeads.{ReadsHead};
 ghost use Rattle.ws_connection.specs.declared.incoming.Incoming.TheVariants.{Unread};
 
 use crate::ending::EndsDirection;
 use crate::incoming::Incoming;
-use crate::reading_head::{HeadEnd, HeadRoom, read_head};
 use std::io;
 use std::io::{ErrorKind, Read};
 use std::marker::Model;
-use ws_frame::Watched;
-use ws_handshake::HeadDecider;
 
-/// A reader, how its reads stand, and how many of them were made behind the head, modulo 2^64.
+/// A reader, how its reads stand, and how many of them were made, modulo 2^64.
 #[derive(Drop)]
 pub(crate) struct ReadCalls<R: Read> {
-    reader: Watched<R>,
+    reader: R,
     state: Incoming,
     calls: u64,
 }
 
 impl<R: Read> Model for ReadCalls<R> {
-    ghost use Rattle.std.specs.Prelude.{◌≡◌, false};
+    ghost use Rattle.std.specs.Prelude.{◌≡◌};
     ghost use Rattle.std.specs.Io.KnownBytes.{IsAtEnd};
-    ghost use Rattle.ws_frame.specs.Watching.{has_failed, inner_of};
     ghost use Rattle.ws_connection.specs.DeviceCalls.{ReadsValue};
-    ghost use Rattle.ws_connection.specs.declared.incoming.Incoming.TheVariants.{AtEnd, Unread};
+    ghost use Rattle.ws_connection.specs.declared.incoming.Incoming.TheVariants.{AtEnd};
 
     ghost Value = { ReadsValue };
 
     ghost view = { λ reads. record {
-      left = R.remaining (inner_of reads.reader);
+      left = R.remaining reads.reader;
       state = reads.state;
       calls = reads.calls;
     } };
 
-    ghost invariant = { λ reads. (reads.state ≡ Unread → has_failed reads.reader ≡ false)
-        × (reads.state ≡ AtEnd → IsAtEnd (R.remaining (inner_of reads.reader))) };
+    ghost invariant = { λ reads. reads.state ≡ AtEnd → IsAtEnd (R.remaining reads.reader) };
 }
 
 impl<R: Read> ReadCalls<R> {
@@ -52,7 +45,7 @@ impl<R: Read> ReadCalls<R> {
         ensures state { result.state ≡ Unread }
     {
         ReadCalls {
-            reader: Watched::new(reader),
+            reader,
             state: Incoming::Unread,
             calls: 0,
         }
@@ -62,7 +55,7 @@ impl<R: Read> ReadCalls<R> {
     pub fn into_inner(self) -> R
         ensures { R.remaining result ≡ self.left }
     {
-        self.reader.into_inner()
+        self.reader
     }
 
     /// How its reads stand.
@@ -70,27 +63,6 @@ impl<R: Read> ReadCalls<R> {
         ensures { result ≡ self.now.state }
     {
         self.state
-    }
-
-    /// Reads a head, as `read_head` does. An error of any kind is a failed read here.
-    pub fn read_head<D: HeadDecider>(
-        &mut self,
-        room: &mut HeadRoom,
-        decider: &D,
-    ) -> HeadEnd<D::Decision>
-        requires { self.old.state ≡ Unread }
-        ensures reads { ReadsHead (D.needs decider.now) (D.decides decider.now) result room.new
-            (record { failed = read_failed self.new.state; old = self.old.left; new = self.new.left }) }
-        ensures state { self.new.state ≡ state_after_head result }
-        ensures calls { self.new.calls ≡ self.old.calls }
-    {
-        let end = read_head(&mut self.reader, room, decider);
-        self.state = match end {
-            HeadEnd::Decided(_) => Incoming::Open,
-            HeadEnd::Cut => Incoming::AtEnd,
-            HeadEnd::ReadFault => Incoming::Failed,
-        };
-        end
     }
 
     /// Reads once.

@@ -3,9 +3,9 @@
 /// How the reads over a connection stand.
 #[derive(Clone, Copy, PartialEq, Eq)]
 pub enum Incoming {
-    /// The head of the answer is still to be read.
+    /// Nothing was read yet.
     Unread,
-    /// No read behind the head was made, or the last one has brought bytes.
+    /// The last read has brought bytes.
     Open,
     /// The last read has waited in vain.
     Waited,

@@ -3,11 +3,12 @@
 //! memory.
 //!
 //! The layer above uses: `serve_one` (the clauses with `Serves`), `probe` (`Probes`) over a `Connection`, `admit`
-//! (`Admits`) over one as a server, and `run_script` (`Records`) over one whose handshake is done, `read_head` (the
-//! clauses with `ReadsHead`) with `RequestHead` and `ResponseHead`, `protocols_of`, whose `Protocols` they take, and
-//! `headers_of`, whose `RequestHeaders` a request has. A `Connection` is a stream of `ws_machines`: what it tells is
-//! what its devices did (`DidCalls`). Its devices keep its limits of time (`WaitingRead`). `drive_stage`
-//! (`RunsOnStage`) runs a tester on any `Stage`: `probe` and `run_script` are that over a connection and its observer.
+//! (`Admits`) over one as a server, both over the machines of `ws_handshake`, and `run_script` (`Records`) over one
+//! whose handshake is done, `read_head` (the clauses with `ReadsHead`) with `RequestHead` and `ResponseHead`,
+//! `protocols_of`, whose `Protocols` they take, and `headers_of`, whose `RequestHeaders` a request has. A `Connection`
+//! is a stream of `ws_machines`: what it tells is what its devices did (`DidCalls`). Its devices keep its limits of
+//! time (`WaitingRead`). `drive_stage` (`RunsOnStage`) runs a tester on any `Stage`: `probe` and `run_script` are that
+//! over a connection and its observer.
 #![tactic(auto)]
 
 mod admitting;
@@ -26,7 +27,7 @@ mod streaming;
 mod upgrade_request;
 mod waiting;
 
-pub use admitting::{AcceptedRequest, Admission, admit};
+pub use admitting::admit;
 pub use connection::Connection;
 pub use ending::EndsDirection;
 pub use incoming::Incoming;
@@ -40,5 +41,6 @@ pub use stage::Stage;
 pub use upgrade_request::UpgradeRequest;
 pub use waiting::{NoTimer, WaitTimer, WaitingRead};
 pub use ws_handshake::{
-    HeadDecider, HeadRefusal, Probe, RequestDecision, RequestHead, ResponseDecision, ResponseHead,
+    AcceptedRequest, Admission, HeadDecider, HeadRefusal, Probe, RequestDecision, RequestHead,
+    ResponseDecision, ResponseHead,
 };

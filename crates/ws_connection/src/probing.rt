@@ -2,39 +2,37 @@
 
 mod driving;
 mod observed;
+mod opening;
 mod run;
 mod stage_stream;
 mod telling;
 
-ghost use Rattle.std.specs.Prelude.{◌≡◌, ◌≤◌, drop, length, map, IfOk, MatchOption};
-ghost use Rattle.std.specs.List.{concat};
+ghost use Rattle.std.specs.Prelude.{◌≡◌, IfOk, Some};
 ghost use Rattle.ws_upgrade.specs.Accept.{key_of};
-ghost use Rattle.ws_upgrade.specs.Reading.{HasStatusCode, LacksStatusCode};
 ghost use Rattle.ws_scripts.specs.Scripts.{CanBeRun};
 ghost use Rattle.ws_connection.specs.Connections.{IsNewConnection};
 ghost use Rattle.ws_connection.specs.Observing.{HearsProbe, IsHearing};
-ghost use Rattle.ws_connection.specs.Probing.{Probes, plan_asked, probe_nonce};
+ghost use Rattle.ws_connection.specs.Probing.{Probes, bytes_by_turn, plan_asked, probe_nonce};
 ghost use Rattle.ws_connection.specs.RunSteps.{TellsProbe};
-ghost use Rattle.ws_tester.specs.RunStates.{plan_value};
-ghost use Rattle.ws_connection.specs.InnerDriving.{AnswersBehind};
-ghost use Rattle.ws_tester.specs.Outgoings.{HaveBytes};
+ghost use Rattle.ws_connection.specs.InnerOpening.{IsOpened, asked_over};
+ghost use Rattle.ws_handshake.specs.Probes.{asked_of};
 ghost use Rattle.ws_connection.specs.UpgradeRequests.{CanBeAsked, request_value, text_of_request};
 
 use crate::connection::Connection;
 use crate::ending::EndsDirection;
 use crate::observer::Observer;
-use crate::probing::run::run_turns;
-use crate::reading_head::{HeadEnd, HeadRoom};
+use crate::probing::opening::open_over;
+use crate::probing::run::run_tester;
 use crate::upgrade_request::UpgradeRequest;
 use crate::waiting::WaitingRead;
 pub use driving::drive_stage;
 pub use run::{ScriptRun, run_script};
 use std::alloc::Global;
-use ws_base::{NoMemory, Sequence};
-use ws_handshake::{HeadRefusal, Probe, ResponseDecision, ResponseHead};
-use ws_suite::{Case, CutTurn, Expectation, turns};
+use ws_base::NoMemory;
+use ws_handshake::{Probe, ProbeMachine, ProbePlan, ProbeStage, ResponseHead};
+use ws_suite::{Case, Expectation, turns};
 use ws_tester::TestPlan;
-use ws_upgrade::{AddedHeaders, HeadFault, Host, Offers, Path, request_of, status_of};
+use ws_upgrade::{AddedHeaders, Host, Offers, Path, request_of};
 use ws_wire::Role;
 
 /// The nonce of each probe, 16 bytes: always the same, so that captures are repeatable.
@@ -54,21 +52,29 @@ pub struct Asked<'a> {
     pub has_timeouts: bool,
 }
 
-impl Asked<'_> {
-    /// How its tester runs the script.
-    fn test_plan(&self) -> TestPlan
-        ensures { plan_value result ≡ plan_asked self.now }
+impl<'a> Asked<'a> {
+    /// How its machine asks, and runs the script, over a connection with this budget.
+    fn probe_plan(&self, budget: u64) -> ProbePlan<'a>
+        ensures { asked_of result ≡ asked_over (plan_asked self.now) (request_value self.now.request) budget }
     {
-        TestPlan {
-            tested: Role::Server,
-            expected: self.expected,
-            has_timeouts: self.has_timeouts,
+        ProbePlan {
+            head: ResponseHead {
+                nonce: NONCE,
+                offers: self.request.protocols,
+            },
+            test: TestPlan {
+                tested: Role::Server,
+                expected: self.expected,
+                has_timeouts: self.has_timeouts,
+            },
+            budget,
         }
     }
 }
 
 /// Asks a server for an upgrade, runs a script against it as `run_script` does, and records what went over the
-/// connection. The pieces of each turn are sent in one write each where the writer takes them so.
+/// connection: a `ProbeMachine` is served until its tester begins, and then that is. The pieces of each turn are sent
+/// in one write each where the writer takes them so. Neither the head nor what came with it counts as read behind it.
 ///
 /// The observer is told of the run as it goes on, before more is read, and last of how it ended; of a connection over
 /// which no script was run, nothing. The run ends with an error of the observer's, as with want of memory.
@@ -91,15 +97,38 @@ pub fn probe<R: WaitingRead, W: EndsDirection, O: Observer>(
         (record { connection = connection.old; observer = observer.old }) connection.new) }
     ensures borrow { O.borrow observer.new ≡ O.borrow observer.old }
 {
-    let script = turns(alloc, case, asked.key)?;
-    let text = request_text(alloc, &asked.request)?;
-    let bytes = text.as_slice();
-    let taken = connection.write(bytes);
-    if taken < bytes.len() {
-        return Ok(Probe::NoConnection);
+    let stage = opened_by(alloc, case, asked, connection)?;
+    match stage {
+        ProbeStage::Running(tester) => {
+            let transcript = run_tester(tester, connection, observer)?;
+            observer.ended(transcript.ended)?;
+            Ok(Probe::Ran(transcript))
+        }
+        ProbeStage::Refused(refusal) => Ok(Probe::Refused(refusal)),
+        ProbeStage::Lost => Ok(Probe::NoConnection),
+        // The head of the answer is whole, or there is none.
+        ProbeStage::Opening => unreachable!(),
     }
-    let came = after_request(alloc, script, asked, connection, observer)?;
-    Ok(came)
+}
+
+/// Puts the request, and reads the head of the answer.
+fn opened_by<R: WaitingRead, W: EndsDirection>(
+    alloc: Global,
+    case: &Case,
+    asked: &Asked<'_>,
+    connection: &mut Connection<R, W>,
+) -> Result<ProbeStage, NoMemory>
+    requires runs { CanBeRun case.now }
+    requires request { CanBeAsked (request_value asked.now.request) }
+    ensures { IfOk result (λ stage. IsOpened (plan_asked asked.now) (bytes_by_turn case.now (Some asked.now.key))
+        (request_value asked.now.request) stage (record { old = connection.old; new = connection.new })) }
+{
+    let script = turns(alloc, case, asked.key)?;
+    let request = request_text(alloc, &asked.request)?;
+    let plan = asked.probe_plan(connection.allowance());
+    let mut machine = ProbeMachine::new(alloc, plan, script, request);
+    open_over(&mut machine, connection)?;
+    Ok(machine.into_stage())
 }
 
 /// The request that is sent.
@@ -113,63 +142,4 @@ fn request_text(alloc: Global, request: &UpgradeRequest<'_>) -> Result<Vec<u8>, 
     let added = AddedHeaders::proved(request.headers);
     let text = request_of(alloc, &host, &path, NONCE, &offers, &added)?;
     Ok(text)
-}
-
-/// Reads the head of the answer, and where it accepts runs the turns.
-fn after_request<R: WaitingRead, W: EndsDirection, O: Observer>(
-    alloc: Global,
-    script: Sequence<CutTurn>,
-    asked: &Asked<'_>,
-    connection: &mut Connection<R, W>,
-    observer: &mut O,
-) -> Result<Probe, O::Fault>
-    requires new { IsNewConnection connection.old }
-    requires bytes { HaveBytes script }
-    requires hearing { IsHearing O.heard observer.old }
-    ensures answers { IfOk result (λ probe. AnswersBehind (plan_asked asked.now) (map concat script)
-        (map (λ name. name.now) asked.now.request.protocols.now) probe
-        (record { old = connection.old; new = connection.new })) }
-    ensures told { IfOk result (HearsProbe O.heard O.heard_all observer.old observer.new) }
-    ensures in_time { IfOk result (TellsProbe O.heard (map (λ name. name.now) asked.now.request.protocols.now)
-        (record { connection = connection.old; observer = observer.old }) connection.new) }
-    ensures borrow { O.borrow observer.new ≡ O.borrow observer.old }
-{
-    let mut room = HeadRoom::new();
-    let decider = ResponseHead {
-        nonce: NONCE,
-        offers: asked.request.protocols,
-    };
-    match connection.read_head(&mut room, &decider) {
-        HeadEnd::Decided(ResponseDecision::Accepted { used, .. }) => {
-            let first = bytes_behind(alloc, room.as_slice(), used)?;
-            let plan = asked.test_plan();
-            let transcript = run_turns(alloc, plan, script, first, connection, observer)?;
-            observer.ended(transcript.ended)?;
-            Ok(Probe::Ran(transcript))
-        }
-        HeadEnd::Decided(ResponseDecision::Refused(fault)) => {
-            Ok(Probe::Refused(refusal_of(room.as_slice(), fault)))
-        }
-        HeadEnd::Cut | HeadEnd::ReadFault => Ok(Probe::NoConnection),
-    }
-}
-
-/// Why an answer is to be refused that began with these bytes.
-fn refusal_of(bytes: &[u8], fault: HeadFault) -> HeadRefusal
-    ensures fault { result.fault ≡ fault }
-    ensures status { MatchOption result.status (LacksStatusCode bytes.now) (HasStatusCode bytes.now) }
-{
-    HeadRefusal {
-        fault,
-        status: status_of(bytes),
-    }
-}
-
-/// The bytes that came behind a head of this length.
-fn bytes_behind(alloc: Global, bytes: &[u8], used: usize) -> Result<Vec<u8>, NoMemory>
-    requires { used ≤ length bytes.now }
-    ensures { IfOk result (λ behind. behind.items ≡ drop used bytes.now) }
-{
-    let behind = bytes[used..].to_vec(alloc)?;
-    Ok(behind)
 }

@@ -7,8 +7,8 @@ use Rattle.std.specs.Io.KnownBytes.{Keeps}
 use Rattle.ws_frame.specs.Devices.{Device}
 use Rattle.ws_connection.specs.Admitting.{Admits}
 use Rattle.ws_connection.specs.ConnectionValues.{ConnectionValue}
-use Rattle.ws_connection.specs.declared.admitting.AcceptedRequest.{AcceptedRequest}
-use Rattle.ws_connection.specs.declared.admitting.Admission.TheVariants as admission
+use Rattle.ws_handshake.specs.declared.admission.AcceptedRequest.{AcceptedRequest}
+use Rattle.ws_handshake.specs.declared.admission.Admission.TheVariants as admission
 use Rattle.ws_handshake.specs.declared.probe_end.Probe.TheVariants as probe
 use Rattle.ws_paths.specs.Standings.{StandingValue, none_run}
 use Rattle.ws_paths.specs.declared.behavior.Behavior.TheVariants.{Unimplemented}

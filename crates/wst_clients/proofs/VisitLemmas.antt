@@ -5,8 +5,8 @@ use Rattle.std.specs.Prelude.{String, slice_get}
 use Rattle.std.specs.declared.alloc.Global.{Global}
 use Rattle.ws_connection.specs.Admitting.{Admits}
 use Rattle.ws_connection.specs.ConnectionValues.{ConnectionRun, ConnectionValue}
-use Rattle.ws_connection.specs.declared.admitting.AcceptedRequest.{AcceptedRequest}
-use Rattle.ws_connection.specs.declared.admitting.Admission.TheVariants as admission
+use Rattle.ws_handshake.specs.declared.admission.AcceptedRequest.{AcceptedRequest}
+use Rattle.ws_handshake.specs.declared.admission.Admission.TheVariants as admission
 use Rattle.ws_paths.specs.Paths.{IsPurpose}
 use Rattle.ws_paths.specs.Standings.{StandingValue}
 use Rattle.ws_paths.specs.Telling.{IsToldBy}

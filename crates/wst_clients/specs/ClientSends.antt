@@ -4,8 +4,8 @@ use Rattle.std.specs.Prelude.{flat_map, map}
 use Rattle.ws_frame.specs.Devices.{Device}
 use Rattle.ws_connection.specs.Admitting.{Admits}
 use Rattle.ws_connection.specs.ConnectionValues.{ConnectionRun, ConnectionValue}
-use Rattle.ws_connection.specs.declared.admitting.AcceptedRequest.{AcceptedRequest}
-use Rattle.ws_connection.specs.declared.admitting.Admission.TheVariants as admission
+use Rattle.ws_handshake.specs.declared.admission.AcceptedRequest.{AcceptedRequest}
+use Rattle.ws_handshake.specs.declared.admission.Admission.TheVariants as admission
 use Rattle.ws_handshake.specs.declared.probe_end.Probe.{Probe}
 use Rattle.ws_handshake.specs.declared.probe_end.Probe.TheVariants as probe
 use Rattle.ws_scripts.specs.declared.expectation.Expectation.{Expectation}

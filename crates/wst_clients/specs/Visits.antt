@@ -13,8 +13,8 @@ use Rattle.ws_upgrade.specs.declared.faults.HeadFault.{HeadFault}
 use Rattle.ws_connection.specs.Admitting.{Admits}
 use Rattle.ws_connection.specs.ConnectionValues.{ConnectionRun, ConnectionValue}
 use Rattle.ws_connection.specs.Probing.{Records, bytes_by_turn}
-use Rattle.ws_connection.specs.declared.admitting.AcceptedRequest.{AcceptedRequest}
-use Rattle.ws_connection.specs.declared.admitting.Admission.TheVariants as admission
+use Rattle.ws_handshake.specs.declared.admission.AcceptedRequest.{AcceptedRequest}
+use Rattle.ws_handshake.specs.declared.admission.Admission.TheVariants as admission
 use Rattle.ws_paths.specs.Paths.{AsksWithin, IsPurpose}
 use Rattle.ws_paths.specs.Standings.{StandingValue, behavior_of}
 use Rattle.ws_paths.specs.Telling.{IsToldBy}

@@ -1,18 +1,16 @@
 //! The run of a script over a connection whose handshake is done (RFC 6455 sections 5 to 7).
 
-ghost use Rattle.std.specs.Prelude.{◌≡◌, ◌∷◌, [], true, map, IfOk, OnOk, Some};
-ghost use Rattle.std.specs.List.{concat};
+ghost use Rattle.std.specs.Prelude.{◌≡◌, ◌∷◌, [], true, IfOk, OnOk, Some};
 ghost use Rattle.ws_scripts.specs.Scripts.{CanBeRun};
 ghost use Rattle.ws_connection.specs.Connections.{IsReady};
 ghost use Rattle.ws_connection.specs.Observing.{HearsProbe, HearsTurns, IsHearing};
 ghost use Rattle.ws_connection.specs.Probing.{Records, bytes_by_turn};
 ghost use Rattle.ws_machines.specs.Machines.{HasNext};
 ghost use Rattle.ws_tester.specs.Following.{WasTold};
-ghost use Rattle.ws_connection.specs.InnerDriving.{DidObserved};
+ghost use Rattle.ws_connection.specs.InnerDriving.{DidObserved, RecordsFrom, TellsFrom};
 ghost use Rattle.ws_connection.specs.RunSteps.{TellsAsItGoes};
 ghost use Rattle.ws_connection.specs.Stages.{BeginsSomeRun, RunsOnStage};
 ghost use Rattle.ws_connection.specs.Probing.{plan_of};
-ghost use Rattle.ws_tester.specs.Outgoings.{HaveBytes};
 ghost use Rattle.ws_tester.specs.RunStates.{plan_value, wanted_in};
 ghost use Rattle.ws_handshake.specs.declared.probe_end.Probe.TheVariants.{Ran};
 
@@ -23,9 +21,8 @@ use crate::probing::driving::drive_stage;
 use crate::probing::observed::ObservedConnection;
 use crate::waiting::WaitingRead;
 use std::alloc::Global;
-use ws_base::Sequence;
 use ws_machines::Machine;
-use ws_suite::{Case, CutTurn, Expectation, Transcript, turns_with};
+use ws_suite::{Case, Expectation, Transcript, turns_with};
 use ws_tester::{TestPlan, Tester};
 use ws_wire::Role;
 
@@ -82,30 +79,31 @@ pub fn run_script<R: WaitingRead, W: EndsDirection, O: Observer>(
     ensures borrow { O.borrow observer.new ≡ O.borrow observer.old }
 {
     let script = turns_with(alloc, case, plan.key)?;
-    let transcript = run_turns(alloc, plan.test_plan(), script, first, connection, observer)?;
+    let budget = connection.allowance();
+    let tester = Tester::new(alloc, plan.test_plan(), script, first, budget)?;
+    let transcript = run_tester(tester, connection, observer)?;
     observer.ended(transcript.ended)?;
     Ok(transcript)
 }
 
-/// Runs a script, of whose turns these are the pieces.
-pub(super) fn run_turns<R: WaitingRead, W: EndsDirection, O: Observer>(
-    alloc: Global,
-    plan: TestPlan,
-    script: Sequence<CutTurn>,
-    first: Vec<u8>,
+/// Runs a tester that was told nothing yet over a connection, and tells the observer of each turn.
+pub(super) fn run_tester<R: WaitingRead, W: EndsDirection, O: Observer>(
+    tester: Tester,
     connection: &mut Connection<R, W>,
     observer: &mut O,
 ) -> Result<Transcript, O::Fault>
-    requires bytes { HaveBytes script }
+    requires begun { BeginsSomeRun tester.run }
+    requires told { WasTold tester tester [] }
+    requires goes_on { HasNext (wanted_in tester.run) }
     requires hearing { IsHearing O.heard observer.old }
-    ensures runs { IfOk result (λ transcript. Records (plan_value plan) (map concat script) first.items transcript
+    ensures runs { IfOk result (λ transcript. RecordsFrom tester.run transcript
         (record { old = connection.old; new = connection.new })) }
     ensures told { IfOk result (λ transcript. HearsTurns O.heard observer.old observer.new transcript.turns) }
-    ensures in_time { IfOk result (λ transcript. TellsAsItGoes O.heard first.items
+    ensures in_time { IfOk result (λ transcript. TellsFrom O.heard tester.run
         (record { connection = connection.old; observer = observer.old }) connection.new) }
     ensures borrow { O.borrow observer.new ≡ O.borrow observer.old }
 {
-    let mut tester = Tester::new(alloc, plan, script, first, connection.allowance())?;
+    let mut tester = tester;
     let mut stage = ObservedConnection {
         connection,
         observer,

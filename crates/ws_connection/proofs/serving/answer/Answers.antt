@@ -6,7 +6,8 @@ use Rattle.std.specs.Prelude.{Option}
 use Rattle.ws_frame.specs.Devices.{watched}
 use Rattle.ws_upgrade.specs.Protocols.{name_chosen}
 use Rattle.ws_upgrade.specs.Texts.{response_text}
-use Rattle.ws_connection.specs.Serving.{AnswersAccepted, ServesDecision, response_of}
+use Rattle.ws_connection.specs.Serving.{AnswersAccepted, ServesDecision}
+use Rattle.ws_handshake.specs.Admissions.{response_of}
 use Rattle.ws_handshake.specs.declared.request_head.RequestDecision.{RequestDecision}
 use Rattle.ws_connection.proofs.serving.answer.Goals as goal
 

@@ -1,7 +1,7 @@
 -- What is asked for is done over the connection behind the head.
 use Rattle.std.proofs.Common.{ℕ, List, length, subst}
 use Rattle.ws_connection.specs.Admitting.{Admits}
-use Rattle.ws_connection.specs.declared.admitting.Admission.{Admission}
+use Rattle.ws_handshake.specs.declared.admission.Admission.{Admission}
 use Rattle.ws_paths.specs.Paths.{IsPurpose}
 use Rattle.wst_clients.specs.Visits.{known_by}
 use Rattle.wst_clients.proofs.VisitLemmas.{visited}
