@@ -1,5 +1,5 @@
 -- What a send at a session answers.
-use Rattle.std.proofs.Common.{◌≡◌, ℕ, List, [], ◌∷◌, ap, sym, refl, subst, OnOk, OnErr, IfOk, IfErr, Result, Ok, Err}
+use Rattle.std.proofs.Common.{◌≡◌, ℕ, List, [], ◌∷◌, Option, ap, sym, refl, subst, OnOk, OnErr, IfErr, Result, Ok, Err}
 use Rattle.ws_wire.specs.Frame.{Frame}
 use Rattle.ws_session.specs.declared.event.Event.{Event}
 use Rattle.ws_session.specs.declared.send_fault.SendFault.{SendFault}
@@ -12,7 +12,7 @@ use Rattle.ws_calls.specs.declared.calls.Call.TheVariants as asked
 use Rattle.ws_calls.specs.declared.report.CallAnswer.{CallAnswer}
 use Rattle.ws_calls.specs.declared.report.CallAnswer.TheVariants.{Sent, Refused}
 use Rattle.ws_calls.specs.Calls.{Endpoint, IsStatusAfter, IsSendAnswered, after_sending}
-use Rattle.ws_calls.specs.InnerSteps.{Agrees, HasAnsweredCall, HasAnsweredSend, IsOutcome, endpoint_of}
+use Rattle.ws_calls.specs.InnerSteps.{Agrees, HasAnsweredSend, HasToldCall, HasToldSend, IsOutcome, IsSendRefusal, endpoint_of, send_answer}
 
 -- the status of what a session has exchanged
 pub status_there : (reply : Event → List Frame) (exchange : Exchange) (taken : ℕ) (v : SessionValue) → Agrees exchange taken v → IsStatusAfter (endpoint_of reply v) exchange v.status
@@ -67,11 +67,23 @@ has_sent reply exchange taken old new what key before put sent answer empty done
     let g = send_answered reply exchange taken old new what key put is sent answer (subst (λ (l : List ℕ). OnOk sent (HasSent old new what key l put)) empty done) refused (unchanged (new ≡ old) (put ≡ before) sent kept) outcome in
     record { after = g.0; answered = g.1; agrees = g.2; same = g.3 }
 
--- a call that sends this is answered as the send is, whether the run goes on or memory ran out
-pub sends_call : {E : Type 0} (endpoint : Endpoint) (exchange : Exchange) (taken : ℕ) (new : SessionValue) (what : KeyedSend) (given : Send) (key : List ℕ) (result : Result CallAnswer E) → given ≡ send_in what → key ≡ key_in what
-    → IfOk result (λ answer. HasAnsweredSend endpoint exchange given key answer taken new) → IfOk result (λ answer. HasAnsweredCall endpoint exchange (asked.Send what) answer taken new)
-sends_call endpoint exchange taken new what given key (Ok answer) is under h =
-    let g = subst (λ (x : Send). HasAnsweredSend endpoint exchange x key answer taken new) is h in
-    let k = subst (λ (x : List ℕ). HasAnsweredSend endpoint exchange (send_in what) x answer taken new) under g in
-    record { after = k.after; answered = k.answered; agrees = k.agrees; same = k.same }
-sends_call endpoint exchange taken new what given key (Err why) is under h = tt
+-- a call that sends this is told as the send is, whether the run goes on or memory ran out
+pub told_send : {X E : Type 0} (endpoint : Endpoint) (exchange : Exchange) (taken : ℕ) (new : SessionValue) (what : KeyedSend) (given : Send) (key before lines : List ℕ) (result : Result X E) → given ≡ send_in what → key ≡ key_in what
+    → OnOk result (HasToldSend endpoint exchange given key before taken new lines) → OnOk result (HasToldCall endpoint exchange (asked.Send what) before taken new lines)
+told_send endpoint exchange taken new what given key before lines (Ok done) is under h =
+    let g = subst (λ (x : Send). HasToldSend endpoint exchange x key before taken new lines) is h in
+    let k = subst (λ (x : List ℕ). HasToldSend endpoint exchange (send_in what) x before taken new lines) under g in
+    let a = k.answered in
+    record { answer = k.answer; answered = record { after = a.after; answered = a.answered; agrees = a.agrees; same = a.same }; told = k.told }
+told_send endpoint exchange taken new what given key before lines (Err why) is under h = tt
+
+-- a send that was done or refused is answered as such
+pub refusal_outcome : {X : Type 0} (sent : Result X SendFault) (put : List ℕ) (refusal : Option SendFault) → IsSendRefusal sent refusal → IsOutcome sent put (send_answer put refusal)
+refusal_outcome (Ok done) put refusal is = ap (send_answer put) is
+refusal_outcome (Err fault.NoMemory) put refusal is = absurd is
+refusal_outcome (Err fault.Over) put refusal is = ap (send_answer put) is
+refusal_outcome (Err fault.Busy) put refusal is = ap (send_answer put) is
+refusal_outcome (Err fault.NothingOpen) put refusal is = ap (send_answer put) is
+refusal_outcome (Err fault.NotText) put refusal is = ap (send_answer put) is
+refusal_outcome (Err fault.TooLong) put refusal is = ap (send_answer put) is
+refusal_outcome (Err fault.BadCode) put refusal is = ap (send_answer put) is

@@ -35,6 +35,10 @@ pub empty_piece : answer_lines (Taken [] 0 []) ≡ codes "taken 0 put -\n"
 unfolding on_numbers
 empty_piece = refl
 
+pub one_byte : answer_lines (Taken [] 1 []) ≡ codes "taken 1 put -\n"
+unfolding on_numbers
+one_byte = refl
+
 pub busy_refused : answer_lines (Refused Busy) ≡ codes "refused Busy\n"
 busy_refused = refl
 

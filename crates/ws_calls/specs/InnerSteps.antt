@@ -1,5 +1,5 @@
 -- Inside the crate: an endpoint between two calls, for contracts of private functions. A reader may skip this file.
-use Rattle.std.specs.Prelude.{◌≡◌, ℕ, true, List, [], ◌++◌, length, map, ◌+◌, Result, Ok, Err}
+use Rattle.std.specs.Prelude.{◌≡◌, ℕ, true, List, [], ◌++◌, length, map, ◌+◌, Option, Some, None, Result, Ok, Err}
 use Rattle.std.specs.List.{flat_map}
 use Rattle.ws_formats.specs.Lines.{HasLineForEach}
 use Rattle.ws_wire.specs.Frame.{Frame}
@@ -35,6 +35,17 @@ IsOutcome (Ok done) put answer = answer ≡ Sent put
 IsOutcome (Err fault.NoMemory) put answer = ⊥
 IsOutcome (Err why) put answer = answer ≡ Refused why
 
+-- why a send was refused, if it was; want of memory ends the run
+abbrev pub IsSendRefusal : {X : Type 0} → Result X SendFault → Option SendFault → Type 0
+IsSendRefusal (Ok done) refusal = refusal ≡ None
+IsSendRefusal (Err fault.NoMemory) refusal = ⊥
+IsSendRefusal (Err why) refusal = refusal ≡ Some why
+
+-- what a send is answered with that put these bytes, or was refused
+abbrev pub send_answer : List ℕ → Option SendFault → CallAnswer
+send_answer put None = Sent put
+send_answer put (Some why) = Refused why
+
 -- an event of a piece behind so many bytes
 abbrev pub placed_behind : ℕ → PlacedEvent → PlacedInStream
 placed_behind start x = record { place = start + x.end; event = x.event }
@@ -54,6 +65,13 @@ pub record HasAnsweredSend (endpoint : Endpoint) (exchange : Exchange) (what : S
   pub answered : IsSendAnswered endpoint exchange what key answer after
   pub agrees : Agrees after taken session
   pub same : (session.role ≡ endpoint.role) × (session.limits ≡ endpoint.limits)
+
+-- the send was answered, and its answer was told behind these lines
+pub record HasToldSend (endpoint : Endpoint) (exchange : Exchange) (what : Send) (key before : List ℕ) (taken : ℕ)
+    (session : SessionValue) (lines : List ℕ) : Type 0 where
+  pub answer : CallAnswer
+  pub answered : HasAnsweredSend endpoint exchange what key answer taken session
+  pub told : lines ≡ before ++ answer_lines answer
 
 -- the line tells a call, or one of an echo
 abbrev pub TellsCall : List ℕ → Type 0

@@ -4,4 +4,3 @@ pub mod CallLines
 pub mod Runs
 pub mod Examples
 pub mod InnerSteps
-pub mod InnerPrinting

@@ -10,10 +10,9 @@ ghost use Rattle.ws_session.specs.declared.event.PlacedEvent.{PlacedEvent};
 ghost use Rattle.ws_calls.specs.declared.calls.Call.TheVariants.{Take};
 ghost use Rattle.ws_calls.specs.InnerSteps.{Agrees, HasTakenPart, HasToldCall, endpoint_of, told_behind};
 
-use crate::report::CallAnswer;
-use crate::report_lines::{tell_answer, tell_events};
+use crate::report_lines::{tell_events, tell_taken};
 use std::alloc::Global;
-use ws_base::{NoMemory, Payload, Sequence};
+use ws_base::{NoMemory, Payload};
 use ws_parts::cut_part;
 use ws_session::laws::{one_list_of_events, replies_go_on};
 use ws_session::{Echo, PlacedEvent, Session, Status};
@@ -91,6 +90,10 @@ pub(crate) struct Caller<E> {
     pub(crate) called: E,
     pub(crate) taken: u64,
     pub(crate) lines: String,
+    /// Room for the bytes that a call puts: each call empties it first.
+    pub(crate) put: Vec<u8>,
+    /// Room for the events of a part of a piece: each part empties it first.
+    pub(crate) events: Vec<PlacedEvent>,
 }
 
 impl<E: Scripted> Caller<E> {
@@ -106,31 +109,20 @@ impl<E: Scripted> Caller<E> {
             (Take piece.now key) (string_bytes self.old.lines) self.new.taken (E.value self.new.called)
             (string_bytes self.new.lines)) }
     {
-        let mut put = Vec::new(alloc);
+        self.put.clear();
         if !self.called.status_now().is_over() {
-            self.take_parts(alloc, piece.as_slice(), key, &mut put)?;
+            self.take_parts(alloc, piece.as_slice(), key)?;
         }
         // Its events are told.
-        let answer = CallAnswer::Taken {
-            events: Sequence::new(alloc),
-            len: piece.len() as u64,
-            put: Payload::from_vec(put),
-        };
-        tell_answer(alloc, &answer, &mut self.lines)?;
+        tell_taken(piece.len() as u64, self.put.as_slice(), &mut self.lines)?;
         Ok(())
     }
 
     /// Takes a piece part by part, and tells its events: those of a part are told before more bytes are taken.
-    fn take_parts(
-        &mut self,
-        alloc: Global,
-        piece: &[u8],
-        key: [u8; 4],
-        put: &mut Vec<u8>,
-    ) -> Result<(), NoMemory>
+    fn take_parts(&mut self, alloc: Global, piece: &[u8], key: [u8; 4]) -> Result<(), NoMemory>
         ensures { OnOk result ((told : List PlacedEvent)
             × HasTakenPart E.reply (E.value self.old.called) (E.value self.new.called) piece.now key
-            put.old.items put.new.items told
+            self.old.put.items self.new.put.items told
             × (self.new.taken ≡ self.old.taken + length piece.now)
             × (string_bytes self.new.lines ≡ string_bytes self.old.lines ++ told_behind self.old.taken told)) }
     {
@@ -139,33 +131,28 @@ impl<E: Scripted> Caller<E> {
         let mut rest = piece;
         while !rest.is_empty() {
             let (part, after) = cut_part(rest);
-            self.take_part(alloc, part, key, put)?;
+            self.take_part(alloc, part, key)?;
             rest = after;
         }
         Ok(())
     }
 
     /// Takes a part of a piece, and tells its events.
-    fn take_part(
-        &mut self,
-        alloc: Global,
-        part: &[u8],
-        key: [u8; 4],
-        put: &mut Vec<u8>,
-    ) -> Result<(), NoMemory>
+    fn take_part(&mut self, alloc: Global, part: &[u8], key: [u8; 4]) -> Result<(), NoMemory>
         ensures { OnOk result ((told : List PlacedEvent)
             × HasTakenPart E.reply (E.value self.old.called) (E.value self.new.called) part.now key
-            put.old.items put.new.items told
+            self.old.put.items self.new.put.items told
             × (self.new.taken ≡ self.old.taken + length part.now)
             × (string_bytes self.new.lines ≡ string_bytes self.old.lines ++ told_behind self.old.taken told)) }
     {
-        let mut events = Vec::new(alloc);
-        self.called.take_whole(part, key, put, &mut events)?;
+        self.events.clear();
+        self.called
+            .take_whole(part, key, &mut self.put, &mut self.events)?;
         // There is no room for a greater number, as there is none for so many bytes.
         let Some(taken) = self.taken.checked_add(part.len() as u64) else {
             return Err(NoMemory);
         };
-        tell_events(alloc, self.taken, events.as_slice(), &mut self.lines)?;
+        tell_events(alloc, self.taken, self.events.as_slice(), &mut self.lines)?;
         self.taken = taken;
         Ok(())
     }

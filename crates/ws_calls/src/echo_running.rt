@@ -17,10 +17,9 @@ ghost use Rattle.ws_calls.specs.Script.{AreEchoCallLines, IsEchoCallLine, as_cal
 use crate::calling::Caller;
 use crate::calls::EchoCall;
 use crate::echo_script::echo_call_damage;
-use crate::report::CallAnswer;
-use crate::report_lines::{tell_answer, tell_events, tell_last};
+use crate::report_lines::{tell_ended, tell_last};
 use std::alloc::Global;
-use ws_base::{LineFault, NoMemory, Payload, Sequence, TextFault};
+use ws_base::{LineFault, NoMemory, TextFault};
 use ws_formats::{Line, cut_line};
 use ws_session::laws::{one_list_of_events, replies_go_on};
 use ws_session::{Echo, Limits};
@@ -42,6 +41,8 @@ pub fn run_echo_calls(
         called: Echo::new(alloc, limits, role),
         taken: 0,
         lines: String::new(alloc),
+        put: Vec::new(alloc),
+        events: Vec::new(alloc),
     };
     let mut rest = text;
     while let Some((line, after)) = cut_line(rest) {
@@ -87,7 +88,7 @@ impl Caller<Echo> {
             EchoCall::Take { piece, key } => self.take(alloc, piece, *key),
             EchoCall::End => {
                 self.called.end();
-                tell_answer(alloc, &CallAnswer::Ended, &mut self.lines)?;
+                tell_ended(&mut self.lines)?;
                 Ok(())
             }
         }

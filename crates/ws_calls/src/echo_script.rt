@@ -12,7 +12,8 @@ ghost use Rattle.ws_calls.specs.declared.calls.EchoCall.{EchoCall};
 use crate::calls::EchoCall;
 use std::alloc::Global;
 use ws_base::{LineFault, TextFault};
-use ws_formats::{Line, read_hex, read_key_or_dash, read_lines, words_of};
+use ws_formats::{Line, read_hex, read_key_or_dash, read_lines};
+use ws_line_words::few_words;
 
 /// What is wrong with a text that is no script for an echo. Its lines are read, and nothing is kept of them.
 pub(crate) fn echo_call_damage(alloc: Global, text: &[u8]) -> TextFault
@@ -44,8 +45,10 @@ impl Line for EchoCall {
     ghost is_line_of = { IsEchoCallLine };
 
     fn read(alloc: Global, line: &[u8]) -> Result<EchoCall, LineFault> {
-        let words = words_of(alloc, line)?;
-        let found = read_echo_words(alloc, &words)?;
+        let Some(words) = few_words(line) else {
+            return Err(LineFault::Damaged);
+        };
+        let found = read_echo_words(alloc, words.as_slice())?;
         Ok(found)
     }
 }

@@ -1,29 +1,66 @@
-//! The lines that tell what came of the calls of one endpoint.
+//! The lines that tell what came of the calls of one endpoint, each put straight at the end of those before it.
 
-ghost use Rattle.std.specs.Prelude.{◌≡◌, ◌+◌, ◌^◌, ◌<◌, ◌++◌, OnOk, Some, string_bytes};
+ghost use Rattle.std.specs.Prelude.{◌≡◌, ◌+◌, ◌^◌, ◌<◌, [], ◌++◌, OnOk, string_bytes};
 ghost use Rattle.std.specs.List.{AllByRecursion};
+ghost use Rattle.ws_formats.specs.Words.{hex_word};
 ghost use Rattle.ws_session.specs.declared.event.PlacedEvent.{PlacedEvent};
-ghost use Rattle.ws_calls.specs.CallLines.{answer_lines, last_lines};
+ghost use Rattle.ws_session.specs.declared.event.Event.TheVariants as event;
+ghost use Rattle.ws_calls.specs.declared.report.CallAnswer.TheVariants.{Ended, Refused, Sent, Taken};
+ghost use Rattle.ws_calls.specs.CallLines.{answer_lines, event_line, event_words, held_line, last_lines};
+ghost use Rattle.ws_calls.specs.CallLines.{message_words};
 ghost use Rattle.ws_calls.specs.InnerSteps.{told_behind};
-ghost use Rattle.ws_calls.specs.InnerPrinting.{printed_answer, printed_event, printed_last, printed_words};
 
-use crate::report::CallAnswer;
 use std::alloc::Global;
-use std::fmt;
 use ws_base::NoMemory;
-use ws_formats::HexBlocks;
-use ws_session::{Event, PlacedEvent, Status};
+use ws_line_words::{push_hex, push_kind, push_number};
+use ws_session::{Event, Message, PlacedEvent, Reason, SendFault, Status};
+use ws_text::Close;
 
-/// Tells what came of a call, after the lines that stand there. Each line ends with LF.
-pub(crate) fn tell_answer(
+/// Tells that a frame was sent, which put these bytes. Each line ends with LF.
+pub(crate) fn tell_sent(put: &[u8], lines: &mut String) -> Result<(), NoMemory>
+    ensures { OnOk result (string_bytes lines.new ≡ string_bytes lines.old ++ answer_lines (Sent put.now)) }
+{
+    lines.push_str("sent ")?;
+    push_hex(lines, put)?;
+    lines.push_str("\n")?;
+    Ok(())
+}
+
+/// Tells that a frame was refused, and why.
+pub(crate) fn tell_refused(
     alloc: Global,
-    answer: &CallAnswer,
+    fault: SendFault,
     lines: &mut String,
 ) -> Result<(), NoMemory>
-    ensures { OnOk result (string_bytes lines.new ≡ string_bytes lines.old ++ answer_lines answer.now) }
+    ensures { OnOk result (string_bytes lines.new ≡ string_bytes lines.old ++ answer_lines (Refused fault)) }
 {
-    let text = format!(in alloc; "{}", AnswerLines { answer })?;
+    let text = format!(in alloc; "refused {fault}\n")?;
     lines.push_str(text.as_str())?;
+    Ok(())
+}
+
+/// Tells that a piece of so many bytes was taken, whose events were told before, and which put these bytes.
+pub(crate) fn tell_taken(len: u64, put: &[u8], lines: &mut String) -> Result<(), NoMemory>
+    ensures { OnOk result (string_bytes lines.new ≡ string_bytes lines.old ++ answer_lines (Taken [] len put.now)) }
+{
+    // A script that comes byte by byte has this line for most of them.
+    if len == 1 && put.is_empty() {
+        lines.push_str("taken 1 put -\n")?;
+        return Ok(());
+    }
+    lines.push_str("taken ")?;
+    push_number(lines, len)?;
+    lines.push_str(" put ")?;
+    push_hex(lines, put)?;
+    lines.push_str("\n")?;
+    Ok(())
+}
+
+/// Tells that the stream has ended.
+pub(crate) fn tell_ended(lines: &mut String) -> Result<(), NoMemory>
+    ensures { OnOk result (string_bytes lines.new ≡ string_bytes lines.old ++ answer_lines Ended) }
+{
+    lines.push_str("ended\n")?;
     Ok(())
 }
 
@@ -38,13 +75,77 @@ pub(crate) fn tell_events(
     ensures { OnOk result (string_bytes lines.new ≡ string_bytes lines.old ++ told_behind start events.now) }
 {
     for placed in events {
-        let line = EventLine {
-            place: start + placed.end as u64,
-            event: &placed.event,
-        };
-        let text = format!(in alloc; "{line}")?;
-        lines.push_str(text.as_str())?;
+        tell_event(alloc, start + placed.end as u64, &placed.event, lines)?;
     }
+    Ok(())
+}
+
+/// Tells an event behind its place.
+fn tell_event(alloc: Global, place: u64, event: &Event, lines: &mut String) -> Result<(), NoMemory>
+    ensures { OnOk result (string_bytes lines.new
+        ≡ string_bytes lines.old ++ event_line (record { place = place; event = event.now })) }
+{
+    push_number(lines, place)?;
+    lines.push_str(" ")?;
+    push_event(alloc, event, lines)?;
+    lines.push_str("\n")?;
+    Ok(())
+}
+
+/// Puts what an event is, in words.
+fn push_event(alloc: Global, event: &Event, lines: &mut String) -> Result<(), NoMemory>
+    ensures { OnOk result (string_bytes lines.new ≡ string_bytes lines.old ++ event_words event.now) }
+{
+    match event {
+        Event::Part => lines.push_str("part")?,
+        Event::Message(message) => push_message(message, lines)?,
+        Event::Ping(payload) => push_named("ping ", payload.as_slice(), lines)?,
+        Event::Pong(payload) => push_named("pong ", payload.as_slice(), lines)?,
+        Event::Close(close) => push_close(close, lines)?,
+        Event::Failed(reason) => push_failed(alloc, *reason, lines)?,
+    }
+    Ok(())
+}
+
+/// Puts a message: its kind and its payload.
+fn push_message(message: &Message, lines: &mut String) -> Result<(), NoMemory>
+    ensures { OnOk result (string_bytes lines.new ≡ string_bytes lines.old ++ message_words message.now) }
+{
+    push_kind(lines, message.kind)?;
+    push_named(" ", message.payload.as_slice(), lines)?;
+    Ok(())
+}
+
+/// Puts a name, and behind it the bytes of a payload.
+fn push_named(name: &str, payload: &[u8], lines: &mut String) -> Result<(), NoMemory>
+    ensures { OnOk result (string_bytes lines.new ≡ string_bytes lines.old ++ (name.now ++ hex_word payload.now)) }
+{
+    lines.push_str(name)?;
+    push_hex(lines, payload)?;
+    Ok(())
+}
+
+/// Puts what a close frame says, or that it is empty.
+fn push_close(close: &Option<Close>, lines: &mut String) -> Result<(), NoMemory>
+    ensures { OnOk result (string_bytes lines.new ≡ string_bytes lines.old ++ event_words (event.Close close.now)) }
+{
+    lines.push_str("close ")?;
+    match close {
+        None => lines.push_str("none")?,
+        Some(close) => {
+            push_number(lines, close.code() as u64)?;
+            push_named(" ", close.reason().as_bytes(), lines)?;
+        }
+    }
+    Ok(())
+}
+
+/// Puts that the bytes broke a rule, and which.
+fn push_failed(alloc: Global, reason: Reason, lines: &mut String) -> Result<(), NoMemory>
+    ensures { OnOk result (string_bytes lines.new ≡ string_bytes lines.old ++ event_words (event.Failed reason)) }
+{
+    let text = format!(in alloc; "failed {reason}")?;
+    lines.push_str(text.as_str())?;
     Ok(())
 }
 
@@ -57,101 +158,20 @@ pub(crate) fn tell_last(
 ) -> Result<(), NoMemory>
     ensures { OnOk result (string_bytes lines.new ≡ string_bytes lines.old ++ last_lines held status) }
 {
-    let text = format!(in alloc; "{}", LastLines { held, status })?;
+    tell_held(held, lines)?;
+    let text = format!(in alloc; "status {status}\n")?;
     lines.push_str(text.as_str())?;
     Ok(())
 }
 
-/// The lines that come last.
-#[derive(Drop)]
-struct LastLines {
-    held: Option<u64>,
-    status: Status,
-}
-
-impl fmt::Display for LastLines {
-    ghost output = { λ lines. Some (printed_last lines) };
-
-    fn fmt<W: fmt::Write>(&self, f: &mut fmt::Formatter<W>) -> fmt::Result {
-        if let Some(held) = self.held {
-            writeln!(f, "held {held}")?;
-        }
-        writeln!(f, "status {}", self.status)
+/// Tells the bytes kept, where that is told.
+fn tell_held(held: Option<u64>, lines: &mut String) -> Result<(), NoMemory>
+    ensures { OnOk result (string_bytes lines.new ≡ string_bytes lines.old ++ held_line held) }
+{
+    if let Some(held) = held {
+        lines.push_str("held ")?;
+        push_number(lines, held)?;
+        lines.push_str("\n")?;
     }
-}
-
-/// What came of one call.
-#[derive(Drop)]
-struct AnswerLines<'a> {
-    answer: &'a CallAnswer,
-}
-
-impl fmt::Display for AnswerLines<'_> {
-    ghost output = { λ lines. Some (printed_answer lines) };
-
-    fn fmt<W: fmt::Write>(&self, f: &mut fmt::Formatter<W>) -> fmt::Result {
-        match self.answer {
-            CallAnswer::Sent(put) => writeln!(f, "sent {}", HexBlocks(put.as_slice())),
-            CallAnswer::Refused(fault) => writeln!(f, "refused {fault}"),
-            CallAnswer::Taken { events, len, put } => {
-                for placed in events.as_slice() {
-                    let line = EventLine {
-                        place: placed.place,
-                        event: &placed.event,
-                    };
-                    write!(f, "{line}")?;
-                }
-                writeln!(f, "taken {len} put {}", HexBlocks(put.as_slice()))
-            }
-            CallAnswer::Ended => writeln!(f, "ended"),
-        }
-    }
-}
-
-/// One event behind its place.
-#[derive(Drop)]
-struct EventLine<'a> {
-    place: u64,
-    event: &'a Event,
-}
-
-impl fmt::Display for EventLine<'_> {
-    ghost output = { λ line. Some (printed_event line) };
-
-    fn fmt<W: fmt::Write>(&self, f: &mut fmt::Formatter<W>) -> fmt::Result {
-        let event = EventWords { event: self.event };
-        writeln!(f, "{} {event}", self.place)
-    }
-}
-
-/// What an event is, in words.
-#[derive(Drop)]
-struct EventWords<'a> {
-    event: &'a Event,
-}
-
-impl fmt::Display for EventWords<'_> {
-    ghost output = { λ words. Some (printed_words words) };
-
-    fn fmt<W: fmt::Write>(&self, f: &mut fmt::Formatter<W>) -> fmt::Result {
-        match self.event {
-            Event::Part => write!(f, "part"),
-            Event::Message(message) => {
-                write!(
-                    f,
-                    "{} {}",
-                    message.kind,
-                    HexBlocks(message.payload.as_slice())
-                )
-            }
-            Event::Ping(payload) => write!(f, "ping {}", HexBlocks(payload.as_slice())),
-            Event::Pong(payload) => write!(f, "pong {}", HexBlocks(payload.as_slice())),
-            Event::Close(Some(close)) => {
-                let reason = close.reason().as_bytes();
-                write!(f, "close {} {}", close.code(), HexBlocks(reason))
-            }
-            Event::Close(None) => write!(f, "close none"),
-            Event::Failed(reason) => write!(f, "failed {reason}"),
-        }
-    }
+    Ok(())
 }

@@ -9,21 +9,19 @@ ghost use Rattle.ws_session.specs.Exchange.{Exchange};
 ghost use Rattle.ws_session.specs.Replies.{reply_to};
 ghost use Rattle.ws_session.specs.Sends.{send_of};
 ghost use Rattle.ws_calls.specs.declared.calls.Call.{Call};
-ghost use Rattle.ws_calls.specs.declared.calls.Call.TheVariants.{Take};
-ghost use Rattle.ws_calls.specs.CallLines.{last_lines};
+ghost use Rattle.ws_calls.specs.CallLines.{answer_lines, last_lines};
 ghost use Rattle.ws_calls.specs.Calls.{session_of};
-ghost use Rattle.ws_calls.specs.InnerSteps.{Agrees, HasAnsweredSend, HasTakenPart, HasToldCall, IsHeld, IsOutcome};
-ghost use Rattle.ws_calls.specs.InnerSteps.{told_behind};
+ghost use Rattle.ws_calls.specs.InnerSteps.{Agrees, HasToldCall, HasToldSend, IsHeld, IsSendRefusal};
+ghost use Rattle.ws_calls.specs.InnerSteps.{send_answer};
 ghost use Rattle.ws_calls.specs.Runs.{TellsSession};
 ghost use Rattle.ws_calls.specs.Script.{AreCallLines, IsCallLine};
 
 use crate::calling::Caller;
 use crate::calls::Call;
-use crate::report::CallAnswer;
-use crate::report_lines::{tell_answer, tell_events, tell_last};
+use crate::report_lines::{tell_ended, tell_last, tell_refused, tell_sent};
 use crate::script::call_damage;
 use std::alloc::Global;
-use ws_base::{LineFault, NoMemory, Payload, Sequence, TextFault};
+use ws_base::{LineFault, NoMemory, TextFault};
 use ws_formats::{Line, cut_line};
 use ws_session::laws::{one_list_of_events, replies_go_on};
 use ws_session::{Limits, Outgoing, SendFault, Session};
@@ -48,6 +46,8 @@ pub fn run_calls(
         called: Session::new(alloc, role, limits),
         taken: 0,
         lines: String::new(alloc),
+        put: Vec::new(alloc),
+        events: Vec::new(alloc),
     };
     let mut rest = text;
     while let Some((line, after)) = cut_line(rest) {
@@ -89,36 +89,28 @@ impl Caller<Session> {
             (string_bytes self.old.lines) self.new.taken self.new.called (string_bytes self.new.lines)) }
     {
         match call {
-            Call::Send(send) => {
-                let answer = self.send(alloc, &send.outgoing(), send.key())?;
-                tell_answer(alloc, &answer, &mut self.lines)?;
-                Ok(())
-            }
+            Call::Send(send) => self.send(alloc, &send.outgoing(), send.key()),
             Call::Take { piece, key } => self.take(alloc, piece, *key),
             Call::End => {
                 self.called.end();
-                tell_answer(alloc, &CallAnswer::Ended, &mut self.lines)?;
+                tell_ended(&mut self.lines)?;
                 Ok(())
             }
         }
     }
 
-    /// A frame is sent.
-    fn send(
-        &mut self,
-        alloc: Global,
-        frame: &Outgoing<'_>,
-        key: [u8; 4],
-    ) -> Result<CallAnswer, NoMemory>
-        ensures answered { (exchange : Exchange) → Agrees exchange self.old.taken self.old.called →
-            IfOk result (λ answer. HasAnsweredSend (session_of self.old.called.role self.old.called.limits) exchange
-            (send_of frame.now) key answer self.new.taken self.new.called) }
-        ensures lines { self.new.lines ≡ self.old.lines }
+    /// A frame is sent, or refused. Want of memory ends the run.
+    fn send(&mut self, alloc: Global, frame: &Outgoing<'_>, key: [u8; 4]) -> Result<(), NoMemory>
+        ensures { (exchange : Exchange) → Agrees exchange self.old.taken self.old.called →
+            OnOk result (HasToldSend (session_of self.old.called.role self.old.called.limits) exchange
+            (send_of frame.now) key (string_bytes self.old.lines) self.new.taken self.new.called
+            (string_bytes self.new.lines)) }
     {
-        let mut put = Vec::new(alloc);
-        let sent = self.called.send(frame, key, &mut put);
-        let answer = send_answer(sent, put)?;
-        Ok(answer)
+        self.put.clear();
+        let sent = self.called.send(frame, key, &mut self.put);
+        let refusal = refusal_of(sent)?;
+        tell_send(alloc, refusal, self.put.as_slice(), &mut self.lines)?;
+        Ok(())
     }
 
     /// All lines: those of the calls, and then the bytes kept and the status.
@@ -134,13 +126,29 @@ impl Caller<Session> {
     }
 }
 
-/// What a send is answered with: the bytes that it put, or why it was refused. Want of memory ends the run.
-fn send_answer(sent: Result<(), SendFault>, put: Vec<u8>) -> Result<CallAnswer, NoMemory>
-    ensures { IfOk result (IsOutcome sent put.items) }
+/// Why a send was refused, if it was. Want of memory ends the run.
+fn refusal_of(sent: Result<(), SendFault>) -> Result<Option<SendFault>, NoMemory>
+    ensures { IfOk result (IsSendRefusal sent) }
 {
     match sent {
-        Ok(()) => Ok(CallAnswer::Sent(Payload::from_vec(put))),
+        Ok(()) => Ok(None),
         Err(SendFault::NoMemory) => Err(NoMemory),
-        Err(fault) => Ok(CallAnswer::Refused(fault)),
+        Err(fault) => Ok(Some(fault)),
+    }
+}
+
+/// Tells what a send is answered with: the bytes that it put, or why it was refused.
+fn tell_send(
+    alloc: Global,
+    refusal: Option<SendFault>,
+    put: &[u8],
+    lines: &mut String,
+) -> Result<(), NoMemory>
+    ensures { OnOk result (string_bytes lines.new
+        ≡ string_bytes lines.old ++ answer_lines (send_answer put.now refusal)) }
+{
+    match refusal {
+        None => tell_sent(put, lines),
+        Some(fault) => tell_refused(alloc, fault, lines),
     }
 }

@@ -11,7 +11,8 @@ use crate::calls::{Call, EchoCall};
 use crate::echo_script::{read_echo_fields, read_echo_name};
 use std::alloc::Global;
 use ws_base::{LineFault, TextFault};
-use ws_formats::{Line, read_lines, words_of};
+use ws_formats::{Line, read_lines};
+use ws_line_words::few_words;
 use ws_sends::read_send;
 
 /// What is wrong with a text that is no script. Its lines are read, and nothing is kept of them.
@@ -44,8 +45,10 @@ impl Line for Call {
     ghost is_line_of = { IsCallLine };
 
     fn read(alloc: Global, line: &[u8]) -> Result<Call, LineFault> {
-        let words = words_of(alloc, line)?;
-        let found = read_words(alloc, &words)?;
+        let Some(words) = few_words(line) else {
+            return Err(LineFault::Damaged);
+        };
+        let found = read_words(alloc, words.as_slice())?;
         Ok(found)
     }
 }

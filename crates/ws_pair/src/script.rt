@@ -10,7 +10,8 @@ ghost use Rattle.ws_pair.specs.Script.{end_word, move_name_word, move_of};
 use crate::moves::{End, Move};
 use std::alloc::Global;
 use ws_base::{LineFault, Sequence, TextFault};
-use ws_formats::{Line, read_key_or_dash, read_lines, read_u32, words_of};
+use ws_formats::{Line, read_key_or_dash, read_lines, read_u32};
+use ws_line_words::few_words;
 use ws_sends::{KeyedSend, read_send};
 
 /// The moves of a script, which has a line for each. Every line ends with LF, and its words are parted by one space:
@@ -26,8 +27,10 @@ impl Line for Move {
     ghost is_line_of = { IsMoveLine };
 
     fn read(alloc: Global, line: &[u8]) -> Result<Move, LineFault> {
-        let words = words_of(alloc, line)?;
-        let found = read_words(alloc, &words)?;
+        let Some(words) = few_words(line) else {
+            return Err(LineFault::Damaged);
+        };
+        let found = read_words(alloc, words.as_slice())?;
         Ok(found)
     }
 }

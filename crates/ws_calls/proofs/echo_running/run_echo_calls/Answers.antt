@@ -1,14 +1,23 @@
 -- A call a line, until no line is left.
-use Rattle.std.proofs.Common.{◌≡◌, ◌<◌, ◌≤◌, List, ℕ, ap, ap₂, arith, length, rules, string_bytes, sym}
+use Rattle.std.proofs.Common.{◌≡◌, ◌<◌, ◌≤◌, List, ℕ, ap, ap₂, arith, length, refl, rules, string_bytes, subst, sym}
 use Rattle.ws_wire.specs.declared.role.Role.{Role}
 use Rattle.ws_session.specs.Limits.{LimitsValue}
 use Rattle.ws_session.specs.Replies.{echo_reply_to}
 use Rattle.ws_calls.specs.Calls.{echo_of}
+use Rattle.ws_calls.specs.InnerSteps.{HasPlayed}
 use Rattle.ws_calls.specs.Script.{IsEchoCallLine, as_call}
 use Rattle.ws_calls.proofs.Ending.{echo_told}
 use Rattle.ws_calls.proofs.Parts.{no_bytes}
-use Rattle.ws_calls.proofs.Playing.{never_ended, never_read, next_played}
+use Rattle.ws_calls.proofs.Playing.{never_ended, never_read, next_played, nothing_played}
 use Rattle.ws_calls.proofs.echo_running.run_echo_calls.Goals as goal
+
+pub loop-line-init : goal.loop-line-init
+loop-line-init c =
+    let endpoint = echo_of c.args.role c.args.limits in
+    let text = c.args.text.now in
+    subst (λ (l : List ℕ). HasPlayed IsEchoCallLine as_call endpoint text text 0 c.new.result l) (sym c.new-2.ensures.bytes)
+    (nothing_played IsEchoCallLine as_call echo_reply_to endpoint text c.new.result (record { exchanged = c.new.ensures.exchanged; count = refl })
+    (c.new.ensures.role, c.new.ensures.limits))
 
 pub loop-line-preserved : goal.loop-line-preserved
 loop-line-preserved c =

@@ -1,15 +1,24 @@
 -- A call a line, until no line is left.
-use Rattle.std.proofs.Common.{◌≡◌, ◌<◌, ◌≤◌, List, ℕ, ap, ap₂, arith, length, rules, string_bytes, sym}
+use Rattle.std.proofs.Common.{◌≡◌, ◌<◌, ◌≤◌, List, ℕ, ap, ap₂, arith, length, refl, rules, string_bytes, subst, sym}
 use Rattle.ws_wire.specs.declared.role.Role.{Role}
 use Rattle.ws_session.specs.Limits.{LimitsValue}
 use Rattle.ws_session.specs.Replies.{reply_to}
 use Rattle.ws_calls.specs.declared.calls.Call.{Call}
 use Rattle.ws_calls.specs.Calls.{session_of}
+use Rattle.ws_calls.specs.InnerSteps.{HasPlayed}
 use Rattle.ws_calls.specs.Script.{IsCallLine}
 use Rattle.ws_calls.proofs.Ending.{session_told}
 use Rattle.ws_calls.proofs.Parts.{no_bytes}
-use Rattle.ws_calls.proofs.Playing.{never_ended, never_read, next_played}
+use Rattle.ws_calls.proofs.Playing.{never_ended, never_read, next_played, nothing_played}
 use Rattle.ws_calls.proofs.running.run_calls.Goals as goal
+
+pub loop-line-init : goal.loop-line-init
+loop-line-init c =
+    let endpoint = session_of c.args.role c.args.limits in
+    let text = c.args.text.now in
+    subst (λ (l : List ℕ). HasPlayed IsCallLine (λ (x : Call). x) endpoint text text 0 c.new.result l) (sym c.new-2.ensures.bytes)
+    (nothing_played IsCallLine (λ (x : Call). x) reply_to endpoint text c.new.result (record { exchanged = c.new.ensures.exchanged; count = refl })
+    (c.new.ensures.role, c.new.ensures.limits))
 
 pub loop-line-preserved : goal.loop-line-preserved
 loop-line-preserved c =

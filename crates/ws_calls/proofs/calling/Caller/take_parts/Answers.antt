@@ -11,7 +11,7 @@ loop-rest-init g c = (
   [],
   refl,
   [],
-  nothing_taken g.E.Scripted.reply (g.E.Scripted.value c.args.self.now.called) c.args.key c.args.put.now.items,
+  nothing_taken g.E.Scripted.reply (g.E.Scripted.value c.args.self.now.called) c.args.key c.args.self.now.put.items,
   omega arith,
   sym (append-nil (string_bytes c.args.self.now.lines)),
 )
@@ -31,7 +31,7 @@ loop-rest-preserved g c =
       i.0 ++ part,
       i.1 ∙ (ap (λ (l : List ℕ). i.0 ++ l) split ∙ sym (append_assoc i.0 part after)),
       i.2 ++ map (behind (length i.0)) h.0,
-      joined c.one_list_of_events.ensures c.replies_go_on.ensures g.E.Scripted.reply (g.E.Scripted.value c.args.self.now.called) (g.E.Scripted.value c.loop-rest.self.called) (g.E.Scripted.value c.take_part.new.self.called) i.0 part c.args.key c.args.put.now.items c.loop-rest.put.items c.take_part.new.put.items
+      joined c.one_list_of_events.ensures c.replies_go_on.ensures g.E.Scripted.reply (g.E.Scripted.value c.args.self.now.called) (g.E.Scripted.value c.loop-rest.self.called) (g.E.Scripted.value c.take_part.new.self.called) i.0 part c.args.key c.args.self.now.put.items c.loop-rest.self.put.items c.take_part.new.self.put.items
           i.2 h.0 i.3 h.1,
       omega (arith, i.4, h.2, length-append i.0 part),
       h.3 ∙ (ap (λ (l : List ℕ). l ++ second) i.5
@@ -46,7 +46,7 @@ returns g c =
     let none : c.loop-rest.rest.now ≡ [] = no_bytes c.loop-rest.rest.now short in
     let all : i.0 ≡ c.args.piece.now = sym (i.1 ∙ (ap (λ (l : List ℕ). i.0 ++ l) none ∙ append-nil i.0)) in (
       i.2,
-      subst (λ (l : List ℕ). HasTakenPart g.E.Scripted.reply (g.E.Scripted.value c.args.self.now.called) (g.E.Scripted.value c.loop-rest.self.called) l c.args.key c.args.put.now.items c.loop-rest.put.items i.2) all i.3,
+      subst (λ (l : List ℕ). HasTakenPart g.E.Scripted.reply (g.E.Scripted.value c.args.self.now.called) (g.E.Scripted.value c.loop-rest.self.called) l c.args.key c.args.self.now.put.items c.loop-rest.self.put.items i.2) all i.3,
       i.4 ∙ ap (λ (l : List ℕ). c.args.self.now.taken + length l) all,
       i.5,
     )

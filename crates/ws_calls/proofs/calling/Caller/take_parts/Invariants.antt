@@ -7,7 +7,7 @@ use Rattle.ws_calls.proofs.calling.Caller.take_parts.Given as goal
 -- what stands before the rest was taken and told
 abbrev pub invariant-loop-rest : goal.invariant-loop-rest
 invariant-loop-rest g l = (done : List ℕ) × (l.piece ≡ done ++ l.rest) × (told : List PlacedEvent)
-    × HasTakenPart g.E.Scripted.reply (g.E.Scripted.value l.fn.self.called) (g.E.Scripted.value l.self.called) done l.key l.fn.put.items l.put.items told
+    × HasTakenPart g.E.Scripted.reply (g.E.Scripted.value l.fn.self.called) (g.E.Scripted.value l.self.called) done l.key l.fn.self.put.items l.self.put.items told
     × (l.self.taken ≡ l.fn.self.taken + length done)
     × (string_bytes l.self.lines ≡ string_bytes l.fn.self.lines ++ told_behind l.fn.self.taken told)
 

@@ -1,0 +1,2 @@
+-- The lemmas behind words in passing.
+pub mod ManyWords
