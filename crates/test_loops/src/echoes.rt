@@ -5,6 +5,7 @@ ghost use Rattle.ws_loops.specs.Rounds.{AreAble};
 ghost use Rattle.test_loops.specs.Noted.{noted_agrees, noted_wants};
 
 use crate::bounded_echo::BoundedEcho;
+use crate::counted::{counted, is_counted};
 use crate::noted_exchange::NotedExchange;
 use crate::row_fault::RowFault;
 use crate::runs::{Tells, no_places, room, run_all};
@@ -65,7 +66,7 @@ fn add_echo(
     requires { AreAble noted_agrees noted_wants places.old.items }
     ensures { OnOk result (AreAble noted_agrees noted_wants places.new.items) }
 {
-    let bytes = bytes_of(alloc, len)?;
+    let bytes = counted(alloc, len)?;
     add_slot(
         places,
         Slot {
@@ -75,15 +76,6 @@ fn add_echo(
         },
     )?;
     Ok(())
-}
-
-/// So many bytes, of which each differs from its neighbours.
-fn bytes_of(alloc: Global, len: usize) -> Result<Vec<u8>, RowFault> {
-    let mut bytes = Vec::with_capacity(alloc, len)?;
-    for at in 0..len {
-        bytes.push((at % 251) as u8)?;
-    }
-    Ok(bytes)
 }
 
 /// It finds each stream ready.
@@ -140,14 +132,4 @@ impl Tells<NotedExchange, BoundedEcho> for Tally {
         }
         Ok(())
     }
-}
-
-/// Whether the bytes are those that `bytes_of` makes.
-fn is_counted(bytes: &[u8]) -> bool {
-    for (at, byte) in bytes.iter().enumerate() {
-        if usize::from(*byte) != at % 251 {
-            return false;
-        }
-    }
-    true
 }

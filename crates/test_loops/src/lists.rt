@@ -1,6 +1,6 @@
 //! Rows of loops over streams that do what lists say.
 
-ghost use Rattle.std.specs.Prelude.{IfOk};
+ghost use Rattle.std.specs.Prelude.{[], IfOk};
 ghost use Rattle.ws_loops.specs.Rounds.{AreAble};
 ghost use Rattle.test_loops.specs.Noted.{IsAbleNoted, noted_agrees, noted_wants};
 
@@ -39,7 +39,7 @@ pub fn run_lists(alloc: Global, words: &[&str], out: &mut String) -> Result<(), 
 }
 
 /// A time, or none.
-fn time_of(word: &str) -> Result<Option<u64>, RowFault> {
+pub fn time_of(word: &str) -> Result<Option<u64>, RowFault> {
     if word == "-" {
         return Ok(None);
     }
@@ -74,8 +74,9 @@ fn places_by(
 }
 
 /// The exchange of a word `BYTES/MOST/READS/WRITES`.
-fn machine_by(alloc: Global, word: &str) -> Result<NotedExchange, RowFault>
-    ensures { IfOk result (λ machine. IsAbleNoted machine) }
+pub fn machine_by(alloc: Global, word: &str) -> Result<NotedExchange, RowFault>
+    ensures able { IfOk result (λ machine. IsAbleNoted machine) }
+    ensures untold { IfOk result (λ machine. noted_agrees machine machine []) }
 {
     let parts: Vec<&str> = word.split('/').collect(alloc)?;
     let [bytes, most, _reads, _writes] = parts.as_slice() else {
@@ -90,7 +91,7 @@ fn machine_by(alloc: Global, word: &str) -> Result<NotedExchange, RowFault>
 }
 
 /// The stream of a word `BYTES/MOST/READS/WRITES`.
-fn stream_by(alloc: Global, word: &str) -> Result<ListedStream, RowFault> {
+pub fn stream_by(alloc: Global, word: &str) -> Result<ListedStream, RowFault> {
     let parts: Vec<&str> = word.split('/').collect(alloc)?;
     let [_bytes, _most, reads, writes] = parts.as_slice() else {
         return Err(RowFault::NotARow);

@@ -1,28 +1,35 @@
-//! `test_loops`: answers rows of loops over streams in memory, which are ready, fail and end as a row says. Each line
-//! of the standard input is a row: the name of a call and its arguments, parted by one space. Each row is answered by
-//! one line. The rows stand in `rows/loops`, and `rows/run` compares the answers with those that are wanted.
+//! `test_loops`: answers rows of loops over streams and networks in memory, which are ready, fail and end as a row
+//! says, and over the system's network. Each line of the standard input is a row: the name of a call and its arguments,
+//! parted by one space. Each row is answered by one line. The rows stand in `rows/loops`, and `rows/run` compares the
+//! answers with those that are wanted.
 #![tactic(auto)]
 
 mod bounded_echo;
 mod chance;
 mod chances;
+mod counted;
 mod echoes;
+mod listed_network;
 mod listed_poller;
 mod listed_stream;
 mod lists;
+mod meetings;
 mod noted_exchange;
 mod row_fault;
 mod runs;
+mod sockets;
 
 use row_fault::RowFault;
 use std::alloc::Global;
 use std::io;
+use std::net::Net;
 use std::process::ExitCode;
+use std::time::Clock;
 
 fn main(rt: HostRuntime) -> io::Result<ExitCode> {
     let rows = io::read_to_string(rt.alloc(), rt.stdin())?;
     for (place, row) in rows.as_str().lines().enumerate() {
-        match answer_to(rt.alloc(), row) {
+        match answer_to(rt.alloc(), &rt, row) {
             Ok(answer) => println!(rt; "{answer}")?,
             Err(RowFault::Stuck) => println!(rt; "stuck")?,
             Err(fault) => {
@@ -35,7 +42,7 @@ fn main(rt: HostRuntime) -> io::Result<ExitCode> {
 }
 
 /// The answer to a row.
-fn answer_to(alloc: Global, row: &str) -> Result<String, RowFault> {
+fn answer_to<N: Net + Clock>(alloc: Global, net: &N, row: &str) -> Result<String, RowFault> {
     let words: Vec<&str> = row.split(' ').collect(alloc)?;
     let mut out = String::new(alloc);
     let [call, words @ ..] = words.as_slice() else {
@@ -45,6 +52,8 @@ fn answer_to(alloc: Global, row: &str) -> Result<String, RowFault> {
         "loop" => lists::run_lists(alloc, words, &mut out)?,
         "chances" => chances::run_chances(alloc, words, &mut out)?,
         "echo" => echoes::run_echoes(alloc, words, &mut out)?,
+        "meet" => meetings::run_meeting(alloc, words, &mut out)?,
+        "socket" => sockets::run_socket(alloc, net, words, &mut out)?,
         _ => return Err(RowFault::NotARow),
     }
     Ok(out)

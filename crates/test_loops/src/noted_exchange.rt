@@ -1,7 +1,7 @@
 //! An exchange that notes what it is told.
 
-ghost use Rattle.std.specs.Prelude.{◌≡◌, OnOk};
-ghost use Rattle.test_loops.specs.Noted.{IsAbleNoted};
+ghost use Rattle.std.specs.Prelude.{◌≡◌, [], OnOk};
+ghost use Rattle.test_loops.specs.Noted.{IsAbleNoted, noted_agrees};
 
 use std::alloc::{AllocError, Global};
 use std::fmt::Write;
@@ -19,6 +19,7 @@ impl NotedExchange {
     /// Is to write these bytes, and to read at most so many.
     pub fn new(alloc: Global, bytes: Vec<u8>, most: usize) -> NotedExchange
         ensures able { IsAbleNoted result }
+        ensures untold { noted_agrees result result [] }
     {
         let exchange = Exchange::new(alloc, bytes, most);
         NotedExchange {

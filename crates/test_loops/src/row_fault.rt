@@ -14,6 +14,8 @@ pub enum RowFault {
     NoMemory,
     /// Nothing can happen any more, or the loop waits without end.
     Stuck,
+    /// The system has no network.
+    NoNetwork,
 }
 
 impl fmt::Display for RowFault {
@@ -22,6 +24,7 @@ impl fmt::Display for RowFault {
             RowFault::NotARow => write!(f, "not a row"),
             RowFault::NoMemory => write!(f, "no memory"),
             RowFault::Stuck => write!(f, "stuck"),
+            RowFault::NoNetwork => write!(f, "no network"),
         }
     }
 }

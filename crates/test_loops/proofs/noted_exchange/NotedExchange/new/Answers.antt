@@ -5,4 +5,5 @@ use Rattle.test_loops.proofs.noted_exchange.NotedExchange.new.Goals as goal
 pub returns : goal.returns
 returns c = record {
   able = able (record { exchange = c.new-exchange.result; told = c.new.result }) c.new-exchange.ensures.begins;
+  untold = c.new-exchange.ensures.begins;
 }

@@ -1,0 +1,4 @@
+pub mod Networks
+pub mod Bounds
+pub mod Connecting
+pub mod Meetings

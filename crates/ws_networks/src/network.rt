@@ -1,0 +1,68 @@
+//! What is asked of a network.
+
+ghost use Rattle.std.specs.Prelude.{◌≡◌, ◌∷◌, [], IfOk, MatchResult};
+ghost use Rattle.ws_networks.specs.Networks.{HasAdded, is_pending};
+ghost use Rattle.ws_networks.specs.Networks.NetworkDeed.{Asked, Begun, Found, NotBegun, NotFound};
+
+use std::alloc::Global;
+use ws_loops::NonBlocking;
+
+/// How far a connection has come that was begun.
+#[derive(Clone, Copy)]
+pub enum Progress<W> {
+    /// It is made.
+    Made,
+    /// It is neither made, nor has it failed.
+    Pending,
+    /// It has failed, for this reason.
+    Failed(W),
+}
+
+impl<W: Copy> Progress<W> {
+    /// Whether it is neither made, nor has it failed.
+    pub(crate) fn is_pending(self) -> bool
+        ensures { result ≡ is_pending self }
+    {
+        match self {
+            Progress::Pending => true,
+            Progress::Made | Progress::Failed(_) => false,
+        }
+    }
+}
+
+/// It looks names up, and begins connections, each at a place of a loop: under its number the loop's poller marks the
+/// stream that is found ready. No call waits, but a look-up.
+pub trait Network {
+    ghost use Rattle.std.specs.Prelude.{List};
+    ghost use Rattle.ws_networks.specs.Networks.{NetworkDeed};
+
+    /// An address of a name.
+    type Address: Copy;
+
+    /// A connection that was begun. Until it is made it has nothing, and takes nothing. What is written goes out at
+    /// once: no byte waits for an answer to those before it.
+    type Stream: NonBlocking + Drop;
+
+    /// Why a name has no address, or a connection is not made.
+    type Miss: Copy;
+
+    /// From the first state to the second one it did just this.
+    ghost did: { Self → Self → List (NetworkDeed Self.Address Self.Miss) → Type 0 };
+
+    /// The addresses of a name, in the order in which they are to be tried.
+    fn look_up(&mut self, alloc: Global, name: &str) -> Result<Vec<Self::Address>, Self::Miss>
+        ensures did { MatchResult result
+            (λ addresses. HasAdded did self.old self.new (Found name.now addresses.items ∷ []))
+            (λ why. HasAdded did self.old self.new (NotFound name.now why ∷ [])) };
+
+    /// Begins a connection to an address. Its stream has done nothing yet.
+    fn begin(&mut self, address: Self::Address, at: usize) -> Result<Self::Stream, Self::Miss>
+        ensures did { MatchResult result
+            (λ stream. HasAdded did self.old self.new (Begun address ∷ []))
+            (λ why. HasAdded did self.old self.new (NotBegun address why ∷ [])) }
+        ensures fresh { IfOk result (λ stream. Self.Stream.did stream stream []) };
+
+    /// How far a connection has come.
+    fn progress(&mut self, stream: &Self::Stream) -> Progress<Self::Miss>
+        ensures { HasAdded did self.old self.new (Asked result ∷ []) };
+}

@@ -1,0 +1,291 @@
+//! Sockets of the system over `mio`: connections that are begun, streams that don't wait, and one wait for all of them.
+//! No contract of a socket says which bytes pass, and none of the clock that it goes on.
+
+ghost use Rattle.std.specs.Prelude.{◌≡◌, length};
+ghost use Rattle.std.specs.Iterator.{IsFinite};
+
+use crate::fault::NetworkFault;
+use mio::net::TcpStream;
+use mio::{Events, Interest, Poll, Registry, Token};
+use std::alloc::{AllocError, Global};
+use std::io;
+use std::io::{ErrorKind, Read, Write};
+use std::net::{Net, Shutdown, SocketAddr, ToSocketAddrs};
+use std::time::{Clock, Duration, Instant};
+use ws_loops::{NonBlocking, Poller, Readiness, TryRead, TryWrite, WaitFailed};
+use ws_networks::{Network, Progress};
+
+/// Room for the events of one wait. What doesn't fit is found by the next one.
+const EVENTS: usize = 64;
+
+/// The system's network.
+#[derive(Drop)]
+pub struct SystemNetwork<'a, N> {
+    net: &'a N,
+    registry: Registry,
+}
+
+/// Waits for the streams of a network, by a clock. Times are milliseconds since it was made.
+#[derive(Drop)]
+pub struct SystemPoller<'a, C> {
+    clock: &'a C,
+    poll: Poll,
+    events: Events<Global>,
+    start: Instant,
+    time: u64,
+    left: u64,
+}
+
+/// The system's network, and what waits for its streams.
+pub fn system_network<'a, N: Net + Clock>(
+    alloc: Global,
+    net: &'a N,
+) -> io::Result<(SystemNetwork<'a, N>, SystemPoller<'a, N>)> {
+    let poll = Poll::new(net)?;
+    let registry = poll.registry().try_clone()?;
+    let events = Events::with_capacity(alloc, EVENTS)?;
+    let start = Instant::now(net)?;
+    Ok((
+        SystemNetwork { net, registry },
+        SystemPoller {
+            clock: net,
+            poll,
+            events,
+            start,
+            time: 0,
+            left: u64::MAX,
+        },
+    ))
+}
+
+impl<N: Net> Network for SystemNetwork<'_, N> {
+    ghost use Rattle.std.specs.Prelude.{⊤};
+
+    type Address = SocketAddr;
+
+    type Stream = SystemStream;
+
+    type Miss = ErrorKind;
+
+    ghost did = { λ old new deeds. ⊤ };
+
+    fn look_up(&mut self, alloc: Global, name: &str) -> Result<Vec<SocketAddr>, ErrorKind> {
+        match name.to_socket_addrs(self.net) {
+            Ok(found) => match all_of(alloc, found) {
+                Ok(addresses) => Ok(addresses),
+                Err(_) => Err(ErrorKind::OutOfMemory),
+            },
+            Err(error) => Err(error.kind()),
+        }
+    }
+
+    fn begin(&mut self, address: SocketAddr, at: usize) -> Result<SystemStream, ErrorKind> {
+        match self.begun(address, at) {
+            Ok(stream) => Ok(SystemStream {
+                stream,
+                failure: None,
+            }),
+            Err(error) => Err(error.kind()),
+        }
+    }
+
+    fn progress(&mut self, stream: &SystemStream) -> Progress<ErrorKind> {
+        match stream.stream.take_error() {
+            Ok(Some(error)) | Err(error) => return Progress::Failed(error.kind()),
+            Ok(None) => {}
+        }
+        match stream.stream.peer_addr() {
+            Ok(_) => Progress::Made,
+            Err(error) => match error.kind() {
+                ErrorKind::NotConnected => Progress::Pending,
+                kind => Progress::Failed(kind),
+            },
+        }
+    }
+}
+
+/// All addresses that were found.
+fn all_of<I: Iterator<Item = SocketAddr>>(
+    alloc: Global,
+    found: I,
+) -> Result<Vec<SocketAddr>, AllocError>
+    requires { I.can_next found × IsFinite (I.remaining found) }
+{
+    let mut addresses = Vec::new(alloc);
+    for address in found {
+        addresses.push(address)?;
+    }
+    Ok(addresses)
+}
+
+impl<N: Net> SystemNetwork<'_, N> {
+    /// A connection that was begun. The poller tells of it by this number. What is written goes out at once.
+    fn begun(&mut self, address: SocketAddr, at: usize) -> io::Result<TcpStream> {
+        let mut stream = TcpStream::connect(self.net, address)?;
+        stream.set_nodelay(true)?;
+        self.registry.register(
+            &mut stream,
+            Token(at),
+            Interest::READABLE | Interest::WRITABLE,
+        )?;
+        Ok(stream)
+    }
+}
+
+/// A connection, and of which kind the first error of a call over it was.
+#[derive(Drop)]
+pub struct SystemStream {
+    stream: TcpStream,
+    failure: Option<ErrorKind>,
+}
+
+impl SystemStream {
+    /// Of which kind the first error was that a call over it answered.
+    pub fn failure(&self) -> Option<ErrorKind> {
+        self.failure
+    }
+
+    /// Notes an error, if it is the first.
+    fn note(&mut self, kind: ErrorKind) {
+        if self.failure.is_none() {
+            self.failure = Some(kind);
+        }
+    }
+}
+
+/// A call that a signal interrupts is made again.
+impl NonBlocking for SystemStream {
+    ghost use Rattle.std.specs.Prelude.{⊤};
+
+    type Fault = NetworkFault;
+
+    ghost did = { λ old new deeds. ⊤ };
+
+    fn try_read(&mut self, room: &mut [u8]) -> TryRead {
+        for _ in 0..u64::MAX {
+            match self.stream.read(room) {
+                Ok(0) => return TryRead::Ended,
+                Ok(count) => return TryRead::Came(count),
+                Err(error) => match error.kind() {
+                    ErrorKind::WouldBlock => return TryRead::NotReady,
+                    ErrorKind::Interrupted => {}
+                    kind => {
+                        self.note(kind);
+                        return TryRead::Failed;
+                    }
+                },
+            }
+        }
+        TryRead::Failed
+    }
+
+    fn try_write(&mut self, bytes: &[u8]) -> TryWrite {
+        for _ in 0..u64::MAX {
+            match self.stream.write(bytes) {
+                Ok(0) => return TryWrite::Failed,
+                Ok(count) => return TryWrite::Taken(count),
+                Err(error) => match error.kind() {
+                    ErrorKind::WouldBlock => return TryWrite::NotReady,
+                    ErrorKind::Interrupted => {}
+                    kind => {
+                        self.note(kind);
+                        return TryWrite::Failed;
+                    }
+                },
+            }
+        }
+        TryWrite::Failed
+    }
+
+    fn end_direction(&mut self) {
+        let _ = self.stream.shutdown(Shutdown::Write);
+    }
+
+    fn report(&mut self, _lines: &[u8]) -> Result<(), NetworkFault> {
+        Err(NetworkFault::NoOutput)
+    }
+}
+
+impl<C: Clock> SystemPoller<'_, C> {
+    /// How long it is since it was made. `None` where the clock can't be read.
+    fn elapsed(&self) -> Option<u64> {
+        match self.start.elapsed(self.clock) {
+            Ok(time) => Some(milliseconds(time)),
+            Err(_) => None,
+        }
+    }
+
+    /// How long is still to be waited, if there is an end.
+    fn rest(&self, until: Option<u64>) -> Option<Duration> {
+        let until = until?;
+        let now = self.elapsed().unwrap_or(self.time);
+        Some(Duration::from_millis(until.saturating_sub(now)))
+    }
+
+    /// Whether this time has come. Where the clock can't be read, a wait until then has lasted so long.
+    fn has_come(&self, until: Option<u64>) -> bool {
+        match (until, self.elapsed()) {
+            (Some(until), Some(now)) => until <= now,
+            (Some(_), None) => true,
+            (None, _) => false,
+        }
+    }
+}
+
+/// Whole milliseconds of a time.
+fn milliseconds(time: Duration) -> u64 {
+    time.as_secs()
+        .saturating_mul(1000)
+        .saturating_add(u64::from(time.subsec_millis()))
+}
+
+impl<C: Clock> Poller for SystemPoller<'_, C> {
+    ghost time = { λ p. p.time };
+
+    ghost left = { λ p. p.left };
+
+    fn now(&mut self) -> u64 {
+        if let Some(now) = self.elapsed() {
+            self.time = self.time.max(now);
+        }
+        self.time
+    }
+
+    fn wait(&mut self, ready: &mut [Readiness], until: Option<u64>) -> Result<(), WaitFailed> {
+        if self.left == 0 {
+            return Err(WaitFailed);
+        }
+        self.left -= 1;
+        for _ in 0..u64::MAX {
+            let rest = self.rest(until);
+            if self.poll.poll(&mut self.events, rest).is_err() {
+                return Err(WaitFailed);
+            }
+            if mark(&self.events, ready) || self.has_come(until) {
+                return Ok(());
+            }
+        }
+        Ok(())
+    }
+}
+
+/// Marks the streams that were found ready, each at its place, and answers whether there was one. One that has failed
+/// may be read and written: the call says so.
+fn mark(events: &Events<Global>, ready: &mut [Readiness]) -> bool
+    ensures { length ready.new ≡ length ready.old }
+{
+    let mut any = false;
+    for event in events.iter() {
+        let Token(at) = event.token();
+        if at < ready.len() {
+            let failed = event.is_error();
+            let before = ready[at];
+            ready[at] = Readiness {
+                read: before.read || failed || event.is_readable() || event.is_read_closed(),
+                write: before.write || failed || event.is_writable() || event.is_write_closed(),
+            };
+            any = true;
+        }
+    }
+    any
+}
