@@ -91,7 +91,7 @@ pub(crate) const WAIT: Argument = Argument {
     default: None,
     value_name: "SECONDS",
     heading: Some("Limits"),
-    help: "Wait SECONDS for a client to connect, 1 to 86400",
+    help: "Wait SECONDS for clients, 1 to 86400 [default: none]",
 };
 
 pub(crate) const BUDGET: Argument = Argument {

@@ -120,13 +120,14 @@ const AFTER_HELP: &str =
   ping key=- -         no mask (key=37fa213d sets one), no payload
   close=1000           a close frame with this code
   wait                 the turn ends: wait for the replies that are due
-A text in quotes is printable ASCII; any other payload is written in hex. All of
-a turn is sent before replies are read.
+A text in quotes is printable ASCII; any other payload is written in hex.
 
-Printed are frames sent (`>`), frames received (`<`), and `end WHO`: who ended
-the connection. `peer` is the tested endpoint. `tester` is wst: all that is due
-has come, a rule was broken, or --timeout has passed. `broken`: it broke off.
-With --role client, the first client to connect gets the script.
+Printed are frames sent (`>`) and received (`<`), and `end WHO`: `peer`, the
+tested endpoint, ended the connection, or `tester`, wst: all that is due came, a
+rule was broken (without --expect protocol any message but an echo breaks one),
+or --timeout has passed. `broken`: it broke off. With --role client, the first
+connection gets the script. Clients for Autobahn's fuzzing server take what it
+sends there for the number of cases: use `wst test`.
 
 Exit status:
   0  the script was run, whoever ended the connection
@@ -135,7 +136,6 @@ Exit status:
   3  no connection, cannot listen, or an I/O or memory error
 
 Examples:
-  # an unmasked frame, to an echo in memory
   echo 'text key=- \"Hello\"' | wst send own
   # a ping between two fragments
   printf '%s\\n' 'text fin=0 \"a\"' 'ping \"b\"' 'cont \"c\"' | wst send own

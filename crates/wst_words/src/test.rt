@@ -164,10 +164,11 @@ const AFTER_HELP: &str =
     "Each case gives PASS, LOOSE WHY (permitted, but not the reference behaviour),
 FAIL WHY (a rule is broken), FAIL Head NAME (the handshake failed; --header and
 --protocols may mend it) or `no connection`. `man wst` explains WHY and NAME.
-With --explain, `due N` is what was expected in turn N, `got N` what came (`cut`
-in a frame). `due N end RULE`: wst broke RULE on purpose: the peer had to end.
-`got N failed RULE`: the peer broke RULE. `end WHO`: who ended the connection,
-`tester` (wst) or `peer`; `broken`: it broke off. `ours`: RFC 6455 asks less.
+With --explain, `due N` is what was expected in turn N, `got N` what came, up to
+16 bytes (`send --data all` prints more). `due N end RULE`: wst broke RULE on
+purpose: the peer had to end. `got N failed RULE`: the peer broke RULE.
+`end WHO` ended the connection: `peer`, or `tester` (wst: it waits for no more
+after a broken rule); `broken`: it broke off. `ours`: RFC 6455 asks less.
 With --role client, start your client after `listening on`: it must reconnect
 for each next case. Clients for Autobahn's fuzzing server run unchanged.
 
@@ -175,8 +176,7 @@ Exit status:
   0  no FAIL; with --known, no new case and no other result
   1  a FAIL or, with --timeout, no connection; with --known, what differs
   2  usage error
-  3  no connection (with --timeout, three in a row), cannot listen, or an I/O or
-     memory error
+  3  no connection (with --timeout, three in a row), I/O or memory error
 
 Examples:
   # an echo; any other server; a client, which connects once per case
