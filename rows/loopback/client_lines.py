@@ -200,7 +200,7 @@ def a_client_that_forgets_the_mask():
         "  due 1 text -",
         "  got 1 failed MaskWrong",
         "  end tester 1",
-        "  rule Whatever a client sends must be valid: whole masked frames in a valid order, with valid lengths and close "
+        "  rule All that a client sends must be valid (the last `got` line says what was not): whole masked frames in a valid order, with valid lengths and close "
         "payloads (RFC 6455 section 5), text in UTF-8 (section 8.1), and nothing after its close frame (ours)",
         "0 pass, 0 loose, 1 fail",
         status=1,

@@ -25,10 +25,9 @@ NAME = "1.1.1 Empty text message"
 BELOW_FAIL = """  due 1 text -
   due 2 close 1000
   got 1 binary -
-  got 2 close 1000
-  end peer 2
+  end tester 2
   rule An echo sends back each message, in order, with its kind and payload (ours; RFC 6455 sections 5.4 and 5.6 \
-define a message); if a violation was sent, messages just before it may be missing
+define a message); after a violation nothing is sent back, and messages just before it may be missing
 """
 BELOW_LOOSE = """  due 1 text -
   due 2 close 1000

@@ -26,12 +26,13 @@ EXPLAINED = """1.1.1 PASS
   due 1 text -
   due 2 close 1000
   got 1 binary -
-  got 2 close 1000
-  end peer 2
+  end tester 2
   rule An echo sends back each message, in order, with its kind and payload (ours; RFC 6455 sections 5.4 and 5.6 \
-define a message); if a violation was sent, messages just before it may be missing
+define a message); after a violation nothing is sent back, and messages just before it may be missing
 1 pass, 0 loose, 1 fail
 """
+
+EMPTY_PONG = b"\x8a\x00"
 
 LARGE = b"HTTP/1.1 101 Switching Protocols\r\nX: " + b"a" * 9000
 
@@ -237,6 +238,40 @@ def silent_for_more_than_ten_seconds():
     server.ends("1.1.1 PASS\n1.1.1 PASS\n2 pass, 0 loose, 0 fail\n")
 
 
+def ends_soon(server, verdict):
+    """The only case has this verdict long before its limit of time."""
+    began = time.monotonic()
+    server.ends(f"1.1.1 {verdict}\n0 pass, 0 loose, 1 fail\n", status=1)
+    assert time.monotonic() - began < 4
+
+
+def another_message_is_not_waited_behind():
+    """A message that differs from the one that is due can't become it: nothing more is waited for."""
+    server = Tested("--timeout=8", "1.1.1")
+    client = server.next()
+    client.send(RESPONSE, EMPTY_BINARY)
+    ends_soon(server, "FAIL Messages")
+    client.close()
+
+
+def an_unowed_message_is_not_waited_behind():
+    """Nor can what is due come behind a message that isn't."""
+    server = Tested("--timeout=8", "1.1.1")
+    client = server.next()
+    client.send(RESPONSE, EMPTY_BACK, EMPTY_BACK)
+    ends_soon(server, "FAIL Messages")
+    client.close()
+
+
+def a_pong_without_a_ping_is_not_waited_behind():
+    """All messages are there, and a pong for which there was no ping."""
+    server = Tested("--timeout=8", "1.1.1")
+    client = server.next()
+    client.send(RESPONSE, EMPTY_BACK, EMPTY_PONG)
+    ends_soon(server, "FAIL Pongs")
+    client.close()
+
+
 def stays_behind_its_close():
     """A server that closes the handshake and not the connection is to end it (RFC 6455 section 7.1.1)."""
     server = Tested("--timeout=1", "1.1.1")
@@ -387,6 +422,9 @@ TESTS = [
     silent_in_the_last_turn,
     silent_in_a_frame,
     silent_for_more_than_ten_seconds,
+    another_message_is_not_waited_behind,
+    an_unowed_message_is_not_waited_behind,
+    a_pong_without_a_ping_is_not_waited_behind,
     stays_behind_its_close,
     a_byte_each_half_second,
     sends_without_an_end,

@@ -11,8 +11,10 @@ mod devices;
 mod handshakes;
 mod lanes;
 mod memory_net;
+mod memory_stage;
 mod probes;
 mod row_fault;
+mod stages;
 mod stream_calls;
 mod streams;
 mod taps;
@@ -78,6 +80,7 @@ fn answer_of_connections(
         "read_head" => handshakes::read_a_head(alloc, words, out),
         "serve" => handshakes::serve_connection(alloc, words, out),
         "probe" => probes::probe_server(alloc, words, out),
+        "staged" => stages::run_staged(alloc, words, out),
         "stream" => stream_calls::call_stream(alloc, words, out),
         "exchange" => stream_calls::run_exchange(alloc, words, out),
         "tap" => taps::tap_devices(alloc, words, out),

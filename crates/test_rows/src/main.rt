@@ -3,6 +3,7 @@
 //! folder `rows`, and its `run` compares the answers with those that are wanted.
 #![tactic(auto)]
 
+mod admissions;
 mod captures;
 mod cases;
 mod dooms;
@@ -80,6 +81,7 @@ fn answer_of_sessions(
         "doomed" => dooms::mark_lengths(alloc, words, out),
         "tester" => testers::tell_tester(alloc, words, out),
         "exchange" => machine_runs::run_exchange(alloc, words, out),
+        "admit" => admissions::tell_admission(alloc, words, out),
         "probe" => probes::tell_probe(alloc, words, out),
         "test_over" => machine_runs::run_tester(alloc, words, out),
         "tap" => taps::tap_moves(alloc, words, out),

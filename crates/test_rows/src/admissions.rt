@@ -1,0 +1,59 @@
+//! Rows of a server's opening handshake as a machine: the head of a request, and the answer to it.
+
+use crate::machine_words::tell_words;
+use crate::row_fault::RowFault;
+use std::alloc::Global;
+use std::fmt::Write;
+use ws_formats::Hex;
+use ws_handshake::{Admission, AdmitMachine};
+use ws_machines::Machine;
+use ws_upgrade::are_offers;
+
+/// `admit KNOWN WORD ..`: a server that knows the subprotocols of this list, joined by commas, or none, `-`, reads a
+/// request and answers it. What the words tell and ask says `machine_words.rt`. At the end stands what came of it:
+/// `accepted` with the path and with what came behind the head, `refused FAULT`, or `lost`; or `goes on`, and how many
+/// bytes weren't read.
+pub fn tell_admission(alloc: Global, words: &[&str], out: &mut String) -> Result<(), RowFault> {
+    let [known, words @ ..] = words else {
+        return Err(RowFault::NotARow);
+    };
+    let names = names_of(alloc, known)?;
+    if !are_offers(names.as_slice()) {
+        return Err(RowFault::NotARow);
+    }
+    let mut machine = AdmitMachine::new(alloc, names.as_slice());
+    let unread = tell_words(alloc, &mut machine, words, out)?;
+    put_admission(machine, out)?;
+    if unread > 0 {
+        write!(out, ", {unread} unread")?;
+    }
+    Ok(())
+}
+
+/// The names of a list.
+fn names_of<'a>(alloc: Global, list: &'a str) -> Result<Vec<&'a [u8]>, RowFault> {
+    if list == "-" {
+        return Ok(Vec::new(alloc));
+    }
+    let names = list.as_bytes().split(|byte| *byte == b',').collect(alloc)?;
+    Ok(names)
+}
+
+/// What came of it, where it is done.
+fn put_admission(machine: AdmitMachine<'_>, out: &mut String) -> Result<(), RowFault> {
+    if !machine.is_done() {
+        out.push_str("goes on")?;
+        return Ok(());
+    }
+    match machine.into_end()? {
+        Admission::Accepted(request) => write!(
+            out,
+            "accepted {} {}",
+            Hex(request.path.as_slice()),
+            Hex(request.behind.as_slice())
+        )?,
+        Admission::Refused(fault) => write!(out, "refused {fault}")?,
+        Admission::Lost => out.push_str("lost")?,
+    }
+    Ok(())
+}
