@@ -1,8 +1,9 @@
 """How long `wst` waits for servers that are silent, send what is no progress, send a little without an end, read nothing,
-or answer while `wst` is stopped; and how long a connection lasts."""
+flood it with pongs, or answer while `wst` is stopped; and how long a connection lasts."""
 
 import os
 import signal
+import subprocess
 import threading
 import time
 
@@ -82,6 +83,20 @@ def a_wait_is_not_that_of_a_read():
         time.sleep(1.5)
         client.send(PING)
         server.ends(f"{TURN_1}\n{SENT_HELLO}\n< 0 ping fin=1 rsv=0 key=- len=0 short -\nend tester\n")
+
+
+def pongs_that_no_open_ping_asked_for():
+    """Each is told by itself: 200,000 of them while as many pings are open take a few seconds."""
+    pings = b"".join(b'ping "%d"\n' % number for number in range(100_000, 300_000))
+    pongs = b"".join(b"\x8a\x06%d" % number for number in range(300_000, 500_000))
+    server = Sent(pings + SCRIPT, "--timeout=9", stdout=subprocess.DEVNULL)
+    client = server.accepted(RESPONSE)
+    with Clock(0, 9):
+        assert client.get(200_000 * 12 + len(HELLO)).endswith(HELLO)
+        client.send(pongs)
+        client.send(HELLO_BACK)
+        client.close()
+        assert server.process.wait(SECONDS) == 0
 
 
 def a_write_that_is_blocked():
@@ -174,6 +189,7 @@ TESTS = [
     pings_are_no_progress,
     bytes_of_a_frame_are_progress,
     a_wait_is_not_that_of_a_read,
+    pongs_that_no_open_ping_asked_for,
     a_write_that_is_blocked,
     a_deadline_at_a_silent_server,
     a_deadline_in_the_head,

@@ -57,3 +57,6 @@ mod MarkedStreams
 mod PairingLemmas
 mod AstrayLemmas
 mod WaitLemmas
+mod PackedLemmas
+mod PrintLemmas
+mod DropLemmas

@@ -26,3 +26,4 @@ pub mod InnerTally
 pub mod InnerWaiting
 pub mod InnerPairing
 pub mod InnerProgress
+pub mod InnerUnanswered

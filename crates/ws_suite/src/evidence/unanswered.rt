@@ -1,27 +1,38 @@
 //! The pings that were sent and aren't answered yet (RFC 6455 section 5.5.3).
 
-ghost use Rattle.std.specs.Prelude.{◌≡◌, ◌<◌, ◌++◌, ◌∷◌, [], List, ℕ, bytes_eq, false, length, take, true, IfSome};
-ghost use Rattle.std.specs.Prelude.{IfNone, OnOk, slice_index_or};
+ghost use Rattle.std.specs.Prelude.{◌≡◌, ◌++◌, ◌∷◌, [], OnOk};
+ghost use Rattle.ws_suite.specs.InnerUnanswered.{fingerprint};
 ghost use Rattle.ws_suite.specs.Progress.{is_pong_owed, without_ping};
 
+mod packed;
+mod prints;
+
+use packed::PackedPayloads;
+use prints::{Prints, count_one, discount_one, is_counted};
 use std::alloc::Global;
-use std::collections::VecDeque;
+use std::collections::BTreeMap;
+use std::hash::{DefaultHasher, Hasher};
 use std::marker::Model;
 use ws_base::NoMemory;
-use ws_text::{ControlBytes, MAX_CONTROL_PAYLOAD};
 
-/// The payloads of the pings that aren't answered yet, in the order in which they were sent. Contracts see their list.
+/// The payloads of the pings that aren't answered yet, in the order in which they were sent, and how many of them have
+/// each fingerprint: so a pong that isn't owed is mostly known by its fingerprint alone. Contracts see their list.
 #[derive(Drop)]
 pub(super) struct UnansweredPings {
-    payloads: VecDeque<ControlBytes>,
+    payloads: PackedPayloads,
+    /// At least as many as there are: there may be more after `NoMemory`.
+    prints: Prints,
 }
 
 impl Model for UnansweredPings {
-    ghost use Rattle.std.specs.Prelude.{List, ℕ};
+    ghost use Rattle.std.specs.Prelude.{◌≤◌, List, ℕ};
+    ghost use Rattle.ws_suite.specs.InnerUnanswered.{print_count, with_print};
 
     ghost Value = { List (List ℕ) };
 
-    ghost view = { λ x. x.payloads.items };
+    ghost view = { λ x. x.payloads };
+
+    ghost invariant = { λ x. (print : ℕ) → with_print print x.payloads ≤ print_count x.prints print };
 }
 
 impl UnansweredPings {
@@ -30,7 +41,8 @@ impl UnansweredPings {
         ensures { result ≡ [] }
     {
         UnansweredPings {
-            payloads: VecDeque::new(alloc),
+            payloads: PackedPayloads::new(alloc),
+            prints: BTreeMap::new(alloc),
         }
     }
 
@@ -38,12 +50,8 @@ impl UnansweredPings {
     pub(super) fn add(&mut self, payload: &[u8]) -> Result<(), NoMemory>
         ensures { OnOk result (self.new ≡ self.old ++ payload.now ∷ []) }
     {
-        // No ping has a longer payload.
-        if payload.len() > MAX_CONTROL_PAYLOAD {
-            return Err(NoMemory);
-        }
-        self.payloads.push_back(ControlBytes::of(payload))?;
-        Ok(())
+        count_one(&mut self.prints, fingerprint(payload))?;
+        self.payloads.push(payload)
     }
 
     /// A pong was got: whether it is owed. It answers the first ping with its payload, which most often is the first of
@@ -52,35 +60,23 @@ impl UnansweredPings {
         ensures owed { result ≡ is_pong_owed payload.now self.old }
         ensures left { self.new ≡ without_ping payload.now self.old }
     {
-        match self.place_of(payload) {
-            Some(place) => {
-                self.payloads.remove(place);
-                true
-            }
-            None => false,
+        let print = fingerprint(payload);
+        if !is_counted(&self.prints, print) {
+            return false;
         }
-    }
-
-    /// The place of the first ping with this payload.
-    fn place_of(&self, payload: &[u8]) -> Option<usize>
-        ensures none { IfNone result (is_pong_owed payload.now self.now ≡ false) }
-        ensures there { IfSome result (λ place. place < length self.now) }
-        ensures first { IfSome result (λ place. is_pong_owed payload.now (take place self.now) ≡ false) }
-        ensures same { IfSome result (λ place. (other : List ℕ) →
-            bytes_eq payload.now (slice_index_or self.now place other) ≡ true) }
-    {
-        for place in 0..self.payloads.len() {
-            if are_same(payload, self.payloads[place].as_slice()) {
-                return Some(place);
-            }
+        if !self.payloads.take_out(payload) {
+            return false;
         }
-        None
+        discount_one(&mut self.prints, print);
+        true
     }
 }
 
-/// Whether these are the same bytes.
-fn are_same(one: &[u8], other: &[u8]) -> bool
-    ensures { result ≡ bytes_eq one.now other.now }
+/// The fingerprint of a payload. That two payloads share one is rare, and changes no answer.
+fn fingerprint(payload: &[u8]) -> u64
+    ensures { result ≡ fingerprint payload.now }
 {
-    one == other
+    let mut hasher = DefaultHasher::new();
+    hasher.write(payload);
+    hasher.finish()
 }
