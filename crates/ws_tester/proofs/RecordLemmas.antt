@@ -16,7 +16,7 @@ use Rattle.ws_tester.specs.Outcomes.{got_in_all, sent_in_all}
 use Rattle.ws_tester.specs.Outgoings.{HaveBytes, Pieces, after_first, first_turn}
 use Rattle.ws_tester.specs.RunStates.{RunState, recorded, turns_of_run, with_run_end}
 use Rattle.ws_tester.specs.Following.{BeginsRun, BeginsBy, Follows, ScriptValue, first_state, has_items}
-use Rattle.ws_tester.specs.Records.{IsEndedByTester, IsHalfClosed, IsRecordOf, IsWaitedFor}
+use Rattle.ws_tester.specs.Records.{IsBrokenBy, IsEndedByTester, IsHalfClosed, IsRecordOf, IsWaitedFor}
 use Rattle.ws_tester.specs.declared.standing.Standing.{Standing}
 use Rattle.ws_tester.proofs.RecordsHolds.{Holds, EndsBy, HoldsSo}
 use Rattle.ws_tester.proofs.RecordsTests.{OneStanding}
@@ -92,7 +92,8 @@ recorded_so run told now transcript h ends closed went waited e = record {
       (sym (ap (λ (l : List Turn). take n l) e ∙ take-append-le n now.past (now.turn ∷ []) (within n less)))
       (went.turns n some (within n less));
   waits = subst (λ (l : List Turn). Waited run told l) (sym e) waited;
-  broken = λ b. subst (λ (how : Ended). EndsBy run told (turns_of_run now) (Some how)) b ends;
+  broken = λ b. subst (λ (l : List Turn). IsBrokenBy run told l) (sym e)
+      (subst (λ (how : Ended). EndsBy run told (turns_of_run now) (Some how)) b ends);
   tester = λ b. inr (subst (λ (l : List Turn). IsEndedByTester run told l) (sym e)
       (subst (λ (how : Ended). EndsBy run told (turns_of_run now) (Some how)) b ends));
   peer = λ b. subst (λ (how : Ended). EndsBy run told (turns_of_run now) (Some how)) b ends;

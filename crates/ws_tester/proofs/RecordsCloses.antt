@@ -11,7 +11,6 @@ use Rattle.ws_scripts.specs.declared.transcript.Ended.{Ended}
 use Rattle.ws_scripts.specs.declared.transcript.Ended.TheVariants.{Tester, Peer, Broken}
 use Rattle.ws_scripts.specs.declared.transcript.Turn.{Turn}
 use Rattle.ws_suite.specs.Evidence.{other_role, sent_turns}
-use Rattle.ws_suite.specs.Waiting.{AreTurnsAnsweredBy}
 use Rattle.ws_machines.specs.Told.{Told}
 use Rattle.ws_machines.specs.Told.Told.{Came, DeadlinePassed, DirectionEnded, Ended as StreamEnded, NothingCame}
 use Rattle.ws_machines.specs.Told.Told.{ReadFailed, Reported, Taken, WriteFailed}
@@ -36,7 +35,7 @@ use Rattle.ws_tester.proofs.RecordsBytes.{came_holds, taken_holds}
 use Rattle.ws_tester.proofs.RecordsEvent.{closes_by, event_so, same_so, silence_waits, standing_ends, standing_so}
 use Rattle.ws_tester.proofs.RecordsHolds.{Holds, HoldsSo, failed_holds, holds_more}
 use Rattle.ws_tester.proofs.RecordsPieces.{no_byte}
-use Rattle.ws_tester.proofs.RecordsSettled.{next_so}
+use Rattle.ws_tester.proofs.RecordsSettled.{next_so, next_waits}
 use Rattle.ws_tester.proofs.RecordsTests.{OneStanding, both_true, closing_ends, one_close}
 use Rattle.ws_tester.proofs.RecordsTests.{open_where_come}
 use Rattle.ws_tester.proofs.RecordsTold.{was_more, was_now}
@@ -165,12 +164,9 @@ module _ (one : OneStanding) (run : ScriptValue) (told : List Told) where
       ended_closes x now how k (table_closes x o.facts how going h o.are_facts k o.is) same
   settled_closes_in (suc n) x now going h k (o, rest) =
       let open_now = open_where_come one run told x o.facts h o.are_facts (next_come x o.facts o.is) in
-      let come : AreTurnsAnsweredBy run.plan.expected run.plan.tested (turns_of_run x) =
-      subst (λ (plan : PlanValue). AreTurnsAnsweredBy plan.expected plan.tested (turns_of_run x)) h.plan_is
-      (o.are_facts.come open_now.2) in
       settled_closes_in n (with_next_turn x) now going
       (next_so one run told x going (next_more x o.facts o.is) open_now.0 open_now.1 (next_sent x o.facts o.is)
-      (inl come) h) (next_closes x k open_now.0) rest
+      (next_waits one run told x o.facts h o.are_facts o.is) h) (next_closes x k open_now.0) rest
 
   pub settled_closes : (x now : RunState) → x.ended ≡ None → Holds run told x → Closes run told x → Settles x now
       → ClosesSo run told now

@@ -1,7 +1,9 @@
 -- It still holds after an event.
-use Rattle.std.proofs.Common.{◌≡◌, ◌∙◌, ℕ, ◌&&◌, ◌||◌, not, Bool, true, false, if◌then◌else◌, List, [], ◌∷◌, ◌++◌}
+use Rattle.std.proofs.Common.{◌≡◌, ◌∙◌, ℕ, ◌⊎◌, ◌&&◌, ◌||◌, not, Bool, true, false, if◌then◌else◌, List, [], ◌∷◌, ◌++◌}
 use Rattle.std.proofs.Common.{refl, sym, ap, subst, inl, inr}
-use Rattle.std.specs.Prelude.{None}
+use Rattle.std.specs.Prelude.{None, map}
+use Rattle.std.specs.List.{concat}
+use Rattle.ws_suite.specs.Evidence.{sent_turns}
 use Rattle.ws_scripts.specs.declared.transcript.Ended.TheVariants.{Tester, Peer, Broken}
 use Rattle.ws_tester.specs.declared.standing.Standing.{Standing}
 use Rattle.ws_machines.specs.Told.{Told, came_by, taken_by}
@@ -20,6 +22,16 @@ use Rattle.ws_tester.proofs.RecordsHolds.{failed_holds}
 use Rattle.ws_tester.proofs.RecordsBytes.{came_holds, taken_holds}
 use Rattle.ws_tester.proofs.RecordsTests.{OneStanding, both_true, not_true}
 use Rattle.ws_tester.proofs.RecordsSettled.{next_so, settled, ended_so, rests_so}
+use Rattle.ws_tester.proofs.RecordsTester.{all_sent}
+
+either_false : (a b : Bool) → (a && not b) ≡ false → (a ≡ false) ⊎ (b ≡ true)
+either_false false b e = inl refl
+either_false true true e = inr refl
+either_false true false e = absurd cc
+
+not_false : (b : Bool) → not b ≡ false → b ≡ true
+not_false true e = refl
+not_false false e = absurd cc
 
 module _ (one : OneStanding) (run : ScriptValue) (before : List Told) where
   -- nothing came in time: the turns so far were waited for
@@ -35,14 +47,30 @@ module _ (one : OneStanding) (run : ScriptValue) (before : List Told) where
   pub next_after_silence : (x now : RunState) (more : Bool) → x.ended ≡ None → is_all_sent x ≡ true
       → x.write_failed ≡ false
       → (more ≡ true → (has_more x ≡ true) × (not x.closing ≡ true))
+      → (more ≡ false → (has_more x ≡ false) ⊎ (x.closing ≡ true))
       → Holds run (before ++ NothingCame ∷ []) x → Obeys (next_or_end more) x now
       → HoldsSo run (before ++ NothingCame ∷ []) now
-  next_after_silence x now true going sent works is h obeys =
+  next_after_silence x now true going sent works is no_more h obeys =
       settled one run (before ++ NothingCame ∷ []) (with_next_turn x) now going
       (next_so one run (before ++ NothingCame ∷ []) x going (is refl).0 (not_true x.closing (is refl).1) works sent
       (silence_waits x h) h) obeys
-  next_after_silence x now false going sent works is h obeys =
-      ended_so one run (before ++ NothingCame ∷ []) x now Tester h (inr (inl (before, refl))) obeys
+  next_after_silence x now false going sent works is no_more h obeys =
+      ended_so one run (before ++ NothingCame ∷ []) x now Tester h (inr (inl (record {
+        last = (before, refl);
+        sent = pick (no_more refl);
+      }))) obeys
+    where
+      by_close : (closing : Bool) → x.closing ≡ closing → has_more x ≡ false
+          → (map concat run.script ≡ sent_turns (turns_of_run x))
+          ⊎ HasServerClose run.plan.tested (got_in_all (turns_of_run x))
+      by_close true c last = inr (h.closed c)
+      by_close false c last = inl (all_sent run (before ++ NothingCame ∷ []) x h sent last c works)
+
+      pick : (has_more x ≡ false) ⊎ (x.closing ≡ true)
+          → (map concat run.script ≡ sent_turns (turns_of_run x))
+          ⊎ HasServerClose run.plan.tested (got_in_all (turns_of_run x))
+      pick (inl last) = by_close x.closing refl last
+      pick (inr closing) = inr (h.closed closing)
 
   pub silence_so : (x now : RunState) (sent failed : Bool) → x.ended ≡ None → is_all_sent x ≡ sent
       → x.write_failed ≡ failed
@@ -52,28 +80,29 @@ module _ (one : OneStanding) (run : ScriptValue) (before : List Told) where
   silence_so x now false failed going s f h obeys =
       rests_so one run (before ++ NothingCame ∷ []) x now going h obeys
   silence_so x now true true going s f h obeys =
-      ended_so one run (before ++ NothingCame ∷ []) x now Broken h (inr (inl (h.has_failed f))) obeys
+      ended_so one run (before ++ NothingCame ∷ []) x now Broken h (inr (inl (h.has_failed f, inr (before, refl)))) obeys
   silence_so x now true false going s f h obeys = next_after_silence x now (has_more x && not x.closing) going s f
-      (both_true (has_more x) (not x.closing)) h obeys
+      (both_true (has_more x) (not x.closing)) (either_false (has_more x) x.closing) h obeys
 
   pub stream_end_so : (x now : RunState) (failed : Bool) → x.write_failed ≡ failed
       → Holds run (before ++ StreamEnded ∷ []) x
       → Obeys (unless_failed failed Peer) x now → HoldsSo run (before ++ StreamEnded ∷ []) now
   stream_end_so x now true f h obeys =
-      ended_so one run (before ++ StreamEnded ∷ []) x now Broken h (inr (inl (h.has_failed f))) obeys
+      ended_so one run (before ++ StreamEnded ∷ []) x now Broken h (inr (inl (h.has_failed f, inl (before, refl)))) obeys
   stream_end_so x now false f h obeys =
       ended_so one run (before ++ StreamEnded ∷ []) x now Peer h (before, refl) obeys
 
-  pub deadline_so : (waited no_limit : Bool) (x now : RunState) → Holds run (before ++ DeadlinePassed waited ∷ []) x
-      → Obeys (by_deadline (waited || no_limit)) x now → HoldsSo run (before ++ DeadlinePassed waited ∷ []) now
-  deadline_so true no_limit x now h obeys =
+  pub deadline_so : (waited no_limit : Bool) (x now : RunState) → no_limit ≡ not run.plan.timeouts
+      → Holds run (before ++ DeadlinePassed waited ∷ []) x → Obeys (by_deadline (waited || no_limit)) x now
+      → HoldsSo run (before ++ DeadlinePassed waited ∷ []) now
+  deadline_so true no_limit x now limit h obeys =
       ended_so one run (before ++ DeadlinePassed true ∷ []) x now Tester h
-      (inr (inr (inl (true, (before, refl))))) obeys
-  deadline_so false true x now h obeys =
+      (inr (inr (inl (true, inl refl, (before, refl))))) obeys
+  deadline_so false true x now limit h obeys =
       ended_so one run (before ++ DeadlinePassed false ∷ []) x now Tester h
-      (inr (inr (inl (false, (before, refl))))) obeys
-  deadline_so false false x now h obeys = ended_so one run (before ++ DeadlinePassed false ∷ []) x now Broken h
-      (inr (inr (inl (was_now (DeadlinePassed false) before)))) obeys
+      (inr (inr (inl (false, inr (not_true run.plan.timeouts (sym limit)), (before, refl))))) obeys
+  deadline_so false false x now limit h obeys = ended_so one run (before ++ DeadlinePassed false ∷ []) x now Broken h
+      (inr (inr (inl (not_false run.plan.timeouts (sym limit), (before, refl))))) obeys
 
   -- how what came stands, and what that changes
   pub standing_so : (b : Bool) (x : RunState) (bytes : List ℕ) → Holds run (before ++ Came bytes ∷ []) x
@@ -131,7 +160,7 @@ module _ (one : OneStanding) (run : ScriptValue) (before : List Told) where
   event_so old heard new ReadFailed going h may changes on =
       ended_so one run (before ++ ReadFailed ∷ []) heard new Broken
       (same_so (with_anew false old) heard ReadFailed refl refl (λ e. absurd cc) h changes)
-      (inl (was_now ReadFailed before)) on
+      (inl (before, refl)) on
   event_so old heard new NothingCame going h may changes on =
       silence_so heard new (is_all_sent heard) heard.write_failed
       (going_so (with_anew true old) heard changes going) refl refl
@@ -158,4 +187,5 @@ module _ (one : OneStanding) (run : ScriptValue) (before : List Told) where
       (same_so (with_anew false old) heard (Reported lines) refl refl (λ e. absurd cc) h changes) on
   event_so old heard new (DeadlinePassed waited) going h may changes on =
       deadline_so waited (not heard.plan.timeouts) heard new
+      (ap (λ (plan : PlanValue). not plan.timeouts) (ap (λ (y : RunState). y.plan) changes ∙ h.plan_is))
       (same_so (with_anew false old) heard (DeadlinePassed waited) refl refl (λ e. absurd cc) h changes) on

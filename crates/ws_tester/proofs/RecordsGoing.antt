@@ -12,7 +12,6 @@ use Rattle.ws_scripts.specs.declared.transcript.Ended.{Ended}
 use Rattle.ws_scripts.specs.declared.transcript.Ended.TheVariants.{Tester, Peer, Broken}
 use Rattle.ws_scripts.specs.declared.transcript.Turn.{Turn}
 use Rattle.ws_suite.specs.Evidence.{other_role}
-use Rattle.ws_suite.specs.Waiting.{AreTurnsAnsweredBy}
 use Rattle.ws_machines.specs.Told.{Told}
 use Rattle.ws_machines.specs.Told.Told.{Came, DeadlinePassed, DirectionEnded, Ended as StreamEnded, NothingCame}
 use Rattle.ws_machines.specs.Told.Told.{ReadFailed, Reported, Taken, WriteFailed}
@@ -35,7 +34,7 @@ use Rattle.ws_tester.proofs.RecordsEvent.{event_so, silence_waits, standing_ends
 use Rattle.ws_tester.proofs.RecordsCloses.{Closes, ClosesSo, IsFirstClosed, event_closes, heard_closes, heard_so}
 use Rattle.ws_tester.proofs.RecordsCloses.{next_closes, none_both, not_is}
 use Rattle.ws_tester.proofs.RecordsHolds.{Holds, HoldsSo, holds_more}
-use Rattle.ws_tester.proofs.RecordsSettled.{next_so}
+use Rattle.ws_tester.proofs.RecordsSettled.{next_so, next_waits}
 use Rattle.ws_tester.proofs.RecordsTests.{OneStanding, both_true, is_false, open_where_come}
 
 -- ---- what holds of a run as it goes on
@@ -178,12 +177,9 @@ module _ (one : OneStanding) (run : ScriptValue) (told : List Told) where
   settled_went_in zero x now going h k w (inr (how, o, same)) = ended_went x now how w same
   settled_went_in (suc n) x now going h k w (o, rest) =
       let open_now = open_where_come one run told x o.facts h o.are_facts (next_come x o.facts o.is) in
-      let come : AreTurnsAnsweredBy run.plan.expected run.plan.tested (turns_of_run x) =
-      subst (λ (plan : PlanValue). AreTurnsAnsweredBy plan.expected plan.tested (turns_of_run x)) h.plan_is
-      (o.are_facts.come open_now.2) in
       settled_went_in n (with_next_turn x) now going
       (next_so one run told x going (next_more x o.facts o.is) open_now.0 open_now.1 (next_sent x o.facts o.is)
-      (inl come) h) (next_closes one run told x k open_now.0)
+      (next_waits one run told x o.facts h o.are_facts o.is) h) (next_closes one run told x k open_now.0)
       (next_went x w (next_going x o.facts h o.are_facts (next_come x o.facts o.is))) rest
 
   pub settled_went : (x now : RunState) → x.ended ≡ None → Holds run told x → Closes run told x

@@ -56,7 +56,7 @@ abbrev pub EndsBy : ScriptValue → List Told → List Turn → Option Ended →
 EndsBy run told turns None = ⊤
 EndsBy run told turns (Some Tester) = IsEndedByTester run told turns
 EndsBy run told turns (Some Peer) = WasLast StreamEnded told
-EndsBy run told turns (Some Broken) = IsBrokenBy run told
+EndsBy run told turns (Some Broken) = IsBrokenBy run told turns
 
 abbrev pub HoldsSo : ScriptValue → List Told → RunState → Type 0
 HoldsSo run told x = Holds run told x × EndsBy run told (turns_of_run x) x.ended

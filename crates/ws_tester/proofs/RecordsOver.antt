@@ -11,7 +11,7 @@ use Rattle.ws_suite.specs.Growing.{EndInsideFrame}
 use Rattle.ws_machines.specs.Told.{Told}
 use Rattle.ws_tester.specs.Standings.{stops_run}
 use Rattle.ws_tester.specs.Outcomes.{AreFacts, HasSentEnd, got_in_all, has_come, has_end, is_in_vain, is_turn_over}
-use Rattle.ws_tester.specs.Outcomes.{is_waited_out, owes_messages, sent_in_all, waits_for_end}
+use Rattle.ws_tester.specs.Outcomes.{is_waited_out, owes_messages, waits_for_end}
 use Rattle.ws_tester.specs.Outgoings.{Pieces, first_piece}
 use Rattle.ws_tester.specs.RunStates.{PlanValue, RunState, has_more, is_all_sent, is_nothing, some_turn, turns_of_run}
 use Rattle.ws_tester.specs.Following.{ScriptValue}
@@ -20,7 +20,7 @@ use Rattle.ws_tester.specs.declared.outcome.TurnFacts.{TurnFacts}
 use Rattle.ws_tester.specs.declared.standing.Standing.{Standing}
 use Rattle.ws_tester.specs.declared.standing.Standing.TheVariants.{Going}
 use Rattle.ws_tester.proofs.RecordsHolds.{Holds}
-use Rattle.ws_tester.proofs.RecordsTests.{OneStanding, is_false}
+use Rattle.ws_tester.proofs.RecordsTests.{OneStanding, is_false, one_end}
 
 -- ---- tests
 
@@ -125,11 +125,6 @@ module _ (one : OneStanding) (run : ScriptValue) (told : List Told) (x : RunStat
   whole_frames : ¬ (EndInsideFrame run.plan.tested (turns_of_run x)) → facts.is_inside ≡ false
   whole_frames never = is_false facts.is_inside (λ e. never (facts_are.inside.0 e))
 
-  one_end : (turns : List Turn) (a b : Bool) → HasSentEnd run.plan.tested turns a → HasSentEnd run.plan.tested turns b
-      → a ≡ b
-  one_end turns a b (s, has, is) (t, had, was) = is ∙ (ap (λ (y : Standing). has_end y)
-      (one run.plan.tested s t (sent_in_all turns) has had) ∙ sym was)
-
   next_over : IsUnbroken run told (turns_of_run x) → IsNextDue run x.past x.turn
       → (is_all_sent x ≡ true) × (is_turn_over x facts ≡ true)
   next_over u n =
@@ -139,7 +134,7 @@ module _ (one : OneStanding) (run : ScriptValue) (told : List Told) (x : RunStat
       ap (λ (plan : PlanValue). is_waited_out plan (has_more x) facts) h.plan_is
       ∙ (ap (λ (m : Bool). is_waited_out run.plan m facts) more
       ∙ unwaited run.plan.timeouts facts.has_sent_end facts.had_sent_end (λ t s.
-      one_end x.past facts.had_sent_end true facts_are.sent_before (n.unended t
+      one_end one run.plan.tested x.past facts.had_sent_end true facts_are.sent_before (n.unended t
       (subst (λ (b : Bool). HasSentEnd run.plan.tested (turns_of_run x) b) s facts_are.sent_end)))) in (
         whole.0,
         or_left (has_come x facts) (is_in_vain x facts) (come_true (has_end facts.standing) x.write_failed
@@ -155,7 +150,7 @@ module _ (one : OneStanding) (run : ScriptValue) (told : List Told) (x : RunStat
       ap (λ (plan : PlanValue). is_waited_out plan (has_more x) facts) h.plan_is
       ∙ (ap (λ (m : Bool). is_waited_out run.plan m facts) whole.1
       ∙ (ap (λ (role : Role). waits_for_end role facts.has_sent_end) c.client
-      ∙ one_end (turns_of_run x) facts.has_sent_end false facts_are.sent_end c.unended)) in (
+      ∙ one_end one run.plan.tested (turns_of_run x) facts.has_sent_end false facts_are.sent_end c.unended)) in (
         whole.0,
         or_left (has_come x facts) (is_in_vain x facts) (come_true (has_end facts.standing) x.write_failed
             (is_waited_out x.plan (has_more x) facts) facts.is_answered (has_more x) facts.is_inside (going u) (works u) out

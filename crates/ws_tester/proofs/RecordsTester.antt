@@ -1,8 +1,10 @@
 -- Where the table says that the tester ends a run, that is so.
 use Rattle.std.proofs.Common.{◌≡◌, ◌∙◌, ℕ, ◌⊎◌, ◌&&◌, ◌||◌, not, Bool, true, false, List, [], ◌∷◌, ◌++◌, map, refl, sym}
-use Rattle.std.proofs.Common.{ap, subst, inl, inr, append-nil}
+use Rattle.std.proofs.Common.{ap, subst, inl, inr, append_assoc, append-nil}
 use Rattle.std.proofs.lemmas.List.{map-append}
 use Rattle.std.specs.List.{concat}
+use Rattle.ws_wire.specs.declared.role.Role.{Role}
+use Rattle.ws_wire.specs.declared.role.Role.TheVariants.{Client, Server}
 use Rattle.ws_scripts.specs.declared.expectation.Expectation.{Expectation}
 use Rattle.ws_scripts.specs.declared.expectation.Expectation.TheVariants.{Echo, Protocol}
 use Rattle.ws_scripts.specs.declared.transcript.Turn.{Turn}
@@ -12,17 +14,17 @@ use Rattle.ws_suite.specs.Waiting.{AreTurnsAnsweredBy}
 use Rattle.ws_machines.specs.Told.{Told}
 use Rattle.ws_tester.specs.Standings.{HasStanding, HasStandingBy, stops_run}
 use Rattle.ws_tester.specs.Outcomes.{AreFacts, got_in_all, has_come, has_end, is_in_vain, is_turn_over, is_waited_out}
-use Rattle.ws_tester.specs.Outcomes.{owes_messages}
+use Rattle.ws_tester.specs.Outcomes.{HasSentEnd, owes_messages, waits_for_end}
 use Rattle.ws_tester.specs.Outgoings.{Pieces}
 use Rattle.ws_tester.specs.RunStates.{PlanValue, RunState, has_more, is_all_sent, some_turn, turns_of_run}
 use Rattle.ws_tester.specs.Following.{ScriptValue}
-use Rattle.ws_tester.specs.Records.{HasAllOwed, CannotComeAnyMore, IsEndedByTester}
+use Rattle.ws_tester.specs.Records.{AreSentWhole, HasAllOwed, CannotComeAnyMore, IsEndedByTester}
 use Rattle.ws_tester.specs.declared.outcome.TurnFacts.{TurnFacts}
 use Rattle.ws_tester.specs.declared.standing.Standing.{Standing}
 use Rattle.ws_tester.specs.declared.standing.Standing.TheVariants.{Going, Closed, Faulty}
 use Rattle.ws_tester.proofs.RecordsHolds.{Holds}
 use Rattle.ws_tester.proofs.RecordsPieces.{no_piece}
-use Rattle.ws_tester.proofs.RecordsTests.{OneStanding, closing_ends, is_false, open_where_come}
+use Rattle.ws_tester.proofs.RecordsTests.{OneStanding, closing_ends, come_unwaited, is_false, open_where_come}
 
 -- ---- what the tests say
 
@@ -63,11 +65,46 @@ is_echo : (expected : Expectation) → owes_messages expected ≡ true → expec
 is_echo Echo e = refl
 is_echo Protocol e = absurd cc
 
+-- only a client isn't waited out, where neither a close nor a fault was sent
+client_by : (tested : Role) (sent : Bool) → waits_for_end tested sent ≡ false → (tested ≡ Client) × (sent ≡ false)
+client_by Client sent e = (refl, e)
+client_by Server sent e = absurd cc
+
 -- what isn't so, where the answer is no
 not_inside : (inside : Bool) (X : Type 0) → (X → inside ≡ true) → inside ≡ false → ¬ X
 not_inside inside X seen never x = let always : inside ≡ true = seen x in cc
 
 -- ---- the end
+
+module _ (run : ScriptValue) (told : List Told) (x : RunState) (h : Holds run told x) where
+  -- the turns so far are sent whole where all of the last one is, no write has failed and no close was got
+  sent_whole : is_all_sent x ≡ true → x.closing ≡ false → x.write_failed ≡ false
+      → map concat run.script ≡ sent_turns (turns_of_run x) ++ map concat x.outgoing.later
+  sent_whole sent unclosed works = h.bytes.split
+      ∙ (ap (λ (l : List ℕ). sent_turns x.past ++ l ∷ map concat x.outgoing.later) bare
+      ∙ (sym (append_assoc (sent_turns x.past) (x.turn.sent ∷ []) (map concat x.outgoing.later))
+      ∙ ap (λ (l : List (List ℕ)). l ++ map concat x.outgoing.later)
+      (sym (map-append (λ (t : Turn). t.sent) x.past (x.turn ∷ [])))))
+    where
+      bare : x.turn.sent ++ (concat x.outgoing.rest ++ h.bytes.dropped) ≡ x.turn.sent
+      bare = ap (λ (l : List ℕ). x.turn.sent ++ (l ++ h.bytes.dropped)) (no_piece x.outgoing.rest h.pieces.0 sent)
+          ∙ (ap (λ (l : List ℕ). x.turn.sent ++ l) (h.bytes.whole unclosed works) ∙ append-nil x.turn.sent)
+
+  -- and then all turns are, where that is the last one
+  pub all_sent : is_all_sent x ≡ true → has_more x ≡ false → x.closing ≡ false → x.write_failed ≡ false
+      → map concat run.script ≡ sent_turns (turns_of_run x)
+  all_sent sent last unclosed works = sent_whole sent unclosed works
+      ∙ (ap (λ (l : List Pieces). sent_turns (turns_of_run x) ++ map concat l) (no_turn x.outgoing.later last)
+      ∙ append-nil (sent_turns (turns_of_run x)))
+
+  pub are_sent_whole : is_all_sent x ≡ true → AreSentWhole run told (turns_of_run x)
+  are_sent_whole sent = pick x.closing x.write_failed refl refl
+    where
+      pick : (closing failed : Bool) → x.closing ≡ closing → x.write_failed ≡ failed
+          → AreSentWhole run told (turns_of_run x)
+      pick true failed c f = inr (inr (h.closed c))
+      pick false true c f = inr (inl (h.has_failed f))
+      pick false false c f = inl (map concat x.outgoing.later, sent_whole sent c f)
 
 module _ (one : OneStanding) (run : ScriptValue) (told : List Told) (x : RunState) (facts : TurnFacts)
     (h : Holds run told x) (are : AreFacts x.plan x.past (turns_of_run x) facts) where
@@ -75,27 +112,22 @@ module _ (one : OneStanding) (run : ScriptValue) (told : List Told) (x : RunStat
   whole never = subst (λ (plan : PlanValue). ¬ (EndInsideFrame plan.tested (turns_of_run x))) h.plan_is
       (not_inside facts.is_inside (EndInsideFrame x.plan.tested (turns_of_run x)) are.inside.1 never)
 
-  -- all turns are sent where all of the last one is, no write has failed and no close was got
-  all_sent : is_all_sent x ≡ true → has_more x ≡ false → x.closing ≡ false → x.write_failed ≡ false
-      → map concat run.script ≡ sent_turns (turns_of_run x)
-  all_sent sent last unclosed works = h.bytes.split
-      ∙ (ap (λ (l : List (List ℕ)). sent_turns x.past
-      ++ (x.turn.sent ++ (concat x.outgoing.rest ++ h.bytes.dropped)) ∷ l) none
-      ∙ (ap (λ (l : List ℕ). sent_turns x.past ++ l ∷ []) bare
-      ∙ sym (map-append (λ (t : Turn). t.sent) x.past (x.turn ∷ []))))
-    where
-      none : map concat x.outgoing.later ≡ []
-      none = ap (λ (l : List Pieces). map concat l) (no_turn x.outgoing.later last)
-
-      bare : x.turn.sent ++ (concat x.outgoing.rest ++ h.bytes.dropped) ≡ x.turn.sent
-      bare = ap (λ (l : List ℕ). x.turn.sent ++ (l ++ h.bytes.dropped)) (no_piece x.outgoing.rest h.pieces.0 sent)
-          ∙ (ap (λ (l : List ℕ). x.turn.sent ++ l) (h.bytes.whole unclosed works) ∙ append-nil x.turn.sent)
-
   owed : is_all_sent x ≡ true → has_more x ≡ false → has_come x facts ≡ true → HasAllOwed run (turns_of_run x)
   owed sent last come =
       let open_now = open_where_come one run told x facts h are come in
+      let out : waits_for_end run.plan.tested facts.has_sent_end ≡ false =
+      ap (λ (m : Bool). is_waited_out run.plan m facts) (sym last)
+      ∙ (ap (λ (plan : PlanValue). is_waited_out plan (has_more x) facts) (sym h.plan_is)
+      ∙ come_unwaited (has_end facts.standing) x.write_failed (is_waited_out x.plan (has_more x) facts)
+      facts.is_answered (has_more x || not facts.is_inside) come) in
+      let client : (run.plan.tested ≡ Client) × (facts.has_sent_end ≡ false) =
+      client_by run.plan.tested facts.has_sent_end out in
       record {
-        sent = all_sent sent last open_now.0 open_now.1;
+        client = client.0;
+        unended = subst (λ (b : Bool). HasSentEnd run.plan.tested (turns_of_run x) b) client.1
+            (subst (λ (plan : PlanValue). HasSentEnd plan.tested (turns_of_run x) facts.has_sent_end) h.plan_is
+            are.sent_end);
+        sent = all_sent run told x h sent last open_now.0 open_now.1;
         answered = subst (λ (plan : PlanValue). AreTurnsAnsweredBy plan.expected plan.tested (turns_of_run x)) h.plan_is
             (are.come open_now.2);
         whole = whole (come_whole (has_end facts.standing) x.write_failed (is_waited_out x.plan (has_more x) facts)
@@ -110,7 +142,7 @@ module _ (one : OneStanding) (run : ScriptValue) (told : List Told) (x : RunStat
       (let ends : has_end facts.standing ≡ true = closing_ends one run told x facts h are c in
       let none : has_end facts.standing ≡ false = ap (λ (s : Standing). has_end s) parts.2 in cc)) in
       record {
-        sent = all_sent sent last unclosed parts.1;
+        sent = all_sent run told x h sent last unclosed parts.1;
         echo = subst (λ (plan : PlanValue). plan.expected ≡ Echo) h.plan_is (is_echo x.plan.expected parts.0);
         going = subst (λ (plan : PlanValue). HasStanding (other_role plan.tested) Going (got_in_all (turns_of_run x)))
             h.plan_is (subst (λ (s : Standing). HasStanding (other_role x.plan.tested) s (got_in_all (turns_of_run x)))

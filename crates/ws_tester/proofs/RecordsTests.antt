@@ -1,12 +1,14 @@
 -- What the table of outcomes says of a run of which it holds.
-use Rattle.std.proofs.Common.{◌≡◌, ◌∙◌, ap, ℕ, ◌⊎◌, ◌&&◌, ◌||◌, not, Bool, true, false, nat_eq, List, refl, inl, inr, subst, arith}
+use Rattle.std.proofs.Common.{◌≡◌, ◌∙◌, ap, ℕ, ◌⊎◌, ◌&&◌, ◌||◌, not, Bool, true, false, nat_eq, List, refl, sym, inl, inr, subst, arith}
 use Rattle.std.proofs.lemmas.Bool.Decides.{nat_tests}
 use Rattle.ws_wire.specs.declared.role.Role.{Role}
 use Rattle.ws_scripts.specs.declared.transcript.Ended.TheVariants.{Tester, Peer, Broken}
+use Rattle.ws_scripts.specs.declared.transcript.Turn.{Turn}
 use Rattle.ws_suite.specs.Evidence.{other_role}
 use Rattle.ws_machines.specs.Told.{Told}
 use Rattle.ws_tester.specs.Standings.{HasServerClose, HasStanding, is_server_close}
-use Rattle.ws_tester.specs.Outcomes.{AreFacts, got_in_all, by_tests, has_come, has_end, is_waited_out}
+use Rattle.ws_tester.specs.Outcomes.{AreFacts, HasSentEnd, got_in_all, by_tests, has_come, has_end, is_waited_out}
+use Rattle.ws_tester.specs.Outcomes.{sent_in_all}
 use Rattle.ws_tester.specs.RunStates.{PlanValue, RunState, has_more, turns_of_run}
 use Rattle.ws_tester.specs.Following.{ScriptValue}
 use Rattle.ws_tester.specs.declared.outcome.Outcome.TheVariants.{Ends}
@@ -65,6 +67,20 @@ come_parts false false true answered whole e = absurd cc
 come_parts false false false false whole e = absurd cc
 come_parts false false false true whole e = (refl, refl, refl)
 
+-- and that the turn isn't waited out
+pub come_unwaited : (ends failed out answered whole : Bool)
+    → (not ends && (not failed && (not out && (answered && whole)))) ≡ true → out ≡ false
+come_unwaited true failed out answered whole e = absurd cc
+come_unwaited false true out answered whole e = absurd cc
+come_unwaited false false true answered whole e = absurd cc
+come_unwaited false false false answered whole e = refl
+
+-- what was sent has a close or a fault, or it hasn't
+pub one_end : OneStanding → (tested : Role) (turns : List Turn) (a b : Bool) → HasSentEnd tested turns a
+    → HasSentEnd tested turns b → a ≡ b
+one_end one tested turns a b (s, has, is) (t, had, was) = is ∙ (ap (λ (y : Standing). has_end y)
+    (one tested s t (sent_in_all turns) has had) ∙ sym was)
+
 -- what was got has no close where what is waited for has come
 pub open_where_come : OneStanding → (run : ScriptValue) (told : List Told) (x : RunState) (facts : TurnFacts)
     → Holds run told x → AreFacts x.plan x.past (turns_of_run x) facts → has_come x facts ≡ true
@@ -96,6 +112,15 @@ broken_by false true true spent true e = absurd cc
 broken_by false true true spent false e = absurd cc
 broken_by false true false true more e = refl
 broken_by false true false false more e = absurd cc
+
+-- and then what was got doesn't end the run by itself, all of the turn is sent, and it isn't over
+pub broken_waits : (final sent over spent more : Bool) → by_tests final sent over spent more ≡ Ends Broken
+    → (final ≡ false) × (sent ≡ true) × (over ≡ false)
+broken_waits true sent over spent more e = absurd cc
+broken_waits false false over spent more e = absurd cc
+broken_waits false true true spent true e = absurd cc
+broken_waits false true true spent false e = absurd cc
+broken_waits false true false spent more e = (refl, refl, refl)
 
 pub no_peer : (final sent come spent more : Bool) → by_tests final sent come spent more ≡ Ends Peer → ⊥
 no_peer true sent come spent more e = cc

@@ -47,23 +47,7 @@ pub record AreSentOf (script sent : List (List ℕ)) : Type 0 where
   pub sent_turns : sent ≡ whole ++ last ∷ []
   pub turns : script ≡ whole ++ (last ++ unsent) ∷ later
 
--- A turn that another one follows was waited for: what is waited for had come, or it was told that nothing came, when
--- just these turns had been sent and got.
-abbrev pub IsWaitedFor : ScriptValue → List Turn → List Told → Type 0
-IsWaitedFor run turns told = AreTurnsAnsweredBy run.plan.expected run.plan.tested turns
-    ⊎ ((before : List Told) × WasAt NothingCame told before × (sent_in_all turns ≡ all_taken before)
-    × (got_in_all turns ≡ run.first ++ all_came before))
-
--- a run is broken off by a failed read or write, by the deadline, or by the budget
-abbrev pub IsBrokenBy : ScriptValue → List Told → Type 0
-IsBrokenBy run told = Was ReadFailed told ⊎ (Was WriteFailed told ⊎ (Was (DeadlinePassed false) told
-    ⊎ (run.budget ≡ length (all_came told))))
-
--- all turns of the script were sent, what is owed has come, and no frame is under way
-pub record HasAllOwed (run : ScriptValue) (turns : List Turn) : Type 0 where
-  pub sent : map concat run.script ≡ sent_turns turns
-  pub answered : AreTurnsAnsweredBy run.plan.expected run.plan.tested turns
-  pub whole : ¬ (EndInsideFrame run.plan.tested turns)
+-- ---- when nothing is waited for any more
 
 -- All turns of the script were sent, and what an echo owes can't come any more. Neither a close nor a fault came, and
 -- no frame is under way.
@@ -74,42 +58,23 @@ pub record CannotComeAnyMore (run : ScriptValue) (turns : List Turn) : Type 0 wh
   pub cannot : CannotComeAfter run.plan.tested turns
   pub whole : ¬ (EndInsideFrame run.plan.tested turns)
 
--- The tester ends a run that has turns where what was got stops it, by a fault or from a client by a close; where it
--- was told last that nothing came, or that the deadline has passed; and in the last turn, where all that is owed has
--- come, or what is owed can't come any more.
-abbrev pub IsEndedByTester : ScriptValue → List Told → List Turn → Type 0
-IsEndedByTester run told turns = HasStandingBy stops_run true run.plan.tested (got_in_all turns)
-    ⊎ (WasLast NothingCame told ⊎ (((waited : Bool) × WasLast (DeadlinePassed waited) told)
-    ⊎ (HasAllOwed run turns ⊎ CannotComeAnyMore run turns)))
-
--- The own direction was ended; or before that could be, the deadline passed, or, where the close came with the head,
--- the stream ended or a read failed before the first turn was all sent.
-abbrev pub IsHalfClosed : ScriptValue → List Told → List Turn → Type 0
-IsHalfClosed run told turns = Was DirectionEnded told ⊎ (((waited : Bool) × WasLast (DeadlinePassed waited) told)
-    ⊎ (HasServerClose run.plan.tested run.first × (WasLast Ended told ⊎ WasLast ReadFailed told)
-    × (length (sent_in_all turns) < length (concat (first_turn run.script)))))
-
--- by then neither a close nor a fault was got; or a close of a server came with the head
-abbrev pub IsSentInTime : ScriptValue → List Told → Type 0
-IsSentInTime run before = HasStanding (other_role run.plan.tested) Going (run.first ++ all_came before)
-    ⊎ HasServerClose run.plan.tested run.first
-
--- ---- when nothing is waited for any more
-
 -- What was got has neither a close nor a fault, and no write has failed.
 pub record IsUnbroken (run : ScriptValue) (told : List Told) (turns : List Turn) : Type 0 where
   pub going : HasStanding (other_role run.plan.tested) Going (got_in_all turns)
   pub works : ¬ (Was WriteFailed told)
 
--- The script has a turn after these, all of which were sent, and what is owed has come, so that a run sees it. Where
--- waits can be in vain, the last of them isn't the one that has sent a close or a fault.
+-- where waits can be in vain, the turn behind these isn't the one that has sent a close or a fault
+abbrev pub EndsNoWait : ScriptValue → List Turn → Turn → Type 0
+EndsNoWait run past turn = run.plan.timeouts ≡ true → HasSentEnd run.plan.tested (past ++ turn ∷ []) true
+    → HasSentEnd run.plan.tested past true
+
+-- The script has a turn after these, all of which were sent, and what is owed has come, so that a run sees it.
 pub record IsNextDue (run : ScriptValue) (past : List Turn) (turn : Turn) : Type 0 where
   pub next : List ℕ
   pub later : List (List ℕ)
   pub sent : map concat run.script ≡ sent_turns past ++ turn.sent ∷ next ∷ later
   pub answered : AreTurnsSeenAnswered run.plan.expected run.plan.tested (past ++ turn ∷ [])
-  pub unended : run.plan.timeouts ≡ true → HasSentEnd run.plan.tested (past ++ turn ∷ []) true
-      → HasSentEnd run.plan.tested past true
+  pub unended : EndsNoWait run past turn
 
 -- All turns of the script were sent to a client, and neither a close nor a fault was; what is owed has come, so that a
 -- run sees it, and no frame is under way.
@@ -127,6 +92,77 @@ abbrev pub IsOver : ScriptValue → List Told → List Turn → Turn → Type 0
 IsOver run told past turn = HasStandingBy stops_run true run.plan.tested (got_in_all (past ++ turn ∷ []))
     ⊎ (IsUnbroken run told (past ++ turn ∷ []) × (IsNextDue run past turn
     ⊎ (IsClientAnswered run (past ++ turn ∷ []) ⊎ CannotComeAnyMore run (past ++ turn ∷ []))))
+
+-- ---- how it ends
+
+-- A turn that another one follows was waited for: what is waited for had come, or it was told that nothing came, when
+-- just these turns had been sent and got. Where waits can be in vain, the turn that has sent a close or a fault is
+-- waited out: it is followed only once nothing came.
+abbrev pub IsWaitedFor : ScriptValue → List Turn → List Told → Type 0
+IsWaitedFor run turns told = (AreTurnsAnsweredBy run.plan.expected run.plan.tested turns
+    × ((past : List Turn) × (turn : Turn) × (turns ≡ past ++ turn ∷ []) × EndsNoWait run past turn))
+    ⊎ ((before : List Told) × WasAt NothingCame told before × (sent_in_all turns ≡ all_taken before)
+    × (got_in_all turns ≡ run.first ++ all_came before))
+
+-- These turns were sent whole, and are the first of the script; unless a write has failed, or a server's close was got.
+abbrev pub AreSentWhole : ScriptValue → List Told → List Turn → Type 0
+AreSentWhole run told turns = ((later : List (List ℕ)) × (map concat run.script ≡ sent_turns turns ++ later))
+    ⊎ (Was WriteFailed told ⊎ HasServerClose run.plan.tested (got_in_all turns))
+
+-- the budget was used up, all of the last turn was sent, and something was still waited for in it
+pub record IsBudgetUsed (run : ScriptValue) (told : List Told) (turns : List Turn) : Type 0 where
+  pub used : run.budget ≡ length (all_came told)
+  pub sent : AreSentWhole run told turns
+  pub past : List Turn
+  pub turn : Turn
+  pub last : turns ≡ past ++ turn ∷ []
+  pub waits : ¬ (IsOver run told past turn)
+
+-- A run is broken off by a failed read; by the end of the stream or a silence, where a write has failed; by a deadline
+-- before it was waited long enough, where waits can be in vain; or by the budget.
+abbrev pub IsBrokenBy : ScriptValue → List Told → List Turn → Type 0
+IsBrokenBy run told turns = WasLast ReadFailed told
+    ⊎ ((Was WriteFailed told × (WasLast Ended told ⊎ WasLast NothingCame told))
+    ⊎ (((run.plan.timeouts ≡ true) × WasLast (DeadlinePassed false) told) ⊎ IsBudgetUsed run told turns))
+
+-- all turns of the script were sent to a client, neither a close nor a fault was, what is owed has come, and no frame
+-- is under way
+pub record HasAllOwed (run : ScriptValue) (turns : List Turn) : Type 0 where
+  pub client : run.plan.tested ≡ Client
+  pub sent : map concat run.script ≡ sent_turns turns
+  pub unended : HasSentEnd run.plan.tested turns false
+  pub answered : AreTurnsAnsweredBy run.plan.expected run.plan.tested turns
+  pub whole : ¬ (EndInsideFrame run.plan.tested turns)
+
+-- it was told last that nothing came, and all turns of the script were sent, or a server's close was got
+pub record IsEndedBySilence (run : ScriptValue) (told : List Told) (turns : List Turn) : Type 0 where
+  pub last : WasLast NothingCame told
+  pub sent : (map concat run.script ≡ sent_turns turns) ⊎ HasServerClose run.plan.tested (got_in_all turns)
+
+-- the deadline passed last; and it was waited long enough, or no wait can be in vain
+abbrev pub IsEndedByDeadline : ScriptValue → List Told → Type 0
+IsEndedByDeadline run told = (waited : Bool) × ((waited ≡ true) ⊎ (run.plan.timeouts ≡ false))
+    × WasLast (DeadlinePassed waited) told
+
+-- The tester ends a run that has turns where what was got stops it, by a fault or from a client by a close; where
+-- nothing came in time for the last turn, or behind a server's close; by the deadline; and in the last turn, where a
+-- client has sent all that is owed, or what is owed can't come any more.
+abbrev pub IsEndedByTester : ScriptValue → List Told → List Turn → Type 0
+IsEndedByTester run told turns = HasStandingBy stops_run true run.plan.tested (got_in_all turns)
+    ⊎ (IsEndedBySilence run told turns ⊎ (IsEndedByDeadline run told
+    ⊎ (HasAllOwed run turns ⊎ CannotComeAnyMore run turns)))
+
+-- The own direction was ended; or before that could be, the deadline passed, or, where the close came with the head,
+-- the stream ended or a read failed before the first turn was all sent.
+abbrev pub IsHalfClosed : ScriptValue → List Told → List Turn → Type 0
+IsHalfClosed run told turns = Was DirectionEnded told ⊎ (((waited : Bool) × WasLast (DeadlinePassed waited) told)
+    ⊎ (HasServerClose run.plan.tested run.first × (WasLast Ended told ⊎ WasLast ReadFailed told)
+    × (length (sent_in_all turns) < length (concat (first_turn run.script)))))
+
+-- by then neither a close nor a fault was got; or a close of a server came with the head
+abbrev pub IsSentInTime : ScriptValue → List Told → Type 0
+IsSentInTime run before = HasStanding (other_role run.plan.tested) Going (run.first ++ all_came before)
+    ⊎ HasServerClose run.plan.tested run.first
 
 -- what a turn has sent and got is a beginning of what it has in the end
 pub record HasBegunTurn (turn whole : Turn) : Type 0 where
@@ -153,7 +189,7 @@ pub record WasWaiting (run : ScriptValue) (turns : List Turn) (told : List Told)
 
 -- A run that was told just this is recorded so: just what was taken was sent, and just what came was got, behind what
 -- came with the head, no more than the budget. Each turn but the last is sent whole, and was waited for. The run is
--- broken off only where that was told, was ended by the tested end only where its stream has ended, and by the tester
+-- broken off only as `IsBrokenBy` says, was ended by the tested end only where its stream has ended, and by the tester
 -- only where the script has no turns or as `IsEndedByTester` says. The own direction was ended only where a server's
 -- close was got, and there it was, as `IsHalfClosed` says, where the script has turns. Each byte was sent in time, and
 -- a turn follows others only where these have got neither a close nor a fault. Whatever was told, something was still
@@ -164,7 +200,7 @@ pub record IsRecordOf (run : ScriptValue) (told : List Told) (transcript : Trans
   pub budget : length (all_came told) ≤ run.budget
   pub turns : (run.script ≡ []) ⊎ AreSentOf (map concat run.script) (sent_turns transcript.turns)
   pub waited_for : (n : ℕ) → 0 < n → n < length transcript.turns → IsWaitedFor run (take n transcript.turns) told
-  pub broken : transcript.ended ≡ Broken → IsBrokenBy run told
+  pub broken : transcript.ended ≡ Broken → IsBrokenBy run told transcript.turns
   pub tester : transcript.ended ≡ Tester → (run.script ≡ []) ⊎ IsEndedByTester run told transcript.turns
   pub peer : transcript.ended ≡ Peer → WasLast Ended told
   pub half_closed : Was DirectionEnded told → HasServerClose run.plan.tested (got_in_all transcript.turns)
