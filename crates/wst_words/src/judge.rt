@@ -87,9 +87,9 @@ broken). VERDICTS in `man wst` says what each WHY means.
 With --explain, `due N` is what was expected in turn N, `got N` what arrived.
 `due N end RULE`: the tester broke RULE, so the peer had to end the connection.
 `got N failed RULE`: the peer broke RULE. `got N cut`: the end came inside a
-frame. `end WHO`: who ended the connection, `tester` or `peer`; `broken`: it
-broke off. `..` follows the first 16 bytes. `ours` in a rule: RFC 6455 asks less
-than that.
+frame. `end WHO N`: the connection ended in turn N, by `tester` or `peer`;
+`broken`: it broke off. `..` follows the first 16 bytes. `ours` in a rule: RFC
+6455 asks less than that.
 
 Exit status:
   0  PASS or LOOSE

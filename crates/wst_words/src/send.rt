@@ -123,11 +123,11 @@ const AFTER_HELP: &str =
 A text in quotes is printable ASCII; any other payload is written in hex.
 
 Printed are frames sent (`>`) and received (`<`), and `end WHO`: `peer`, the
-tested endpoint, ended the connection, or `tester`, wst: all that is due came, a
-rule was broken (without --expect protocol any message but an echo breaks one),
-or --timeout has passed. `broken`: it broke off. With --role client, the first
-connection gets the script. Clients for Autobahn's fuzzing server take what it
-sends there for the number of cases: use `wst test`.
+tested endpoint, ended the connection, or `tester`, wst, did: all that was due
+came, a rule was broken, or --timeout has passed. Without --expect protocol, a
+message that is no echo breaks a rule. `broken`: the connection broke off.
+With --role client, the first connection gets the script. A client of Autobahn's
+would take it for the number of cases: test that one with `wst test`.
 
 Exit status:
   0  the script was run, whoever ended the connection

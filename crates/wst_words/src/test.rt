@@ -167,7 +167,7 @@ FAIL WHY (a rule is broken), FAIL Head NAME (the handshake failed; --header and
 With --explain, `due N` is what was expected in turn N, `got N` what came, up to
 16 bytes (`send --data all` prints more). `due N end RULE`: wst broke RULE on
 purpose: the peer had to end. `got N failed RULE`: the peer broke RULE.
-`end WHO` ended the connection: `peer`, or `tester` (wst: it waits for no more
+`end WHO N`: ended in turn N by `peer` or by `tester` (wst: it waits for no more
 after a broken rule); `broken`: it broke off. `ours`: RFC 6455 asks less.
 With --role client, start your client after `listening on`: it must reconnect
 for each next case. Clients for Autobahn's fuzzing server run unchanged.
