@@ -21,6 +21,8 @@ pub mod RecordsCloses
 pub mod RecordsGoing
 pub mod RecordsOver
 pub mod RecordsWaiting
+pub mod RecordsLast
+pub mod RecordsSilence
 pub mod RecordLemmas
 pub mod RecordsEnd
 pub mod ShownLemmas

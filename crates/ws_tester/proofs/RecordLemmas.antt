@@ -1,5 +1,5 @@
 -- What is recorded of a run, by all that it was told.
-use Rattle.std.proofs.Common.{◌≡◌, ◌∙◌, ℕ, ◌+◌, ◌<◌, ◌≤◌, ◌||◌, Bool, true, if◌then◌else◌, List, [], ◌∷◌, ◌++◌}
+use Rattle.std.proofs.Common.{◌≡◌, ◌∙◌, ℕ, ◌+◌, ◌<◌, ◌≤◌, ◌⊎◌, ◌||◌, Bool, true, if◌then◌else◌, List, [], ◌∷◌, ◌++◌}
 use Rattle.std.proofs.Common.{length, take, map, refl, sym, ap, subst, arith, inl, inr, append_assoc, append-nil}
 use Rattle.std.proofs.Common.{length-append}
 use Rattle.std.proofs.lemmas.List.{map-append, take-append-le}
@@ -10,20 +10,26 @@ use Rattle.ws_scripts.specs.declared.transcript.Ended.TheVariants.{Tester, Peer,
 use Rattle.ws_scripts.specs.declared.transcript.Turn.{Turn}
 use Rattle.ws_scripts.specs.declared.transcript.Transcript.{Transcript}
 use Rattle.ws_suite.specs.Evidence.{other_role, sent_turns}
+use Rattle.ws_suite.specs.Growing.{new_turn}
 use Rattle.ws_machines.specs.Told.{Told}
+use Rattle.ws_machines.specs.Told.Told.{NothingCame}
 use Rattle.ws_tester.specs.Standings.{HasServerClose, HasStanding, is_server_close}
 use Rattle.ws_tester.specs.Outcomes.{got_in_all, sent_in_all}
 use Rattle.ws_tester.specs.Outgoings.{HaveBytes, Pieces, after_first, first_turn}
-use Rattle.ws_tester.specs.RunStates.{RunState, recorded, turns_of_run, with_run_end}
+use Rattle.ws_tester.specs.RunStates.{RunState, is_all_sent, recorded, turns_of_run, with_run_end}
 use Rattle.ws_tester.specs.Following.{BeginsRun, BeginsBy, Follows, ScriptValue, first_state, has_items}
-use Rattle.ws_tester.specs.Records.{IsBrokenBy, IsEndedByTester, IsHalfClosed, IsRecordOf, IsWaitedFor}
+use Rattle.ws_tester.specs.Records.{IsBrokenBy, IsEndedByTester, IsHalfClosed, IsRecordOf, IsWaitedFor, WasAt, WasLast}
+use Rattle.ws_tester.specs.Records.{AreTurnsSoFar, IsWaitOver, is_last_told}
 use Rattle.ws_tester.specs.declared.standing.Standing.{Standing}
 use Rattle.ws_tester.proofs.RecordsHolds.{Holds, EndsBy, HoldsSo}
 use Rattle.ws_tester.proofs.RecordsTests.{OneStanding}
 use Rattle.ws_tester.proofs.RecordsSettled.{settled}
 use Rattle.ws_tester.proofs.RecordsEvent.{event_so}
-use Rattle.ws_tester.proofs.RecordsGoing.{IsGoing, Went, WentSo, follows_went, nothing_went, settled_went}
-use Rattle.ws_tester.proofs.RecordsWaiting.{Waited, WaitsSo, follows_waits, nothing_waited, settled_waits}
+use Rattle.ws_tester.proofs.RecordsGoing.{IsGoing, Went, WentSo, follows_went, no_more, nothing_went, settled_went}
+use Rattle.ws_tester.proofs.RecordsLast.{last_is, none_behind}
+use Rattle.ws_tester.proofs.RecordsOver.{sent_whole}
+use Rattle.ws_tester.proofs.RecordsSilence.{IsAt, at_event, silence_over, so_far_event, so_far_follows}
+use Rattle.ws_tester.proofs.RecordsWaiting.{Waited, WaitsSo, follows_waits, nothing_waited, settled_waits, so_far_now}
 use Rattle.ws_tester.proofs.RecordsCloses.{ClosesSo, begins_closes, closed_so, follows_closes, settled_closes}
 
 -- ---- all events
@@ -39,6 +45,38 @@ follows_so one run before start now (event ∷ told) h (next, happens, rest) =
     (event_so one run before start happens.heard next event happens.goes h.0 happens.may happens.changes
     happens.goes_on)
     rest)
+
+-- a turn that is all sent isn't waited for any more once nothing came
+pub follows_silent : OneStanding → (run : ScriptValue) (start now : RunState) (told before : List Told)
+    → HoldsSo run [] start → Follows start now told → WasAt NothingCame told before
+    → IsWaitOver run (turns_of_run now) told before
+follows_silent one run start now told before holds follows was = record {
+  past = at.old.past;
+  turn = at.old.turn;
+  so_far = so_far_follows at.old.past at.old.turn at.new now was.after at.rest
+      (so_far_event at.old.past at.old.turn at.old at.new NothingCame at.happens (so_far_now at.old.past at.old.turn));
+  sent = h.sent;
+  got = h.got;
+  over = λ later e. pick (silence_over at.old at.new at.happens (all_sent later e));
+}
+  where
+    at : IsAt start now before was.after NothingCame
+    at = at_event start now before was.after NothingCame (subst (λ (l : List Told). Follows start now l) was.parts follows)
+
+    h : Holds run before at.old
+    h = (follows_so one run [] start at.old before holds at.told).0
+
+    all_sent : (later : List (List ℕ)) → map concat run.script ≡ sent_turns (turns_of_run at.old) ++ later
+        → is_all_sent at.old ≡ true
+    all_sent later e = (sent_whole run before at.old h later (e ∙ (ap (λ (l : List (List ℕ)). l ++ later)
+        (map-append (λ (t : Turn). t.sent) at.old.past (at.old.turn ∷ []))
+        ∙ append_assoc (sent_turns at.old.past) (at.old.turn.sent ∷ []) later))).0
+
+    pick : AreTurnsSoFar (turns_of_run at.old) new_turn (turns_of_run at.new) ⊎ (at.new.ended ≡ None → ⊥)
+        → AreTurnsSoFar (turns_of_run at.old) new_turn (turns_of_run now) ⊎ (told ≡ before ++ NothingCame ∷ [])
+    pick (inl far) = inl (so_far_follows (turns_of_run at.old) new_turn at.new now was.after at.rest far)
+    pick (inr ended) = inr (was.parts ∙ ap (λ (l : List Told). before ++ NothingCame ∷ l)
+        (none_behind at.new now was.after was.after ended at.rest refl))
 
 -- ---- the beginning, and the record
 
@@ -72,9 +110,11 @@ begins_so run first others standing stands pieces e = record {
 pub recorded_so : (run : ScriptValue) (told : List Told) (now : RunState) (transcript : Transcript) → Holds run told now
     → EndsBy run told (turns_of_run now) (Some transcript.ended)
     → (HasServerClose run.plan.tested (got_in_all (turns_of_run now)) → IsHalfClosed run told (turns_of_run now))
-    → Went run told now.past → Waited run told (turns_of_run now) → transcript.turns ≡ turns_of_run now
-    → IsRecordOf run told transcript
-recorded_so run told now transcript h ends closed went waited e = record {
+    → Went run told now.past → Waited run told (turns_of_run now)
+    → ((before : List Told) (event : Told) → WasAt event told before → is_last_told event ≡ true → WasLast event told)
+    → ((before : List Told) → WasAt NothingCame told before → IsWaitOver run (turns_of_run now) told before)
+    → transcript.turns ≡ turns_of_run now → IsRecordOf run told transcript
+recorded_so run told now transcript h ends closed went waited lasts silent e = record {
   sent = ap (λ (l : List Turn). sent_in_all l) e ∙ h.sent;
   got = ap (λ (l : List Turn). got_in_all l) e ∙ h.got;
   budget = omega (arith, h.budget);
@@ -97,6 +137,8 @@ recorded_so run told now transcript h ends closed went waited e = record {
   tester = λ b. inr (subst (λ (l : List Turn). IsEndedByTester run told l) (sym e)
       (subst (λ (how : Ended). EndsBy run told (turns_of_run now) (Some how)) b ends));
   peer = λ b. subst (λ (how : Ended). EndsBy run told (turns_of_run now) (Some how)) b ends;
+  last = lasts;
+  silences = λ before was. subst (λ (l : List Turn). IsWaitOver run l told before) (sym e) (silent before was);
   half_closed = λ w. subst (λ (l : List Turn). HasServerClose run.plan.tested (got_in_all l)) (sym e) (h.closed (h.half w));
   closes = λ s. inr (subst (λ (l : List Turn). IsHalfClosed run told l) (sym e)
       (closed (subst (λ (l : List Turn). HasServerClose run.plan.tested (got_in_all l)) e s)));
@@ -144,6 +186,8 @@ nothing_run run closing transcript e turns how = record {
   tester = λ t. inl e;
   broken = λ b. absurd (let wrong : Some Tester ≡ Some Broken = how ∙ ap (λ (x : Ended). Some x) b in cc);
   peer = λ b. absurd (let wrong : Some Tester ≡ Some Peer = how ∙ ap (λ (x : Ended). Some x) b in cc);
+  last = λ before event was ends. absurd (no_more before was.after event was.parts);
+  silences = λ before was. absurd (no_more before was.after NothingCame was.parts);
   half_closed = λ w. absurd w;
   closes = λ s. inl e;
   in_time = (nothing_went run).sent;
@@ -188,6 +232,8 @@ recorded_is one run start now told transcript pieces (standing, stands, begins) 
         ended s)
         (follows_went one run [] start now told holds closes goes follows).0
         (follows_waits one run [] start now told holds waits follows).0
+        (λ before event was e. last_is start now told before event follows was e)
+        (λ before was. follows_silent one run start now told before holds follows was)
         (turns ∙ begun_recorded now at.0.begun_is)
 
     pick : (script : List Pieces) → run.script ≡ script

@@ -89,13 +89,9 @@ none_later (pieces ∷ turns) e = absurd cc
 
 -- ---- what isn't over
 
-module _ (one : OneStanding) (run : ScriptValue) (told : List Told) (x : RunState) (facts : TurnFacts)
-    (h : Holds run told x) (are : AreFacts x.plan x.past (turns_of_run x) facts) where
-  facts_are : AreFacts run.plan x.past (turns_of_run x) facts
-  facts_are = subst (λ (plan : PlanValue). AreFacts plan x.past (turns_of_run x) facts) h.plan_is are
-
+module _ (run : ScriptValue) (told : List Told) (x : RunState) (h : Holds run told x) where
   -- all of the turn is sent where it is one of the script
-  sent_whole : (others : List (List ℕ)) → map concat run.script ≡ sent_turns x.past ++ x.turn.sent ∷ others
+  pub sent_whole : (others : List (List ℕ)) → map concat run.script ≡ sent_turns x.past ++ x.turn.sent ∷ others
       → (is_all_sent x ≡ true) × (map concat x.outgoing.later ≡ others)
   sent_whole others e =
       let same : (x.turn.sent ++ (concat x.outgoing.rest ++ h.bytes.dropped)) ∷ map concat x.outgoing.later
@@ -109,10 +105,15 @@ module _ (one : OneStanding) (run : ScriptValue) (told : List Told) (x : RunStat
         ap (λ (l : List (List ℕ)). rest_of l) same,
       )
 
+module _ (one : OneStanding) (run : ScriptValue) (told : List Told) (x : RunState) (facts : TurnFacts)
+    (h : Holds run told x) (are : AreFacts x.plan x.past (turns_of_run x) facts) where
+  facts_are : AreFacts run.plan x.past (turns_of_run x) facts
+  facts_are = subst (λ (plan : PlanValue). AreFacts plan x.past (turns_of_run x) facts) h.plan_is are
+
   all_whole : map concat run.script ≡ sent_turns (turns_of_run x)
       → (is_all_sent x ≡ true) × (has_more x ≡ false)
   all_whole e =
-      let whole = sent_whole [] (e ∙ map-append (λ (t : Turn). t.sent) x.past (x.turn ∷ [])) in
+      let whole = sent_whole run told x h [] (e ∙ map-append (λ (t : Turn). t.sent) x.past (x.turn ∷ [])) in
       (whole.0, none_later x.outgoing.later whole.1)
 
   works : IsUnbroken run told (turns_of_run x) → x.write_failed ≡ false
@@ -128,7 +129,7 @@ module _ (one : OneStanding) (run : ScriptValue) (told : List Told) (x : RunStat
   next_over : IsUnbroken run told (turns_of_run x) → IsNextDue run x.past x.turn
       → (is_all_sent x ≡ true) × (is_turn_over x facts ≡ true)
   next_over u n =
-      let whole = sent_whole (n.next ∷ n.later) n.sent in
+      let whole = sent_whole run told x h (n.next ∷ n.later) n.sent in
       let more : has_more x ≡ true = some_later x.outgoing.later n.next n.later whole.1 in
       let out : is_waited_out x.plan (has_more x) facts ≡ false =
       ap (λ (plan : PlanValue). is_waited_out plan (has_more x) facts) h.plan_is

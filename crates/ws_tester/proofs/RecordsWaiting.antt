@@ -57,17 +57,17 @@ further a b c first second = record {
   got = second.got ∙ (ap (λ (l : List ℕ). l ++ second.ungot) first.got ∙ append_assoc a.got first.ungot second.ungot);
 }
 
-so_far_now : (past : List Turn) (turn : Turn) → AreTurnsSoFar past turn (past ++ turn ∷ [])
+pub so_far_now : (past : List Turn) (turn : Turn) → AreTurnsSoFar past turn (past ++ turn ∷ [])
 so_far_now [] turn = same_turn turn
 so_far_now (first ∷ past) turn = (refl, so_far_now past turn)
 
-so_far_more : (past turns more : List Turn) (turn : Turn) → AreTurnsSoFar past turn turns
+pub so_far_more : (past turns more : List Turn) (turn : Turn) → AreTurnsSoFar past turn turns
     → AreTurnsSoFar past turn (turns ++ more)
 so_far_more past [] more turn h = absurd h
 so_far_more [] (whole ∷ later) more turn h = h
 so_far_more (first ∷ past) (whole ∷ later) more turn (e, h) = (e, so_far_more past later more turn h)
 
-so_far_grown : (past turns : List Turn) (turn last grown : Turn) → HasBegunTurn last grown
+pub so_far_grown : (past turns : List Turn) (turn last grown : Turn) → HasBegunTurn last grown
     → AreTurnsSoFar past turn (turns ++ last ∷ []) → AreTurnsSoFar past turn (turns ++ grown ∷ [])
 so_far_grown [] [] turn last grown b h = further turn last grown h b
 so_far_grown (first ∷ past) [] turn last grown b (e, h) = absurd h
@@ -165,7 +165,7 @@ same_goes old x heard p t same = (
   subst (λ (turn : Turn). HasBegunTurn old.turn turn) (sym (ap (λ (y : RunState). y.turn) same ∙ t)) (same_turn old.turn),
 )
 
-event_goes : (event : Told) (old heard : RunState) → Changes event old heard → GoesOn old heard
+pub event_goes : (event : Told) (old heard : RunState) → Changes event old heard → GoesOn old heard
 event_goes (Came bytes) old heard hears =
     let x = with_anew hears.progress (with_unanswered hears.pings (with_came bytes old)) in
     let kept = standing_goes (is_server_close old.plan.tested hears.standing && not old.closing) x in (

@@ -8,7 +8,7 @@ use Rattle.ws_scripts.specs.declared.transcript.Ended.TheVariants.{Tester, Peer,
 use Rattle.ws_scripts.specs.declared.transcript.Turn.{Turn}
 use Rattle.ws_scripts.specs.declared.transcript.Transcript.{Transcript}
 use Rattle.ws_suite.specs.Evidence.{other_role, sent_turns}
-use Rattle.ws_suite.specs.Growing.{EndInsideFrame, CannotComeAfter}
+use Rattle.ws_suite.specs.Growing.{EndInsideFrame, CannotComeAfter, new_turn}
 use Rattle.ws_suite.specs.Waiting.{AreTurnsAnsweredBy, AreTurnsSeenAnswered}
 use Rattle.ws_machines.specs.Told.{Told, all_came, all_taken}
 use Rattle.ws_machines.specs.Told.Told.{ReadFailed, WriteFailed, Ended, NothingCame, DirectionEnded, DeadlinePassed}
@@ -35,6 +35,13 @@ pub record WasAt (event : Told) (told before : List Told) : Type 0 where
 -- it was the last
 abbrev pub WasLast : Told → List Told → Type 0
 WasLast event told = (before : List Told) × (told ≡ before ++ event ∷ [])
+
+-- nothing is told behind the end of the stream, a failed read or the deadline
+abbrev pub is_last_told : Told → Bool
+is_last_told Ended = true
+is_last_told ReadFailed = true
+is_last_told (DeadlinePassed waited) = true
+is_last_told _ = false
 
 -- ---- what is recorded
 
@@ -187,13 +194,26 @@ pub record WasWaiting (run : ScriptValue) (turns : List Turn) (told : List Told)
   pub got : got_in_all (past ++ turn ∷ []) ≡ run.first ++ all_came told
   pub waits : ¬ (IsOver run told past turn)
 
+-- When just this had been told before nothing came: of the first of these turns, and of a beginning of the next one,
+-- just this had been sent and got. If that was all sent, it isn't waited for any more: another turn begins behind it,
+-- or nothing more is told.
+pub record IsWaitOver (run : ScriptValue) (turns : List Turn) (told before : List Told) : Type 0 where
+  pub past : List Turn
+  pub turn : Turn
+  pub so_far : AreTurnsSoFar past turn turns
+  pub sent : sent_in_all (past ++ turn ∷ []) ≡ all_taken before
+  pub got : got_in_all (past ++ turn ∷ []) ≡ run.first ++ all_came before
+  pub over : (later : List (List ℕ)) → map concat run.script ≡ sent_turns (past ++ turn ∷ []) ++ later
+      → AreTurnsSoFar (past ++ turn ∷ []) new_turn turns ⊎ (told ≡ before ++ NothingCame ∷ [])
+
 -- A run that was told just this is recorded so: just what was taken was sent, and just what came was got, behind what
 -- came with the head, no more than the budget. Each turn but the last is sent whole, and was waited for. The run is
 -- broken off only as `IsBrokenBy` says, was ended by the tested end only where its stream has ended, and by the tester
--- only where the script has no turns or as `IsEndedByTester` says. The own direction was ended only where a server's
--- close was got, and there it was, as `IsHalfClosed` says, where the script has turns. Each byte was sent in time, and
--- a turn follows others only where these have got neither a close nor a fault. Whatever was told, something was still
--- waited for by then: once nothing is, the next turn begins, or the run ends.
+-- only where the script has no turns or as `IsEndedByTester` says; and what ends a run is the last that it is told. The
+-- own direction was ended only where a server's close was got, and there it was, as `IsHalfClosed` says, where the
+-- script has turns. Each byte was sent in time, and a turn follows others only where these have got neither a close nor
+-- a fault. Whatever was told, something was still waited for by then: once nothing is, or nothing came in time for a
+-- turn that is all sent, the next turn begins, or the run ends.
 pub record IsRecordOf (run : ScriptValue) (told : List Told) (transcript : Transcript) : Type 0 where
   pub sent : sent_in_all transcript.turns ≡ all_taken told
   pub got : got_in_all transcript.turns ≡ run.first ++ all_came told
@@ -203,6 +223,8 @@ pub record IsRecordOf (run : ScriptValue) (told : List Told) (transcript : Trans
   pub broken : transcript.ended ≡ Broken → IsBrokenBy run told transcript.turns
   pub tester : transcript.ended ≡ Tester → (run.script ≡ []) ⊎ IsEndedByTester run told transcript.turns
   pub peer : transcript.ended ≡ Peer → WasLast Ended told
+  pub last : (before : List Told) (event : Told) → WasAt event told before → is_last_told event ≡ true
+      → WasLast event told
   pub half_closed : Was DirectionEnded told → HasServerClose run.plan.tested (got_in_all transcript.turns)
   pub closes : HasServerClose run.plan.tested (got_in_all transcript.turns) → (run.script ≡ [])
       ⊎ IsHalfClosed run told transcript.turns
@@ -211,6 +233,7 @@ pub record IsRecordOf (run : ScriptValue) (told : List Told) (transcript : Trans
   pub follows : (n : ℕ) → 0 < n → n < length transcript.turns
       → HasStanding (other_role run.plan.tested) Going (got_in_all (take n transcript.turns))
   pub waits : (before : List Told) (event : Told) → WasAt event told before → WasWaiting run transcript.turns before
+  pub silences : (before : List Told) → WasAt NothingCame told before → IsWaitOver run transcript.turns told before
 
 -- the transcript is that of the state to which a run has come that was told just this
 pub record IsOfRun (start : RunState) (told : List Told) (transcript : Transcript) : Type 0 where
