@@ -9,3 +9,4 @@ mod Acting
 mod Joined
 mod Headlines
 mod Parts
+mod ScriptPlaying

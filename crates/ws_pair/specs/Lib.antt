@@ -3,6 +3,7 @@ pub mod Moves
 pub mod Headline
 pub mod Script
 pub mod ReportLines
+pub mod Runs
 pub mod Examples
 pub mod ScriptExamples
 pub mod InnerPlaying
