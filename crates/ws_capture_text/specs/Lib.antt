@@ -1,0 +1,4 @@
+pub mod InnerMarks
+pub mod InnerKinds
+pub mod InnerStages
+pub mod InnerJoining
