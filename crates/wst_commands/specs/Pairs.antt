@@ -31,6 +31,11 @@ PlaysMoves client server moves ended output = MatchResult ended
     × Delivers Done (report_lines report) exit output)
     (λ fault. (fault ≡ NoMemory) × IsUntouched output)
 
+-- the lines of the report were written; or memory ran out, and nothing was written
+abbrev pub TellsReport : Report → Result Exit Fault → Device → Type 0
+TellsReport report ended output = MatchResult ended (λ exit. Delivers Done (report_lines report) exit output)
+    (λ fault. (fault ≡ NoMemory) × IsUntouched output)
+
 -- what is told of a script that can't be played
 abbrev pub script_fault : TextFault → Fault
 script_fault (text.Damaged number) = NotAMove number

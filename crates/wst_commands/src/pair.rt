@@ -1,15 +1,13 @@
 //! The command `pair`. Its script and its report are told in docs/FORMATS.md.
 
-ghost use Rattle.std.specs.Prelude.{◌≡◌, false, IfOk, MatchOption, MatchResult, string_bytes};
+ghost use Rattle.std.specs.Prelude.{◌≡◌, false, MatchOption, MatchResult};
 ghost use Rattle.ws_formats.specs.Lines.{Damages};
 ghost use Rattle.ws_frame.specs.Devices.{watched};
 ghost use Rattle.ws_frame.specs.Watching.{has_failed};
-ghost use Rattle.ws_pair.specs.Headline.{IsReportOf};
-ghost use Rattle.ws_pair.specs.ReportLines.{report_lines};
+ghost use Rattle.ws_pair.specs.Runs.{IsScriptReport};
 ghost use Rattle.ws_pair.specs.Script.{AreMoveLines};
-ghost use Rattle.ws_pair.specs.declared.report.Report.{Report};
 ghost use Rattle.wst_commands.specs.Limits.{limits_given};
-ghost use Rattle.wst_commands.specs.Pairs.{AnswersScript, CanLimit, PlaysMoves, RunsPair, script_fault};
+ghost use Rattle.wst_commands.specs.Pairs.{AnswersScript, CanLimit, RunsPair, TellsReport, script_fault};
 
 use crate::exit::Exit;
 use crate::fault::Fault;
@@ -18,9 +16,9 @@ use crate::reading_whole::{ReadStop, read_whole};
 use crate::telling::deliver;
 use std::alloc::Global;
 use std::io::{Read, Write};
-use ws_base::{NoMemory, Sequence, TextFault};
+use ws_base::{NoMemory, TextFault};
 use ws_frame::Watched;
-use ws_pair::{Move, read_moves, run_pair, write_report};
+use ws_pair::{Report, run_script, write_report};
 use ws_session::Limits;
 use wst_words::PairOptions;
 
@@ -69,18 +67,23 @@ fn answer<W: Write>(
     requires { has_failed writer.old ≡ false }
     ensures { AnswersScript client server text.items result (watched W.contents writer.old writer.new) }
 {
-    match moves_in(alloc, text) {
-        Ok(moves) => play(alloc, client, server, moves.as_slice(), writer),
+    match report_in(alloc, client, server, text) {
+        Ok(report) => tell_report(alloc, &report, writer),
         Err(fault) => Err(fault_of(fault)),
     }
 }
 
-/// The moves of a script, whose text is dropped before they are played.
-fn moves_in(alloc: Global, text: Vec<u8>) -> Result<Sequence<Move>, TextFault>
-    ensures { MatchResult result (λ moves. AreMoveLines moves text.items)
+/// The report of a script, whose text is dropped before the report is told.
+fn report_in(
+    alloc: Global,
+    client: Limits,
+    server: Limits,
+    text: Vec<u8>,
+) -> Result<Report, TextFault>
+    ensures { MatchResult result (λ report. IsScriptReport client server text.items report)
         (λ fault. Damages AreMoveLines fault text.items) }
 {
-    read_moves(alloc, text.as_slice())
+    run_script(alloc, client, server, text.as_slice())
 }
 
 /// What is told of a script that can't be played.
@@ -93,34 +96,17 @@ fn fault_of(fault: TextFault) -> Fault
     }
 }
 
-/// Plays the moves, and writes the report.
-fn play<W: Write>(
+/// Writes a report.
+fn tell_report<W: Write>(
     alloc: Global,
-    client: Limits,
-    server: Limits,
-    moves: &[Move],
+    report: &Report,
     writer: &mut Watched<W>,
 ) -> Result<Exit, Fault>
     requires { has_failed writer.old ≡ false }
-    ensures { PlaysMoves client server moves.now result (watched W.contents writer.old writer.new) }
+    ensures { TellsReport report.now result (watched W.contents writer.old writer.new) }
 {
-    match report_text(alloc, client, server, moves) {
+    match write_report(alloc, report) {
         Ok(text) => Ok(deliver(Exit::Done, text.as_bytes(), writer)),
         Err(NoMemory) => Err(Fault::NoMemory),
     }
-}
-
-/// The lines of the report of moves.
-fn report_text(
-    alloc: Global,
-    client: Limits,
-    server: Limits,
-    moves: &[Move],
-) -> Result<String, NoMemory>
-    ensures { IfOk result (λ text. (report : Report) × IsReportOf client server moves.now report
-        × (string_bytes text ≡ report_lines report)) }
-{
-    let report = run_pair(alloc, client, server, moves)?;
-    let text = write_report(alloc, &report)?;
-    Ok(text)
 }

@@ -1,13 +1,9 @@
--- What is delivered of a capture is what format 2 is written as.
-use Rattle.std.proofs.Common.{rules, ◌≡◌, refl}
-use Rattle.ws_frame.specs.Devices.{watched}
-use Rattle.ws_scripts.specs.Captures2.{written_capture2}
-use Rattle.wst_commands.specs.declared.exit.Exit.TheVariants.{Done}
-use Rattle.wst_commands.proofs.Delivering.{delivers_same}
+-- What is written of a text is what format 2 has for its capture, or a beginning of it.
+use Rattle.std.proofs.Common.{inl, inr, refl}
 use Rattle.wst_commands.proofs.convert.write_kept.Goals as goal
 
 pub returns-in-Ok : goal.returns-in-Ok
-returns-in-Ok g c =
-    let lines : c.as_slice.result.now ≡ written_capture2 c.args.capture.now = search rules in
-    delivers_same Done Done c.as_slice.result.now (written_capture2 c.args.capture.now) c.deliver.result
-    (watched g.W.Write.contents c.args.writer.now c.deliver.new.writer) refl lines c.deliver.ensures
+returns-in-Ok g c = λ capture is. let all = c.in-Ok.ensures capture is in inl (refl, all.1, all.0)
+
+pub returns-in-Err : goal.returns-in-Err
+returns-in-Err g c = λ capture is. let begun = c.in-Err.ensures capture is in inr (refl, begun.1, begun.0)
