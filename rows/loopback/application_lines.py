@@ -128,6 +128,14 @@ class Gone(Application):
         self.is_open = False
 
 
+class Late(Gone):
+    """It goes away once the frame behind the first one has come, which it hasn't read by then."""
+
+    def take(self, first, payload):
+        select.select([self.client.stream], [], [], SECONDS)
+        super().take(first, payload)
+
+
 class Slow(Application):
     """It answers a ping after half a second, and goes away if more comes before that."""
 
@@ -232,7 +240,7 @@ def a_server_that_lets_a_reserved_bit_pass():
 def a_server_that_goes_away():
     # The close follows the message at once, since no message is waited for.
     told(
-        Gone,
+        Late,
         "1.2.1",
         "LOOSE NoClose",
         "due 2 close 1000",

@@ -2,7 +2,7 @@
 
 use crate::memory_net::Book;
 use crate::row_fault::RowFault;
-use crate::words::{asks_for, failing_of, value_of};
+use crate::words::{asks_for, failing_of, number_or, value_of};
 use std::alloc::Global;
 use std::fmt::Write;
 use std::io;
@@ -13,6 +13,7 @@ use ws_frame::Failing;
 /// A network whose connections bring these bytes: `net-reads=`, `net-writes=` and `net-waits=` say which calls of each
 /// connection fail or wait in vain, `refused=` which connections are refused, `refusal=` how, `deaf=` why nothing can
 /// be listened at, and `+nameless` that a listener doesn't know its address. Without `net=` each connection is refused.
+/// `net-holds=` says how many bytes a connection that doesn't wait takes before a byte of it is read.
 pub fn book_of<'a>(alloc: Global, words: &[&str], brought: &'a [u8]) -> Result<Book<'a>, RowFault> {
     let mut book = Book::new(alloc, brought);
     book.reads = failing_of(words, "net-reads=")?;
@@ -28,6 +29,7 @@ pub fn book_of<'a>(alloc: Global, words: &[&str], brought: &'a [u8]) -> Result<B
         None => None,
     };
     book.nameless = asks_for(words, "+nameless");
+    book.holds = number_or(words, "net-holds=", u64::MAX)?;
     Ok(book)
 }
 

@@ -4,6 +4,7 @@ use crate::answers::{put_reads, put_writes};
 use crate::books::{book_of, put_book};
 use crate::devices::{sink_of, source_of};
 use crate::memory_net::MemoryNet;
+use crate::memory_network::MemoryConnector;
 use crate::row_fault::RowFault;
 use crate::words::{asks_for, bytes_of, number_or, pieces_of, value_of};
 use std::alloc::Global;
@@ -37,6 +38,7 @@ pub fn run_command(alloc: Global, words: &[&str], out: &mut String) -> Result<()
         alloc,
         line.as_slice(),
         &net,
+        &MemoryConnector { book: &book },
         &mut reader,
         &mut writer,
         &mut faults,

@@ -11,6 +11,7 @@ mod devices;
 mod handshakes;
 mod lanes;
 mod memory_net;
+mod memory_network;
 mod memory_stage;
 mod probes;
 mod row_fault;

@@ -2,6 +2,7 @@
 
 ghost use Rattle.std.specs.Prelude.{◌≤◌, length, IfOk};
 
+use crate::memory_network::Stage;
 use std::alloc::Global;
 use std::cell::{Cell, RefCell};
 use std::io;
@@ -19,7 +20,7 @@ const HOST: &str = "localhost";
 const DOUBLE_HOST: &str = "double";
 
 /// The one port at which something listens, also where port 0 is asked for, and from which each connection comes.
-const PORT: u16 = 9001;
+pub const PORT: u16 = 9001;
 
 /// What a network does, and what came of it.
 #[derive(Drop)]
@@ -54,6 +55,10 @@ pub struct Book<'a> {
     pub ended: Cell<u64>,
     /// What was told of waits.
     pub noted: RefCell<Vec<u8>>,
+    /// So many bytes its connection that doesn't wait takes between two that are read of it.
+    pub holds: u64,
+    /// How its connection stands that doesn't wait.
+    pub stage: Stage,
 }
 
 impl<'a> Book<'a> {
@@ -78,11 +83,13 @@ impl<'a> Book<'a> {
             written: RefCell::new(Vec::new(alloc)),
             ended: Cell::new(0),
             noted: RefCell::new(Vec::new(alloc)),
+            holds: u64::MAX,
+            stage: Stage::new(),
         }
     }
 
     /// The next connection, if it is made.
-    fn next(&'a self) -> io::Result<MemoryStream<'a>> {
+    pub fn next(&'a self) -> io::Result<MemoryStream<'a>> {
         let number = self.asked.get().saturating_add(1);
         self.asked.set(number);
         let (failing, error) = self.refused;
@@ -110,7 +117,7 @@ impl<'a> Book<'a> {
 }
 
 /// Keeps for how long was to be waited, where that is longer than before.
-fn keep_most(seconds: &Cell<u64>, time: Option<Duration>) {
+pub fn keep_most(seconds: &Cell<u64>, time: Option<Duration>) {
     if let Some(time) = time {
         seconds.set(seconds.get().max(time.as_secs()));
     }

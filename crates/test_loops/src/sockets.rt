@@ -7,12 +7,13 @@ use crate::row_fault::RowFault;
 use crate::runs::room;
 use std::alloc::Global;
 use std::fmt::Write;
-use std::io::ErrorKind;
 use std::net::Net;
 use std::time::Clock;
 use ws_loops::Poller;
 use ws_networks::{Limits, Met, Missed, run_at};
-use wst_network::{NetworkFault, SystemStream, system_network};
+use wst_network::{
+    ConnectMiss, EndingStream, NetworkFault, StreamEnd, SystemStream, system_network,
+};
 
 /// `socket ADDRESS LIMIT DEADLINE LEN MOST`: an exchange that writes so many bytes to an address, and reads at most so
 /// many. Why there is no connection, or how many bytes came, whether they are a front of those that were written, and
@@ -53,7 +54,7 @@ pub fn run_socket<N: Net + Clock>(
 }
 
 /// What came of it.
-fn put_met(met: Met<Vec<u8>, SystemStream, ErrorKind>, out: &mut String) -> Result<(), RowFault> {
+fn put_met(met: Met<Vec<u8>, SystemStream, ConnectMiss>, out: &mut String) -> Result<(), RowFault> {
     match met {
         Met::Ended(came, stream) => {
             let right = is_counted(came.as_slice());
@@ -63,13 +64,15 @@ fn put_met(met: Met<Vec<u8>, SystemStream, ErrorKind>, out: &mut String) -> Resu
                 came.len(),
                 if right { "right" } else { "wrong" }
             )?;
-            if let Some(kind) = stream.failure() {
+            if let StreamEnd::Failed(kind) = stream.stream_end() {
                 write!(out, " {kind}")?;
             }
         }
         Met::NotMade(Missed::NoAddress) => write!(out, "no address")?,
         Met::NotMade(Missed::TimedOut) => write!(out, "timed out")?,
-        Met::NotMade(Missed::Failed(kind)) => write!(out, "failed: {kind}")?,
+        Met::NotMade(Missed::Failed(ConnectMiss::NotFound(kind) | ConnectMiss::NotTaken(kind))) => {
+            write!(out, "failed: {kind}")?
+        }
     }
     Ok(())
 }

@@ -8,13 +8,13 @@ use Rattle.ws_machines.specs.Machines.{HasNext}
 use Rattle.ws_tester.specs.Following.{BeginsRun, TesterValue, WasTold}
 use Rattle.ws_tester.specs.Outgoings.{HaveBytes}
 use Rattle.ws_tester.specs.RunStates.{PlanValue, wanted_in}
-use Rattle.ws_handshake.specs.Probes.{AskedValue, GotHead, LosesAnswer, ProbeValue, RefusesHead, StillAsks, is_opening}
+use Rattle.ws_handshake.specs.Probes.{GotHead, LosesAnswer, ProbeValue, RefusesHead, StillAsks, is_opening}
 use Rattle.ws_handshake.specs.Probes.{script_behind}
 use Rattle.ws_handshake.specs.declared.probe_machine.ProbeStage.{ProbeStage}
 use Rattle.ws_handshake.specs.declared.probe_machine.ProbeStage.TheVariants.{Opening, Running, Refused, Lost}
 use Rattle.ws_handshake.specs.declared.response_head.ResponseDecision.TheVariants.{Accepted}
 use Rattle.ws_connection.specs.ConnectionValues.{ConnectionRun}
-use Rattle.ws_connection.specs.Probing.{probe_nonce}
+use Rattle.ws_connection.specs.Probing.{asked_over, probe_nonce}
 use Rattle.ws_connection.specs.StreamCalls.{DidCalls}
 use Rattle.ws_connection.specs.UpgradeRequests.{RequestValue, text_of_request}
 
@@ -40,11 +40,6 @@ pub record OpensOver (start now : ProbeValue) (run : ConnectionRun) : Type 0 whe
   pub told : List Told
   pub did : DidCalls run.old run.new told
   pub opens : HasOpened now.stage start now told
-
--- what is asked of a server by a probe over a connection with this budget
-abbrev pub asked_over : PlanValue → RequestValue → ℕ → AskedValue
-asked_over plan request budget =
-    record { nonce = probe_nonce; offers = request.offers; plan = plan; budget = budget }
 
 -- A probe that was to put this request, and then to run a script by this plan whose turns have these bytes, was served
 -- over a connection until it stood so.

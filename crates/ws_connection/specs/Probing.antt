@@ -20,9 +20,10 @@ use Rattle.ws_connection.specs.ConnectionValues.{ConnectionRun, ConnectionValue}
 use Rattle.ws_connection.specs.Connections.{HasWorked, ReadsBytes, WritesBytes, output_of}
 use Rattle.ws_connection.specs.StreamCalls.{DidCalls}
 use Rattle.ws_handshake.specs.ReadingHeads.{IsUndecided, ReadsNoFurther}
-use Rattle.ws_handshake.specs.Probes.{LosesHead, WasAsked}
+use Rattle.ws_handshake.specs.Probes.{AskedValue, LosesHead, ProbeValue, WasAsked}
 use Rattle.ws_handshake.specs.Responses.{DecidesResponse, NeedsResponse}
 use Rattle.ws_connection.specs.UpgradeRequests.{RequestValue, text_of_request}
+use Rattle.ws_handshake.specs.declared.probe_machine.ProbeStage.TheVariants.{Opening}
 use Rattle.ws_handshake.specs.declared.response_head.ResponseDecision.{ResponseDecision}
 use Rattle.ws_handshake.specs.declared.response_head.ResponseDecision.TheVariants.{Accepted, Refused as RefusedHead}
 use Rattle.ws_connection.specs.declared.probing.Asked.{Asked}
@@ -80,6 +81,22 @@ pub record Records (plan : PlanValue) (turns : List (List ℕ)) (first : List �
 -- the nonce of each request
 abbrev pub probe_nonce : List ℕ
 probe_nonce = codes "the sample nonce"
+
+-- what is asked of a server by a probe that may read so many bytes behind the head of its answer
+abbrev pub asked_over : PlanValue → RequestValue → ℕ → AskedValue
+asked_over plan request budget =
+    record { nonce = probe_nonce; offers = request.offers; plan = plan; budget = budget }
+
+-- A probe of which nothing was told: it is to put this request, then to read the head of the answer, and then to run a
+-- script by this plan whose turns have these bytes.
+pub record BeginsProbe (plan : PlanValue) (turns : List (List ℕ)) (request : RequestValue) (budget : ℕ)
+    (start : ProbeValue) : Type 0 where
+  pub asked : start.asked ≡ asked_over plan request budget
+  pub bytes : map concat start.script ≡ turns
+  pub has_bytes : HaveBytes start.script
+  pub request_is : start.rest ≡ text_of_request request (key_of probe_nonce)
+  pub none_read : start.read ≡ []
+  pub opens : start.stage ≡ Opening
 
 -- these bytes were read for the head of the answer to such offers, and decide so: at most 8192, and at most 1024 behind
 -- bytes that need more

@@ -8,7 +8,7 @@
 //! `protocols_of`, whose `Protocols` they take, and `headers_of`, whose `RequestHeaders` a request has. A `Connection`
 //! is a stream of `ws_machines`: what it tells is what its devices did (`DidCalls`). Its devices keep its limits of
 //! time (`WaitingRead`). `drive_stage` (`RunsOnStage`) runs a tester on any `Stage`: `probe` and `run_script` are that
-//! over a connection and its observer.
+//! over a connection and its observer. `probe_machine` is the machine of a probe for another loop (`BeginsProbe`).
 #![tactic(auto)]
 
 mod admitting;
@@ -32,7 +32,7 @@ pub use connection::Connection;
 pub use ending::EndsDirection;
 pub use incoming::Incoming;
 pub use observer::{Observer, Silent};
-pub use probing::{Asked, NONCE, ScriptRun, drive_stage, probe, run_script};
+pub use probing::{Asked, NONCE, ScriptRun, drive_stage, probe, probe_machine, run_script};
 pub use protocols::{Protocols, protocols_of};
 pub use reading_head::{HeadEnd, HeadRoom, read_head};
 pub use request_headers::{RequestHeaders, headers_of};

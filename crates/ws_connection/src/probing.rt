@@ -7,15 +7,16 @@ mod run;
 mod stage_stream;
 mod telling;
 
-ghost use Rattle.std.specs.Prelude.{◌≡◌, IfOk, Some};
+ghost use Rattle.std.specs.Prelude.{◌≡◌, [], IfOk, Some};
 ghost use Rattle.ws_upgrade.specs.Accept.{key_of};
 ghost use Rattle.ws_scripts.specs.Scripts.{CanBeRun};
 ghost use Rattle.ws_connection.specs.Connections.{IsNewConnection};
 ghost use Rattle.ws_connection.specs.Observing.{HearsProbe, IsHearing};
-ghost use Rattle.ws_connection.specs.Probing.{Probes, bytes_by_turn, plan_asked, probe_nonce};
+ghost use Rattle.ws_connection.specs.Probing.{BeginsProbe, Probes, asked_over, bytes_by_turn, plan_asked, probe_nonce};
 ghost use Rattle.ws_connection.specs.RunSteps.{TellsProbe};
-ghost use Rattle.ws_connection.specs.InnerOpening.{IsOpened, asked_over};
-ghost use Rattle.ws_handshake.specs.Probes.{asked_of};
+ghost use Rattle.ws_connection.specs.InnerOpening.{IsOpened};
+ghost use Rattle.ws_machines.specs.Machines.{HasNext};
+ghost use Rattle.ws_handshake.specs.Probes.{WasProbed, asked_of, wanted_of};
 ghost use Rattle.ws_connection.specs.UpgradeRequests.{CanBeAsked, request_value, text_of_request};
 
 use crate::connection::Connection;
@@ -123,12 +124,29 @@ fn opened_by<R: WaitingRead, W: EndsDirection>(
     ensures { IfOk result (λ stage. IsOpened (plan_asked asked.now) (bytes_by_turn case.now (Some asked.now.key))
         (request_value asked.now.request) stage (record { old = connection.old; new = connection.new })) }
 {
-    let script = turns(alloc, case, asked.key)?;
-    let request = request_text(alloc, &asked.request)?;
-    let plan = asked.probe_plan(connection.allowance());
-    let mut machine = ProbeMachine::new(alloc, plan, script, request);
+    let mut machine = probe_machine(alloc, case, asked, connection.allowance())?;
     open_over(&mut machine, connection)?;
     Ok(machine.into_stage())
+}
+
+/// The machine of `probe`, of which nothing was told yet. It may read so many bytes behind the head of the answer.
+pub fn probe_machine<'a>(
+    alloc: Global,
+    case: &Case,
+    asked: &Asked<'a>,
+    budget: u64,
+) -> Result<ProbeMachine<'a>, NoMemory>
+    requires runs { CanBeRun case.now }
+    requires request { CanBeAsked (request_value asked.now.request) }
+    ensures begins { IfOk result (λ machine. BeginsProbe (plan_asked asked.now)
+        (bytes_by_turn case.now (Some asked.now.key)) (request_value asked.now.request) budget machine) }
+    ensures told { IfOk result (λ machine. WasProbed machine machine []) }
+    ensures goes_on { IfOk result (λ machine. HasNext (wanted_of machine)) }
+{
+    let script = turns(alloc, case, asked.key)?;
+    let request = request_text(alloc, &asked.request)?;
+    let plan = asked.probe_plan(budget);
+    Ok(ProbeMachine::new(alloc, plan, script, request))
 }
 
 /// The request that is sent.

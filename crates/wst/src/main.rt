@@ -10,6 +10,7 @@ use std::io::ErrorKind;
 use std::process::ExitCode;
 use std::{env, io};
 use ws_frame::Watched;
+use wst_network::SystemConnector;
 use wst_run::{run, words_are_no_text};
 use wst_sockets::Resumed;
 
@@ -30,6 +31,7 @@ fn main(rt: HostRuntime) -> ExitCode {
             alloc,
             words.as_slice(),
             &rt,
+            &SystemConnector::of(&rt),
             &mut input,
             &mut output,
             &mut faults,

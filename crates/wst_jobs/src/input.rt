@@ -6,6 +6,7 @@ use std::alloc::Global;
 use std::fmt::Write;
 use std::io::{self, Read};
 use ws_frame::Watched;
+use wst_network::SystemConnector;
 use wst_run::run;
 use wst_sockets::Network;
 
@@ -53,6 +54,7 @@ pub fn run_wst<N: Network, R: Read + Drop>(
         alloc,
         line.as_slice(),
         net,
+        &SystemConnector::of(net),
         &mut reader,
         &mut writer,
         &mut faults,

@@ -1,11 +1,14 @@
 //! The system's network: sockets that don't wait, and one wait for all of them.
 //!
 //! The layers above use `system_network`, which gives a `SystemNetwork`, a network as `ws_networks` has it, and the
-//! `SystemPoller` that waits for its streams. All that names `mio` is in one file.
+//! `SystemPoller` that waits for its streams. All that names `mio` is in one file. Whoever is to run over such a
+//! network or over one in memory takes a `Connector`, of which `SystemConnector` is the system's.
 #![tactic(auto)]
 
+mod connector;
 mod fault;
 mod system;
 
+pub use connector::{ConnectMiss, Connector, EndingStream, StreamEnd};
 pub use fault::NetworkFault;
-pub use system::{SystemNetwork, SystemPoller, SystemStream, system_network};
+pub use system::{SystemConnector, SystemNetwork, SystemPoller, SystemStream, system_network};

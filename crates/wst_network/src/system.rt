@@ -4,6 +4,7 @@
 ghost use Rattle.std.specs.Prelude.{◌≡◌, length};
 ghost use Rattle.std.specs.Iterator.{IsFinite};
 
+use crate::connector::{ConnectMiss, Connector, EndingStream, StreamEnd};
 use crate::fault::NetworkFault;
 use mio::net::TcpStream;
 use mio::{Events, Interest, Poll, Registry, Token};
@@ -58,6 +59,31 @@ pub fn system_network<'a, N: Net + Clock>(
     ))
 }
 
+/// Gives the system's network.
+#[derive(Clone, Copy)]
+pub struct SystemConnector<'a, N> {
+    net: &'a N,
+}
+
+impl<'a, N> SystemConnector<'a, N> {
+    /// That of this runtime.
+    pub fn of(net: &'a N) -> SystemConnector<'a, N> {
+        SystemConnector { net }
+    }
+}
+
+impl<'a, N: Net + Clock> Connector for SystemConnector<'a, N> {
+    type Stream = SystemStream;
+
+    type Network = SystemNetwork<'a, N>;
+
+    type Poller = SystemPoller<'a, N>;
+
+    fn network(&self, alloc: Global) -> io::Result<(SystemNetwork<'a, N>, SystemPoller<'a, N>)> {
+        system_network(alloc, self.net)
+    }
+}
+
 impl<N: Net> Network for SystemNetwork<'_, N> {
     ghost use Rattle.std.specs.Prelude.{⊤};
 
@@ -65,40 +91,42 @@ impl<N: Net> Network for SystemNetwork<'_, N> {
 
     type Stream = SystemStream;
 
-    type Miss = ErrorKind;
+    type Miss = ConnectMiss;
 
     ghost did = { λ old new deeds. ⊤ };
 
-    fn look_up(&mut self, alloc: Global, name: &str) -> Result<Vec<SocketAddr>, ErrorKind> {
+    fn look_up(&mut self, alloc: Global, name: &str) -> Result<Vec<SocketAddr>, ConnectMiss> {
         match name.to_socket_addrs(self.net) {
             Ok(found) => match all_of(alloc, found) {
                 Ok(addresses) => Ok(addresses),
-                Err(_) => Err(ErrorKind::OutOfMemory),
+                Err(_) => Err(ConnectMiss::NotFound(ErrorKind::OutOfMemory)),
             },
-            Err(error) => Err(error.kind()),
+            Err(error) => Err(ConnectMiss::NotFound(error.kind())),
         }
     }
 
-    fn begin(&mut self, address: SocketAddr, at: usize) -> Result<SystemStream, ErrorKind> {
+    fn begin(&mut self, address: SocketAddr, at: usize) -> Result<SystemStream, ConnectMiss> {
         match self.begun(address, at) {
             Ok(stream) => Ok(SystemStream {
                 stream,
-                failure: None,
+                end: StreamEnd::Open,
             }),
-            Err(error) => Err(error.kind()),
+            Err(error) => Err(ConnectMiss::NotTaken(error.kind())),
         }
     }
 
-    fn progress(&mut self, stream: &SystemStream) -> Progress<ErrorKind> {
+    fn progress(&mut self, stream: &SystemStream) -> Progress<ConnectMiss> {
         match stream.stream.take_error() {
-            Ok(Some(error)) | Err(error) => return Progress::Failed(error.kind()),
+            Ok(Some(error)) | Err(error) => {
+                return Progress::Failed(ConnectMiss::NotTaken(error.kind()));
+            }
             Ok(None) => {}
         }
         match stream.stream.peer_addr() {
             Ok(_) => Progress::Made,
             Err(error) => match error.kind() {
                 ErrorKind::NotConnected => Progress::Pending,
-                kind => Progress::Failed(kind),
+                kind => Progress::Failed(ConnectMiss::NotTaken(kind)),
             },
         }
     }
@@ -132,24 +160,25 @@ impl<N: Net> SystemNetwork<'_, N> {
     }
 }
 
-/// A connection, and of which kind the first error of a call over it was.
+/// A connection, and how it has ended first.
 #[derive(Drop)]
 pub struct SystemStream {
     stream: TcpStream,
-    failure: Option<ErrorKind>,
+    end: StreamEnd,
 }
 
 impl SystemStream {
-    /// Of which kind the first error was that a call over it answered.
-    pub fn failure(&self) -> Option<ErrorKind> {
-        self.failure
-    }
-
-    /// Notes an error, if it is the first.
-    fn note(&mut self, kind: ErrorKind) {
-        if self.failure.is_none() {
-            self.failure = Some(kind);
+    /// Notes how it has ended, if it hadn't.
+    fn note(&mut self, end: StreamEnd) {
+        if self.end == StreamEnd::Open {
+            self.end = end;
         }
+    }
+}
+
+impl EndingStream for SystemStream {
+    fn stream_end(&self) -> StreamEnd {
+        self.end
     }
 }
 
@@ -164,13 +193,16 @@ impl NonBlocking for SystemStream {
     fn try_read(&mut self, room: &mut [u8]) -> TryRead {
         for _ in 0..u64::MAX {
             match self.stream.read(room) {
-                Ok(0) => return TryRead::Ended,
+                Ok(0) => {
+                    self.note(StreamEnd::Ended);
+                    return TryRead::Ended;
+                }
                 Ok(count) => return TryRead::Came(count),
                 Err(error) => match error.kind() {
                     ErrorKind::WouldBlock => return TryRead::NotReady,
                     ErrorKind::Interrupted => {}
                     kind => {
-                        self.note(kind);
+                        self.note(StreamEnd::Failed(kind));
                         return TryRead::Failed;
                     }
                 },
@@ -182,13 +214,16 @@ impl NonBlocking for SystemStream {
     fn try_write(&mut self, bytes: &[u8]) -> TryWrite {
         for _ in 0..u64::MAX {
             match self.stream.write(bytes) {
-                Ok(0) => return TryWrite::Failed,
+                Ok(0) => {
+                    self.note(StreamEnd::Failed(ErrorKind::WriteZero));
+                    return TryWrite::Failed;
+                }
                 Ok(count) => return TryWrite::Taken(count),
                 Err(error) => match error.kind() {
                     ErrorKind::WouldBlock => return TryWrite::NotReady,
                     ErrorKind::Interrupted => {}
                     kind => {
-                        self.note(kind);
+                        self.note(StreamEnd::Failed(kind));
                         return TryWrite::Failed;
                     }
                 },

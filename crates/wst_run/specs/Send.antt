@@ -28,7 +28,7 @@ use Rattle.wst_testing.specs.Testing.{run_capture}
 use Rattle.ws_handshake.specs.declared.probe_end.HeadRefusal.{HeadRefusal}
 use Rattle.wst_testing.specs.RunPlans.{IsRunPlan, CanNotRun, TellsRefusal, tested_role}
 use Rattle.wst_testing.specs.declared.run_plans.UsualDeadline.TheVariants.{Never}
-use Rattle.wst_testing.specs.Servers.{MeetsAtTarget, MeetsInMemory}
+use Rattle.wst_testing.specs.Servers.{MeetsInMemory, MeetsTargetByCalls}
 use Rattle.wst_testing.specs.declared.run_plans.Refusal.{Refusal}
 use Rattle.wst_testing.specs.declared.run_plans.TestedEnd.{TestedEnd}
 use Rattle.wst_testing.specs.declared.run_plans.TestedEnd.TheVariants.{Clients, Memory, Server}
@@ -146,7 +146,7 @@ abbrev pub SendsOver : TestedEnd → SendPlan → Exit → Device → Device →
 SendsOver (Memory end) plan exit input output faults =
     RunsSendPlan (MeetsInMemory end plan.run.key) plan exit input output faults
 SendsOver (Server target) plan exit input output faults =
-    RunsSendPlan (MeetsAtTarget target plan.run) plan exit input output faults
+    RunsSendPlan (MeetsTargetByCalls target plan.run) plan exit input output faults
 SendsOver (Clients address) plan exit input output faults =
     SendsToClientAt address.now plan exit input output faults
 

@@ -28,6 +28,7 @@ use wst_commands::{
     Exit, Fault, end_run, run_cases, run_convert, run_head, run_judge, run_moves, run_report,
     run_session, run_show, tell_fault,
 };
+use wst_network::Connector;
 use wst_sockets::{Network, plan_serve, run_serve};
 use wst_testing::{known_given, tell_known_stop, tell_refusal};
 use wst_words::{
@@ -40,10 +41,11 @@ use wst_words::{
 /// `faults`, and then nothing is read or written. Want of memory is told there as `no memory`. That a run still waits
 /// is told beside it, by the network.
 #[tactic(auto, using(crate::proofs::RunLemmas::status_up_to_3))]
-pub fn run<N: Network, R: Read, W: Write, F: Write>(
+pub fn run<N: Network, C: Connector, R: Read, W: Write, F: Write>(
     alloc: Global,
     words: &[String],
     net: &N,
+    connector: &C,
     reader: &mut Watched<R>,
     writer: &mut Watched<W>,
     faults: &mut Watched<F>,
@@ -57,16 +59,17 @@ pub fn run<N: Network, R: Read, W: Write, F: Write>(
         (watched F.contents faults.old faults.new) }
 {
     match read_words(alloc, words) {
-        Ok(task) => run_task(alloc, task, net, reader, writer, faults),
+        Ok(task) => run_task(alloc, task, net, connector, reader, writer, faults),
         Err(fault) => answer_words(alloc, &fault, writer, faults),
     }
 }
 
 /// Does what was asked for, and tells what is to be told.
-fn run_task<N: Network, R: Read, W: Write, F: Write>(
+fn run_task<N: Network, C: Connector, R: Read, W: Write, F: Write>(
     alloc: Global,
     task: Task<'_>,
     net: &N,
+    connector: &C,
     reader: &mut Watched<R>,
     writer: &mut Watched<W>,
     faults: &mut Watched<F>,
@@ -87,9 +90,9 @@ fn run_task<N: Network, R: Read, W: Write, F: Write>(
         Task::Judge(options) => end_run(alloc, run_judge(alloc, options, reader, writer), faults),
         Task::Convert => end_run(alloc, run_convert(alloc, reader, writer), faults),
         Task::Cases(options) => run_cases(alloc, options, writer, faults),
-        Task::Test(options) => run_test(alloc, &options, net, reader, writer, faults),
-        Task::Send(options) => run_send(alloc, &options, net, reader, writer, faults),
-        Task::Sweep(options) => run_sweep(alloc, &options, net, writer, faults),
+        Task::Test(options) => run_test(alloc, &options, net, connector, reader, writer, faults),
+        Task::Send(options) => run_send(alloc, &options, net, connector, reader, writer, faults),
+        Task::Sweep(options) => run_sweep(alloc, &options, net, connector, writer, faults),
         Task::Report(options) => end_run(alloc, run_report(alloc, options, reader, writer), faults),
         Task::Serve(options) => serve_as_asked(alloc, &options, net, writer, faults),
         Task::Tap(options) => run_tap(alloc, &options, net, writer, faults),
@@ -118,10 +121,11 @@ fn serve_as_asked<N: Network, W: Write, F: Write>(
 /// Runs the cases that the words ask for over the server that they name, or tells on the fault output why nothing is
 /// run.
 #[inline(never)]
-fn run_test<N: Network, R: Read, W: Write, F: Write>(
+fn run_test<N: Network, C: Connector, R: Read, W: Write, F: Write>(
     alloc: Global,
     options: &TestOptions<'_>,
     net: &N,
+    connector: &C,
     reader: &mut Watched<R>,
     writer: &mut Watched<W>,
     faults: &mut Watched<F>,
@@ -132,17 +136,20 @@ fn run_test<N: Network, R: Read, W: Write, F: Write>(
         (watched W.contents writer.old writer.new) (watched F.contents faults.old faults.new) }
 {
     match plan_test(alloc, options) {
-        Ok(plan) => run_planned(alloc, options, &plan, net, reader, writer, faults),
+        Ok(plan) => run_planned(
+            alloc, options, &plan, net, connector, reader, writer, faults,
+        ),
         Err(refusal) => tell_refusal(alloc, refusal, faults),
     }
 }
 
 /// Runs the cases of a plan beside the earlier run, where one is to be known, or tells why that isn't known.
-fn run_planned<N: Network, R: Read, W: Write, F: Write>(
+fn run_planned<N: Network, C: Connector, R: Read, W: Write, F: Write>(
     alloc: Global,
     options: &TestOptions<'_>,
     plan: &TestPlan<'_>,
     net: &N,
+    connector: &C,
     reader: &mut Watched<R>,
     writer: &mut Watched<W>,
     faults: &mut Watched<F>,
@@ -156,7 +163,7 @@ fn run_planned<N: Network, R: Read, W: Write, F: Write>(
     match known_given(alloc, options.known, reader) {
         Ok(known) => {
             let report = Report::new(options.junit, known);
-            run_over_target(alloc, plan, &report, net, writer, faults)
+            run_over_target(alloc, plan, &report, net, connector, writer, faults)
         }
         Err(why) => tell_known_stop(alloc, why, faults),
     }
@@ -164,10 +171,11 @@ fn run_planned<N: Network, R: Read, W: Write, F: Write>(
 
 /// Runs the script that comes in over the server that the words name, or tells on the fault output why it is not run.
 #[inline(never)]
-fn run_send<N: Network, R: Read, W: Write, F: Write>(
+fn run_send<N: Network, C: Connector, R: Read, W: Write, F: Write>(
     alloc: Global,
     options: &SendOptions<'_>,
     net: &N,
+    connector: &C,
     reader: &mut Watched<R>,
     writer: &mut Watched<W>,
     faults: &mut Watched<F>,
@@ -178,7 +186,7 @@ fn run_send<N: Network, R: Read, W: Write, F: Write>(
         (watched W.contents writer.old writer.new) (watched F.contents faults.old faults.new) }
 {
     match plan_send(alloc, options) {
-        Ok(plan) => send_to_target(alloc, &plan, net, reader, writer, faults),
+        Ok(plan) => send_to_target(alloc, &plan, net, connector, reader, writer, faults),
         Err(refusal) => tell_refusal(alloc, refusal, faults),
     }
 }
@@ -186,10 +194,11 @@ fn run_send<N: Network, R: Read, W: Write, F: Write>(
 /// Runs the short scripts that the words ask for over the server that they name, or tells on the fault output why none
 /// is run.
 #[inline(never)]
-fn run_sweep<N: Network, W: Write, F: Write>(
+fn run_sweep<N: Network, C: Connector, W: Write, F: Write>(
     alloc: Global,
     options: &SweepOptions<'_>,
     net: &N,
+    connector: &C,
     writer: &mut Watched<W>,
     faults: &mut Watched<F>,
 ) -> Exit
@@ -198,7 +207,7 @@ fn run_sweep<N: Network, W: Write, F: Write>(
         (watched F.contents faults.old faults.new) }
 {
     match plan_sweep(alloc, options) {
-        Ok(plan) => sweep_target(alloc, &plan, net, writer, faults),
+        Ok(plan) => sweep_target(alloc, &plan, net, connector, writer, faults),
         Err(refusal) => tell_sweep_refusal(alloc, refusal, faults),
     }
 }

@@ -14,13 +14,14 @@ use crate::clients_at::send_to_clients_at;
 use std::alloc::Global;
 use std::io::{Read, Write};
 use ws_base::{NoMemory, TextFault};
-use ws_connection::HeadRefusal;
+use ws_connection::{HeadRefusal, Silent};
 use ws_frame::{DataStyle, Watched, WriteFault, write_whole};
 use ws_lines::{Showing, TranscriptLines};
 use ws_suite::{Case, read_script};
 use wst_commands::{
     Exit, Fault, ReadStop, StepDamage, code_notes, read_whole, step_damage, tell, tell_fault,
 };
+use wst_network::Connector;
 use wst_sockets::{ConnectFault, Meeting, Network};
 use wst_testing::{
     AddressServer, CaseServer, LineStop, LineWriter, Outcome, Refusal, RunPlan, TestedEnd,
@@ -87,10 +88,11 @@ pub fn plan_send<'a>(alloc: Global, options: &SendOptions<'a>) -> Result<SendPla
 }
 
 /// Runs the script that comes in over the end that a plan names, and tells how that ended.
-pub(crate) fn send_to_target<N: Network, R: Read, W: Write, F: Write>(
+pub(crate) fn send_to_target<N: Network, C: Connector, R: Read, W: Write, F: Write>(
     alloc: Global,
     plan: &SendPlan<'_>,
     net: &N,
+    connector: &C,
     reader: &mut Watched<R>,
     writer: &mut Watched<W>,
     faults: &mut Watched<F>,
@@ -103,7 +105,7 @@ pub(crate) fn send_to_target<N: Network, R: Read, W: Write, F: Write>(
     match &plan.run.tested {
         TestedEnd::Memory(end) => send_to(alloc, end, plan, reader, writer, faults),
         TestedEnd::Server(target) => {
-            let server = AddressServer::new(net, target, &plan.run);
+            let server = AddressServer::new(net, connector, target, &plan.run);
             send_to(alloc, &server, plan, reader, writer, faults)
         }
         TestedEnd::Clients(address) => {
@@ -123,7 +125,7 @@ pub fn send_to<S: CaseServer, R: Read, W: Write, F: Write>(
 ) -> Exit
     requires reader_works { has_failed reader.old ≡ false }
     requires writer_works { has_failed writer.old ≡ false }
-    ensures { RunsSendPlan (S.meets server.now plan.now.run.key) plan.now result
+    ensures { RunsSendPlan (S.meets_told server.now plan.now.run.key) plan.now result
         (watched R.remaining reader.old reader.new) (watched W.contents writer.old writer.new)
         (watched F.contents faults.old faults.new) }
 {
@@ -142,7 +144,7 @@ fn send_input<S: CaseServer, R: Read, W: Write, F: Write>(
 ) -> Result<(), SendStop>
     requires reader_works { has_failed reader.old ≡ false }
     requires writer_works { has_failed writer.old ≡ false }
-    ensures { SendsInput (S.meets server.now plan.now.run.key) plan.now result
+    ensures { SendsInput (S.meets_told server.now plan.now.run.key) plan.now result
         (watched R.remaining reader.old reader.new) (watched W.contents writer.old writer.new)
         (watched F.contents faults.old faults.new) }
 {
@@ -163,7 +165,7 @@ fn send_text<S: CaseServer, W: Write, F: Write>(
     faults: &mut Watched<F>,
 ) -> Result<(), SendStop>
     requires { has_failed writer.old ≡ false }
-    ensures { SendsText (S.meets server.now plan.now.run.key) plan.now text.now result
+    ensures { SendsText (S.meets_told server.now plan.now.run.key) plan.now text.now result
         (watched W.contents writer.old writer.new) (watched F.contents faults.old faults.new) }
 {
     match read_script(alloc, text) {
@@ -201,7 +203,7 @@ fn send_case<S: CaseServer, W: Write>(
 ) -> Result<(), SendStop>
     requires works { has_failed writer.old ≡ false }
     requires runs { CanBeRun case.now }
-    ensures { SendsCase (S.meets server.now plan.now.run.key) plan.now case.now result
+    ensures { SendsCase (S.meets_told server.now plan.now.run.key) plan.now case.now result
         (watched W.contents writer.old writer.new) }
 {
     if plan.capture {
@@ -232,10 +234,10 @@ fn send_captured<S: CaseServer, W: Write>(
     requires works { has_failed writer.old ≡ false }
     requires runs { CanBeRun case.now }
     requires captures { plan.now.capture ≡ true }
-    ensures { SendsCase (S.meets server.now plan.now.run.key) plan.now case.now result
+    ensures { SendsCase (S.meets_told server.now plan.now.run.key) plan.now case.now result
         (watched W.contents writer.old writer.new) }
 {
-    match server.run(alloc, case, plan.run.key)? {
+    match server.run_told(alloc, case, plan.run.key, &mut Silent)? {
         Meeting::Ran(transcript) => {
             let tested = plan.run.tested.role();
             let text = capture_text(alloc, tested, plan.run.key, transcript)?;
@@ -260,7 +262,7 @@ fn send_shown<S: CaseServer, W: Write>(
     requires works { has_failed writer.old ≡ false }
     requires runs { CanBeRun case.now }
     requires shows { plan.now.capture ≡ false }
-    ensures { SendsCase (S.meets server.now plan.now.run.key) plan.now case.now result
+    ensures { SendsCase (S.meets_told server.now plan.now.run.key) plan.now case.now result
         (watched W.contents writer.old writer.new) }
 {
     let showing = Showing {

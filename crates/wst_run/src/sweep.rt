@@ -13,6 +13,7 @@ use std::io::Write;
 use ws_frame::Watched;
 use ws_sweep::MAX_STEPS;
 use wst_commands::{Exit, tell};
+use wst_network::Connector;
 use wst_sockets::Network;
 use wst_testing::{
     AddressServer, CaseServer, Refusal, RunPlan, SweepRules, TestedEnd, UsualDeadline, plan_run,
@@ -84,10 +85,11 @@ fn steps_given(steps: u64) -> Option<usize>
 }
 
 /// Runs the scripts of a plan over the end that it names, and tells how that ended.
-pub(crate) fn sweep_target<N: Network, W: Write, F: Write>(
+pub(crate) fn sweep_target<N: Network, C: Connector, W: Write, F: Write>(
     alloc: Global,
     plan: &SweepPlan<'_>,
     net: &N,
+    connector: &C,
     writer: &mut Watched<W>,
     faults: &mut Watched<F>,
 ) -> Exit
@@ -99,7 +101,7 @@ pub(crate) fn sweep_target<N: Network, W: Write, F: Write>(
     match &plan.run.tested {
         TestedEnd::Memory(end) => sweep_over(alloc, end, plan, writer, faults),
         TestedEnd::Server(target) => {
-            let server = AddressServer::new(net, target, &plan.run);
+            let server = AddressServer::new(net, connector, target, &plan.run);
             sweep_over(alloc, &server, plan, writer, faults)
         }
         TestedEnd::Clients(address) => {

@@ -15,6 +15,7 @@ use ws_frame::Watched;
 use ws_reports::Report;
 use ws_suite::Case;
 use wst_commands::{Exit, Fault, cases_of, deliver, end_run, is_glob};
+use wst_network::Connector;
 use wst_sockets::Network;
 use wst_testing::{
     AddressServer, CaseServer, Refusal, RunPlan, RunRules, TestedEnd, UsualDeadline, capture_case,
@@ -39,11 +40,12 @@ pub struct TestPlan<'a> {
 }
 
 /// Runs the cases of a plan over the end that it names, and tells how that ended.
-pub(crate) fn run_over_target<N: Network, W: Write, F: Write>(
+pub(crate) fn run_over_target<N: Network, C: Connector, W: Write, F: Write>(
     alloc: Global,
     plan: &TestPlan<'_>,
     report: &Report,
     net: &N,
+    connector: &C,
     writer: &mut Watched<W>,
     faults: &mut Watched<F>,
 ) -> Exit
@@ -55,7 +57,7 @@ pub(crate) fn run_over_target<N: Network, W: Write, F: Write>(
     match &plan.run.tested {
         TestedEnd::Memory(end) => run_plan(alloc, end, plan, report, writer, faults),
         TestedEnd::Server(target) => {
-            let server = AddressServer::new(net, target, &plan.run);
+            let server = AddressServer::new(net, connector, target, &plan.run);
             run_plan(alloc, &server, plan, report, writer, faults)
         }
         TestedEnd::Clients(address) => {

@@ -18,7 +18,7 @@ pub fn connect<N: Net>(
 ) -> Result<N::Stream, ConnectFault> {
     let addresses = match address.to_socket_addrs(net) {
         Ok(addresses) => addresses,
-        Err(error) => return Err(lookup_miss(error.kind())),
+        Err(error) => return Err(lookup_fault(error.kind())),
     };
     let mut why = ConnectFault::NoSuchHost;
     for address in addresses {
@@ -43,7 +43,7 @@ fn connect_in_time<N: Net>(
 }
 
 /// Why there is no connection, where the look-up of the address fails so.
-fn lookup_miss(kind: ErrorKind) -> ConnectFault
+pub fn lookup_fault(kind: ErrorKind) -> ConnectFault
     ensures { result ≡ lookup_miss_at kind }
 {
     match kind {

@@ -30,7 +30,7 @@ mod waking;
 
 pub use accepting::NoClient;
 pub use clients::{Clients, ListenerClients, Waits};
-pub use connecting::{connect, connect_fault};
+pub use connecting::{connect, connect_fault, lookup_fault};
 pub use listening::{listen, told_address};
 pub use meeting::{ConnectFault, Meeting};
 pub use pace::{Pace, PaceTimer};
@@ -42,5 +42,5 @@ pub use stream::{Noted, Side, shared};
 pub use tapping_pairs::{PairEnd, Pairs, tap_pairs};
 pub use tapping_sockets::ListenerPairs;
 pub use waiting::{
-    Network, Notice, PatientReader, Running, WaitTeller, law_one_wait_is_told, tell_wait,
+    Network, Notice, PATIENCE, PatientReader, Running, WaitTeller, law_one_wait_is_told, tell_wait,
 };

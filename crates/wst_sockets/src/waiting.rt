@@ -27,7 +27,7 @@ use ws_suite::Case;
 use wst_commands::{TimeLimit, tell};
 
 /// After so many seconds in which nothing came it is told that a wait goes on.
-const PATIENCE: u64 = 10;
+pub const PATIENCE: u64 = 10;
 
 /// A network with a clock, and where it is told that a run waits: it waits inside of a read, to which no other device
 /// is lent.
@@ -150,6 +150,11 @@ impl<'a, N: Network> WaitTeller<'a, N> {
         self.running.number
     }
 
+    /// Whether a wait is still to be told.
+    pub fn is_pending(&self) -> bool {
+        self.name_to_tell().is_some()
+    }
+
     /// The name of the case whose wait is still to be told. `None` where none is.
     fn name_to_tell(&self) -> Option<&'a str> {
         match self.notice.get() {
@@ -159,7 +164,7 @@ impl<'a, N: Network> WaitTeller<'a, N> {
     }
 
     /// Tells that a case waits, where that is still to be told.
-    fn tell(&self) {
+    pub fn tell(&self) {
         let Some(name) = self.name_to_tell() else {
             return;
         };
@@ -223,7 +228,7 @@ impl<S: OpenStream, N: Network> PatientReader<'_, S, N> {
             }
         }
         let patience = Duration::from_secs(PATIENCE);
-        if self.teller.name_to_tell().is_some() && is_within(patience, time) {
+        if self.teller.is_pending() && is_within(patience, time) {
             (time, in_vain) = (Some(patience), InVain::GoesOn);
         }
         if time != self.limit {

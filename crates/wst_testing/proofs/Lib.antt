@@ -4,6 +4,7 @@ pub mod TestLemmas
 pub mod PlanLemmas
 pub mod ReportLemmas
 pub mod TargetLemmas
+pub mod LoopLemmas
 pub mod ObserverLemmas
 pub mod LineLemmas
 pub mod SweepLemmas

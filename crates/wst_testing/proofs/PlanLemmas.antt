@@ -1,7 +1,6 @@
 -- The end that a word names, and seconds that are no limit of time.
 use Rattle.std.proofs.Common.{◌≡◌, ℕ, List, Option, Some, None, inl, refl}
 use Rattle.std.specs.Borrow.{Bor}
-use Rattle.ws_wire.specs.declared.role.Role.{Role}
 use Rattle.ws_wire.specs.declared.role.Role.TheVariants as role
 use Rattle.ws_targets.specs.Advice.{Advises}
 use Rattle.ws_targets.specs.Targets.{TargetValue, IsTargetText}

@@ -1,11 +1,20 @@
 -- Ends that cases are run over: what is known of a meeting with one in memory, and with a server at an address.
-use Rattle.std.specs.Prelude.{◌≡◌, ◌⊎◌, ℕ, Bool, List}
+use Rattle.std.specs.Prelude.{◌≡◌, ◌⊎◌, ℕ, ◌≤◌, ◌*◌, List, ◌++◌, Option, Some, None, Result, Ok, Err}
 use Rattle.ws_wire.specs.declared.role.Role.{Role}
 use Rattle.ws_wire.specs.declared.role.Role.TheVariants.{Server}
 use Rattle.ws_session.specs.Replies.{key_for}
 use Rattle.ws_suite.specs.Evidence.{other_role}
 use Rattle.ws_connection.specs.ConnectionValues.{ConnectionRun}
-use Rattle.ws_connection.specs.Probing.{Probes}
+use Rattle.ws_connection.specs.Probing.{BeginsProbe, Probes, bytes_by_turn}
+use Rattle.ws_handshake.specs.Probes.{ProbeGives, ProbeValue, WasProbed, wanted_of}
+use Rattle.ws_loops.specs.Deeds.{Deed}
+use Rattle.ws_networks.specs.Bounds.{bounds_from}
+use Rattle.ws_networks.specs.Meetings.{HasEnded}
+use Rattle.ws_networks.specs.declared.bounds.Limits.{Limits}
+use Rattle.ws_networks.specs.declared.meeting.Met.{Met}
+use Rattle.ws_networks.specs.declared.meeting.Met.TheVariants.{Ended, NotMade}
+use Rattle.wst_network.specs.declared.fault.NetworkFault.{NetworkFault}
+use Rattle.wst_testing.specs.declared.bounds.Bounds.{Bounds}
 use Rattle.ws_peer.specs.EchoRuns.{IsEchoRun}
 use Rattle.ws_peer.specs.Runs.{IsRunOf}
 use Rattle.ws_peer.specs.Talks.{Entry}
@@ -14,6 +23,7 @@ use Rattle.ws_suite.specs.Verdicts.{IsVerdictOf}
 use Rattle.ws_tester.specs.RunStates.{PlanValue}
 use Rattle.wst_commands.specs.TimeLimits.{is_limited}
 use Rattle.wst_commands.specs.declared.time_limit.TimeLimit.{TimeLimit}
+use Rattle.wst_commands.specs.declared.time_limit.TimeLimit.TheVariants.{Seconds, Unlimited}
 use Rattle.ws_suite.specs.declared.verdict.Verdict.TheVariants.{Pass}
 use Rattle.ws_scripts.specs.declared.expectation.Expectation.{Expectation}
 use Rattle.ws_scripts.specs.declared.script.Case.{Case}
@@ -26,7 +36,8 @@ use Rattle.ws_handshake.specs.declared.probe_end.Probe.TheVariants as probe
 use Rattle.wst_sockets.specs.Meetings.{probe_of}
 use Rattle.wst_sockets.specs.declared.meeting.Meeting.{Meeting}
 use Rattle.wst_sockets.specs.declared.meeting.Meeting.TheVariants.{NoConnection, Ran, Refused}
-use Rattle.ws_connection.specs.UpgradeRequests.{RequestValue}
+use Rattle.ws_connection.specs.UpgradeRequests.{RequestValue, request_value}
+use Rattle.ws_connection.specs.declared.probing.Asked.{Asked}
 use Rattle.ws_targets.specs.Targets.{TargetValue}
 use Rattle.wst_testing.specs.declared.run_plans.RunPlan.{RunPlan}
 
@@ -51,37 +62,94 @@ MeetsInMemory end key case (Ran transcript) = IsMemoryRun end.peer end.role key 
 MeetsInMemory end key case (Refused fault) = ⊥
 MeetsInMemory end key case (NoConnection why) = ⊥
 
--- a server that is met over a network: what it is asked for, what is expected of it, whether waits for it can be in
--- vain, how long a connection to it may last, and how many bytes are read of it at most in one case behind the head of
--- its answer
+-- ---- a server at an address
+
+-- a server that is met over a network: what it is asked for, what is expected of it, for how long it may be silent, how
+-- long a connection to it may last, and how many bytes are read of it at most in one case behind the head of its answer
 pub record AddressValue : Type 0 where
   pub request : RequestValue
   pub expected : Expectation
-  pub timeouts : Bool
+  pub timeout : TimeLimit
   pub deadline : TimeLimit
   pub budget : ℕ
 
 -- how a case is run over it
 abbrev pub plan_at : AddressValue → PlanValue
-plan_at server = record { tested = Server; expected = server.expected; timeouts = server.timeouts }
+plan_at server = record { tested = Server; expected = server.expected; timeouts = is_limited server.timeout }
 
--- There is a connection with this budget over which the server was asked for an upgrade so, and the case run. Where its
--- bytes are not known, this binds the turns of the transcript and its end alone, and not the request.
-abbrev pub IsProbedSo : AddressValue → List ℕ → Case → Probe → Type 0
-IsProbedSo server key case probe = (run : ConnectionRun) × (run.old.input.allowance ≡ server.budget)
-    × Probes (plan_at server) case key server.request probe run
+-- a limit of time in milliseconds
+abbrev pub milliseconds_of : TimeLimit → Option ℕ
+milliseconds_of Unlimited = None
+milliseconds_of (Seconds seconds) = Some (seconds * 1000)
 
--- there is no connection to the server, or one that was probed so; why there is none is not said
+-- for so long it may be silent, and so long a connection to it lasts
+abbrev pub limits_within : TimeLimit → TimeLimit → Limits
+limits_within timeout deadline = record { limit = milliseconds_of timeout; deadline = milliseconds_of deadline }
+
+abbrev pub limits_of_server : AddressValue → Limits
+limits_of_server server = limits_within server.timeout server.deadline
+
+-- A stream that stands for all that it did: from the first state to the second one it did just these things.
+abbrev pub DidThese : List Deed → List Deed → List Deed → Type 0
+DidThese old new deeds = new ≡ old ++ deeds
+
+-- Some stream did these things, and over it the server was asked for an upgrade so, and the case run, by the loop: what
+-- its machine was told is what the stream did, in its order, and what the clock says, and the probe is what comes of
+-- that. Bytes are written as far as they are taken, and meanwhile what comes is read. The limits of time begin when the
+-- connection was made, and the deadline when it was begun.
+pub record IsProbedSo (server : AddressValue) (key : List ℕ) (case : Case) (probe : Probe) : Type 0 where
+  pub start : ProbeValue
+  pub begins : BeginsProbe (plan_at server) (bytes_by_turn case (Some key)) server.request server.budget start
+  pub begun : ℕ
+  pub made : ℕ
+  pub in_order : begun ≤ made
+  pub to : ℕ
+  pub did : List Deed
+  pub ended : HasEnded WasProbed (λ (now : ProbeValue). wanted_of now) ProbeGives DidThese
+      (bounds_from (limits_of_server server) begun) made to start probe did
+
+-- there is no connection to the server, or one over which it was probed so; why there is none is not said
 abbrev pub MeetsAtAddress : AddressValue → List ℕ → Case → Meeting → Type 0
 MeetsAtAddress server key case meeting =
     (probe_of meeting ≡ probe.NoConnection) ⊎ IsProbedSo server key case (probe_of meeting)
+
+-- what came of a case, where this came of its machine: what that gives, or no connection
+abbrev pub IsMeetingBy : {S W : Type 0} → Result (Met Probe S W) NetworkFault → Meeting → Type 0
+IsMeetingBy (Ok (Ended probe stream)) meeting = probe_of meeting ≡ probe
+IsMeetingBy (Ok (NotMade why)) meeting = probe_of meeting ≡ probe.NoConnection
+IsMeetingBy (Err fault) meeting = probe_of meeting ≡ probe.NoConnection
+
+-- what is asked so, within these bounds
+abbrev pub asked_within : Asked → Bounds → AddressValue
+asked_within asked bounds = record {
+  request = request_value asked.request;
+  expected = asked.expected;
+  timeout = bounds.timeout;
+  deadline = bounds.deadline;
+  budget = bounds.budget;
+}
+
+-- ---- a server at an address whose run is told as it goes on
+
+-- There is a connection with this budget over which the server was asked for an upgrade so, and the case run, call by
+-- call. Where its bytes are not known, this binds the turns of the transcript and its end alone, and not the request.
+abbrev pub IsProbedByCalls : AddressValue → List ℕ → Case → Probe → Type 0
+IsProbedByCalls server key case probe = (run : ConnectionRun) × (run.old.input.allowance ≡ server.budget)
+    × Probes (plan_at server) case key server.request probe run
+
+-- there is no connection to the server, or one that was probed so; why there is none is not said
+abbrev pub MeetsByCalls : AddressValue → List ℕ → Case → Meeting → Type 0
+MeetsByCalls server key case meeting =
+    (probe_of meeting ≡ probe.NoConnection) ⊎ IsProbedByCalls server key case (probe_of meeting)
+
+-- ---- as a plan has it
 
 -- what a plan asks of the server at a target
 abbrev pub asked_by : RunPlan → TargetValue → AddressValue
 asked_by plan target = record {
   request = record { host = target.host; path = target.path; offers = plan.protocols; headers = plan.headers };
   expected = plan.expected;
-  timeouts = is_limited plan.timeout;
+  timeout = plan.timeout;
   deadline = plan.deadline;
   budget = plan.budget;
 }
@@ -89,3 +157,6 @@ asked_by plan target = record {
 -- what may come of a case that is run by this plan over the server at a target
 abbrev pub MeetsAtTarget : TargetValue → RunPlan → Case → Meeting → Type 0
 MeetsAtTarget target plan case meeting = MeetsAtAddress (asked_by plan target) plan.key case meeting
+
+abbrev pub MeetsTargetByCalls : TargetValue → RunPlan → Case → Meeting → Type 0
+MeetsTargetByCalls target plan case meeting = MeetsByCalls (asked_by plan target) plan.key case meeting

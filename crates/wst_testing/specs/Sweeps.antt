@@ -3,7 +3,6 @@ use Rattle.std.specs.Prelude.{◌≡◌, ◌⊎◌, ⊤, ℕ, ◌+◌, Bool, tru
 use Rattle.std.specs.Prelude.{Option, Some, None, Result, Ok, Err, MatchResult, codes, flat_map}
 use Rattle.std.specs.Fmt.{decimal}
 use Rattle.std.specs.List.{concat}
-use Rattle.ws_wire.specs.declared.role.Role.{Role}
 use Rattle.ws_session.specs.Replies.{key_for}
 use Rattle.ws_suite.specs.Evidence.{other_role}
 use Rattle.ws_frame.specs.Devices.{Device, HasBegun, HasWritten, IsUntouched}

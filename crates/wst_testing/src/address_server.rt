@@ -5,42 +5,36 @@ ghost use Rattle.ws_scripts.specs.Scripts.{CanBeRun};
 ghost use Rattle.ws_connection.specs.Observing.{HearsProbe, IsHearing};
 ghost use Rattle.wst_sockets.specs.Meetings.{probe_of};
 ghost use Rattle.ws_connection.specs.UpgradeRequests.{CanBeAsked, request_value};
-ghost use Rattle.wst_testing.specs.Servers.{IsProbedSo, MeetsAtAddress, asked_by};
+ghost use Rattle.wst_commands.specs.TimeLimits.{is_limited};
+ghost use Rattle.wst_testing.specs.Servers.{IsProbedByCalls, MeetsAtAddress, MeetsByCalls, asked_by, asked_within};
 
+use crate::bounds::Bounds;
 use crate::case_server::CaseServer;
+use crate::looping::{run_looped, without_network};
 use crate::run_plans::RunPlan;
+use crate::telling_poller::TellingPoller;
 use std::alloc::Global;
 use std::cell::{Cell, RefCell};
 use std::io::{ErrorKind, Read, Write};
 use std::marker::Model;
-use std::net::{Net, OpenStream};
+use std::net::OpenStream;
 use std::slice;
 use ws_base::NoMemory;
-use ws_connection::{Asked, Connection, Observer, Probe, Silent, UpgradeRequest, probe};
+use ws_connection::{Asked, Connection, Observer, Probe, UpgradeRequest, probe};
 use ws_suite::{Case, Expectation};
 use ws_targets::Target;
-use wst_commands::TimeLimit;
+use wst_network::Connector;
 use wst_sockets::{
     ConnectFault, Meeting, Network, Noted, Notice, Pace, PatientReader, PatientWriter, Running,
     WaitTeller, connect, connect_fault, shared,
 };
 
-/// How much is read of a server at an address in one case, how long it is waited for, and how long that may last.
-#[derive(Clone, Copy)]
-pub struct Bounds {
-    /// At most so many bytes are read behind the head of its answer.
-    pub budget: u64,
-    /// A connection, and the server, is waited for so long.
-    pub timeout: TimeLimit,
-    /// The connection lasts so long.
-    pub deadline: TimeLimit,
-}
-
-/// A server that is met over a network, at an address. Contracts see what it is asked for, what is expected of it,
-/// whether waits for it can be in vain, how long a connection to it may last, and the budget.
+/// A server that is met over a network, at an address. Contracts see what it is asked for, what is expected of it, how
+/// long it is waited for and a connection to it may last, and the budget.
 #[derive(Drop)]
-pub struct AddressServer<'a, N> {
+pub struct AddressServer<'a, N, C> {
     net: &'a N,
+    connector: &'a C,
     address: &'a str,
     request: UpgradeRequest<'a>,
     expected: Expectation,
@@ -48,9 +42,8 @@ pub struct AddressServer<'a, N> {
     notice: Cell<Notice>,
 }
 
-impl<'a, N> Model for AddressServer<'a, N> {
+impl<'a, N, C> Model for AddressServer<'a, N, C> {
     ghost use Rattle.ws_connection.specs.UpgradeRequests.{CanBeAsked, request_value};
-    ghost use Rattle.wst_commands.specs.TimeLimits.{is_limited};
     ghost use Rattle.wst_testing.specs.Servers.{AddressValue};
 
     ghost Value = { AddressValue };
@@ -58,7 +51,7 @@ impl<'a, N> Model for AddressServer<'a, N> {
     ghost view = { λ server. record {
       request = request_value server.request;
       expected = server.expected;
-      timeouts = is_limited server.bounds.timeout;
+      timeout = server.bounds.timeout;
       deadline = server.bounds.deadline;
       budget = server.bounds.budget;
     } };
@@ -66,13 +59,19 @@ impl<'a, N> Model for AddressServer<'a, N> {
     ghost invariant = { λ server. CanBeAsked (request_value server.request) };
 }
 
-impl<'a, N> AddressServer<'a, N> {
-    /// The server at a target, as a plan asks for it.
-    pub fn new(net: &'a N, target: &'a Target, plan: &'a RunPlan<'_>) -> AddressServer<'a, N>
+impl<'a, N, C> AddressServer<'a, N, C> {
+    /// The server at a target, as a plan asks for it. Where nobody is told of a run, the connector connects.
+    pub fn new(
+        net: &'a N,
+        connector: &'a C,
+        target: &'a Target,
+        plan: &'a RunPlan<'_>,
+    ) -> AddressServer<'a, N, C>
         ensures { result ≡ asked_by plan.now target.now }
     {
         AddressServer {
             net,
+            connector,
             address: target.address(),
             request: UpgradeRequest {
                 host: target.host().as_bytes(),
@@ -91,11 +90,39 @@ impl<'a, N> AddressServer<'a, N> {
     }
 }
 
-impl<N: Network> CaseServer for AddressServer<'_, N> {
+impl<N: Network, C: Connector> CaseServer for AddressServer<'_, N, C> {
     ghost meets = { λ server key case meeting. MeetsAtAddress server key case meeting };
 
+    ghost meets_told = { λ server key case meeting. MeetsByCalls server key case meeting };
+
     fn run(&self, alloc: Global, case: &Case, key: [u8; 4]) -> Result<Meeting, NoMemory> {
-        self.run_told(alloc, case, key, &mut Silent)
+        let number = Cell::new(Some(1));
+        let running = Running {
+            cases: slice::from_ref(case),
+            number: &number,
+        };
+        let asked = Asked {
+            request: self.request,
+            key,
+            expected: self.expected,
+            has_timeouts: self.bounds.timeout.is_limited(),
+        };
+        match self.connector.network(alloc) {
+            Ok((mut network, poller)) => {
+                let teller = WaitTeller::of(alloc, self.net, &self.notice, running);
+                let mut poller = TellingPoller::of(poller, teller);
+                run_looped(
+                    alloc,
+                    case,
+                    &asked,
+                    &mut network,
+                    &mut poller,
+                    self.address,
+                    self.bounds,
+                )
+            }
+            Err(error) => without_network(error.kind()),
+        }
     }
 
     fn run_told<O: Observer>(
@@ -155,15 +182,9 @@ fn meet_over<S: Read + Write + OpenStream, N: Network, O: Observer>(
     requires runs { CanBeRun case.now }
     requires request { CanBeAsked (request_value asked.now.request) }
     requires hearing { IsHearing O.heard observer.old }
-    ensures probed { IfOk result (λ meeting. IsProbedSo
-        (record {
-          request = request_value asked.now.request;
-          expected = asked.now.expected;
-          timeouts = asked.now.has_timeouts;
-          deadline = bounds.deadline;
-          budget = bounds.budget;
-        })
-        asked.now.key case.now (probe_of meeting)) }
+    requires timeouts { asked.now.has_timeouts ≡ is_limited bounds.timeout }
+    ensures probed { IfOk result (λ meeting.
+        IsProbedByCalls (asked_within asked.now bounds) asked.now.key case.now (probe_of meeting)) }
     ensures told { IfOk result (λ meeting.
         HearsProbe O.heard O.heard_all observer.old observer.new (probe_of meeting)) }
     ensures borrow { O.borrow observer.new ≡ O.borrow observer.old }

@@ -24,6 +24,9 @@ pub trait CaseServer {
     /// With this masking key, this may come of this case over a new end.
     ghost meets: { Self → List ℕ → Case → Meeting → Type 0 };
 
+    /// And this where an observer is told of the run.
+    ghost meets_told: { Self → List ℕ → Case → Meeting → Type 0 };
+
     /// Runs a case over a new end. The client, be it the tester or that end, masks its frames with `key`.
     fn run(&self, alloc: Global, case: &Case, key: [u8; 4]) -> Result<Meeting, NoMemory>
         requires { CanBeRun case.now }
@@ -39,7 +42,7 @@ pub trait CaseServer {
     ) -> Result<Meeting, O::Fault>
         requires runs { CanBeRun case.now }
         requires hearing { IsHearing O.heard observer.old }
-        ensures meets { IfOk result (λ meeting. meets self.now key case.now meeting) }
+        ensures meets { IfOk result (λ meeting. meets_told self.now key case.now meeting) }
         ensures told { IfOk result (λ meeting.
             HearsProbe O.heard O.heard_all observer.old observer.new (probe_of meeting)) }
         ensures borrow { O.borrow observer.new ≡ O.borrow observer.old };
@@ -63,6 +66,8 @@ pub struct MemoryEnd {
 
 impl CaseServer for MemoryEnd {
     ghost meets = { MeetsInMemory };
+
+    ghost meets_told = { MeetsInMemory };
 
     fn run(&self, alloc: Global, case: &Case, key: [u8; 4]) -> Result<Meeting, NoMemory> {
         let transcript = transcript_of(alloc, *self, case, key)?;

@@ -9,15 +9,18 @@
 #![tactic(auto)]
 
 mod address_server;
+mod bounds;
 mod case_server;
 mod known_input;
 pub mod laws;
 mod line_writer;
+mod looping;
 mod outcome;
 mod reporting;
 mod run_plans;
 mod score;
 mod sweeping;
+mod telling_poller;
 mod testing;
 
 pub use address_server::AddressServer;

@@ -11,6 +11,6 @@ returns-in-Ok g c =
     inl (
       c.in-Ok.text.items,
       c.in-Ok.ensures,
-      subst (λ (l : List ℕ). SendsText (g.S.CaseServer.meets c.args.server.now c.args.plan.now.run.key) c.args.plan.now l c.send_text.result output faults)
+      subst (λ (l : List ℕ). SendsText (g.S.CaseServer.meets_told c.args.server.now c.args.plan.now.run.key) c.args.plan.now l c.send_text.result output faults)
           c.as_slice.ensures.value c.send_text.ensures,
     )

@@ -1,0 +1,306 @@
+//! The network in memory of a book, as a loop has it: its calls don't wait. A byte of a connection is there only once
+//! it was waited for, so that what answers a turn never comes before that turn is sent.
+
+use crate::memory_net::{Book, MemoryNet, MemoryStream, PORT, keep_most};
+use std::alloc::Global;
+use std::cell::Cell;
+use std::io;
+use std::io::{ErrorKind, Read, Write};
+use std::net::{Net, OpenStream, Shutdown, SocketAddr, ToSocketAddrs};
+use std::time::Duration;
+use ws_loops::{NonBlocking, Poller, Readiness, TryRead, TryWrite, WaitFailed};
+use ws_networks::{Network, Progress};
+use wst_network::{ConnectMiss, Connector, EndingStream, NetworkFault, StreamEnd};
+
+/// How often a poller waits at most.
+const WAITS: u64 = 1_000_000_000;
+
+/// Whether a wait is in vain.
+#[derive(Clone, Copy, PartialEq, Eq)]
+enum Silence {
+    /// It is not.
+    Never,
+    /// The next one that has an end is.
+    Next,
+    /// One was, and so is the look behind it.
+    Last,
+}
+
+/// How the connection of a book stands.
+#[derive(Drop)]
+pub struct Stage {
+    asked: Cell<u32>,
+    is_there: Cell<bool>,
+    silence: Cell<Silence>,
+}
+
+impl Stage {
+    /// No connection was begun.
+    pub fn new() -> Stage {
+        Stage {
+            asked: Cell::new(0),
+            is_there: Cell::new(false),
+            silence: Cell::new(Silence::Never),
+        }
+    }
+
+    /// A connection is begun.
+    fn begin(&self) {
+        self.asked.set(0);
+        self.is_there.set(false);
+        self.silence.set(Silence::Never);
+    }
+
+    /// Whether a read finds something. It doesn't find it twice.
+    fn takes(&self) -> bool {
+        if self.silence.get() == Silence::Last {
+            self.silence.set(Silence::Never);
+            return false;
+        }
+        self.is_there.replace(false)
+    }
+
+    /// Whether a wait that has an end is in vain.
+    fn is_in_vain(&self) -> bool {
+        if self.silence.get() != Silence::Next {
+            return false;
+        }
+        self.silence.set(Silence::Last);
+        true
+    }
+
+    /// A wait was not in vain.
+    fn come(&self) {
+        self.silence.set(Silence::Never);
+        self.is_there.set(true);
+    }
+}
+
+/// It gives the network of a book.
+#[derive(Clone, Copy)]
+pub struct MemoryConnector<'a> {
+    pub book: &'a Book<'a>,
+}
+
+impl<'a> Connector for MemoryConnector<'a> {
+    type Stream = PolledStream<'a>;
+
+    type Network = PolledNetwork<'a>;
+
+    type Poller = MemoryPoller<'a>;
+
+    fn network(&self, _alloc: Global) -> io::Result<(PolledNetwork<'a>, MemoryPoller<'a>)> {
+        Ok((
+            PolledNetwork { book: self.book },
+            MemoryPoller {
+                book: self.book,
+                clock: 0,
+                time: 0,
+                left: WAITS,
+            },
+        ))
+    }
+}
+
+/// A network that does what its book says.
+#[derive(Drop)]
+pub struct PolledNetwork<'a> {
+    book: &'a Book<'a>,
+}
+
+impl<'a> Network for PolledNetwork<'a> {
+    ghost use Rattle.std.specs.Prelude.{⊤};
+
+    type Address = SocketAddr;
+
+    type Stream = PolledStream<'a>;
+
+    type Miss = ConnectMiss;
+
+    ghost did = { λ old new deeds. ⊤ };
+
+    fn look_up(&mut self, alloc: Global, name: &str) -> Result<Vec<SocketAddr>, ConnectMiss> {
+        let net = MemoryNet { book: self.book };
+        let mut addresses = Vec::new(alloc);
+        match name.to_socket_addrs(&net) {
+            Ok(found) => {
+                for address in found {
+                    if addresses.push(address).is_err() {
+                        return Err(ConnectMiss::NotFound(ErrorKind::OutOfMemory));
+                    }
+                }
+                Ok(addresses)
+            }
+            Err(error) => Err(ConnectMiss::NotFound(error.kind())),
+        }
+    }
+
+    fn begin(&mut self, address: SocketAddr, _at: usize) -> Result<PolledStream<'a>, ConnectMiss> {
+        self.book.stage.begin();
+        if address.port() != PORT {
+            return Err(ConnectMiss::NotTaken(ErrorKind::AddrNotAvailable));
+        }
+        match self.book.next() {
+            Ok(stream) => Ok(PolledStream {
+                book: self.book,
+                stream,
+                held: 0,
+                end: StreamEnd::Open,
+            }),
+            Err(error) => Err(ConnectMiss::NotTaken(error.kind())),
+        }
+    }
+
+    /// It is made when it is asked for the second time.
+    fn progress(&mut self, _stream: &PolledStream<'a>) -> Progress<ConnectMiss> {
+        let asked = self.book.stage.asked.get().saturating_add(1);
+        self.book.stage.asked.set(asked);
+        if asked < 2 {
+            Progress::Pending
+        } else {
+            Progress::Made
+        }
+    }
+}
+
+/// A connection of such a network.
+#[derive(Drop)]
+pub struct PolledStream<'a> {
+    book: &'a Book<'a>,
+    stream: MemoryStream<'a>,
+    held: u64,
+    end: StreamEnd,
+}
+
+impl PolledStream<'_> {
+    /// Notes how it has ended, if it hadn't.
+    fn note(&mut self, end: StreamEnd) {
+        if self.end == StreamEnd::Open {
+            self.end = end;
+        }
+    }
+}
+
+impl EndingStream for PolledStream<'_> {
+    fn stream_end(&self) -> StreamEnd {
+        self.end
+    }
+}
+
+impl NonBlocking for PolledStream<'_> {
+    ghost use Rattle.std.specs.Prelude.{⊤};
+
+    type Fault = NetworkFault;
+
+    ghost did = { λ old new deeds. ⊤ };
+
+    fn try_read(&mut self, room: &mut [u8]) -> TryRead {
+        if !self.book.stage.takes() {
+            return TryRead::NotReady;
+        }
+        match self.stream.read(room) {
+            Ok(0) => {
+                self.note(StreamEnd::Ended);
+                TryRead::Ended
+            }
+            Ok(count) => {
+                self.held = 0;
+                TryRead::Came(count)
+            }
+            Err(error) => match error.kind() {
+                ErrorKind::WouldBlock => {
+                    self.book.stage.silence.set(Silence::Next);
+                    TryRead::NotReady
+                }
+                kind => {
+                    self.note(StreamEnd::Failed(kind));
+                    TryRead::Failed
+                }
+            },
+        }
+    }
+
+    fn try_write(&mut self, bytes: &[u8]) -> TryWrite {
+        if self.held >= self.book.holds {
+            return TryWrite::NotReady;
+        }
+        match self.stream.write(bytes) {
+            Ok(0) => TryWrite::Failed,
+            Ok(count) => {
+                self.held = self.held.saturating_add(1);
+                TryWrite::Taken(count)
+            }
+            Err(error) => {
+                self.note(StreamEnd::Failed(error.kind()));
+                TryWrite::Failed
+            }
+        }
+    }
+
+    fn end_direction(&mut self) {
+        let _ = self.stream.shutdown(Shutdown::Write);
+    }
+
+    fn report(&mut self, _lines: &[u8]) -> Result<(), NetworkFault> {
+        Err(NetworkFault::NoOutput)
+    }
+}
+
+/// Waits for such a connection, by a clock of which only waits that are in vain take time.
+#[derive(Drop)]
+pub struct MemoryPoller<'a> {
+    book: &'a Book<'a>,
+    clock: u64,
+    time: u64,
+    left: u64,
+}
+
+impl MemoryPoller<'_> {
+    /// Keeps for how long was to be waited, for a connection or for what comes.
+    fn keep(&self, until: Option<u64>) {
+        if let Some(until) = until {
+            let time = Duration::from_millis(until.saturating_sub(self.clock));
+            if self.book.stage.asked.get() < 2 {
+                keep_most(&self.book.connect_seconds, Some(time));
+            } else {
+                keep_most(&self.book.read_seconds, Some(time));
+            }
+        }
+    }
+}
+
+impl Poller for MemoryPoller<'_> {
+    ghost time = { λ p. p.time };
+
+    ghost left = { λ p. p.left };
+
+    fn now(&mut self) -> u64 {
+        self.time = self.time.max(self.clock);
+        self.time
+    }
+
+    fn wait(&mut self, ready: &mut [Readiness], until: Option<u64>) -> Result<(), WaitFailed> {
+        if self.left == 0 {
+            return Err(WaitFailed);
+        }
+        self.left -= 1;
+        self.keep(until);
+        if let Some(until) = until {
+            if until <= self.clock {
+                return Ok(());
+            }
+            if self.book.stage.is_in_vain() {
+                self.clock = until;
+                return Ok(());
+            }
+        }
+        self.book.stage.come();
+        for mark in ready.iter_mut() {
+            *mark = Readiness {
+                read: true,
+                write: true,
+            };
+        }
+        Ok(())
+    }
+}
