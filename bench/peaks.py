@@ -1,4 +1,4 @@
-"""How much memory `wst session`, `judge` and `pair` hold over many small frames.
+"""How much memory `wst session`, `judge`, `pair` and `convert` hold over many small frames.
 
 Told is the peak of the resident memory above that over an empty input, in bytes of the input text. A program writes
 first when all is done; as its pipe is full, it stands still there, and its peak can be read.
@@ -12,6 +12,7 @@ from pathlib import Path
 
 SIZE = 4_000_000  # bytes of an input
 MOST = 8  # times its bytes
+MOST_OF = {"convert": 2}  # of these commands
 
 PING, PONG, TEXT = "898000000000", "8a8000000000", "81810000000061"  # of a client; the key is zero
 PING_BACK, PONG_BACK, TEXT_BACK = "8900", "8a00", "810161"  # of a server
@@ -32,6 +33,10 @@ def taken(frames):
 
 def arrived(sends, end):
     return f"{sends}arrive {end} 4294967295 -\n"
+
+
+def capture_1(lines):
+    return f"wst-capture 1\n{lines}end peer\n"
 
 
 # What is run: its words, its empty input, and the inputs with their names.
@@ -77,19 +82,32 @@ RUNS = [
             "texts of the server": arrived(rounds_of("begin server text fin 61 -\n"), "client"),
         },
     ),
+    (
+        ["convert"],
+        capture(),
+        {
+            "turns of one byte": capture_1(rounds_of("> 61\n< 61\n")),
+            "one turn, byte by byte": capture_1(rounds_of("> 61\n")),
+            "one line": capture_1(f"> {rounds_of('61')}\n"),
+            "turns of one byte, format 2": capture(rounds_of("turn\n> 61\n").rstrip()),
+            "empty turns": capture(rounds_of("turn\n").rstrip()),
+            "a turn of one line": capture("turn", f"> {rounds_of('61')}"),
+        },
+    ),
 ]
 
 
 def tell_peaks(program):
-    """Prints a line for each input, and gives the greatest multiple."""
-    greatest = 0.0
+    """Prints a line for each input, and gives how many inputs take more than they may."""
+    wrong = 0
     for words, empty, inputs in RUNS:
         least = peak([program, *words], empty)
+        most = MOST_OF.get(words[0], MOST)
         for name, text in inputs.items():
             times = (peak([program, *words], text) - least) / len(text)
-            greatest = max(greatest, times)
-            print(f"{times:>6.2f}  {' '.join(words)}: {name}", flush=True)
-    return greatest
+            wrong += times > most
+            print(f"{times:>6.2f} of {most}  {' '.join(words)}: {name}", flush=True)
+    return wrong
 
 
 def peak(words, text):
