@@ -1,4 +1,6 @@
 -- The lemmas behind scripts and captures: a text is read in one way, writing gives one, and a script can be run.
+mod PieceLemmas
+pub mod WalkLemmas
 mod TurnLemmas
 mod CutLemmas
 mod CaseNaming

@@ -5,6 +5,7 @@ pub mod Captures2
 pub mod ScriptLines
 pub mod ScriptTexts
 pub mod CaseNames
+pub mod Pieces
 pub mod InnerCapturing
 pub mod InnerScripting
 pub mod InnerCases

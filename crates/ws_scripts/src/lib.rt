@@ -8,23 +8,31 @@
 //! its lines.
 #![tactic(auto)]
 
+mod any_transcript;
 mod capture;
 mod cases;
 mod cut_turn;
 mod cutting;
 mod expectation;
+mod kept_turns;
 pub mod laws;
+mod pieces;
 mod script;
 mod script_text;
 mod transcript;
+mod turn_walk;
 
+pub use any_transcript::{AsTranscript, KeptTranscript, TranscriptRef};
 pub use capture::{
-    Capture, CaptureFault, read_capture, read_capture2, write_capture, write_capture2,
+    Capture, CaptureFault, KeptCapture, read_capture, read_capture2, read_kept_capture,
+    write_capture, write_capture2,
 };
 pub use cases::{all_ids, case, ids};
 pub use cut_turn::CutTurn;
 pub use cutting::{append_step, bytes_with, turns, turns_with};
 pub use expectation::Expectation;
+pub use kept_turns::KeptTurns;
 pub use script::{Case, Chop, Step};
 pub use script_text::{read_script, write_script};
 pub use transcript::{Ended, Transcript, Turn};
+pub use turn_walk::{TurnRef, TurnWalk};

@@ -9,11 +9,13 @@ ghost use Rattle.ws_scripts.specs.InnerCapturing.{Adds, TellCapture, all_turns, 
 ghost use Rattle.ws_scripts.specs.InnerCapturing.{data_in, end_in, ended_then};
 ghost use Rattle.ws_scripts.specs.InnerCapturing.{first_with, no_turns, open_turns, part_with, second_with, turns_with};
 
+use crate::any_transcript::KeptTranscript;
 use crate::capture::line::{CaptureLine, Format, Line, read_line};
-use crate::capture::{Capture, CaptureFault, format1, format2};
+use crate::capture::{Capture, CaptureFault, KeptCapture, format1, format2};
+use crate::kept_turns::KeptTurns;
 use crate::transcript::{Ended, Transcript, Turn};
 use std::alloc::Global;
-use ws_base::{LineFault, Payload, Sequence, TextFault};
+use ws_base::{LineFault, Payload, TextFault};
 use ws_formats::{PartialText, read_by_lines};
 
 /// The transcript of a capture in format 1.
@@ -21,14 +23,38 @@ pub fn read_capture(alloc: Global, text: &[u8]) -> Result<Transcript, CaptureFau
     ensures { MatchResult result (λ transcript. IsCaptureOf transcript text.now)
         (λ fault. DamagesCapture IsCaptureOf fault text.now) }
 {
+    let kept = read_format_1(alloc, text)?;
+    match kept.transcript().to_list(alloc) {
+        Ok(transcript) => Ok(transcript),
+        Err(_) => Err(CaptureFault::NoMemory),
+    }
+}
+
+/// The capture that a text is, in format 1, in little room.
+fn read_format_1(alloc: Global, text: &[u8]) -> Result<KeptCapture, CaptureFault>
+    ensures { MatchResult result (λ capture. IsCaptureOf capture.transcript text.now)
+        (λ fault. DamagesCapture IsCaptureOf fault text.now) }
+{
     match read_by_lines(alloc, PartialCapture::Nothing(false), text) {
-        Ok(capture) => Ok(capture.transcript),
+        Ok(capture) => Ok(capture),
         Err(fault) => Err(capture_fault(fault)),
     }
 }
 
 /// The capture that a text is, in format 2 or in format 1, which tells no key.
 pub fn read_capture2(alloc: Global, text: &[u8]) -> Result<Capture, CaptureFault>
+    ensures { MatchResult result (λ capture. IsAnyCaptureOf capture text.now)
+        (λ fault. DamagesCapture IsAnyCaptureOf fault text.now) }
+{
+    let kept = read_kept_capture(alloc, text)?;
+    match kept.to_list(alloc) {
+        Ok(capture) => Ok(capture),
+        Err(_) => Err(CaptureFault::NoMemory),
+    }
+}
+
+/// The capture that a text is, in either format, in little room.
+pub fn read_kept_capture(alloc: Global, text: &[u8]) -> Result<KeptCapture, CaptureFault>
     ensures { MatchResult result (λ capture. IsAnyCaptureOf capture text.now)
         (λ fault. DamagesCapture IsAnyCaptureOf fault text.now) }
 {
@@ -52,7 +78,7 @@ fn capture_fault(fault: TextFault) -> CaptureFault
 #[derive(Drop)]
 pub(crate) struct OpenTurns {
     /// Those before the last.
-    pub done: Sequence<Turn>,
+    pub done: KeptTurns,
     /// The last, where there is any.
     pub last: Option<Turn>,
 }
@@ -67,11 +93,11 @@ pub(crate) enum PartialCapture {
     /// The lines before those of the turns, and these turns.
     Turns(Format, Option<[u8; 4]>, OpenTurns),
     /// All lines.
-    Whole(Capture),
+    Whole(KeptCapture),
 }
 
 impl PartialText for PartialCapture {
-    type Value = Capture;
+    type Value = KeptCapture;
 
     ghost tells = { TellCapture };
 
@@ -82,7 +108,7 @@ impl PartialText for PartialCapture {
         }
     }
 
-    fn value(self) -> Option<Capture> {
+    fn value(self) -> Option<KeptCapture> {
         match self {
             PartialCapture::Whole(capture) => Some(capture),
             _ => None,
@@ -210,8 +236,8 @@ fn whole(
     };
     match turns.all() {
         Ok(turns) => {
-            let transcript = Transcript { turns, ended };
-            Ok(PartialCapture::Whole(Capture { key, transcript }))
+            let transcript = KeptTranscript::new(turns, ended);
+            Ok(PartialCapture::Whole(KeptCapture::new(key, transcript)))
         }
         Err(fault) => Err(fault),
     }
@@ -233,13 +259,13 @@ impl OpenTurns {
         ensures { result ≡ no_turns }
     {
         OpenTurns {
-            done: Sequence::new(alloc),
+            done: KeptTurns::new(alloc),
             last: None,
         }
     }
 
     /// These turns, of which the last begins so.
-    pub(crate) fn new(done: Sequence<Turn>, sent: Payload, got: Payload) -> OpenTurns
+    pub(crate) fn new(done: KeptTurns, sent: Payload, got: Payload) -> OpenTurns
         ensures { result ≡ open_turns done sent got }
     {
         let last = Some(Turn { sent, got });
@@ -247,7 +273,7 @@ impl OpenTurns {
     }
 
     /// All of them.
-    pub(crate) fn all(self) -> Result<Sequence<Turn>, LineFault>
+    pub(crate) fn all(self) -> Result<KeptTurns, LineFault>
         ensures all { IfOk result (λ turns. turns ≡ all_turns self) }
         ensures memory { IfErr result (λ fault. fault ≡ NoMemory) }
     {
@@ -260,13 +286,12 @@ impl OpenTurns {
 }
 
 /// The turns with one more.
-pub(crate) fn with_turn(turns: Sequence<Turn>, turn: Turn) -> Result<Sequence<Turn>, LineFault>
+pub(crate) fn with_turn(turns: KeptTurns, turn: Turn) -> Result<KeptTurns, LineFault>
     ensures longer { IfOk result (λ longer. longer ≡ turns ++ turn ∷ []) }
     ensures memory { IfErr result (λ fault. fault ≡ NoMemory) }
 {
-    let mut turns = turns.into_vec();
-    match turns.push(turn) {
-        Ok(()) => Ok(Sequence::from_vec(turns)),
+    match turns.with(turn.sent.as_slice(), turn.got.as_slice()) {
+        Ok(longer) => Ok(longer),
         Err(_) => Err(LineFault::NoMemory),
     }
 }
