@@ -1,10 +1,10 @@
 -- What the session that took the turns says of their doom, and in which of them a close was got.
-use Rattle.std.proofs.Common.{◌≡◌, ◌∙◌, ℕ, zero, suc, ◌+◌, ◌<◌, ◌↔◌, ◌⊎◌, Bool, true, false, List, [], ◌∷◌, ◌++◌}
+use Rattle.std.proofs.Common.{◌≡◌, ◌∙◌, ℕ, zero, suc, ◌+◌, ◌<◌, ◌≤◌, ◌↔◌, ◌⊎◌, Bool, true, false, List, [], ◌∷◌, ◌++◌}
 use Rattle.std.proofs.Common.{length, get_or, ◌==◌, take, flat_map, Option, Some, None, ap, sym, refl, subst, arith}
 use Rattle.std.proofs.Common.{inl, inr}
 use Rattle.std.proofs.lemmas.Bool.{cases_lt, eqb-true}
 use Rattle.std.proofs.lemmas.List.{get_or_past, length-append, length-map, take_all}
-use Rattle.std.specs.Prelude.{IsTrue, slice_index_or}
+use Rattle.std.specs.Prelude.{IsTrue, MatchOption, slice_index_or}
 use Rattle.std.specs.List.{concat, last_or}
 use Rattle.ws_wire.specs.declared.role.Role.{Role}
 use Rattle.ws_wire.specs.Frame.{Frame, KeyedFrame}
@@ -21,7 +21,8 @@ use Rattle.ws_suite.specs.declared.evidence.Direction.{Direction}
 use Rattle.ws_suite.specs.Evidence.{AreEventsByTurn, IsDirectionOf, by_turn, ending_in, sent_turns}
 use Rattle.ws_suite.specs.Doom.{IsDoomedAfter, IsLastWithBytes}
 use Rattle.ws_suite.specs.InnerCollecting.{EventLaws, at_turn}
-use Rattle.ws_suite.specs.InnerDoom.{AreWithoutBytes, HasEndedInTurn, HasTakenBytes, IsKnownAtClose}
+use Rattle.ws_suite.specs.InnerDoom.{AreWithoutBytes, HasEndedInTurn, HasTakenBytes, IsKnownAtClose, IsLastUntil}
+use Rattle.ws_suite.specs.InnerDoom.{last_sent}
 use Rattle.ws_suite.proofs.EvidenceLemmas.{by_turn_more, events_before, last_apart, last_joined}
 use Rattle.ws_suite.proofs.OneVerdict.{one_by_turn}
 
@@ -82,32 +83,49 @@ sent_at [] i turn lt e = absurd (omega arith)
 sent_at (t ∷ turns) zero turn lt e = ap (λ (u : Turn). u.sent) (sym e)
 sent_at (t ∷ turns) (suc i) turn lt e = sent_at turns i turn (omega arith) e
 
--- one turn more without bytes
-pub none_before : (turns : List Turn) (i : ℕ) (turn : Turn) → i < length turns → turn ≡ get_or turns i turn
-    → turn.sent ≡ [] → AreWithoutBytes (i + 1) (sent_turns turns) → AreWithoutBytes i (sent_turns turns)
-none_before turns i turn lt e empty none later le =
-    elim (cases_lt i later) [
-      | inl after ↦ none later (omega (arith, after))
-      | inr here ↦
-          let same : later ≡ i = omega (arith, here, le) in
-          ap (λ (k : ℕ). slice_index_or (sent_turns turns) k []) same ∙ (sent_at turns i turn lt e ∙ empty)
+-- ---- the last turn with bytes
+
+-- the last of the first turns is that of one more, by what was sent in it
+pub last_step : (turns : List (List ℕ)) (n : ℕ) (last : Option ℕ) (here : List ℕ)
+    → slice_index_or turns n [] ≡ here → IsLastUntil n turns last → IsLastUntil (n + 1) turns (last_sent last n here)
+last_step turns n None [] is h = λ turn less.
+    elim (cases_lt turn n) [
+      | inl before ↦ h turn before
+      | inr at ↦
+          let same : turn ≡ n = omega (arith, at, less) in
+          ap (λ (k : ℕ). slice_index_or turns k []) same ∙ is
     ]
+last_step turns n (Some last) [] is h = (
+  h.0,
+  λ later after less.
+      elim (cases_lt later n) [
+        | inl before ↦ h.1 later after before
+        | inr at ↦
+            let same : later ≡ n = omega (arith, at, less) in
+            ap (λ (k : ℕ). slice_index_or turns k []) same ∙ is
+      ],
+)
+last_step turns n last (byte ∷ bytes) is h = (
+  λ empty. absurd (let wrong : byte ∷ bytes ≡ [] = sym is ∙ empty in cc),
+  λ later after less. absurd (omega (arith, after, less)),
+)
 
 -- behind the last turn nothing was sent
-pub none_past : (turns : List Turn) → AreWithoutBytes (length turns) (sent_turns turns)
-none_past turns later le = get_or_past (sent_turns turns) later []
-    (omega (arith, le, length-map turns (λ (turn : Turn). turn.sent)))
-
-pub is_last : (turns : List Turn) (i : ℕ) (turn : Turn) → i < length turns → turn ≡ get_or turns i turn
-    → (turn.sent ≡ [] → ⊥) → AreWithoutBytes (i + 1) (sent_turns turns) → IsLastWithBytes (sent_turns turns) i
-is_last turns i turn lt e some none = record {
-  some = λ empty. some (sym (sent_at turns i turn lt e) ∙ empty);
-  last = λ later after. none later (omega (arith, after));
+pub last_of_all : (turns : List (List ℕ)) (n : ℕ) (last : Option ℕ) → length turns ≤ n → IsLastUntil n turns last
+    → MatchOption last (AreWithoutBytes 0 turns) (IsLastWithBytes turns)
+last_of_all turns n None all h = λ later le.
+    elim (cases_lt later n) [
+      | inl before ↦ h later before
+      | inr past ↦ get_or_past turns later [] (omega (arith, all, past))
+    ]
+last_of_all turns n (Some last) all h = record {
+  some = h.0;
+  last = λ later after.
+      elim (cases_lt later n) [
+        | inl before ↦ h.1 later after before
+        | inr past ↦ get_or_past turns later [] (omega (arith, all, past))
+      ];
 }
-
-pub without_bytes : (l : List ℕ) → true ≡ (length l == 0) → l ≡ []
-without_bytes [] e = refl
-without_bytes (x ∷ l) e = absurd (omega (arith, eqb-true (suc (length l)) 0 (sym e)))
 
 -- ---- the turn of the close
 

@@ -1,5 +1,5 @@
 -- Inside the crate: how it is found out whether what was sent is doomed. A reader may skip this file.
-use Rattle.std.specs.Prelude.{◌≡◌, ℕ, ◌+◌, ◌≤◌, ◌↔◌, Bool, false, ⊤, List, [], length, slice_index_or}
+use Rattle.std.specs.Prelude.{◌≡◌, ◌≢◌, ℕ, ◌+◌, ◌≤◌, ◌<◌, ◌↔◌, Bool, false, ⊤, List, [], ◌∷◌, length, slice_index_or}
 use Rattle.std.specs.Prelude.{Option, Some, None, IsTrue}
 use Rattle.ws_wire.specs.declared.role.Role.{Role}
 use Rattle.ws_wire.specs.Frame.{Frame, KeyedFrame}
@@ -14,6 +14,17 @@ use Rattle.ws_suite.specs.Doom.{IsDoomedAfter}
 -- nothing was sent in this turn or after it
 abbrev pub AreWithoutBytes : ℕ → List (List ℕ) → Type 0
 AreWithoutBytes turn turns = (later : ℕ) → turn ≤ later → slice_index_or turns later [] ≡ []
+
+-- of the first turns, so many, this is the last in which bytes were sent
+abbrev pub IsLastUntil : ℕ → List (List ℕ) → Option ℕ → Type 0
+IsLastUntil count turns None = (turn : ℕ) → turn < count → slice_index_or turns turn [] ≡ []
+IsLastUntil count turns (Some last) = (slice_index_or turns last [] ≢ [])
+    × ((later : ℕ) → last < later → later < count → slice_index_or turns later [] ≡ [])
+
+-- the last turn with bytes, by that before this turn and what was sent in it
+abbrev pub last_sent : Option ℕ → ℕ → List ℕ → Option ℕ
+last_sent last turn [] = last
+last_sent last turn (byte ∷ bytes) = Some turn
 
 -- a session of this role that takes the largest messages has taken these bytes
 pub record HasTakenBytes (role : Role) (bytes : List ℕ) (session : SessionValue) : Type 0 where

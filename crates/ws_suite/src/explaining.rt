@@ -8,7 +8,7 @@ use crate::judging::{marked_with_doom, owed_among, verdict_by_protocol, verdict_
 use crate::verdict::Verdict;
 use std::alloc::Global;
 use ws_base::NoMemory;
-use ws_scripts::{Ended, Expectation, Transcript};
+use ws_scripts::{AsTranscript, Ended, Expectation, TranscriptRef};
 use ws_wire::Role;
 
 /// A verdict, and what it is told on.
@@ -30,10 +30,21 @@ pub struct Explanation {
 
 /// The verdict of `judge_end` on a tested end of this role, and why it is told: what was owed and what came, by the
 /// evidence that the verdict is made of. Each direction is read once.
-pub fn explain(
+pub fn explain<T: AsTranscript>(
     alloc: Global,
     tested: Role,
-    transcript: &Transcript,
+    transcript: &T,
+) -> Result<Explanation, NoMemory>
+    ensures { IfOk result (λ x. IsExplanationOf tested (T.transcript transcript.now) x) }
+{
+    explain_by_echo(alloc, tested, &transcript.as_transcript())
+}
+
+/// The verdict by what an echo sends back, and why it is told.
+fn explain_by_echo(
+    alloc: Global,
+    tested: Role,
+    transcript: &TranscriptRef<'_>,
 ) -> Result<Explanation, NoMemory>
     ensures { IfOk result (λ x. IsExplanationOf tested transcript.now x) }
 {
@@ -65,17 +76,17 @@ pub fn explain(
 
 /// The verdict of `judge_with` on a tested end of this role, and why it is told. Of an end that needn't echo no message
 /// is owed, and a pong only for a ping that it was sent in an earlier turn than what ends the connection.
-pub fn explain_with(
+pub fn explain_with<T: AsTranscript>(
     alloc: Global,
     tested: Role,
     expectation: Expectation,
-    transcript: &Transcript,
+    transcript: &T,
 ) -> Result<Explanation, NoMemory>
-    ensures { IfOk result (λ x. IsExplanationBy expectation tested transcript.now x) }
+    ensures { IfOk result (λ x. IsExplanationBy expectation tested (T.transcript transcript.now) x) }
 {
     match expectation {
-        Expectation::Echo => explain(alloc, tested, transcript),
-        Expectation::Protocol => explain_by_protocol(alloc, tested, transcript),
+        Expectation::Echo => explain_by_echo(alloc, tested, &transcript.as_transcript()),
+        Expectation::Protocol => explain_by_protocol(alloc, tested, &transcript.as_transcript()),
     }
 }
 
@@ -83,7 +94,7 @@ pub fn explain_with(
 fn explain_by_protocol(
     alloc: Global,
     tested: Role,
-    transcript: &Transcript,
+    transcript: &TranscriptRef<'_>,
 ) -> Result<Explanation, NoMemory>
     ensures { IfOk result (λ x. IsProtocolExplanationOf tested transcript.now x) }
 {

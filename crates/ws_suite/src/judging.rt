@@ -32,13 +32,13 @@ pub(crate) use crate::judging::protocol::verdict_by_protocol;
 use crate::verdict::Verdict;
 use std::alloc::Global;
 use ws_base::NoMemory;
-use ws_scripts::{Expectation, Transcript};
+use ws_scripts::{AsTranscript, Expectation, TranscriptRef};
 use ws_wire::Role;
 
 /// Whether a server kept the rules, by all that went over a connection from a client: the verdict of `judge_end` on the
 /// role `Server`.
-pub fn judge(alloc: Global, transcript: &Transcript) -> Result<Verdict, NoMemory>
-    ensures { IfOk result (λ verdict. IsVerdictOf Server transcript.now verdict) }
+pub fn judge<T: AsTranscript>(alloc: Global, transcript: &T) -> Result<Verdict, NoMemory>
+    ensures { IfOk result (λ verdict. IsVerdictOf Server (T.transcript transcript.now) verdict) }
 {
     let verdict = judge_end(alloc, Role::Server, transcript)?;
     Ok(verdict)
@@ -47,7 +47,23 @@ pub fn judge(alloc: Global, transcript: &Transcript) -> Result<Verdict, NoMemory
 /// Whether the tested end, which has this role, kept the rules, by all that went over a connection: the lowest `Fail`
 /// that applies, else the lowest `Loose`, else `Pass`. What is due is what an echo sends back (RFC 6455 sections 5.4 to
 /// 5.5.3).
-pub fn judge_end(alloc: Global, tested: Role, transcript: &Transcript) -> Result<Verdict, NoMemory>
+pub fn judge_end<T: AsTranscript>(
+    alloc: Global,
+    tested: Role,
+    transcript: &T,
+) -> Result<Verdict, NoMemory>
+    ensures { IfOk result (λ verdict. IsVerdictOf tested (T.transcript transcript.now) verdict) }
+{
+    let verdict = judge_by_echo(alloc, tested, &transcript.as_transcript())?;
+    Ok(verdict)
+}
+
+/// The verdict by what an echo sends back.
+fn judge_by_echo(
+    alloc: Global,
+    tested: Role,
+    transcript: &TranscriptRef<'_>,
+) -> Result<Verdict, NoMemory>
     ensures { IfOk result (λ verdict. IsVerdictOf tested transcript.now verdict) }
 {
     let shown = evidence_of(alloc, tested, transcript)?;
@@ -58,17 +74,17 @@ pub fn judge_end(alloc: Global, tested: Role, transcript: &Transcript) -> Result
 
 /// Whether the tested end, which has this role, did what is expected of it: where that is an echo, the verdict of
 /// `judge_end`, and else that by RFC 6455 alone, whatever messages the end sent and whenever it closed.
-pub fn judge_with(
+pub fn judge_with<T: AsTranscript>(
     alloc: Global,
     tested: Role,
     expectation: Expectation,
-    transcript: &Transcript,
+    transcript: &T,
 ) -> Result<Verdict, NoMemory>
-    ensures { IfOk result (λ verdict. IsVerdictBy expectation tested transcript.now verdict) }
+    ensures { IfOk result (λ verdict. IsVerdictBy expectation tested (T.transcript transcript.now) verdict) }
 {
     match expectation {
-        Expectation::Echo => judge_end(alloc, tested, transcript),
-        Expectation::Protocol => judge_by_protocol(alloc, tested, transcript),
+        Expectation::Echo => judge_by_echo(alloc, tested, &transcript.as_transcript()),
+        Expectation::Protocol => judge_by_protocol(alloc, tested, &transcript.as_transcript()),
     }
 }
 
@@ -76,7 +92,7 @@ pub fn judge_with(
 fn judge_by_protocol(
     alloc: Global,
     tested: Role,
-    transcript: &Transcript,
+    transcript: &TranscriptRef<'_>,
 ) -> Result<Verdict, NoMemory>
     ensures { IfOk result (λ verdict. IsProtocolVerdictOf tested transcript.now verdict) }
 {
@@ -91,7 +107,7 @@ fn judge_by_protocol(
 pub(crate) fn marked_with_doom(
     alloc: Global,
     tested: Role,
-    transcript: &Transcript,
+    transcript: &TranscriptRef<'_>,
     shown: Shown,
 ) -> Result<MarkedEvidence, NoMemory>
     requires ending { IsEndingByTurn (other_role tested) (got_turns transcript.now.turns) shown.evidence.got.ending }

@@ -8,11 +8,12 @@ ghost use Rattle.ws_suite.specs.Evidence.{due_for, sent_turns};
 ghost use Rattle.ws_suite.specs.Doom.{AnswersDoom, CountsAs, HasDoomCounted, IsDoomOf, IsLastWithBytes, counts_doom};
 ghost use Rattle.ws_suite.specs.Growing.{AreAll, HasTakenTurns};
 ghost use Rattle.ws_suite.specs.InnerDoom.{AreDoomed, AreDooms, AreWithoutBytes, IsDoomedAtEnd, IsKnownAtClose};
+ghost use Rattle.ws_suite.specs.InnerDoom.{last_sent};
 
 use crate::evidence::collecting::Taken;
 use crate::evidence::keeping::AllReplies;
 use crate::evidence::{Direction, Ending, Evidence, InTurn, ends_with_close, is_close_ending};
-use ws_scripts::{Ended, Transcript, Turn};
+use ws_scripts::{Ended, TranscriptRef};
 use ws_session::laws;
 use ws_wire::Role;
 
@@ -49,7 +50,7 @@ pub(super) fn doom_at_close(ends: bool, known: bool, taken: &Taken<AllReplies>) 
 /// The evidence, with what was doomed counted.
 pub(crate) fn with_doom(
     tested: Role,
-    transcript: &Transcript,
+    transcript: &TranscriptRef<'_>,
     shown: Evidence,
     dooms: Dooms,
 ) -> Evidence
@@ -92,7 +93,7 @@ pub(crate) fn with_doom(
 /// How what was sent ends, as it counts.
 fn counted_ending(
     tested: Role,
-    transcript: &Transcript,
+    transcript: &TranscriptRef<'_>,
     shown: &Evidence,
     at_end: bool,
 ) -> Option<InTurn<Ending>>
@@ -105,10 +106,10 @@ fn counted_ending(
             what: sent.what,
         });
     }
-    if !counts_doom(tested, transcript.ended, &shown.got.ending) {
+    if !counts_doom(tested, transcript.ended(), &shown.got.ending) {
         return None;
     }
-    doom_of(tested, transcript.turns.as_slice(), at_end)
+    doom_of(tested, transcript, at_end)
 }
 
 /// Whether what is doomed counts as a fault.
@@ -125,11 +126,11 @@ fn counts_doom(tested: Role, ended: Ended, got: &Option<InTurn<Ending>>) -> bool
 }
 
 /// Where all that was sent is doomed, that, in the last turn with bytes.
-fn doom_of(tested: Role, turns: &[Turn], at_end: bool) -> Option<InTurn<Ending>>
-    requires { IsTrue at_end ↔ IsDoomedAtEnd tested (sent_turns turns.now) }
-    ensures { IsDoomOf tested (sent_turns turns.now) result }
+fn doom_of(tested: Role, transcript: &TranscriptRef<'_>, at_end: bool) -> Option<InTurn<Ending>>
+    requires { IsTrue at_end ↔ IsDoomedAtEnd tested (sent_turns transcript.now.turns) }
+    ensures { IsDoomOf tested (sent_turns transcript.now.turns) result }
 {
-    let Some(turn) = last_with_bytes(turns) else {
+    let Some(turn) = last_with_bytes(transcript) else {
         return None;
     };
     if !at_end {
@@ -142,24 +143,32 @@ fn doom_of(tested: Role, turns: &[Turn], at_end: bool) -> Option<InTurn<Ending>>
 }
 
 /// The last turn in which bytes were sent, if there is one.
-fn last_with_bytes(turns: &[Turn]) -> Option<usize>
-    ensures { MatchOption result (AreWithoutBytes 0 (sent_turns turns.now)) (IsLastWithBytes (sent_turns turns.now)) }
+fn last_with_bytes(transcript: &TranscriptRef<'_>) -> Option<usize>
+    ensures { MatchOption result (AreWithoutBytes 0 (sent_turns transcript.now.turns))
+        (IsLastWithBytes (sent_turns transcript.now.turns)) }
 {
-    let mut later = turns.len();
-    while later > 0 {
-        let turn = later - 1;
-        if !turns[turn].sent.as_slice().is_empty() {
-            return Some(turn);
-        }
-        later = turn;
+    let mut walk = transcript.turns();
+    let mut last = None;
+    for number in 0..walk.len() {
+        last = last_sent(last, number, walk.take_first().sent);
     }
-    None
+    last
+}
+
+/// The last turn with bytes, by that before this turn and what was sent in it.
+fn last_sent(last: Option<usize>, number: usize, sent: &[u8]) -> Option<usize>
+    ensures { result ≡ last_sent last number sent.now }
+{
+    match sent {
+        [] => last,
+        [_, ..] => Some(number),
+    }
 }
 
 /// Whether the close that was got came before the fault, when what was sent was doomed.
 fn answers_doom(
     tested: Role,
-    transcript: &Transcript,
+    transcript: &TranscriptRef<'_>,
     got: &Option<InTurn<Ending>>,
     due: &Option<InTurn<Ending>>,
     at_close: bool,

@@ -23,7 +23,7 @@ use crate::evidence::{Direction, Ending, Evidence, InTurn, ends_with_close};
 use crate::lemmas::{are_bytes, frame_laws};
 use std::alloc::Global;
 use ws_base::NoMemory;
-use ws_scripts::{Transcript, Turn};
+use ws_scripts::TranscriptRef;
 use ws_session::Reason;
 use ws_wire::{Opcode, Role};
 
@@ -55,7 +55,7 @@ pub(crate) struct MarkedEvidence {
 pub(crate) fn marked(
     alloc: Global,
     tested: Role,
-    transcript: &Transcript,
+    transcript: &TranscriptRef<'_>,
     shown: Evidence,
     streams: Streams,
 ) -> Result<MarkedEvidence, NoMemory>
@@ -66,9 +66,8 @@ pub(crate) fn marked(
     ensures beyond { IfOk result (λ marked. IsBeyondClose (other_role tested) (got_turns transcript.now.turns)
         marked.evidence.got.ending marked.beyond) }
 {
-    let turns = transcript.turns.as_slice();
-    let sent = told_of(alloc, Way::Sent, turns, streams.sent)?;
-    let got = told_of(alloc, Way::Got, turns, streams.got)?;
+    let sent = told_of(alloc, Way::Sent, transcript, streams.sent)?;
+    let got = told_of(alloc, Way::Got, transcript, streams.got)?;
     let marks = Marks {
         sends_data: sent.seen.frame.came(),
         is_late: sent.is_late(),
@@ -78,7 +77,7 @@ pub(crate) fn marked(
     };
     let evidence = with_close(shown, got.undefined_code());
     let beyond = if ends_with_close(&evidence.got.ending) {
-        got_turn(turns, got.seen.after)
+        got_turn(transcript, got.seen.after)
     } else {
         None
     };
@@ -90,12 +89,13 @@ pub(crate) fn marked(
 }
 
 /// The turn in which the byte at this place of all that was got stands, if there is one.
-fn got_turn(turns: &[Turn], place: usize) -> Option<usize>
-    ensures { IsTurnOfPlace (got_turns turns.now) place result }
+fn got_turn(transcript: &TranscriptRef<'_>, place: usize) -> Option<usize>
+    ensures { IsTurnOfPlace (got_turns transcript.now.turns) place result }
 {
+    let mut walk = transcript.turns();
     let mut left = place;
-    for number in 0..turns.len() {
-        let len = turns[number].got.as_slice().len();
+    for number in 0..walk.len() {
+        let len = walk.take_first().got.len();
         if left < len {
             return Some(number);
         }
@@ -155,21 +155,32 @@ struct Told {
 }
 
 /// A stream that was seen so.
-fn told_of(alloc: Global, way: Way, turns: &[Turn], seen: Seen) -> Result<Told, NoMemory>
-    ensures { IfOk result (λ told. IsTold seen (concat (map (way_bytes way) turns.now)) told) }
+fn told_of(
+    alloc: Global,
+    way: Way,
+    transcript: &TranscriptRef<'_>,
+    seen: Seen,
+) -> Result<Told, NoMemory>
+    ensures { IfOk result (λ told. IsTold seen (concat (map (way_bytes way) transcript.now.turns)) told) }
 {
-    let bytes = bytes_from(alloc, way, turns, seen.first_asked())?;
+    let bytes = bytes_from(alloc, way, transcript, seen.first_asked())?;
     Ok(Told { seen, bytes })
 }
 
 /// All that goes this way, from this place on.
-fn bytes_from(alloc: Global, way: Way, turns: &[Turn], place: usize) -> Result<Vec<u8>, NoMemory>
-    ensures { IfOk result (λ bytes. bytes.items ≡ drop place (concat (map (way_bytes way) turns.now))) }
+fn bytes_from(
+    alloc: Global,
+    way: Way,
+    transcript: &TranscriptRef<'_>,
+    place: usize,
+) -> Result<Vec<u8>, NoMemory>
+    ensures { IfOk result (λ bytes. bytes.items ≡ drop place (concat (map (way_bytes way) transcript.now.turns))) }
 {
     let mut bytes = Vec::new(alloc);
+    let mut walk = transcript.turns();
     let mut left = place;
-    for turn in turns {
-        let piece = bytes_of(way, turn);
+    for _number in 0..walk.len() {
+        let piece = bytes_of(way, walk.take_first());
         let passed = left.min(piece.len());
         left -= passed;
         bytes.extend_from_slice(&piece[passed..])?;

@@ -1,6 +1,7 @@
 //! What a transcript shows: both directions are read once, turn by turn.
 
 ghost use Rattle.std.specs.Prelude.{◌≡◌, ◌&&◌, IfOk, length, map};
+ghost use Rattle.ws_scripts.specs.Pieces.{lent_turn};
 ghost use Rattle.ws_suite.specs.Evidence.{IsEvidenceOf, got_turns, other_role, sent_turns};
 ghost use Rattle.ws_suite.specs.Explanation.{IsBeyondBy, told_in};
 ghost use Rattle.ws_suite.specs.Growing.{AreAll};
@@ -18,7 +19,7 @@ use crate::evidence::{Direction, Evidence, ends_in_turn, ends_with_close};
 use crate::lemmas::session_laws;
 use std::alloc::Global;
 use ws_base::NoMemory;
-use ws_scripts::{Transcript, Turn};
+use ws_scripts::{TranscriptRef, TurnRef};
 use ws_wire::Role;
 
 /// What a transcript shows.
@@ -37,7 +38,7 @@ pub(crate) struct Shown {
 pub(crate) fn evidence_of(
     alloc: Global,
     tested: Role,
-    transcript: &Transcript,
+    transcript: &TranscriptRef<'_>,
 ) -> Result<Shown, NoMemory>
     ensures evidence { IfOk result (λ shown. IsEvidenceOf tested transcript.now shown.evidence) }
     ensures dooms { IfOk result (λ shown. AreDooms tested (sent_turns transcript.now.turns)
@@ -52,7 +53,7 @@ pub(crate) fn evidence_of(
 pub(crate) fn told_evidence_of(
     alloc: Global,
     tested: Role,
-    transcript: &Transcript,
+    transcript: &TranscriptRef<'_>,
 ) -> Result<Shown, NoMemory>
     ensures evidence { IfOk result (λ shown. IsToldEvidenceOf tested transcript.now shown.evidence) }
     ensures dooms { IfOk result (λ shown. AreDooms tested (sent_turns transcript.now.turns)
@@ -70,7 +71,7 @@ fn shown_by(
     alloc: Global,
     way: Way,
     tested: Role,
-    transcript: &Transcript,
+    transcript: &TranscriptRef<'_>,
 ) -> Result<Shown, NoMemory>
     ensures evidence { IfOk result (λ shown. IsEvidenceBy way tested transcript.now shown.evidence) }
     ensures dooms { IfOk result (λ shown. AreDooms tested (sent_turns transcript.now.turns)
@@ -80,21 +81,16 @@ fn shown_by(
         (map (way_bytes way) transcript.now.turns) (length transcript.now.turns) shown.beyond) }
 {
     session_laws();
-    let turns = transcript.turns.as_slice();
+    let mut walk = transcript.turns();
+    let count = walk.len();
     let mut rooms = Rooms::new(alloc);
     let mut sent: Taken<AllReplies> = nothing_taken(alloc, Way::Sent, tested);
     let mut got: Taken<AllReplies> = nothing_taken(alloc, way, other(tested));
     let mut beyond = None;
     let mut at_close = false;
-    for number in 0..turns.len() {
-        let turn = &turns[number];
-        take_piece(
-            Way::Sent,
-            number,
-            turn.sent.as_slice(),
-            &mut rooms,
-            &mut sent,
-        )?;
+    for number in 0..count {
+        let turn = walk.take_first();
+        take_piece(Way::Sent, number, turn.sent, &mut rooms, &mut sent)?;
         take_piece(way, number, bytes_of(way, turn), &mut rooms, &mut got)?;
         beyond = first_beyond(beyond, number, goes_on(&got.collected));
         let ends = ends_in_turn(&got.collected.ending, number);
@@ -109,8 +105,8 @@ fn shown_by(
         evidence: Evidence {
             due: direction_of(sent.collected),
             got: direction_of(got.collected),
-            turns: turns.len(),
-            ended: transcript.ended,
+            turns: count,
+            ended: transcript.ended(),
             answers_doom: false,
         },
         dooms: Dooms { at_close, at_end },
@@ -138,12 +134,12 @@ fn direction_of(collected: Collected<AllReplies>) -> Direction
 }
 
 /// The bytes of a turn that go this way.
-pub(super) fn bytes_of(way: Way, turn: &Turn) -> &[u8]
-    ensures { result.now ≡ way_bytes way turn.now }
+pub(super) fn bytes_of(way: Way, turn: TurnRef<'_>) -> &[u8]
+    ensures { result.now ≡ way_bytes way (lent_turn turn.entry) }
 {
     match way {
-        Way::Sent => turn.sent.as_slice(),
-        Way::Got | Way::Told => turn.got.as_slice(),
+        Way::Sent => turn.sent,
+        Way::Got | Way::Told => turn.got,
     }
 }
 

@@ -16,38 +16,38 @@ use Rattle.ws_suite.proofs.evidence.marks.marked.Goals.{then-ends_with_close, el
 pub is_late-requires : goal.is_late-requires
 is_late-requires c =
     all_asked c.args.tested (concat (sent_turns c.args.transcript.now.turns)) c.in_ok-sent.sent
-    (sent_told c.args.tested c.args.transcript.now c.args.streams c.as_slice-turns.result.now c.in_ok-sent.sent
-    c.requires.streams c.as_slice-turns.ensures c.in_ok-sent.ensures)
+    (sent_told c.args.tested c.args.transcript.now c.args.streams c.args.transcript.now.turns c.in_ok-sent.sent
+    c.requires.streams refl c.in_ok-sent.ensures)
 
 pub is_open-requires : goal.is_open-requires
 is_open-requires c =
     all_asked (other_role c.args.tested) (concat (got_turns c.args.transcript.now.turns)) c.in_ok-got.got
-    (got_told c.args.tested c.args.transcript.now c.args.streams c.as_slice-turns.result.now c.in_ok-got.got
-    c.requires.streams c.as_slice-turns.ensures c.in_ok-got.ensures)
+    (got_told c.args.tested c.args.transcript.now c.args.streams c.args.transcript.now.turns c.in_ok-got.got
+    c.requires.streams refl c.in_ok-got.ensures)
 
 pub ends_in_data-requires : goal.ends_in_data-requires
 ends_in_data-requires c =
     all_asked (other_role c.args.tested) (concat (got_turns c.args.transcript.now.turns)) c.in_ok-got.got
-    (got_told c.args.tested c.args.transcript.now c.args.streams c.as_slice-turns.result.now c.in_ok-got.got
-    c.requires.streams c.as_slice-turns.ensures c.in_ok-got.ensures)
+    (got_told c.args.tested c.args.transcript.now c.args.streams c.args.transcript.now.turns c.in_ok-got.got
+    c.requires.streams refl c.in_ok-got.ensures)
 
 pub behind-requires : goal.behind-requires
 behind-requires c =
     all_asked (other_role c.args.tested) (concat (got_turns c.args.transcript.now.turns)) c.in_ok-got.got
-    (got_told c.args.tested c.args.transcript.now c.args.streams c.as_slice-turns.result.now c.in_ok-got.got
-    c.requires.streams c.as_slice-turns.ensures c.in_ok-got.ensures)
+    (got_told c.args.tested c.args.transcript.now c.args.streams c.args.transcript.now.turns c.in_ok-got.got
+    c.requires.streams refl c.in_ok-got.ensures)
 
 pub undefined_code-requires : goal.undefined_code-requires
 undefined_code-requires c =
     all_asked (other_role c.args.tested) (concat (got_turns c.args.transcript.now.turns)) c.in_ok-got.got
-    (got_told c.args.tested c.args.transcript.now c.args.streams c.as_slice-turns.result.now c.in_ok-got.got
-    c.requires.streams c.as_slice-turns.ensures c.in_ok-got.ensures)
+    (got_told c.args.tested c.args.transcript.now c.args.streams c.args.transcript.now.turns c.in_ok-got.got
+    c.requires.streams refl c.in_ok-got.ensures)
 
 pub returns-clause-closed : goal.returns-clause-closed
 returns-clause-closed c =
     let tested = c.args.tested in
-    let told = got_told tested c.args.transcript.now c.args.streams c.as_slice-turns.result.now c.in_ok-got.got
-    c.requires.streams c.as_slice-turns.ensures c.in_ok-got.ensures in
+    let told = got_told tested c.args.transcript.now c.args.streams c.args.transcript.now.turns c.in_ok-got.got
+    c.requires.streams refl c.in_ok-got.ensures in
     evidence_counted tested c.args.transcript.now c.args.shown c.undefined_code.result c.requires.ending
     (c.undefined_code.ensures (other_role tested) (concat (got_turns c.args.transcript.now.turns)) told)
     c.with_close-evidence.result c.with_close-evidence.ensures
@@ -61,10 +61,10 @@ returns-clause-marks c =
     let gets = concat (got_turns transcript.turns) in
     let sent = c.in_ok-sent.sent in
     let got = c.in_ok-got.got in
-    let told_sent = sent_told tested transcript c.args.streams c.as_slice-turns.result.now sent c.requires.streams
-    c.as_slice-turns.ensures c.in_ok-sent.ensures in
-    let told = got_told tested transcript c.args.streams c.as_slice-turns.result.now got c.requires.streams
-    c.as_slice-turns.ensures c.in_ok-got.ensures in
+    let told_sent = sent_told tested transcript c.args.streams c.args.transcript.now.turns sent c.requires.streams
+    refl c.in_ok-sent.ensures in
+    let told = got_told tested transcript c.args.streams c.args.transcript.now.turns got c.requires.streams
+    refl c.in_ok-got.ensures in
     let right = c.are_controls.result in
     let at = c.behind.ensures ∙ behind_told role gets got told in
     let controls = subst (λ (r : Role). (right ≡ true) ↔ AreControls r (drop got.seen.after gets)) c.other.ensures
@@ -79,13 +79,12 @@ returns-clause-beyond c =
     let turns = got_turns c.args.transcript.now.turns in
     let ending = c.with_close-evidence.result.got.ending in
     let got = c.in_ok-got.got in
-    let told = got_told c.args.tested c.args.transcript.now c.args.streams c.as_slice-turns.result.now got
-    c.requires.streams c.as_slice-turns.ensures c.in_ok-got.ensures in
+    let told = got_told c.args.tested c.args.transcript.now c.args.streams c.args.transcript.now.turns got
+    c.requires.streams refl c.in_ok-got.ensures in
     elim c.if-ends_with_close.branch [
       | then-ends_with_close w ↦
           let closes : ends_with_close ending ≡ true = sym c.ends_with_close.ensures ∙ w.if-ends_with_close.true in
-          let found = subst (λ (l : List Turn). IsTurnOfPlace (got_turns l) got.seen.after w.got_turn-beyond.result)
-          c.as_slice-turns.ensures w.got_turn-beyond.ensures in
+          let found = w.got_turn-beyond.ensures in
           subst (λ (o : Option ℕ). IsBeyondClose role turns ending o) (sym w.beyond-is)
           (beyond_close role (concat turns) got.seen told.is_seen turns refl ending closes w.got_turn-beyond.result
           found)
