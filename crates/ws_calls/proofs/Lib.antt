@@ -5,6 +5,5 @@ mod Placed
 mod Parts
 mod Sending
 mod Answering
-mod Damages
-mod Playing
-mod Ending
+pub mod Making
+pub mod Ending

@@ -1,7 +1,6 @@
 -- Inside the crate: an endpoint between two calls, for contracts of private functions. A reader may skip this file.
 use Rattle.std.specs.Prelude.{◌≡◌, ℕ, true, List, [], ◌++◌, length, map, ◌+◌, Option, Some, None, Result, Ok, Err}
 use Rattle.std.specs.List.{flat_map}
-use Rattle.ws_formats.specs.Lines.{HasLineForEach}
 use Rattle.ws_wire.specs.Frame.{Frame}
 use Rattle.ws_session.specs.declared.event.Event.{Event}
 use Rattle.ws_session.specs.declared.event.PlacedEvent.{PlacedEvent}
@@ -15,10 +14,8 @@ use Rattle.ws_calls.specs.declared.calls.Call.{Call}
 use Rattle.ws_calls.specs.declared.report.PlacedInStream.{PlacedInStream}
 use Rattle.ws_calls.specs.declared.report.CallAnswer.{CallAnswer}
 use Rattle.ws_calls.specs.declared.report.CallAnswer.TheVariants.{Sent, Refused}
-use Rattle.ws_calls.specs.declared.calls.EchoCall.{EchoCall}
 use Rattle.ws_calls.specs.CallLines.{answer_lines, event_line}
-use Rattle.ws_calls.specs.Calls.{Endpoint, AreAnswered, IsSendAnswered, IsCallAnswered, new_exchange}
-use Rattle.ws_calls.specs.Script.{IsCallLine, IsEchoCallLine}
+use Rattle.ws_calls.specs.Calls.{Endpoint, AreAnswered, IsSendAnswered, IsCallAnswered}
 
 -- what is asked of an end of this value, which owes such frames for an event
 abbrev pub endpoint_of : (Event → List Frame) → SessionValue → Endpoint
@@ -73,13 +70,6 @@ pub record HasToldSend (endpoint : Endpoint) (exchange : Exchange) (what : Send)
   pub answered : HasAnsweredSend endpoint exchange what key answer taken session
   pub told : lines ≡ before ++ answer_lines answer
 
--- the line tells a call, or one of an echo
-abbrev pub TellsCall : List ℕ → Type 0
-TellsCall line = (call : Call) × IsCallLine call line
-
-abbrev pub TellsEchoCall : List ℕ → Type 0
-TellsEchoCall line = (call : EchoCall) × IsEchoCallLine call line
-
 -- the lines of the events of a piece behind so many bytes
 abbrev pub told_behind : ℕ → List PlacedEvent → List ℕ
 told_behind start told = flat_map event_line (map (placed_behind start) told)
@@ -102,18 +92,13 @@ pub record IsHeld (session : SessionValue) (held : ℕ) : Type 0 where
   pub count : held ≡ length (open_payload session.opened) + length session.partial_frame
   pub over : is_over session.status ≡ true → held ≡ 0
 
--- The calls of the lines before the rest of a text were made, at an endpoint that was new, and told in these lines.
--- Each line tells a value, which is the call that `call_of` says.
-pub record HasPlayed {T : Type 0} (IsLineOf : T → List ℕ → Type 0) (call_of : T → Call) (endpoint : Endpoint)
-    (text rest : List ℕ) (taken : ℕ) (session : SessionValue) (lines : List ℕ) : Type 0 where
-  pub calls : List T
+-- At an end that had exchanged this these values were taken, each as the call that `call_of` says, and what came of
+-- them was told behind the lines before.
+pub record HasMade {T : Type 0} (call_of : T → Call) (endpoint : Endpoint) (exchange : Exchange) (before : List ℕ)
+    (values : List T) (taken : ℕ) (session : SessionValue) (lines : List ℕ) : Type 0 where
   pub answers : List CallAnswer
   pub after : Exchange
-  pub answered : AreAnswered endpoint new_exchange (map call_of calls) answers after
+  pub answered : AreAnswered endpoint exchange (map call_of values) answers after
   pub agrees : Agrees after taken session
   pub same : (session.role ≡ endpoint.role) × (session.limits ≡ endpoint.limits)
-  pub told : lines ≡ flat_map answer_lines answers
-  -- what the rest tells comes behind these calls, and what the text tells goes on in the rest
-  pub before : (later : List T) → HasLineForEach IsLineOf later rest → HasLineForEach IsLineOf (calls ++ later) text
-  pub goes_on : (all : List T) → HasLineForEach IsLineOf all text →
-      (later : List T) × HasLineForEach IsLineOf later rest
+  pub told : lines ≡ before ++ flat_map answer_lines answers

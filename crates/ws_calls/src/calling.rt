@@ -1,6 +1,6 @@
 //! An end that a script makes calls of, and the call that a session and an echo answer alike: a piece is taken.
 
-ghost use Rattle.std.specs.Prelude.{◌≡◌, ◌+◌, ◌++◌, List, length, OnOk, string_bytes};
+ghost use Rattle.std.specs.Prelude.{◌≡◌, ◌+◌, ◌++◌, List, [], length, OnOk, string_bytes};
 ghost use Rattle.ws_wire.specs.Frame.{Frame};
 ghost use Rattle.ws_session.specs.Exchange.{Exchange, SessionValue};
 ghost use Rattle.ws_session.specs.Taking.{HasTakenAll};
@@ -86,7 +86,7 @@ impl Scripted for Echo {
 
 /// An end that is called, how many bytes it has taken, and the lines that tell what came of its calls.
 #[derive(Drop)]
-pub(crate) struct Caller<E> {
+pub struct Caller<E> {
     pub(crate) called: E,
     pub(crate) taken: u64,
     pub(crate) lines: String,
@@ -97,6 +97,21 @@ pub(crate) struct Caller<E> {
 }
 
 impl<E: Scripted> Caller<E> {
+    /// Nothing was asked of the end yet.
+    pub(crate) fn at(alloc: Global, called: E) -> Caller<E>
+        ensures called { result.called ≡ called }
+        ensures taken { result.taken ≡ 0 }
+        ensures lines { string_bytes result.lines ≡ [] }
+    {
+        Caller {
+            called,
+            taken: 0,
+            lines: String::new(alloc),
+            put: Vec::new(alloc),
+            events: Vec::new(alloc),
+        }
+    }
+
     /// A piece is taken whole, unless the end is over.
     pub(crate) fn take(
         &mut self,

@@ -1,28 +1,32 @@
 //! The calls of a script at an echo, one after the other.
 
-ghost use Rattle.std.specs.Prelude.{◌≡◌, ◌+◌, ◌++◌, List, length, None, IfErr, IfOk, MatchResult, OnOk, string_bytes};
+ghost use Rattle.std.specs.Prelude.{◌≡◌, ◌++◌, List, IfOk, MatchResult, OnOk, string_bytes};
 ghost use Rattle.ws_base.specs.declared.text_fault.LineFault.TheVariants.{Damaged};
 ghost use Rattle.ws_formats.specs.Lines.{Damages};
 ghost use Rattle.ws_session.specs.declared.event.PlacedEvent.{PlacedEvent};
 ghost use Rattle.ws_session.specs.Exchange.{Exchange};
+ghost use Rattle.ws_session.specs.Limits.{LimitsValue};
+ghost use Rattle.ws_wire.specs.declared.role.Role.{Role};
+ghost use Rattle.ws_calls.specs.declared.calling.Caller.{Caller};
+ghost use Rattle.ws_session.specs.declared.echo.Echo.{Echo};
 ghost use Rattle.ws_session.specs.Replies.{echo_reply_to};
 ghost use Rattle.ws_calls.specs.declared.calls.Call.TheVariants.{Take};
 ghost use Rattle.ws_calls.specs.declared.calls.EchoCall.{EchoCall};
 ghost use Rattle.ws_calls.specs.CallLines.{last_lines};
 ghost use Rattle.ws_calls.specs.Calls.{echo_of};
-ghost use Rattle.ws_calls.specs.InnerSteps.{Agrees, HasTakenPart, HasToldCall, told_behind};
-ghost use Rattle.ws_calls.specs.Runs.{TellsEcho};
+ghost use Rattle.ws_calls.specs.InnerSteps.{Agrees, HasToldCall};
+ghost use Rattle.ws_calls.specs.Runs.{HasCalledEcho, IsNewEcho, ReportsEcho, TellsEcho};
 ghost use Rattle.ws_calls.specs.Script.{AreEchoCallLines, IsEchoCallLine, as_call};
 
 use crate::calling::Caller;
 use crate::calls::EchoCall;
-use crate::echo_script::echo_call_damage;
+use crate::echo_script::read_echo_call;
 use crate::report_lines::{tell_ended, tell_last};
 use std::alloc::Global;
 use ws_base::{LineFault, NoMemory, TextFault};
-use ws_formats::{Line, cut_line};
 use ws_session::laws::{one_list_of_events, replies_go_on};
 use ws_session::{Echo, Limits};
+use ws_text_feed::{TakeValues, TextFeed};
 use ws_wire::Role;
 
 /// Makes the calls of a script, one after the other, at a new echo, and tells what came of each, as `run_calls` does at
@@ -37,45 +41,43 @@ pub fn run_echo_calls(
     ensures { MatchResult result (λ lines. TellsEcho role limits text.now (string_bytes lines))
         (λ fault. Damages AreEchoCallLines fault text.now) }
 {
-    let mut caller = Caller {
-        called: Echo::new(alloc, limits, role),
-        taken: 0,
-        lines: String::new(alloc),
-        put: Vec::new(alloc),
-        events: Vec::new(alloc),
+    let mut feed = TextFeed::new(alloc, Caller::of_echo(alloc, role, limits));
+    match feed.feed(alloc, text) {
+        Ok(()) => {}
+        Err(fault) => return Err(fault),
+    }
+    let caller = match feed.end() {
+        Ok(caller) => caller,
+        Err(fault) => return Err(fault),
     };
-    let mut rest = text;
-    while let Some((line, after)) = cut_line(rest) {
-        match caller.next_line(alloc, line) {
-            Ok(()) => rest = after,
-            Err(LineFault::Damaged) => return Err(echo_call_damage(alloc, text)),
-            Err(LineFault::NoMemory) => return Err(TextFault::NoMemory),
-        }
-    }
-    if !rest.is_empty() {
-        return Err(echo_call_damage(alloc, text));
-    }
-    match caller.end(alloc) {
+    match caller.echo_report(alloc) {
         Ok(lines) => Ok(lines),
         Err(NoMemory) => Err(TextFault::NoMemory),
     }
 }
 
+impl TakeValues for Caller<Echo> {
+    type Value = EchoCall;
+
+    ghost is_line_of = { IsEchoCallLine };
+
+    ghost has_taken = { HasCalledEcho };
+
+    fn read(alloc: Global, line: &[u8]) -> Result<EchoCall, LineFault> {
+        read_echo_call(alloc, line)
+    }
+
+    fn take(&mut self, alloc: Global, value: EchoCall) -> Result<(), NoMemory> {
+        self.call(alloc, &value)
+    }
+}
+
 impl Caller<Echo> {
-    /// Makes the call of a line, and tells what came of it.
-    fn next_line(&mut self, alloc: Global, line: &[u8]) -> Result<(), LineFault>
-        ensures made { (exchange : Exchange) → Agrees exchange self.old.taken self.old.called →
-            OnOk result ((call : EchoCall) × IsEchoCallLine call line.now
-            × HasToldCall (echo_of self.old.called.role self.old.called.limits) exchange (as_call call)
-            (string_bytes self.old.lines) self.new.taken self.new.called (string_bytes self.new.lines)) }
-        ensures damaged { IfErr result (λ fault. fault ≡ Damaged → (call : EchoCall) → IsEchoCallLine call line.now
-            → ⊥) }
+    /// An echo that is new, and to which these calls are made.
+    pub fn of_echo(alloc: Global, role: Role, limits: Limits) -> Caller<Echo>
+        ensures { IsNewEcho role limits result }
     {
-        let call = EchoCall::read(alloc, line)?;
-        match self.call(alloc, &call) {
-            Ok(()) => Ok(()),
-            Err(NoMemory) => Err(LineFault::NoMemory),
-        }
+        Caller::at(alloc, Echo::new(alloc, limits, role))
     }
 
     /// One call, and the lines that tell what came of it.
@@ -95,9 +97,10 @@ impl Caller<Echo> {
     }
 
     /// All lines: those of the calls, and then the status.
-    fn end(self, alloc: Global) -> Result<String, NoMemory>
-        ensures { IfOk result (λ lines.
-            string_bytes lines ≡ string_bytes self.lines ++ last_lines None self.called.status) }
+    pub fn echo_report(self, alloc: Global) -> Result<String, NoMemory>
+        ensures { (role : Role) (limits : LimitsValue) (first : Caller Echo) (calls : List EchoCall) →
+            IsNewEcho role limits first → HasCalledEcho first calls self →
+            IfOk result (λ lines. ReportsEcho role limits calls (string_bytes lines)) }
     {
         let status = self.called.status();
         let mut lines = self.lines;

@@ -1,56 +1,26 @@
 //! Scripts of calls of an echo, one call a line.
 
-ghost use Rattle.std.specs.Prelude.{◌≡◌, List, map};
-ghost use Rattle.ws_formats.specs.Lines.{Damages};
+ghost use Rattle.std.specs.Prelude.{◌≡◌, map};
 ghost use Rattle.ws_formats.specs.Reading.{Reads};
 ghost use Rattle.ws_base.specs.Finding.{Finds};
-ghost use Rattle.ws_calls.specs.Script.{AreEchoCallLines, AreEchoCallWords, IsEchoCallLine, IsEchoCallOf};
+ghost use Rattle.ws_calls.specs.Script.{AreEchoCallWords, IsEchoCallLine, IsEchoCallOf};
 ghost use Rattle.ws_calls.specs.Script.{echo_name_word};
-ghost use Rattle.ws_calls.specs.InnerSteps.{TellsEchoCall};
-ghost use Rattle.ws_calls.specs.declared.calls.EchoCall.{EchoCall};
 
 use crate::calls::EchoCall;
 use std::alloc::Global;
-use ws_base::{LineFault, TextFault};
-use ws_formats::{Line, read_hex, read_key_or_dash, read_lines};
+use ws_base::LineFault;
+use ws_formats::{read_hex, read_key_or_dash};
 use ws_line_words::few_words;
 
-/// What is wrong with a text that is no script for an echo. Its lines are read, and nothing is kept of them.
-pub(crate) fn echo_call_damage(alloc: Global, text: &[u8]) -> TextFault
-    requires { (calls : List EchoCall) → AreEchoCallLines calls text.now → ⊥ }
-    ensures { Damages AreEchoCallLines result text.now }
+/// The call of an echo that a line tells, which is given without its LF.
+pub(crate) fn read_echo_call(alloc: Global, line: &[u8]) -> Result<EchoCall, LineFault>
+    ensures { Reads result (λ found. IsEchoCallLine found line.now) }
 {
-    match read_lines::<CheckedEchoCall>(alloc, text) {
-        Ok(_) => unreachable!(),
-        Err(fault) => fault,
-    }
-}
-
-/// What is kept of a line that tells a call of an echo: nothing.
-#[derive(Clone, Copy)]
-struct CheckedEchoCall;
-
-impl Line for CheckedEchoCall {
-    ghost is_line_of = { λ _ line. TellsEchoCall line };
-
-    fn read(alloc: Global, line: &[u8]) -> Result<CheckedEchoCall, LineFault> {
-        match EchoCall::read(alloc, line) {
-            Ok(_) => Ok(CheckedEchoCall),
-            Err(fault) => Err(fault),
-        }
-    }
-}
-
-impl Line for EchoCall {
-    ghost is_line_of = { IsEchoCallLine };
-
-    fn read(alloc: Global, line: &[u8]) -> Result<EchoCall, LineFault> {
-        let Some(words) = few_words(line) else {
-            return Err(LineFault::Damaged);
-        };
-        let found = read_echo_words(alloc, words.as_slice())?;
-        Ok(found)
-    }
+    let Some(words) = few_words(line) else {
+        return Err(LineFault::Damaged);
+    };
+    let found = read_echo_words(alloc, words.as_slice())?;
+    Ok(found)
 }
 
 /// The call of an echo that words tell.

@@ -2,7 +2,8 @@
 //! that tell it.
 //!
 //! The layers above use the contract of `run_calls`, for a session, and that of `run_echo_calls`, for an echo: the
-//! lines tell what each call of the script answers by the frames sent and the bytes taken so far.
+//! lines tell what each call of the script answers by the frames sent and the bytes taken so far; and where the script
+//! comes piece by piece, those of `Caller`, which takes its calls.
 #![tactic(auto)]
 
 mod calling;
@@ -14,6 +15,7 @@ mod report_lines;
 mod running;
 mod script;
 
+pub use calling::Caller;
 pub use calls::{Call, EchoCall};
 pub use echo_running::run_echo_calls;
 pub use report::{CallAnswer, PlacedInStream};

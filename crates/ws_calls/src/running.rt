@@ -1,30 +1,34 @@
 //! The calls of a script at a session, one after the other.
 
-ghost use Rattle.std.specs.Prelude.{◌≡◌, ℕ, ◌+◌, ◌++◌, List, length, Some, IfErr, IfOk, MatchResult, OnOk};
+ghost use Rattle.std.specs.Prelude.{◌≡◌, ◌++◌, List, IfOk, MatchResult, OnOk};
 ghost use Rattle.std.specs.Prelude.{string_bytes};
 ghost use Rattle.ws_base.specs.declared.text_fault.LineFault.TheVariants.{Damaged};
 ghost use Rattle.ws_formats.specs.Lines.{Damages};
 ghost use Rattle.ws_session.specs.declared.event.PlacedEvent.{PlacedEvent};
 ghost use Rattle.ws_session.specs.Exchange.{Exchange};
+ghost use Rattle.ws_session.specs.Limits.{LimitsValue};
+ghost use Rattle.ws_wire.specs.declared.role.Role.{Role};
+ghost use Rattle.ws_calls.specs.declared.calling.Caller.{Caller};
+ghost use Rattle.ws_session.specs.declared.session.Session.{Session};
 ghost use Rattle.ws_session.specs.Replies.{reply_to};
 ghost use Rattle.ws_session.specs.Sends.{send_of};
 ghost use Rattle.ws_calls.specs.declared.calls.Call.{Call};
 ghost use Rattle.ws_calls.specs.CallLines.{answer_lines, last_lines};
 ghost use Rattle.ws_calls.specs.Calls.{session_of};
-ghost use Rattle.ws_calls.specs.InnerSteps.{Agrees, HasToldCall, HasToldSend, IsHeld, IsSendRefusal};
+ghost use Rattle.ws_calls.specs.InnerSteps.{Agrees, HasToldCall, HasToldSend, IsSendRefusal};
 ghost use Rattle.ws_calls.specs.InnerSteps.{send_answer};
-ghost use Rattle.ws_calls.specs.Runs.{TellsSession};
+ghost use Rattle.ws_calls.specs.Runs.{HasCalledSession, IsNewSession, ReportsSession, TellsSession};
 ghost use Rattle.ws_calls.specs.Script.{AreCallLines, IsCallLine};
 
 use crate::calling::Caller;
 use crate::calls::Call;
 use crate::report_lines::{tell_ended, tell_last, tell_refused, tell_sent};
-use crate::script::call_damage;
+use crate::script::read_call;
 use std::alloc::Global;
 use ws_base::{LineFault, NoMemory, TextFault};
-use ws_formats::{Line, cut_line};
 use ws_session::laws::{one_list_of_events, replies_go_on};
 use ws_session::{Limits, Outgoing, SendFault, Session};
+use ws_text_feed::{TakeValues, TextFeed};
 use ws_wire::Role;
 
 /// Makes the calls of a script, one after the other, at a new session, and tells what came of each (RFC 6455 sections 5
@@ -42,44 +46,43 @@ pub fn run_calls(
     ensures { MatchResult result (λ lines. TellsSession role limits text.now (string_bytes lines))
         (λ fault. Damages AreCallLines fault text.now) }
 {
-    let mut caller = Caller {
-        called: Session::new(alloc, role, limits),
-        taken: 0,
-        lines: String::new(alloc),
-        put: Vec::new(alloc),
-        events: Vec::new(alloc),
+    let mut feed = TextFeed::new(alloc, Caller::of_session(alloc, role, limits));
+    match feed.feed(alloc, text) {
+        Ok(()) => {}
+        Err(fault) => return Err(fault),
+    }
+    let caller = match feed.end() {
+        Ok(caller) => caller,
+        Err(fault) => return Err(fault),
     };
-    let mut rest = text;
-    while let Some((line, after)) = cut_line(rest) {
-        match caller.next_line(alloc, line) {
-            Ok(()) => rest = after,
-            Err(LineFault::Damaged) => return Err(call_damage(alloc, text)),
-            Err(LineFault::NoMemory) => return Err(TextFault::NoMemory),
-        }
-    }
-    if !rest.is_empty() {
-        return Err(call_damage(alloc, text));
-    }
-    match caller.end(alloc) {
+    match caller.session_report(alloc) {
         Ok(lines) => Ok(lines),
         Err(NoMemory) => Err(TextFault::NoMemory),
     }
 }
 
+impl TakeValues for Caller<Session> {
+    type Value = Call;
+
+    ghost is_line_of = { IsCallLine };
+
+    ghost has_taken = { HasCalledSession };
+
+    fn read(alloc: Global, line: &[u8]) -> Result<Call, LineFault> {
+        read_call(alloc, line)
+    }
+
+    fn take(&mut self, alloc: Global, value: Call) -> Result<(), NoMemory> {
+        self.call(alloc, &value)
+    }
+}
+
 impl Caller<Session> {
-    /// Makes the call of a line, and tells what came of it.
-    fn next_line(&mut self, alloc: Global, line: &[u8]) -> Result<(), LineFault>
-        ensures made { (exchange : Exchange) → Agrees exchange self.old.taken self.old.called →
-            OnOk result ((call : Call) × IsCallLine call line.now
-            × HasToldCall (session_of self.old.called.role self.old.called.limits) exchange call
-            (string_bytes self.old.lines) self.new.taken self.new.called (string_bytes self.new.lines)) }
-        ensures damaged { IfErr result (λ fault. fault ≡ Damaged → (call : Call) → IsCallLine call line.now → ⊥) }
+    /// A session that is new, and to which these calls are made.
+    pub fn of_session(alloc: Global, role: Role, limits: Limits) -> Caller<Session>
+        ensures { IsNewSession role limits result }
     {
-        let call = Call::read(alloc, line)?;
-        match self.call(alloc, &call) {
-            Ok(()) => Ok(()),
-            Err(NoMemory) => Err(LineFault::NoMemory),
-        }
+        Caller::at(alloc, Session::new(alloc, role, limits))
     }
 
     /// One call, and the lines that tell what came of it.
@@ -114,9 +117,10 @@ impl Caller<Session> {
     }
 
     /// All lines: those of the calls, and then the bytes kept and the status.
-    fn end(self, alloc: Global) -> Result<String, NoMemory>
-        ensures { IfOk result (λ lines. (held : ℕ) × IsHeld self.called held
-            × (string_bytes lines ≡ string_bytes self.lines ++ last_lines (Some held) self.called.status)) }
+    pub fn session_report(self, alloc: Global) -> Result<String, NoMemory>
+        ensures { (role : Role) (limits : LimitsValue) (first : Caller Session) (calls : List Call) →
+            IsNewSession role limits first → HasCalledSession first calls self →
+            IfOk result (λ lines. ReportsSession role limits calls (string_bytes lines)) }
     {
         let held = self.called.held() as u64;
         let status = self.called.status();

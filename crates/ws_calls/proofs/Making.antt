@@ -1,0 +1,75 @@
+-- Calls that are made one after the other, at an end that may have exchanged something before.
+use Rattle.std.proofs.Common.{◌≡◌, ◌∙◌, ℕ, List, [], ◌∷◌, ◌++◌, Result, Ok, Err, OnOk, map, ap, sym, refl, subst, append_assoc, append-nil}
+use Rattle.std.proofs.lemmas.Grind.{flat_map-append}
+use Rattle.std.proofs.lemmas.List.{map-append}
+use Rattle.std.specs.List.{flat_map}
+use Rattle.ws_session.specs.Exchange.{Exchange, SessionValue}
+use Rattle.ws_session.specs.declared.event.Event.{Event}
+use Rattle.ws_wire.specs.Frame.{Frame}
+use Rattle.ws_calls.specs.declared.calls.Call.{Call}
+use Rattle.ws_calls.specs.CallLines.{answer_lines}
+use Rattle.ws_calls.specs.Calls.{AreAnswered, Endpoint, IsCallAnswered}
+use Rattle.ws_calls.specs.InnerSteps.{Agrees, HasMade, HasToldCall, endpoint_of}
+use Rattle.ws_calls.proofs.Answering.{answered_added}
+
+-- no call was made
+pub nothing_made : {T : Type 0} (call_of : T → Call) (reply : Event → List Frame) (session : SessionValue) (taken : ℕ)
+    (lines : List ℕ) (exchange : Exchange) → Agrees exchange taken session
+    → HasMade call_of (endpoint_of reply session) exchange lines [] taken session lines
+nothing_made call_of reply session taken lines exchange agrees = record {
+  answers = [];
+  after = exchange;
+  answered = (refl, refl);
+  agrees = agrees;
+  same = (refl, refl);
+  told = sym (append-nil lines);
+}
+
+module _ {T : Type 0} (call_of : T → Call) (reply : Event → List Frame) (endpoint : Endpoint) (exchange : Exchange)
+    (first : List ℕ) (values : List T) (value : T) (taken taken_after : ℕ) (old new : SessionValue)
+    (before lines : List ℕ) where
+  -- one more call
+  one_more : (h : HasMade call_of endpoint exchange first values taken old before) → endpoint ≡ endpoint_of reply old
+      → HasToldCall (endpoint_of reply old) h.after (call_of value) before taken_after new lines
+      → HasMade call_of endpoint exchange first (values ++ value ∷ []) taken_after new lines
+  one_more h same told =
+      let answered : IsCallAnswered endpoint h.after (call_of value) told.answer told.answered.after =
+      subst (λ (x : Endpoint). IsCallAnswered x h.after (call_of value) told.answer told.answered.after) (sym same)
+      told.answered.answered in
+      let answers = h.answers ++ told.answer ∷ [] in
+      record {
+        answers = answers;
+        after = told.answered.after;
+        answered =
+            subst (λ (l : List Call). AreAnswered endpoint exchange l answers told.answered.after)
+            (sym (map-append call_of values (value ∷ [])))
+            (answered_added endpoint exchange h.after told.answered.after (map call_of values) (call_of value) h.answers
+            told.answer h.answered answered);
+        agrees = told.answered.agrees;
+        same = (
+          told.answered.same.0 ∙ ap (λ (x : Endpoint). x.role) (sym same),
+          told.answered.same.1 ∙ ap (λ (x : Endpoint). x.limits) (sym same),
+        );
+        told =
+            let last = answer_lines told.answer in
+            told.told
+            ∙ (ap (λ (l : List ℕ). l ++ last) h.told
+            ∙ (append_assoc first (flat_map answer_lines h.answers) last
+            ∙ ap (λ (l : List ℕ). first ++ l)
+            (ap (λ (l : List ℕ). flat_map answer_lines h.answers ++ l) (sym (append-nil last))
+            ∙ sym (flat_map-append answer_lines h.answers (told.answer ∷ [])))));
+      }
+
+  -- the same of a call that may lack memory
+  pub next_made : {Done Fault : Type 0} (r : Result Done Fault)
+      → (h : HasMade call_of endpoint exchange first values taken old before) → endpoint ≡ endpoint_of reply old
+      → OnOk r (HasToldCall (endpoint_of reply old) h.after (call_of value) before taken_after new lines)
+      → OnOk r (HasMade call_of endpoint exchange first (values ++ value ∷ []) taken_after new lines)
+  next_made (Ok done) h same told = one_more h same told
+  next_made (Err fault) h same told = tt
+
+-- what holds of all that was done holds for each exchange
+pub for_each : {X Done Fault : Type 0} (P : X → Type 0) (r : Result Done Fault) → ((x : X) → OnOk r (P x))
+    → OnOk r ((x : X) → P x)
+for_each P (Ok done) h = h
+for_each P (Err fault) h = tt

@@ -1,0 +1,2 @@
+-- The lemmas behind a text that is fed piece by piece.
+pub mod Fed
