@@ -2,6 +2,7 @@
 -- explained, the scripts of all cases and the rules of verdicts, and the first place of a byte.
 pub mod CaseLemmas
 pub mod Delivering
+pub mod ReadLines
 pub mod LastGot
 pub mod Explained
 pub mod NamedScripts

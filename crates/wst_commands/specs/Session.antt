@@ -10,7 +10,7 @@ use Rattle.ws_calls.specs.Runs.{TellsEcho, TellsSession}
 use Rattle.wst_words.specs.declared.session.SessionOptions.{SessionOptions}
 use Rattle.wst_commands.specs.Devices.{Delivers}
 use Rattle.wst_commands.specs.Limits.{limits_given}
-use Rattle.wst_commands.specs.ReadingWhole.{AnswersInput}
+use Rattle.wst_commands.specs.ReadingWhole.{AnswersInput, ReadsAll}
 use Rattle.wst_commands.specs.declared.exit.Exit.{Exit}
 use Rattle.wst_commands.specs.declared.exit.Exit.TheVariants.{Done}
 use Rattle.wst_commands.specs.declared.fault.Fault.{Fault}
@@ -25,6 +25,10 @@ TellsCalls options limits text lines =
 abbrev pub DamagesCalls : Bool → TextFault → List ℕ → Type 0
 DamagesCalls true fault text = Damages AreEchoCallLines fault text
 DamagesCalls false fault text = Damages AreCallLines fault text
+
+-- the whole input was read, and these are the lines of its script
+abbrev pub TellsInput : SessionOptions → LimitsValue → List ℕ → Device → Type 0
+TellsInput options limits lines input = (text : List ℕ) × ReadsAll text input × TellsCalls options limits text lines
 
 -- what is told of a script whose calls can't be made
 abbrev pub call_fault : TextFault → Fault

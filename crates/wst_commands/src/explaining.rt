@@ -9,7 +9,8 @@ use crate::explanation_lines::ExplanationLines;
 use std::alloc::Global;
 use ws_base::NoMemory;
 use ws_suite::{
-    Direction, Expectation, Explanation, Transcript, Turn, Verdict, explain_with, judge_with,
+    AsTranscript, Direction, Expectation, Explanation, TranscriptRef, Verdict, explain_with,
+    judge_with,
 };
 use ws_wire::Role;
 
@@ -24,14 +25,14 @@ pub struct Judgement {
 /// The verdict on a tested end of this role by all that went over a connection; with `explains` set also why it is
 /// told, if it isn't Pass.
 #[tactic(auto, using(crate::proofs::Explained::verdict_explained))]
-pub fn judgement_of(
+pub fn judgement_of<T: AsTranscript>(
     alloc: Global,
     explains: bool,
     tested: Role,
     expected: Expectation,
-    transcript: &Transcript,
+    transcript: &T,
 ) -> Result<Judgement, NoMemory>
-    ensures { IfOk result (λ told. IsJudgementOf explains tested expected transcript.now told) }
+    ensures { IfOk result (λ told. IsJudgementOf explains tested expected (T.transcript transcript.now) told) }
 {
     if !explains {
         let verdict = judge_with(alloc, tested, expected, transcript)?;
@@ -49,16 +50,16 @@ pub fn judgement_of(
 }
 
 /// The lines below the verdict of an explanation.
-fn lines_below(
+fn lines_below<T: AsTranscript>(
     alloc: Global,
     tested: Role,
     expected: Expectation,
-    transcript: &Transcript,
+    transcript: &T,
     explanation: &Explanation,
 ) -> Result<String, NoMemory>
-    requires { IsExplanationBy expected tested transcript.now explanation.now }
+    requires { IsExplanationBy expected tested (T.transcript transcript.now) explanation.now }
     ensures { IfOk result (λ below.
-        IsExplained tested expected transcript.now explanation.now.verdict (string_bytes below)) }
+        IsExplained tested expected (T.transcript transcript.now) explanation.now.verdict (string_bytes below)) }
 {
     match explanation.verdict {
         Verdict::Pass => Ok(String::new(alloc)),
@@ -74,44 +75,45 @@ fn lines_below(
 }
 
 /// The lines of an explanation of the verdict on this transcript, each indented by two spaces and ended by LF.
-pub fn write_explanation(
+pub fn write_explanation<T: AsTranscript>(
     alloc: Global,
     tested: Role,
     expected: Expectation,
-    transcript: &Transcript,
+    transcript: &T,
     explanation: &Explanation,
 ) -> Result<String, NoMemory>
     ensures { IfOk result (λ text.
-        IsExplanationText tested expected transcript.now explanation.now (string_bytes text)) }
+        IsExplanationText tested expected (T.transcript transcript.now) explanation.now (string_bytes text)) }
 {
     let lines = ExplanationLines {
         tested,
         expected,
         explanation,
-        cut: cut_in(&explanation.got, transcript.turns.as_slice()),
+        cut: cut_in(&explanation.got, &transcript.as_transcript()),
     };
     let text = format!(in alloc; "{lines}")?;
     Ok(text)
 }
 
 /// The turn in which what came ends inside a frame, if it does.
-fn cut_in(got: &Direction, turns: &[Turn]) -> Option<usize>
-    ensures { IsCutIn (is_cut got.now) turns.now result }
+fn cut_in(got: &Direction, transcript: &TranscriptRef<'_>) -> Option<usize>
+    ensures { IsCutIn (is_cut got.now) transcript.now.turns result }
 {
     if got.ending.is_none() && got.has_rest {
-        last_got(turns)
+        last_got(transcript)
     } else {
         None
     }
 }
 
 /// The last turn in which bytes were got.
-fn last_got(turns: &[Turn]) -> Option<usize>
-    ensures { IsLastGot turns.now result }
+fn last_got(transcript: &TranscriptRef<'_>) -> Option<usize>
+    ensures { IsLastGot transcript.now.turns result }
 {
+    let mut walk = transcript.turns();
     let mut last = None;
-    for number in 0..turns.len() {
-        last = last_after(last, number, turns[number].got.as_slice());
+    for number in 0..walk.len() {
+        last = last_after(last, number, walk.take_first().got);
     }
     last
 }

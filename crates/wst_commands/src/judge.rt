@@ -8,12 +8,13 @@ ghost use Rattle.wst_commands.specs.Judge.{AnswersCapture, RunsJudge, TellsVerdi
 use crate::exit::Exit;
 use crate::explaining::judgement_of;
 use crate::fault::Fault;
+use crate::reading_capture::read_capture;
 use crate::reading_whole::{ReadStop, read_whole};
 use crate::telling::deliver;
 use std::alloc::Global;
 use std::io::{Read, Write};
 use ws_frame::Watched;
-use ws_suite::{CaptureFault, Transcript, Verdict, read_capture2};
+use ws_suite::{CaptureFault, KeptTranscript, Verdict};
 use wst_words::JudgeOptions;
 
 /// Judges the capture that the reader gives, in either format, and writes the verdict, and below it why it is told
@@ -31,7 +32,7 @@ pub fn run_judge<R: Read, W: Write>(
         (watched W.contents writer.old writer.new) }
 {
     match read_whole(alloc, reader) {
-        Ok(text) => answer(alloc, options, text.as_slice(), writer),
+        Ok(text) => answer(alloc, options, text, writer),
         Err(ReadStop::Fault) => Ok(Exit::Failed),
         Err(ReadStop::NoMemory) => Err(Fault::NoMemory),
     }
@@ -41,14 +42,14 @@ pub fn run_judge<R: Read, W: Write>(
 fn answer<W: Write>(
     alloc: Global,
     options: JudgeOptions,
-    text: &[u8],
+    text: Vec<u8>,
     writer: &mut Watched<W>,
 ) -> Result<Exit, Fault>
     requires { has_failed writer.old ≡ false }
-    ensures { AnswersCapture options text.now result (watched W.contents writer.old writer.new) }
+    ensures { AnswersCapture options text.items result (watched W.contents writer.old writer.new) }
 {
-    match read_capture2(alloc, text) {
-        Ok(capture) => tell_verdict(alloc, options, &capture.transcript, writer),
+    match read_capture(alloc, text) {
+        Ok(capture) => tell_verdict(alloc, options, capture.transcript(), writer),
         Err(fault) => Err(fault_of(fault)),
     }
 }
@@ -67,7 +68,7 @@ pub fn fault_of(fault: CaptureFault) -> Fault
 fn tell_verdict<W: Write>(
     alloc: Global,
     options: JudgeOptions,
-    transcript: &Transcript,
+    transcript: &KeptTranscript,
     writer: &mut Watched<W>,
 ) -> Result<Exit, Fault>
     requires { has_failed writer.old ≡ false }

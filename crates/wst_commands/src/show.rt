@@ -10,12 +10,13 @@ ghost use Rattle.wst_commands.specs.Show.{budget_of, show_plan, shown, shown_rol
 use crate::exit::Exit;
 use crate::fault::Fault;
 use crate::judge::fault_of;
+use crate::reading_capture::read_capture;
 use crate::reading_whole::{ReadStop, read_whole};
 use std::alloc::Global;
 use std::io::{Read, Write};
 use ws_frame::{DataStyle, ShowEnd, ShowFault, Source, Watched, show, show_payloads};
 use ws_lines::{Showing, fits_places, show_transcript};
-use ws_suite::{Transcript, read_capture2};
+use ws_suite::KeptTranscript;
 use ws_wire::Role;
 use wst_words::ShowOptions;
 
@@ -146,7 +147,7 @@ fn show_capture<R: Read, W: Write>(
         (watched W.contents writer.old writer.new) }
 {
     match read_whole(alloc, reader) {
-        Ok(text) => answer(alloc, showing, text.as_slice(), writer),
+        Ok(text) => answer(alloc, showing, text, writer),
         Err(ReadStop::Fault) => Ok(Exit::Failed),
         Err(ReadStop::NoMemory) => Err(Fault::NoMemory),
     }
@@ -156,14 +157,14 @@ fn show_capture<R: Read, W: Write>(
 fn answer<W: Write>(
     alloc: Global,
     showing: Showing,
-    text: &[u8],
+    text: Vec<u8>,
     writer: &mut Watched<W>,
 ) -> Result<Exit, Fault>
     requires { has_failed writer.old ≡ false }
-    ensures { AnswersShownCapture showing text.now result (watched W.contents writer.old writer.new) }
+    ensures { AnswersShownCapture showing text.items result (watched W.contents writer.old writer.new) }
 {
-    match read_capture2(alloc, text) {
-        Ok(capture) => tell_lines(alloc, showing, &capture.transcript, writer),
+    match read_capture(alloc, text) {
+        Ok(capture) => tell_lines(alloc, showing, capture.transcript(), writer),
         Err(fault) => Err(fault_of(fault)),
     }
 }
@@ -173,7 +174,7 @@ fn answer<W: Write>(
 fn tell_lines<W: Write>(
     alloc: Global,
     showing: Showing,
-    transcript: &Transcript,
+    transcript: &KeptTranscript,
     writer: &mut Watched<W>,
 ) -> Result<Exit, Fault>
     requires { has_failed writer.old ≡ false }
