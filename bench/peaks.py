@@ -1,4 +1,4 @@
-"""How much memory `wst session`, `judge`, `pair` and `convert` hold over many small frames.
+"""How much memory `wst session`, `judge`, `show --capture`, `pair` and `convert` hold over many small frames and turns.
 
 Told is the peak of the resident memory above that over an empty input, in bytes of the input text. A program writes
 first when all is done; as its pipe is full, it stands still there, and its peak can be read.
@@ -10,9 +10,9 @@ import tempfile
 import time
 from pathlib import Path
 
-SIZE = 4_000_000  # bytes of an input
+SIZE = 20_000_000  # bytes of an input
 MOST = 8  # times its bytes
-MOST_OF = {"convert": 2}  # of these commands
+MOST_OF = {"convert": 2, "judge": 5, "show": 2}  # of these commands
 
 PING, PONG, TEXT = "898000000000", "8a8000000000", "81810000000061"  # of a client; the key is zero
 PING_BACK, PONG_BACK, TEXT_BACK = "8900", "8a00", "810161"  # of a server
@@ -39,12 +39,29 @@ def capture_1(lines):
     return f"wst-capture 1\n{lines}end peer\n"
 
 
+# Captures of many turns.
+TURNS = {
+    "turns without bytes": capture(rounds_of("turn\n").rstrip()),
+    "turns of one byte sent": capture(rounds_of("turn\n> 81\n").rstrip()),
+    "turns of one byte got": capture(rounds_of("turn\n< 81\n").rstrip()),
+    "turns of one byte both ways": capture(rounds_of("turn\n> 81\n< 81\n").rstrip()),
+    "a turn for each ping and its pong": capture(rounds_of(f"turn\n> {PING}\n< {PONG_BACK}\n").rstrip()),
+    "a turn for each pong got": capture(rounds_of(f"turn\n< {PONG_BACK}\n").rstrip()),
+    "a turn for each empty text got": capture(rounds_of("turn\n< 8100\n").rstrip()),
+    "a message cut over all turns": capture(
+        "turn", "> 82ff00000000000fffff00000000", rounds_of("turn\n> 61\n").rstrip()
+    ),
+}
+
 # What is run: its words, its empty input, and the inputs with their names.
 RUNS = [
+    (["show", "--capture"], capture(), TURNS),
+    (["judge", "--explain"], capture(), TURNS),
     (
         ["judge"],
         capture(),
-        {
+        TURNS
+        | {
             "pings sent": capture("turn", f"> {rounds_of(PING)}"),
             "pongs sent": capture("turn", f"> {rounds_of(PONG)}"),
             "texts sent": capture("turn", f"> {rounds_of(TEXT)}"),
