@@ -262,7 +262,7 @@ bytes_append : (xs ys : List ℕ) → AreBytes xs → AreBytes ys → AreBytes (
 bytes_append [] ys a b = b
 bytes_append (x ∷ xs) ys a b = are_bytes_cons x (xs ++ ys) (a 0) (bytes_append xs ys (are_bytes_tail x xs a) b)
 
-pairs_append : (xs ys u v : List ℕ) → ArePairs xs u → ArePairs ys v → ArePairs (xs ++ ys) (u ++ v)
+pub pairs_append : (xs ys u v : List ℕ) → ArePairs xs u → ArePairs ys v → ArePairs (xs ++ ys) (u ++ v)
 pairs_append xs ys u v h g = (
   bytes_append xs ys h.0 g.0,
   ap₂ (λ (a b : List ℕ). a ++ b) h.1 g.1 ∙ sym (flat_map-append (λ b. digits 16 false (b / 16) ++ digits 16 false (b % 16)) xs ys),

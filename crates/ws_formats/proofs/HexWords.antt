@@ -97,20 +97,6 @@ abbrev pub twice : ℕ → ℕ
 twice zero = zero
 twice (suc i) = suc (suc (twice i))
 
--- the pair of each byte, by its place
-pub pair_at : (bytes word : List ℕ) (i : ℕ) → ArePairs bytes word → i < length bytes → IsPair (slice_index bytes i) (slice_index word (twice i)) (slice_index word (suc (twice i)))
-pair_at [] word i h less = absurd (omega arith)
-pair_at (byte ∷ more) word zero h less =
-    let same : word ≡ high_of byte ∷ low_of byte ∷ hex more = h.1 ∙ hex_cons byte more (h.0 0) in
-    (h.0 0, ap (λ (l : List ℕ). slice_index l 0) same, ap (λ (l : List ℕ). slice_index l 1) same)
-pair_at (byte ∷ more) word (suc i) h less =
-    let same : word ≡ high_of byte ∷ low_of byte ∷ hex more = h.1 ∙ hex_cons byte more (h.0 0) in
-    let rest = pair_at more (hex more) i (are_bytes_tail byte more h.0, refl) (omega arith) in (
-      rest.0,
-      ap (λ (l : List ℕ). slice_index l (suc (suc (twice i)))) same ∙ rest.1,
-      ap (λ (l : List ℕ). slice_index l (suc (suc (suc (twice i))))) same ∙ rest.2,
-    )
-
 pub pairs_cons : (byte high low : ℕ) (bytes after : List ℕ) → IsPair byte high low → ArePairs bytes after → ArePairs (byte ∷ bytes) (high ∷ low ∷ after)
 pairs_cons byte high low bytes after p h = (
   are_bytes_cons byte bytes p.0 h.0,
@@ -136,36 +122,8 @@ pairs_length (byte ∷ more) word h =
 -- ---- keys
 
 -- a key is spelled in pairs
-pub key_pairs : (key word : List ℕ) → IsKeyWord key word → ArePairs key word × (length key ≡ 4)
-key_pairs key word h = ((h.0.1, h.1), h.0.0)
-
 pub key_length : (key word : List ℕ) → IsKeyWord key word → length word ≡ 8
-key_length key word h =
-    let k = key_pairs key word h in
-    pairs_length key word k.0 ∙ ap (λ (n : ℕ). twice n) k.1
-
--- four pairs spell a key
-pub four_pairs : (word : List ℕ) (a b c d : ℕ) → length word ≡ 8
-    → IsPair a (slice_index word 0) (slice_index word 1) → IsPair b (slice_index word 2) (slice_index word 3)
-    → IsPair c (slice_index word 4) (slice_index word 5) → IsPair d (slice_index word 6) (slice_index word 7)
-    → IsKeyWord (a ∷ b ∷ c ∷ d ∷ []) word
-four_pairs word a b c d len p q r s =
-    let all : ArePairs (a ∷ b ∷ c ∷ d ∷ []) word = pairs_from (a ∷ b ∷ c ∷ d ∷ []) word len places in
-    ((refl, all.0), all.1)
-  where
-    places : (i : ℕ) → i < 4 → IsPair (slice_index (a ∷ b ∷ c ∷ d ∷ []) i) (slice_index word (twice i)) (slice_index word (suc (twice i)))
-    places zero less = p
-    places (suc zero) less = q
-    places (suc (suc zero)) less = r
-    places (suc (suc (suc zero))) less = s
-    places (suc (suc (suc (suc i)))) less = absurd (omega arith)
-
--- the pair of a byte of a key
-pub key_pair : (key word : List ℕ) (i : ℕ) → IsKeyWord key word → i < 4
-    → (byte : ℕ) × IsPair byte (slice_index word (twice i)) (slice_index word (suc (twice i)))
-key_pair key word i h less =
-    let k = key_pairs key word h in
-    (slice_index key i, pair_at key word i k.0 (omega (arith, k.1)))
+key_length key word h = pairs_length key word (h.0.1, h.1) ∙ ap (λ (n : ℕ). twice n) h.0.0
 
 -- ---- lengths
 

@@ -4,6 +4,7 @@ pub mod HexWords
 pub mod HexByBlocks
 pub mod HexLanes
 pub mod HexReads
+pub mod DigitLanes
 pub mod NumberWords
 pub mod DamagedLines
 pub mod PartialTexts

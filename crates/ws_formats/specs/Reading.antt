@@ -1,5 +1,5 @@
--- What the readers of words and lines answer, and inside the crate their steps. A reader may skip all but the first
--- three.
+-- What the readers of words and lines answer, what digits spell, and inside the crate their steps. A reader may skip
+-- the steps.
 use Rattle.std.specs.Prelude.{◌≡◌, ◌≢◌, All, ℕ, ◌/◌, ◌%◌, ◌<◌, ◌⊎◌, false, List, ◌∷◌, ◌++◌, length, slice_index, Option}
 use Rattle.std.specs.Prelude.{Some, None, Result, Ok, Err}
 use Rattle.std.specs.List.{AllZip}
@@ -26,15 +26,12 @@ TakesLine {T = T} Tell part line (Ok longer) = (value : T) (more : List (List �
 TakesLine {T = T} Tell part line (Err fault) =
     fault ≡ Damaged → (value : T) (more : List (List ℕ)) → Tell part value (line ∷ more) → ⊥
 
--- ---- steps
+-- the first line of a text, and what stands behind its LF; without an LF there is none
+abbrev pub CutsLine : List ℕ → Option (Bor (List ℕ) × Bor (List ℕ)) → Type 0
+CutsLine text None = IsLine text
+CutsLine text (Some parts) = (text ≡ parts.0.now ++ line_feed ∷ parts.1.now) × IsLine parts.0.now
 
--- the values are the old ones and then one for each of the lines
-abbrev pub TellFurther : {T : Type 0} → (T → List ℕ → Type 0) → List T → List T → List (List ℕ) → Type 0
-TellFurther {T = T} IsLineOf old values lines = (new : List T) × (values ≡ old ++ new) × AllZip IsLineOf new lines
-
--- two digits spell the byte
-abbrev pub IsPair : ℕ → ℕ → ℕ → Type 0
-IsPair byte high low = (byte < 256) × (high ≡ digit_glyph false (byte / 16)) × (low ≡ digit_glyph false (byte % 16))
+-- ---- digits
 
 -- a lower-case hexadecimal digit
 abbrev pub IsDigit : ℕ → Type 0
@@ -48,14 +45,19 @@ AreDigits word = (i : ℕ) → i < length word → IsDigit (slice_index word i)
 abbrev pub ArePairs : List ℕ → List ℕ → Type 0
 ArePairs bytes word = AreBytes bytes × (word ≡ hex bytes)
 
+-- ---- steps
+
+-- the values are the old ones and then one for each of the lines
+abbrev pub TellFurther : {T : Type 0} → (T → List ℕ → Type 0) → List T → List T → List (List ℕ) → Type 0
+TellFurther {T = T} IsLineOf old values lines = (new : List T) × (values ≡ old ++ new) × AllZip IsLineOf new lines
+
+-- two digits spell the byte
+abbrev pub IsPair : ℕ → ℕ → ℕ → Type 0
+IsPair byte high low = (byte < 256) × (high ≡ digit_glyph false (byte / 16)) × (low ≡ digit_glyph false (byte % 16))
+
 -- a plus stands first, or a zero with something behind it
 abbrev pub BeginsOddly : List ℕ → Type 0
 BeginsOddly word = (slice_index word 0 ≡ 43) ⊎ ((slice_index word 0 ≡ 48) × (1 < length word))
-
--- the first line of a text, and what stands behind its LF; without an LF there is none
-abbrev pub CutsLine : List ℕ → Option (Bor (List ℕ) × Bor (List ℕ)) → Type 0
-CutsLine text None = IsLine text
-CutsLine text (Some parts) = (text ≡ parts.0.now ++ line_feed ∷ parts.1.now) × IsLine parts.0.now
 
 -- a word, without a space
 abbrev pub IsWord : List ℕ → Type 0

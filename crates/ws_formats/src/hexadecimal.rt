@@ -1,19 +1,21 @@
-//! Bytes and masking keys in lower-case hexadecimal, two digits a byte.
+//! Bytes and masking keys that words spell in lower-case hexadecimal, two digits a byte.
 
-ghost use Rattle.std.specs.Prelude.{◌≡◌, ◌↔◌, ℕ, ◌+◌, ◌*◌, ◌≤◌, ◌<◌, IsTrue, Some, false, length, slice_index};
+ghost use Rattle.std.specs.Prelude.{◌≡◌, ◌↔◌, ℕ, ◌*◌, ◌≤◌, ◌<◌, IsTrue, false, length, slice_index};
 ghost use Rattle.std.specs.Fmt.{digit_glyph};
-ghost use Rattle.ws_formats.specs.Words.{IsHexWord, IsKeyOrDash, IsKeyWord, hex, hex_word};
+ghost use Rattle.ws_formats.specs.Words.{IsHexWord, IsKeyOrDash, IsKeyWord};
 ghost use Rattle.ws_formats.specs.Reading.{AreDigits, ArePairs, IsDigit, IsPair, Reads};
 ghost use Rattle.ws_base.specs.Finding.{Finds};
 
 use std::alloc::Global;
-use std::fmt;
 use std::simd::Simd;
 use std::simd::prelude::*;
 use ws_base::{LineFault, Payload};
 
 /// The key that a dash stands for.
 const KEY_OF_A_DASH: [u8; 4] = [0; 4];
+
+/// How many digits spell a key.
+const KEY_DIGITS: usize = 8;
 
 /// How many digits are looked at at once.
 const LANES: usize = 64;
@@ -29,37 +31,6 @@ const MANY: usize = 16;
 
 /// How many where fewer than `MANY` are left.
 const FEW: usize = 4;
-
-/// Bytes as two digits each.
-#[derive(Drop)]
-pub struct HexDigits<'a>(pub &'a [u8]);
-
-impl fmt::Display for HexDigits<'_> {
-    ghost output = { λ bytes. Some (hex bytes.0.now) };
-
-    fn fmt<W: fmt::Write>(&self, f: &mut fmt::Formatter<W>) -> fmt::Result {
-        for byte in self.0 {
-            write!(f, "{:x}{:x}", byte / 16, byte % 16)?;
-        }
-        Ok(())
-    }
-}
-
-/// Bytes as two digits each, or a dash where there are none.
-#[derive(Drop)]
-pub struct Hex<'a>(pub &'a [u8]);
-
-impl fmt::Display for Hex<'_> {
-    ghost output = { λ bytes. Some (hex_word bytes.0.now) };
-
-    fn fmt<W: fmt::Write>(&self, f: &mut fmt::Formatter<W>) -> fmt::Result {
-        if self.0.is_empty() {
-            write!(f, "-")
-        } else {
-            write!(f, "{}", HexDigits(self.0))
-        }
-    }
-}
 
 /// The bytes that a word spells: two digits each, or a dash for none.
 pub fn read_hex(alloc: Global, word: &[u8]) -> Result<Payload, LineFault>
@@ -91,7 +62,7 @@ fn read_pairs(alloc: Global, word: &[u8]) -> Result<Payload, LineFault>
 }
 
 /// Whether all of these are lower-case hexadecimal digits.
-fn are_digits(word: &[u8]) -> bool
+pub fn are_digits(word: &[u8]) -> bool
     ensures { IsTrue result ↔ AreDigits word.now }
 {
     if word.len() >= LANES {
@@ -267,38 +238,16 @@ fn value_of(digit: u8) -> u8
     }
 }
 
-/// The byte that two digits spell.
-fn read_pair(high: u8, low: u8) -> Option<u8>
-    ensures { Finds result (λ byte. IsPair byte high low) }
-{
-    let high = read_digit(high)?;
-    let low = read_digit(low)?;
-    Some(high * 16 + low)
-}
-
-/// The value of a lower-case hexadecimal digit.
-fn read_digit(digit: u8) -> Option<u8>
-    ensures { Finds result (λ value. (value < 16) × (digit_glyph false value ≡ digit)) }
-{
-    match digit {
-        b'0'..=b'9' => Some(digit - b'0'),
-        b'a'..=b'f' => Some(digit - b'a' + 10),
-        _ => None,
-    }
-}
-
 /// The masking key that a word spells: eight digits.
 pub fn read_key(word: &[u8]) -> Option<[u8; 4]>
     ensures { Finds result (λ key. IsKeyWord key word.now) }
 {
-    let [a, b, c, d, e, f, g, h] = word else {
+    if word.len() != KEY_DIGITS || !are_digits(word) {
         return None;
-    };
-    let first = read_pair(*a, *b)?;
-    let second = read_pair(*c, *d)?;
-    let third = read_pair(*e, *f)?;
-    let fourth = read_pair(*g, *h)?;
-    Some([first, second, third, fourth])
+    }
+    let mut key = [0; 4];
+    put_four(word, &mut key);
+    Some(key)
 }
 
 /// The masking key that a word spells, where a dash stands for four zeros.

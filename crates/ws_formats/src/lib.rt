@@ -7,16 +7,18 @@
 #![tactic(auto)]
 
 mod closing;
-mod hex_blocks;
+mod digits;
 mod hexadecimal;
 pub mod laws;
 mod lines;
 mod numbers;
+mod showing_hex;
 mod words;
 
 pub use closing::read_close;
-pub use hex_blocks::{HexBlocks, HexDigitBlocks};
-pub use hexadecimal::{Hex, HexDigits, read_hex, read_key, read_key_or_dash};
+pub use digits::{digits_of, put_digits};
+pub use hexadecimal::{are_digits, read_hex, read_key, read_key_or_dash};
 pub use lines::{Line, PartialText, cut_line, read_by_lines, read_lines};
 pub use numbers::{read_u16, read_u32};
+pub use showing_hex::{Hex, HexDigits};
 pub use words::{read_fin, words_of};

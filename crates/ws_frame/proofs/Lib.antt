@@ -3,7 +3,6 @@ pub mod Written
 pub mod TestDeviceLemmas
 pub mod Fronts
 pub mod LineLemmas
-pub mod DigitLanes
 pub mod DecimalDigits
 pub mod KindTable
 pub mod Partials

@@ -1,13 +1,10 @@
 -- What a line is made of.
-use Rattle.std.proofs.Common.{◌≡◌, ℕ, zero, suc, ◌+◌, ◌-◌, ◌*◌, ◌/◌, ◌%◌, ◌<◌, ◌≤◌, false, List, [], ◌∷◌, ◌++◌, length, get_or, take, drop}
-use Rattle.std.proofs.Common.{min, inl, inr, refl, sym, ap, ◌∙◌, arith}
-use Rattle.std.specs.Fmt.{digits, digit_glyph}
-use Rattle.std.proofs.lemmas.Fmt.{hex_one_digit}
+use Rattle.std.proofs.Common.{◌≡◌, ℕ, ◌+◌, ◌-◌, ◌<◌, ◌≤◌, List, ◌++◌, length, get_or, take, drop, min, inl, inr, sym, ap, ◌∙◌, arith}
 use Rattle.std.proofs.lemmas.Bool.{cases_lt}
-use Rattle.std.proofs.lemmas.List.{take-take, take-append-le, take_all, length-take, length-take-le}
+use Rattle.std.proofs.lemmas.List.{ext_get_or, get_or-take, take-take, take-append-le, take_all, length-take, length-take-le}
 use Rattle.std.proofs.Math.Seq.{take-append-add, take-append_seam}
 use borrow.Rule.Slice.PartMut.{put_mid, post_of}
-use Rattle.ws_frame.specs.Lines.{hex}
+use Rattle.ws_wire.specs.Masking.{AreKeyLanes}
 
 -- a block is put behind some bytes, and its front counts
 pub front_put : (at k n : ℕ) (p block : List ℕ) → at ≤ length p → n ≤ length block → take (at + n) (put_mid at k p block) ≡ take at p ++ take n block
@@ -23,29 +20,6 @@ digits_front end start text buf rest ends is =
     take-take (end - start) ((start + end) - start) (drop start buf) (omega arith)
     ∙ ap (λ n. take n (drop start buf)) count ∙ ap (λ (t : List ℕ). take (length text) t) is ∙ take-append_seam text rest
 
-pub hex_cons : (b : ℕ) (bytes : List ℕ) → b < 256 → hex (b ∷ bytes) ≡ digit_glyph false (b / 16) ∷ digit_glyph false (b % 16) ∷ hex bytes
-hex_cons b bytes small =
-    let first : digits 16 false (b / 16) ≡ digit_glyph false (b / 16) ∷ [] = hex_one_digit false (b / 16) (omega arith) in
-    let second : digits 16 false (b % 16) ≡ digit_glyph false (b % 16) ∷ [] = hex_one_digit false (b % 16) (omega arith) in
-    ap (λ (t : List ℕ). (t ++ digits 16 false (b % 16)) ++ hex bytes) first
-    ∙ ap (λ (t : List ℕ). ((digit_glyph false (b / 16) ∷ []) ++ t) ++ hex bytes) second
-
--- the digits of the first bytes are the front of the digits of all
-pub take-hex : (n : ℕ) (bytes : List ℕ) → ((i : ℕ) → get_or bytes i 0 < 256) → take (2 * n) (hex bytes) ≡ hex (take n bytes)
-take-hex zero bytes small = refl
-take-hex (suc n) [] small = let two : 2 * suc n ≡ suc (suc (2 * n)) = omega arith in ap (λ k. take k (hex [])) two
-take-hex (suc n) (b ∷ bytes) small =
-    let two : 2 * suc n ≡ suc (suc (2 * n)) = omega arith in
-    let more : take (2 * n) (hex bytes) ≡ hex (take n bytes) = take-hex n bytes (λ i. small (suc i)) in
-    ap (λ k. take k (hex (b ∷ bytes))) two
-    ∙ ap (λ (t : List ℕ). take (suc (suc (2 * n))) t) (hex_cons b bytes (small 0))
-    ∙ ap (λ (t : List ℕ). digit_glyph false (b / 16) ∷ digit_glyph false (b % 16) ∷ t) more
-    ∙ sym (hex_cons b (take n bytes) (small 0))
-
--- the front of digits that are those of some bytes
-pub hex_front : (n : ℕ) (so bytes : List ℕ) → ((i : ℕ) → get_or bytes i 0 < 256) → so ≡ hex bytes → take (2 * n) so ≡ hex (take n bytes)
-hex_front n so bytes small is = ap (λ (t : List ℕ). take (2 * n) t) is ∙ take-hex n bytes small
-
 -- the first of so many bytes, of which sixteen were copied
 pub front_of_few : (m count : ℕ) (bytes new : List ℕ) → m ≡ min count 16 → new ≡ take 16 bytes → take m new ≡ take 16 (take count bytes)
 front_of_few m count bytes new least is =
@@ -58,3 +32,11 @@ front_of_few m count bytes new least is =
           ap (λ n. take n new) some ∙ ap (λ (t : List ℕ). take count t) is ∙ take-take count 16 bytes few
           ∙ sym (take_all 16 (take count bytes) (omega (arith, length-take count bytes)))
     ]
+
+-- a key stands at the front of its lanes
+pub key_in_front : (key lanes : List ℕ) → length key ≡ 4 → length lanes ≡ 16 → AreKeyLanes key 0 lanes → take 4 lanes ≡ key
+key_in_front key lanes four long are =
+    let count : length (take 4 lanes) ≡ 4 = length-take-le 4 lanes (omega (arith, long)) in
+    ext_get_or 0 (take 4 lanes) key (count ∙ sym four) (λ i lt.
+    let within : i < 4 = omega (arith, count, lt) in
+    get_or-take 4 lanes i 0 within ∙ are i (omega (arith, long, within)) ∙ ap (λ k. get_or key k 0) (omega (arith, within)))

@@ -25,9 +25,9 @@ impl Room {
         ensures len { length self.new ≤ length self.old + 20 }
     {
         if number < 10_000 {
-            self.push_few(number);
+            self.push_1_to_4(number);
         } else {
-            self.push_many(number);
+            self.push_5_to_20_apart(number);
         }
     }
 
@@ -39,43 +39,43 @@ impl Room {
         ensures len { length self.new ≤ length self.old + 20 }
     {
         if number < 10_000 {
-            self.push_few(number);
+            self.push_1_to_4(number);
         } else {
-            self.push_more(number);
+            self.push_5_to_20(number);
         }
     }
 
     /// The same of a number of at most four digits.
     #[inline(always)]
-    fn push_few(&mut self, number: u64)
+    fn push_1_to_4(&mut self, number: u64)
         requires few { number < 10000 }
         requires room { length self.old + 4 ≤ 65536 }
         ensures pushed { self.new ≡ self.old ++ decimal number }
         ensures len { length self.new ≤ length self.old + 4 }
     {
         if number < 100 {
-            self.push_first(number);
+            self.push_1_to_2(number);
         } else {
-            self.push_hundreds(number);
+            self.push_3_to_4(number);
         }
     }
 
     /// The same of a number of three or four digits.
     #[inline(always)]
-    fn push_hundreds(&mut self, number: u64)
+    fn push_3_to_4(&mut self, number: u64)
         requires hundreds { 100 ≤ number }
         requires few { number < 10000 }
         requires room { length self.old + 4 ≤ 65536 }
         ensures pushed { self.new ≡ self.old ++ decimal number }
         ensures len { length self.new ≤ length self.old + 4 }
     {
-        self.push_first(number / 100);
-        self.push_pair(number % 100);
+        self.push_1_to_2(number / 100);
+        self.push_all_2(number % 100);
     }
 
     /// The same of a number of one or two digits.
     #[inline(always)]
-    fn push_first(&mut self, number: u64)
+    fn push_1_to_2(&mut self, number: u64)
         requires few { number < 100 }
         requires room { length self.old + 2 ≤ 65536 }
         ensures pushed { self.new ≡ self.old ++ decimal number }
@@ -84,67 +84,67 @@ impl Room {
         if number < 10 {
             self.push(&[b'0' + number as u8]);
         } else {
-            self.push_pair(number);
+            self.push_all_2(number);
         }
     }
 
     /// The same of a number of more than four digits, as a call.
     #[inline(never)]
-    fn push_many(&mut self, number: u64)
+    fn push_5_to_20_apart(&mut self, number: u64)
         requires many { 10000 ≤ number }
         requires room { length self.old + 20 ≤ 65536 }
         ensures pushed { self.new ≡ self.old ++ decimal number }
         ensures len { length self.new ≤ length self.old + 20 }
     {
-        self.push_more(number);
+        self.push_5_to_20(number);
     }
 
     /// The same of a number of more than four digits: at most twelve are put without a loop.
     #[inline(always)]
-    fn push_more(&mut self, number: u64)
+    fn push_5_to_20(&mut self, number: u64)
         requires many { 10000 ≤ number }
         requires room { length self.old + 20 ≤ 65536 }
         ensures pushed { self.new ≡ self.old ++ decimal number }
         ensures len { length self.new ≤ length self.old + 20 }
     {
         if number < 100_000_000 {
-            self.push_eight(number);
+            self.push_5_to_8(number);
         } else if number < 1_000_000_000_000 {
-            self.push_twelve(number);
+            self.push_9_to_12(number);
         } else {
-            self.push_long(number);
+            self.push_1_to_20(number);
         }
     }
 
     /// The same of a number of five to eight digits.
     #[inline(always)]
-    fn push_eight(&mut self, number: u64)
+    fn push_5_to_8(&mut self, number: u64)
         requires many { 10000 ≤ number }
         requires few { number < 100000000 }
         requires room { length self.old + 8 ≤ 65536 }
         ensures pushed { self.new ≡ self.old ++ decimal number }
         ensures len { length self.new ≤ length self.old + 8 }
     {
-        self.push_few(number / 10_000);
-        self.push_four(number % 10_000);
+        self.push_1_to_4(number / 10_000);
+        self.push_all_4(number % 10_000);
     }
 
     /// The same of a number of nine to twelve digits.
     #[inline(always)]
-    fn push_twelve(&mut self, number: u64)
+    fn push_9_to_12(&mut self, number: u64)
         requires many { 100000000 ≤ number }
         requires few { number < 1000000000000 }
         requires room { length self.old + 12 ≤ 65536 }
         ensures pushed { self.new ≡ self.old ++ decimal number }
         ensures len { length self.new ≤ length self.old + 12 }
     {
-        self.push_eight(number / 10_000);
-        self.push_four(number % 10_000);
+        self.push_5_to_8(number / 10_000);
+        self.push_all_4(number % 10_000);
     }
 
     /// The same of any number.
     #[inline(never)]
-    fn push_long(&mut self, number: u64)
+    fn push_1_to_20(&mut self, number: u64)
         requires { length self.old + 20 ≤ 65536 }
         ensures pushed { self.new ≡ self.old ++ decimal number }
         ensures len { length self.new ≤ length self.old + 20 }
@@ -156,19 +156,19 @@ impl Room {
 
     /// Puts four digits, of a number that may be less than four of them long.
     #[inline(always)]
-    fn push_four(&mut self, number: u64)
+    fn push_all_4(&mut self, number: u64)
         requires few { number < 10000 }
         requires room { length self.old + 4 ≤ 65536 }
         ensures pushed { self.new ≡ self.old ++ four_digits number }
         ensures len { length self.new ≡ length self.old + 4 }
     {
-        self.push_pair(number / 100);
-        self.push_pair(number % 100);
+        self.push_all_2(number / 100);
+        self.push_all_2(number % 100);
     }
 
     /// Puts two digits, of a number that may be one of them long.
     #[inline(always)]
-    fn push_pair(&mut self, number: u64)
+    fn push_all_2(&mut self, number: u64)
         requires few { number < 100 }
         requires room { length self.old + 2 ≤ 65536 }
         ensures pushed { self.new ≡ self.old ++ pair_digits number }

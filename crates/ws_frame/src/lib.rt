@@ -9,7 +9,6 @@
 mod byte_devices;
 mod counting;
 mod decimals;
-mod digits;
 mod failing;
 mod first_bytes;
 mod frame_line;

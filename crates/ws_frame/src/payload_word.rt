@@ -7,7 +7,7 @@ ghost use Rattle.ws_frame.specs.Lines.{close_word, first_word, is_text_byte, pay
 use crate::first_bytes::SHOWN;
 use crate::source::DataStyle;
 use std::fmt;
-use ws_formats::{HexBlocks, HexDigits};
+use ws_formats::{Hex, HexDigits};
 use ws_wire::Opcode;
 
 /// So many bytes are shown as text.
@@ -32,7 +32,7 @@ impl fmt::Display for PayloadWord<'_> {
                 Opcode::Close => write!(f, "{}", CloseWord(self.payload)),
                 _ => write!(f, "{}", TextWord(self.payload)),
             },
-            DataStyle::All => write!(f, "{}", HexBlocks(self.payload)),
+            DataStyle::All => write!(f, "{}", Hex(self.payload)),
         }
     }
 }

@@ -3,10 +3,10 @@
 ghost use Rattle.std.specs.Prelude.{◌≡◌, ◌≤◌, ◌+◌, ◌*◌, [], ◌++◌, length, take};
 ghost use Rattle.ws_frame.specs.Lines.{hex};
 
-use crate::digits::digits_of;
 use crate::first_bytes::sixteen_lanes;
 use std::marker::Model;
 use std::simd::u8x16;
+use ws_formats::digits_of;
 
 /// How many bytes a room holds.
 pub(crate) const ROOM: usize = 65536;

@@ -1,12 +1,12 @@
 //! Words that are put straight at the end of a text.
 
-ghost use Rattle.std.specs.Prelude.{◌≡◌, ◌≤◌, ◌<◌, ◌++◌, decimal, false, length, OnOk, string_bytes};
-ghost use Rattle.std.specs.Fmt.{digit_glyph};
+ghost use Rattle.std.specs.Prelude.{◌≡◌, ◌≤◌, ◌++◌, decimal, length, OnOk, string_bytes};
 ghost use Rattle.ws_formats.specs.Words.{hex, hex_word};
 ghost use Rattle.ws_session.specs.Words.{kind_word};
 
 use itoa::Buffer;
 use ws_base::NoMemory;
+use ws_formats::put_digits;
 use ws_session::Kind;
 
 /// How many bytes are put as digits at once.
@@ -52,26 +52,12 @@ fn push_block(text: &mut String, bytes: &[u8]) -> Result<(), NoMemory>
     ensures { OnOk result (string_bytes text.new ≡ string_bytes text.old ++ hex bytes.now) }
 {
     let mut digits = [0; 2 * BLOCK];
-    'bytes: for i in 0..bytes.len() {
-        digits[2 * i] = digit_of(bytes[i] / 16);
-        digits[2 * i + 1] = digit_of(bytes[i] % 16);
-    }
+    let room = &mut digits[..2 * bytes.len()];
+    put_digits(bytes, room);
     // The digits are ASCII, so they need no check.
-    let added = unsafe { str::from_utf8_unchecked(&digits[..2 * bytes.len()]) };
+    let added = unsafe { str::from_utf8_unchecked(room) };
     text.push_str(added)?;
     Ok(())
-}
-
-/// The digit of half a byte.
-fn digit_of(half: u8) -> u8
-    requires { half < 16 }
-    ensures { result ≡ digit_glyph false half }
-{
-    if half < 10 {
-        b'0' + half
-    } else {
-        b'a' - 10 + half
-    }
 }
 
 /// Puts the word of a kind of message at the end of a text.
