@@ -10,8 +10,9 @@ use Rattle.ws_frame.specs.Streaming.{WritesAll}
 use Rattle.ws_frame.specs.Watching.{AppendsFront}
 use Rattle.ws_frame.specs.declared.writing_whole.WriteFault.{WriteFault}
 use Rattle.ws_capture_text.specs.declared.mark.Mark.{Mark}
-use Rattle.ws_capture_text.specs.InnerJoining.{WritesAndKeeps, joined_lines, mark_in, put_by, put_of, text_before}
+use Rattle.ws_capture_text.specs.InnerJoining.{joined_lines, mark_in, put_by, put_of, text_before}
 use Rattle.ws_capture_text.specs.InnerMarks.{parted}
+use Rattle.ws_capture_text.specs.Rooms.{WritesAndKeeps}
 
 abbrev device : Bool → Option (List ℕ) → Option (List ℕ) → Device
 device failed old new = record { failed = failed; old = old; new = new }

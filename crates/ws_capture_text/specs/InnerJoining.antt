@@ -1,8 +1,6 @@
 -- Inside the crate: the lines of format 1 as those of format 2. The digits stand as they stood, and what is between
 -- them is written anew. A reader may skip this file.
-use Rattle.std.specs.Prelude.{◌≡◌, ℕ, List, [], ◌∷◌, ◌++◌, codes, Option, Some, None, Result, Ok, Err, false, true}
-use Rattle.ws_frame.specs.Devices.{Device, HasBegun, HasWritten}
-use Rattle.ws_frame.specs.declared.writing_whole.WriteFault.{WriteFault}
+use Rattle.std.specs.Prelude.{ℕ, List, [], ◌∷◌, ◌++◌, codes, Option, Some, None}
 use Rattle.ws_capture_text.specs.declared.mark.Mark.{Mark}
 use Rattle.ws_capture_text.specs.declared.mark.Mark.TheVariants.{Sent, Got}
 use Rattle.ws_capture_text.specs.InnerMarks.{parted}
@@ -36,9 +34,3 @@ put_of last line = put_by last line (parted line)
 abbrev pub joined_lines : Option Mark → List (List ℕ) → List ℕ
 joined_lines last [] = []
 joined_lines last (line ∷ lines) = put_of last line ++ joined_lines (mark_in (parted line)) lines
-
--- of the bytes that are due some were written and these wait; or a beginning was written
-abbrev pub WritesAndKeeps : {T : Type 0} → List ℕ → List ℕ → Device → Result T WriteFault → Type 0
-WritesAndKeeps due waiting output (Ok _) =
-    (written : List ℕ) × HasWritten written output × (output.failed ≡ false) × (due ≡ written ++ waiting)
-WritesAndKeeps due waiting output (Err _) = HasBegun due output × (output.failed ≡ true)

@@ -1,3 +1,4 @@
+pub mod Rooms
 pub mod InnerMarks
 pub mod InnerKinds
 pub mod InnerStages

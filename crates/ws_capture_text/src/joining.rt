@@ -7,7 +7,8 @@ ghost use Rattle.ws_frame.specs.Devices.{watched};
 ghost use Rattle.ws_frame.specs.Streaming.{WritesAll};
 ghost use Rattle.ws_frame.specs.Watching.{has_failed};
 ghost use Rattle.ws_capture_text.specs.InnerMarks.{parted};
-ghost use Rattle.ws_capture_text.specs.InnerJoining.{WritesAndKeeps, joined_lines, mark_in, put_of, text_before};
+ghost use Rattle.ws_capture_text.specs.InnerJoining.{joined_lines, mark_in, put_of, text_before};
+ghost use Rattle.ws_capture_text.specs.Rooms.{WritesAndKeeps};
 
 use crate::mark::{Mark, cut_mark};
 use crate::room::{Room, flush, put};

@@ -1,7 +1,8 @@
 //! Captures as text, without the values that they tell: checked, and written in format 2.
 //!
 //! The layers above use the contract of `check_capture`, that a text is a capture, or at which line it is damaged, and
-//! that of `write_as_capture2`: what is written is what format 2 has for the capture that a text is.
+//! that of `write_as_capture2`: what is written is what format 2 has for the capture that a text is; and those of a
+//! room, through which a text goes to a writer: what was put is what was written and what waits.
 #![tactic(auto)]
 
 mod checking;
@@ -14,4 +15,5 @@ mod stage;
 mod writing;
 
 pub use checking::check_capture;
+pub use room::{Room, flush, put};
 pub use writing::write_as_capture2;

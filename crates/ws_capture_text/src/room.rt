@@ -3,7 +3,7 @@
 ghost use Rattle.std.specs.Prelude.{◌≡◌, ◌≤◌, ◌+◌, [], ◌++◌, length, false, OnOk};
 ghost use Rattle.ws_frame.specs.Devices.{watched};
 ghost use Rattle.ws_frame.specs.Watching.{has_failed};
-ghost use Rattle.ws_capture_text.specs.InnerJoining.{WritesAndKeeps};
+ghost use Rattle.ws_capture_text.specs.Rooms.{WritesAndKeeps};
 
 use std::io::Write;
 use std::marker::Model;
@@ -12,9 +12,9 @@ use ws_frame::{Watched, WriteFault, write_whole};
 /// How many bytes a room holds.
 const ROOM: usize = 65536;
 
-/// Bytes in a fixed room: contracts see the list of them.
+/// Bytes that wait to be written, in a fixed room: contracts see the list of them.
 #[derive(Drop)]
-pub(crate) struct Room {
+pub struct Room {
     bytes: [u8; ROOM],
     len: usize,
 }
@@ -31,7 +31,7 @@ impl Model for Room {
 
 impl Room {
     /// An empty room.
-    pub(crate) fn new() -> Room
+    pub fn new() -> Room
         ensures { result ≡ [] }
     {
         Room {
@@ -76,7 +76,7 @@ impl Room {
 
 /// Puts bytes behind those that wait, which are written first where there is no room for more.
 #[inline(always)]
-pub(crate) fn put<W: Write>(
+pub fn put<W: Write>(
     room: &mut Room,
     bytes: &[u8],
     writer: &mut Watched<W>,
@@ -109,7 +109,7 @@ fn put_behind<W: Write>(
 }
 
 /// Writes the bytes that wait.
-pub(crate) fn flush<W: Write>(room: &mut Room, writer: &mut Watched<W>) -> Result<(), WriteFault>
+pub fn flush<W: Write>(room: &mut Room, writer: &mut Watched<W>) -> Result<(), WriteFault>
     requires { has_failed writer.old ≡ false }
     ensures written { WritesAndKeeps room.old room.new (watched W.contents writer.old writer.new) result }
     ensures empty { OnOk result (room.new ≡ []) }

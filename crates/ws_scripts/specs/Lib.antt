@@ -1,4 +1,5 @@
 pub mod Scripts
+pub mod CaptureFeeds
 pub mod CaptureLines
 pub mod Captures
 pub mod Captures2

@@ -91,14 +91,14 @@ impl AsTranscript for KeptTranscript {
 
 impl KeptTranscript {
     /// These turns, and this end.
-    pub fn new(turns: KeptTurns, ended: Ended) -> KeptTranscript
+    pub(crate) fn new(turns: KeptTurns, ended: Ended) -> KeptTranscript
         ensures { result ≡ record { turns = turns; ended = ended } }
     {
         KeptTranscript { turns, ended }
     }
 
     /// The same with a list of its turns.
-    pub fn to_list(&self, alloc: Global) -> Result<Transcript, NoMemory>
+    pub(crate) fn to_list(&self, alloc: Global) -> Result<Transcript, NoMemory>
         ensures { IfOk result (λ transcript. transcript ≡ self.now) }
     {
         let mut turns = Vec::new(alloc);

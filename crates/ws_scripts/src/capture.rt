@@ -1,5 +1,6 @@
 //! Captures: a transcript as lines of text, in format 1, or in format 2 with its masking key.
 
+mod feeding;
 mod format1;
 mod format2;
 mod line;
@@ -10,7 +11,8 @@ ghost use Rattle.std.specs.Prelude.{◌≡◌, IfOk};
 
 use crate::any_transcript::KeptTranscript;
 use crate::transcript::Transcript;
-pub use reading::{read_capture, read_capture2, read_kept_capture};
+pub use feeding::CaptureFeed;
+pub use reading::{read_capture, read_capture2};
 use std::alloc::Global;
 use std::marker::Model;
 use thiserror::Error;
@@ -42,7 +44,7 @@ impl Model for KeptCapture {
 
 impl KeptCapture {
     /// This key, where it is known, and this transcript.
-    pub fn new(key: Option<[u8; 4]>, transcript: KeptTranscript) -> KeptCapture
+    pub(crate) fn new(key: Option<[u8; 4]>, transcript: KeptTranscript) -> KeptCapture
         ensures { result ≡ record { key = key; transcript = transcript } }
     {
         KeptCapture { key, transcript }
@@ -63,7 +65,7 @@ impl KeptCapture {
     }
 
     /// The same with a list of its turns.
-    pub fn to_list(&self, alloc: Global) -> Result<Capture, NoMemory>
+    pub(crate) fn to_list(&self, alloc: Global) -> Result<Capture, NoMemory>
         ensures { IfOk result (λ capture. capture ≡ self.now) }
     {
         let transcript = self.transcript.to_list(alloc)?;

@@ -12,7 +12,7 @@ use ws_base::NoMemory;
 /// Turns, whose bytes stand one behind the other: beside these each takes two bytes, and eight more for each direction
 /// of 255 bytes or more. Contracts see the list of them.
 #[derive(Drop)]
-pub struct KeptTurns {
+pub(crate) struct KeptTurns {
     /// Of each turn first what was sent, then what was got.
     pairs: Pieces,
 }
@@ -31,7 +31,7 @@ impl Model for KeptTurns {
 
 impl KeptTurns {
     /// No turns.
-    pub fn new(alloc: Global) -> KeptTurns
+    pub(crate) fn new(alloc: Global) -> KeptTurns
         ensures { result ≡ [] }
     {
         KeptTurns {
@@ -40,7 +40,7 @@ impl KeptTurns {
     }
 
     /// These turns and one more, in which these bytes were sent and those got.
-    pub fn with(self, sent: &[u8], got: &[u8]) -> Result<KeptTurns, NoMemory>
+    pub(crate) fn with(self, sent: &[u8], got: &[u8]) -> Result<KeptTurns, NoMemory>
         ensures { IfOk result (λ turns. turns ≡ self ++ turn_with sent.now got.now ∷ []) }
     {
         let KeptTurns { mut pairs } = self;
@@ -50,7 +50,7 @@ impl KeptTurns {
     }
 
     /// The turns, one after the other.
-    pub fn walk(&self) -> TurnWalk<'_>
+    pub(crate) fn walk(&self) -> TurnWalk<'_>
         ensures { result ≡ self.now }
     {
         TurnWalk::of_pairs(self.pairs.walk())

@@ -24,14 +24,13 @@ mod turn_walk;
 
 pub use any_transcript::{AsTranscript, KeptTranscript, TranscriptRef};
 pub use capture::{
-    Capture, CaptureFault, KeptCapture, read_capture, read_capture2, read_kept_capture,
-    write_capture, write_capture2,
+    Capture, CaptureFault, CaptureFeed, KeptCapture, read_capture, read_capture2, write_capture,
+    write_capture2,
 };
 pub use cases::{all_ids, case, ids};
 pub use cut_turn::CutTurn;
 pub use cutting::{append_step, bytes_with, turns, turns_with};
 pub use expectation::Expectation;
-pub use kept_turns::KeptTurns;
 pub use script::{Case, Chop, Step};
 pub use script_text::{read_script, write_script};
 pub use transcript::{Ended, Transcript, Turn};

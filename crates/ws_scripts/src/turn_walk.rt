@@ -39,7 +39,7 @@ impl<'a> Model for TurnWalk<'a> {
 
 impl<'a> TurnWalk<'a> {
     /// The turns of a list.
-    pub fn of_list(turns: &'a [Turn]) -> TurnWalk<'a>
+    pub(crate) fn of_list(turns: &'a [Turn]) -> TurnWalk<'a>
         ensures { result ≡ turns.now }
     {
         TurnWalk {
@@ -57,7 +57,7 @@ impl<'a> TurnWalk<'a> {
     }
 
     /// The same turns once more.
-    pub fn again(&self) -> TurnWalk<'a>
+    pub(crate) fn again(&self) -> TurnWalk<'a>
         ensures { result ≡ self.now }
     {
         TurnWalk {

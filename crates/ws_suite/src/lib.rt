@@ -21,8 +21,8 @@ pub use judging::{judge, judge_end, judge_with};
 pub use rules::{rule, rule_with};
 pub use verdict::{FailWhy, LooseWhy, Verdict};
 pub use ws_scripts::{
-    AsTranscript, Capture, CaptureFault, Case, Chop, CutTurn, Ended, Expectation, KeptCapture,
-    KeptTranscript, KeptTurns, Step, Transcript, TranscriptRef, Turn, TurnRef, TurnWalk, case, ids,
-    read_capture, read_capture2, read_kept_capture, read_script, turns, turns_with, write_capture,
+    AsTranscript, Capture, CaptureFault, CaptureFeed, Case, Chop, CutTurn, Ended, Expectation,
+    KeptCapture, KeptTranscript, Step, Transcript, TranscriptRef, Turn, TurnRef, TurnWalk, case,
+    ids, read_capture, read_capture2, read_script, turns, turns_with, write_capture,
     write_capture2, write_script,
 };

@@ -1,2 +1,3 @@
--- The lemmas behind a text that is fed piece by piece.
+-- The lemmas behind texts that are fed piece by piece.
 pub mod Fed
+pub mod FedLines

@@ -22,3 +22,8 @@ abbrev pub IsFed : {S T : Type 0} → (T → List ℕ → Type 0) → (S → Lis
     → Type 0
 IsFed IsLineOf HasTaken first text feed =
     HasFed IsLineOf HasTaken first text feed.taker feed.partial.items feed.number
+
+-- some text was fed to it
+abbrev pub WasFed : {S T : Type 0} → (T → List ℕ → Type 0) → (S → List T → S → Type 0) → TextFeed S → Type 0
+WasFed {S = S} IsLineOf HasTaken feed =
+    (first : S) × (text : List ℕ) × IsFed IsLineOf HasTaken first text feed

@@ -3,15 +3,13 @@
 ghost use Rattle.std.specs.Prelude.{◌≡◌, List, ℕ, [], ◌∷◌, ◌++◌, MatchResult, OnOk};
 ghost use Rattle.ws_formats.specs.Lines.{Damages, HasLineForEach, IsLine, line_feed};
 ghost use Rattle.ws_formats.specs.Reading.{Reads};
-ghost use Rattle.ws_text_feed.specs.Feeding.{IsFed};
+ghost use Rattle.ws_text_feed.specs.Feeding.{IsFed, WasFed};
 
+use crate::MOST_KEPT;
 use crate::taking::TakeValues;
 use std::alloc::Global;
 use ws_base::{LineFault, NoMemory, TextFault};
 use ws_formats::cut_line;
-
-/// So much room for a line stays for the next one. More is given back once its line is read.
-const MOST_KEPT: usize = 65536;
 
 /// A text so far: who has taken its values, and the line that hasn't ended.
 #[derive(Drop)]
@@ -37,6 +35,7 @@ impl<T: TakeValues> TextFeed<T> {
 
     /// Feeds what comes next of the text. After an error nothing more is to be fed.
     pub fn feed(&mut self, alloc: Global, piece: &[u8]) -> Result<(), TextFault>
+        requires { WasFed T.is_line_of T.has_taken self.old }
         ensures { (first : T) (text : List ℕ) →
             IsFed T.is_line_of T.has_taken first text self.old →
             MatchResult result
@@ -59,7 +58,8 @@ impl<T: TakeValues> TextFeed<T> {
 
     /// The line ends with these bytes, and its value is taken.
     fn end_line(&mut self, alloc: Global, end: &[u8]) -> Result<(), TextFault>
-        requires { IsLine end.now }
+        requires line { IsLine end.now }
+        requires fed { WasFed T.is_line_of T.has_taken self.old }
         ensures { (first : T) (text : List ℕ) →
             IsFed T.is_line_of T.has_taken first text self.old →
             MatchResult result

@@ -23,6 +23,7 @@ pub trait TakeValues: Sized + Drop {
 
     /// Takes one more value.
     fn take(&mut self, alloc: Global, value: Self::Value) -> Result<(), NoMemory>
+        requires { (first : Self) × (before : List Self.Value) × has_taken first before self.old }
         ensures { (first : Self) (before : List Self.Value) → has_taken first before self.old →
             OnOk result (has_taken first (before ++ value ∷ []) self.new) };
 }

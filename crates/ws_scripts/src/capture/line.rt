@@ -11,7 +11,7 @@ use crate::transcript::Ended;
 use std::alloc::Global;
 use std::fmt;
 use ws_base::{LineFault, Payload};
-use ws_formats::{HexDigitBlocks, read_hex, read_key};
+use ws_formats::{HexDigits, read_hex, read_key};
 
 /// The formats of captures.
 #[derive(Clone, Copy)]
@@ -152,10 +152,10 @@ impl fmt::Display for CaptureLine<&[u8]> {
             CaptureLine::First(Format::One) => writeln!(f, "wst-capture 1"),
             CaptureLine::First(Format::Two) => writeln!(f, "wst-capture 2"),
             CaptureLine::Key(None) => writeln!(f, "key -"),
-            CaptureLine::Key(Some(key)) => writeln!(f, "key {}", HexDigitBlocks(key.as_slice())),
+            CaptureLine::Key(Some(key)) => writeln!(f, "key {}", HexDigits(key.as_slice())),
             CaptureLine::Begin => writeln!(f, "turn"),
-            CaptureLine::Data(Line::Sent(bytes)) => writeln!(f, "> {}", HexDigitBlocks(bytes)),
-            CaptureLine::Data(Line::Got(bytes)) => writeln!(f, "< {}", HexDigitBlocks(bytes)),
+            CaptureLine::Data(Line::Sent(bytes)) => writeln!(f, "> {}", HexDigits(bytes)),
+            CaptureLine::Data(Line::Got(bytes)) => writeln!(f, "< {}", HexDigits(bytes)),
             CaptureLine::End(Ended::Tester) => writeln!(f, "end tester"),
             CaptureLine::End(Ended::Peer) => writeln!(f, "end peer"),
             CaptureLine::End(Ended::Broken) => writeln!(f, "end broken"),

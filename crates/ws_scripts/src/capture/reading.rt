@@ -54,7 +54,7 @@ pub fn read_capture2(alloc: Global, text: &[u8]) -> Result<Capture, CaptureFault
 }
 
 /// The capture that a text is, in either format, in little room.
-pub fn read_kept_capture(alloc: Global, text: &[u8]) -> Result<KeptCapture, CaptureFault>
+fn read_kept_capture(alloc: Global, text: &[u8]) -> Result<KeptCapture, CaptureFault>
     ensures { MatchResult result (λ capture. IsAnyCaptureOf capture text.now)
         (λ fault. DamagesCapture IsAnyCaptureOf fault text.now) }
 {
@@ -65,7 +65,7 @@ pub fn read_kept_capture(alloc: Global, text: &[u8]) -> Result<KeptCapture, Capt
 }
 
 /// The same fault of a capture.
-fn capture_fault(fault: TextFault) -> CaptureFault
+pub(crate) fn capture_fault(fault: TextFault) -> CaptureFault
     ensures { (n : ℕ) → result ≡ CaptureFault.Damaged n → fault ≡ text_fault.Damaged n }
 {
     match fault {

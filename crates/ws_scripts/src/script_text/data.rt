@@ -13,7 +13,7 @@ use crate::script_text::words::after_name;
 use std::alloc::Global;
 use std::fmt;
 use ws_base::{LineFault, Payload};
-use ws_formats::{HexDigitBlocks, read_hex};
+use ws_formats::{HexDigits, read_hex};
 
 /// The most bytes that are told by one byte and their number.
 const MAX_TIMES: u32 = 16_777_216;
@@ -141,9 +141,9 @@ impl fmt::Display for Data<'_> {
             return write!(f, "-");
         };
         if is_counted(*first, self.0) {
-            write!(f, "{}*{}", HexDigitBlocks(&[*first]), self.0.len())
+            write!(f, "{}*{}", HexDigits(&[*first]), self.0.len())
         } else {
-            write!(f, "{}", HexDigitBlocks(self.0))
+            write!(f, "{}", HexDigits(self.0))
         }
     }
 }

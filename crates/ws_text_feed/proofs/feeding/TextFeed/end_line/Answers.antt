@@ -13,7 +13,7 @@ returns-in-Err-Damaged g c = λ first text h more.
     subst (λ (n : ℕ). Damages (HasLineForEach line_of) (Damaged n) (text ++ (c.args.end.now ++ line_feed ∷ more)))
     (sym c.read_line.ensures.same.1)
     (damaged_line line_of g.T.TakeValues.has_taken first text c.args.end.now more old.taker old.partial.items old.number h
-    c.requires (c.in-Err-Damaged.ensures.value c.in-Err-Damaged.field-0-is))
+    c.requires.line (c.in-Err-Damaged.ensures.value c.in-Err-Damaged.field-0-is))
 
 pub returns : goal.returns
 returns g c = λ first text h.
@@ -26,4 +26,12 @@ returns g c = λ first text h.
     subst (λ (l : List ℕ). HasFed line_of taken first (text ++ (c.args.end.now ++ line_feed ∷ [])) c.take.new.self l c.in-Some.number)
     (sym c.in-Ok.ensures.emptied)
     (one_taken line_of taken first text c.args.end.now old.taker c.take.new.self old.partial.items old.number c.in-Some.number
-    value h c.requires c.in-Ok.ensures.value (c.in-Ok-take.ensures first h.values kept) number)
+    value h c.requires.line c.in-Ok.ensures.value (c.in-Ok-take.ensures first h.values kept) number)
+
+pub take-requires : goal.take-requires
+take-requires g c =
+    let (first, text, h) = c.requires.fed in (
+      first,
+      h.values,
+      subst (λ t. g.T.TakeValues.has_taken first h.values t) (sym c.read_line.ensures.same.0) h.taken,
+    )

@@ -38,3 +38,9 @@ returns-in-Ok-extend_from_slice g c = λ first text h.
     (subst (λ (t : List ℕ). HasFed line_of taken first t self.taker (self.partial.items ++ c.loop-line.rest.now) self.number) whole
     (longer line_of taken first (text ++ done) c.loop-line.rest.now self.taker self.partial.items self.number (fed first text h)
     c.in_default.ensures))
+
+pub end_line-requires-clause-fed : goal.end_line-requires-clause-fed
+end_line-requires-clause-fed g c =
+    let (first, text, h) = c.requires in
+    let (done, parts, fed) = c.loop-line.invariant in
+    (first, text ++ done, fed first text h)
