@@ -3,6 +3,7 @@ mod PassedUp
 mod CallWords
 mod Placed
 mod Parts
+mod PartByPart
 mod Sending
 mod Answering
 pub mod Making

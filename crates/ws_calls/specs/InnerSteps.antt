@@ -1,5 +1,6 @@
 -- Inside the crate: an endpoint between two calls, for contracts of private functions. A reader may skip this file.
 use Rattle.std.specs.Prelude.{◌≡◌, ℕ, true, List, [], ◌++◌, length, map, ◌+◌, Option, Some, None, Result, Ok, Err}
+use Rattle.std.specs.Prelude.{string_bytes}
 use Rattle.std.specs.List.{flat_map}
 use Rattle.ws_wire.specs.Frame.{Frame}
 use Rattle.ws_session.specs.declared.event.Event.{Event}
@@ -10,6 +11,7 @@ use Rattle.ws_session.specs.Exchange.{Exchange, SessionValue, HasExchanged, is_o
 use Rattle.ws_session.specs.Faults.{open_payload}
 use Rattle.ws_session.specs.Taking.{HasTakenAll}
 use Rattle.ws_session.specs.Sends.{Send}
+use Rattle.ws_calls.specs.declared.calling.Caller.{Caller}
 use Rattle.ws_calls.specs.declared.calls.Call.{Call}
 use Rattle.ws_calls.specs.declared.report.PlacedInStream.{PlacedInStream}
 use Rattle.ws_calls.specs.declared.report.CallAnswer.{CallAnswer}
@@ -79,6 +81,14 @@ abbrev pub HasTakenPart : (Event → List Frame) → SessionValue → SessionVal
     → List PlacedEvent → Type 0
 HasTakenPart reply old new piece key before after told =
     HasTakenAll reply old new (record { piece = piece; key = key; before = before; after = after }) [] told
+
+-- a piece, or a part of one, was taken under this key and counted, and its events were told behind the lines before
+abbrev pub HasToldPart : {E : Type 0} → (E → SessionValue) → (Event → List Frame) → Caller E → Caller E → List ℕ
+    → List ℕ → Type 0
+HasToldPart value reply old new piece key = (told : List PlacedEvent)
+    × HasTakenPart reply (value old.called) (value new.called) piece key old.put.items new.put.items told
+    × (new.taken ≡ old.taken + length piece)
+    × (string_bytes new.lines ≡ string_bytes old.lines ++ told_behind old.taken told)
 
 -- the call was answered, and its answer was told behind these lines
 pub record HasToldCall (endpoint : Endpoint) (exchange : Exchange) (call : Call) (before : List ℕ) (taken : ℕ)

@@ -1,6 +1,6 @@
 //! An end that a script makes calls of, and the call that a session and an echo answer alike: a piece is taken.
 
-ghost use Rattle.std.specs.Prelude.{◌≡◌, ◌+◌, ◌++◌, List, [], length, OnOk, string_bytes};
+ghost use Rattle.std.specs.Prelude.{◌≡◌, ◌≤◌, List, [], length, drop, OnOk, string_bytes};
 ghost use Rattle.ws_wire.specs.Frame.{Frame};
 ghost use Rattle.ws_session.specs.Exchange.{Exchange, SessionValue};
 ghost use Rattle.ws_session.specs.Taking.{HasTakenAll};
@@ -8,7 +8,7 @@ ghost use Rattle.ws_session.specs.Replies.{echo_reply_to, reply_to};
 ghost use Rattle.ws_session.specs.declared.event.Event.{Event};
 ghost use Rattle.ws_session.specs.declared.event.PlacedEvent.{PlacedEvent};
 ghost use Rattle.ws_calls.specs.declared.calls.Call.TheVariants.{Take};
-ghost use Rattle.ws_calls.specs.InnerSteps.{Agrees, HasTakenPart, HasToldCall, endpoint_of, told_behind};
+ghost use Rattle.ws_calls.specs.InnerSteps.{Agrees, HasToldCall, HasToldPart, endpoint_of};
 
 use crate::report_lines::{tell_events, tell_taken};
 use std::alloc::Global;
@@ -16,6 +16,9 @@ use ws_base::{NoMemory, Payload};
 use ws_parts::cut_part;
 use ws_session::laws::{one_list_of_events, replies_go_on};
 use ws_session::{Echo, PlacedEvent, Session, Status};
+
+/// What is left of a piece that is at most so long is kept until all of it is taken.
+const MOST_KEPT: usize = 65536;
 
 /// An end that a script makes calls of: a session, or an echo.
 pub(crate) trait Scripted: Drop {
@@ -116,30 +119,43 @@ impl<E: Scripted> Caller<E> {
     pub(crate) fn take(
         &mut self,
         alloc: Global,
-        piece: &Payload,
+        piece: Payload,
         key: [u8; 4],
     ) -> Result<(), NoMemory>
         ensures { (exchange : Exchange) → Agrees exchange self.old.taken (E.value self.old.called) →
             OnOk result (HasToldCall (endpoint_of E.reply (E.value self.old.called)) exchange
-            (Take piece.now key) (string_bytes self.old.lines) self.new.taken (E.value self.new.called)
+            (Take piece key) (string_bytes self.old.lines) self.new.taken (E.value self.new.called)
             (string_bytes self.new.lines)) }
     {
         self.put.clear();
+        let len = piece.len() as u64;
         if !self.called.status_now().is_over() {
-            self.take_parts(alloc, piece.as_slice(), key)?;
+            self.take_piece(alloc, piece, key)?;
         }
         // Its events are told.
-        tell_taken(piece.len() as u64, self.put.as_slice(), &mut self.lines)?;
+        tell_taken(len, self.put.as_slice(), &mut self.lines)?;
+        Ok(())
+    }
+
+    /// Takes a piece, and tells its events. Once half of a long one is told, no more than the other half is kept.
+    fn take_piece(&mut self, alloc: Global, piece: Payload, key: [u8; 4]) -> Result<(), NoMemory>
+        ensures { OnOk result (HasToldPart E.value E.reply self.old self.new piece key) }
+    {
+        one_list_of_events();
+        replies_go_on();
+        let mut rest = piece.into_vec();
+        'halves: while rest.len() > MOST_KEPT {
+            let half = rest.len() / 2;
+            self.take_parts(alloc, &rest[..half], key)?;
+            drop_front(&mut rest, half);
+        }
+        self.take_parts(alloc, rest.as_slice(), key)?;
         Ok(())
     }
 
     /// Takes a piece part by part, and tells its events: those of a part are told before more bytes are taken.
     fn take_parts(&mut self, alloc: Global, piece: &[u8], key: [u8; 4]) -> Result<(), NoMemory>
-        ensures { OnOk result ((told : List PlacedEvent)
-            × HasTakenPart E.reply (E.value self.old.called) (E.value self.new.called) piece.now key
-            self.old.put.items self.new.put.items told
-            × (self.new.taken ≡ self.old.taken + length piece.now)
-            × (string_bytes self.new.lines ≡ string_bytes self.old.lines ++ told_behind self.old.taken told)) }
+        ensures { OnOk result (HasToldPart E.value E.reply self.old self.new piece.now key) }
     {
         one_list_of_events();
         replies_go_on();
@@ -154,11 +170,7 @@ impl<E: Scripted> Caller<E> {
 
     /// Takes a part of a piece, and tells its events.
     fn take_part(&mut self, alloc: Global, part: &[u8], key: [u8; 4]) -> Result<(), NoMemory>
-        ensures { OnOk result ((told : List PlacedEvent)
-            × HasTakenPart E.reply (E.value self.old.called) (E.value self.new.called) part.now key
-            self.old.put.items self.new.put.items told
-            × (self.new.taken ≡ self.old.taken + length part.now)
-            × (string_bytes self.new.lines ≡ string_bytes self.old.lines ++ told_behind self.old.taken told)) }
+        ensures { OnOk result (HasToldPart E.value E.reply self.old self.new part.now key) }
     {
         self.events.clear();
         self.called
@@ -171,4 +183,15 @@ impl<E: Scripted> Caller<E> {
         self.taken = taken;
         Ok(())
     }
+}
+
+/// Drops so many bytes at the front, and gives their room back.
+fn drop_front(bytes: &mut Vec<u8>, count: usize)
+    requires { count ≤ length bytes.old.items }
+    ensures { bytes.new.items ≡ drop count bytes.old.items }
+{
+    let left = bytes.len() - count;
+    bytes.copy_within(count.., 0);
+    bytes.truncate(left);
+    bytes.shrink_to_fit();
 }

@@ -68,7 +68,7 @@ impl TakeValues for Caller<Echo> {
     }
 
     fn take(&mut self, alloc: Global, value: EchoCall) -> Result<(), NoMemory> {
-        self.call(alloc, &value)
+        self.call(alloc, value)
     }
 }
 
@@ -81,13 +81,13 @@ impl Caller<Echo> {
     }
 
     /// One call, and the lines that tell what came of it.
-    fn call(&mut self, alloc: Global, call: &EchoCall) -> Result<(), NoMemory>
+    fn call(&mut self, alloc: Global, call: EchoCall) -> Result<(), NoMemory>
         ensures { (exchange : Exchange) → Agrees exchange self.old.taken self.old.called →
-            OnOk result (HasToldCall (echo_of self.old.called.role self.old.called.limits) exchange (as_call call.now)
+            OnOk result (HasToldCall (echo_of self.old.called.role self.old.called.limits) exchange (as_call call)
             (string_bytes self.old.lines) self.new.taken self.new.called (string_bytes self.new.lines)) }
     {
         match call {
-            EchoCall::Take { piece, key } => self.take(alloc, piece, *key),
+            EchoCall::Take { piece, key } => self.take(alloc, piece, key),
             EchoCall::End => {
                 self.called.end();
                 tell_ended(&mut self.lines)?;

@@ -73,7 +73,7 @@ impl TakeValues for Caller<Session> {
     }
 
     fn take(&mut self, alloc: Global, value: Call) -> Result<(), NoMemory> {
-        self.call(alloc, &value)
+        self.call(alloc, value)
     }
 }
 
@@ -86,14 +86,14 @@ impl Caller<Session> {
     }
 
     /// One call, and the lines that tell what came of it.
-    fn call(&mut self, alloc: Global, call: &Call) -> Result<(), NoMemory>
+    fn call(&mut self, alloc: Global, call: Call) -> Result<(), NoMemory>
         ensures { (exchange : Exchange) → Agrees exchange self.old.taken self.old.called →
-            OnOk result (HasToldCall (session_of self.old.called.role self.old.called.limits) exchange call.now
+            OnOk result (HasToldCall (session_of self.old.called.role self.old.called.limits) exchange call
             (string_bytes self.old.lines) self.new.taken self.new.called (string_bytes self.new.lines)) }
     {
         match call {
             Call::Send(send) => self.send(alloc, &send.outgoing(), send.key()),
-            Call::Take { piece, key } => self.take(alloc, piece, *key),
+            Call::Take { piece, key } => self.take(alloc, piece, key),
             Call::End => {
                 self.called.end();
                 tell_ended(&mut self.lines)?;

@@ -9,4 +9,4 @@ mod Acting
 mod Joined
 mod Headlines
 mod Parts
-mod ScriptPlaying
+mod Stepping

@@ -25,10 +25,8 @@ use Rattle.ws_pair.specs.declared.moves.Move.{Move}
 use Rattle.ws_pair.specs.declared.report.Answer.{Answer}
 use Rattle.ws_pair.specs.declared.report.Answer.TheVariants as outcome
 use Rattle.ws_pair.specs.declared.endpoint.Endpoint.{Endpoint}
-use Rattle.ws_formats.specs.Lines.{HasLineForEach}
-use Rattle.ws_pair.specs.Link.{LinkEnd, Link, BothLimits, new_link, other, role_at, end_of, limits_at, with_end}
-use Rattle.ws_pair.specs.Moves.{newly_told, side_of, IsSendMoveAnswered, IsMoveAnswered, Plays}
-use Rattle.ws_pair.specs.Script.{IsMoveLine}
+use Rattle.ws_pair.specs.Link.{LinkEnd, Link, BothLimits, other, role_at, end_of, limits_at, with_end}
+use Rattle.ws_pair.specs.Moves.{newly_told, side_of, IsSendMoveAnswered, IsMoveAnswered}
 
 -- ---- sends
 
@@ -98,32 +96,6 @@ pub record HasMoved (limits : BothLimits) (link : Link) (move : Move) (answer : 
 pub record AreJoined (limits : BothLimits) (link : Link) (client server : Endpoint) : Type 0 where
   pub client_stands : IsEndAt limits link Client client
   pub server_stands : IsEndAt limits link Server server
-
--- ---- a script
-
--- the move of a line was played at this link, and what came of it stands behind the answers before
-pub record HasPlayedLine (limits : BothLimits) (link : Link) (line : List ℕ) (before answers : List Answer)
-    (client server : Endpoint) : Type 0 where
-  pub move : Move
-  pub is_line : IsMoveLine move line
-  pub answer : Answer
-  pub after : Link
-  pub answered : IsMoveAnswered limits link move answer after
-  pub joined : AreJoined limits after client server
-  pub told : answers ≡ before ++ answer ∷ []
-
--- the moves of the lines before the rest of a text were played, and these are the answers to them
-pub record HasPlayedMoves (limits : BothLimits) (text rest : List ℕ) (answers : List Answer) (client server : Endpoint)
-    : Type 0 where
-  pub moves : List Move
-  pub link : Link
-  pub plays : Plays limits new_link moves answers link
-  pub joined : AreJoined limits link client server
-  -- what the rest tells comes behind these moves, and what the text tells goes on in the rest
-  pub before : (later : List Move) → HasLineForEach IsMoveLine later rest
-      → HasLineForEach IsMoveLine (moves ++ later) text
-  pub goes_on : (all : List Move) → HasLineForEach IsMoveLine all text →
-      (later : List Move) × HasLineForEach IsMoveLine later rest
 
 -- ---- laws of sessions
 

@@ -1,7 +1,6 @@
 //! Scripts of moves: what happens at two joined sessions, one move a line.
 
-ghost use Rattle.std.specs.Prelude.{◌≡◌, List, map, MatchResult};
-ghost use Rattle.ws_pair.specs.declared.moves.Move.{Move};
+ghost use Rattle.std.specs.Prelude.{◌≡◌, map, MatchResult};
 ghost use Rattle.ws_formats.specs.Lines.{Damages};
 ghost use Rattle.ws_formats.specs.Reading.{Reads};
 ghost use Rattle.ws_base.specs.Finding.{Finds};
@@ -22,17 +21,6 @@ pub fn read_moves(alloc: Global, text: &[u8]) -> Result<Sequence<Move>, TextFaul
     ensures { MatchResult result (λ moves. AreMoveLines moves text.now) (λ fault. Damages AreMoveLines fault text.now) }
 {
     read_lines::<Move>(alloc, text)
-}
-
-/// What is wrong with a text that is no script.
-pub(crate) fn move_damage(alloc: Global, text: &[u8]) -> TextFault
-    requires { (moves : List Move) → AreMoveLines moves text.now → ⊥ }
-    ensures { Damages AreMoveLines result text.now }
-{
-    match read_moves(alloc, text) {
-        Ok(_) => unreachable!(),
-        Err(fault) => fault,
-    }
 }
 
 impl Line for Move {

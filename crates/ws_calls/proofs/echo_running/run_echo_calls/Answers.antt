@@ -16,3 +16,6 @@ pub returns-in-Ok-echo_report : goal.returns-in-Ok-echo_report
 returns-in-Ok-echo_report c =
     let t = c.in-Ok-end.ensures c.of_echo.result c.args.text.now (c.in-Ok.ensures c.of_echo.result [] c.new-feed.ensures) in
     (t.0, t.1, c.in-Ok-echo_report.ensures c.args.role c.args.limits c.of_echo.result t.0 c.of_echo.ensures t.2)
+
+pub feed-requires : goal.feed-requires
+feed-requires c = (c.of_echo.result, [], c.new-feed.ensures)

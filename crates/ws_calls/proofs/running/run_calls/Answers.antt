@@ -16,3 +16,6 @@ pub returns-in-Ok-session_report : goal.returns-in-Ok-session_report
 returns-in-Ok-session_report c =
     let t = c.in-Ok-end.ensures c.of_session.result c.args.text.now (c.in-Ok.ensures c.of_session.result [] c.new-feed.ensures) in
     (t.0, t.1, c.in-Ok-session_report.ensures c.args.role c.args.limits c.of_session.result t.0 c.of_session.ensures t.2)
+
+pub feed-requires : goal.feed-requires
+feed-requires c = (c.of_session.result, [], c.new-feed.ensures)

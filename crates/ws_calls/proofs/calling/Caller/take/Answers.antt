@@ -8,7 +8,7 @@ use Rattle.ws_calls.specs.CallLines.{answer_lines}
 use Rattle.ws_calls.specs.InnerSteps.{HasToldCall}
 use Rattle.ws_calls.proofs.Answering.{told_going, told_over}
 use Rattle.ws_calls.specs.InnerSteps.{endpoint_of}
-use Rattle.ws_calls.proofs.calling.Caller.take.Goals.{then-not-is_over+in_ok-take_parts, else-not-is_over}
+use Rattle.ws_calls.proofs.calling.Caller.take.Goals.{then-not-is_over+in_ok-take_piece, else-not-is_over}
 use Rattle.ws_calls.proofs.calling.Caller.take.Goals as goal
 
 pub returns : goal.returns
@@ -16,26 +16,26 @@ returns g c =
     let old = (g.E.Scripted.value c.args.self.now.called) in
     let before = string_bytes c.args.self.now.lines in
     let lines = string_bytes c.tell_taken.new.lines in
-    let put = c.as_slice-2.result.now in
-    let answer = Taken [] c.len.result put in
+    let put = c.as_slice.result.now in
+    let answer = Taken [] c.len-len.result put in
     elim c.if-not-is_over.branch [
-      | then-not-is_over+in_ok-take_parts w ↦ λ exchange is.
-          let after = w.take_parts.new.self in
+      | then-not-is_over+in_ok-take_piece w ↦ λ exchange is.
+          let after = w.take_piece.new.self in
           let same : c.if-not-is_over.self ≡ after = search rules in
           let going : is_over old.status ≡ false = search rules in
-          let h = w.in_ok-take_parts.ensures in
+          let h = w.in_ok-take_piece.ensures in
           let same_put : put ≡ after.put.items =
-          c.as_slice-2.ensures.value ∙ ap (λ (s : Caller g.row.E.Denot). s.put.items) same in
-          subst (λ (s : Caller g.row.E.Denot). HasToldCall (endpoint_of g.E.Scripted.reply old) exchange (Take c.args.piece.now c.args.key) before s.taken (g.E.Scripted.value s.called) lines) (sym same)
-          (told_going g.E.Scripted.reply exchange c.args.self.now.taken old c.args.piece.now c.args.key is (g.E.Scripted.value after.called) w.as_slice.result.now c.clear.new.self.items after.put.items put before (string_bytes after.lines) lines
-          h.0 [] after.taken c.len.result going w.as_slice.ensures c.clear.ensures.items h.1 h.2 h.3 c.len.ensures refl same_put
+          c.as_slice.ensures.value ∙ ap (λ (s : Caller g.row.E.Denot). s.put.items) same in
+          subst (λ (s : Caller g.row.E.Denot). HasToldCall (endpoint_of g.E.Scripted.reply old) exchange (Take c.args.piece c.args.key) before s.taken (g.E.Scripted.value s.called) lines) (sym same)
+          (told_going g.E.Scripted.reply exchange c.args.self.now.taken old c.args.piece c.args.key is (g.E.Scripted.value after.called) c.args.piece c.clear.new.self.items after.put.items put before (string_bytes after.lines) lines
+          h.0 [] after.taken c.len-len.result going refl c.clear.ensures.items h.1 h.2 h.3 c.len-len.ensures refl same_put
           (c.in_ok-tell_taken.ensures ∙ ap (λ (s : Caller g.row.E.Denot). string_bytes s.lines ++ answer_lines answer) same))
       | else-not-is_over w ↦ λ exchange is.
           let same : c.if-not-is_over.self ≡ record c.args.self.now { put = c.clear.new.self } = search rules in
           let over : is_over old.status ≡ true = search rules in
           let same_put : put ≡ [] =
-          c.as_slice-2.ensures.value ∙ (ap (λ (s : Caller g.row.E.Denot). s.put.items) same ∙ c.clear.ensures.items) in
-          subst (λ (s : Caller g.row.E.Denot). HasToldCall (endpoint_of g.E.Scripted.reply old) exchange (Take c.args.piece.now c.args.key) before s.taken (g.E.Scripted.value s.called) lines) (sym same)
-          (told_over g.E.Scripted.reply exchange c.args.self.now.taken old c.args.piece.now c.args.key is c.len.result put before lines [] over c.len.ensures refl same_put
+          c.as_slice.ensures.value ∙ (ap (λ (s : Caller g.row.E.Denot). s.put.items) same ∙ c.clear.ensures.items) in
+          subst (λ (s : Caller g.row.E.Denot). HasToldCall (endpoint_of g.E.Scripted.reply old) exchange (Take c.args.piece c.args.key) before s.taken (g.E.Scripted.value s.called) lines) (sym same)
+          (told_over g.E.Scripted.reply exchange c.args.self.now.taken old c.args.piece c.args.key is c.len-len.result put before lines [] over c.len-len.ensures refl same_put
           (c.in_ok-tell_taken.ensures ∙ ap (λ (s : Caller g.row.E.Denot). string_bytes s.lines ++ answer_lines answer) same))
     ]
