@@ -48,7 +48,7 @@ pub fn run_echoes(alloc: Global, words: &[&str], out: &mut String) -> Result<(),
 }
 
 /// A number.
-fn number_of(word: &str) -> Result<usize, RowFault> {
+pub fn number_of(word: &str) -> Result<usize, RowFault> {
     match word.parse::<usize>() {
         Ok(number) => Ok(number),
         Err(_) => Err(RowFault::NotARow),

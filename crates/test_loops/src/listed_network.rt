@@ -6,9 +6,10 @@ use crate::listed_stream::ListedStream;
 use crate::lists::stream_by;
 use std::alloc::{AllocError, Global};
 use std::fmt::Write;
+use ws_loops::{Listener, TryAccept};
 use ws_networks::{Network, Progress};
 
-/// Why a connection is not made.
+/// Why a connection is not made, or no client comes.
 #[derive(Clone, Copy)]
 pub enum Miss {
     /// The name was not found.
@@ -17,17 +18,23 @@ pub enum Miss {
     NotBegun(usize),
     /// It has failed.
     Failed(usize),
+    /// The address of this number can't be listened at.
+    NotBound(usize),
+    /// No client can be taken.
+    NotAccepted,
 }
 
 /// Each word says what a connection to one address does: `b` that it is not begun, else a letter each time that it is
 /// asked how far it has come, `p` for pending, `m` for made and `f` for failed, and behind the last one it is pending.
-/// What was done is noted.
+/// `x` says that the address can't be listened at. What was done is noted.
 #[derive(Drop)]
 pub struct ListedNetwork<'a> {
     alloc: Global,
     found: bool,
     tries: Vec<&'a str>,
     stream: &'a str,
+    accepts: &'a str,
+    clients: &'a [&'a str],
     at: usize,
     asked: usize,
     pub did: String,
@@ -35,11 +42,13 @@ pub struct ListedNetwork<'a> {
 
 impl<'a> ListedNetwork<'a> {
     /// The words, parted by commas; `-` has no address, and of `!` the look-up fails. Each connection is a stream of
-    /// this word.
+    /// this word; a listener has these letters and the streams of these words.
     pub fn new(
         alloc: Global,
         words: &'a str,
         stream: &'a str,
+        accepts: &'a str,
+        clients: &'a [&'a str],
     ) -> Result<ListedNetwork<'a>, AllocError> {
         let mut tries = Vec::new(alloc);
         if words != "-" && words != "!" {
@@ -52,6 +61,8 @@ impl<'a> ListedNetwork<'a> {
             found: words != "!",
             tries,
             stream,
+            accepts,
+            clients,
             at: 0,
             asked: 0,
             did: String::new(alloc),
@@ -80,12 +91,14 @@ impl<'a> ListedNetwork<'a> {
     }
 }
 
-impl Network for ListedNetwork<'_> {
+impl<'a> Network for ListedNetwork<'a> {
     ghost use Rattle.std.specs.Prelude.{⊤};
 
     type Address = usize;
 
     type Stream = ListedStream;
+
+    type Listener = ListedListener<'a>;
 
     type Miss = Miss;
 
@@ -124,6 +137,85 @@ impl Network for ListedNetwork<'_> {
             Some(b'm') => Progress::Made,
             Some(b'f') => Progress::Failed(Miss::Failed(at)),
             _ => Progress::Pending,
+        }
+    }
+
+    fn bind(&mut self, address: usize, _at: usize) -> Result<ListedListener<'a>, Miss> {
+        (self.at, self.asked) = (address, 0);
+        self.note("bind", address);
+        if self.mark() == Some(b'x') {
+            return Err(Miss::NotBound(address));
+        }
+        Ok(ListedListener {
+            alloc: self.alloc,
+            accepts: self.accepts,
+            asked: 0,
+            clients: self.clients,
+            given: 0,
+        })
+    }
+
+    fn address_of(&mut self, _listener: &ListedListener<'a>) -> Result<usize, Miss> {
+        let at = self.at;
+        self.note("named", at);
+        Ok(at)
+    }
+}
+
+/// Each letter says what it does when it is asked: `c` that a client comes, with the stream of the next word, `f` that
+/// it fails, and `n`, as behind the last letter, that there is no client.
+#[derive(Drop)]
+pub struct ListedListener<'a> {
+    alloc: Global,
+    accepts: &'a str,
+    asked: usize,
+    clients: &'a [&'a str],
+    given: usize,
+}
+
+impl<'a> ListedListener<'a> {
+    /// Whether there is a word for one client more.
+    pub fn has_clients(&self) -> bool {
+        self.given < self.clients.len()
+    }
+
+    /// The word of the client that came last.
+    pub fn word(&self) -> Option<&'a str> {
+        let word = self.clients.get(self.given.checked_sub(1)?)?;
+        Some(*word)
+    }
+
+    /// The stream of the next client.
+    fn next_client(&mut self) -> TryAccept<ListedStream, Miss> {
+        let Some(word) = self.clients.get(self.given) else {
+            return TryAccept::NotReady;
+        };
+        match stream_by(self.alloc, word) {
+            Ok(stream) => {
+                self.given = self.given.saturating_add(1);
+                TryAccept::Client(stream)
+            }
+            Err(_) => TryAccept::Failed(Miss::NotAccepted),
+        }
+    }
+}
+
+impl Listener for ListedListener<'_> {
+    ghost use Rattle.std.specs.Prelude.{⊤};
+
+    type Client = ListedStream;
+
+    type Miss = Miss;
+
+    ghost did = { λ old new deeds. ⊤ };
+
+    fn try_accept(&mut self, _at: usize) -> TryAccept<ListedStream, Miss> {
+        let mark = self.accepts.as_bytes().get(self.asked);
+        self.asked = self.asked.saturating_add(1);
+        match mark {
+            Some(b'c') => self.next_client(),
+            Some(b'f') => TryAccept::Failed(Miss::NotAccepted),
+            _ => TryAccept::NotReady,
         }
     }
 }

@@ -102,8 +102,8 @@ pub fn stream_by(alloc: Global, word: &str) -> Result<ListedStream, RowFault> {
 
 /// What is told of each slot.
 #[derive(Drop)]
-struct Lines<'a> {
-    out: &'a mut String,
+pub struct Lines<'a> {
+    pub out: &'a mut String,
 }
 
 impl Tells<NotedExchange, ListedStream> for Lines<'_> {

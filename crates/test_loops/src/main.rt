@@ -4,6 +4,7 @@
 //! answers with those that are wanted.
 #![tactic(auto)]
 
+mod accepts;
 mod bounded_echo;
 mod chance;
 mod chances;
@@ -15,8 +16,10 @@ mod listed_stream;
 mod lists;
 mod meetings;
 mod noted_exchange;
+mod piece_stream;
 mod row_fault;
 mod runs;
+mod servings;
 mod sockets;
 
 use row_fault::RowFault;
@@ -53,6 +56,9 @@ fn answer_to<N: Net + Clock>(alloc: Global, net: &N, row: &str) -> Result<String
         "chances" => chances::run_chances(alloc, words, &mut out)?,
         "echo" => echoes::run_echoes(alloc, words, &mut out)?,
         "meet" => meetings::run_meeting(alloc, words, &mut out)?,
+        "serve" => servings::run_serving(alloc, words, &mut out)?,
+        "places" => servings::run_places(alloc, words, &mut out)?,
+        "accept" => accepts::run_accepting(alloc, net, words, &mut out)?,
         "socket" => sockets::run_socket(alloc, net, words, &mut out)?,
         _ => return Err(RowFault::NotARow),
     }

@@ -23,7 +23,7 @@ pub fn run_meeting(alloc: Global, words: &[&str], out: &mut String) -> Result<()
         limit: time_of(limit)?,
         deadline: time_of(deadline)?,
     };
-    let mut network = ListedNetwork::new(alloc, tries, slot)?;
+    let mut network = ListedNetwork::new(alloc, tries, slot, "", &[])?;
     let mut poller = ListedPoller::new(wakes_by(alloc, wakes)?);
     let machine = machine_by(alloc, slot)?;
     let mut room = room(alloc)?;
@@ -61,9 +61,19 @@ fn put_missed(why: Missed<Miss>, out: &mut String) -> Result<(), RowFault> {
     match why {
         Missed::NoAddress => write!(out, "no address")?,
         Missed::TimedOut => write!(out, "timed out")?,
-        Missed::Failed(Miss::NotFound) => write!(out, "not found")?,
-        Missed::Failed(Miss::NotBegun(at)) => write!(out, "not begun {at}")?,
-        Missed::Failed(Miss::Failed(at)) => write!(out, "failed {at}")?,
+        Missed::Failed(why) => put_miss(why, out)?,
+    }
+    Ok(())
+}
+
+/// The reason that the network says.
+pub fn put_miss(why: Miss, out: &mut String) -> Result<(), RowFault> {
+    match why {
+        Miss::NotFound => write!(out, "not found")?,
+        Miss::NotBegun(at) => write!(out, "not begun {at}")?,
+        Miss::Failed(at) => write!(out, "failed {at}")?,
+        Miss::NotBound(at) => write!(out, "not bound {at}")?,
+        Miss::NotAccepted => write!(out, "not accepted")?,
     }
     Ok(())
 }

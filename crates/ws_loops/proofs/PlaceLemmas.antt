@@ -1,11 +1,15 @@
 -- A list of places of which one after the other is changed.
 use Rattle.std.proofs.Common.{◌≡◌, ◌∙◌, ℕ, zero, suc, ◌+◌, ◌<◌, ◌≤◌, ◌⊎◌, List, [], ◌∷◌, ◌++◌, length}
 use Rattle.std.proofs.Common.{Option, Some, None, IfSome}
-use Rattle.std.proofs.Common.{◌≢◌, true, false, nat_eq, slice_set, refl, sym, ap, subst, inl, inr, arith}
+use Rattle.std.proofs.Common.{◌≢◌, true, false, nat_eq, slice_set, refl, sym, ap, subst, inl, inr, arith, take, drop}
 use Rattle.std.proofs.lemmas.Bool.Decides.{eqb_tells}
 use Rattle.std.specs.List.{slice_get}
+use Rattle.std.specs.Option.{is_some}
+use Rattle.std.proofs.Math.Seq.{take-append_seam}
+use Rattle.std.proofs.lemmas.Bool.{false≢true}
 use Rattle.std.proofs.lemmas.Option.{none-some, same_Some, slice_get_within}
-use Rattle.ws_loops.specs.Rounds.{AtEachPlace, IfBoth}
+use Rattle.ws_loops.specs.Places.{IsFirstFree, IsPutAt}
+use Rattle.ws_loops.specs.Rounds.{AreEmpty, AtEachPlace, IfBoth}
 
 module _ {X : Type 0} where
   get_set_same : (xs : List X) (i : ℕ) (y : X) → i < length xs → slice_get (slice_set xs i y) i ≡ Some y
@@ -146,3 +150,80 @@ module _ {X : Type 0} where
   each_pushed P (place ∷ places) slot all h zero x e = all zero x e
   each_pushed P (place ∷ places) slot all h (suc i) x e =
       each_pushed P places slot (λ j. all (suc j)) h i x e
+
+-- ---- places that are free
+
+module _ {X : Type 0} where
+  pub empty_pushed : (places : List (Option X)) → AreEmpty places → AreEmpty (places ++ None ∷ [])
+  empty_pushed [] h zero x e = none-some x (same_Some None (Some x) e)
+  empty_pushed [] h (suc i) x e = none-some (Some x) e
+  empty_pushed (place ∷ places) h zero x e = h zero x e
+  empty_pushed (place ∷ places) h (suc i) x e = empty_pushed places (λ j. h (suc j)) i x e
+
+  pub taken_so : (place : Option X) → is_some place ≡ true → (x : X) × (place ≡ Some x)
+  taken_so None e = absurd (false≢true e)
+  taken_so (Some x) e = (x, refl)
+
+  -- each place in front of this one is taken
+  abbrev pub AreTaken : List (Option X) → ℕ → Type 0
+  AreTaken places at = (i : ℕ) → i < at → (x : X) × (slice_get places i ≡ Some (Some x))
+
+  pub one_taken : (places : List (Option X)) (at : ℕ) (x : X) → AreTaken places at → slice_get places at ≡ Some (Some x)
+      → AreTaken places (at + 1)
+  one_taken places at x all here i lt = by (eqb_tells i at)
+    where
+      by : ((nat_eq i at ≡ true) × (i ≡ at)) ⊎ ((nat_eq i at ≡ false) × (i ≢ at))
+          → (y : X) × (slice_get places i ≡ Some (Some y))
+      by (inl same) = (x, subst (λ (n : ℕ). slice_get places n ≡ Some (Some x)) (sym same.1) here)
+      by (inr other) = all i (omega (arith, lt, other.1))
+
+  -- a place that is empty is free, and so is the one behind all others
+  pub free_here : (places : List (Option X)) (at : ℕ) → AreTaken places at → slice_get places at ≡ Some None
+      → IsFirstFree places at
+  free_here places at all here = record {
+    within = omega (arith, slice_get_within places at None here);
+    empty = λ x is. none-some x (same_Some None (Some x) (sym here ∙ is));
+    first = all;
+  }
+
+  pub free_behind : (places : List (Option X)) (at : ℕ) → AreTaken places at → at ≤ length places → length places ≤ at
+      → IsFirstFree places at
+  free_behind places at all within past = record {
+    within = within;
+    empty = λ x is. absurd (omega (arith, past, slice_get_within places at (Some x) is));
+    first = all;
+  }
+
+  set_parts : (xs : List X) (i : ℕ) (y : X) → i < length xs → slice_set xs i y ≡ take i xs ++ y ∷ drop (suc i) xs
+  set_parts [] i y h = absurd (omega (arith, h))
+  set_parts (x ∷ xs) zero y h = refl
+  set_parts (x ∷ xs) (suc i) y h = ap (λ (l : List X). x ∷ l) (set_parts xs i y (omega (arith, h)))
+
+  push_parts : (xs : List X) (i : ℕ) (y : X) → i ≤ length xs → length xs ≤ i
+      → xs ++ y ∷ [] ≡ take i xs ++ y ∷ drop (suc i) xs
+  push_parts [] zero y h k = refl
+  push_parts [] (suc i) y h k = absurd (omega (arith, h))
+  push_parts (x ∷ xs) zero y h k = absurd (omega (arith, k))
+  push_parts (x ∷ xs) (suc i) y h k =
+      ap (λ (l : List X). x ∷ l) (push_parts xs i y (omega (arith, h)) (omega (arith, k)))
+
+-- a slice that is written back is the front of a vector
+pub written_back : {X : Type 0} (new rest : List X) (len : ℕ) → len ≡ length new → take len (new ++ rest) ≡ new
+written_back {X} new rest len e =
+    subst (λ (n : ℕ). take n (new ++ rest) ≡ new) (sym e) (take-append_seam new rest)
+
+module _ {X : Type 0} where
+  -- what is put there, into an empty place or behind all others
+  pub put_within : (old front slice new : List (Option X)) (at : ℕ) (x : X) → front ≡ old → slice ≡ old
+      → IsFirstFree front at → at < length slice → new ≡ slice_set slice at (Some x) → IsPutAt old at x new
+  put_within old front slice new at x e f free lt is = record {
+    free = subst (λ (l : List (Option X)). IsFirstFree l at) e free;
+    put = is ∙ (ap (λ (l : List (Option X)). slice_set l at (Some x)) f
+        ∙ set_parts old at (Some x) (subst (λ (l : List (Option X)). at < length l) f lt));
+  }
+
+  pub put_behind : (old front new : List (Option X)) (at : ℕ) (x : X) → front ≡ old → IsFirstFree front at
+      → length old ≤ at → new ≡ old ++ Some x ∷ [] → IsPutAt old at x new
+  put_behind old front new at x e free past is =
+      let within = subst (λ (l : List (Option X)). IsFirstFree l at) e free in
+      record { free = within; put = is ∙ push_parts old at (Some x) within.within past }

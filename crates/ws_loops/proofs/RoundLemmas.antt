@@ -1,6 +1,6 @@
 -- Rounds, one after the other: what happened in each slot since the first.
 use Rattle.std.proofs.Common.{◌≡◌, ◌∙◌, ℕ, ◌≤◌, List, [], ◌∷◌, ◌++◌, length, Option, Some, None, refl, sym, subst}
-use Rattle.std.proofs.Common.{arith}
+use Rattle.std.proofs.Common.{ap, arith, suc, take, zero}
 use Rattle.std.specs.List.{slice_get}
 use Rattle.std.proofs.lemmas.Option.{same_Some, slice_get_within}
 use Rattle.ws_machines.specs.Told.{Told}
@@ -13,6 +13,12 @@ use Rattle.ws_loops.specs.declared.poller.Readiness.{Readiness}
 use Rattle.ws_loops.specs.declared.slot.Slot.{Slot}
 use Rattle.ws_loops.proofs.RunLemmas.{happened_within, nothing_happened, then_happened}
 use Rattle.ws_loops.proofs.PlaceLemmas.{both_so, both_then, each_so, place_of, then_at_each}
+
+-- so many of a list that has no fewer
+pub front_len : {X : Type 0} (n : ℕ) (xs : List X) → n ≤ length xs → length (take n xs) ≡ n
+front_len zero xs h = refl
+front_len (suc n) [] h = absurd (omega (arith, h))
+front_len (suc n) (x ∷ xs) h = ap (λ (m : ℕ). suc m) (front_len n xs (omega (arith, h)))
 
 module _ {M S : Type 0} (agrees : M → M → List Told → Type 0) (wants : M → Wants) (did : S → S → List Deed → Type 0)
   where
@@ -40,16 +46,17 @@ module _ {M S : Type 0} (agrees : M → M → List Told → Type 0) (wants : M �
             (HasRun agrees wants did from to) (λ u v turn. turn_runs from now to mark u v h k (turn mark at)) x y both
 
     -- nothing has happened in any
-    pub runs_still : (at : ℕ) (places : List (Option (Slot M S))) → HaveRun agrees wants did at at places places
-    runs_still at places = record {
+    pub runs_still : (from to : ℕ) (places : List (Option (Slot M S))) → from ≤ to
+        → HaveRun agrees wants did from to places places
+    runs_still from to places le = record {
       len = refl;
-      each = λ i x y was is. subst (λ (z : Option (Slot M S)). IfBoth (HasRun agrees wants did at at) x z)
+      each = λ i x y was is. subst (λ (z : Option (Slot M S)). IfBoth (HasRun agrees wants did from to) x z)
           (same_Some x y (sym was ∙ is)) (still x);
     }
       where
-        still : (x : Option (Slot M S)) → IfBoth (HasRun agrees wants did at at) x x
+        still : (x : Option (Slot M S)) → IfBoth (HasRun agrees wants did from to) x x
         still None = tt
-        still (Some slot) = ([], nothing_happened agrees wants did at at slot (omega arith))
+        still (Some slot) = ([], nothing_happened agrees wants did from to slot le)
 
     -- a run, and then another one
     pub runs_then : (from mid to : ℕ) (a b c : List (Option (Slot M S))) → HaveRun agrees wants did from mid a b

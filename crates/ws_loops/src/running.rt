@@ -58,14 +58,14 @@ fn run_with<M: Machine, S: NonBlocking, P: Poller>(
 {
     let mut done = first_done(places);
     while done.is_none() && has_slots(places) {
-        run_round(poller, places, ready, room)?;
+        run_round(poller, places, ready, None, room)?;
         done = first_done(places);
     }
     Ok(done)
 }
 
 /// Room for what is found of so many streams.
-fn unknown(alloc: Global, len: usize) -> Result<Vec<Readiness>, NoMemory>
+pub(crate) fn unknown(alloc: Global, len: usize) -> Result<Vec<Readiness>, NoMemory>
     ensures { IfOk result (λ ready. length ready.items ≡ len) }
 {
     let ready = vec![in alloc; UNKNOWN; len]?;
@@ -73,7 +73,7 @@ fn unknown(alloc: Global, len: usize) -> Result<Vec<Readiness>, NoMemory>
 }
 
 /// The first slot that is done.
-fn first_done<M: Machine, S>(places: &[Option<Slot<M, S>>]) -> Option<usize>
+pub(crate) fn first_done<M: Machine, S>(places: &[Option<Slot<M, S>>]) -> Option<usize>
     ensures done { IfSome result (λ at. IsDoneAt M.wants places.now at) }
 {
     let mut at = 0;
@@ -108,30 +108,32 @@ fn has_slots<M, S>(places: &[Option<Slot<M, S>>]) -> bool
     false
 }
 
-/// Waits until a stream is found ready, or something is due, and serves each slot.
-fn run_round<M: Machine, S: NonBlocking, P: Poller>(
+/// Waits until a stream is found ready, or something is due, or this time has come, and serves each slot. Behind the
+/// marks of the slots' streams may be one of another stream. Answers the time by which they were served.
+pub(crate) fn run_round<M: Machine, S: NonBlocking, P: Poller>(
     poller: &mut P,
     places: &mut [Option<Slot<M, S>>],
     ready: &mut [Readiness],
+    until: Option<u64>,
     room: &mut [u8],
-) -> Result<(), S::Fault>
+) -> Result<u64, S::Fault>
     requires room { 0 < length room.old }
-    requires len { length ready.old ≡ length places.old }
+    requires len { length places.old ≤ length ready.old }
     requires able { AreAble M.agrees M.wants places.old }
     ensures run { OnOk result (HaveRun M.agrees M.wants S.did (P.time poller.old) (P.time poller.new)
         places.old places.new) }
     ensures able { OnOk result (AreAble M.agrees M.wants places.new) }
     ensures nears { OnOk result (P.left poller.new < P.left poller.old) }
+    ensures now { IfOk result (λ now. now ≡ P.time poller.new) }
     ensures len { length ready.new ≡ length ready.old }
     ensures room_len { length room.new ≡ length room.old }
 {
     forget(ready);
     let asked = poller.now();
-    let until = next_due(places, asked);
-    poller.wait(ready, until)?;
+    poller.wait(ready, sooner(until, next_due(places, asked)))?;
     let now = poller.now();
-    serve_round(places, ready, room, now)?;
-    Ok(())
+    serve_round(places, &ready[..places.len()], room, now)?;
+    Ok(now)
 }
 
 /// Nothing is known of the streams.

@@ -3,4 +3,5 @@
 pub mod AddLemmas
 pub mod TryLemmas
 pub mod EachLemmas
+pub mod ListenLemmas
 pub mod MeetLemmas

@@ -1,4 +1,5 @@
 pub mod Networks
 pub mod Bounds
 pub mod Connecting
+pub mod Listening
 pub mod Meetings

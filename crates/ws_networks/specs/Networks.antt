@@ -4,13 +4,18 @@ use Rattle.ws_networks.specs.declared.network.Progress.{Progress}
 use Rattle.ws_networks.specs.declared.network.Progress.TheVariants.{Made, Pending, Failed}
 
 -- One thing that a network did: for this name it found these addresses, or none, for this reason. A connection to this
--- address was begun, or was not, for this reason. It was asked how far the connection has come that was begun last.
+-- address was begun, or was not, for this reason. It was asked how far the connection has come that was begun last. It
+-- listens at this address, or does not, for this reason. It was asked at which address a listener takes clients.
 pub data NetworkDeed (A W : Type 0) : Type 0 where
   Found : List ℕ → List A → NetworkDeed A W
   NotFound : List ℕ → W → NetworkDeed A W
   Begun : A → NetworkDeed A W
   NotBegun : A → W → NetworkDeed A W
   Asked : Progress W → NetworkDeed A W
+  Bound : A → NetworkDeed A W
+  NotBound : A → W → NetworkDeed A W
+  Named : A → NetworkDeed A W
+  NotNamed : W → NetworkDeed A W
 
 -- each list of what the network did until the first state, followed by this, is one of what it did until the second
 abbrev pub HasAdded : {N D : Type 0} → (N → N → List D → Type 0) → N → N → List D → Type 0

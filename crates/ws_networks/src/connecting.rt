@@ -87,7 +87,7 @@ fn connect_to<N: Network, P: Poller>(
 }
 
 /// The address of this number.
-fn address_at<A: Copy>(addresses: &[A], at: usize) -> A
+pub(crate) fn address_at<A: Copy>(addresses: &[A], at: usize) -> A
     requires { at < length addresses.now }
     ensures { slice_get addresses.now at ≡ Some result }
 {

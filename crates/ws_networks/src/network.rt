@@ -2,10 +2,11 @@
 
 ghost use Rattle.std.specs.Prelude.{◌≡◌, ◌∷◌, [], IfOk, MatchResult};
 ghost use Rattle.ws_networks.specs.Networks.{HasAdded, is_pending};
-ghost use Rattle.ws_networks.specs.Networks.NetworkDeed.{Asked, Begun, Found, NotBegun, NotFound};
+ghost use Rattle.ws_networks.specs.Networks.NetworkDeed.{Asked, Begun, Bound, Found, Named, NotBegun, NotBound};
+ghost use Rattle.ws_networks.specs.Networks.NetworkDeed.{NotFound, NotNamed};
 
 use std::alloc::Global;
-use ws_loops::NonBlocking;
+use ws_loops::{Listener, NonBlocking};
 
 /// How far a connection has come that was begun.
 #[derive(Clone, Copy)]
@@ -30,8 +31,8 @@ impl<W: Copy> Progress<W> {
     }
 }
 
-/// It looks names up, and begins connections, each at a place of a loop: under its number the loop's poller marks the
-/// stream that is found ready. No call waits, but a look-up.
+/// It looks names up, begins connections and listens, each at a place of a loop: under its number the loop's poller
+/// marks the stream or the listener that is found ready. No call waits, but a look-up.
 pub trait Network {
     ghost use Rattle.std.specs.Prelude.{List};
     ghost use Rattle.ws_networks.specs.Networks.{NetworkDeed};
@@ -43,7 +44,10 @@ pub trait Network {
     /// once: no byte waits for an answer to those before it.
     type Stream: NonBlocking + Drop;
 
-    /// Why a name has no address, or a connection is not made.
+    /// What clients come to.
+    type Listener: Listener<Client = Self::Stream, Miss = Self::Miss> + Drop;
+
+    /// Why a name has no address, a connection is not made, or an address is not listened at.
     type Miss: Copy;
 
     /// From the first state to the second one it did just this.
@@ -65,4 +69,17 @@ pub trait Network {
     /// How far a connection has come.
     fn progress(&mut self, stream: &Self::Stream) -> Progress<Self::Miss>
         ensures { HasAdded did self.old self.new (Asked result ∷ []) };
+
+    /// Listens at an address; where its port is 0, at one that the system chooses. The listener has done nothing yet.
+    fn bind(&mut self, address: Self::Address, at: usize) -> Result<Self::Listener, Self::Miss>
+        ensures did { MatchResult result
+            (λ listener. HasAdded did self.old self.new (Bound address ∷ []))
+            (λ why. HasAdded did self.old self.new (NotBound address why ∷ [])) }
+        ensures fresh { IfOk result (λ listener. Self.Listener.did listener listener []) };
+
+    /// The address at which a listener takes clients.
+    fn address_of(&mut self, listener: &Self::Listener) -> Result<Self::Address, Self::Miss>
+        ensures { MatchResult result
+            (λ address. HasAdded did self.old self.new (Named address ∷ []))
+            (λ why. HasAdded did self.old self.new (NotNamed why ∷ [])) };
 }

@@ -24,12 +24,12 @@ pub trait EndingStream: NonBlocking {
     fn stream_end(&self) -> StreamEnd;
 }
 
-/// Why there is no connection to a name.
+/// Why there is no connection to a name, or it isn't listened at, or no client can be taken.
 #[derive(Clone, Copy, PartialEq, Eq)]
 pub enum ConnectMiss {
     /// The look-up of the name has failed so.
     NotFound(ErrorKind),
-    /// An address takes no connection.
+    /// An address takes no connection, or can't be listened at, or a listener gives no client.
     NotTaken(ErrorKind),
 }
 

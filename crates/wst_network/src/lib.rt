@@ -7,8 +7,11 @@
 
 mod connector;
 mod fault;
+mod lost_clients;
 mod system;
 
 pub use connector::{ConnectMiss, Connector, EndingStream, StreamEnd};
 pub use fault::NetworkFault;
-pub use system::{SystemConnector, SystemNetwork, SystemPoller, SystemStream, system_network};
+pub use system::{
+    SystemConnector, SystemListener, SystemNetwork, SystemPoller, SystemStream, system_network,
+};

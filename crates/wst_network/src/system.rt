@@ -1,19 +1,22 @@
-//! Sockets of the system over `mio`: connections that are begun, streams that don't wait, and one wait for all of them.
-//! No contract of a socket says which bytes pass, and none of the clock that it goes on.
+//! Sockets of the system over `mio`: connections that are begun, listeners, streams that don't wait, and one wait for
+//! all of them. No contract of a socket says which bytes pass, and none of the clock that it goes on.
 
-ghost use Rattle.std.specs.Prelude.{◌≡◌, length};
-ghost use Rattle.std.specs.Iterator.{IsFinite};
+ghost use Rattle.std.specs.Prelude.{◌≡◌, length, IfOk};
+ghost use Rattle.std.specs.Iterator.{Drains, IsFinite};
 
 use crate::connector::{ConnectMiss, Connector, EndingStream, StreamEnd};
 use crate::fault::NetworkFault;
-use mio::net::TcpStream;
+use crate::lost_clients::is_of_lost_client;
+use mio::net::{TcpListener, TcpStream};
 use mio::{Events, Interest, Poll, Registry, Token};
 use std::alloc::{AllocError, Global};
 use std::io;
 use std::io::{ErrorKind, Read, Write};
 use std::net::{Net, Shutdown, SocketAddr, ToSocketAddrs};
 use std::time::{Clock, Duration, Instant};
-use ws_loops::{NonBlocking, Poller, Readiness, TryRead, TryWrite, WaitFailed};
+use ws_loops::{
+    Listener, NonBlocking, Poller, Readiness, TryAccept, TryRead, TryWrite, WaitFailed,
+};
 use ws_networks::{Network, Progress};
 
 /// Room for the events of one wait. What doesn't fit is found by the next one.
@@ -91,6 +94,8 @@ impl<N: Net> Network for SystemNetwork<'_, N> {
 
     type Stream = SystemStream;
 
+    type Listener = SystemListener;
+
     type Miss = ConnectMiss;
 
     ghost did = { λ old new deeds. ⊤ };
@@ -130,33 +135,101 @@ impl<N: Net> Network for SystemNetwork<'_, N> {
             },
         }
     }
+
+    fn bind(&mut self, address: SocketAddr, at: usize) -> Result<SystemListener, ConnectMiss> {
+        match self.bound(address, at) {
+            Ok(listener) => Ok(listener),
+            Err(error) => Err(ConnectMiss::NotTaken(error.kind())),
+        }
+    }
+
+    fn address_of(&mut self, listener: &SystemListener) -> Result<SocketAddr, ConnectMiss> {
+        match listener.listener.local_addr() {
+            Ok(address) => Ok(address),
+            Err(error) => Err(ConnectMiss::NotTaken(error.kind())),
+        }
+    }
 }
 
-/// All addresses that were found.
+/// All addresses that were found, in their order.
 fn all_of<I: Iterator<Item = SocketAddr>>(
     alloc: Global,
     found: I,
 ) -> Result<Vec<SocketAddr>, AllocError>
     requires { I.can_next found × IsFinite (I.remaining found) }
+    ensures { IfOk result (λ all. Drains I.next_gives found all.items) }
 {
-    let mut addresses = Vec::new(alloc);
-    for address in found {
-        addresses.push(address)?;
-    }
-    Ok(addresses)
+    found.collect(alloc)
 }
 
 impl<N: Net> SystemNetwork<'_, N> {
     /// A connection that was begun. The poller tells of it by this number. What is written goes out at once.
     fn begun(&mut self, address: SocketAddr, at: usize) -> io::Result<TcpStream> {
         let mut stream = TcpStream::connect(self.net, address)?;
-        stream.set_nodelay(true)?;
-        self.registry.register(
-            &mut stream,
-            Token(at),
-            Interest::READABLE | Interest::WRITABLE,
-        )?;
+        make_ready(&self.registry, &mut stream, at)?;
         Ok(stream)
+    }
+
+    /// An address that is listened at. The poller tells of it by this number.
+    fn bound(&mut self, address: SocketAddr, at: usize) -> io::Result<SystemListener> {
+        let mut listener = TcpListener::bind(self.net, address)?;
+        let registry = self.registry.try_clone()?;
+        registry.register(&mut listener, Token(at), Interest::READABLE)?;
+        Ok(SystemListener { listener, registry })
+    }
+}
+
+/// From now on what is written to a stream goes out at once, and the poller tells of it by this number.
+fn make_ready(registry: &Registry, stream: &mut TcpStream, at: usize) -> io::Result<()> {
+    stream.set_nodelay(true)?;
+    registry.register(stream, Token(at), Interest::READABLE | Interest::WRITABLE)?;
+    Ok(())
+}
+
+/// An address that is listened at.
+#[derive(Drop)]
+pub struct SystemListener {
+    listener: TcpListener,
+    registry: Registry,
+}
+
+impl SystemListener {
+    /// The stream of a client. The poller tells of it by this number.
+    fn made_ready(&self, stream: TcpStream, at: usize) -> io::Result<SystemStream> {
+        let mut stream = stream;
+        make_ready(&self.registry, &mut stream, at)?;
+        Ok(SystemStream {
+            stream,
+            end: StreamEnd::Open,
+        })
+    }
+}
+
+/// A client that went away while it waited is passed over, and a call that a signal interrupts is made again.
+impl Listener for SystemListener {
+    ghost use Rattle.std.specs.Prelude.{⊤};
+
+    type Client = SystemStream;
+
+    type Miss = ConnectMiss;
+
+    ghost did = { λ old new deeds. ⊤ };
+
+    fn try_accept(&mut self, at: usize) -> TryAccept<SystemStream, ConnectMiss> {
+        for _ in 0..u64::MAX {
+            match self.listener.accept() {
+                Ok((stream, _)) => {
+                    return match self.made_ready(stream, at) {
+                        Ok(stream) => TryAccept::Client(stream),
+                        Err(error) => TryAccept::Failed(ConnectMiss::NotTaken(error.kind())),
+                    };
+                }
+                Err(error) if error.kind() == ErrorKind::WouldBlock => return TryAccept::NotReady,
+                Err(error) if is_of_lost_client(&error) => {}
+                Err(error) => return TryAccept::Failed(ConnectMiss::NotTaken(error.kind())),
+            }
+        }
+        TryAccept::NotReady
     }
 }
 

@@ -1,12 +1,13 @@
--- A round by the present time is a run until then.
-use Rattle.std.proofs.Common.{arith}
-use Rattle.ws_loops.proofs.RoundLemmas.{round_runs}
+-- A round by the present time is a run until then; the marks of the slots' streams come first.
+use Rattle.std.proofs.Common.{arith, length, take}
+use Rattle.ws_loops.proofs.RoundLemmas.{front_len, round_runs}
 use Rattle.ws_loops.proofs.running.run_round.Goals as goal
 
 pub returns-clause-run : goal.returns-clause-run
 returns-clause-run g c =
     let time = g.P.Poller.time in
-    round_runs g.M.Machine.agrees g.M.Machine.wants g.S.NonBlocking.did c.wait.new.ready (time c.args.poller.now)
+    round_runs g.M.Machine.agrees g.M.Machine.wants g.S.NonBlocking.did
+    (take (length c.args.places.now) c.wait.new.ready) (time c.args.poller.now)
     c.now-now.result (time c.now-now.new.self) c.args.places.now c.serve_round.new.places
     (omega (
       arith,
@@ -16,4 +17,5 @@ returns-clause-run g c =
       c.now-now.ensures.now,
     ))
     (omega (arith, c.now-now.ensures.now))
-    (omega (arith, c.in_ok-wait.ensures.len, c.forget.ensures, c.requires.len)) c.in_ok-serve_round.ensures.round
+    (front_len (length c.args.places.now) c.wait.new.ready
+    (omega (arith, c.in_ok-wait.ensures.len, c.forget.ensures, c.requires.len))) c.in_ok-serve_round.ensures.round

@@ -9,7 +9,7 @@ loop-places-init g c = record {
   len = c.requires.len;
   able = c.requires.able;
   run = runs_still g.M.Machine.agrees g.M.Machine.wants g.S.NonBlocking.did (g.P.Poller.time c.args.poller.now)
-      c.args.places.now;
+      (g.P.Poller.time c.args.poller.now) c.args.places.now (omega arith);
   found = c.first_done-done.ensures.done;
 }
 

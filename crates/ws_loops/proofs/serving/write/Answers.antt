@@ -1,5 +1,5 @@
 -- What was taken of the bytes is what the machine is told; where nothing was it is full from then on.
-use Rattle.std.proofs.Common.{◌≡◌, ◌∙◌, ◌+◌, ◌≤◌, List, ℕ, [], ◌∷◌, length, take, subst, sym, arith}
+use Rattle.std.proofs.Common.{◌≡◌, ◌∙◌, ◌≤◌, List, ℕ, [], ◌∷◌, length, take, subst, sym, arith}
 use Rattle.ws_machines.specs.Machines.{told_at}
 use Rattle.ws_loops.specs.Deeds.{FitsTryWrite, HasDone, moved_by, write_deed}
 use Rattle.ws_loops.specs.Paces.{has_any_bytes, has_passed}

@@ -1,0 +1,13 @@
+-- Each place in front of this one is taken.
+use Rattle.std.proofs.Common.{◌-◌, ◌≤◌, length}
+use Rattle.ws_loops.proofs.PlaceLemmas.{AreTaken}
+use Rattle.ws_loops.proofs.places.free_place.Given as goal
+
+abbrev pub invariant-loop-at : goal.invariant-loop-at
+invariant-loop-at g l = record {
+  within : l.at ≤ length l.places;
+  taken : AreTaken l.places l.at;
+}
+
+abbrev pub decreases-loop-at : goal.decreases-loop-at
+decreases-loop-at g l = length l.places - l.at
