@@ -3,8 +3,11 @@
 pub mod CaseLemmas
 pub mod Delivering
 pub mod ReadLines
+pub mod PutBehind
+pub mod CaptureStops
 pub mod LastGot
 pub mod Explained
+pub mod Told
 pub mod NamedScripts
 pub mod RuleTexts
 pub mod FirstPlaces

@@ -1,21 +1,49 @@
 -- What the printed types of `explanation_lines.rt` print. A reader may skip this file: no public contract speaks of it.
-use Rattle.std.specs.Prelude.{ℕ, ◌+◌, List, [], ◌∷◌, ◌++◌, codes, option_map}
-use Rattle.std.specs.List.{concat}
+use Rattle.std.specs.Prelude.{◌≡◌, ℕ, ◌+◌, List, [], ◌∷◌, ◌++◌, Option, codes, option_map}
+use Rattle.std.specs.List.{concat, flat_map}
 use Rattle.std.specs.Fmt.{decimal}
+use Rattle.ws_scripts.specs.declared.expectation.Expectation.{Expectation}
+use Rattle.ws_scripts.specs.declared.transcript.Transcript.{Transcript}
 use Rattle.ws_suite.specs.Kept.{reply_in}
+use Rattle.ws_suite.specs.Words.{rule_words}
+use Rattle.ws_suite.specs.declared.evidence.kept.ReplyKind.{ReplyKind}
+use Rattle.ws_suite.specs.declared.evidence.kept.ReplyKind.TheVariants.{Text, Binary, Pong, Ping}
+use Rattle.ws_suite.specs.declared.explaining.Explanation.{Explanation}
+use Rattle.ws_wire.specs.declared.role.Role.{Role}
 use Rattle.wst_commands.specs.Explaining.{direction_lines, ending_line, explanation_lines, note_line}
-use Rattle.wst_commands.specs.Explaining.{reply_line, rule_line, shown_data, side_word}
+use Rattle.wst_commands.specs.Explaining.{IsCutIn, ended_line, is_cut, reply_line, rule_line, shown_data, side_word}
+use Rattle.wst_commands.specs.FaultRules.{sent_rule}
 use Rattle.wst_commands.specs.declared.explanation_lines.EndingLine.{EndingLine}
 use Rattle.wst_commands.specs.declared.explanation_lines.ExplanationLines.{ExplanationLines}
+use Rattle.wst_commands.specs.declared.explanation_lines.LastLines.{LastLines}
 use Rattle.wst_commands.specs.declared.explanation_lines.LineStart.{LineStart}
 use Rattle.wst_commands.specs.declared.explanation_lines.NoteLine.{NoteLine}
 use Rattle.wst_commands.specs.declared.explanation_lines.ReplyLine.{ReplyLine}
 use Rattle.wst_commands.specs.declared.explanation_lines.RuleLine.{RuleLine}
 use Rattle.wst_commands.specs.declared.explanation_lines.Shown.{Shown}
+use Rattle.wst_commands.specs.declared.explanation_lines.Side.{Side}
+use Rattle.wst_commands.specs.declared.explanation_lines.Side.TheVariants.{Due, Got}
 use Rattle.wst_commands.specs.declared.explanation_lines.SideLines.{SideLines}
 
 abbrev pub printed_explanation : ExplanationLines → List ℕ
-printed_explanation lines = explanation_lines lines.tested lines.expected lines.cut lines.explanation.now
+printed_explanation lines = explanation_lines lines.0.tested lines.0.expected lines.0.cut lines.0.explanation.now
+
+-- the lines of an explanation behind those of what was owed and of what came
+abbrev pub lines_after_replies : Role → Expectation → Option ℕ → Explanation → List ℕ
+lines_after_replies tested expected cut x = concat (
+    note_line (codes "beyond") x.beyond ∷ note_line (codes "cut") cut ∷ ended_line x.ended x.turns
+    ∷ rule_line (rule_words tested expected x.verdict) ∷ rule_line (sent_rule x.due.ending) ∷ [])
+
+abbrev pub printed_last : LastLines → List ℕ
+printed_last lines = lines_after_replies lines.tested lines.expected lines.cut lines.explanation.now
+
+-- those of an explanation of the verdict on this transcript
+pub record AreLastLines (tested : Role) (expected : Expectation) (transcript : Transcript) (x : Explanation)
+    (lines : LastLines) : Type 0 where
+  pub tested_is : lines.tested ≡ tested
+  pub expected_is : lines.expected ≡ expected
+  pub explanation_is : lines.explanation.now ≡ x
+  pub cut_is : IsCutIn (is_cut x.got) transcript.turns lines.cut
 
 abbrev pub printed_side : SideLines → List ℕ
 printed_side lines = direction_lines lines.side lines.direction.now
@@ -32,8 +60,23 @@ printed_note line = note_line line.note.now line.turn
 abbrev pub printed_rule : RuleLine → List ℕ
 printed_rule line = rule_line (option_map (λ words. words.now) line.0)
 
+abbrev pub line_start : Side → ℕ → List ℕ
+line_start side turn = concat (codes "  " ∷ side_word side ∷ codes " " ∷ decimal (turn + 1) ∷ codes " " ∷ [])
+
 abbrev pub printed_line : LineStart → List ℕ
-printed_line start = concat (codes "  " ∷ side_word start.side ∷ codes " " ∷ decimal (start.turn + 1) ∷ codes " " ∷ [])
+printed_line start = line_start start.side start.turn
+
+-- the word of a kind of reply, and a space
+abbrev pub kind_start : ReplyKind → List ℕ
+kind_start Text = codes "text "
+kind_start Binary = codes "binary "
+kind_start Pong = codes "pong "
+kind_start Ping = codes "ping "
+
+-- the line of a verdict, and the lines below it, of which those behind the replies of each side are given
+abbrev pub explained_text : List ℕ → Explanation → List ℕ → List ℕ → List ℕ
+explained_text line x due_end got_end = line
+    ++ ((flat_map (reply_line Due) x.due.replies ++ due_end) ++ (flat_map (reply_line Got) x.got.replies ++ got_end))
 
 abbrev pub printed_data : Shown → List ℕ
 printed_data payload = shown_data payload.0.now

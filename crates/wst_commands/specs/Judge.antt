@@ -1,9 +1,11 @@
 -- A run of `judge`: a capture is read whole and judged, and the verdict is written.
-use Rattle.std.specs.Prelude.{◌≡◌, ◌⊎◌, ℕ, List, ◌++◌, Result, Err, MatchResult, codes}
+use Rattle.std.specs.Prelude.{◌≡◌, ◌⊎◌, ℕ, Bool, List, ◌++◌, Result, Err, MatchResult, codes}
 use Rattle.ws_frame.specs.Devices.{Device, IsUntouched}
 use Rattle.ws_scripts.specs.Captures.{DamagesCapture}
 use Rattle.ws_scripts.specs.Captures2.{IsAnyCaptureOf}
 use Rattle.ws_suite.specs.Protocol.{IsVerdictBy}
+use Rattle.ws_scripts.specs.declared.expectation.Expectation.{Expectation}
+use Rattle.ws_wire.specs.declared.role.Role.{Role}
 use Rattle.ws_suite.specs.Words.{verdict_words}
 use Rattle.ws_scripts.specs.declared.capture.Capture.{Capture}
 use Rattle.ws_scripts.specs.declared.capture.CaptureFault.{CaptureFault}
@@ -37,6 +39,20 @@ TellsVerdict options transcript ended output = MatchResult ended
     (λ exit. (verdict : Verdict) × (below : List ℕ) × IsVerdictBy options.expect options.role transcript verdict
     × StandsBelow options.explain options.role options.expect transcript verdict below
     × Delivers (exit_of verdict) (verdict_line verdict ++ below) exit output)
+    (λ fault. (fault ≡ NoMemory) × IsUntouched output)
+
+-- inside: the same by what is asked for
+abbrev pub TellsVerdictWith : Bool → Role → Expectation → Transcript → Result Exit Fault → Device → Type 0
+TellsVerdictWith explains tested expected transcript ended output = MatchResult ended
+    (λ exit. (verdict : Verdict) × (below : List ℕ) × IsVerdictBy expected tested transcript verdict
+    × StandsBelow explains tested expected transcript verdict below
+    × Delivers (exit_of verdict) (verdict_line verdict ++ below) exit output)
+    (λ fault. (fault ≡ NoMemory) × IsUntouched output)
+
+-- inside: this verdict was written in its line, and these lines below it
+abbrev pub TellsJudged : Verdict → List ℕ → Result Exit Fault → Device → Type 0
+TellsJudged verdict below ended output =
+    MatchResult ended (λ exit. Delivers (exit_of verdict) (verdict_line verdict ++ below) exit output)
     (λ fault. (fault ≡ NoMemory) × IsUntouched output)
 
 -- what is told of a text that is no capture

@@ -6,6 +6,7 @@ pub mod Faults
 pub mod Limits
 pub mod TimeLimits
 pub mod ReadingWhole
+pub mod ReadingCapture
 pub mod ReadingLines
 pub mod FaultRules
 pub mod Explaining

@@ -4,8 +4,9 @@ ghost use Rattle.std.specs.Prelude.{◌≡◌, IfOk, string_bytes};
 ghost use Rattle.ws_suite.specs.Explanation.{IsExplanationBy};
 ghost use Rattle.wst_commands.specs.Explaining.{IsCutIn, IsExplained, IsExplanationText, IsJudgementOf, IsLastGot};
 ghost use Rattle.wst_commands.specs.Explaining.{is_cut, last_after};
+ghost use Rattle.wst_commands.specs.InnerExplaining.{AreLastLines};
 
-use crate::explanation_lines::ExplanationLines;
+use crate::explanation_lines::{ExplanationLines, LastLines};
 use std::alloc::Global;
 use ws_base::NoMemory;
 use ws_suite::{
@@ -85,14 +86,26 @@ pub fn write_explanation<T: AsTranscript>(
     ensures { IfOk result (λ text.
         IsExplanationText tested expected (T.transcript transcript.now) explanation.now (string_bytes text)) }
 {
-    let lines = ExplanationLines {
+    let lines = ExplanationLines(last_lines(tested, expected, transcript, explanation));
+    let text = format!(in alloc; "{lines}")?;
+    Ok(text)
+}
+
+/// The lines behind those of what was owed and of what came.
+pub(crate) fn last_lines<'a, T: AsTranscript>(
+    tested: Role,
+    expected: Expectation,
+    transcript: &T,
+    explanation: &'a Explanation,
+) -> LastLines<'a>
+    ensures { AreLastLines tested expected (T.transcript transcript.now) explanation.now result }
+{
+    LastLines {
         tested,
         expected,
         explanation,
         cut: cut_in(&explanation.got, &transcript.as_transcript()),
-    };
-    let text = format!(in alloc; "{lines}")?;
-    Ok(text)
+    }
 }
 
 /// The turn in which what came ends inside a frame, if it does.

@@ -3,7 +3,8 @@
 ghost use Rattle.std.specs.Prelude.{◌≡◌};
 ghost use Rattle.wst_commands.specs.Explaining.{ended_word, fault_word, side_word};
 ghost use Rattle.wst_commands.specs.InnerExplaining.{printed_data, printed_ending, printed_explanation, printed_line};
-ghost use Rattle.wst_commands.specs.InnerExplaining.{printed_note, printed_reply, printed_rule, printed_side};
+ghost use Rattle.wst_commands.specs.InnerExplaining.{printed_last, printed_note, printed_reply, printed_rule};
+ghost use Rattle.wst_commands.specs.InnerExplaining.{printed_side};
 
 use crate::fault_rules::sent_rule;
 use std::fmt;
@@ -13,7 +14,7 @@ use ws_suite::{Direction, Ending, Expectation, Explanation, InTurn, Kept, ReplyK
 use ws_wire::Role;
 
 /// A payload is shown up to so many bytes.
-const SHOWN: usize = 16;
+pub(crate) const SHOWN: usize = 16;
 
 /// What was owed, or what came.
 #[derive(Clone, Copy)]
@@ -24,7 +25,7 @@ pub(crate) enum Side {
 
 impl Side {
     /// Its word.
-    fn word(self) -> &'static str
+    pub(crate) fn word(self) -> &'static str
         ensures { result.now ≡ side_word self }
     {
         match self {
@@ -46,13 +47,7 @@ impl Side {
 
 /// The lines of an explanation.
 #[derive(Drop)]
-pub(crate) struct ExplanationLines<'a> {
-    pub(crate) tested: Role,
-    pub(crate) expected: Expectation,
-    pub(crate) explanation: &'a Explanation,
-    /// The turn, from 0, in which what came ends inside a frame.
-    pub(crate) cut: Option<usize>,
-}
+pub(crate) struct ExplanationLines<'a>(pub(crate) LastLines<'a>);
 
 impl fmt::Display for ExplanationLines<'_> {
     ghost use Rattle.std.specs.Prelude.{Some};
@@ -62,12 +57,32 @@ impl fmt::Display for ExplanationLines<'_> {
     fn fmt<W: fmt::Write>(&self, f: &mut fmt::Formatter<W>) -> fmt::Result {
         let due = SideLines {
             side: Side::Due,
-            direction: &self.explanation.due,
+            direction: &self.0.explanation.due,
         };
         let got = SideLines {
             side: Side::Got,
-            direction: &self.explanation.got,
+            direction: &self.0.explanation.got,
         };
+        write!(f, "{due}{got}{}", self.0)
+    }
+}
+
+/// The lines of an explanation behind those of what was owed and of what came.
+#[derive(Clone, Copy)]
+pub(crate) struct LastLines<'a> {
+    pub(crate) tested: Role,
+    pub(crate) expected: Expectation,
+    pub(crate) explanation: &'a Explanation,
+    /// The turn, from 0, in which what came ends inside a frame.
+    pub(crate) cut: Option<usize>,
+}
+
+impl fmt::Display for LastLines<'_> {
+    ghost use Rattle.std.specs.Prelude.{Some};
+
+    ghost output = { λ lines. Some (printed_last lines) };
+
+    fn fmt<W: fmt::Write>(&self, f: &mut fmt::Formatter<W>) -> fmt::Result {
         let beyond = NoteLine {
             turn: self.explanation.beyond,
             note: "beyond",
@@ -78,7 +93,7 @@ impl fmt::Display for ExplanationLines<'_> {
         };
         let ended = ended_word(self.explanation.ended);
         let rule = RuleLine(rule_with(self.tested, self.expected, self.explanation.verdict));
-        write!(f, "{due}{got}{beyond}{cut}")?;
+        write!(f, "{beyond}{cut}")?;
         writeln!(f, "  end {ended} {}", self.explanation.turns)?;
         let sent = RuleLine(sent_rule(&self.explanation.due.ending));
         write!(f, "{rule}{sent}")
@@ -143,9 +158,9 @@ impl fmt::Display for ReplyLine<'_> {
 
 /// The line of a close or a fault, if there is one.
 #[derive(Drop)]
-struct EndingLine<'a> {
-    side: Side,
-    ending: &'a Option<InTurn<Ending>>,
+pub(crate) struct EndingLine<'a> {
+    pub(crate) side: Side,
+    pub(crate) ending: &'a Option<InTurn<Ending>>,
 }
 
 impl fmt::Display for EndingLine<'_> {

@@ -1,20 +1,28 @@
 //! The command `judge`. Captures are told in docs/FORMATS.md, and verdicts in docs/VERDICTS.md.
 
-ghost use Rattle.std.specs.Prelude.{◌≡◌, false};
+ghost use Rattle.std.specs.Prelude.{◌≡◌, [], false, true};
 ghost use Rattle.ws_frame.specs.Devices.{watched};
 ghost use Rattle.ws_frame.specs.Watching.{has_failed};
-ghost use Rattle.wst_commands.specs.Judge.{AnswersCapture, RunsJudge, TellsVerdict, capture_fault, exit_of};
+ghost use Rattle.wst_commands.specs.Devices.{Delivers};
+ghost use Rattle.wst_commands.specs.Explaining.{explanation_lines};
+ghost use Rattle.wst_commands.specs.InnerExplaining.{explained_text};
+ghost use Rattle.wst_commands.specs.Judge.{RunsJudge, TellsJudged, TellsVerdict, TellsVerdictWith};
+ghost use Rattle.wst_commands.specs.Judge.{capture_fault, exit_of};
 
 use crate::exit::Exit;
-use crate::explaining::judgement_of;
+use crate::explaining::last_lines;
+use crate::explanation_lines::{EndingLine, LastLines, Side};
 use crate::fault::Fault;
-use crate::reading_capture::read_capture;
-use crate::reading_whole::{ReadStop, read_whole};
+use crate::reading_capture::{ended_by, read_capture};
 use crate::telling::deliver;
+use crate::writing_explanation::write_explained;
 use std::alloc::Global;
 use std::io::{Read, Write};
 use ws_frame::Watched;
-use ws_suite::{CaptureFault, KeptTranscript, Verdict};
+use ws_suite::{
+    CaptureFault, Expectation, Explanation, KeptTranscript, Verdict, explain_with, judge_with,
+};
+use ws_wire::Role;
 use wst_words::JudgeOptions;
 
 /// Judges the capture that the reader gives, in either format, and writes the verdict, and below it why it is told
@@ -31,26 +39,9 @@ pub fn run_judge<R: Read, W: Write>(
     ensures { RunsJudge options result (watched R.remaining reader.old reader.new)
         (watched W.contents writer.old writer.new) }
 {
-    match read_whole(alloc, reader) {
-        Ok(text) => answer(alloc, options, text, writer),
-        Err(ReadStop::Fault) => Ok(Exit::Failed),
-        Err(ReadStop::NoMemory) => Err(Fault::NoMemory),
-    }
-}
-
-/// Judges a capture, and writes the verdict. A text that is no capture is damaged.
-fn answer<W: Write>(
-    alloc: Global,
-    options: JudgeOptions,
-    text: Vec<u8>,
-    writer: &mut Watched<W>,
-) -> Result<Exit, Fault>
-    requires { has_failed writer.old ≡ false }
-    ensures { AnswersCapture options text.items result (watched W.contents writer.old writer.new) }
-{
-    match read_capture(alloc, text) {
+    match read_capture(alloc, reader) {
         Ok(capture) => tell_verdict(alloc, options, capture.transcript(), writer),
-        Err(fault) => Err(fault_of(fault)),
+        Err(stop) => ended_by(stop),
     }
 }
 
@@ -74,18 +65,132 @@ fn tell_verdict<W: Write>(
     requires { has_failed writer.old ≡ false }
     ensures { TellsVerdict options transcript.now result (watched W.contents writer.old writer.new) }
 {
-    let Ok(told) = judgement_of(
-        alloc,
-        options.explain,
-        options.role,
-        options.expect,
-        transcript,
-    ) else {
+    if options.explain {
+        tell_explained(alloc, options.role, options.expect, transcript, writer)
+    } else {
+        tell_plain(alloc, options.role, options.expect, transcript, writer)
+    }
+}
+
+/// Writes the verdict on a transcript in its line.
+#[tactic(auto, using(crate::proofs::Told::line_told))]
+fn tell_plain<W: Write>(
+    alloc: Global,
+    tested: Role,
+    expected: Expectation,
+    transcript: &KeptTranscript,
+    writer: &mut Watched<W>,
+) -> Result<Exit, Fault>
+    requires { has_failed writer.old ≡ false }
+    ensures { TellsVerdictWith false tested expected transcript.now result
+        (watched W.contents writer.old writer.new) }
+{
+    let Ok(verdict) = judge_with(alloc, tested, expected, transcript) else {
         return Err(Fault::NoMemory);
     };
-    match format!(in alloc; "{}\n{}", told.verdict, told.below) {
-        Ok(lines) => Ok(deliver(exit_of(told.verdict), lines.as_bytes(), writer)),
+    tell_line(alloc, verdict, writer)
+}
+
+/// Writes a verdict in its line.
+fn tell_line<W: Write>(
+    alloc: Global,
+    verdict: Verdict,
+    writer: &mut Watched<W>,
+) -> Result<Exit, Fault>
+    requires { has_failed writer.old ≡ false }
+    ensures { TellsJudged verdict [] result (watched W.contents writer.old writer.new) }
+{
+    match format!(in alloc; "{verdict}\n") {
+        Ok(line) => Ok(deliver(exit_of(verdict), line.as_bytes(), writer)),
         Err(_) => Err(Fault::NoMemory),
+    }
+}
+
+/// Writes the verdict on a transcript in its line, and below it why it is told.
+#[tactic(auto, using(crate::proofs::Told::pass_told))]
+fn tell_explained<W: Write>(
+    alloc: Global,
+    tested: Role,
+    expected: Expectation,
+    transcript: &KeptTranscript,
+    writer: &mut Watched<W>,
+) -> Result<Exit, Fault>
+    requires { has_failed writer.old ≡ false }
+    ensures { TellsVerdictWith true tested expected transcript.now result
+        (watched W.contents writer.old writer.new) }
+{
+    let Ok(explanation) = explain_with(alloc, tested, expected, transcript) else {
+        return Err(Fault::NoMemory);
+    };
+    match explanation.verdict {
+        Verdict::Pass => tell_line(alloc, explanation.verdict, writer),
+        Verdict::Loose(_) => {
+            let lines = last_lines(tested, expected, transcript, &explanation);
+            tell_lines(alloc, &lines, writer)
+        }
+        Verdict::Fail(_) => {
+            let lines = last_lines(tested, expected, transcript, &explanation);
+            tell_lines(alloc, &lines, writer)
+        }
+    }
+}
+
+/// Writes the line of the verdict of an explanation, and below it the lines of this. All memory is taken before the
+/// first byte is written.
+fn tell_lines<W: Write>(
+    alloc: Global,
+    lines: &LastLines<'_>,
+    writer: &mut Watched<W>,
+) -> Result<Exit, Fault>
+    requires { has_failed writer.old ≡ false }
+    ensures { TellsJudged lines.now.explanation.now.verdict
+        (explanation_lines lines.now.tested lines.now.expected lines.now.cut lines.now.explanation.now) result
+        (watched W.contents writer.old writer.new) }
+{
+    let explanation = lines.explanation;
+    let due = EndingLine {
+        side: Side::Due,
+        ending: &explanation.due.ending,
+    };
+    let got = EndingLine {
+        side: Side::Got,
+        ending: &explanation.got.ending,
+    };
+    let Ok(line) = format!(in alloc; "{}\n", explanation.verdict) else {
+        return Err(Fault::NoMemory);
+    };
+    let Ok(due_end) = format!(in alloc; "{due}") else {
+        return Err(Fault::NoMemory);
+    };
+    let Ok(got_end) = format!(in alloc; "{got}{lines}") else {
+        return Err(Fault::NoMemory);
+    };
+    Ok(deliver_explained(
+        line.as_str(),
+        explanation,
+        due_end.as_str(),
+        got_end.as_str(),
+        writer,
+    ))
+}
+
+/// Writes the line of the verdict of an explanation and the lines below it, and answers the exit of this verdict, or
+/// that of a failure.
+fn deliver_explained<W: Write>(
+    line: &str,
+    explanation: &Explanation,
+    due_end: &str,
+    got_end: &str,
+    writer: &mut Watched<W>,
+) -> Exit
+    requires { has_failed writer.old ≡ false }
+    ensures { Delivers (exit_of explanation.now.verdict)
+        (explained_text line.now explanation.now due_end.now got_end.now) result
+        (watched W.contents writer.old writer.new) }
+{
+    match write_explained(line, explanation, due_end, got_end, writer) {
+        Ok(()) => exit_of(explanation.verdict),
+        Err(_) => Exit::Failed,
     }
 }
 

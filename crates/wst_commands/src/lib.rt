@@ -28,12 +28,14 @@ mod pair;
 mod reading_capture;
 mod reading_lines;
 mod reading_whole;
+mod reply_text;
 mod report;
 mod session;
 mod show;
 mod step_damages;
 mod telling;
 mod time_limit;
+mod writing_explanation;
 
 pub use cases::run_cases;
 pub use close_codes::code_notes;

@@ -1,24 +1,27 @@
 //! The command `pair`. Its script and its report are told in docs/FORMATS.md.
 
-ghost use Rattle.std.specs.Prelude.{◌≡◌, false, MatchOption, MatchResult};
+ghost use Rattle.std.specs.Prelude.{◌≡◌, ℕ, List, false, MatchOption, MatchResult};
 ghost use Rattle.ws_formats.specs.Lines.{Damages};
 ghost use Rattle.ws_frame.specs.Devices.{watched};
 ghost use Rattle.ws_frame.specs.Watching.{has_failed};
 ghost use Rattle.ws_pair.specs.Runs.{IsScriptReport};
 ghost use Rattle.ws_pair.specs.Script.{AreMoveLines};
 ghost use Rattle.wst_commands.specs.Limits.{limits_given};
-ghost use Rattle.wst_commands.specs.Pairs.{AnswersScript, CanLimit, RunsPair, TellsReport, script_fault};
+ghost use Rattle.wst_commands.specs.Pairs.{CanLimit, RunsPair, TellsReport, script_fault};
+ghost use Rattle.wst_commands.specs.ReadingLines.{FailsInput};
+ghost use Rattle.wst_commands.specs.ReadingWhole.{ReadsAll};
 
 use crate::exit::Exit;
 use crate::fault::Fault;
 use crate::limits::limits_given;
-use crate::reading_whole::{ReadStop, read_whole};
+use crate::reading_lines::{InputFault, take_input};
+use crate::reading_whole::ReadStop;
 use crate::telling::deliver;
 use std::alloc::Global;
 use std::io::{Read, Write};
 use ws_base::{NoMemory, TextFault};
 use ws_frame::Watched;
-use ws_pair::{Report, run_script, write_report};
+use ws_pair::{Player, Report, write_report};
 use ws_session::Limits;
 use wst_words::PairOptions;
 
@@ -38,10 +41,11 @@ pub fn run_moves<R: Read, W: Write>(
     let Some(limits) = both_limits(options) else {
         return Err(Fault::BadLimits);
     };
-    match read_whole(alloc, reader) {
-        Ok(text) => answer(alloc, limits.0, limits.1, text, writer),
-        Err(ReadStop::Fault) => Ok(Exit::Failed),
-        Err(ReadStop::NoMemory) => Err(Fault::NoMemory),
+    match report_in(alloc, limits.0, limits.1, reader) {
+        Ok(report) => tell_report(alloc, &report, writer),
+        Err(InputFault::Text(fault)) => Err(fault_of(fault)),
+        Err(InputFault::Stop(ReadStop::Fault)) => Ok(Exit::Failed),
+        Err(InputFault::Stop(ReadStop::NoMemory)) => Err(Fault::NoMemory),
     }
 }
 
@@ -56,34 +60,23 @@ fn both_limits(options: PairOptions) -> Option<(Limits, Limits)>
     Some((client, server))
 }
 
-/// Plays the moves of a script, and writes the report. A text that is no script is damaged.
-fn answer<W: Write>(
+/// The report of the moves of the script that the reader gives, each of which is played as soon as its line is read.
+fn report_in<R: Read>(
     alloc: Global,
     client: Limits,
     server: Limits,
-    text: Vec<u8>,
-    writer: &mut Watched<W>,
-) -> Result<Exit, Fault>
-    requires { has_failed writer.old ≡ false }
-    ensures { AnswersScript client server text.items result (watched W.contents writer.old writer.new) }
+    reader: &mut Watched<R>,
+) -> Result<Report, InputFault>
+    requires { has_failed reader.old ≡ false }
+    ensures { MatchResult result
+        (λ report. (text : List ℕ) × ReadsAll text (watched R.remaining reader.old reader.new)
+        × IsScriptReport client server text report)
+        (λ fault. FailsInput (Damages AreMoveLines) fault (watched R.remaining reader.old reader.new)) }
 {
-    match report_in(alloc, client, server, text) {
-        Ok(report) => tell_report(alloc, &report, writer),
-        Err(fault) => Err(fault_of(fault)),
+    match take_input(alloc, reader, Player::new(alloc, client, server)) {
+        Ok(player) => Ok(player.report()),
+        Err(fault) => Err(fault),
     }
-}
-
-/// The report of a script, whose text is dropped before the report is told.
-fn report_in(
-    alloc: Global,
-    client: Limits,
-    server: Limits,
-    text: Vec<u8>,
-) -> Result<Report, TextFault>
-    ensures { MatchResult result (λ report. IsScriptReport client server text.items report)
-        (λ fault. Damages AreMoveLines fault text.items) }
-{
-    run_script(alloc, client, server, text.as_slice())
 }
 
 /// What is told of a script that can't be played.

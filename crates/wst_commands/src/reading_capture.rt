@@ -1,16 +1,79 @@
-//! Reading a text as a capture.
+//! Reading an input as a capture.
 
-ghost use Rattle.std.specs.Prelude.{MatchResult};
-ghost use Rattle.ws_scripts.specs.Captures.{DamagesCapture};
-ghost use Rattle.ws_scripts.specs.Captures2.{IsAnyCaptureOf};
+ghost use Rattle.std.specs.Prelude.{◌≡◌, false};
+ghost use Rattle.ws_frame.specs.Devices.{watched};
+ghost use Rattle.ws_frame.specs.Watching.{has_failed};
+ghost use Rattle.wst_commands.specs.ReadingCapture.{FeedsCapture, ReadsCapture, ended_by};
 
+use crate::exit::Exit;
+use crate::fault::Fault;
+use crate::judge::fault_of;
+use crate::reading_lines::drop_rest;
+use crate::reading_whole::ReadStop;
 use std::alloc::Global;
-use ws_suite::{CaptureFault, KeptCapture, read_kept_capture};
+use std::io::Read;
+use ws_frame::{READ_SIZE, Watched};
+use ws_suite::{CaptureFault, CaptureFeed, KeptCapture};
 
-/// The capture that a text is, in either format. The text itself isn't kept.
-pub(crate) fn read_capture(alloc: Global, text: Vec<u8>) -> Result<KeptCapture, CaptureFault>
-    ensures { MatchResult result (λ capture. IsAnyCaptureOf capture text.items)
-        (λ fault. DamagesCapture IsAnyCaptureOf fault text.items) }
+/// Why an input gave no capture.
+#[derive(Drop)]
+pub(crate) enum CaptureStop {
+    /// The input was not read whole.
+    Stop(ReadStop),
+    /// It was, and it is no capture, or memory ran out for it.
+    Fault(CaptureFault),
+}
+
+/// The capture that the reader gives, in either format. Its text isn't kept. Behind a damaged line the rest is read and
+/// dropped, and a read that fails there is told in its place.
+pub(crate) fn read_capture<R: Read>(
+    alloc: Global,
+    reader: &mut Watched<R>,
+) -> Result<KeptCapture, CaptureStop>
+    requires { has_failed reader.old ≡ false }
+    ensures { ReadsCapture result (watched R.remaining reader.old reader.new) }
 {
-    read_kept_capture(alloc, text.as_slice())
+    match feed_capture(alloc, reader) {
+        Ok(feed) => match feed.end() {
+            Ok(capture) => Ok(capture),
+            Err(fault) => Err(CaptureStop::Fault(fault)),
+        },
+        Err(CaptureStop::Stop(stop)) => Err(CaptureStop::Stop(stop)),
+        Err(CaptureStop::Fault(fault)) => match drop_rest(reader) {
+            Ok(()) => Err(CaptureStop::Fault(fault)),
+            Err(stop) => Err(CaptureStop::Stop(stop)),
+        },
+    }
+}
+
+/// Feeds what the reader gives, until it ends or the feed refuses it.
+fn feed_capture<R: Read>(alloc: Global, reader: &mut Watched<R>) -> Result<CaptureFeed, CaptureStop>
+    requires { has_failed reader.old ≡ false }
+    ensures { FeedsCapture result (watched R.remaining reader.old reader.new) }
+{
+    let mut feed = CaptureFeed::new(alloc);
+    let mut room = [0; READ_SIZE];
+    'reads: for _ in 0..u64::MAX {
+        match reader.read(&mut room) {
+            Err(_) => return Err(CaptureStop::Stop(ReadStop::Fault)),
+            Ok(0) => return Ok(feed),
+            Ok(count) => match feed.feed(alloc, &room[..count]) {
+                Ok(longer) => feed = longer,
+                Err(fault) => return Err(CaptureStop::Fault(fault)),
+            },
+        }
+    }
+    // Nobody reads so often.
+    Err(CaptureStop::Stop(ReadStop::NoMemory))
+}
+
+/// How a run ends whose input gave no capture.
+pub(crate) fn ended_by(stop: CaptureStop) -> Result<Exit, Fault>
+    ensures { result ≡ ended_by stop }
+{
+    match stop {
+        CaptureStop::Stop(ReadStop::Fault) => Ok(Exit::Failed),
+        CaptureStop::Stop(ReadStop::NoMemory) => Err(Fault::NoMemory),
+        CaptureStop::Fault(fault) => Err(fault_of(fault)),
+    }
 }

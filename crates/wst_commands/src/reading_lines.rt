@@ -3,7 +3,7 @@
 ghost use Rattle.std.specs.Prelude.{◌≡◌, false, []};
 ghost use Rattle.ws_frame.specs.Devices.{watched};
 ghost use Rattle.ws_frame.specs.Watching.{has_failed};
-ghost use Rattle.ws_text_feed.specs.Feeding.{IsFed};
+ghost use Rattle.ws_text_feed.specs.Feeding.{IsFed, WasFed};
 ghost use Rattle.wst_commands.specs.ReadingLines.{DropsRest, FeedsInput, TakesInput};
 
 use crate::reading_whole::ReadStop;
@@ -55,7 +55,8 @@ fn feed_input<R: Read, T: TakeValues>(
     reader: &mut Watched<R>,
     feed: &mut TextFeed<T>,
 ) -> Result<(), InputFault>
-    requires { has_failed reader.old ≡ false }
+    requires works { has_failed reader.old ≡ false }
+    requires fed { WasFed T.is_line_of T.has_taken feed.old }
     ensures { (first : T) → IsFed T.is_line_of T.has_taken first [] feed.old →
         FeedsInput T.is_line_of T.has_taken first feed.new result (watched R.remaining reader.old reader.new) }
 {
@@ -75,7 +76,7 @@ fn feed_input<R: Read, T: TakeValues>(
 }
 
 /// Reads the rest of an input, and drops it.
-fn drop_rest<R: Read>(reader: &mut Watched<R>) -> Result<(), ReadStop>
+pub(crate) fn drop_rest<R: Read>(reader: &mut Watched<R>) -> Result<(), ReadStop>
     requires { has_failed reader.old ≡ false }
     ensures { DropsRest result (watched R.remaining reader.old reader.new) }
 {

@@ -4,14 +4,12 @@ ghost use Rattle.std.specs.Prelude.{◌≡◌, false};
 ghost use Rattle.ws_frame.specs.Devices.{watched};
 ghost use Rattle.ws_frame.specs.Watching.{has_failed};
 ghost use Rattle.ws_frame.specs.Lines.{alone};
-ghost use Rattle.wst_commands.specs.Show.{AnswersShownCapture, RunsShow, ShowsCapture, ShowsStream, TellsLines};
+ghost use Rattle.wst_commands.specs.Show.{RunsShow, ShowsCapture, ShowsStream, TellsLines};
 ghost use Rattle.wst_commands.specs.Show.{budget_of, show_plan, shown, shown_role};
 
 use crate::exit::Exit;
 use crate::fault::Fault;
-use crate::judge::fault_of;
-use crate::reading_capture::read_capture;
-use crate::reading_whole::{ReadStop, read_whole};
+use crate::reading_capture::{ended_by, read_capture};
 use std::alloc::Global;
 use std::io::{Read, Write};
 use ws_frame::{DataStyle, ShowEnd, ShowFault, Source, Watched, show, show_payloads};
@@ -146,26 +144,9 @@ fn show_capture<R: Read, W: Write>(
     ensures { ShowsCapture showing result (watched R.remaining reader.old reader.new)
         (watched W.contents writer.old writer.new) }
 {
-    match read_whole(alloc, reader) {
-        Ok(text) => answer(alloc, showing, text, writer),
-        Err(ReadStop::Fault) => Ok(Exit::Failed),
-        Err(ReadStop::NoMemory) => Err(Fault::NoMemory),
-    }
-}
-
-/// Shows a text as a capture. A text that is none is damaged.
-fn answer<W: Write>(
-    alloc: Global,
-    showing: Showing,
-    text: Vec<u8>,
-    writer: &mut Watched<W>,
-) -> Result<Exit, Fault>
-    requires { has_failed writer.old ≡ false }
-    ensures { AnswersShownCapture showing text.items result (watched W.contents writer.old writer.new) }
-{
-    match read_capture(alloc, text) {
+    match read_capture(alloc, reader) {
         Ok(capture) => tell_lines(alloc, showing, capture.transcript(), writer),
-        Err(fault) => Err(fault_of(fault)),
+        Err(stop) => ended_by(stop),
     }
 }
 

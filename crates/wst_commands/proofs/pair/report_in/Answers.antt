@@ -1,11 +1,7 @@
--- The text that was dropped is the one that was read.
-use Rattle.std.proofs.Common.{List, MatchResult, subst, ℕ}
-use Rattle.ws_formats.specs.Lines.{Damages}
-use Rattle.ws_pair.specs.Runs.{IsScriptReport}
-use Rattle.ws_pair.specs.Script.{AreMoveLines}
+-- The moves of the lines that were read were played, and the report is of them.
 use Rattle.wst_commands.proofs.pair.report_in.Goals as goal
 
-pub returns : goal.returns
-returns c =
-    subst (λ (t : List ℕ). MatchResult c.run_script.result (λ report. IsScriptReport c.args.client c.args.server t report) (λ fault. Damages AreMoveLines fault t))
-    c.as_slice.ensures.value c.run_script.ensures
+pub returns-in-Ok : goal.returns-in-Ok
+returns-in-Ok g c =
+    let t = c.in-Ok.ensures in
+    (t.0, t.1, (t.2.0, t.2.1, c.report.ensures c.args.client c.args.server c.new.result t.2.0 c.new.ensures t.2.2))

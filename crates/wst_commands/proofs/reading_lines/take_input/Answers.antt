@@ -1,5 +1,5 @@
 -- What is read is fed; the rest behind a damaged line is dropped.
-use Rattle.std.proofs.Common.{◌++◌, subst}
+use Rattle.std.proofs.Common.{[], ◌++◌, subst}
 use Rattle.ws_frame.specs.Devices.{watched}
 use Rattle.ws_frame.specs.Watching.{has_failed, inner_of}
 use Rattle.wst_commands.specs.ReadingLines.{FailsFeeding}
@@ -48,3 +48,6 @@ pub returns-in-Err-end : goal.returns-in-Err-end
 returns-in-Err-end g c =
     let f = c.in-Ok.ensures c.args.taker c.new-feed.ensures in
     (f.0, f.1, c.in-Err-end.ensures c.args.taker f.0 f.2)
+
+pub feed_input-requires-clause-fed : goal.feed_input-requires-clause-fed
+feed_input-requires-clause-fed g c = (c.args.taker, [], c.new-feed.ensures)
