@@ -8,7 +8,9 @@ use std::io;
 use std::io::{ErrorKind, Read, Write};
 use std::net::{Net, OpenStream, Shutdown, SocketAddr, ToSocketAddrs};
 use std::time::Duration;
-use ws_loops::{NonBlocking, Poller, Readiness, TryRead, TryWrite, WaitFailed};
+use ws_loops::{
+    Listener, NonBlocking, Poller, Readiness, TryAccept, TryRead, TryWrite, WaitFailed,
+};
 use ws_networks::{Network, Progress};
 use wst_network::{ConnectMiss, Connector, EndingStream, NetworkFault, StreamEnd};
 
@@ -115,6 +117,8 @@ impl<'a> Network for PolledNetwork<'a> {
 
     type Stream = PolledStream<'a>;
 
+    type Listener = NoListener<'a>;
+
     type Miss = ConnectMiss;
 
     ghost did = { λ old new deeds. ⊤ };
@@ -160,6 +164,34 @@ impl<'a> Network for PolledNetwork<'a> {
         } else {
             Progress::Made
         }
+    }
+
+    fn bind(&mut self, _address: SocketAddr, _at: usize) -> Result<NoListener<'a>, ConnectMiss> {
+        Err(ConnectMiss::NotTaken(ErrorKind::AddrNotAvailable))
+    }
+
+    fn address_of(&mut self, _listener: &NoListener<'a>) -> Result<SocketAddr, ConnectMiss> {
+        Err(ConnectMiss::NotTaken(ErrorKind::AddrNotAvailable))
+    }
+}
+
+/// No row needs a listener that doesn't wait: no address of such a network can be listened at.
+#[derive(Drop)]
+pub struct NoListener<'a> {
+    _book: &'a Book<'a>,
+}
+
+impl<'a> Listener for NoListener<'a> {
+    ghost use Rattle.std.specs.Prelude.{⊤};
+
+    type Client = PolledStream<'a>;
+
+    type Miss = ConnectMiss;
+
+    ghost did = { λ old new deeds. ⊤ };
+
+    fn try_accept(&mut self, _at: usize) -> TryAccept<PolledStream<'a>, ConnectMiss> {
+        TryAccept::NotReady
     }
 }
 

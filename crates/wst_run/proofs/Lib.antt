@@ -1,5 +1,6 @@
--- The lemmas behind runs: what plans, runs over clients and sweeps tell, and the status that a run ends with.
+-- The lemmas behind runs: what plans, the ends that they name, runs over clients and sweeps tell, and the status that a run ends with.
 pub mod PlanLemmas
+pub mod EndLemmas
 pub mod RunLemmas
 pub mod ClientRunLemmas
 pub mod ClientSweepLemmas

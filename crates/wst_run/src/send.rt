@@ -24,8 +24,8 @@ use wst_commands::{
 use wst_network::Connector;
 use wst_sockets::{ConnectFault, Meeting, Network};
 use wst_testing::{
-    AddressServer, CaseServer, LineStop, LineWriter, Outcome, Refusal, RunPlan, TestedEnd,
-    UsualDeadline, capture_text, plan_run,
+    CaseServer, End, LineStop, LineWriter, Outcome, Refusal, RunPlan, UsualDeadline, capture_text,
+    plan_run,
 };
 use wst_words::SendOptions;
 
@@ -102,15 +102,9 @@ pub(crate) fn send_to_target<N: Network, C: Connector, R: Read, W: Write, F: Wri
     ensures { SendsOver plan.now.run.tested plan.now result (watched R.remaining reader.old reader.new)
         (watched W.contents writer.old writer.new) (watched F.contents faults.old faults.new) }
 {
-    match &plan.run.tested {
-        TestedEnd::Memory(end) => send_to(alloc, end, plan, reader, writer, faults),
-        TestedEnd::Server(target) => {
-            let server = AddressServer::new(net, connector, target, &plan.run);
-            send_to(alloc, &server, plan, reader, writer, faults)
-        }
-        TestedEnd::Clients(address) => {
-            send_to_clients_at(alloc, net, address, plan, reader, writer, faults)
-        }
+    match End::of_plan(net, connector, &plan.run) {
+        Ok(end) => send_to(alloc, &end, plan, reader, writer, faults),
+        Err(address) => send_to_clients_at(alloc, net, address, plan, reader, writer, faults),
     }
 }
 

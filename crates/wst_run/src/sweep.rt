@@ -16,8 +16,8 @@ use wst_commands::{Exit, tell};
 use wst_network::Connector;
 use wst_sockets::Network;
 use wst_testing::{
-    AddressServer, CaseServer, Refusal, RunPlan, SweepRules, TestedEnd, UsualDeadline, plan_run,
-    sweep_scripts, tell_refusal, tell_sweep_end,
+    CaseServer, End, Refusal, RunPlan, SweepRules, UsualDeadline, plan_run, sweep_scripts,
+    tell_refusal, tell_sweep_end,
 };
 use wst_words::SweepOptions;
 
@@ -98,15 +98,9 @@ pub(crate) fn sweep_target<N: Network, C: Connector, W: Write, F: Write>(
     ensures { SweepsOver plan.now.run.tested plan.now result (watched W.contents writer.old writer.new)
         (watched F.contents faults.old faults.new) }
 {
-    match &plan.run.tested {
-        TestedEnd::Memory(end) => sweep_over(alloc, end, plan, writer, faults),
-        TestedEnd::Server(target) => {
-            let server = AddressServer::new(net, connector, target, &plan.run);
-            sweep_over(alloc, &server, plan, writer, faults)
-        }
-        TestedEnd::Clients(address) => {
-            sweep_clients_at(alloc, net, address, plan, writer, faults)
-        }
+    match End::of_plan(net, connector, &plan.run) {
+        Ok(end) => sweep_over(alloc, &end, plan, writer, faults),
+        Err(address) => sweep_clients_at(alloc, net, address, plan, writer, faults),
     }
 }
 

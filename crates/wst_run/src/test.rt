@@ -18,8 +18,8 @@ use wst_commands::{Exit, Fault, cases_of, deliver, end_run, is_glob};
 use wst_network::Connector;
 use wst_sockets::Network;
 use wst_testing::{
-    AddressServer, CaseServer, Refusal, RunPlan, RunRules, TestedEnd, UsualDeadline, capture_case,
-    close_report, plan_run, test_cases,
+    CaseServer, End, Refusal, RunPlan, RunRules, UsualDeadline, capture_case, close_report,
+    plan_run, test_cases,
 };
 use wst_words::TestOptions;
 
@@ -54,15 +54,9 @@ pub(crate) fn run_over_target<N: Network, C: Connector, W: Write, F: Write>(
     ensures { RunsPlanOver plan.now.run.tested plan.now report.now result (watched W.contents writer.old writer.new)
         (watched F.contents faults.old faults.new) }
 {
-    match &plan.run.tested {
-        TestedEnd::Memory(end) => run_plan(alloc, end, plan, report, writer, faults),
-        TestedEnd::Server(target) => {
-            let server = AddressServer::new(net, connector, target, &plan.run);
-            run_plan(alloc, &server, plan, report, writer, faults)
-        }
-        TestedEnd::Clients(address) => {
-            test_clients_at(alloc, net, address, plan, report, writer, faults)
-        }
+    match End::of_plan(net, connector, &plan.run) {
+        Ok(end) => run_plan(alloc, &end, plan, report, writer, faults),
+        Err(address) => test_clients_at(alloc, net, address, plan, report, writer, faults),
     }
 }
 

@@ -66,21 +66,6 @@ notes_more progress tests case outcome =
     ∙ sym (flat_map-append (λ (t : Case × Outcome). progress_notes progress t.0 ++ miss_notes t.1) tests
     ((case, outcome) ∷ []))
 
--- and the telling of them, where a device has failed by f, then by g, and then by h
-pub noted_more : (progress : Bool) (tests : List (Case × Outcome)) (case : Case) (outcome : Outcome) (f g h : Bool)
-    (a b c d : Option (List ℕ)) → (f ≡ true → g ≡ true) → (g ≡ true → h ≡ true)
-    → TellsEach (notes_of progress tests) (record { failed = f; old = a; new = b })
-    → TellsEach (progress_notes progress case) (record { failed = g; old = b; new = c })
-    → TellsEach (miss_notes outcome) (record { failed = h; old = c; new = d })
-    → TellsEach (notes_of progress (tests ++ (case, outcome) ∷ [])) (record { failed = h; old = a; new = d })
-noted_more progress tests case outcome f g h a b c d first second before name why =
-    let was = each_on (notes_of progress tests) f h a b (λ x. second (first x)) before in
-    let next = each_then (progress_notes progress case) (miss_notes outcome) h b c d
-    (each_on (progress_notes progress case) g h b c second name) why in
-    subst (λ (texts : List (List ℕ)). TellsEach texts (record { failed = h; old = a; new = d }))
-    (notes_more progress tests case outcome)
-    (each_then (notes_of progress tests) (progress_notes progress case ++ miss_notes outcome) h a b d was next)
-
 -- the name of the next case behind the notes so far
 pub noted_next : (notes next : List (List ℕ)) (f g : Bool) (a b c : Option (List ℕ)) → (f ≡ true → g ≡ true)
     → TellsEach notes (record { failed = f; old = a; new = b }) → TellsEach next

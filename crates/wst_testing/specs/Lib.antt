@@ -1,9 +1,12 @@
 pub mod RunPlans
 pub mod Servers
+pub mod Ends
 pub mod Outcomes
 pub mod Notes
 pub mod Reporting
 pub mod Testing
+pub mod Runner
+pub mod Reporter
 pub mod KnownInput
 pub mod LineWriting
 pub mod Sweeps

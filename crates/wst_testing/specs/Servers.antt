@@ -14,7 +14,7 @@ use Rattle.ws_networks.specs.declared.bounds.Limits.{Limits}
 use Rattle.ws_networks.specs.declared.meeting.Met.{Met}
 use Rattle.ws_networks.specs.declared.meeting.Met.TheVariants.{Ended, NotMade}
 use Rattle.wst_network.specs.declared.fault.NetworkFault.{NetworkFault}
-use Rattle.wst_testing.specs.declared.bounds.Bounds.{Bounds}
+use Rattle.wst_testing.specs.declared.looping.Bounds.{Bounds}
 use Rattle.ws_peer.specs.EchoRuns.{IsEchoRun}
 use Rattle.ws_peer.specs.Runs.{IsRunOf}
 use Rattle.ws_peer.specs.Talks.{Entry}

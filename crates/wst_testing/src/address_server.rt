@@ -8,11 +8,9 @@ ghost use Rattle.ws_connection.specs.UpgradeRequests.{CanBeAsked, request_value}
 ghost use Rattle.wst_commands.specs.TimeLimits.{is_limited};
 ghost use Rattle.wst_testing.specs.Servers.{IsProbedByCalls, MeetsAtAddress, MeetsByCalls, asked_by, asked_within};
 
-use crate::bounds::Bounds;
 use crate::case_server::CaseServer;
-use crate::looping::{run_looped, without_network};
+use crate::looping::{Bounds, TellingPoller, run_looped, without_network};
 use crate::run_plans::RunPlan;
-use crate::telling_poller::TellingPoller;
 use std::alloc::Global;
 use std::cell::{Cell, RefCell};
 use std::io::{ErrorKind, Read, Write};

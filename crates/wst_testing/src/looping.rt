@@ -1,4 +1,5 @@
-//! A case that is run over a connection to an address by the loop that doesn't wait in a read.
+//! A case that is run over a connection to an address by the loop that doesn't wait in a read: how long that may last,
+//! what came of it, and what tells that it goes on.
 
 ghost use Rattle.std.specs.Prelude.{◌≡◌, IfOk};
 ghost use Rattle.ws_scripts.specs.Scripts.{CanBeRun};
@@ -6,19 +7,55 @@ ghost use Rattle.ws_connection.specs.UpgradeRequests.{CanBeAsked, request_value}
 ghost use Rattle.wst_commands.specs.TimeLimits.{is_limited};
 ghost use Rattle.wst_sockets.specs.Meetings.{probe_of};
 ghost use Rattle.ws_handshake.specs.declared.probe_end.Probe.TheVariants.{NoConnection};
-ghost use Rattle.wst_testing.specs.Servers.{IsMeetingBy, MeetsAtAddress, asked_within};
+ghost use Rattle.wst_testing.specs.Servers.{IsMeetingBy, MeetsAtAddress, asked_within, limits_within, milliseconds_of};
 
-use crate::bounds::Bounds;
 use std::alloc::Global;
 use std::io::ErrorKind;
 use ws_base::NoMemory;
 use ws_connection::{Asked, Probe, probe_machine};
 use ws_frame::READ_SIZE;
-use ws_loops::Poller;
-use ws_networks::{Met, Missed, Network, run_at};
+use ws_loops::{Poller, Readiness, WaitFailed};
+use ws_networks::{Limits, Met, Missed, Network, run_at};
 use ws_suite::Case;
+use wst_commands::TimeLimit;
 use wst_network::{ConnectMiss, EndingStream, NetworkFault, StreamEnd};
-use wst_sockets::{ConnectFault, Meeting, connect_fault, lookup_fault};
+use wst_sockets::{ConnectFault, Meeting, PATIENCE, WaitTeller, connect_fault, lookup_fault};
+
+/// So many milliseconds are a second.
+const SECOND: u64 = 1000;
+
+/// How much is read of a server at an address in one case, how long it is waited for, and how long that may last.
+#[derive(Clone, Copy)]
+pub struct Bounds {
+    /// At most so many bytes are read behind the head of its answer.
+    pub budget: u64,
+    /// A connection, and the server, is waited for so long.
+    pub timeout: TimeLimit,
+    /// The connection lasts so long.
+    pub deadline: TimeLimit,
+}
+
+impl Bounds {
+    /// Its limits of time, as a loop has them.
+    pub(crate) fn limits(self) -> Limits
+        ensures { result ≡ limits_within self.timeout self.deadline }
+    {
+        Limits {
+            limit: milliseconds(self.timeout),
+            deadline: milliseconds(self.deadline),
+        }
+    }
+}
+
+/// A limit of time in milliseconds.
+fn milliseconds(limit: TimeLimit) -> Option<u64>
+    ensures { result ≡ milliseconds_of limit }
+{
+    match limit {
+        TimeLimit::Unlimited => None,
+        TimeLimit::Seconds(seconds) => Some(u64::from(seconds) * 1000),
+    }
+}
 
 /// Runs a case over a connection to an address, and tells why there is none, or why its answer was not whole, if so.
 pub fn run_looped<N: Network<Miss = ConnectMiss>, P: Poller>(
@@ -112,4 +149,67 @@ fn missed_fault(why: Missed<ConnectMiss>) -> ConnectFault {
         Missed::Failed(ConnectMiss::NotFound(kind)) => lookup_fault(kind),
         Missed::Failed(ConnectMiss::NotTaken(kind)) => connect_fault(kind),
     }
+}
+
+/// It waits as another poller does. While it is still to be told that a run waits, a wait is interrupted after ten
+/// seconds in which no stream was found ready: it is told, and the wait goes on.
+#[derive(Drop)]
+pub struct TellingPoller<'a, P, N> {
+    poller: P,
+    teller: WaitTeller<'a, N>,
+    asked: u64,
+}
+
+impl<'a, P, N> TellingPoller<'a, P, N> {
+    /// One that waits by this poller, and tells of its waits so.
+    pub fn of(poller: P, teller: WaitTeller<'a, N>) -> TellingPoller<'a, P, N> {
+        TellingPoller {
+            poller,
+            teller,
+            asked: 0,
+        }
+    }
+}
+
+impl<P: Poller, N: wst_sockets::Network> TellingPoller<'_, P, N> {
+    /// When it is to be told that a wait goes on, if that is before it ends.
+    fn patience(&self, until: Option<u64>) -> Option<u64> {
+        if !self.teller.is_pending() {
+            return None;
+        }
+        let patience = self.asked.saturating_add(PATIENCE * SECOND);
+        match until {
+            Some(until) if until <= patience => None,
+            Some(_) | None => Some(patience),
+        }
+    }
+}
+
+impl<P: Poller, N: wst_sockets::Network> Poller for TellingPoller<'_, P, N> {
+    ghost time = { λ p. P.time p.poller };
+
+    ghost left = { λ p. P.left p.poller };
+
+    fn now(&mut self) -> u64 {
+        let now = self.poller.now();
+        self.asked = now;
+        now
+    }
+
+    fn wait(&mut self, ready: &mut [Readiness], until: Option<u64>) -> Result<(), WaitFailed> {
+        if let Some(patience) = self.patience(until) {
+            self.poller.wait(ready, Some(patience))?;
+            if is_any(ready) {
+                return Ok(());
+            }
+            self.teller.tell();
+        }
+        self.poller.wait(ready, until)?;
+        Ok(())
+    }
+}
+
+/// Whether a stream was found ready.
+fn is_any(ready: &[Readiness]) -> bool {
+    ready.iter().any(|mark| mark.read || mark.write)
 }

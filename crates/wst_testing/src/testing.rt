@@ -10,18 +10,21 @@ ghost use Rattle.ws_scripts.specs.Scripts.{CanBeRun};
 ghost use Rattle.wst_commands.specs.Devices.{Delivers, StaysFailed};
 ghost use Rattle.wst_testing.specs.Notes.{TellsEach, miss_notes, progress_notes};
 ghost use Rattle.wst_testing.specs.Outcomes.{is_missed, max_missed, told_refusal};
-ghost use Rattle.wst_testing.specs.Testing.{IsTested, RunsCapture, RunsCases, WritesCapture, run_capture, test_line};
+ghost use Rattle.wst_testing.specs.Reporter.{IsEndOfStop};
+ghost use Rattle.wst_testing.specs.Testing.{IsOutcomeOf, IsTested, RunsCapture, RunsCases, WritesCapture};
+ghost use Rattle.wst_testing.specs.Testing.{run_capture, test_line};
 ghost use Rattle.wst_commands.specs.declared.fault.Fault.TheVariants as variant;
 
 use crate::case_server::CaseServer;
 use crate::outcome::{Below, Outcome};
 use crate::reporting::{report_case, tell_end};
+use crate::runner::{RunStop, Sink, run_cases};
 use crate::score::Score;
 use std::alloc::Global;
 use std::io::Write;
 use ws_base::NoMemory;
 use ws_connection::HeadRefusal;
-use ws_frame::Watched;
+use ws_frame::{Watched, write_whole};
 use ws_peer::tester_key;
 use ws_reports::Report;
 use ws_suite::{Capture, Case, Expectation, Transcript, judge_with, write_capture2};
@@ -67,24 +70,83 @@ pub fn test_cases<S: CaseServer, W: Write, F: Write>(
         (watched W.contents writer.old writer.new) (watched F.contents faults.old faults.new) }
     ensures still { StaysFailed faults.old faults.new }
 {
-    let mut score = Score::new();
-    let mut missed = 0;
-    for case in cases {
-        tell_progress(alloc, rules.progress, case, faults)?;
-        let outcome = outcome_of(alloc, server, case, rules)?;
-        let reported = report_case(alloc, report, case, &outcome)?;
-        let told = deliver(Exit::Done, reported.text.as_bytes(), writer);
-        tell_miss(&outcome, faults);
-        if writer.failed() {
-            return Ok(told);
-        }
-        missed = missed_after(missed, &outcome);
-        if missed >= max_missed(rules.is_limited) {
-            return Ok(Exit::Failed);
-        }
-        score = score.with(&outcome, reported.is_failed);
+    let mut reporter = Reporter {
+        rules,
+        report,
+        score: Score::new(),
+        missed: 0,
+        writer,
+        faults,
+    };
+    let ended = run_cases(alloc, server, rules.key, cases, &mut reporter);
+    let score = reporter.score;
+    match ended {
+        Ok(()) => tell_end(alloc, report, score, writer),
+        Err(why) => stopped_by(why),
     }
-    tell_end(alloc, report, score, writer)
+}
+
+/// How a run ends that was stopped for this reason.
+fn stopped_by(why: RunStop) -> Result<Exit, Fault>
+    ensures { IsEndOfStop why result }
+{
+    match why {
+        RunStop::Output | RunStop::NoConnection => Ok(Exit::Failed),
+        RunStop::NoMemory => Err(Fault::NoMemory),
+    }
+}
+
+/// Writes what a report has of each case as soon as it is judged. Why there is no connection is told to `faults`, and
+/// the name of a case before it runs, where that is asked for.
+#[derive(Drop)]
+struct Reporter<'r, 'w, 'f, W, F> {
+    rules: RunRules,
+    report: &'r Report,
+    score: Score,
+    /// So many cases in a row are without a connection.
+    missed: u32,
+    writer: &'w mut Watched<W>,
+    faults: &'f mut Watched<F>,
+}
+
+impl<W: Write, F: Write> Sink for Reporter<'_, '_, '_, W, F> {
+    ghost use Rattle.std.specs.Prelude.{◌≡◌, ◌∷◌, []};
+    ghost use Rattle.ws_frame.specs.Devices.{watched};
+    ghost use Rattle.wst_commands.specs.Devices.{StaysFailed};
+    ghost use Rattle.wst_testing.specs.Reporter.{HasReported, StopsReport};
+
+    ghost heard = { λ start now came next. (now.rules ≡ start.rules) × (now.report.now ≡ start.report.now)
+        × HasReported start.rules start.report.now came next now.score now.missed
+        (watched W.contents start.writer.now now.writer.now) (watched F.contents start.faults.now now.faults.now)
+        × StaysFailed start.faults.now now.faults.now };
+
+    ghost stopped = { λ start now came why. StopsReport start.rules start.report.now came why
+        (watched W.contents start.writer.now now.writer.now) (watched F.contents start.faults.now now.faults.now)
+        × StaysFailed start.faults.now now.faults.now };
+
+    ghost borrows = { λ reporter. reporter.writer.ghost_name ∷ reporter.faults.ghost_name ∷ [] };
+
+    fn begins(&mut self, alloc: Global, case: &Case) -> Result<(), NoMemory> {
+        tell_progress(alloc, self.rules.progress, case, self.faults)?;
+        Ok(())
+    }
+
+    fn came(&mut self, alloc: Global, case: &Case, meeting: Meeting) -> Result<(), RunStop> {
+        let outcome = judged(alloc, self.rules, meeting)?;
+        let reported = report_case(alloc, self.report, case, &outcome)?;
+        let written = write_whole(self.writer, reported.text.as_bytes());
+        tell_miss(&outcome, self.faults);
+        match written {
+            Ok(()) => {}
+            Err(_) => return Err(RunStop::Output),
+        }
+        self.missed = missed_after(self.missed, &outcome);
+        if self.missed >= max_missed(self.rules.is_limited) {
+            return Err(RunStop::NoConnection);
+        }
+        self.score = self.score.with(&outcome, reported.is_failed);
+        Ok(())
+    }
 }
 
 /// After so many cases in a row without a connection a run ends.
@@ -146,7 +208,15 @@ pub(crate) fn outcome_of<S: CaseServer>(
     requires { CanBeRun case.now }
     ensures { IfOk result (λ outcome. IsTested (S.meets server.now rules.key) rules case.now outcome) }
 {
-    match server.run(alloc, case, rules.key)? {
+    let meeting = server.run(alloc, case, rules.key)?;
+    judged(alloc, rules, meeting)
+}
+
+/// What is told of a case of which this came.
+fn judged(alloc: Global, rules: RunRules, meeting: Meeting) -> Result<Outcome, NoMemory>
+    ensures { IfOk result (λ outcome. IsOutcomeOf rules meeting outcome) }
+{
+    match meeting {
         Meeting::Ran(transcript) => {
             let tested = rules.tested;
             let told = judgement_of(alloc, rules.explains, tested, rules.expected, &transcript)?;

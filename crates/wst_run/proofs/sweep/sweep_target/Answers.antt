@@ -1,33 +1,20 @@
 -- The scripts of a plan run over the end that it names.
-use Rattle.std.proofs.Common.{subst, sym}
-use Rattle.std.proofs.KnownBytes.{Keeps-refl}
 use Rattle.ws_frame.specs.Devices.{watched}
-use Rattle.wst_run.specs.Sweep.{RunsSweepPlan, SweepsOver}
-use Rattle.wst_testing.specs.Servers.{AddressValue, MeetsAtAddress}
-use Rattle.wst_testing.specs.declared.run_plans.TestedEnd.{TestedEnd}
+use Rattle.wst_run.proofs.EndLemmas.{sweeps_clients, sweeps_end}
 use Rattle.wst_run.proofs.sweep.sweep_target.Goals as goal
 
-pub returns-in-Memory : goal.returns-in-Memory
-returns-in-Memory g c =
+pub returns-in-Ok : goal.returns-in-Ok
+returns-in-Ok g c =
     let plan = c.args.plan.now in
     let output = watched g.W.Write.contents c.args.writer.now c.sweep_over.new.writer in
     let faults = watched g.F.Write.contents c.args.faults.now c.sweep_over.new.faults in
-    subst (λ (e : TestedEnd). SweepsOver e plan c.sweep_over.result output faults) (sym c.in-Memory.is)
+    sweeps_end plan.run.tested plan c.in-Ok.end c.sweep_over.result output faults c.in-Ok.ensures
     c.sweep_over.ensures
 
-pub returns-in-Server : goal.returns-in-Server
-returns-in-Server g c =
-    let plan = c.args.plan.now in
-    let output = watched g.W.Write.contents c.args.writer.now c.sweep_over-in-Server.new.writer in
-    let faults = watched g.F.Write.contents c.args.faults.now c.sweep_over-in-Server.new.faults in
-    let met = subst (λ (v : AddressValue). RunsSweepPlan (λ case meeting. MeetsAtAddress v plan.run.key case meeting) plan
-    c.sweep_over-in-Server.result output faults) c.new-server.ensures c.sweep_over-in-Server.ensures in
-    subst (λ (e : TestedEnd). SweepsOver e plan c.sweep_over-in-Server.result output faults) (sym c.in-Server.is) met
-
-pub returns-in-Clients : goal.returns-in-Clients
-returns-in-Clients g c =
+pub returns-in-Err : goal.returns-in-Err
+returns-in-Err g c =
     let plan = c.args.plan.now in
     let output = watched g.W.Write.contents c.args.writer.now c.sweep_clients_at.new.writer in
     let faults = watched g.F.Write.contents c.args.faults.now c.sweep_clients_at.new.faults in
-    subst (λ (e : TestedEnd). SweepsOver e plan c.sweep_clients_at.result output faults) (sym c.in-Clients.is)
+    sweeps_clients plan.run.tested plan c.of_plan.result c.in-Err.address c.sweep_clients_at.result output faults c.in-Err.is c.of_plan.ensures
     c.sweep_clients_at.ensures

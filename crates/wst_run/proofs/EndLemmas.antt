@@ -1,0 +1,96 @@
+-- A run over the end that a plan names is one over what it tests.
+use Rattle.std.proofs.Common.{◌≡◌, List, ℕ, Result, Ok, Err, subst}
+use Rattle.std.specs.Borrow.{Bor}
+use Rattle.ws_frame.specs.Devices.{Device}
+use Rattle.ws_reports.specs.Reports.{ReportValue}
+use Rattle.wst_commands.specs.declared.exit.Exit.{Exit}
+use Rattle.wst_testing.specs.Ends.{IsEndOfPlan, MeetsEnd, MeetsEndByCalls}
+use Rattle.wst_testing.specs.declared.end.End.{End}
+use Rattle.wst_testing.specs.declared.run_plans.TestedEnd.{TestedEnd}
+use Rattle.wst_testing.specs.declared.run_plans.TestedEnd.TheVariants.{Clients, Memory, Server}
+use Rattle.wst_run.specs.ClientRuns.{SendsToClientAt, TestsClientsAt}
+use Rattle.wst_run.specs.ClientSweeps.{SweepsClientsAt}
+use Rattle.wst_run.specs.Send.{RunsSendPlan, SendsOver}
+use Rattle.wst_run.specs.Sweep.{RunsSweepPlan, SweepsOver}
+use Rattle.wst_run.specs.Test.{RunsPlan, RunsPlanOver}
+use Rattle.wst_run.specs.declared.send.SendPlan.{SendPlan}
+use Rattle.wst_run.specs.declared.sweep.SweepPlan.{SweepPlan}
+use Rattle.wst_run.specs.declared.test.TestPlan.{TestPlan}
+
+-- ---- test
+
+pub tests_end : {N C : Type 0} (tested : TestedEnd) (plan : TestPlan) (report : ReportValue) (end : End N C)
+    (exit : Exit) (output faults : Device) → IsEndOfPlan plan.run tested (Ok end)
+    → RunsPlan (λ case meeting. MeetsEnd end plan.run.key case meeting) plan report exit output faults
+    → RunsPlanOver tested plan report exit output faults
+tests_end {N} {C} (Memory memory) plan report end exit output faults is h =
+    subst (λ (e : End N C). RunsPlan (λ case meeting. MeetsEnd e plan.run.key case meeting) plan report exit output faults)
+    is h
+tests_end {N} {C} (Server target) plan report end exit output faults is h =
+    subst (λ (e : End N C). RunsPlan (λ case meeting. MeetsEnd e plan.run.key case meeting) plan report exit output faults)
+    is h
+tests_end (Clients address) plan report end exit output faults is h = absurd is
+
+pub tests_clients : {N C : Type 0} (tested : TestedEnd) (plan : TestPlan) (report : ReportValue)
+    (named : Result (End N C) (Bor (List ℕ))) (address : Bor (List ℕ)) (exit : Exit) (output faults : Device)
+    → named ≡ Err address → IsEndOfPlan plan.run tested named → TestsClientsAt address.now plan report exit output faults
+    → RunsPlanOver tested plan report exit output faults
+tests_clients {N} {C} (Memory memory) plan report named address exit output faults same is h =
+    absurd (subst (λ (r : Result (End N C) (Bor (List ℕ))). IsEndOfPlan plan.run (Memory memory) r) same is)
+tests_clients {N} {C} (Server target) plan report named address exit output faults same is h =
+    absurd (subst (λ (r : Result (End N C) (Bor (List ℕ))). IsEndOfPlan plan.run (Server target) r) same is)
+tests_clients {N} {C} (Clients given) plan report named address exit output faults same is h =
+    subst (λ (l : List ℕ). TestsClientsAt l plan report exit output faults)
+    (subst (λ (r : Result (End N C) (Bor (List ℕ))). IsEndOfPlan plan.run (Clients given) r) same is) h
+
+-- ---- sweep
+
+pub sweeps_end : {N C : Type 0} (tested : TestedEnd) (plan : SweepPlan) (end : End N C)
+    (exit : Exit) (output faults : Device) → IsEndOfPlan plan.run tested (Ok end)
+    → RunsSweepPlan (λ case meeting. MeetsEnd end plan.run.key case meeting) plan exit output faults
+    → SweepsOver tested plan exit output faults
+sweeps_end {N} {C} (Memory memory) plan end exit output faults is h =
+    subst (λ (e : End N C). RunsSweepPlan (λ case meeting. MeetsEnd e plan.run.key case meeting) plan exit output faults)
+    is h
+sweeps_end {N} {C} (Server target) plan end exit output faults is h =
+    subst (λ (e : End N C). RunsSweepPlan (λ case meeting. MeetsEnd e plan.run.key case meeting) plan exit output faults)
+    is h
+sweeps_end (Clients address) plan end exit output faults is h = absurd is
+
+pub sweeps_clients : {N C : Type 0} (tested : TestedEnd) (plan : SweepPlan)
+    (named : Result (End N C) (Bor (List ℕ))) (address : Bor (List ℕ)) (exit : Exit) (output faults : Device)
+    → named ≡ Err address → IsEndOfPlan plan.run tested named → SweepsClientsAt address.now plan exit output faults
+    → SweepsOver tested plan exit output faults
+sweeps_clients {N} {C} (Memory memory) plan named address exit output faults same is h =
+    absurd (subst (λ (r : Result (End N C) (Bor (List ℕ))). IsEndOfPlan plan.run (Memory memory) r) same is)
+sweeps_clients {N} {C} (Server target) plan named address exit output faults same is h =
+    absurd (subst (λ (r : Result (End N C) (Bor (List ℕ))). IsEndOfPlan plan.run (Server target) r) same is)
+sweeps_clients {N} {C} (Clients given) plan named address exit output faults same is h =
+    subst (λ (l : List ℕ). SweepsClientsAt l plan exit output faults)
+    (subst (λ (r : Result (End N C) (Bor (List ℕ))). IsEndOfPlan plan.run (Clients given) r) same is) h
+
+-- ---- send
+
+pub sends_end : {N C : Type 0} (tested : TestedEnd) (plan : SendPlan) (end : End N C)
+    (exit : Exit) (input output faults : Device) → IsEndOfPlan plan.run tested (Ok end)
+    → RunsSendPlan (λ case meeting. MeetsEndByCalls end plan.run.key case meeting) plan exit input output faults
+    → SendsOver tested plan exit input output faults
+sends_end {N} {C} (Memory memory) plan end exit input output faults is h =
+    subst (λ (e : End N C). RunsSendPlan (λ case meeting. MeetsEndByCalls e plan.run.key case meeting) plan exit input output faults)
+    is h
+sends_end {N} {C} (Server target) plan end exit input output faults is h =
+    subst (λ (e : End N C). RunsSendPlan (λ case meeting. MeetsEndByCalls e plan.run.key case meeting) plan exit input output faults)
+    is h
+sends_end (Clients address) plan end exit input output faults is h = absurd is
+
+pub sends_clients : {N C : Type 0} (tested : TestedEnd) (plan : SendPlan)
+    (named : Result (End N C) (Bor (List ℕ))) (address : Bor (List ℕ)) (exit : Exit) (input output faults : Device)
+    → named ≡ Err address → IsEndOfPlan plan.run tested named → SendsToClientAt address.now plan exit input output faults
+    → SendsOver tested plan exit input output faults
+sends_clients {N} {C} (Memory memory) plan named address exit input output faults same is h =
+    absurd (subst (λ (r : Result (End N C) (Bor (List ℕ))). IsEndOfPlan plan.run (Memory memory) r) same is)
+sends_clients {N} {C} (Server target) plan named address exit input output faults same is h =
+    absurd (subst (λ (r : Result (End N C) (Bor (List ℕ))). IsEndOfPlan plan.run (Server target) r) same is)
+sends_clients {N} {C} (Clients given) plan named address exit input output faults same is h =
+    subst (λ (l : List ℕ). SendsToClientAt l plan exit input output faults)
+    (subst (λ (r : Result (End N C) (Bor (List ℕ))). IsEndOfPlan plan.run (Clients given) r) same is) h

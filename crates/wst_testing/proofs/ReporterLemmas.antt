@@ -1,0 +1,410 @@
+-- What came of cases, judged, reported and counted one after the other, and how a run of them ends.
+use Rattle.std.proofs.Common.{◌≡◌, ◌∙◌, ◌+◌, ◌<◌, ◌^◌, ◌≤◌, ℕ, Bool, false, not, List, [], ◌∷◌, ◌++◌, Option, Some, None}
+use Rattle.std.proofs.Common.{Result, Ok, Err, IsErrAnd, MatchResult, if◌then◌else◌, ap, arith, refl, sym, subst, inl}
+use Rattle.std.proofs.Common.{inr, append-nil, append_assoc, filter, length, map, take, take_all, true}
+use Rattle.std.proofs.KnownBytes.{Appends-nil, Appends-trans}
+use Rattle.std.proofs.lemmas.List.{length-map, map-append}
+use Rattle.std.proofs.lemmas.List.Filters.{length-filter_both}
+use Rattle.std.specs.Io.KnownBytes.{Appends}
+use Rattle.std.specs.List.{AllByRecursion}
+use Rattle.ws_frame.specs.Devices.{Device}
+use Rattle.ws_frame.specs.Watching.{AppendsFront}
+use Rattle.ws_reports.specs.Reports.{ReportValue, end_text}
+use Rattle.ws_scripts.specs.declared.script.Case.{Case}
+use Rattle.wst_commands.specs.Devices.{Delivers}
+use Rattle.wst_commands.specs.declared.exit.Exit.{Exit}
+use Rattle.wst_commands.specs.declared.exit.Exit.TheVariants.{Failed}
+use Rattle.wst_commands.specs.declared.fault.Fault.{Fault}
+use Rattle.wst_commands.specs.declared.fault.Fault.TheVariants.{NoMemory}
+use Rattle.wst_sockets.specs.declared.meeting.Meeting.{Meeting}
+use Rattle.wst_testing.specs.Notes.{TellsEach, miss_notes, notes_of, progress_notes}
+use Rattle.wst_testing.specs.Outcomes.{MayRunEach, is_fail, is_loose, is_missed, is_pass, max_missed, missed_at_end}
+use Rattle.wst_testing.specs.Outcomes.{total_line}
+use Rattle.wst_testing.specs.Reporter.{AreJudged, HasReported, IsEndOfStop, StopsReport}
+use Rattle.wst_testing.specs.Reporting.{exit_of_report, no_score, report_text, report_texts, score_of, score_with}
+use Rattle.wst_testing.specs.Runner.{CameOf, Hearing, IsNextCase, Stopping, StopsRun}
+use Rattle.wst_testing.specs.Testing.{AreTested, IsOutcomeOf, IsTested, LacksMemoryAfter, RunsCases, StopsAtConnection}
+use Rattle.wst_testing.specs.Testing.{StopsAtLine, TellsAll, outcomes_in}
+use Rattle.wst_testing.specs.declared.outcome.Outcome.{Outcome}
+use Rattle.wst_testing.specs.declared.runner.RunStop.{RunStop}
+use Rattle.wst_testing.specs.declared.runner.RunStop.TheVariants as stop
+use Rattle.wst_testing.specs.declared.score.Score.{Score}
+use Rattle.wst_testing.specs.declared.testing.RunRules.{RunRules}
+use Rattle.wst_testing.proofs.NoteLemmas.{may_run_more, missed_more, noted_next, notes_more}
+use Rattle.wst_testing.proofs.TestLemmas.{delivers_after, one_more_line, score_more, then_begun}
+
+-- ---- what came of the cases, judged
+
+pub judged_more : (rules : RunRules) (came : List (Case × Meeting)) (tests : List (Case × Outcome)) (case : Case)
+    (meeting : Meeting) (outcome : Outcome) → AreJudged rules came tests → IsOutcomeOf rules meeting outcome
+    → AreJudged rules (came ++ (case, meeting) ∷ []) (tests ++ (case, outcome) ∷ [])
+judged_more rules [] [] case meeting outcome before is = (refl, is, tt)
+judged_more rules [] (test ∷ tests) case meeting outcome before is = absurd before
+judged_more rules (run ∷ came) [] case meeting outcome before is = absurd before
+judged_more rules (run ∷ came) (test ∷ tests) case meeting outcome (same, told, rest) is =
+    (same, told, judged_more rules came tests case meeting outcome rest is)
+
+-- there are as many of them
+judged_count : (rules : RunRules) (came : List (Case × Meeting)) (tests : List (Case × Outcome))
+    → AreJudged rules came tests → length tests ≡ length came
+judged_count rules [] [] judged = refl
+judged_count rules [] (test ∷ tests) judged = absurd judged
+judged_count rules (run ∷ came) [] judged = absurd judged
+judged_count rules (run ∷ came) (test ∷ tests) (same, told, rest) =
+    omega (arith, judged_count rules came tests rest)
+
+-- they are the same cases
+judged_cases : (rules : RunRules) (came : List (Case × Meeting)) (tests : List (Case × Outcome))
+    → AreJudged rules came tests → map (λ (t : Case × Outcome). t.0) tests ≡ map (λ (r : Case × Meeting). r.0) came
+judged_cases rules [] [] judged = refl
+judged_cases rules [] (test ∷ tests) judged = absurd judged
+judged_cases rules (run ∷ came) [] judged = absurd judged
+judged_cases rules (run ∷ came) (test ∷ tests) (same, told, rest) =
+    λ i. same i ∷ judged_cases rules came tests rest i
+
+-- each of them was tested, where that may come of each
+each_tested : (Meets : Case → Meeting → Type 0) (rules : RunRules) (came : List (Case × Meeting))
+    (tests : List (Case × Outcome)) → AllByRecursion (λ (r : Case × Meeting). Meets r.0 r.1) came
+    → AreJudged rules came tests → AllByRecursion (λ (t : Case × Outcome). IsTested Meets rules t.0 t.1) tests
+each_tested Meets rules [] [] met judged = tt
+each_tested Meets rules [] (test ∷ tests) met judged = absurd judged
+each_tested Meets rules (run ∷ came) [] met judged = absurd judged
+each_tested Meets rules (run ∷ came) (test ∷ tests) (one, others) (same, told, rest) = (
+  record { meeting = run.1; met = subst (λ (c : Case). Meets c run.1) (sym same) one; told = told },
+  each_tested Meets rules came tests others rest,
+)
+
+pub judged_tested : (Meets : Case → Meeting → Type 0) (rules : RunRules) (cases : List Case)
+    (came : List (Case × Meeting)) (tests : List (Case × Outcome)) → CameOf Meets cases came
+    → AreJudged rules came tests → AreTested Meets rules cases tests
+judged_tested Meets rules cases came tests so judged = record {
+  of_cases = judged_cases rules came tests judged ∙ so.of_cases;
+  tested = each_tested Meets rules came tests so.met judged;
+}
+
+-- ---- what a reporter has written and told
+
+-- no run ends before its first case
+pub some_missed : (is_limited : Bool) → 0 < max_missed is_limited
+some_missed true = omega arith
+some_missed false = omega arith
+
+-- how many in a row are without a connection after one more
+missed_then : (tests : List (Case × Outcome)) (case : Case) (outcome : Outcome) (missed next : ℕ)
+    → missed ≡ missed_at_end (outcomes_in tests) → next ≡ (if is_missed outcome then 1 + missed else 0)
+    → next ≡ missed_at_end (outcomes_in (tests ++ (case, outcome) ∷ []))
+missed_then tests case outcome missed next counted is =
+    is ∙ ap (λ (n : ℕ). if is_missed outcome then 1 + n else 0) counted ∙ sym (missed_more (outcomes_in tests) outcome)
+    ∙ ap (λ (l : List Outcome). missed_at_end l)
+    (sym (map-append (λ (t : Case × Outcome). t.1) tests ((case, outcome) ∷ [])))
+
+-- and it may run
+may_run_then : (most : ℕ) (tests : List (Case × Outcome)) (case : Case) (outcome : Outcome) (missed : ℕ)
+    → MayRunEach most (outcomes_in tests) → missed ≡ missed_at_end (outcomes_in tests) → missed < most
+    → MayRunEach most (outcomes_in (tests ++ (case, outcome) ∷ []))
+may_run_then most tests case outcome missed may counted few =
+    subst (λ (l : List Outcome). MayRunEach most l)
+    (sym (map-append (λ (t : Case × Outcome). t.1) tests ((case, outcome) ∷ [])))
+    (may_run_more most (outcomes_in tests) outcome may (subst (λ (n : ℕ). n < most) counted few))
+
+count_within : {X : Type 0} (p : X → Bool) (xs : List X) → length (filter p xs) ≤ length xs
+count_within p xs = omega (arith, length-filter_both p (λ x. not (p x)) (λ x. refl) xs)
+
+module _ (rules : RunRules) (report : ReportValue) where
+  pub reported_nothing : (score : Score) (held : Option (List ℕ)) (failed : Bool) (faults : Device)
+      → score ≡ no_score → failed ≡ false → TellsEach [] faults
+      → HasReported rules report [] None score 0 (record { failed = failed; old = held; new = held }) faults
+  reported_nothing score held failed faults none works untouched = record {
+    tests = [];
+    judged = tt;
+    may_run = λ k below. absurd (omega (arith, below));
+    few = some_missed rules.is_limited;
+    counted = refl;
+    scored = none;
+    written = Appends-nil held;
+    works = works;
+    noted = untouched;
+  }
+
+  -- the name of the next case was told, where that is asked for; `f` and `g` say whether the fault output has failed
+  -- before and since
+  pub reported_begun : (came : List (Case × Meeting)) (case : Case) (score : Score) (missed : ℕ) (output : Device)
+      (f g : Bool) (a b c : Option (List ℕ))
+      → HasReported rules report came None score missed output (record { failed = f; old = a; new = b })
+      → (f ≡ true → g ≡ true) → TellsEach (progress_notes rules.progress case)
+      (record { failed = g; old = b; new = c })
+      → HasReported rules report came (Some case) score missed output (record { failed = g; old = a; new = c })
+  reported_begun came case score missed output f g a b c so still told = record {
+    tests = so.tests;
+    judged = so.judged;
+    may_run = so.may_run;
+    few = so.few;
+    counted = so.counted;
+    scored = so.scored;
+    written = so.written;
+    works = so.works;
+    noted = noted_next (notes_of rules.progress so.tests) (progress_notes rules.progress case) f g a b c still
+        so.noted told;
+  }
+
+  -- there is room for one case more in its counts
+  pub reported_room : (came : List (Case × Meeting)) (next : Option Case) (score : Score) (missed : ℕ)
+      (output faults : Device) → HasReported rules report came next score missed output faults
+      → length came + 1 < 2 ^ 64
+      → (score.tally.pass + 1 < 2 ^ 64) × (score.tally.loose + 1 < 2 ^ 64) × (score.tally.fail + 1 < 2 ^ 64)
+  reported_room came next score missed output faults so fits =
+      let outcomes = outcomes_in so.tests in
+      let many : length outcomes ≡ length came =
+      length-map so.tests (λ (t : Case × Outcome). t.1) ∙ judged_count rules came so.tests so.judged in
+      let pass : score.tally.pass ≡ length (filter is_pass outcomes) = ap (λ (t : Score). t.tally.pass) so.scored in
+      let loose : score.tally.loose ≡ length (filter is_loose outcomes) =
+      ap (λ (t : Score). t.tally.loose) so.scored in
+      let fail : score.tally.fail ≡ length (filter is_fail outcomes) = ap (λ (t : Score). t.tally.fail) so.scored in (
+        omega (arith, many, pass, count_within is_pass outcomes, fits),
+        omega (arith, many, loose, count_within is_loose outcomes, fits),
+        omega (arith, many, fail, count_within is_fail outcomes, fits),
+      )
+
+  -- The next case is judged so: `f` and `g` say whether the fault output has failed before and since, which held `a`,
+  -- then `b`, then `c`.
+  module _ (came : List (Case × Meeting)) (case : Case) (meeting : Meeting) (outcome : Outcome) (score : Score)
+      (missed less : ℕ) (old mid new : Option (List ℕ)) (worked failed f g : Bool) (a b c : Option (List ℕ))
+      (so : HasReported rules report came (Some case) score missed (record { failed = worked; old = old; new = mid })
+      (record { failed = f; old = a; new = b })) (is : IsOutcomeOf rules meeting outcome)
+      (still : f ≡ true → g ≡ true) (why : TellsEach (miss_notes outcome) (record { failed = g; old = b; new = c }))
+    where
+      abbrev tests_then : List (Case × Outcome)
+      tests_then = so.tests ++ (case, outcome) ∷ []
+
+      judged_then : AreJudged rules (came ++ (case, meeting) ∷ []) tests_then
+      judged_then = judged_more rules came so.tests case meeting outcome so.judged is
+
+      allowed_then : MayRunEach (max_missed rules.is_limited) (outcomes_in tests_then)
+      allowed_then = may_run_then (max_missed rules.is_limited) so.tests case outcome missed so.may_run so.counted
+          so.few
+
+      noted_then : TellsEach (notes_of rules.progress tests_then) (record { failed = g; old = a; new = c })
+      noted_then =
+          let notes = notes_of rules.progress so.tests in
+          let name = progress_notes rules.progress case in
+          subst (λ (l : List (List ℕ)). TellsEach l (record { failed = g; old = a; new = c }))
+          (append_assoc notes name (miss_notes outcome) ∙ notes_more rules.progress so.tests case outcome)
+          (noted_next (notes ++ name) (miss_notes outcome) f g a b c still so.noted why)
+
+      written_then : Appends mid new (report_text report (case, outcome)) → Appends old new (report_texts report tests_then)
+      written_then line = subst (λ (l : List ℕ). Appends old new l) (one_more_line report so.tests (case, outcome))
+          (Appends-trans old mid new (report_texts report so.tests) (report_text report (case, outcome)) so.written
+          line)
+
+      -- what the report has of it was written
+      pub reported_more : (next : Score) → next ≡ score_with report score (case, outcome)
+          → less ≡ (if is_missed outcome then 1 + missed else 0) → less < max_missed rules.is_limited
+          → Appends mid new (report_text report (case, outcome)) → failed ≡ false
+          → HasReported rules report (came ++ (case, meeting) ∷ []) None next less
+          (record { failed = failed; old = old; new = new }) (record { failed = g; old = a; new = c })
+      reported_more next scored counted few line works = record {
+        tests = tests_then;
+        judged = judged_then;
+        may_run = allowed_then;
+        few = few;
+        counted = missed_then so.tests case outcome missed less so.counted counted;
+        scored = scored ∙ ap (λ (t : Score). score_with report t (case, outcome)) so.scored
+            ∙ score_more report so.tests case outcome;
+        written = written_then line;
+        works = works;
+        noted = noted_then;
+      }
+
+      -- it could not be written whole
+      pub report_breaks : AppendsFront mid new (report_text report (case, outcome)) → failed ≡ true
+          → StopsReport rules report (came ++ (case, meeting) ∷ []) stop.Output
+          (record { failed = failed; old = old; new = new }) (record { failed = g; old = a; new = c })
+      report_breaks begun broken = record {
+        tests = tests_then;
+        judged = judged_then;
+        may_run = allowed_then;
+        noted = noted_then;
+        ends = (
+          broken,
+          subst (λ (l : List ℕ). AppendsFront old new l) (one_more_line report so.tests (case, outcome))
+              (then_begun old mid new (report_texts report so.tests) (report_text report (case, outcome)) so.written
+              begun),
+        );
+      }
+
+      -- with it as many in a row are without a connection as end a run
+      pub report_misses : less ≡ (if is_missed outcome then 1 + missed else 0) → less ≡ max_missed rules.is_limited
+          → Appends mid new (report_text report (case, outcome)) → failed ≡ false
+          → StopsReport rules report (came ++ (case, meeting) ∷ []) stop.NoConnection
+          (record { failed = failed; old = old; new = new }) (record { failed = g; old = a; new = c })
+      report_misses counted most line works = record {
+        tests = tests_then;
+        judged = judged_then;
+        may_run = allowed_then;
+        noted = noted_then;
+        ends = (
+          works,
+          written_then line,
+          sym (missed_then so.tests case outcome missed less so.counted counted) ∙ most,
+        );
+      }
+
+-- ---- how a run ends
+
+module _ (Meets : Case → Meeting → Type 0) (rules : RunRules) (report : ReportValue) (cases : List Case) where
+  -- the reporter has ended it
+  pub run_stopped : (n : ℕ) (came : List (Case × Meeting)) (why : RunStop) (exit : Exit) (output faults : Device)
+      → CameOf Meets (take n cases) came → StopsReport rules report came why output faults → exit ≡ Failed
+      → RunsCases Meets rules report cases (Ok exit) output faults
+  run_stopped n came stop.Output exit output faults of h is =
+      let stops : StopsAtLine Meets rules report cases (notes_of rules.progress h.tests) exit output = record {
+        n = n;
+        tests = h.tests;
+        are_tested = judged_tested Meets rules (take n cases) came h.tests of h.judged;
+        may_run = h.may_run;
+        noted = refl;
+        failed = (is, h.ends.0);
+        begun = h.ends.1;
+      } in
+      (notes_of rules.progress h.tests, inr (inl stops), h.noted)
+  run_stopped n came stop.NoConnection exit output faults of h is =
+      let (works, written, most) = h.ends in
+      let stops : StopsAtConnection Meets rules report cases (notes_of rules.progress h.tests) exit output = record {
+        n = n;
+        tests = h.tests;
+        are_tested = judged_tested Meets rules (take n cases) came h.tests of h.judged;
+        may_run = h.may_run;
+        missed = most;
+        noted = refl;
+        ended = (is, works);
+        written = written;
+      } in
+      (notes_of rules.progress h.tests, inr (inr stops), h.noted)
+  run_stopped n came stop.NoMemory exit output faults of h is = absurd h.ends
+
+  -- memory ran out, where the name of the next case may have been told
+  pub run_lacks : (n : ℕ) (came : List (Case × Meeting)) (next : Option Case) (score : Score) (missed : ℕ)
+      (ended : Result Exit Fault) (output faults : Device) → CameOf Meets (take n cases) came
+      → IsNextCase cases n next → HasReported rules report came next score missed output faults
+      → IsErrAnd ended (λ fault. fault ≡ NoMemory) → RunsCases Meets rules report cases ended output faults
+  run_lacks n came next score missed (Ok exit) output faults of is_next so is = absurd is
+  run_lacks n came None score missed (Err fault) output faults of is_next so is =
+      let notes = notes_of rules.progress so.tests ++ [] in
+      let lacks : LacksMemoryAfter Meets rules report cases notes output = record {
+        n = n;
+        tests = so.tests;
+        are_tested = judged_tested Meets rules (take n cases) came so.tests of so.judged;
+        may_run = so.may_run;
+        few = subst (λ (k : ℕ). k < max_missed rules.is_limited) so.counted so.few;
+        next = [];
+        is_next = inl refl;
+        noted = refl;
+        works = so.works;
+        written = so.written;
+      } in (
+        notes,
+        (is, lacks),
+        subst (λ (l : List (List ℕ)). TellsEach l faults) (sym (append-nil (notes_of rules.progress so.tests)))
+            so.noted,
+      )
+  run_lacks n came (Some case) score missed (Err fault) output faults of is_next so is =
+      let name = progress_notes rules.progress case in
+      let lacks : LacksMemoryAfter Meets rules report cases (notes_of rules.progress so.tests ++ name) output = record {
+        n = n;
+        tests = so.tests;
+        are_tested = judged_tested Meets rules (take n cases) came so.tests of so.judged;
+        may_run = so.may_run;
+        few = subst (λ (k : ℕ). k < max_missed rules.is_limited) so.counted so.few;
+        next = name;
+        is_next = inr (case, is_next, refl);
+        noted = refl;
+        works = so.works;
+        written = so.written;
+      } in
+      (notes_of rules.progress so.tests ++ name, (is, lacks), so.noted)
+
+  -- the sink of a run that was stopped is a reporter that has written and told this
+  pub run_ended : {K : Type 0} (heard : Hearing K) (stopped : Stopping K) (old new : K) (why : RunStop)
+      (ended : Result Exit Fault) (output faults : Device)
+      → ((came : List (Case × Meeting)) (next : Option Case) → heard old new came next
+      → (score : Score) × (missed : ℕ) × HasReported rules report came next score missed output faults)
+      → ((came : List (Case × Meeting)) (w : RunStop) → stopped old new came w
+      → StopsReport rules report came w output faults)
+      → StopsRun Meets heard stopped cases old new why → IsEndOfStop why ended
+      → RunsCases Meets rules report cases ended output faults
+  run_ended heard stopped old new stop.Output ended output faults hears stops h is =
+      subst (λ (e : Result Exit Fault). RunsCases Meets rules report cases e output faults) (sym is)
+      (run_stopped h.n h.came stop.Output Failed output faults h.came_of (stops h.came stop.Output h.stops) refl)
+  run_ended heard stopped old new stop.NoConnection ended output faults hears stops h is =
+      subst (λ (e : Result Exit Fault). RunsCases Meets rules report cases e output faults) (sym is)
+      (run_stopped h.n h.came stop.NoConnection Failed output faults h.came_of (stops h.came stop.NoConnection h.stops)
+      refl)
+  run_ended heard stopped old new stop.NoMemory ended output faults hears stops h is =
+      let (next, is_next, told) = h.stops in
+      let (score, missed, so) = hears h.came next told in
+      subst (λ (e : Result Exit Fault). RunsCases Meets rules report cases e output faults) (sym is)
+      (run_lacks h.n h.came next score missed (Err NoMemory) output faults h.came_of is_next so refl)
+
+  -- what holds of a sink whatever it was told holds where a run was stopped
+  pub still_so : {K : Type 0} (heard : Hearing K) (stopped : Stopping K) (old new : K) (why : RunStop) (Still : Type 0)
+      → ((came : List (Case × Meeting)) (next : Option Case) → heard old new came next → Still)
+      → ((came : List (Case × Meeting)) (w : RunStop) → stopped old new came w → Still)
+      → StopsRun Meets heard stopped cases old new why → Still
+  still_so heard stopped old new stop.Output Still hears stops h = stops h.came stop.Output h.stops
+  still_so heard stopped old new stop.NoConnection Still hears stops h = stops h.came stop.NoConnection h.stops
+  still_so heard stopped old new stop.NoMemory Still hears stops h =
+      let (next, is_next, told) = h.stops in hears h.came next told
+
+  -- all cases were run, and the total was written
+  run_all : (came : List (Case × Meeting)) (score : Score) (missed : ℕ) (old mid new : Option (List ℕ)) (exit : Exit)
+      (worked failed : Bool) (faults : Device) → CameOf Meets cases came
+      → HasReported rules report came None score missed (record { failed = worked; old = old; new = mid }) faults
+      → Delivers (exit_of_report score.is_failed) (end_text report (total_line score.tally)) exit
+      (record { failed = failed; old = mid; new = new })
+      → RunsCases Meets rules report cases (Ok exit) (record { failed = failed; old = old; new = new }) faults
+  run_all came score missed old mid new exit worked failed faults of so told =
+      let there = score_of report so.tests in
+      let tells : TellsAll Meets rules report cases (notes_of rules.progress so.tests) exit
+      (record { failed = failed; old = old; new = new }) = record {
+        tests = so.tests;
+        are_tested = judged_tested Meets rules cases came so.tests of so.judged;
+        may_run = so.may_run;
+        few = subst (λ (k : ℕ). k < max_missed rules.is_limited) so.counted so.few;
+        noted = refl;
+        told = delivers_after old mid new failed (report_texts report so.tests)
+            (end_text report (total_line there.tally)) (exit_of_report there.is_failed) exit so.written
+            (subst (λ (t : Score). Delivers (exit_of_report t.is_failed) (end_text report (total_line t.tally)) exit
+            (record { failed = failed; old = mid; new = new })) so.scored told);
+      } in
+      (notes_of rules.progress so.tests, inl tells, so.noted)
+
+  -- after the total, or where memory ran out for it: `Same` says that nothing was written then
+  pub run_told : (came : List (Case × Meeting)) (score : Score) (missed : ℕ) (old mid new : Option (List ℕ))
+      (worked failed : Bool) (faults : Device) (Same : Type 0) (ended : Result Exit Fault) → CameOf Meets cases came
+      → HasReported rules report came None score missed (record { failed = worked; old = old; new = mid }) faults
+      → (Same → (worked ≡ failed) × (mid ≡ new))
+      → MatchResult ended
+      (λ exit. Delivers (exit_of_report score.is_failed) (end_text report (total_line score.tally)) exit
+      (record { failed = failed; old = mid; new = new }))
+      (λ fault. (fault ≡ NoMemory) × Same)
+      → RunsCases Meets rules report cases ended (record { failed = failed; old = old; new = new }) faults
+  run_told came score missed old mid new worked failed faults Same (Ok exit) of so same told =
+      run_all came score missed old mid new exit worked failed faults of so told
+  run_told came score missed old mid new worked failed faults Same (Err fault) of so same (is, stays) =
+      let (as_before, held) = same stays in
+      run_lacks (length cases) came None score missed (Err fault) (record { failed = failed; old = old; new = new })
+      faults (subst (λ (l : List Case). CameOf Meets l came) (sym (take_all (length cases) cases (omega arith))) of) tt
+      (subst (λ (x : Option (List ℕ)). HasReported rules report came None score missed
+      (record { failed = failed; old = old; new = x }) faults) held
+      (subst (λ (w : Bool). HasReported rules report came None score missed
+      (record { failed = w; old = old; new = mid }) faults) as_before so)) is
+
+-- one case more is one in a row more at most
+pub missed_bound : (b : Bool) (missed next : ℕ) → next ≡ (if b then 1 + missed else 0) → next ≤ 1 + missed
+missed_bound true missed next is = omega (arith, is)
+missed_bound false missed next is = omega (arith, is)
+
+-- and no more than end a run
+pub missed_most : (b : Bool) (missed next most : ℕ) → next ≡ (if b then 1 + missed else 0) → missed < most
+    → most ≤ next → next ≡ most
+missed_most b missed next most is few many = omega (arith, missed_bound b missed next is, few, many)

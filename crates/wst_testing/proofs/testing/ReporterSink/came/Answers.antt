@@ -1,0 +1,98 @@
+-- What the report has of one case more was written, or why the run ends with it.
+use Rattle.std.proofs.Common.{◌≡◌, ◌∙◌, ◌<◌, ◌≤◌, ◌||◌, ℕ, Bool, List, ap, arith, false}
+use Rattle.std.proofs.Common.{subst, sym, true}
+use Rattle.std.specs.Io.KnownBytes.{Appends}
+use Rattle.ws_frame.specs.Watching.{AppendsFront, has_failed, inner_of}
+use Rattle.wst_testing.specs.Outcomes.{is_missed, max_missed}
+use Rattle.wst_testing.specs.Reporting.{fails_in, report_text, score_by}
+use Rattle.wst_testing.specs.Testing.{IsOutcomeOf}
+use Rattle.wst_testing.specs.declared.testing.RunRules.{RunRules}
+use Rattle.ws_reports.specs.Reports.{ReportValue}
+use Rattle.wst_testing.proofs.ReporterLemmas.{missed_most, report_breaks, report_misses, reported_more, reported_room}
+use Rattle.wst_testing.proofs.testing.ReporterSink.came.Goals as goal
+
+pub with-self-requires-clause-pass : goal.with-self-requires-clause-pass
+with-self-requires-clause-pass g c =
+    let (start, came, fits, (kept, report, so, still)) = c.requires in
+    (reported_room start.rules start.report.now came _ _ _ _ _ so fits).0
+
+pub with-self-requires-clause-loose : goal.with-self-requires-clause-loose
+with-self-requires-clause-loose g c =
+    let (start, came, fits, (kept, report, so, still)) = c.requires in
+    (reported_room start.rules start.report.now came _ _ _ _ _ so fits).1
+
+pub with-self-requires-clause-fail : goal.with-self-requires-clause-fail
+with-self-requires-clause-fail g c =
+    let (start, came, fits, (kept, report, so, still)) = c.requires in
+    (reported_room start.rules start.report.now came _ _ _ _ _ so fits).2
+
+pub returns-in-Err-clause-heard : goal.returns-in-Err-clause-heard
+returns-in-Err-clause-heard g c = λ start came (kept, report, so, still).
+    let old = c.args.self.now in
+    let outcome = c.in_ok-outcome.outcome in
+    let is = subst (λ (r : RunRules). IsOutcomeOf r c.args.meeting outcome) kept c.in_ok-outcome.ensures in
+    let line = subst (λ (r : ReportValue). report_text r (c.args.case.now, outcome) ≡ c.as_bytes.result.now) report
+    (sym (c.as_bytes.ensures.value ∙ c.in_ok-reported.ensures.text)) in (
+      report_breaks start.rules start.report.now came c.args.case.now c.args.meeting outcome old.score old.missed
+          old.missed (g.W.Write.contents (inner_of start.writer.now)) (g.W.Write.contents (inner_of old.writer.now))
+          (g.W.Write.contents (inner_of c.write_whole-written.new.writer)) (has_failed old.writer.now)
+          (has_failed c.write_whole-written.new.writer) (has_failed old.faults.now) (has_failed c.tell_miss.new.faults)
+          (g.F.Write.contents (inner_of start.faults.now)) (g.F.Write.contents (inner_of old.faults.now))
+          (g.F.Write.contents (inner_of c.tell_miss.new.faults)) so is c.tell_miss.ensures.still
+          c.tell_miss.ensures.told
+          (subst (λ (l : List ℕ). AppendsFront (g.W.Write.contents (inner_of old.writer.now))
+          (g.W.Write.contents (inner_of c.write_whole-written.new.writer)) l) (sym line) c.in-Err.ensures.begun)
+          (c.in-Err.ensures.failed ∙ ap (λ (b : Bool). b || true) so.works),
+      λ failed. c.tell_miss.ensures.still (still failed),
+    )
+
+pub returns-then-self-max_missed-clause-heard : goal.returns-then-self-max_missed-clause-heard
+returns-then-self-max_missed-clause-heard g c = λ start came (kept, report, so, still).
+    let old = c.args.self.now in
+    let outcome = c.in_ok-outcome.outcome in
+    let is = subst (λ (r : RunRules). IsOutcomeOf r c.args.meeting outcome) kept c.in_ok-outcome.ensures in
+    let line = subst (λ (r : ReportValue). report_text r (c.args.case.now, outcome) ≡ c.as_bytes.result.now) report
+    (sym (c.as_bytes.ensures.value ∙ c.in_ok-reported.ensures.text)) in
+    let most = missed_most (is_missed outcome) old.missed c.missed_after-self.result (max_missed start.rules.is_limited)
+    c.missed_after-self.ensures so.few
+    (subst (λ (r : RunRules). max_missed r.is_limited ≤ c.missed_after-self.result) kept
+    (omega (arith, c.if-self-max_missed.true, c.max_missed.ensures))) in (
+      report_misses start.rules start.report.now came c.args.case.now c.args.meeting outcome old.score old.missed
+          c.missed_after-self.result (g.W.Write.contents (inner_of start.writer.now))
+          (g.W.Write.contents (inner_of old.writer.now)) (g.W.Write.contents (inner_of c.write_whole-written.new.writer))
+          (has_failed old.writer.now) (has_failed c.write_whole-written.new.writer) (has_failed old.faults.now)
+          (has_failed c.tell_miss.new.faults) (g.F.Write.contents (inner_of start.faults.now))
+          (g.F.Write.contents (inner_of old.faults.now)) (g.F.Write.contents (inner_of c.tell_miss.new.faults)) so is
+          c.tell_miss.ensures.still c.tell_miss.ensures.told c.missed_after-self.ensures most
+          (subst (λ (l : List ℕ). Appends (g.W.Write.contents (inner_of old.writer.now))
+          (g.W.Write.contents (inner_of c.write_whole-written.new.writer)) l) (sym line) c.in-Ok.ensures.written)
+          (c.in-Ok.ensures.failed ∙ ap (λ (b : Bool). b || false) so.works),
+      λ failed. c.tell_miss.ensures.still (still failed),
+    )
+
+pub returns-clause-heard : goal.returns-clause-heard
+returns-clause-heard g c = λ start came (kept, report, so, still).
+    let old = c.args.self.now in
+    let outcome = c.in_ok-outcome.outcome in
+    let is = subst (λ (r : RunRules). IsOutcomeOf r c.args.meeting outcome) kept c.in_ok-outcome.ensures in
+    let line = subst (λ (r : ReportValue). report_text r (c.args.case.now, outcome) ≡ c.as_bytes.result.now) report
+    (sym (c.as_bytes.ensures.value ∙ c.in_ok-reported.ensures.text)) in
+    let fails = subst (λ (r : ReportValue). c.in_ok-reported.reported.is_failed ≡ fails_in r (c.args.case.now, outcome))
+    report c.in_ok-reported.ensures.failed in
+    let few = subst (λ (r : RunRules). c.missed_after-self.result < max_missed r.is_limited) kept
+    (omega (arith, c.if-self-max_missed.false, c.max_missed.ensures)) in (
+      kept,
+      report,
+      reported_more start.rules start.report.now came c.args.case.now c.args.meeting outcome old.score old.missed
+          c.missed_after-self.result (g.W.Write.contents (inner_of start.writer.now))
+          (g.W.Write.contents (inner_of old.writer.now)) (g.W.Write.contents (inner_of c.write_whole-written.new.writer))
+          (has_failed old.writer.now) (has_failed c.write_whole-written.new.writer) (has_failed old.faults.now)
+          (has_failed c.tell_miss.new.faults) (g.F.Write.contents (inner_of start.faults.now))
+          (g.F.Write.contents (inner_of old.faults.now)) (g.F.Write.contents (inner_of c.tell_miss.new.faults)) so is
+          c.tell_miss.ensures.still c.tell_miss.ensures.told c.with-self.result
+          (c.with-self.ensures ∙ ap (λ (b : Bool). score_by old.score outcome b) fails) c.missed_after-self.ensures few
+          (subst (λ (l : List ℕ). Appends (g.W.Write.contents (inner_of old.writer.now))
+          (g.W.Write.contents (inner_of c.write_whole-written.new.writer)) l) (sym line) c.in-Ok.ensures.written)
+          (c.in-Ok.ensures.failed ∙ ap (λ (b : Bool). b || false) so.works),
+      λ failed. c.tell_miss.ensures.still (still failed),
+    )

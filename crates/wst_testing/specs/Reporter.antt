@@ -1,0 +1,71 @@
+-- What a sink that writes a report was told, and what it has written of that.
+use Rattle.std.specs.Prelude.{◌≡◌, ⊤, ℕ, ◌<◌, Bool, true, false, List, [], ◌∷◌, ◌++◌, Option, Some, None}
+use Rattle.std.specs.Prelude.{Result, Ok, Err}
+use Rattle.ws_frame.specs.Devices.{Device, HasBegun, HasWritten}
+use Rattle.ws_reports.specs.Reports.{ReportValue}
+use Rattle.ws_scripts.specs.declared.script.Case.{Case}
+use Rattle.wst_commands.specs.declared.exit.Exit.{Exit}
+use Rattle.wst_commands.specs.declared.exit.Exit.TheVariants.{Failed}
+use Rattle.wst_commands.specs.declared.fault.Fault.{Fault}
+use Rattle.wst_commands.specs.declared.fault.Fault.TheVariants.{NoMemory}
+use Rattle.wst_sockets.specs.declared.meeting.Meeting.{Meeting}
+use Rattle.wst_testing.specs.Notes.{TellsEach, notes_of, progress_notes}
+use Rattle.wst_testing.specs.Outcomes.{MayRunEach, max_missed, missed_at_end}
+use Rattle.wst_testing.specs.Reporting.{report_texts, score_of}
+use Rattle.wst_testing.specs.Testing.{IsOutcomeOf, outcomes_in}
+use Rattle.wst_testing.specs.declared.outcome.Outcome.{Outcome}
+use Rattle.wst_testing.specs.declared.runner.RunStop.{RunStop}
+use Rattle.wst_testing.specs.declared.runner.RunStop.TheVariants as stop
+use Rattle.wst_testing.specs.declared.score.Score.{Score}
+use Rattle.wst_testing.specs.declared.testing.RunRules.{RunRules}
+
+-- these are the cases with what is told of each by these rules, where this came of them
+abbrev pub AreJudged : RunRules → List (Case × Meeting) → List (Case × Outcome) → Type 0
+AreJudged rules [] [] = ⊤
+AreJudged rules (run ∷ came) (test ∷ tests) =
+    (test.0 ≡ run.0) × IsOutcomeOf rules run.1 test.1 × AreJudged rules came tests
+AreJudged rules _ _ = ⊥
+
+-- what is told beside the lines of these cases, and of the name of the next one, if it was begun
+abbrev pub notes_so_far : Bool → List (Case × Outcome) → Option Case → List (List ℕ)
+notes_so_far progress tests None = notes_of progress tests
+notes_so_far progress tests (Some case) = notes_of progress tests ++ progress_notes progress case
+
+-- This came of the cases: what the report has of them was written, and what there is to tell beside it was told. They
+-- come to this, and so many at their end are without a connection, fewer than end a run.
+pub record HasReported (rules : RunRules) (report : ReportValue) (came : List (Case × Meeting)) (next : Option Case)
+    (score : Score) (missed : ℕ) (output faults : Device) : Type 0 where
+  pub tests : List (Case × Outcome)
+  pub judged : AreJudged rules came tests
+  pub may_run : MayRunEach (max_missed rules.is_limited) (outcomes_in tests)
+  pub few : missed < max_missed rules.is_limited
+  pub counted : missed ≡ missed_at_end (outcomes_in tests)
+  pub scored : score ≡ score_of report tests
+  pub written : HasWritten (report_texts report tests) output
+  pub works : output.failed ≡ false
+  pub noted : TellsEach (notes_so_far rules.progress tests next) faults
+
+-- what the report has of the last case could not be written whole; or with it as many in a row are without a connection
+-- as end a run
+abbrev pub EndsReport : RunRules → ReportValue → List (Case × Outcome) → RunStop → Device → Type 0
+EndsReport rules report tests stop.Output output =
+    (output.failed ≡ true) × HasBegun (report_texts report tests) output
+EndsReport rules report tests stop.NoConnection output =
+    (output.failed ≡ false) × HasWritten (report_texts report tests) output
+    × (missed_at_end (outcomes_in tests) ≡ max_missed rules.is_limited)
+EndsReport rules report tests stop.NoMemory output = ⊥
+
+-- the run was ended behind these, for this reason
+pub record StopsReport (rules : RunRules) (report : ReportValue) (came : List (Case × Meeting)) (why : RunStop)
+    (output faults : Device) : Type 0 where
+  pub tests : List (Case × Outcome)
+  pub judged : AreJudged rules came tests
+  pub may_run : MayRunEach (max_missed rules.is_limited) (outcomes_in tests)
+  pub noted : TellsEach (notes_of rules.progress tests) faults
+  pub ends : EndsReport rules report tests why output
+
+-- how a run ends that was stopped for this reason: what stopped it was told, but for want of memory
+abbrev pub IsEndOfStop : RunStop → Result Exit Fault → Type 0
+IsEndOfStop stop.Output ended = ended ≡ Ok Failed
+IsEndOfStop stop.NoConnection ended = ended ≡ Ok Failed
+IsEndOfStop stop.NoMemory ended = ended ≡ Err NoMemory
