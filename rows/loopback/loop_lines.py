@@ -1,10 +1,11 @@
-"""One exchange of `test_loops` over a socket: an echo that writes before it reads on, addresses that take no connection,
-and how long it waits."""
+"""Exchanges of `test_loops` over sockets: an echo that writes before it reads on, addresses that take no connection,
+and how long it waits; and clients of one loop that listens."""
 
 import resource
 import socket
 import subprocess
 import threading
+import time
 from pathlib import Path
 
 LOOPS = Path(__file__).resolve().parents[2] / "crates/test_loops/out/test_loops"
@@ -83,15 +84,19 @@ def no_such_name():
     assert answer.startswith("failed: "), answer
 
 
+def processor_time_since(before):
+    """What programs that have ended used since then, in seconds."""
+    after = resource.getrusage(resource.RUSAGE_CHILDREN)
+    return after.ru_utime - before.ru_utime + after.ru_stime - before.ru_stime
+
+
 def a_wait_takes_no_processor_time():
     """It waits for a second, and uses less than a tenth of it."""
     before = resource.getrusage(resource.RUSAGE_CHILDREN)
     with Listening(read_to_end) as server:
         answer = answer_to(f"socket 127.0.0.1:{server.port} 1000 - 2 2")
-    after = resource.getrusage(resource.RUSAGE_CHILDREN)
     lasted(answer, "came 0 right", 10)
-    used = after.ru_utime - before.ru_utime + after.ru_stime - before.ru_stime
-    assert used < 0.1, f"{used:.2f} s"
+    assert (used := processor_time_since(before)) < 0.1, f"{used:.2f} s"
 
 
 def the_deadline_passes_whatever_comes():
@@ -118,6 +123,112 @@ def a_write_of_which_nothing_is_taken_fails():
     lasted(answer, "came 0 right", 10, more=40)
 
 
+class Accepting:
+    """A loop that listens, at a port that was free."""
+
+    def __init__(self, *words, host="127.0.0.1"):
+        with socket.create_server(("127.0.0.1", 0)) as free:
+            self.port = free.getsockname()[1]
+        self.run = subprocess.Popen([LOOPS], stdin=subprocess.PIPE, stdout=subprocess.PIPE)
+        self.run.stdin.write(f"accept {host}:{self.port} {' '.join(map(str, words))}\n".encode())
+        self.run.stdin.close()
+
+    def client(self, host="127.0.0.1"):
+        """A client, once it listens."""
+        for _ in range(SECONDS * 50):
+            try:
+                return socket.create_connection((host, self.port), SECONDS)
+            except ConnectionRefusedError:
+                threading.Event().wait(0.02)
+        raise AssertionError("it doesn't listen")
+
+    def answer(self):
+        with self.run:
+            return self.run.stdout.read().decode().rstrip("\n")
+
+
+def got(client, count):
+    """So many bytes."""
+    came = bytearray()
+    while len(came) < count:
+        piece = client.recv(count - len(came))
+        assert piece, came
+        came += piece
+    return bytes(came)
+
+
+def counted(count):
+    return bytes(at % 251 for at in range(count))
+
+
+def two_clients_of_one_loop():
+    """The second is served while the first one is silent."""
+    accepting = Accepting(2, 2, "-", 3, 100, 3)
+    with accepting.client() as first, accepting.client() as second:
+        assert got(first, 3) == counted(3) and got(second, 3) == counted(3)
+        second.sendall(counted(7))
+        second.shutdown(socket.SHUT_WR)
+        assert second.recv(1) == b""
+        first.sendall(counted(5))
+        first.shutdown(socket.SHUT_WR)
+        assert first.recv(1) == b""
+    assert accepting.answer() == "came 7 right; came 5 right; "
+
+
+def a_third_client_waits_for_a_place():
+    accepting = Accepting(1, 3, "-", 1, 100, 1)
+    clients = [accepting.client() for _ in range(3)]
+    for client in clients:
+        with client:
+            assert got(client, 1) == counted(1)
+            client.shutdown(socket.SHUT_WR)
+            assert client.recv(1) == b""
+    assert accepting.answer() == "came 0 right; " * 3
+
+
+def no_client_comes_in_time():
+    """It waits for a second, and uses less than a tenth of it."""
+    before = resource.getrusage(resource.RUSAGE_CHILDREN)
+    answer = Accepting(1, 1, 1000, 1, 100, 1).answer()
+    assert answer.startswith("late at 1") and answer.endswith(" tenths"), answer
+    assert (used := processor_time_since(before)) < 0.1, f"{used:.2f} s"
+
+
+def it_listens_at_an_address_of_a_name():
+    """localhost has two addresses on most machines, of which the first can't be listened at everywhere."""
+    accepting = Accepting(1, 1, "-", 1, 1, 1, host="localhost")
+    with accepting.client("localhost") as client:
+        assert got(client, 1) == counted(1)
+        client.sendall(counted(1))
+        assert accepting.answer() == "came 1 right; "
+
+
+def an_address_that_is_taken():
+    with socket.create_server(("127.0.0.1", 0)) as taken:
+        answer = answer_to(f"accept 127.0.0.1:{taken.getsockname()[1]} 1 1 - 1 1 1")
+    assert answer.startswith("failed: ") and "in use" in answer, answer
+
+
+def each_piece_goes_out_at_once():
+    """What is written to a client in pieces is not held back until it acknowledges the first: one that delays that, as
+    Linux does by at least 40 ms, has all at once. The quickest of ten runs counts, on a machine that is busy."""
+    assert min(time_of_the_pieces() for _ in range(10)) < 0.02
+
+
+def time_of_the_pieces():
+    """How long twenty bytes are on their way, each written by itself, between the first and the last one."""
+    accepting = Accepting(1, 1, "-", 20, 1, 1)
+    with accepting.client() as client:
+        client.setsockopt(socket.IPPROTO_TCP, socket.TCP_QUICKACK, 0)
+        assert got(client, 1) == counted(1)
+        began = time.monotonic()
+        assert got(client, 19) == counted(20)[1:]
+        taken = time.monotonic() - began
+        client.sendall(counted(1))
+        assert accepting.answer() == "came 1 right; "
+    return taken
+
+
 TESTS = [
     a_large_exchange_with_an_echo_that_writes_first,
     the_next_address_of_a_name_is_tried,
@@ -126,4 +237,10 @@ TESTS = [
     a_wait_takes_no_processor_time,
     the_deadline_passes_whatever_comes,
     a_write_of_which_nothing_is_taken_fails,
+    two_clients_of_one_loop,
+    a_third_client_waits_for_a_place,
+    no_client_comes_in_time,
+    it_listens_at_an_address_of_a_name,
+    an_address_that_is_taken,
+    each_piece_goes_out_at_once,
 ]
