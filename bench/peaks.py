@@ -1,21 +1,39 @@
-"""How much memory `wst session`, `judge`, `show --capture`, `pair` and `convert` hold over many small frames and turns.
+#!/usr/bin/env python3
+"""How much memory each command of `wst` that reads a text holds over many small frames and turns.
 
-Told is the peak of the resident memory above that over an empty input, in bytes of the input text. A program writes
-first when all is done; as its pipe is full, it stands still there, and its peak can be read.
+    bench/peaks.py            the program crates/wst/out/wst
+    bench/peaks.py PROGRAM    this program
+
+Told is the peak of the resident memory above that over an empty input, in bytes of the input text, beside the most that
+it may be. A program writes first when all is done; as its pipe is full, it stands still there, and its peak can be read.
+Status 1 where a command takes more.
 """
 
 import os
 import subprocess
+import sys
 import tempfile
 import time
 from pathlib import Path
 
 SIZE = 20_000_000  # bytes of an input
-MOST = 8  # times its bytes
-MOST_OF = {"convert": 2, "judge": 5, "show": 2}  # of these commands
+MOST_OF = {  # times its bytes
+    "convert": 2,
+    "judge": 4,
+    "pair": 4,
+    "send": 22,
+    "session": 2,
+    "show": 2,
+    "test": 30,
+}
 
 PING, PONG, TEXT = "898000000000", "8a8000000000", "81810000000061"  # of a client; the key is zero
 PING_BACK, PONG_BACK, TEXT_BACK = "8900", "8a00", "810161"  # of a server
+
+
+# Of these more: a reply that was got has a head of 16 bytes, and is told by 4 digits.
+MOST_OF_EMPTY = 5
+EMPTY = ("pongs got", "empty texts got", "pings got")
 
 
 def rounds_of(text, share=1.0):
@@ -53,25 +71,24 @@ TURNS = {
     ),
 }
 
+# Captures of one turn.
+FRAMES = {
+    "pings sent": capture("turn", f"> {rounds_of(PING)}"),
+    "pongs sent": capture("turn", f"> {rounds_of(PONG)}"),
+    "texts sent": capture("turn", f"> {rounds_of(TEXT)}"),
+    "pings got": capture("turn", f"< {rounds_of(PING_BACK)}"),
+    "pongs got": capture("turn", f"< {rounds_of(PONG_BACK)}"),
+    "texts got": capture("turn", f"< {rounds_of(TEXT_BACK)}"),
+    "empty texts got": capture("turn", f"< {rounds_of('8100')}"),
+    "pings and pongs": capture("turn", f"> {rounds_of(PING, 0.75)}", f"< {rounds_of(PONG_BACK, 0.25)}"),
+    "texts and texts": capture("turn", f"> {rounds_of(TEXT, 0.7)}", f"< {rounds_of(TEXT_BACK, 0.3)}"),
+}
+
 # What is run: its words, its empty input, and the inputs with their names.
 RUNS = [
-    (["show", "--capture"], capture(), TURNS),
-    (["judge", "--explain"], capture(), TURNS),
-    (
-        ["judge"],
-        capture(),
-        TURNS
-        | {
-            "pings sent": capture("turn", f"> {rounds_of(PING)}"),
-            "pongs sent": capture("turn", f"> {rounds_of(PONG)}"),
-            "texts sent": capture("turn", f"> {rounds_of(TEXT)}"),
-            "pings got": capture("turn", f"< {rounds_of(PING_BACK)}"),
-            "pongs got": capture("turn", f"< {rounds_of(PONG_BACK)}"),
-            "texts got": capture("turn", f"< {rounds_of(TEXT_BACK)}"),
-            "pings and pongs": capture("turn", f"> {rounds_of(PING, 0.75)}", f"< {rounds_of(PONG_BACK, 0.25)}"),
-            "texts and texts": capture("turn", f"> {rounds_of(TEXT, 0.7)}", f"< {rounds_of(TEXT_BACK, 0.3)}"),
-        },
-    ),
+    (["show", "--capture"], capture(), TURNS | FRAMES),
+    (["judge", "--explain"], capture(), TURNS | FRAMES),
+    (["judge"], capture(), TURNS | FRAMES),
     *(
         (
             ["session", "--role", "server", *echo],
@@ -111,6 +128,15 @@ RUNS = [
             "a turn of one line": capture("turn", f"> {rounds_of('61')}"),
         },
     ),
+    *(
+        (
+            ["send", *as_capture, "own"],
+            "",
+            {"texts": rounds_of('text "a"\n'), "pings": rounds_of("ping -\n"), "turns": rounds_of("ping -\nwait\n")},
+        )
+        for as_capture in ([], ["--capture"])
+    ),
+    (["test", "--known", "own", "2.1"], "", {"lines of a blank": rounds_of(" \n"), "cases": rounds_of("2.1 PASS\n")}),
 ]
 
 
@@ -119,9 +145,9 @@ def tell_peaks(program):
     wrong = 0
     for words, empty, inputs in RUNS:
         least = peak([program, *words], empty)
-        most = MOST_OF.get(words[0], MOST)
         for name, text in inputs.items():
             times = (peak([program, *words], text) - least) / len(text)
+            most = MOST_OF_EMPTY if words[0] == "judge" and name in EMPTY else MOST_OF[words[0]]
             wrong += times > most
             print(f"{times:>6.2f} of {most}  {' '.join(words)}: {name}", flush=True)
     return wrong
@@ -164,3 +190,8 @@ def state_of(pid):
 def held_by(pid):
     status = Path(f"/proc/{pid}/status").read_text(encoding="ascii")
     return int(status.split("VmHWM:")[1].split()[0]) * 1024
+
+
+if __name__ == "__main__":
+    ours = Path(__file__).resolve().parent.parent / "crates/wst/out/wst"
+    sys.exit(1 if tell_peaks(sys.argv[1] if len(sys.argv) > 1 else ours) else 0)
