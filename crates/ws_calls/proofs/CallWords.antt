@@ -35,7 +35,7 @@ head words = slice_index_or words 0 []
 abbrev first : List ℕ → ℕ
 first word = slice_index_or word 0 0
 
-no_send : (what : KeyedSend) (n : EchoName) → send_name_word (send_name_of what) ≡ echo_name_word n → ⊥
+pub no_send : (what : KeyedSend) (n : EchoName) → send_name_word (send_name_of what) ≡ echo_name_word n → ⊥
 no_send (send.Begin kind payload fin key) name.Take e = absurd (omega (arith, ap first e))
 no_send (send.More payload fin key) name.Take e = absurd (omega (arith, ap first e))
 no_send (send.Ping payload key) name.Take e = absurd (omega (arith, ap first e))

@@ -1,9 +1,11 @@
 -- Calls that are made one after the other, at an end that may have exchanged something before.
-use Rattle.std.proofs.Common.{◌≡◌, ◌∙◌, ℕ, List, [], ◌∷◌, ◌++◌, Result, Ok, Err, OnOk, map, ap, sym, refl, subst, append_assoc, append-nil}
+use Rattle.std.proofs.Common.{◌≡◌, ◌∙◌, ℕ, List, [], ◌∷◌, ◌++◌, map, ap, ap₂, sym, refl, subst, append_assoc, append-nil}
 use Rattle.std.proofs.lemmas.Grind.{flat_map-append}
 use Rattle.std.proofs.lemmas.List.{map-append}
 use Rattle.std.specs.List.{flat_map}
 use Rattle.ws_session.specs.Exchange.{Exchange, SessionValue}
+use Rattle.ws_session.specs.Limits.{LimitsValue}
+use Rattle.ws_wire.specs.declared.role.Role.{Role}
 use Rattle.ws_session.specs.declared.event.Event.{Event}
 use Rattle.ws_wire.specs.Frame.{Frame}
 use Rattle.ws_calls.specs.declared.calls.Call.{Call}
@@ -60,16 +62,24 @@ module _ {T : Type 0} (call_of : T → Call) (reply : Event → List Frame) (end
             ∙ sym (flat_map-append answer_lines h.answers (told.answer ∷ [])))));
       }
 
-  -- the same of a call that may lack memory
-  pub next_made : {Done Fault : Type 0} (r : Result Done Fault)
-      → (h : HasMade call_of endpoint exchange first values taken old before) → endpoint ≡ endpoint_of reply old
-      → OnOk r (HasToldCall (endpoint_of reply old) h.after (call_of value) before taken_after new lines)
-      → OnOk r (HasMade call_of endpoint exchange first (values ++ value ∷ []) taken_after new lines)
-  next_made (Ok done) h same told = one_more h same told
-  next_made (Err fault) h same told = tt
+abbrev endpoint_at : (Event → List Frame) → Role → LimitsValue → Endpoint
+endpoint_at reply role limits = record { role = role; limits = limits; reply = reply }
 
--- what holds of all that was done holds for each exchange
-pub for_each : {X Done Fault : Type 0} (P : X → Type 0) (r : Result Done Fault) → ((x : X) → OnOk r (P x))
-    → OnOk r ((x : X) → P x)
-for_each P (Ok done) h = h
-for_each P (Err fault) h = tt
+-- one more call is made behind those before it, whatever the end had exchanged before them
+pub called_more : {T : Type 0} (call_of : T → Call) (reply : Event → List Frame) (first_taken : ℕ)
+    (first_session : SessionValue) (first : List ℕ) (values : List T) (value : T) (taken taken_after : ℕ)
+    (old new : SessionValue) (before lines : List ℕ)
+    → ((exchange : Exchange) → Agrees exchange first_taken first_session
+    → HasMade call_of (endpoint_of reply first_session) exchange first values taken old before)
+    → ((exchange : Exchange) → Agrees exchange taken old
+    → HasToldCall (endpoint_of reply old) exchange (call_of value) before taken_after new lines)
+    → (exchange : Exchange) → Agrees exchange first_taken first_session
+    → HasMade call_of (endpoint_of reply first_session) exchange first (values ++ value ∷ []) taken_after new lines
+called_more call_of reply first_taken first_session first values value taken taken_after old new before lines made told
+    exchange agrees =
+    let h = made exchange agrees in
+    let endpoint = endpoint_of reply first_session in
+    let same : endpoint ≡ endpoint_of reply old =
+    sym (ap₂ (endpoint_at reply) h.same.0 h.same.1) in
+    one_more call_of reply endpoint exchange first values value taken taken_after old new before lines h same
+    (told h.after h.agrees)

@@ -1,5 +1,5 @@
 -- What is taken part by part was taken whole, and is told so.
-use Rattle.std.proofs.Common.{◌≡◌, ◌∙◌, ◌+◌, ◌++◌, [], ℕ, List, ap, sym, refl, arith, length, map, string_bytes, append_assoc, append-nil}
+use Rattle.std.proofs.Common.{◌∙◌, ◌++◌, [], ℕ, List, ap, sym, arith, length, map, string_bytes, append_assoc, append-nil}
 use Rattle.std.proofs.lemmas.List.{length-append}
 use Rattle.ws_wire.specs.Frame.{Frame}
 use Rattle.ws_session.specs.Exchange.{SessionValue}

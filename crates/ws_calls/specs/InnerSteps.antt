@@ -2,6 +2,9 @@
 use Rattle.std.specs.Prelude.{◌≡◌, ℕ, true, List, [], ◌++◌, length, map, ◌+◌, Option, Some, None, Result, Ok, Err}
 use Rattle.std.specs.Prelude.{string_bytes}
 use Rattle.std.specs.List.{flat_map}
+use Rattle.ws_base.specs.declared.text_fault.LineFault.{LineFault}
+use Rattle.ws_base.specs.declared.text_fault.LineFault.TheVariants.{Damaged}
+use Rattle.ws_formats.specs.Words.{IsHexWord}
 use Rattle.ws_wire.specs.Frame.{Frame}
 use Rattle.ws_session.specs.declared.event.Event.{Event}
 use Rattle.ws_session.specs.declared.event.PlacedEvent.{PlacedEvent}
@@ -13,6 +16,7 @@ use Rattle.ws_session.specs.Taking.{HasTakenAll}
 use Rattle.ws_session.specs.Sends.{Send}
 use Rattle.ws_calls.specs.declared.calling.Caller.{Caller}
 use Rattle.ws_calls.specs.declared.calls.Call.{Call}
+use Rattle.ws_calls.specs.declared.calls.Call.TheVariants.{Take}
 use Rattle.ws_calls.specs.declared.report.PlacedInStream.{PlacedInStream}
 use Rattle.ws_calls.specs.declared.report.CallAnswer.{CallAnswer}
 use Rattle.ws_calls.specs.declared.report.CallAnswer.TheVariants.{Sent, Refused}
@@ -96,6 +100,16 @@ pub record HasToldCall (endpoint : Endpoint) (exchange : Exchange) (call : Call)
   pub answer : CallAnswer
   pub answered : HasAnsweredCall endpoint exchange call answer taken session
   pub told : lines ≡ before ++ answer_lines answer
+
+-- the piece that a word spells was taken and told, whatever was exchanged before; or the word spells none, or memory
+-- ran out
+abbrev pub HasToldWord : {E U : Type 0} → (E → SessionValue) → (Event → List Frame) → Caller E → Caller E → List ℕ
+    → List ℕ → Result U LineFault → Type 0
+HasToldWord value reply old new word key (Ok done) = (piece : List ℕ) × IsHexWord piece word
+    × ((exchange : Exchange) → Agrees exchange old.taken (value old.called)
+    → HasToldCall (endpoint_of reply (value old.called)) exchange (Take piece key) (string_bytes old.lines) new.taken
+    (value new.called) (string_bytes new.lines))
+HasToldWord value reply old new word key (Err why) = why ≡ Damaged → (piece : List ℕ) → IsHexWord piece word → ⊥
 
 -- so many input bytes are kept
 pub record IsHeld (session : SessionValue) (held : ℕ) : Type 0 where

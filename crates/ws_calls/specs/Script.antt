@@ -1,7 +1,7 @@
 -- Scripts of calls of one endpoint, one call a line. The words of a line are parted by one space, and every line ends
 -- with LF.
-use Rattle.std.specs.Prelude.{◌≡◌, ℕ, List, [], ◌∷◌, codes}
-use Rattle.ws_formats.specs.Words.{IsHexWord, IsKeyOrDash, words_of}
+use Rattle.std.specs.Prelude.{◌≡◌, ℕ, List, [], ◌∷◌, ◌++◌, codes}
+use Rattle.ws_formats.specs.Words.{IsHexWord, IsKeyOrDash, space, words_of}
 use Rattle.ws_formats.specs.Lines.{HasLineForEach}
 use Rattle.ws_sends.specs.KeyedSends.{AreSendWords}
 use Rattle.ws_calls.specs.declared.calls.Call.{Call}
@@ -64,6 +64,13 @@ abbrev pub AreCallLines : List Call → List ℕ → Type 0
 AreCallLines calls text = HasLineForEach IsCallLine calls text
 
 -- ---- reading: a reader may skip what follows
+
+-- the line takes the piece that this word spells, under this key
+pub record IsTakeLine (word key line : List ℕ) : Type 0 where
+  pub key_word : List ℕ
+  pub key_spelled : IsKeyOrDash key key_word
+  pub split : line ≡ codes "take " ++ (word ++ space ∷ key_word)
+  pub words : words_of line ≡ codes "take" ∷ word ∷ key_word ∷ []
 
 -- the call has this name, and these further words
 pub record IsEchoCallOf (called : EchoName) (call : EchoCall) (fields : List (List ℕ)) : Type 0 where

@@ -8,11 +8,13 @@ ghost use Rattle.ws_session.specs.Replies.{echo_reply_to, reply_to};
 ghost use Rattle.ws_session.specs.declared.event.Event.{Event};
 ghost use Rattle.ws_session.specs.declared.event.PlacedEvent.{PlacedEvent};
 ghost use Rattle.ws_calls.specs.declared.calls.Call.TheVariants.{Take};
-ghost use Rattle.ws_calls.specs.InnerSteps.{Agrees, HasToldCall, HasToldPart, endpoint_of};
+ghost use Rattle.ws_calls.specs.InnerSteps.{Agrees, HasToldCall, HasToldPart, HasToldWord, endpoint_of};
 
 use crate::report_lines::{tell_events, tell_taken};
 use std::alloc::Global;
-use ws_base::{NoMemory, Payload};
+use std::mem::replace;
+use ws_base::{LineFault, NoMemory};
+use ws_formats::{read_hex_in_place, read_hex_into};
 use ws_parts::cut_part;
 use ws_session::laws::{one_list_of_events, replies_go_on};
 use ws_session::{Echo, PlacedEvent, Session, Status};
@@ -93,6 +95,8 @@ pub struct Caller<E> {
     pub(crate) called: E,
     pub(crate) taken: u64,
     pub(crate) lines: String,
+    /// Room for the bytes of a piece that is taken.
+    pub(crate) piece: Vec<u8>,
     /// Room for the bytes that a call puts: each call empties it first.
     pub(crate) put: Vec<u8>,
     /// Room for the events of a part of a piece: each part empties it first.
@@ -110,8 +114,46 @@ impl<E: Scripted> Caller<E> {
             called,
             taken: 0,
             lines: String::new(alloc),
+            piece: Vec::new(alloc),
             put: Vec::new(alloc),
             events: Vec::new(alloc),
+        }
+    }
+
+    /// The piece that a word spells is taken.
+    pub(crate) fn take_word(
+        &mut self,
+        alloc: Global,
+        word: &[u8],
+        key: [u8; 4],
+    ) -> Result<(), LineFault>
+        ensures { HasToldWord E.value E.reply self.old self.new word.now key result }
+    {
+        let mut piece = replace(&mut self.piece, Vec::new(alloc));
+        read_hex_into(&mut piece, word)?;
+        match self.take(alloc, &mut piece, key) {
+            Ok(()) => {}
+            Err(NoMemory) => return Err(LineFault::NoMemory),
+        }
+        self.piece = piece;
+        Ok(())
+    }
+
+    /// The same of a word in a room of its own, where the piece takes its place.
+    pub(crate) fn take_kept_word(
+        &mut self,
+        alloc: Global,
+        word: &mut Vec<u8>,
+        key: [u8; 4],
+    ) -> Result<(), LineFault>
+        ensures { HasToldWord E.value E.reply self.old self.new word.old.items key result }
+    {
+        read_hex_in_place(word)?;
+        // The room of a long word is given back before it is told what the piece is.
+        word.shrink_to(MOST_KEPT);
+        match self.take(alloc, word, key) {
+            Ok(()) => Ok(()),
+            Err(NoMemory) => Err(LineFault::NoMemory),
         }
     }
 
@@ -119,12 +161,12 @@ impl<E: Scripted> Caller<E> {
     pub(crate) fn take(
         &mut self,
         alloc: Global,
-        piece: Payload,
+        piece: &mut Vec<u8>,
         key: [u8; 4],
     ) -> Result<(), NoMemory>
         ensures { (exchange : Exchange) → Agrees exchange self.old.taken (E.value self.old.called) →
             OnOk result (HasToldCall (endpoint_of E.reply (E.value self.old.called)) exchange
-            (Take piece key) (string_bytes self.old.lines) self.new.taken (E.value self.new.called)
+            (Take piece.old.items key) (string_bytes self.old.lines) self.new.taken (E.value self.new.called)
             (string_bytes self.new.lines)) }
     {
         self.put.clear();
@@ -138,18 +180,22 @@ impl<E: Scripted> Caller<E> {
     }
 
     /// Takes a piece, and tells its events. Once half of a long one is told, no more than the other half is kept.
-    fn take_piece(&mut self, alloc: Global, piece: Payload, key: [u8; 4]) -> Result<(), NoMemory>
-        ensures { OnOk result (HasToldPart E.value E.reply self.old self.new piece key) }
+    fn take_piece(
+        &mut self,
+        alloc: Global,
+        piece: &mut Vec<u8>,
+        key: [u8; 4],
+    ) -> Result<(), NoMemory>
+        ensures { OnOk result (HasToldPart E.value E.reply self.old self.new piece.old.items key) }
     {
         one_list_of_events();
         replies_go_on();
-        let mut rest = piece.into_vec();
-        'halves: while rest.len() > MOST_KEPT {
-            let half = rest.len() / 2;
-            self.take_parts(alloc, &rest[..half], key)?;
-            drop_front(&mut rest, half);
+        'halves: while piece.len() > MOST_KEPT {
+            let half = piece.len() / 2;
+            self.take_parts(alloc, &piece.as_slice()[..half], key)?;
+            drop_front(piece, half);
         }
-        self.take_parts(alloc, rest.as_slice(), key)?;
+        self.take_parts(alloc, piece.as_slice(), key)?;
         Ok(())
     }
 

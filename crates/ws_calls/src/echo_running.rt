@@ -17,11 +17,13 @@ ghost use Rattle.ws_calls.specs.Calls.{echo_of};
 ghost use Rattle.ws_calls.specs.InnerSteps.{Agrees, HasToldCall};
 ghost use Rattle.ws_calls.specs.Runs.{HasCalledEcho, IsNewEcho, ReportsEcho, TellsEcho};
 ghost use Rattle.ws_calls.specs.Script.{AreEchoCallLines, IsEchoCallLine, as_call};
+ghost use Rattle.ws_text_feed.specs.Taking.{TakesValue};
 
 use crate::calling::Caller;
 use crate::calls::EchoCall;
 use crate::echo_script::read_echo_call;
 use crate::report_lines::{tell_ended, tell_last};
+use crate::taking_words::{keep_piece, take_words};
 use std::alloc::Global;
 use ws_base::{LineFault, NoMemory, TextFault};
 use ws_session::laws::{one_list_of_events, replies_go_on};
@@ -63,12 +65,21 @@ impl TakeValues for Caller<Echo> {
 
     ghost has_taken = { HasCalledEcho };
 
-    fn read(alloc: Global, line: &[u8]) -> Result<EchoCall, LineFault> {
-        read_echo_call(alloc, line)
+    fn take_line(&mut self, alloc: Global, line: &[u8]) -> Result<(), LineFault> {
+        match take_words(line) {
+            Some(found) => {
+                let (piece, key) = found;
+                self.take_word(alloc, piece, key)
+            }
+            None => self.make_call(alloc, line),
+        }
     }
 
-    fn take(&mut self, alloc: Global, value: EchoCall) -> Result<(), NoMemory> {
-        self.call(alloc, value)
+    fn take_kept_line(&mut self, alloc: Global, line: &mut Vec<u8>) -> Result<(), LineFault> {
+        match keep_piece(line) {
+            Some(key) => self.take_kept_word(alloc, line, key),
+            None => self.take_line(alloc, line.as_slice()),
+        }
     }
 }
 
@@ -80,6 +91,20 @@ impl Caller<Echo> {
         Caller::at(alloc, Echo::new(alloc, limits, role))
     }
 
+    /// The call that a line tells is made.
+    fn make_call(&mut self, alloc: Global, line: &[u8]) -> Result<(), LineFault>
+        ensures { TakesValue IsEchoCallLine HasCalledEcho self.old self.new line.now result }
+    {
+        let call = match read_echo_call(alloc, line) {
+            Ok(call) => call,
+            Err(fault) => return Err(fault),
+        };
+        match self.call(alloc, call) {
+            Ok(()) => Ok(()),
+            Err(NoMemory) => Err(LineFault::NoMemory),
+        }
+    }
+
     /// One call, and the lines that tell what came of it.
     fn call(&mut self, alloc: Global, call: EchoCall) -> Result<(), NoMemory>
         ensures { (exchange : Exchange) → Agrees exchange self.old.taken self.old.called →
@@ -87,7 +112,10 @@ impl Caller<Echo> {
             (string_bytes self.old.lines) self.new.taken self.new.called (string_bytes self.new.lines)) }
     {
         match call {
-            EchoCall::Take { piece, key } => self.take(alloc, piece, key),
+            EchoCall::Take { piece, key } => {
+                let mut piece = piece.into_vec();
+                self.take(alloc, &mut piece, key)
+            }
             EchoCall::End => {
                 self.called.end();
                 tell_ended(&mut self.lines)?;

@@ -14,6 +14,7 @@ mod report;
 mod report_lines;
 mod running;
 mod script;
+mod taking_words;
 
 pub use calling::Caller;
 pub use calls::{Call, EchoCall};

@@ -19,11 +19,13 @@ ghost use Rattle.ws_calls.specs.InnerSteps.{Agrees, HasToldCall, HasToldSend, Is
 ghost use Rattle.ws_calls.specs.InnerSteps.{send_answer};
 ghost use Rattle.ws_calls.specs.Runs.{HasCalledSession, IsNewSession, ReportsSession, TellsSession};
 ghost use Rattle.ws_calls.specs.Script.{AreCallLines, IsCallLine};
+ghost use Rattle.ws_text_feed.specs.Taking.{TakesValue};
 
 use crate::calling::Caller;
 use crate::calls::Call;
 use crate::report_lines::{tell_ended, tell_last, tell_refused, tell_sent};
 use crate::script::read_call;
+use crate::taking_words::{keep_piece, take_words};
 use std::alloc::Global;
 use ws_base::{LineFault, NoMemory, TextFault};
 use ws_session::laws::{one_list_of_events, replies_go_on};
@@ -68,12 +70,21 @@ impl TakeValues for Caller<Session> {
 
     ghost has_taken = { HasCalledSession };
 
-    fn read(alloc: Global, line: &[u8]) -> Result<Call, LineFault> {
-        read_call(alloc, line)
+    fn take_line(&mut self, alloc: Global, line: &[u8]) -> Result<(), LineFault> {
+        match take_words(line) {
+            Some(found) => {
+                let (piece, key) = found;
+                self.take_word(alloc, piece, key)
+            }
+            None => self.make_call(alloc, line),
+        }
     }
 
-    fn take(&mut self, alloc: Global, value: Call) -> Result<(), NoMemory> {
-        self.call(alloc, value)
+    fn take_kept_line(&mut self, alloc: Global, line: &mut Vec<u8>) -> Result<(), LineFault> {
+        match keep_piece(line) {
+            Some(key) => self.take_kept_word(alloc, line, key),
+            None => self.take_line(alloc, line.as_slice()),
+        }
     }
 }
 
@@ -85,6 +96,20 @@ impl Caller<Session> {
         Caller::at(alloc, Session::new(alloc, role, limits))
     }
 
+    /// The call that a line tells is made.
+    fn make_call(&mut self, alloc: Global, line: &[u8]) -> Result<(), LineFault>
+        ensures { TakesValue IsCallLine HasCalledSession self.old self.new line.now result }
+    {
+        let call = match read_call(alloc, line) {
+            Ok(call) => call,
+            Err(fault) => return Err(fault),
+        };
+        match self.call(alloc, call) {
+            Ok(()) => Ok(()),
+            Err(NoMemory) => Err(LineFault::NoMemory),
+        }
+    }
+
     /// One call, and the lines that tell what came of it.
     fn call(&mut self, alloc: Global, call: Call) -> Result<(), NoMemory>
         ensures { (exchange : Exchange) → Agrees exchange self.old.taken self.old.called →
@@ -93,7 +118,10 @@ impl Caller<Session> {
     {
         match call {
             Call::Send(send) => self.send(alloc, &send.outgoing(), send.key()),
-            Call::Take { piece, key } => self.take(alloc, piece, key),
+            Call::Take { piece, key } => {
+                let mut piece = piece.into_vec();
+                self.take(alloc, &mut piece, key)
+            }
             Call::End => {
                 self.called.end();
                 tell_ended(&mut self.lines)?;

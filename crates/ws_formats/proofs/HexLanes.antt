@@ -4,7 +4,7 @@ use Rattle.std.proofs.Common.{get_or, take, drop, sym, ap, ap₂, subst, refl, a
 use Rattle.std.proofs.lemmas.Bool.{eqb-false}
 use Rattle.std.proofs.lemmas.Bool.Decides.{nat_tests}
 use Rattle.std.proofs.lemmas.Grind.{flat_map-append}
-use Rattle.std.proofs.lemmas.List.{drop_all, get_or-map, get_or_append_left, length-drop, length-map, take-append-drop, take_all}
+use Rattle.std.proofs.lemmas.List.{drop-drop, drop_all, get_or-map, get_or_append_left, length-drop, length-map, take-append-drop, take_all}
 use Rattle.std.proofs.lemmas.Simd.{get_or-chunk, get_or-replicate, get_or-zip2, length-chunk, length-replicate, length-zip2, mask_l-mod, put_chunk_whole}
 use Rattle.std.proofs.lemmas.Slice.{take-put_mid}
 use borrow.Rule.Slice.PartMut.{put_mid}
@@ -268,10 +268,10 @@ pairs_append xs ys u v h g = (
   ap₂ (λ (a b : List ℕ). a ++ b) h.1 g.1 ∙ sym (flat_map-append (λ b. digits 16 false (b / 16) ++ digits 16 false (b % 16)) xs ys),
 )
 
-pub pairs_step : (size at k m : ℕ) (p new word : List ℕ) → at + size ≤ length p → length word ≡ 2 * length p → k ≡ size → m ≡ 2 * size
+pub pairs_step : (size at k m : ℕ) (p new word : List ℕ) → at + size ≤ length p → 2 * (at + size) ≤ length word → k ≡ size → m ≡ 2 * size
     → ArePairs (take at p) (take (2 * at) word) → ArePairs new (take m (drop (2 * at) word))
     → ArePairs (take (at + size) (put_mid at k p new)) (take (2 * (at + size)) word)
-pairs_step size at k m p new word room long part digits_part front back =
+pairs_step size at k m p new word room enough part digits_part front back =
     let there : length (take m (drop (2 * at) word)) ≡ m = length-chunk (2 * at) m word (omega arith) in
     let count : length new ≡ size = omega (arith, pairs_even new (take m (drop (2 * at) word)) back) in
     let bytes : take (at + size) (put_mid at k p new) ≡ take at p ++ new = take-put_mid at k p new (at + size) (omega arith) (omega arith) in
@@ -280,6 +280,13 @@ pairs_step size at k m p new word room long part digits_part front back =
     subst (λ (l : List ℕ). ArePairs l (take (2 * (at + size)) word)) (sym bytes)
     (subst (λ (l : List ℕ). ArePairs (take at p ++ new) l) (sym both)
     (pairs_append (take at p) new (take (2 * at) word) (take m (drop (2 * at) word)) front back))
+
+-- what is alike behind a place is alike behind a later one
+pub left_further : (at to : ℕ) (p word : List ℕ) → at ≤ to → drop at p ≡ drop at word → drop to p ≡ drop to word
+left_further at to p word later same =
+    let place : at + (to - at) ≡ to = omega arith in
+    ap (λ n. drop n p) (sym place) ∙ sym (drop-drop (to - at) at p) ∙ ap (λ (l : List ℕ). drop (to - at) l) same
+    ∙ drop-drop (to - at) at word ∙ ap (λ n. drop n word) place
 
 -- the rest behind what is done
 pub pairs_done : (at k m : ℕ) (p new word : List ℕ) → at ≤ length p → k ≡ length p - at → m ≡ length word - 2 * at

@@ -1,14 +1,14 @@
 -- Digits, and the bytes that pairs of them spell.
-use Rattle.std.proofs.Common.{◌≡◌, ◌∙◌, ℕ, zero, suc, ◌+◌, ◌*◌, ◌-◌, ◌/◌, ◌%◌, ◌<◌, ◌≤◌, ◌⊎◌, inl, inr, false, List, [], ◌∷◌, length}
-use Rattle.std.proofs.Common.{◌&&◌, ◌||◌, true, nat_le, get_or, take, drop, sym, ap, subst, refl, arith}
+use Rattle.std.proofs.Common.{◌≡◌, ◌≢◌, ◌∙◌, ℕ, zero, suc, ◌+◌, ◌*◌, ◌-◌, ◌/◌, ◌%◌, ◌<◌, ◌≤◌, ◌⊎◌, inl, inr, false, List, [], ◌∷◌, length}
+use Rattle.std.proofs.Common.{◌&&◌, ◌||◌, true, nat_le, get_or, take, drop, sym, ap, subst, refl, arith, codes}
 use Rattle.std.proofs.lemmas.Bool.{cases_lt}
 use Rattle.std.proofs.lemmas.Bool.Decides.{nat_tests}
 use Rattle.std.proofs.lemmas.Simd.{get_or-chunk, length-chunk}
 use Rattle.std.specs.Fmt.{digit_glyph}
 use Rattle.ws_base.specs.Bytes.{AreBytes}
-use Rattle.ws_formats.specs.Words.{hex}
+use Rattle.ws_formats.specs.Words.{IsHexWord, hex}
 use Rattle.ws_formats.specs.Reading.{AreDigits, ArePairs, IsDigit, IsPair}
-use Rattle.ws_formats.proofs.HexWords.{are_bytes_tail, hex_cons, high_of, low_of, pairs_from, pairs_length, twice}
+use Rattle.ws_formats.proofs.HexWords.{are_bytes_tail, hex_cons, hex_there, high_of, low_of, pairs_from, pairs_length, pairs_of_hex, twice}
 
 -- ---- one digit
 
@@ -80,6 +80,14 @@ hex_digits (byte ∷ bytes) all =
 
 pub pairs_are_digits : (bytes word : List ℕ) → ArePairs bytes word → AreDigits word
 pairs_are_digits bytes word h = subst AreDigits (sym h.1) (hex_digits bytes h.0)
+
+-- a word of bytes that is no dash is pairs of digits, and one pair at least
+pub spelled_by_pairs : (bytes word : List ℕ) → IsHexWord bytes word → word ≢ codes "-"
+    → (0 < length word) × (length word % 2 ≡ 0) × AreDigits word
+spelled_by_pairs bytes word h dash =
+    let pairs = pairs_of_hex bytes word h dash in
+    let even = pairs_even bytes word pairs in
+    (hex_there bytes word h, omega arith, pairs_are_digits bytes word pairs)
 
 -- the byte of two digits
 pub pair_of : (byte high low x y : ℕ) → x < 16 → y < 16 → digit_glyph false x ≡ high → digit_glyph false y ≡ low

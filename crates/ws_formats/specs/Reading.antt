@@ -16,6 +16,11 @@ abbrev pub Reads : {T : Type 0} → Result T LineFault → (T → Type 0) → Ty
 Reads (Ok value) P = P value
 Reads {T = T} (Err fault) P = fault ≡ Damaged → (value : T) → P value → ⊥
 
+-- a room has the bytes of which this holds, or there are none, or memory ran out
+abbrev pub ReadsInto : {U : Type 0} → List ℕ → Result U LineFault → (List ℕ → Type 0) → Type 0
+ReadsInto room (Ok done) P = P room
+ReadsInto room (Err fault) P = fault ≡ Damaged → (bytes : List ℕ) → P bytes → ⊥
+
 -- What taking a line into a part of a text answers, where `Tell part value lines` says that with these lines after the
 -- part the whole tells the value: a longer part, or that no text goes on so, or memory ran out. What follows the longer
 -- part tells the value with the line before it, and what the part goes on with after the line goes on after the longer.

@@ -1,9 +1,9 @@
 //! Bytes and masking keys that words spell in lower-case hexadecimal, two digits a byte.
 
-ghost use Rattle.std.specs.Prelude.{◌≡◌, ◌↔◌, ℕ, ◌*◌, ◌≤◌, ◌<◌, IsTrue, false, length, slice_index};
+ghost use Rattle.std.specs.Prelude.{◌≡◌, ◌↔◌, ℕ, ◌*◌, ◌≤◌, ◌<◌, ◌/◌, ◌%◌, IsTrue, false, length, slice_index, take};
 ghost use Rattle.std.specs.Fmt.{digit_glyph};
 ghost use Rattle.ws_formats.specs.Words.{IsHexWord, IsKeyOrDash, IsKeyWord};
-ghost use Rattle.ws_formats.specs.Reading.{AreDigits, ArePairs, IsDigit, IsPair, Reads};
+ghost use Rattle.ws_formats.specs.Reading.{AreDigits, ArePairs, IsDigit, IsPair, Reads, ReadsInto};
 ghost use Rattle.ws_base.specs.Finding.{Finds};
 
 use std::alloc::Global;
@@ -26,6 +26,9 @@ const FEWER_LANES: usize = 16;
 /// How many in a word of fewer than `FEWER_LANES`.
 const LEAST_LANES: usize = 8;
 
+/// How many bytes are put in place of their digits at once.
+const BLOCK: usize = 256;
+
 /// How many bytes are read from their digits at once.
 const MANY: usize = 16;
 
@@ -39,19 +42,8 @@ pub fn read_hex(alloc: Global, word: &[u8]) -> Result<Payload, LineFault>
     if word == b"-".as_slice() {
         return Ok(Payload::new(alloc));
     }
-    if word.is_empty() {
-        return Err(LineFault::Damaged);
-    }
-    let bytes = read_pairs(alloc, word)?;
-    Ok(bytes)
-}
-
-/// The bytes that pairs of digits spell.
-fn read_pairs(alloc: Global, word: &[u8]) -> Result<Payload, LineFault>
-    ensures { Reads result (λ bytes. ArePairs bytes word.now) }
-{
     // A word that spells nothing is refused before memory is taken.
-    if word.len() % 2 == 1 || !are_digits(word) {
+    if !are_pairs(word) {
         return Err(LineFault::Damaged);
     }
     let Ok(mut bytes) = vec![in alloc; 0u8; word.len() / 2] else {
@@ -59,6 +51,48 @@ fn read_pairs(alloc: Global, word: &[u8]) -> Result<Payload, LineFault>
     };
     put_pairs(word, bytes.as_mut_slice());
     Ok(Payload::from_vec(bytes))
+}
+
+/// The same, in a room that is used again, in place of what is in it.
+pub fn read_hex_into(room: &mut Vec<u8>, word: &[u8]) -> Result<(), LineFault>
+    ensures { ReadsInto room.new.items result (λ bytes. IsHexWord bytes word.now) }
+{
+    if word == b"-".as_slice() {
+        room.clear();
+        return Ok(());
+    }
+    if !are_pairs(word) {
+        return Err(LineFault::Damaged);
+    }
+    if room.resize(word.len() / 2, 0).is_err() {
+        return Err(LineFault::NoMemory);
+    }
+    put_pairs(word, room.as_mut_slice());
+    Ok(())
+}
+
+/// The same, in the room of the word itself.
+pub fn read_hex_in_place(word: &mut Vec<u8>) -> Result<(), LineFault>
+    ensures { ReadsInto word.new.items result (λ bytes. IsHexWord bytes word.old.items) }
+{
+    if word.as_slice() == b"-".as_slice() {
+        word.clear();
+        return Ok(());
+    }
+    if !are_pairs(word.as_slice()) {
+        return Err(LineFault::Damaged);
+    }
+    let len = word.len() / 2;
+    put_pairs_in_front(word.as_mut_slice());
+    word.truncate(len);
+    Ok(())
+}
+
+/// Whether this is pairs of lower-case hexadecimal digits, and one at least.
+fn are_pairs(word: &[u8]) -> bool
+    ensures { IsTrue result ↔ ((0 < length word.now) × (length word.now % 2 ≡ 0) × AreDigits word.now) }
+{
+    !word.is_empty() && word.len() % 2 == 0 && are_digits(word)
 }
 
 /// Whether all of these are lower-case hexadecimal digits.
@@ -131,6 +165,25 @@ fn is_digit(byte: u8) -> bool
     ensures { IsTrue result ↔ IsDigit byte }
 {
     ((b'0' <= byte) & (byte <= b'9')) | ((b'a' <= byte) & (byte <= b'f'))
+}
+
+/// Puts the bytes that pairs of digits spell where the first half of the digits is.
+fn put_pairs_in_front(digits: &mut [u8])
+    requires digits { AreDigits digits.old }
+    requires even { length digits.old % 2 ≡ 0 }
+    ensures len { length digits.new ≡ length digits.old }
+    ensures pairs { ArePairs (take (length digits.old / 2) digits.new) digits.old }
+{
+    let mut block = [0; BLOCK];
+    let len = digits.len() / 2;
+    let mut at = 0;
+    while at < len {
+        let count = BLOCK.min(len - at);
+        let bytes = &mut block[..count];
+        put_pairs(&digits[2 * at..2 * (at + count)], bytes);
+        digits[at..at + count].copy_from_slice(bytes);
+        at += count;
+    }
 }
 
 /// Puts the bytes that pairs of digits spell into room of their number, by vectors as long as they fit.

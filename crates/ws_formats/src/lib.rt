@@ -17,7 +17,9 @@ mod words;
 
 pub use closing::read_close;
 pub use digits::{digits_of, put_digits};
-pub use hexadecimal::{are_digits, read_hex, read_key, read_key_or_dash};
+pub use hexadecimal::{
+    are_digits, read_hex, read_hex_in_place, read_hex_into, read_key, read_key_or_dash,
+};
 pub use lines::{Line, PartialText, cut_line, read_by_lines, read_lines};
 pub use numbers::{read_u16, read_u32};
 pub use showing_hex::{Hex, HexDigits};

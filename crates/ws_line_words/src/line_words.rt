@@ -62,7 +62,7 @@ pub fn few_words(line: &[u8]) -> Option<FewWords<'_>>
 }
 
 /// The first word, and what stands behind its space. `None` where there is no space.
-fn cut_word(line: &[u8]) -> Option<(&[u8], &[u8])>
+pub fn cut_word(line: &[u8]) -> Option<(&[u8], &[u8])>
     ensures { CutsFirstWord line.now result }
 {
     let at = memchr(b' ', line)?;

@@ -2,13 +2,13 @@
 
 ghost use Rattle.std.specs.Prelude.{◌≡◌, List, ℕ, [], ◌∷◌, ◌++◌, MatchResult, OnOk};
 ghost use Rattle.ws_formats.specs.Lines.{Damages, HasLineForEach, IsLine, line_feed};
-ghost use Rattle.ws_formats.specs.Reading.{Reads};
 ghost use Rattle.ws_text_feed.specs.Feeding.{IsFed, WasFed};
+ghost use Rattle.ws_text_feed.specs.Taking.{CanTake, TakesValue};
 
 use crate::MOST_KEPT;
 use crate::taking::TakeValues;
 use std::alloc::Global;
-use ws_base::{LineFault, NoMemory, TextFault};
+use ws_base::{LineFault, TextFault};
 use ws_formats::cut_line;
 
 /// A text so far: who has taken its values, and the line that hasn't ended.
@@ -67,14 +67,10 @@ impl<T: TakeValues> TextFeed<T> {
             (λ fault. (more : List ℕ) →
             Damages (HasLineForEach T.is_line_of) fault (text ++ (end.now ++ line_feed ∷ more))) }
     {
-        let value = match self.read_line(alloc, end) {
-            Ok(value) => value,
+        match self.take_line(alloc, end) {
+            Ok(()) => {}
             Err(LineFault::Damaged) => return Err(TextFault::Damaged(self.number)),
             Err(LineFault::NoMemory) => return Err(TextFault::NoMemory),
-        };
-        match self.taker.take(alloc, value) {
-            Ok(()) => {}
-            Err(NoMemory) => return Err(TextFault::NoMemory),
         }
         // No number counts more lines.
         let Some(number) = self.number.checked_add(1) else {
@@ -84,21 +80,23 @@ impl<T: TakeValues> TextFeed<T> {
         Ok(())
     }
 
-    /// The value of the line that ends with these bytes. A line that came in one piece is read where it is.
-    fn read_line(&mut self, alloc: Global, end: &[u8]) -> Result<T::Value, LineFault>
-        ensures value { Reads result (λ value. T.is_line_of value (self.old.partial.items ++ end.now)) }
+    /// Takes the value of the line that ends with these bytes. A line that came in one piece is read where it is.
+    fn take_line(&mut self, alloc: Global, end: &[u8]) -> Result<(), LineFault>
+        requires { CanTake T.has_taken self.old.taker }
+        ensures taken { TakesValue T.is_line_of T.has_taken self.old.taker self.new.taker
+            (self.old.partial.items ++ end.now) result }
         ensures emptied { OnOk result (self.new.partial.items ≡ []) }
-        ensures same { (self.new.taker ≡ self.old.taker) × (self.new.number ≡ self.old.number) }
+        ensures same { self.new.number ≡ self.old.number }
     {
         if self.partial.is_empty() {
-            return T::read(alloc, end);
+            return self.taker.take_line(alloc, end);
         }
         if self.partial.extend_from_slice(end).is_err() {
             return Err(LineFault::NoMemory);
         }
-        let value = T::read(alloc, self.partial.as_slice())?;
+        self.taker.take_kept_line(alloc, &mut self.partial)?;
         self.empty();
-        Ok(value)
+        Ok(())
     }
 
     /// Empties the room for a line. Much room is given back where it is, so that what is taken next finds it free.

@@ -1,12 +1,12 @@
 //! Who takes the values of a text.
 
-ghost use Rattle.std.specs.Prelude.{List, ℕ, [], ◌∷◌, ◌++◌, OnOk};
-ghost use Rattle.ws_formats.specs.Reading.{Reads};
+ghost use Rattle.std.specs.Prelude.{List, ℕ};
+ghost use Rattle.ws_text_feed.specs.Taking.{CanTake, TakesValue};
 
 use std::alloc::Global;
-use ws_base::{LineFault, NoMemory};
+use ws_base::LineFault;
 
-/// Takes the values that the lines of a text tell, one after the other.
+/// Takes the values that the lines of a text tell, one after the other. After an error nothing more is to be taken.
 pub trait TakeValues: Sized + Drop {
     /// What a line tells.
     type Value: Drop;
@@ -17,13 +17,13 @@ pub trait TakeValues: Sized + Drop {
     /// The second is what the first has become by taking these values, in their order.
     ghost has_taken: { Self → List Self.Value → Self → Type 0 };
 
-    /// The value that a line tells, which is given without its LF.
-    fn read(alloc: Global, line: &[u8]) -> Result<Self::Value, LineFault>
-        ensures { Reads result (λ value. is_line_of value line.now) };
+    /// Takes the value that a line tells, which is given without its LF.
+    fn take_line(&mut self, alloc: Global, line: &[u8]) -> Result<(), LineFault>
+        requires { CanTake has_taken self.old }
+        ensures { TakesValue is_line_of has_taken self.old self.new line.now result };
 
-    /// Takes one more value.
-    fn take(&mut self, alloc: Global, value: Self::Value) -> Result<(), NoMemory>
-        requires { (first : Self) × (before : List Self.Value) × has_taken first before self.old }
-        ensures { (first : Self) (before : List Self.Value) → has_taken first before self.old →
-            OnOk result (has_taken first (before ++ value ∷ []) self.new) };
+    /// The same of a line that came piece by piece and was kept in this room, which may be used for what it tells.
+    fn take_kept_line(&mut self, alloc: Global, line: &mut Vec<u8>) -> Result<(), LineFault>
+        requires { CanTake has_taken self.old }
+        ensures { TakesValue is_line_of has_taken self.old self.new line.old.items result };
 }

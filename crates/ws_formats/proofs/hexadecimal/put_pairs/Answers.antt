@@ -14,7 +14,7 @@ pub loop-bytes-preserved : goal.loop-bytes-preserved
 loop-bytes-preserved c = record {
   within = omega arith;
   long = omega arith;
-  pairs = pairs_step 16 c.loop-bytes.at _ _ c.loop-bytes.bytes c.put_sixteen.new.bytes c.args.word.now (omega arith) c.loop-bytes.invariant.long (omega arith) (omega arith)
+  pairs = pairs_step 16 c.loop-bytes.at _ _ c.loop-bytes.bytes c.put_sixteen.new.bytes c.args.word.now (omega arith) (omega (arith, c.loop-bytes.invariant.long)) (omega arith) (omega arith)
       c.loop-bytes.invariant.pairs c.put_sixteen.ensures;
 }
 

@@ -5,8 +5,8 @@ use Rattle.ws_calls.proofs.calling.Caller.take_piece.Given as goal
 
 -- what stands before the rest was taken and told
 abbrev pub invariant-halves : goal.invariant-halves
-invariant-halves g l = (done : List ℕ) × (l.fn.piece ≡ done ++ l.rest.items)
+invariant-halves g l = (done : List ℕ) × (l.fn.piece.items ≡ done ++ l.piece.items)
     × HasToldPart g.E.Scripted.value g.E.Scripted.reply l.fn.self l.self done l.key
 
 abbrev pub decreases-halves : goal.decreases-halves
-decreases-halves g l = length l.rest.items
+decreases-halves g l = length l.piece.items
