@@ -5,4 +5,4 @@ mod Lines1
 mod Lines2
 mod Told
 mod Joined
-pub mod Waiting
+mod LineAfterLine

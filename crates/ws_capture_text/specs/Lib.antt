@@ -1,4 +1,3 @@
-pub mod Rooms
 pub mod InnerMarks
 pub mod InnerKinds
 pub mod InnerStages

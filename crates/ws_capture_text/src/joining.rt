@@ -8,13 +8,13 @@ ghost use Rattle.ws_frame.specs.Streaming.{WritesAll};
 ghost use Rattle.ws_frame.specs.Watching.{has_failed};
 ghost use Rattle.ws_capture_text.specs.InnerMarks.{parted};
 ghost use Rattle.ws_capture_text.specs.InnerJoining.{joined_lines, mark_in, put_of, text_before};
-ghost use Rattle.ws_capture_text.specs.Rooms.{WritesAndKeeps};
+ghost use Rattle.ws_rooms.specs.Rooms.{WritesAndKeeps};
 
 use crate::mark::{Mark, cut_mark};
-use crate::room::{Room, flush, put};
 use std::io::Write;
 use ws_formats::cut_line;
 use ws_frame::{Watched, WriteFault};
+use ws_rooms::{Room, flush, put};
 
 /// Writes lines of format 1, all but the first, as those of format 2, behind its first two.
 pub(crate) fn write_joined<W: Write>(

@@ -1,6 +1,6 @@
 -- The LF is put behind the line.
 use Rattle.std.proofs.Common.{◌≡◌, ◌∙◌, ◌∷◌, [], ◌++◌, List, ℕ, ap, append_assoc, rules, sym}
-use Rattle.ws_capture_text.proofs.Waiting.{begun_more, some_behind, stands, stops}
+use Rattle.ws_rooms.proofs.Waiting.{begun_more, some_behind, stands, stops}
 use Rattle.ws_capture_text.proofs.joining.put_ended.Goals as goal
 
 pub returns-in_err-put : goal.returns-in_err-put

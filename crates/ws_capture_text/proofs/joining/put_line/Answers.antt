@@ -1,7 +1,8 @@
 -- What stands before the line is put, and then its word, or the line and its LF.
 use Rattle.std.proofs.Common.{◌++◌, ◌∷◌, []}
 use Rattle.ws_capture_text.specs.InnerJoining.{put_of}
-use Rattle.ws_capture_text.proofs.Waiting.{begun_behind, begun_more, both_behind, put_plain, put_word, stands, stops}
+use Rattle.ws_capture_text.proofs.LineAfterLine.{put_plain, put_word}
+use Rattle.ws_rooms.proofs.Waiting.{begun_behind, begun_more, both_behind, stands, stops}
 use Rattle.ws_capture_text.proofs.joining.put_line.Goals as goal
 
 pub returns-in_err-put-in-Some-clause-written : goal.returns-in_err-put-in-Some-clause-written

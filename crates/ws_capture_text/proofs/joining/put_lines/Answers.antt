@@ -1,7 +1,8 @@
 -- One line more is put as it is joined; where no line is left, all is put.
 use Rattle.std.proofs.Common.{◌++◌, None}
 use Rattle.ws_capture_text.specs.InnerJoining.{joined_lines}
-use Rattle.ws_capture_text.proofs.Waiting.{all_gone, goes_further, goes_wrong, stops}
+use Rattle.ws_capture_text.proofs.LineAfterLine.{all_gone, goes_further, goes_wrong}
+use Rattle.ws_rooms.proofs.Waiting.{stops}
 use Rattle.ws_capture_text.proofs.joining.put_lines.Goals as goal
 
 pub returns-in_err-last-clause-written : goal.returns-in_err-last-clause-written

@@ -4,7 +4,7 @@ use Rattle.std.specs.List.{AllByRecursion}
 use Rattle.ws_formats.specs.Lines.{IsLine, ended}
 use Rattle.ws_frame.specs.Watching.{has_failed, inner_of}
 use Rattle.ws_capture_text.specs.InnerJoining.{joined_lines}
-use Rattle.ws_capture_text.proofs.Waiting.{Goes}
+use Rattle.ws_capture_text.proofs.LineAfterLine.{Goes}
 use Rattle.ws_capture_text.proofs.joining.put_lines.Given as goal
 
 -- no write has failed, and the lines that are left become what is due

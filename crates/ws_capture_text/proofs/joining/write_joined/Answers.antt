@@ -1,7 +1,7 @@
 -- The first two lines are put, then the others as they are joined, and what waits at the end is written.
 use Rattle.std.proofs.Common.{◌≡◌, ◌++◌, List, ℕ, None, ap, codes, rules, sym}
 use Rattle.ws_capture_text.specs.InnerJoining.{joined_lines}
-use Rattle.ws_capture_text.proofs.Waiting.{all_written, begun_behind, begun_more, stands, stands_behind, stops_all}
+use Rattle.ws_rooms.proofs.Waiting.{all_written, begun_behind, begun_more, stands, stands_behind, stops_all}
 use Rattle.ws_capture_text.proofs.joining.write_joined.Goals as goal
 
 pub returns-in_err-put : goal.returns-in_err-put

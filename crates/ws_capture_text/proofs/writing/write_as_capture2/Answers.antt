@@ -3,7 +3,7 @@ use Rattle.std.proofs.Common.{◌≡◌, ◌≢◌, codes, rules}
 use Rattle.ws_frame.specs.Devices.{watched}
 use Rattle.ws_scripts.specs.Captures2.{written_capture2}
 use Rattle.ws_capture_text.proofs.Joined.{joined_is_written, no_line_is_written, text_is_written}
-use Rattle.ws_capture_text.proofs.Waiting.{writes_same, writes_whole}
+use Rattle.ws_rooms.proofs.Waiting.{writes_same, writes_whole}
 use Rattle.ws_capture_text.proofs.writing.write_as_capture2.Goals as goal
 use Rattle.ws_capture_text.proofs.writing.write_as_capture2.Goals.{in-Some+else-eq, in_default}
 

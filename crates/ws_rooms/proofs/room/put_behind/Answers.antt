@@ -1,7 +1,7 @@
 -- Where the bytes that wait can't be written, a beginning of all was; else those behind them wait, or are written too.
 use Rattle.std.proofs.Common.{◌++◌, refl}
-use Rattle.ws_capture_text.proofs.Waiting.{begun_more, stands, stops, whole_behind}
-use Rattle.ws_capture_text.proofs.room.put_behind.Goals as goal
+use Rattle.ws_rooms.proofs.Waiting.{begun_more, stands, stops, whole_behind}
+use Rattle.ws_rooms.proofs.room.put_behind.Goals as goal
 
 pub returns-in_err-flush : goal.returns-in_err-flush
 returns-in_err-flush g c =

@@ -3,7 +3,7 @@
 ghost use Rattle.std.specs.Prelude.{◌≡◌, ◌≤◌, ◌+◌, [], ◌++◌, length, false, OnOk};
 ghost use Rattle.ws_frame.specs.Devices.{watched};
 ghost use Rattle.ws_frame.specs.Watching.{has_failed};
-ghost use Rattle.ws_capture_text.specs.Rooms.{WritesAndKeeps};
+ghost use Rattle.ws_rooms.specs.Rooms.{WritesAndKeeps};
 
 use std::io::Write;
 use std::marker::Model;
