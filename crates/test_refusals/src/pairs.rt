@@ -3,6 +3,7 @@
 use crate::tally::Tally;
 use std::alloc::Global;
 use ws_base::{NoMemory, TextFault};
+use ws_frame::{ByteWriter, Failing, Watched};
 use ws_pair::{Move, Report, read_moves, run_pair, write_report};
 use ws_session::Limits;
 
@@ -97,8 +98,12 @@ pub fn play(alloc: Global, script: &Script, tally: &mut Tally) -> Result<(), NoM
     match read_moves(alloc, script.moves.as_bytes()) {
         Ok(moves) => {
             let report = run_again(alloc, client, server, moves.as_slice(), tally)?;
-            let lines = write_report(alloc, &report)?;
-            tally.compare(lines.as_str() == script.report);
+            let mut writer = Watched::new(ByteWriter::new(alloc, Failing::Never));
+            let Ok(()) = write_report(alloc, &report, &mut writer) else {
+                return Err(NoMemory);
+            };
+            let lines = writer.into_inner().taken;
+            tally.compare(lines.as_slice() == script.report.as_bytes());
         }
         Err(TextFault::NoMemory) => return Err(NoMemory),
         Err(TextFault::Damaged(_)) => tally.compare(false),

@@ -48,7 +48,7 @@ ActsIfOk v w others result move = (limits : BothLimits) (link : Link) → IsEndA
 
 -- the endpoint with its session and what it has put as a call left them
 abbrev pub after_call : Endpoint → Session → Vec ℕ Global → Endpoint
-after_call v session put = record { session = session; put = put; reached = v.reached; delivered = v.delivered; is_cut = v.is_cut }
+after_call v session put = record { session = session; put = put; reached = v.reached; delivered = v.delivered; told = v.told; is_cut = v.is_cut }
 
 -- what the calls of a session say of a send, by which the endpoint changed
 pub record HasCalled {X : Type 0} (v w : Endpoint) (what : Send) (key : List ℕ) (sent : Result X SendFault) : Type 0 where

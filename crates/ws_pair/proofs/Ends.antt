@@ -1,14 +1,14 @@
 -- An endpoint that stands as an end: what it is told, and each step of it.
-use Rattle.std.proofs.Common.{◌≡◌, ℕ, ◌+◌, ◌≤◌, ◌<◌, Bool, true, false, List, [], ◌∷◌, ◌++◌, length, take, drop, Some, refl, sym, ap, ◌∙◌, arith, subst}
-use Rattle.std.specs.Prelude.{map}
-use Rattle.std.proofs.lemmas.List.{append-nil, length-append, drop_at, take_all}
+use Rattle.std.proofs.Common.{◌≡◌, ℕ, ◌+◌, ◌≤◌, Bool, false, List, [], ◌∷◌, ◌++◌, length, take, drop, Some, refl, sym, ap, ◌∙◌, arith, subst}
+use Rattle.std.specs.Prelude.{map, option_to_list}
+use Rattle.std.proofs.lemmas.List.{append-nil, length-append, drop_at}
 use Rattle.ws_wire.specs.declared.role.Role.{Role}
 use Rattle.ws_wire.specs.declared.role.Role.TheVariants as role
 use Rattle.ws_wire.specs.Header.{IsMaskingKey, is_masked}
 use Rattle.ws_wire.specs.Frame.{Frame, KeyedFrame, FitsTheLayout, frame_bytes, stream_bytes}
 use Rattle.ws_session.specs.declared.message.Message.{Message}
 use Rattle.ws_session.specs.declared.event.Event.{Event}
-use Rattle.ws_session.specs.declared.event.PlacedEvent.{PlacedEvent}
+use Rattle.ws_session.specs.declared.event.Taken.{Taken}
 use Rattle.ws_session.specs.Limits.{LimitsValue}
 use Rattle.ws_session.specs.Messages.{messages_of}
 use Rattle.ws_session.specs.Validity.{AreValidFrames}
@@ -16,8 +16,8 @@ use Rattle.ws_session.specs.Faults.{frames_of, KeysFit, expects_key}
 use Rattle.ws_session.specs.Events.{HasEvents, messages_in}
 use Rattle.ws_session.specs.Replies.{reply_to, has_close, replies_of, key_for, under_key}
 use Rattle.ws_session.specs.Sends.{Send, frame_of, most_limits, HasTextReason, Sends}
-use Rattle.ws_session.specs.Exchange.{SessionValue, Exchange, HasExchanged, is_over, status_of}
-use Rattle.ws_session.specs.Taking.{HasTakenAll, TakeCall, TakesAll, events_in}
+use Rattle.ws_session.specs.Exchange.{SessionValue, Exchange, HasExchanged, status_of}
+use Rattle.ws_session.specs.Taking.{HasTaken, TakeCall, Takes}
 use Rattle.ws_session.specs.Reach.{events_within}
 use Rattle.ws_pair.specs.declared.endpoint.Endpoint.{Endpoint}
 use Rattle.ws_pair.specs.Link.{LinkEnd}
@@ -66,7 +66,7 @@ module _ (laws : LawsOfEachSession) (role : Role) (limits : LimitsValue) (ys : L
       (told_at laws role limits ys peers x.reached is.within))
       ∙ status_told laws limits ys peers.valid x
 
-  -- ---- a piece that is taken whole
+  -- ---- a piece of which the front is taken
 
   -- what came of it, where these events were told
   record Took (key : List ℕ) (u : ℕ) (events : List Event) (w : Endpoint) : Type 0 where
@@ -75,9 +75,9 @@ module _ (laws : LawsOfEachSession) (role : Role) (limits : LimitsValue) (ys : L
     pub put : w.put.items ≡ v.put.items ++ stream_bytes (map (under_key role key) (replies_of (frames_of x.sent) events))
     pub same : (w.session.role ≡ v.session.role) × (w.session.limits ≡ v.session.limits)
 
-  module _ (key piece : List ℕ) (next : IsNextIn (stream_bytes ys) x.reached piece) (placed : List PlacedEvent) (w : Endpoint) where
-    fits : x.reached + length piece ≤ length (stream_bytes ys)
-    fits = next.fits
+  module _ (key piece : List ℕ) (next : IsNextIn (stream_bytes ys) x.reached piece) (taken : Taken) (le : taken.used ≤ length piece) (w : Endpoint) where
+    fits : x.reached + taken.used ≤ length (stream_bytes ys)
+    fits = omega (arith, next.fits, le)
 
     abbrev exchange : Exchange
     exchange = record { sent = frames_of x.sent; taken = take x.reached (stream_bytes ys); ended = x.is_cut }
@@ -85,35 +85,34 @@ module _ (laws : LawsOfEachSession) (role : Role) (limits : LimitsValue) (ys : L
     abbrev call : TakeCall
     call = record { piece = piece; key = key; before = v.put.items; after = w.put.items }
 
-    took : TakesAll reply_to v.session w.session exchange call placed → (w.session.role ≡ v.session.role) × (w.session.limits ≡ v.session.limits) → Took key (length piece) (events_in placed) w
-    took t same =
+    took : Takes reply_to v.session w.session exchange call taken → Took key taken.used (option_to_list taken.event) w
+    took t =
         let n = x.reached in
-        let u = length piece in
-        let event : List Event = events_in placed in
-        let all : take u piece ≡ piece = take_all u piece (omega arith) in
-        let bytes : take n (stream_bytes ys) ++ piece ≡ take (n + u) (stream_bytes ys) = ap (λ (l : List ℕ). take n (stream_bytes ys) ++ l) (sym all) ∙ front_of_next (stream_bytes ys) piece n u next (omega arith) in
+        let u = taken.used in
+        let event : List Event = option_to_list taken.event in
+        let bytes : take n (stream_bytes ys) ++ take u piece ≡ take (n + u) (stream_bytes ys) = front_of_next (stream_bytes ys) piece n u next le in
         let before : HasEvents v.session.role v.session.limits (take n (stream_bytes ys)) (events_within limits n ys) = at_own role limits v.session (take n (stream_bytes ys)) (events_within limits n ys) is.role_kept is.limits_kept (told_at laws role limits ys peers n is.within) in
-        let after : HasEvents role limits (take n (stream_bytes ys) ++ piece) (events_within limits n ys ++ event) =
-        at_role role limits v.session (take n (stream_bytes ys) ++ piece) (events_within limits n ys ++ event) is.role_kept is.limits_kept (t.events (events_within limits n ys) before) in
+        let after : HasEvents role limits (take n (stream_bytes ys) ++ take u piece) (events_within limits n ys ++ event) =
+        at_role role limits v.session (take n (stream_bytes ys) ++ take u piece) (events_within limits n ys ++ event) is.role_kept is.limits_kept (t.event (events_within limits n ys) before) in
         record {
           told = laws.one_list role limits (take (n + u) (stream_bytes ys)) (events_within limits (n + u) ys) (events_within limits n ys ++ event) (told_at laws role limits ys peers (n + u) fits)
               (subst (λ (l : List ℕ). HasEvents role limits l (events_within limits n ys ++ event)) bytes after);
           agrees = subst (λ (l : List ℕ). HasExchanged w.session (frames_of x.sent ++ replies_of (frames_of x.sent) event) l x.is_cut) bytes t.agrees;
           put = t.put ∙ ap (λ (r : Role). v.put.items ++ stream_bytes (map (under_key r key) (replies_of (frames_of x.sent) event))) is.role_kept;
-          same = same;
+          same = t.same;
         }
 
-    newly : Took key (length piece) (events_in placed) w → newly_told limits ys x.reached (x.reached + length piece) ≡ events_in placed
+    newly : Took key taken.used (option_to_list taken.event) w → newly_told limits ys x.reached (x.reached + taken.used) ≡ option_to_list taken.event
     newly t =
-        ap (λ (l : List Event). drop (length (events_within limits x.reached ys)) l) t.told ∙ drop_at (events_within limits x.reached ys) (events_in placed) (length (events_within limits x.reached ys)) refl
+        ap (λ (l : List Event). drop (length (events_within limits x.reached ys)) l) t.told ∙ drop_at (events_within limits x.reached ys) (option_to_list taken.event) (length (events_within limits x.reached ys)) refl
 
     -- the endpoint stands as the end to which so many more bytes have come
-    grown_by : Took key (length piece) (events_in placed) w → w.reached ≡ v.reached + length piece → w.delivered.items ≡ v.delivered.items ++ messages_in (events_in placed) → w.is_cut ≡ v.is_cut
-        → IsMaskingKey (Some key) → IsEnd role limits (grown role limits x ys (length piece) key) ys w
+    grown_by : Took key taken.used (option_to_list taken.event) w → w.reached ≡ v.reached + taken.used → w.delivered.items ≡ v.delivered.items ++ messages_in (option_to_list taken.event) → w.is_cut ≡ v.is_cut
+        → IsMaskingKey (Some key) → IsEnd role limits (grown role limits x ys taken.used key) ys w
     grown_by t reached delivered cut is_key =
-        let u = length piece in
+        let u = taken.used in
         let n = x.reached in
-        let event : List Event = events_in placed in
+        let event : List Event = option_to_list taken.event in
         let sent : List Frame = frames_of x.sent in
         let owed : List KeyedFrame = map (under_key role key) (replies_of sent event) in
         let is_sent : (grown role limits x ys u key).sent ≡ x.sent ++ owed = ap (λ (l : List Event). x.sent ++ map (under_key role key) (replies_of sent l)) (newly t) in
@@ -221,36 +220,16 @@ grown_nothing role limits x ys key =
     same_end x.is_cut (x.sent ++ map (under_key role key) (replies_of sent (newly_told limits ys n (n + 0)))) x.sent (n + 0) n
     (ap (λ (l : List Frame). x.sent ++ map (under_key role key) l) owed ∙ append-nil x.sent) same
 
--- ---- a whole piece
+-- ---- the front of a piece
 
-no_piece : (piece : List ℕ) (cut : Bool) → cut ≡ true → (0 < length piece → cut ≡ false) → length piece ≡ 0
-no_piece [] cut e going = refl
-no_piece (b ∷ piece) cut e going =
-    let both : true ≡ false = sym e ∙ going (omega arith) in
-    absurd cc
-
--- the endpoint stands as the end to which the piece has come
+-- the endpoint stands as the end to which the front of a piece has come
 pub delivered_by : (laws : LawsOfEachSession) (role : Role) (limits : LimitsValue) (ys : List KeyedFrame) (peers : AreSentBy (peer role) ys) (x : LinkEnd) (v : Endpoint) (is : IsEnd role limits x ys v)
-    (key piece : List ℕ) (next : IsNextIn (stream_bytes ys) x.reached piece) (placed : List PlacedEvent) (w : Endpoint)
-    → HasTakenAll reply_to v.session w.session (record { piece = piece; key = key; before = v.put.items; after = w.put.items }) [] placed
-    → (is_over v.session.status ≡ true → (w.session ≡ v.session) × (w.put.items ≡ v.put.items) × (placed ≡ []))
-    → (0 < length piece → x.is_cut ≡ false) → w.reached ≡ v.reached + length piece → w.delivered.items ≡ v.delivered.items ++ messages_in (events_in placed) → w.is_cut ≡ v.is_cut
-    → IsMaskingKey (Some key) → IsEnd role limits (grown role limits x ys (length piece) key) ys w
-delivered_by laws role limits ys peers x v is key piece next placed w h over going reached delivered cut is_key = either x.is_cut refl
-  where
-    either : (b : Bool) → x.is_cut ≡ b → IsEnd role limits (grown role limits x ys (length piece) key) ys w
-    either false e =
-        let t = h.takes (record { sent = frames_of x.sent; taken = take x.reached (stream_bytes ys); ended = x.is_cut }) e is.exchanged in
-        let told : h.told ≡ placed = sym h.added in
-        grown_by laws role limits ys peers x v is key piece next placed w
-        (took laws role limits ys peers x v is key piece next placed w
-        (subst (λ (l : List PlacedEvent). TakesAll reply_to v.session w.session (record { sent = frames_of x.sent; taken = take x.reached (stream_bytes ys); ended = x.is_cut })
-        (record { piece = piece; key = key; before = v.put.items; after = w.put.items }) l) told t) h.same)
-        reached delivered cut is_key
-    either true e =
-        let none : length piece ≡ 0 = no_piece piece x.is_cut e going in
-        let ended : is_over v.session.status ≡ true = laws.over_at_end v.session (frames_of x.sent) (take x.reached (stream_bytes ys)) (subst (λ b. HasExchanged v.session (frames_of x.sent) (take x.reached (stream_bytes ys)) b) e is.exchanged) in
-        let same = over ended in
-        subst (λ (y : LinkEnd). IsEnd role limits y ys w) (sym (ap (λ k. grown role limits x ys k key) none ∙ grown_nothing role limits x ys key))
-        (unchanged role limits x ys v w is same.0 same.1 (omega (arith, reached, none))
-        (delivered ∙ ap (λ (l : List PlacedEvent). v.delivered.items ++ messages_in (events_in l)) same.2 ∙ append-nil v.delivered.items) cut)
+    (key piece : List ℕ) (next : IsNextIn (stream_bytes ys) x.reached piece) (taken : Taken) (le : taken.used ≤ length piece) (w : Endpoint)
+    → HasTaken reply_to v.session w.session (record { piece = piece; key = key; before = v.put.items; after = w.put.items }) taken
+    → x.is_cut ≡ false → w.reached ≡ v.reached + taken.used → w.delivered.items ≡ v.delivered.items ++ messages_in (option_to_list taken.event) → w.is_cut ≡ v.is_cut
+    → IsMaskingKey (Some key) → IsEnd role limits (grown role limits x ys taken.used key) ys w
+delivered_by laws role limits ys peers x v is key piece next taken le w h going reached delivered cut is_key =
+    grown_by laws role limits ys peers x v is key piece next taken le w
+    (took laws role limits ys peers x v is key piece next taken le w
+    (h (record { sent = frames_of x.sent; taken = take x.reached (stream_bytes ys); ended = x.is_cut }) going is.exchanged))
+    reached delivered cut is_key

@@ -1,4 +1,5 @@
 -- The lemmas behind two ends of a link: moves are answered in one way, and what is claimed of both ends follows.
+mod KeptLemmas
 mod PassedUp
 mod MoveWords
 mod OnePlay
@@ -10,3 +11,4 @@ mod Joined
 mod Headlines
 mod Parts
 mod Stepping
+mod Putting

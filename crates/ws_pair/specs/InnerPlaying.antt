@@ -17,7 +17,7 @@ use Rattle.ws_session.specs.Replies.{has_close, replies_of, key_for, under_key}
 use Rattle.ws_session.specs.Events.{HasEvents, events_after, messages_in}
 use Rattle.ws_session.specs.Sends.{Send, frame_of, most_limits, HasTextReason, MaySend}
 use Rattle.ws_session.specs.declared.status.Status.{Status}
-use Rattle.ws_session.specs.Exchange.{SessionValue, HasExchanged, is_over}
+use Rattle.ws_session.specs.Exchange.{HasExchanged}
 use Rattle.ws_session.specs.Reach.{frames_within, size_fault, events_within}
 use Rattle.ws_pair.specs.declared.moves.End.{End}
 use Rattle.ws_pair.specs.declared.moves.End.TheVariants.{Client, Server}
@@ -106,8 +106,6 @@ pub record LawsOfEachSession : Type 0 where
   pub go_on : (role : Role) (limits : LimitsValue) (bytes more : List ℕ) (events all : List Event)
       → HasEvents role limits bytes events → HasEvents role limits (bytes ++ more) all
       → (later : List Event) × (all ≡ events ++ later)
-  pub over_at_end : (session : SessionValue) (sent : List Frame) (bytes : List ℕ)
-      → HasExchanged session sent bytes true → is_over session.status ≡ true
   pub replies : (sent : List Frame) (events later : List Event)
       → replies_of sent (events ++ later) ≡ replies_of sent events ++ replies_of (sent ++ replies_of sent events) later
   pub frames_stay : (limits : LimitsValue) (n : ℕ) (xs more : List KeyedFrame)

@@ -1,3 +1,4 @@
+pub mod KeptMessages
 pub mod Link
 pub mod Moves
 pub mod Headline

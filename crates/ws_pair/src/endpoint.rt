@@ -1,12 +1,12 @@
 //! One end of two joined sessions: its session, and what it has put and delivered so far.
 
 ghost use Rattle.std.specs.Prelude.{◌≡◌, ◌+◌, ◌-◌, ◌≤◌, ◌<◌, ◌^◌, ℕ, List, [], ◌++◌, length, min, if◌then◌else◌, false};
-ghost use Rattle.std.specs.Prelude.{IfOk, OnOk};
+ghost use Rattle.std.specs.Prelude.{IfOk, OnOk, option_to_list};
 ghost use Rattle.ws_wire.specs.declared.role.Role.{Role};
 ghost use Rattle.ws_wire.specs.Frame.{KeyedFrame, stream_bytes};
 ghost use Rattle.ws_session.specs.Limits.{LimitsValue};
 ghost use Rattle.ws_session.specs.Events.{messages_in};
-ghost use Rattle.ws_session.specs.Taking.{events_in};
+ghost use Rattle.ws_session.specs.Lent.{event_if_any};
 ghost use Rattle.ws_pair.specs.declared.moves.End.{End};
 ghost use Rattle.ws_pair.specs.Link.{LinkEnd, Link, BothLimits, new_end, end_of, other, role_at};
 ghost use Rattle.ws_pair.specs.InnerPlaying.{AreSentBy, HasMoved, HasSentMove, IsEnd, IsNextIn, IsToldOf, IsEndAt};
@@ -15,12 +15,12 @@ ghost use Rattle.ws_session.specs.Sends.{send_of};
 ghost use Rattle.ws_pair.specs.Moves.{with_cut, side_of};
 
 use crate::lemmas::{has_key_bytes, session_laws};
+use crate::messages::Messages;
 use crate::moves::Move;
 use crate::report::{Answer, EndReport};
 use std::alloc::Global;
 use ws_base::NoMemory;
-use ws_parts::cut_part;
-use ws_session::{Event, Limits, Message, Outgoing, PlacedEvent, SendFault, Session};
+use ws_session::{EventKind, Limits, Outgoing, PayloadRoom, SendFault, Session};
 use ws_wire::Role;
 
 /// One end of two joined sessions.
@@ -31,7 +31,9 @@ pub(crate) struct Endpoint {
     pub(crate) put: Vec<u8>,
     /// How many of the other's bytes have come.
     pub(crate) reached: usize,
-    delivered: Vec<Message>,
+    delivered: Messages,
+    /// Room for the payload of what a frame tells.
+    told: PayloadRoom,
     /// Whether the stream to this end has ended.
     is_cut: bool,
 }
@@ -45,7 +47,8 @@ impl Endpoint {
             session: Session::new(alloc, role, limits),
             put: Vec::new(alloc),
             reached: 0,
-            delivered: Vec::new(alloc),
+            delivered: Messages::new(alloc),
+            told: PayloadRoom::new(alloc),
             is_cut: false,
         }
     }
@@ -68,12 +71,7 @@ impl Endpoint {
     }
 
     /// One move at this end. `others` is all that the other end has put.
-    pub(crate) fn act(
-        &mut self,
-        alloc: Global,
-        others: &[u8],
-        next: &Move,
-    ) -> Result<Answer, NoMemory>
+    pub(crate) fn act(&mut self, others: &[u8], next: &Move) -> Result<Answer, NoMemory>
         requires reached { self.old.reached ≤ length others.now }
         ensures moved { (limits : BothLimits) (link : Link) → IsEndAt limits link (side_of next.now) self.old →
             AreSentBy (peer (role_at (side_of next.now))) (end_of link (other (side_of next.now))).sent →
@@ -111,7 +109,7 @@ impl Endpoint {
             Move::Pong { payload, key, .. } => self.send(&Outgoing::Pong(payload.as_slice()), *key),
             Move::Close { given, key, .. } => self.send(&Outgoing::close(given), *key),
             Move::Arrive { bytes, key, .. } => {
-                let count = self.arrive(alloc, others, *bytes, *key)?;
+                let count = self.arrive(others, *bytes, *key)?;
                 Ok(Answer::Arrived(count))
             }
             Move::Cut { .. } => {
@@ -134,13 +132,7 @@ impl Endpoint {
     }
 
     /// The next bytes come, at most so many: how many do.
-    fn arrive(
-        &mut self,
-        alloc: Global,
-        others: &[u8],
-        bytes: u32,
-        key: [u8; 4],
-    ) -> Result<u32, NoMemory>
+    fn arrive(&mut self, others: &[u8], bytes: u32, key: [u8; 4]) -> Result<u32, NoMemory>
         requires reached { self.old.reached ≤ length others.now }
         ensures count { IfOk result (λ count.
             count ≡ (if self.old.is_cut then 0 else min bytes (length others.now - self.old.reached))) }
@@ -151,7 +143,7 @@ impl Endpoint {
         session_laws();
         let count = self.arriving(others.len(), bytes);
         let end = self.reached + count as usize;
-        self.deliver(alloc, &others[self.reached..end], key)?;
+        self.deliver(&others[self.reached..end], key)?;
         Ok(count)
     }
 
@@ -170,9 +162,8 @@ impl Endpoint {
         }
     }
 
-    /// Takes a piece of what the other end has put, whole. The messages of some bytes are kept, and all else that they
-    /// tell is dropped, before more bytes are taken.
-    fn deliver(&mut self, alloc: Global, piece: &[u8], key: [u8; 4]) -> Result<(), NoMemory>
+    /// Takes a piece of what the other end has put, whole, frame after frame.
+    fn deliver(&mut self, piece: &[u8], key: [u8; 4]) -> Result<(), NoMemory>
         requires room { self.old.reached + length piece.now < 2 ^ 64 }
         ensures { (role : Role) (limits : LimitsValue) (x : LinkEnd) (xs : List KeyedFrame) →
             IsEnd role limits x xs self.old → AreSentBy (peer role) xs →
@@ -182,30 +173,31 @@ impl Endpoint {
         session_laws();
         let mut rest = piece;
         while !rest.is_empty() {
-            let (part, after) = cut_part(rest);
-            self.deliver_part(alloc, part, key)?;
-            rest = after;
+            let used = self.deliver_front(rest, key)?;
+            rest = &rest[used..];
         }
         Ok(())
     }
 
-    /// Takes a part of a piece at once.
-    fn deliver_part(&mut self, alloc: Global, piece: &[u8], key: [u8; 4]) -> Result<(), NoMemory>
+    /// Takes the front of a piece, up to the end of a frame where it has one: how many bytes that is.
+    fn deliver_front(&mut self, piece: &[u8], key: [u8; 4]) -> Result<usize, NoMemory>
+        requires some { 0 < length piece.now }
         requires room { self.old.reached + length piece.now < 2 ^ 64 }
-        ensures reached { OnOk result (self.new.reached ≡ self.old.reached + length piece.now) }
+        ensures used { IfOk result (λ used. (0 < used) × (used ≤ length piece.now)) }
+        ensures reached { IfOk result (λ used. self.new.reached ≡ self.old.reached + used) }
         ensures delivered { (role : Role) (limits : LimitsValue) (x : LinkEnd) (xs : List KeyedFrame) →
             IsEnd role limits x xs self.old → AreSentBy (peer role) xs →
-            IsNextIn (stream_bytes xs) x.reached piece.now → (0 < length piece.now → x.is_cut ≡ false) →
-            OnOk result (IsEnd role limits (grown role limits x xs (length piece.now) key) xs self.new) }
+            IsNextIn (stream_bytes xs) x.reached piece.now → x.is_cut ≡ false →
+            IfOk result (λ used. IsEnd role limits (grown role limits x xs used key) xs self.new) }
     {
         session_laws();
         has_key_bytes(key);
-        let mut events = Vec::new(alloc);
-        self.session
-            .take_all(piece, key, &mut self.put, &mut events)?;
-        self.reached += piece.len();
-        keep_messages(events, &mut self.delivered)?;
-        Ok(())
+        let taken = self
+            .session
+            .take_into(piece, key, &mut self.put, &mut self.told)?;
+        keep_message(taken.event, self.told.as_slice(), &mut self.delivered)?;
+        self.reached += taken.used;
+        Ok(taken.used)
     }
 
     /// The stream to this end ends.
@@ -229,14 +221,17 @@ fn send_answer(sent: Result<(), SendFault>) -> Result<Answer, NoMemory>
     }
 }
 
-/// Puts the messages that these events tell behind those that were delivered before.
-fn keep_messages(events: Vec<PlacedEvent>, delivered: &mut Vec<Message>) -> Result<(), NoMemory>
-    ensures { OnOk result (delivered.new.items ≡ delivered.old.items ++ messages_in (events_in events.items)) }
+/// Puts the message that a frame told, if it did, behind those that were delivered before.
+fn keep_message(
+    told: Option<EventKind>,
+    payload: &[u8],
+    delivered: &mut Messages,
+) -> Result<(), NoMemory>
+    ensures { OnOk result (delivered.new.items
+        ≡ delivered.old.items ++ messages_in (option_to_list (event_if_any told payload.now))) }
 {
-    for PlacedEvent { event, .. } in events {
-        if let Event::Message(message) = event {
-            delivered.push(message)?;
-        }
+    if let Some(EventKind::Message(kind)) = told {
+        delivered.push(kind, payload)?;
     }
     Ok(())
 }

@@ -17,7 +17,6 @@ pub(crate) fn session_laws()
 {
     laws::one_list_of_events();
     laws::events_go_on();
-    laws::ended_streams_are_over();
     laws::replies_go_on();
     laws::appended_frames_are_not_within();
     laws::more_bytes_after_the_last();

@@ -8,6 +8,7 @@
 mod endpoint;
 pub mod laws;
 mod lemmas;
+mod messages;
 mod moves;
 mod playing;
 mod report;
@@ -15,9 +16,10 @@ mod report_lines;
 mod running;
 mod script;
 
+pub use messages::{MessageRef, MessageWalk, Messages};
 pub use moves::{End, Move};
 pub use playing::Player;
 pub use report::{Answer, EndReport, Report};
-pub use report_lines::write_report;
+pub use report_lines::{ReportFault, write_report};
 pub use running::run_pair;
 pub use script::read_moves;

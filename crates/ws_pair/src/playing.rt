@@ -1,7 +1,7 @@
 //! Moves that are played one by one, as the lines of their script come.
 
 ghost use Rattle.ws_session.specs.Limits.{LimitsValue};
-ghost use Rattle.std.specs.Prelude.{List};
+ghost use Rattle.std.specs.Prelude.{◌∷◌, ◌++◌, [], List, OnOk};
 ghost use Rattle.ws_pair.specs.Headline.{IsReportOf};
 ghost use Rattle.ws_pair.specs.Runs.{HasPlayed, IsNewPlayer};
 ghost use Rattle.ws_pair.specs.Script.{IsMoveLine};
@@ -54,19 +54,14 @@ impl Player {
     }
 }
 
-impl TakeValues for Player {
-    type Value = Move;
-
-    ghost is_line_of = { IsMoveLine };
-
-    ghost has_taken = { HasPlayed };
-
-    fn read(alloc: Global, line: &[u8]) -> Result<Move, LineFault> {
-        <Move as Line>::read(alloc, line)
-    }
-
-    fn take(&mut self, alloc: Global, value: Move) -> Result<(), NoMemory> {
-        let answer = match play(alloc, &mut self.client, &mut self.server, &value) {
+impl Player {
+    /// Plays a move, and keeps its answer.
+    fn play_move(&mut self, value: &Move) -> Result<(), NoMemory>
+        requires { (first : Player) × (before : List Move) × HasPlayed first before self.old }
+        ensures { (first : Player) (before : List Move) → HasPlayed first before self.old →
+            OnOk result (HasPlayed first (before ++ value.now ∷ []) self.new) }
+    {
+        let answer = match play(&mut self.client, &mut self.server, value) {
             Ok(answer) => answer,
             Err(NoMemory) => return Err(NoMemory),
         };
@@ -74,5 +69,28 @@ impl TakeValues for Player {
             Ok(()) => Ok(()),
             Err(_) => Err(NoMemory),
         }
+    }
+}
+
+impl TakeValues for Player {
+    type Value = Move;
+
+    ghost is_line_of = { IsMoveLine };
+
+    ghost has_taken = { HasPlayed };
+
+    fn take_line(&mut self, alloc: Global, line: &[u8]) -> Result<(), LineFault> {
+        let value = match <Move as Line>::read(alloc, line) {
+            Ok(value) => value,
+            Err(fault) => return Err(fault),
+        };
+        match self.play_move(&value) {
+            Ok(()) => Ok(()),
+            Err(NoMemory) => Err(LineFault::NoMemory),
+        }
+    }
+
+    fn take_kept_line(&mut self, alloc: Global, line: &mut Vec<u8>) -> Result<(), LineFault> {
+        self.take_line(alloc, line.as_slice())
     }
 }

@@ -1,6 +1,7 @@
 //! What came of two joined sessions.
 
-use ws_session::{Message, SendFault, Session, Status};
+use crate::messages::Messages;
+use ws_session::{SendFault, Session, Status};
 
 /// What came of one move.
 #[derive(Clone, Copy)]
@@ -23,7 +24,7 @@ pub struct EndReport {
     /// How many bytes reached it, also after its session was over.
     pub reached: u64,
     /// The messages that it delivered, in order.
-    pub delivered: Vec<Message>,
+    pub delivered: Messages,
     pub status: Status,
     /// Its session, as the moves left it.
     pub session: Session,

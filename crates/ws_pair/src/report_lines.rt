@@ -1,124 +1,270 @@
-//! The lines that tell what came of two joined sessions, each put straight at the end of those before it.
+//! The lines that tell what came of two joined sessions. They go out through a room: no text of all of them is made.
 
-ghost use Rattle.std.specs.Prelude.{◌≡◌, ◌++◌, IfOk, OnOk, Some, string_bytes};
+ghost use Rattle.std.specs.Prelude.{◌≡◌, ◌≤◌, ◌++◌, Some, decimal, false, length, string_bytes, IfOk};
 ghost use Rattle.std.specs.List.{flat_map};
+ghost use Rattle.ws_formats.specs.Words.{hex, hex_word};
+ghost use Rattle.ws_frame.specs.Devices.{watched};
+ghost use Rattle.ws_frame.specs.Streaming.{WritesAll};
+ghost use Rattle.ws_frame.specs.Watching.{has_failed};
+ghost use Rattle.ws_session.specs.Words.{kind_word};
+ghost use Rattle.ws_pair.specs.KeptMessages.{whole_message};
 ghost use Rattle.ws_pair.specs.Script.{end_word};
-ghost use Rattle.ws_pair.specs.ReportLines.{answer_line, end_lines, message_line, report_lines};
-ghost use Rattle.ws_pair.specs.InnerPrinting.{put_line, reached_line, standing_line};
+ghost use Rattle.ws_pair.specs.declared.moves.End.TheVariants.{Client, Server};
+ghost use Rattle.ws_pair.specs.declared.report.Answer.TheVariants.{Arrived};
+ghost use Rattle.ws_pair.specs.ReportLines.{answer_line, message_line, refusal_line, report_lines, WritesReport};
+ghost use Rattle.ws_pair.specs.InnerPrinting.{PutsBehind, end_with_last, put_line, reached_line, standing_line};
 
+use crate::messages::Messages;
 use crate::moves::End;
 use crate::report::{Answer, EndReport, Report};
+use itoa::Buffer;
 use std::alloc::Global;
 use std::fmt;
+use std::io::Write;
 use ws_base::NoMemory;
-use ws_line_words::{push_hex, push_kind, push_number};
-use ws_session::{Message, Status};
+use ws_formats::put_digits;
+use ws_frame::{Watched, WriteFault};
+use ws_rooms::{Room, flush, put};
+use ws_session::{Kind, SendFault, Status};
 
-/// The lines of a report: one for each move, then those of the client and those of the server. Each ends with LF.
-pub fn write_report(alloc: Global, report: &Report) -> Result<String, NoMemory>
-    ensures { IfOk result (λ text. string_bytes text ≡ report_lines report.now) }
+/// How many bytes are put as digits at once.
+const BLOCK: usize = 64;
+
+/// Why a report was not written whole.
+#[derive(Clone, Copy, Debug)]
+pub enum ReportFault {
+    /// Nothing was written.
+    NoMemory,
+    /// A write failed: a beginning was written.
+    Write,
+}
+
+/// Writes the lines of a report: one for each move, then those of the client and those of the server. Each ends with
+/// LF. What memory it takes it asks for before it writes.
+pub fn write_report<W: Write>(
+    alloc: Global,
+    report: &Report,
+    writer: &mut Watched<W>,
+) -> Result<(), ReportFault>
+    requires { has_failed writer.old ≡ false }
+    ensures { WritesReport (report_lines report.now) result (watched W.contents writer.old writer.new) }
 {
-    let mut text = String::new(alloc);
-    push_answers(alloc, report.answers.as_slice(), &mut text)?;
-    push_end(alloc, End::Client, &report.client, &mut text)?;
-    push_end(alloc, End::Server, &report.server, &mut text)?;
-    Ok(text)
+    let Ok(client) = standing(alloc, End::Client, report.client.status) else {
+        return Err(ReportFault::NoMemory);
+    };
+    let Ok(server) = standing(alloc, End::Server, report.server.status) else {
+        return Err(ReportFault::NoMemory);
+    };
+    match write_lines(report, client.as_str(), server.as_str(), writer) {
+        Ok(()) => Ok(()),
+        Err(_) => Err(ReportFault::Write),
+    }
+}
+
+/// Writes the lines of a report, of which the last of each end are given.
+fn write_lines<W: Write>(
+    report: &Report,
+    client: &str,
+    server: &str,
+    writer: &mut Watched<W>,
+) -> Result<(), WriteFault>
+    requires { has_failed writer.old ≡ false }
+    ensures { WritesAll (flat_map answer_line report.now.answers.items
+        ++ (end_with_last Client report.now.client client.now ++ end_with_last Server report.now.server server.now))
+        (watched W.contents writer.old writer.new) result }
+{
+    let mut room = Room::new();
+    put_answers(&mut room, report.answers.as_slice(), writer);
+    put_end(&mut room, End::Client, &report.client, client, writer);
+    put_end(&mut room, End::Server, &report.server, server, writer);
+    if writer.failed() {
+        return Err(WriteFault);
+    }
+    flush(&mut room, writer)
+}
+
+/// Puts bytes behind those that wait, unless a write has failed.
+#[inline(always)]
+fn put_more<W: Write>(room: &mut Room, bytes: &[u8], writer: &mut Watched<W>)
+    ensures { PutsBehind W.contents bytes.now room.old room.new writer.old writer.new }
+{
+    if writer.failed() {
+        return;
+    }
+    let _ = put(room, bytes, writer);
 }
 
 /// Puts a line for each move.
-fn push_answers(alloc: Global, answers: &[Answer], text: &mut String) -> Result<(), NoMemory>
-    ensures { OnOk result (string_bytes text.new ≡ string_bytes text.old ++ flat_map answer_line answers.now) }
+fn put_answers<W: Write>(room: &mut Room, answers: &[Answer], writer: &mut Watched<W>)
+    ensures { PutsBehind W.contents (flat_map answer_line answers.now) room.old room.new writer.old writer.new }
 {
     for answer in answers {
-        push_answer(alloc, *answer, text)?;
+        put_answer(room, *answer, writer);
     }
-    Ok(())
 }
 
 /// Puts what came of one move.
-fn push_answer(alloc: Global, answer: Answer, text: &mut String) -> Result<(), NoMemory>
-    ensures { OnOk result (string_bytes text.new ≡ string_bytes text.old ++ answer_line answer) }
+#[inline(always)]
+fn put_answer<W: Write>(room: &mut Room, answer: Answer, writer: &mut Watched<W>)
+    ensures { PutsBehind W.contents (answer_line answer) room.old room.new writer.old writer.new }
 {
     match answer {
-        Answer::Did => text.push_str("ok\n")?,
-        Answer::Refused(fault) => {
-            let line = format!(in alloc; "refused {fault}\n")?;
-            text.push_str(line.as_str())?;
-        }
-        Answer::Arrived(count) => {
-            text.push_str("arrived ")?;
-            push_number(text, count as u64)?;
-            text.push_str("\n")?;
-        }
-        Answer::Cut => text.push_str("cut\n")?,
+        Answer::Did => put_more(room, b"ok\n", writer),
+        Answer::Refused(fault) => put_more(room, refusal_line(fault).as_bytes(), writer),
+        Answer::Arrived(count) => put_arrived(room, count, writer),
+        Answer::Cut => put_more(room, b"cut\n", writer),
     }
-    Ok(())
 }
 
-/// Puts the lines of one end.
-fn push_end(alloc: Global, side: End, end: &EndReport, text: &mut String) -> Result<(), NoMemory>
-    ensures { OnOk result (string_bytes text.new ≡ string_bytes text.old ++ end_lines side end.now) }
+/// The line of a send that was refused.
+fn refusal_line(fault: SendFault) -> &'static str
+    ensures { result.now ≡ refusal_line fault }
 {
-    push_put(side, end.put.as_slice(), text)?;
-    push_reached(side, end.reached, text)?;
-    push_messages(side, end.delivered.as_slice(), text)?;
-    push_status(alloc, side, end.status, text)?;
-    Ok(())
+    match fault {
+        SendFault::Over => "refused Over\n",
+        SendFault::Busy => "refused Busy\n",
+        SendFault::NothingOpen => "refused NothingOpen\n",
+        SendFault::NotText => "refused NotText\n",
+        SendFault::TooLong => "refused TooLong\n",
+        SendFault::BadCode => "refused BadCode\n",
+        SendFault::NoMemory => "refused NoMemory\n",
+    }
+}
+
+/// Puts how many bytes came.
+fn put_arrived<W: Write>(room: &mut Room, count: u32, writer: &mut Watched<W>)
+    ensures { PutsBehind W.contents (answer_line (Arrived count)) room.old room.new writer.old writer.new }
+{
+    put_more(room, b"arrived ", writer);
+    put_number(room, count as u64, writer);
+    put_more(room, b"\n", writer);
+}
+
+/// Puts a number, in decimal digits.
+fn put_number<W: Write>(room: &mut Room, number: u64, writer: &mut Watched<W>)
+    ensures { PutsBehind W.contents (decimal number) room.old room.new writer.old writer.new }
+{
+    let mut digits = Buffer::new();
+    put_more(room, digits.format(number).as_bytes(), writer);
+}
+
+/// Puts the lines of one end, of which the last is given.
+fn put_end<W: Write>(
+    room: &mut Room,
+    side: End,
+    end: &EndReport,
+    last: &str,
+    writer: &mut Watched<W>,
+)
+    ensures { PutsBehind W.contents (end_with_last side end.now last.now) room.old room.new writer.old writer.new }
+{
+    put_put(room, side, end.put.as_slice(), writer);
+    put_reached(room, side, end.reached, writer);
+    put_messages(room, side, &end.delivered, writer);
+    put_more(room, last.as_bytes(), writer);
 }
 
 /// Puts the bytes that an end wrote.
-fn push_put(side: End, put: &[u8], text: &mut String) -> Result<(), NoMemory>
-    ensures { OnOk result (string_bytes text.new ≡ string_bytes text.old ++ put_line side put.now) }
+fn put_put<W: Write>(room: &mut Room, side: End, bytes: &[u8], writer: &mut Watched<W>)
+    ensures { PutsBehind W.contents (put_line side bytes.now) room.old room.new writer.old writer.new }
 {
-    text.push_str(word_of(side))?;
-    text.push_str(" put ")?;
-    push_hex(text, put)?;
-    text.push_str("\n")?;
-    Ok(())
+    put_more(room, word_of(side).as_bytes(), writer);
+    put_more(room, b" put ", writer);
+    put_hex(room, bytes, writer);
+    put_more(room, b"\n", writer);
 }
 
 /// Puts how many bytes reached an end.
-fn push_reached(side: End, reached: u64, text: &mut String) -> Result<(), NoMemory>
-    ensures { OnOk result (string_bytes text.new ≡ string_bytes text.old ++ reached_line side reached) }
+fn put_reached<W: Write>(room: &mut Room, side: End, reached: u64, writer: &mut Watched<W>)
+    ensures { PutsBehind W.contents (reached_line side reached) room.old room.new writer.old writer.new }
 {
-    text.push_str(word_of(side))?;
-    text.push_str(" reached ")?;
-    push_number(text, reached)?;
-    text.push_str("\n")?;
-    Ok(())
+    put_more(room, word_of(side).as_bytes(), writer);
+    put_more(room, b" reached ", writer);
+    put_number(room, reached, writer);
+    put_more(room, b"\n", writer);
 }
 
 /// Puts a line for each message that an end delivered.
-fn push_messages(side: End, messages: &[Message], text: &mut String) -> Result<(), NoMemory>
-    ensures { OnOk result (string_bytes text.new
-        ≡ string_bytes text.old ++ flat_map (message_line side) messages.now) }
+fn put_messages<W: Write>(room: &mut Room, side: End, messages: &Messages, writer: &mut Watched<W>)
+    ensures { PutsBehind W.contents (flat_map (message_line side) messages.now.items)
+        room.old room.new writer.old writer.new }
 {
-    for message in messages {
-        push_message(side, message, text)?;
+    let mut walk = messages.iter();
+    while let Some(message) = walk.next() {
+        put_message(room, side, message.kind, message.payload, writer);
     }
-    Ok(())
 }
 
 /// Puts a message that an end delivered.
-fn push_message(side: End, message: &Message, text: &mut String) -> Result<(), NoMemory>
-    ensures { OnOk result (string_bytes text.new ≡ string_bytes text.old ++ message_line side message.now) }
+fn put_message<W: Write>(
+    room: &mut Room,
+    side: End,
+    kind: Kind,
+    payload: &[u8],
+    writer: &mut Watched<W>,
+)
+    ensures { PutsBehind W.contents (message_line side (whole_message kind payload.now))
+        room.old room.new writer.old writer.new }
 {
-    text.push_str(word_of(side))?;
-    text.push_str(" got ")?;
-    push_kind(text, message.kind)?;
-    text.push_str(" ")?;
-    push_hex(text, message.payload.as_slice())?;
-    text.push_str("\n")?;
-    Ok(())
+    put_more(room, word_of(side).as_bytes(), writer);
+    put_more(room, b" got ", writer);
+    put_more(room, kind_word(kind).as_bytes(), writer);
+    put_more(room, b" ", writer);
+    put_hex(room, payload, writer);
+    put_more(room, b"\n", writer);
 }
 
-/// Puts how an end stands.
-fn push_status(alloc: Global, side: End, status: Status, text: &mut String) -> Result<(), NoMemory>
-    ensures { OnOk result (string_bytes text.new ≡ string_bytes text.old ++ standing_line side status) }
+/// The word of a kind of message.
+fn kind_word(kind: Kind) -> &'static str
+    ensures { result.now ≡ kind_word kind }
+{
+    match kind {
+        Kind::Text => "text",
+        Kind::Binary => "binary",
+    }
+}
+
+/// Puts bytes, two digits each, or a dash where there are none.
+fn put_hex<W: Write>(room: &mut Room, bytes: &[u8], writer: &mut Watched<W>)
+    ensures { PutsBehind W.contents (hex_word bytes.now) room.old room.new writer.old writer.new }
+{
+    if bytes.is_empty() {
+        put_more(room, b"-", writer);
+        return;
+    }
+    put_blocks(room, bytes, writer);
+}
+
+/// Puts bytes, two digits each.
+fn put_blocks<W: Write>(room: &mut Room, bytes: &[u8], writer: &mut Watched<W>)
+    ensures { PutsBehind W.contents (hex bytes.now) room.old room.new writer.old writer.new }
+{
+    let mut at = 0;
+    while at < bytes.len() {
+        let end = at + (bytes.len() - at).min(BLOCK);
+        put_block(room, &bytes[at..end], writer);
+        at = end;
+    }
+}
+
+/// Puts the digits of a few bytes at once.
+#[inline(always)]
+fn put_block<W: Write>(room: &mut Room, bytes: &[u8], writer: &mut Watched<W>)
+    requires { length bytes.now ≤ 64 }
+    ensures { PutsBehind W.contents (hex bytes.now) room.old room.new writer.old writer.new }
+{
+    let mut block = [0; 2 * BLOCK];
+    let digits = &mut block[..2 * bytes.len()];
+    put_digits(bytes, digits);
+    put_more(room, digits, writer);
+}
+
+/// How an end stands.
+fn standing(alloc: Global, side: End, status: Status) -> Result<String, NoMemory>
+    ensures { IfOk result (λ line. string_bytes line ≡ standing_line side status) }
 {
     let line = format!(in alloc; "{side} status {status}\n")?;
-    text.push_str(line.as_str())?;
-    Ok(())
+    Ok(line)
 }
 
 /// The word of an end.

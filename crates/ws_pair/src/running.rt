@@ -48,7 +48,7 @@ pub fn run_pair(
     let mut server = Endpoint::new(alloc, Role::Server, server);
     let mut answers = Vec::new(alloc);
     for next in moves {
-        let answer = play(alloc, &mut client, &mut server, next)?;
+        let answer = play(&mut client, &mut server, next)?;
         answers.push(answer)?;
     }
     Ok(Report {
@@ -60,7 +60,6 @@ pub fn run_pair(
 
 /// One move, at the end where it happens.
 pub(crate) fn play(
-    alloc: Global,
     client: &mut Endpoint,
     server: &mut Endpoint,
     next: &Move,
@@ -74,11 +73,11 @@ pub(crate) fn play(
     session_laws();
     match next.side() {
         End::Client => {
-            let answer = client.act(alloc, &server.put, next)?;
+            let answer = client.act(&server.put, next)?;
             Ok(answer)
         }
         End::Server => {
-            let answer = server.act(alloc, &client.put, next)?;
+            let answer = server.act(&client.put, next)?;
             Ok(answer)
         }
     }

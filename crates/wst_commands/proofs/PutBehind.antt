@@ -4,7 +4,7 @@ use Rattle.std.proofs.Common.{◌≡◌, ◌∙◌, ℕ, List, [], ◌∷◌, �
 use Rattle.std.proofs.lemmas.Grind.{flat_map-append}
 use Rattle.std.specs.List.{flat_map}
 use Rattle.ws_frame.specs.Watching.{AppendsFront}
-use Rattle.ws_capture_text.proofs.Waiting.{Stands, begun_behind, begun_more, stands_behind}
+use Rattle.ws_rooms.proofs.Waiting.{Stands, begun_behind, begun_more, stands_behind}
 
 -- behind what stands, a text was begun that isn't the last one
 pub begun_on : (due waiting text rest all : List ℕ) (old mid new : Option (List ℕ)) → Stands due waiting old mid

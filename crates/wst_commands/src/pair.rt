@@ -16,12 +16,11 @@ use crate::fault::Fault;
 use crate::limits::limits_given;
 use crate::reading_lines::{InputFault, take_input};
 use crate::reading_whole::ReadStop;
-use crate::telling::deliver;
 use std::alloc::Global;
 use std::io::{Read, Write};
-use ws_base::{NoMemory, TextFault};
+use ws_base::TextFault;
 use ws_frame::Watched;
-use ws_pair::{Player, Report, write_report};
+use ws_pair::{Player, Report, ReportFault, write_report};
 use ws_session::Limits;
 use wst_words::PairOptions;
 
@@ -98,8 +97,9 @@ fn tell_report<W: Write>(
     requires { has_failed writer.old ≡ false }
     ensures { TellsReport report.now result (watched W.contents writer.old writer.new) }
 {
-    match write_report(alloc, report) {
-        Ok(text) => Ok(deliver(Exit::Done, text.as_bytes(), writer)),
-        Err(NoMemory) => Err(Fault::NoMemory),
+    match write_report(alloc, report, writer) {
+        Ok(()) => Ok(Exit::Done),
+        Err(ReportFault::Write) => Ok(Exit::Failed),
+        Err(ReportFault::NoMemory) => Err(Fault::NoMemory),
     }
 }

@@ -2,7 +2,7 @@
 
 ghost use Rattle.std.specs.Prelude.{◌≡◌, ◌++◌, false};
 ghost use Rattle.std.specs.List.{flat_map};
-ghost use Rattle.ws_capture_text.specs.Rooms.{WritesAndKeeps};
+ghost use Rattle.ws_rooms.specs.Rooms.{WritesAndKeeps};
 ghost use Rattle.ws_frame.specs.Devices.{watched};
 ghost use Rattle.ws_frame.specs.Streaming.{WritesAll};
 ghost use Rattle.ws_frame.specs.Watching.{has_failed};
@@ -13,8 +13,8 @@ ghost use Rattle.wst_commands.specs.declared.explanation_lines.Side.TheVariants.
 use crate::explanation_lines::Side;
 use crate::reply_text::ReplyText;
 use std::io::Write;
-use ws_capture_text::{Room, flush, put};
 use ws_frame::{Watched, WriteFault};
+use ws_rooms::{Room, flush, put};
 use ws_suite::{Explanation, Replies};
 
 /// Writes the line of a verdict and the lines below it: those of the replies as they are made, and those behind what

@@ -6,7 +6,6 @@ pub returns : goal.returns
 returns c = record {
   one_list = c.one_list_of_events.ensures;
   go_on = c.events_go_on.ensures;
-  over_at_end = c.ended_streams_are_over.ensures;
   replies = c.replies_go_on.ensures reply_to;
   frames_stay = c.appended_frames_are_not_within.ensures.frames;
   after_close = c.more_bytes_after_the_last.ensures.close;

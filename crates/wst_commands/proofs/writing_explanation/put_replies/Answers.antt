@@ -6,7 +6,7 @@ use Rattle.ws_frame.specs.Watching.{inner_of}
 use Rattle.ws_suite.specs.declared.evidence.InTurn.{InTurn}
 use Rattle.ws_suite.specs.declared.evidence.Reply.{Reply}
 use Rattle.ws_suite.specs.Kept.{reply_in}
-use Rattle.ws_capture_text.proofs.Waiting.{stands, stands_behind, stops}
+use Rattle.ws_rooms.proofs.Waiting.{stands, stands_behind, stops}
 use Rattle.wst_commands.specs.Explaining.{reply_line}
 use Rattle.wst_commands.proofs.PutBehind.{begun_on, one_text_more, texts_behind}
 use Rattle.wst_commands.proofs.writing_explanation.put_replies.Goals as goal

@@ -4,7 +4,7 @@ use Rattle.std.specs.List.{flat_map}
 use Rattle.ws_frame.specs.Watching.{has_failed, inner_of}
 use Rattle.ws_suite.specs.declared.evidence.InTurn.{InTurn}
 use Rattle.ws_suite.specs.declared.evidence.Reply.{Reply}
-use Rattle.ws_capture_text.proofs.Waiting.{Stands}
+use Rattle.ws_rooms.proofs.Waiting.{Stands}
 use Rattle.wst_commands.specs.Explaining.{reply_line}
 use Rattle.wst_commands.proofs.writing_explanation.put_replies.Given as goal
 

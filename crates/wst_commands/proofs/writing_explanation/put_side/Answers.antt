@@ -1,7 +1,7 @@
 -- The lines of the replies are put, and then what stands behind them.
 use Rattle.std.proofs.Common.{◌≡◌, ◌∙◌, ℕ, List, ◌++◌, ap, append_assoc, rules, sym}
 use Rattle.std.specs.List.{flat_map}
-use Rattle.ws_capture_text.proofs.Waiting.{begun_more, some_behind, stands, stops}
+use Rattle.ws_rooms.proofs.Waiting.{begun_more, some_behind, stands, stops}
 use Rattle.wst_commands.specs.Explaining.{reply_line}
 use Rattle.wst_commands.proofs.writing_explanation.put_side.Goals as goal
 

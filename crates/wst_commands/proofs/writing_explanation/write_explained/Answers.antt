@@ -1,7 +1,7 @@
 -- The line of the verdict is put, then the lines of both sides, and what waits at the end is written.
 use Rattle.std.proofs.Common.{◌≡◌, ◌∙◌, ℕ, List, [], ◌++◌, ap, append_assoc, append-nil, refl, rules, sym}
 use Rattle.std.specs.List.{flat_map}
-use Rattle.ws_capture_text.proofs.Waiting.{all_written, begun_more, stands, stands_behind, stops_all}
+use Rattle.ws_rooms.proofs.Waiting.{all_written, begun_more, stands, stands_behind, stops_all}
 use Rattle.wst_commands.specs.Explaining.{reply_line}
 use Rattle.wst_commands.specs.declared.explanation_lines.Side.TheVariants.{Due, Got}
 use Rattle.wst_commands.proofs.PutBehind.{begun_on}
