@@ -4,9 +4,10 @@ use Rattle.std.proofs.lemmas.List.{drop-append-le, length-drop, take-append-le, 
 use Rattle.ws_suite.specs.declared.evidence.InTurn.{InTurn}
 use Rattle.ws_suite.specs.declared.evidence.Reply.{Reply}
 use Rattle.ws_suite.specs.declared.evidence.kept.Head.{Head}
+use Rattle.ws_suite.specs.declared.evidence.kept.Kept.{Kept}
 use Rattle.ws_suite.specs.declared.evidence.kept.ReplyKind.{ReplyKind}
 use Rattle.ws_suite.specs.declared.evidence.kept.ReplyKind.TheVariants.{Text, Binary, Pong, Ping}
-use Rattle.ws_suite.specs.Kept.{kept_replies, payloads_len, reply_of}
+use Rattle.ws_suite.specs.Kept.{IsHeadOf, kept_replies, payloads_len, reply_in, reply_of, turn_in}
 use Rattle.ws_suite.specs.Matching.{payload_of}
 
 -- ---- one more
@@ -16,7 +17,7 @@ len_more [] head = omega arith
 len_more (x ∷ heads) head = omega (arith, len_more heads head)
 
 abbrev pub with_payload : Head → List ℕ → InTurn Reply
-with_payload head payload = record { turn = head.turn; what = reply_of head.kind payload }
+with_payload head payload = record { turn = turn_in head; what = reply_of head.kind payload }
 
 pub kept_more : (heads : List Head) (head : Head) (payloads payload : List ℕ) → payloads_len heads ≡ length payloads
     → head.len ≡ length payload
@@ -32,6 +33,12 @@ kept_more (x ∷ heads) head payloads payload count len =
     (take-append-le x.len payloads payload less) (drop-append-le x.len payloads payload less)
     ∙ ap (λ (l : List (InTurn Reply)). with_payload x (take x.len payloads) ∷ l)
     (kept_more heads head (drop x.len payloads) payload rest len)
+
+-- so it is with the head of a reply
+pub head_with_payload : (reply : Kept) (head : Head) → IsHeadOf reply head
+    → with_payload head reply.payload.now ≡ reply_in reply
+head_with_payload reply head h =
+    ap₂ (λ (turn : ℕ) (kind : ReplyKind). record { turn = turn; what = reply_of kind reply.payload.now }) h.turn h.kind
 
 -- ---- how many
 

@@ -3,6 +3,7 @@ use Rattle.std.specs.Prelude.{◌≡◌, ◌≤◌, List, [], ◌∷◌, ⊤}
 use Rattle.ws_suite.specs.declared.evidence.InTurn.{InTurn}
 use Rattle.ws_suite.specs.declared.evidence.Reply.{Reply}
 use Rattle.ws_suite.specs.declared.evidence.kept.Head.{Head}
+use Rattle.ws_suite.specs.Kept.{turn_in}
 
 -- what was got is what is due, one for one, and none of it stands in an earlier turn than its cause
 abbrev pub AreAnsweredEach : List (InTurn Reply) → List (InTurn Reply) → Type 0
@@ -18,4 +19,4 @@ AreHeadsAnswered [] [] = ⊤
 AreHeadsAnswered [] (got ∷ gots) = ⊥
 AreHeadsAnswered (due ∷ dues) [] = ⊥
 AreHeadsAnswered (due ∷ dues) (got ∷ gots) =
-    (got.kind ≡ due.kind) × (got.len ≡ due.len) × (due.turn ≤ got.turn) × AreHeadsAnswered dues gots
+    (got.kind ≡ due.kind) × (got.len ≡ due.len) × (turn_in due ≤ turn_in got) × AreHeadsAnswered dues gots

@@ -1,5 +1,5 @@
 -- Replies as they are kept: a list of heads beside the joined payloads.
-use Rattle.std.specs.Prelude.{ℕ, ◌+◌, List, [], ◌∷◌, drop, take, Option, Some, None}
+use Rattle.std.specs.Prelude.{◌≡◌, ℕ, ◌+◌, ◌*◌, List, [], ◌∷◌, drop, length, take, Option, Some, None}
 use Rattle.ws_session.specs.declared.message.Kind.TheVariants as kind
 use Rattle.ws_suite.specs.declared.evidence.InTurn.{InTurn}
 use Rattle.ws_suite.specs.declared.evidence.Reply.{Reply}
@@ -30,11 +30,21 @@ first_of (Some x) others = reply_in x ∷ others
 
 -- ---- inside the crate: a reader may skip what follows
 
+-- the number of a turn, which a head keeps in two parts
+unfoldable pub turn_in : Head → ℕ
+turn_in head = head.turn_high * 4294967296 + head.turn_low
+
+-- the head of a reply
+pub record IsHeadOf (reply : Kept) (head : Head) : Type 0 where
+  pub turn : turn_in head ≡ reply.turn
+  pub len : head.len ≡ length reply.payload.now
+  pub kind : head.kind ≡ reply.kind
+
 -- each head with its part of the payloads
 abbrev pub kept_replies : List Head → List ℕ → List (InTurn Reply)
 kept_replies [] payloads = []
 kept_replies (head ∷ heads) payloads =
-    record { turn = head.turn; what = reply_of head.kind (take head.len payloads) }
+    record { turn = turn_in head; what = reply_of head.kind (take head.len payloads) }
     ∷ kept_replies heads (drop head.len payloads)
 
 -- how many bytes the payloads have in all

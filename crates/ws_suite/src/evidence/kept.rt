@@ -1,8 +1,8 @@
 //! Replies that take little room: their payloads stand one behind the other, and each reply has a small head.
 
-ghost use Rattle.std.specs.Prelude.{◌≡◌, ◌↔◌, ◌≤◌, ◌∷◌, ◌++◌, [], length, IsTrue, OnOk};
+ghost use Rattle.std.specs.Prelude.{◌≡◌, ◌↔◌, ◌≤◌, ◌∷◌, ◌++◌, [], length, IfOk, IsTrue, OnOk};
 ghost use Rattle.ws_suite.specs.InnerAnswered.{AreAnsweredEach, AreHeadsAnswered};
-ghost use Rattle.ws_suite.specs.Kept.{first_of, reply_in, what_of};
+ghost use Rattle.ws_suite.specs.Kept.{first_of, reply_in, turn_in, what_of, IsHeadOf};
 
 use std::alloc::Global;
 use std::marker::Model;
@@ -21,12 +21,46 @@ pub enum ReplyKind {
     Ping,
 }
 
-/// The head of a reply: its turn, what it is, and how many bytes its payload has.
+/// What the upper half of a turn's number counts.
+const HALF: usize = 4_294_967_296;
+
+/// The head of a reply: its turn, what it is, and how many bytes its payload has. As the number of the turn is kept in
+/// two parts, a head takes twelve bytes.
 #[derive(Clone, Copy)]
 pub(crate) struct Head {
-    pub turn: usize,
-    pub len: u32,
-    pub kind: ReplyKind,
+    turn_low: u32,
+    len: u32,
+    turn_high: u16,
+    kind: ReplyKind,
+}
+
+impl Head {
+    /// The head of this reply.
+    fn of(reply: &Kept<'_>) -> Result<Head, NoMemory>
+        ensures { IfOk result (IsHeadOf reply.now) }
+    {
+        // No payload is longer than the longest message, and no memory holds as many turns.
+        let Ok(len) = u32::try_from(reply.payload.len()) else {
+            return Err(NoMemory);
+        };
+        let Ok(turn_high) = u16::try_from(reply.turn / HALF) else {
+            return Err(NoMemory);
+        };
+        Ok(Head {
+            turn_low: (reply.turn % HALF) as u32,
+            len,
+            turn_high,
+            kind: reply.kind,
+        })
+    }
+
+    /// The number of its turn.
+    #[tactic(auto, unfolding(crate::specs::Kept::turn_in))]
+    fn turn(&self) -> usize
+        ensures { result ≡ turn_in self.now }
+    {
+        self.turn_high as usize * HALF + self.turn_low as usize
+    }
 }
 
 /// Replies in their order, each with its turn. Contracts see the list of them.
@@ -64,17 +98,10 @@ impl Replies {
     pub(crate) fn push(&mut self, reply: Kept<'_>) -> Result<(), NoMemory>
         ensures { OnOk result (self.new ≡ self.old ++ reply_in reply.entry ∷ []) }
     {
-        // No payload is longer than the longest message.
-        let Ok(len) = u32::try_from(reply.payload.len()) else {
-            return Err(NoMemory);
-        };
+        let head = Head::of(&reply)?;
         self.heads.reserve(1)?;
         self.payloads.extend_from_slice(reply.payload)?;
-        self.heads.push_reserved(Head {
-            turn: reply.turn,
-            len,
-            kind: reply.kind,
-        });
+        self.heads.push_reserved(head);
         Ok(())
     }
 
@@ -128,9 +155,9 @@ fn are_heads_answered(due: &[Head], got: &[Head]) -> bool
 /// Whether a reply with this head is the due one, where it has the same payload.
 fn is_head_answered(due: &Head, got: &Head) -> bool
     ensures { IsTrue result ↔ (got.now.kind ≡ due.now.kind) × (got.now.len ≡ due.now.len)
-        × (due.now.turn ≤ got.now.turn) }
+        × (turn_in due.now ≤ turn_in got.now) }
 {
-    are_one_kind(got.kind, due.kind) && got.len == due.len && due.turn <= got.turn
+    are_one_kind(got.kind, due.kind) && got.len == due.len && due.turn() <= got.turn()
 }
 
 /// Whether two replies are of one kind.
@@ -184,7 +211,7 @@ impl<'a> Walk<'a> {
         self.heads = heads;
         self.payloads = payloads;
         Some(Kept {
-            turn: head.turn,
+            turn: head.turn(),
             kind: head.kind,
             payload,
         })

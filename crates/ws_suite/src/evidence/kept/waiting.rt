@@ -55,17 +55,10 @@ impl Waiting {
     pub(crate) fn push(&mut self, reply: Kept<'_>) -> Result<(), NoMemory>
         ensures { OnOk result (self.new ≡ self.old ++ reply_in reply.entry ∷ []) }
     {
-        // No payload is longer than the longest message.
-        let Ok(len) = u32::try_from(reply.payload.len()) else {
-            return Err(NoMemory);
-        };
+        let head = Head::of(&reply)?;
         self.heads.reserve(1)?;
         self.payloads.extend_from_slice(reply.payload)?;
-        self.heads.push_reserved(Head {
-            turn: reply.turn,
-            len,
-            kind: reply.kind,
-        });
+        self.heads.push_reserved(head);
         Ok(())
     }
 
