@@ -71,6 +71,13 @@ def the_next_address_of_a_name_is_tried():
     lasted(answer, "came 2 right", 0)
 
 
+def each_address_of_a_name_is_tried():
+    """A name of three addresses of this machine, of which the last has a listener: the others refuse at once."""
+    with Listening(echo) as server:
+        answer = answer_to(f"socket 127.0.0.3,127.0.0.2,127.0.0.1:{server.port} 5000 - 2 2")
+    lasted(answer, "came 2 right", 0)
+
+
 def a_connection_that_is_refused():
     with socket.create_server(("127.0.0.1", 0)) as taken:
         port = taken.getsockname()[1]
@@ -203,6 +210,15 @@ def it_listens_at_an_address_of_a_name():
         assert accepting.answer() == "came 1 right; "
 
 
+def it_listens_at_another_address_of_a_name():
+    """The first one is no address of a machine, but one for documents."""
+    accepting = Accepting(1, 1, "-", 1, 1, 1, host="192.0.2.1,127.0.0.1")
+    with accepting.client() as client:
+        assert got(client, 1) == counted(1)
+        client.sendall(counted(1))
+        assert accepting.answer() == "came 1 right; "
+
+
 def an_address_that_is_taken():
     with socket.create_server(("127.0.0.1", 0)) as taken:
         answer = answer_to(f"accept 127.0.0.1:{taken.getsockname()[1]} 1 1 - 1 1 1")
@@ -232,6 +248,7 @@ def time_of_the_pieces():
 TESTS = [
     a_large_exchange_with_an_echo_that_writes_first,
     the_next_address_of_a_name_is_tried,
+    each_address_of_a_name_is_tried,
     a_connection_that_is_refused,
     no_such_name,
     a_wait_takes_no_processor_time,
@@ -241,6 +258,7 @@ TESTS = [
     a_third_client_waits_for_a_place,
     no_client_comes_in_time,
     it_listens_at_an_address_of_a_name,
+    it_listens_at_another_address_of_a_name,
     an_address_that_is_taken,
     each_piece_goes_out_at_once,
 ]

@@ -14,6 +14,7 @@ mod listed_network;
 mod listed_poller;
 mod listed_stream;
 mod lists;
+mod lookups;
 mod meetings;
 mod noted_exchange;
 mod piece_stream;
@@ -22,6 +23,7 @@ mod runs;
 mod servings;
 mod sockets;
 
+use lookups::ListedNames;
 use row_fault::RowFault;
 use std::alloc::Global;
 use std::io;
@@ -31,8 +33,9 @@ use std::time::Clock;
 
 fn main(rt: HostRuntime) -> io::Result<ExitCode> {
     let rows = io::read_to_string(rt.alloc(), rt.stdin())?;
+    let net = ListedNames { net: &rt };
     for (place, row) in rows.as_str().lines().enumerate() {
-        match answer_to(rt.alloc(), &rt, row) {
+        match answer_to(rt.alloc(), &net, row) {
             Ok(answer) => println!(rt; "{answer}")?,
             Err(RowFault::Stuck) => println!(rt; "stuck")?,
             Err(fault) => {
@@ -58,6 +61,7 @@ fn answer_to<N: Net + Clock>(alloc: Global, net: &N, row: &str) -> Result<String
         "meet" => meetings::run_meeting(alloc, words, &mut out)?,
         "serve" => servings::run_serving(alloc, words, &mut out)?,
         "places" => servings::run_places(alloc, words, &mut out)?,
+        "look_up" => lookups::run_lookup(alloc, net, words, &mut out)?,
         "accept" => accepts::run_accepting(alloc, net, words, &mut out)?,
         "socket" => sockets::run_socket(alloc, net, words, &mut out)?,
         _ => return Err(RowFault::NotARow),

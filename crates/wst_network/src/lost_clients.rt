@@ -7,7 +7,7 @@ use std::io;
 use std::io::ErrorKind;
 
 /// Whether the failure of an accept is of the client that waited, and not of the listener.
-pub(crate) fn is_of_lost_client(error: &io::Error) -> bool
+pub fn is_of_lost_client(error: &io::Error) -> bool
     ensures { (result ≡ true) ↔ IsOfLostClient error.now }
 {
     if is_lost_kind(error.kind()) {

@@ -1,15 +1,10 @@
--- Why an address can't be listened at, what is told of one that is, and which failures of an accept are passed over.
-use Rattle.std.specs.Prelude.{◌≡◌, ◌≢◌, ◌⊎◌, ◌≤◌, ℕ, ℤ, pos, Bool, true, false, All, Option, Some, None, MatchOption}
+-- Why an address can't be listened at, and what is told of one that is.
+use Rattle.std.specs.Prelude.{◌≡◌, ◌≢◌, ◌⊎◌, ◌≤◌, ℕ, All, Option, MatchOption}
 use Rattle.std.specs.Prelude.{List, ◌∷◌, ◌++◌, length}
 use Rattle.std.specs.Borrow.{Bor}
 use Rattle.std.specs.Fmt.{decimal}
-use Rattle.std.specs.IoError.{error_kind, raw_os_error}
-use Rattle.std.specs.declared.io.Error.{Error}
 use Rattle.std.specs.declared.io.ErrorKind.{ErrorKind}
 use Rattle.std.specs.declared.io.ErrorKind.TheVariants.{AddrInUse, OutOfMemory, PermissionDenied}
-use Rattle.std.specs.declared.io.ErrorKind.TheVariants.{ConnectionAborted, ConnectionReset, HostUnreachable}
-use Rattle.std.specs.declared.io.ErrorKind.TheVariants.{Interrupted}
-use Rattle.std.specs.declared.io.ErrorKind.TheVariants.{NetworkDown, NetworkUnreachable}
 use Rattle.wst_commands.specs.declared.fault.Fault.{Fault}
 use Rattle.wst_commands.specs.declared.fault.Fault.TheVariants as fault
 use Rattle.wst_commands.specs.declared.fault.ListenFault.{ListenFault}
@@ -75,28 +70,3 @@ IsCutAtPort bytes front back = (bytes ≡ front ++ port_colon ∷ back) × All (
 abbrev pub CutsAtPort : List ℕ → Option (Bor (List ℕ) × Bor (List ℕ)) → Type 0
 CutsAtPort bytes result =
     MatchOption result (All (λ byte. byte ≢ port_colon) bytes) (λ parts. IsCutAtPort bytes parts.0.now parts.1.now)
-
--- ---- who is passed over
-
--- The failures of an accept that are of the one client that waited. Linux hands on what its network says of a
--- connection that waits, and asks for another accept then.
-abbrev pub is_client_kind : ErrorKind → Bool
-is_client_kind ConnectionAborted = true
-is_client_kind ConnectionReset = true
-is_client_kind HostUnreachable = true
-is_client_kind NetworkUnreachable = true
-is_client_kind NetworkDown = true
-is_client_kind Interrupted = true
-is_client_kind _ = false
-
--- the numbers of ENONET, EPROTO, ENOPROTOOPT, EOPNOTSUPP and EHOSTDOWN, which have no kind of their own
-abbrev pub IsClientNumber : ℤ → Type 0
-IsClientNumber number = (number ≡ pos 64) ⊎ (number ≡ pos 71) ⊎ (number ≡ pos 92) ⊎ (number ≡ pos 95)
-    ⊎ (number ≡ pos 112)
-
-abbrev pub HasClientNumber : Option ℤ → Type 0
-HasClientNumber None = ⊥
-HasClientNumber (Some number) = IsClientNumber number
-
-abbrev pub IsOfOneClient : Error → Type 0
-IsOfOneClient error = (is_client_kind (error_kind error) ≡ true) ⊎ HasClientNumber (raw_os_error error)

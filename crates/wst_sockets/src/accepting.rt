@@ -4,7 +4,7 @@ ghost use Rattle.std.specs.Prelude.{IfErr, IsTrue};
 ghost use Rattle.wst_commands.specs.TimeLimits.{is_limited};
 ghost use Rattle.wst_sockets.specs.Accepting.{IsWhy};
 
-use crate::listening::{accepted, is_of_one_client};
+use crate::listening::accepted;
 use mio::unix::SourceFd;
 use mio::{Events, Interest, Poll, Token};
 use std::alloc::Global;
@@ -14,6 +14,7 @@ use std::net::{Net, OpenListener};
 use std::os::fd::AsRawFd;
 use std::time::Duration;
 use wst_commands::TimeLimit;
+use wst_network::is_of_lost_client;
 
 /// Why there is no next client.
 #[derive(Clone, Copy, PartialEq, Eq)]
@@ -92,7 +93,7 @@ fn accepted_now<L: OpenListener>(listener: &L) -> Result<L::Stream, NoClient> {
         match listener.accept() {
             Ok((stream, _)) => return Ok(stream),
             Err(error) if error.kind() == ErrorKind::WouldBlock => return Err(NoClient::TooLate),
-            Err(error) if is_of_one_client(&error) => {}
+            Err(error) if is_of_lost_client(&error) => {}
             Err(_) => return Err(NoClient::Never),
         }
     }

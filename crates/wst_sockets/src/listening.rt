@@ -1,15 +1,15 @@
 //! An address of a network that is listened at, and the clients that come to it.
 
-ghost use Rattle.std.specs.Prelude.{◌≡◌, ◌↔◌, IsTrue, MatchOption, MatchResult, true};
-ghost use Rattle.wst_sockets.specs.Listening.{AreZeros, CanNotTell, CutsAtPort, IsAtPort0, IsClientNumber};
-ghost use Rattle.wst_sockets.specs.Listening.{IsOfOneClient, IsToldFor, IsWithPort, LacksPort0, SpellsPort0};
-ghost use Rattle.wst_sockets.specs.Listening.{is_client_kind, listen_fault_at, lookup_fault_at};
+ghost use Rattle.std.specs.Prelude.{◌≡◌, ◌↔◌, IsTrue, MatchOption, MatchResult};
+ghost use Rattle.wst_sockets.specs.Listening.{AreZeros, CanNotTell, CutsAtPort, IsAtPort0, IsToldFor, IsWithPort};
+ghost use Rattle.wst_sockets.specs.Listening.{LacksPort0, SpellsPort0, listen_fault_at, lookup_fault_at};
 
 use std::alloc::Global;
 use std::io;
 use std::io::ErrorKind;
 use std::net::{Net, OpenListener, ToSocketAddrs};
 use wst_commands::{Fault, ListenFault};
+use wst_network::is_of_lost_client;
 
 /// Listens at the first of an address's own addresses that can be bound. Where none can, the reason is that of the
 /// last.
@@ -135,62 +135,9 @@ pub(crate) fn accepted<L: OpenListener>(listener: &L) -> Option<L::Stream> {
     for _ in 0..u64::MAX {
         match listener.accept() {
             Ok((stream, _)) => return Some(stream),
-            Err(error) if is_of_one_client(&error) => {}
+            Err(error) if is_of_lost_client(&error) => {}
             Err(_) => return None,
         }
     }
     None
 }
-
-/// Whether the failure of an accept is of the client that waited, and not of the listener.
-pub(crate) fn is_of_one_client(error: &io::Error) -> bool
-    ensures { (result ≡ true) ↔ IsOfOneClient error.now }
-{
-    if is_client_kind(error.kind()) {
-        return true;
-    }
-    match error.raw_os_error() {
-        Some(number) => is_client_number(number),
-        None => false,
-    }
-}
-
-/// Whether it is, by its kind.
-fn is_client_kind(kind: ErrorKind) -> bool
-    ensures { result ≡ is_client_kind kind }
-{
-    match kind {
-        ErrorKind::ConnectionAborted
-        | ErrorKind::ConnectionReset
-        | ErrorKind::HostUnreachable
-        | ErrorKind::NetworkUnreachable
-        | ErrorKind::NetworkDown
-        | ErrorKind::Interrupted => true,
-        _ => false,
-    }
-}
-
-/// Whether it is, by the number that Linux has for it: of the errors that have no kind of their own.
-fn is_client_number(number: i32) -> bool
-    ensures { (result ≡ true) ↔ IsClientNumber number }
-{
-    match number {
-        ENONET | EPROTO | ENOPROTOOPT | EOPNOTSUPP | EHOSTDOWN => true,
-        _ => false,
-    }
-}
-
-/// The machine is not on the network.
-const ENONET: i32 = 64;
-
-/// The protocol was broken.
-const EPROTO: i32 = 71;
-
-/// The protocol has no such option.
-const ENOPROTOOPT: i32 = 92;
-
-/// The socket does not support the call.
-const EOPNOTSUPP: i32 = 95;
-
-/// The host is down.
-const EHOSTDOWN: i32 = 112;
