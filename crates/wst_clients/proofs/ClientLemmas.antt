@@ -38,7 +38,7 @@ use Rattle.wst_clients.specs.VisitOutcomes.{not_run, not_run_if, notes_of_visits
 use Rattle.wst_clients.specs.VisitOutcomes.{test_of, tests_in, tests_of}
 use Rattle.wst_clients.specs.Visits.{AreSomeNotes, case_for}
 use Rattle.wst_testing.specs.declared.outcome.Outcome.{Outcome}
-use Rattle.wst_testing.specs.declared.score.Score.{Score}
+use Rattle.wst_testing.specs.declared.outcome.Score.{Score}
 use Rattle.wst_clients.specs.declared.testing_clients.VisitsEnd.{VisitsEnd}
 use Rattle.wst_clients.specs.declared.testing_clients.VisitsEnd.TheVariants.{Ended, Stopped}
 use Rattle.wst_clients.specs.declared.visit_outcome.VisitOutcome.{VisitOutcome}

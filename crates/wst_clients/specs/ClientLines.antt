@@ -11,7 +11,7 @@ use Rattle.wst_testing.specs.Sweeps.{is_told, sweep_total}
 use Rattle.wst_testing.specs.Testing.{outcomes_in}
 use Rattle.wst_testing.specs.declared.outcome.Outcome.{Outcome}
 use Rattle.wst_testing.specs.declared.outcome.Tally.{Tally}
-use Rattle.wst_testing.specs.declared.score.Score.{Score}
+use Rattle.wst_testing.specs.declared.outcome.Score.{Score}
 use Rattle.wst_clients.specs.declared.visiting.Telling.{Telling}
 use Rattle.wst_clients.specs.declared.visiting.Telling.TheVariants.{Cases, Scripts}
 

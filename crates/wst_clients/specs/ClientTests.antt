@@ -20,7 +20,7 @@ use Rattle.wst_clients.specs.VisitOutcomes.{AreVisits, after_outcome, ends_with_
 use Rattle.wst_clients.specs.VisitOutcomes.{notes_of_visits, tests_of}
 use Rattle.wst_clients.specs.Visits.{AreSomeNotes}
 use Rattle.wst_testing.specs.declared.outcome.Outcome.{Outcome}
-use Rattle.wst_testing.specs.declared.score.Score.{Score}
+use Rattle.wst_testing.specs.declared.outcome.Score.{Score}
 use Rattle.wst_clients.specs.declared.testing_clients.VisitsEnd.{VisitsEnd}
 use Rattle.wst_clients.specs.declared.testing_clients.VisitsEnd.TheVariants.{Ended, Stopped}
 use Rattle.wst_clients.specs.declared.visiting.Telling.{Telling}

@@ -5,7 +5,7 @@ use Rattle.ws_frame.specs.Devices.{Device}
 use Rattle.ws_reports.specs.Reports.{ReportValue}
 use Rattle.wst_commands.specs.declared.exit.Exit.{Exit}
 use Rattle.wst_testing.specs.Ends.{IsEndOfPlan, MeetsEnd, MeetsEndByCalls}
-use Rattle.wst_testing.specs.declared.end.End.{End}
+use Rattle.wst_testing.specs.declared.runner.End.{End}
 use Rattle.wst_testing.specs.declared.run_plans.TestedEnd.{TestedEnd}
 use Rattle.wst_testing.specs.declared.run_plans.TestedEnd.TheVariants.{Clients, Memory, Server}
 use Rattle.wst_run.specs.ClientRuns.{SendsToClientAt, TestsClientsAt}

@@ -18,8 +18,8 @@ use Rattle.wst_testing.specs.declared.run_plans.TestedEnd.TheVariants.{Clients, 
 use Rattle.wst_run.specs.declared.sweep.SweepPlan.{SweepPlan}
 use Rattle.wst_run.specs.declared.sweep.SweepRefusal.{SweepRefusal}
 use Rattle.wst_run.specs.declared.sweep.SweepRefusal.TheVariants.{Other, TooManySteps}
+use Rattle.wst_testing.specs.declared.runner.RunStop.{RunStop}
 use Rattle.wst_testing.specs.declared.sweeping.SweepRules.{SweepRules}
-use Rattle.wst_testing.specs.declared.sweeping.SweepStop.{SweepStop}
 
 -- ---- what the words ask for
 
@@ -64,7 +64,7 @@ sweep_rules_of plan = record {
 
 -- the plan is carried out over ends that meet cases so, and how that ended is told behind what was told before
 abbrev pub RunsSweepPlan : (Case → Meeting → Type 0) → SweepPlan → Exit → Device → Device → Type 0
-RunsSweepPlan Meets plan exit output faults = (ended : Result Exit SweepStop) × (held : Option (List ℕ))
+RunsSweepPlan Meets plan exit output faults = (ended : Result Exit RunStop) × (held : Option (List ℕ))
     × SweepsScripts Meets (sweep_rules_of plan) ended output × TellsSweepEnd ended exit (record faults { old = held })
 
 -- the plan is carried out over this end

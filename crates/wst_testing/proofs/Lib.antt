@@ -3,6 +3,7 @@ pub mod NoteLemmas
 pub mod TestLemmas
 pub mod RunnerLemmas
 pub mod ReporterLemmas
+pub mod CapturerLemmas
 pub mod PlanLemmas
 pub mod ReportLemmas
 pub mod TargetLemmas

@@ -1,5 +1,5 @@
 -- A case that is run by the loop: its run over a stream of any kind is one over the list of what that did.
-use Rattle.std.proofs.Common.{◌∙◌, ℕ, ◌≤◌, List, [], ◌∷◌, ◌++◌, refl, sym, ap, subst, arith, append_assoc, append-nil}
+use Rattle.std.proofs.Common.{◌≡◌, ◌∙◌, ℕ, ◌≤◌, List, [], ◌∷◌, ◌++◌, refl, sym, ap, subst, arith, append_assoc, append-nil}
 use Rattle.std.proofs.Common.{IfOk, Result, Ok, Err, Some, None, inl, inr}
 use Rattle.ws_scripts.specs.declared.script.Case.{Case}
 use Rattle.ws_machines.specs.Told.{Told}
@@ -18,9 +18,16 @@ use Rattle.ws_networks.specs.declared.meeting.Met.TheVariants.{Ended, NotMade}
 use Rattle.ws_connection.specs.Probing.{BeginsProbe, bytes_by_turn}
 use Rattle.ws_handshake.specs.Probes.{ProbeGives, ProbeValue, WasProbed, wanted_of}
 use Rattle.ws_handshake.specs.declared.probe_end.Probe.{Probe}
+use Rattle.ws_handshake.specs.declared.probe_end.Probe.TheVariants as probe
+use Rattle.ws_networks.specs.declared.bounds.Limits.{Limits}
+use Rattle.wst_network.specs.declared.connector.ConnectMiss.{ConnectMiss}
 use Rattle.wst_network.specs.declared.fault.NetworkFault.{NetworkFault}
+use Rattle.wst_network.specs.declared.fault.NetworkFault.TheVariants.{NoMemory, NoOutput, WaitFailed}
+use Rattle.wst_sockets.specs.Meetings.{probe_of}
+use Rattle.wst_sockets.specs.declared.meeting.ConnectFault.{ConnectFault}
 use Rattle.wst_sockets.specs.declared.meeting.Meeting.{Meeting}
-use Rattle.wst_testing.specs.Servers.{AddressValue, DidThese, IsMeetingBy, IsProbedSo, MeetsAtAddress, limits_of_server, plan_at}
+use Rattle.wst_testing.specs.Servers.{AddressValue, DidThese, IsMeetingBy, IsProbedSo, MeetsAtAddress, MeetsBecause}
+use Rattle.wst_testing.specs.Servers.{limits_of_server, meeting_at, plan_at, reason_of_end}
 
 -- ---- a stream as the list of what it did
 
@@ -96,6 +103,25 @@ made_later did bounds from to old new name (deeds, added, inr (addresses, tries,
 
 -- ---- what came of a case
 
+probe_at : (probe : Probe) (reason : ConnectFault) → probe_of (meeting_at probe reason) ≡ probe
+probe_at (probe.Ran transcript) reason = refl
+probe_at (probe.Refused refusal) reason = refl
+probe_at probe.NoConnection reason = refl
+
+-- and why
+pub met_because : {S A N E : Type 0} (did : S → S → List Deed → Type 0)
+    (does : N → N → List (NetworkDeed A ConnectMiss) → Type 0) (limits : Limits) (from to : ℕ) (old new : N)
+    (name : List ℕ) (start : ProbeValue) (met : Result (Met Probe S ConnectMiss) NetworkFault)
+    (answer : Result Meeting E)
+    → IfOk met (λ m. HasMet WasProbed (λ (now : ProbeValue). wanted_of now) ProbeGives did does limits from to old new
+    name start m) → IfOk answer (λ meeting. IsMeetingBy met meeting)
+    → IfOk answer (λ meeting. MeetsBecause did does limits from to old new name meeting)
+met_because did does limits from to old new name start met (Err why) h by = by
+met_because did does limits from to old new name start (Err NoMemory) (Ok meeting) h by = absurd by
+met_because did does limits from to old new name start (Err WaitFailed) (Ok meeting) h by = inr by
+met_because did does limits from to old new name start (Err NoOutput) (Ok meeting) h by = inr by
+met_because did does limits from to old new name start (Ok met) (Ok meeting) h by = inl (start, met, h, by)
+
 module _ (server : AddressValue) (key : List ℕ) (case : Case) (start : ProbeValue)
     (begins : BeginsProbe (plan_at server) (bytes_by_turn case (Some key)) server.request server.budget start) where
   abbrev pub HasMetServer : {S A W N : Type 0} → (S → S → List Deed → Type 0) → (N → N → List (NetworkDeed A W) → Type 0)
@@ -103,16 +129,18 @@ module _ (server : AddressValue) (key : List ℕ) (case : Case) (start : ProbeVa
   HasMetServer did does from to old new name met = HasMet WasProbed (λ (now : ProbeValue). wanted_of now) ProbeGives
       did does (limits_of_server server) from to old new name start met
 
-  met_so : {S A W N : Type 0} (did : S → S → List Deed → Type 0) (does : N → N → List (NetworkDeed A W) → Type 0)
-      (from to : ℕ) (old new : N) (name : List ℕ) (met : Met Probe S W) (meeting : Meeting)
+  met_so : {S A N : Type 0} (did : S → S → List Deed → Type 0)
+      (does : N → N → List (NetworkDeed A ConnectMiss) → Type 0)
+      (from to : ℕ) (old new : N) (name : List ℕ) (met : Met Probe S ConnectMiss) (meeting : Meeting)
       → HasMetServer did does from to old new name met → IsMeetingBy (Ok met) meeting
       → MeetsAtAddress server key case meeting
-  met_so did does from to old new name (NotMade why) meeting h same = inl same
+  met_so did does from to old new name (NotMade why) meeting h same = inl (ap (λ (m : Meeting). probe_of m) same)
   met_so did does from to old new name (Ended probe stream) meeting
-      (begun, made, after, connected, (now, later, ended)) same =
+      (begun, made, after, connected, (now, later, ended)) (end, same) =
       let bounds = bounds_from (limits_of_server server) begun in
       let first = made_later does bounds begun made old new name connected in
-      inr (subst (λ (p : Probe). IsProbedSo server key case p) (sym same) (record {
+      let told = ap (λ (m : Meeting). probe_of m) same ∙ probe_at probe (reason_of_end end) in
+      inr (subst (λ (p : Probe). IsProbedSo server key case p) (sym told) (record {
         start = start;
         begins = begins;
         begun = begun;
@@ -124,12 +152,15 @@ module _ (server : AddressValue) (key : List ℕ) (case : Case) (start : ProbeVa
             ended;
       }))
 
-  pub met_or_not : {S A W N E : Type 0} (did : S → S → List Deed → Type 0)
-      (does : N → N → List (NetworkDeed A W) → Type 0) (from to : ℕ) (old new : N) (name : List ℕ)
-      (met : Result (Met Probe S W) NetworkFault) (answer : Result Meeting E)
+  pub met_or_not : {S A N E : Type 0} (did : S → S → List Deed → Type 0)
+      (does : N → N → List (NetworkDeed A ConnectMiss) → Type 0) (from to : ℕ) (old new : N) (name : List ℕ)
+      (met : Result (Met Probe S ConnectMiss) NetworkFault) (answer : Result Meeting E)
       → IfOk met (λ m. HasMetServer did does from to old new name m)
       → IfOk answer (λ meeting. IsMeetingBy met meeting) → IfOk answer (λ meeting. MeetsAtAddress server key case meeting)
   met_or_not did does from to old new name met (Err why) h by = by
-  met_or_not did does from to old new name (Err fault) (Ok meeting) h by = inl by
+  met_or_not did does from to old new name (Err NoMemory) (Ok meeting) h by = absurd by
+  met_or_not did does from to old new name (Err WaitFailed) (Ok meeting) h by =
+      inl (ap (λ (m : Meeting). probe_of m) by)
+  met_or_not did does from to old new name (Err NoOutput) (Ok meeting) h by = inl (ap (λ (m : Meeting). probe_of m) by)
   met_or_not did does from to old new name (Ok met) (Ok meeting) h by =
       met_so did does from to old new name met meeting h by

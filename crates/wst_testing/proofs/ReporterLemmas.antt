@@ -16,21 +16,24 @@ use Rattle.wst_commands.specs.declared.exit.Exit.{Exit}
 use Rattle.wst_commands.specs.declared.exit.Exit.TheVariants.{Failed}
 use Rattle.wst_commands.specs.declared.fault.Fault.{Fault}
 use Rattle.wst_commands.specs.declared.fault.Fault.TheVariants.{NoMemory}
+use Rattle.wst_sockets.specs.declared.meeting.ConnectFault.{ConnectFault}
 use Rattle.wst_sockets.specs.declared.meeting.Meeting.{Meeting}
 use Rattle.wst_testing.specs.Notes.{TellsEach, miss_notes, notes_of, progress_notes}
 use Rattle.wst_testing.specs.Outcomes.{MayRunEach, is_fail, is_loose, is_missed, is_pass, max_missed, missed_at_end}
 use Rattle.wst_testing.specs.Outcomes.{total_line}
 use Rattle.wst_testing.specs.Reporter.{AreJudged, HasReported, IsEndOfStop, StopsReport}
 use Rattle.wst_testing.specs.Reporting.{exit_of_report, no_score, report_text, report_texts, score_of, score_with}
-use Rattle.wst_testing.specs.Runner.{CameOf, Hearing, IsNextCase, Stopping, StopsRun}
+use Rattle.wst_testing.specs.Runner.{CameOf, GaveOfList, Hearing, ListValue, Stopping, StopsRun, items_of}
 use Rattle.wst_testing.specs.Testing.{AreTested, IsOutcomeOf, IsTested, LacksMemoryAfter, RunsCases, StopsAtConnection}
 use Rattle.wst_testing.specs.Testing.{StopsAtLine, TellsAll, outcomes_in}
 use Rattle.wst_testing.specs.declared.outcome.Outcome.{Outcome}
+use Rattle.wst_testing.specs.declared.outcome.Outcome.TheVariants.{NoConnection}
 use Rattle.wst_testing.specs.declared.runner.RunStop.{RunStop}
 use Rattle.wst_testing.specs.declared.runner.RunStop.TheVariants as stop
-use Rattle.wst_testing.specs.declared.score.Score.{Score}
+use Rattle.wst_testing.specs.declared.outcome.Score.{Score}
 use Rattle.wst_testing.specs.declared.testing.RunRules.{RunRules}
 use Rattle.wst_testing.proofs.NoteLemmas.{may_run_more, missed_more, noted_next, notes_more}
+use Rattle.wst_testing.proofs.RunnerLemmas.{IsNextCase, front_is, next_is}
 use Rattle.wst_testing.proofs.TestLemmas.{delivers_after, one_more_line, score_more, then_begun}
 
 -- ---- what came of the cases, judged
@@ -75,11 +78,11 @@ each_tested Meets rules (run ∷ came) (test ∷ tests) (one, others) (same, tol
 )
 
 pub judged_tested : (Meets : Case → Meeting → Type 0) (rules : RunRules) (cases : List Case)
-    (came : List (Case × Meeting)) (tests : List (Case × Outcome)) → CameOf Meets cases came
-    → AreJudged rules came tests → AreTested Meets rules cases tests
-judged_tested Meets rules cases came tests so judged = record {
-  of_cases = judged_cases rules came tests judged ∙ so.of_cases;
-  tested = each_tested Meets rules came tests so.met judged;
+    (came : List (Case × Meeting)) (tests : List (Case × Outcome)) → items_of came ≡ cases
+    → CameOf (λ (c : Case). c) Meets came → AreJudged rules came tests → AreTested Meets rules cases tests
+judged_tested Meets rules cases came tests so met judged = record {
+  of_cases = judged_cases rules came tests judged ∙ so;
+  tested = each_tested Meets rules came tests met judged;
 }
 
 -- ---- what a reporter has written and told
@@ -233,11 +236,12 @@ module _ (rules : RunRules) (report : ReportValue) where
       }
 
       -- with it as many in a row are without a connection as end a run
-      pub report_misses : less ≡ (if is_missed outcome then 1 + missed else 0) → less ≡ max_missed rules.is_limited
+      pub report_misses : (reason : ConnectFault) → outcome ≡ NoConnection reason
+          → less ≡ (if is_missed outcome then 1 + missed else 0) → less ≡ max_missed rules.is_limited
           → Appends mid new (report_text report (case, outcome)) → failed ≡ false
-          → StopsReport rules report (came ++ (case, meeting) ∷ []) stop.NoConnection
+          → StopsReport rules report (came ++ (case, meeting) ∷ []) (stop.NoConnection reason)
           (record { failed = failed; old = old; new = new }) (record { failed = g; old = a; new = c })
-      report_misses counted most line works = record {
+      report_misses reason misses counted most line works = record {
         tests = tests_then;
         judged = judged_then;
         may_run = allowed_then;
@@ -246,6 +250,7 @@ module _ (rules : RunRules) (report : ReportValue) where
           works,
           written_then line,
           sym (missed_then so.tests case outcome missed less so.counted counted) ∙ most,
+          (so.tests, case, ap (λ (o : Outcome). so.tests ++ (case, o) ∷ []) misses),
         );
       }
 
@@ -254,25 +259,27 @@ module _ (rules : RunRules) (report : ReportValue) where
 module _ (Meets : Case → Meeting → Type 0) (rules : RunRules) (report : ReportValue) (cases : List Case) where
   -- the reporter has ended it
   pub run_stopped : (n : ℕ) (came : List (Case × Meeting)) (why : RunStop) (exit : Exit) (output faults : Device)
-      → CameOf Meets (take n cases) came → StopsReport rules report came why output faults → exit ≡ Failed
+      → items_of came ≡ take n cases → CameOf (λ (c : Case). c) Meets came
+      → StopsReport rules report came why output faults → exit ≡ Failed
       → RunsCases Meets rules report cases (Ok exit) output faults
-  run_stopped n came stop.Output exit output faults of h is =
+  run_stopped n came stop.Enough exit output faults of met h is = absurd h.ends
+  run_stopped n came stop.Output exit output faults of met h is =
       let stops : StopsAtLine Meets rules report cases (notes_of rules.progress h.tests) exit output = record {
         n = n;
         tests = h.tests;
-        are_tested = judged_tested Meets rules (take n cases) came h.tests of h.judged;
+        are_tested = judged_tested Meets rules (take n cases) came h.tests of met h.judged;
         may_run = h.may_run;
         noted = refl;
         failed = (is, h.ends.0);
         begun = h.ends.1;
       } in
       (notes_of rules.progress h.tests, inr (inl stops), h.noted)
-  run_stopped n came stop.NoConnection exit output faults of h is =
-      let (works, written, most) = h.ends in
+  run_stopped n came (stop.NoConnection why) exit output faults of met h is =
+      let (works, written, most, last) = h.ends in
       let stops : StopsAtConnection Meets rules report cases (notes_of rules.progress h.tests) exit output = record {
         n = n;
         tests = h.tests;
-        are_tested = judged_tested Meets rules (take n cases) came h.tests of h.judged;
+        are_tested = judged_tested Meets rules (take n cases) came h.tests of met h.judged;
         may_run = h.may_run;
         missed = most;
         noted = refl;
@@ -280,20 +287,20 @@ module _ (Meets : Case → Meeting → Type 0) (rules : RunRules) (report : Repo
         written = written;
       } in
       (notes_of rules.progress h.tests, inr (inr stops), h.noted)
-  run_stopped n came stop.NoMemory exit output faults of h is = absurd h.ends
+  run_stopped n came stop.NoMemory exit output faults of met h is = absurd h.ends
 
   -- memory ran out, where the name of the next case may have been told
   pub run_lacks : (n : ℕ) (came : List (Case × Meeting)) (next : Option Case) (score : Score) (missed : ℕ)
-      (ended : Result Exit Fault) (output faults : Device) → CameOf Meets (take n cases) came
-      → IsNextCase cases n next → HasReported rules report came next score missed output faults
+      (ended : Result Exit Fault) (output faults : Device) → items_of came ≡ take n cases
+      → CameOf (λ (c : Case). c) Meets came → IsNextCase cases n next → HasReported rules report came next score missed output faults
       → IsErrAnd ended (λ fault. fault ≡ NoMemory) → RunsCases Meets rules report cases ended output faults
-  run_lacks n came next score missed (Ok exit) output faults of is_next so is = absurd is
-  run_lacks n came None score missed (Err fault) output faults of is_next so is =
+  run_lacks n came next score missed (Ok exit) output faults of met is_next so is = absurd is
+  run_lacks n came None score missed (Err fault) output faults of met is_next so is =
       let notes = notes_of rules.progress so.tests ++ [] in
       let lacks : LacksMemoryAfter Meets rules report cases notes output = record {
         n = n;
         tests = so.tests;
-        are_tested = judged_tested Meets rules (take n cases) came so.tests of so.judged;
+        are_tested = judged_tested Meets rules (take n cases) came so.tests of met so.judged;
         may_run = so.may_run;
         few = subst (λ (k : ℕ). k < max_missed rules.is_limited) so.counted so.few;
         next = [];
@@ -307,12 +314,12 @@ module _ (Meets : Case → Meeting → Type 0) (rules : RunRules) (report : Repo
         subst (λ (l : List (List ℕ)). TellsEach l faults) (sym (append-nil (notes_of rules.progress so.tests)))
             so.noted,
       )
-  run_lacks n came (Some case) score missed (Err fault) output faults of is_next so is =
+  run_lacks n came (Some case) score missed (Err fault) output faults of met is_next so is =
       let name = progress_notes rules.progress case in
       let lacks : LacksMemoryAfter Meets rules report cases (notes_of rules.progress so.tests ++ name) output = record {
         n = n;
         tests = so.tests;
-        are_tested = judged_tested Meets rules (take n cases) came so.tests of so.judged;
+        are_tested = judged_tested Meets rules (take n cases) came so.tests of met so.judged;
         may_run = so.may_run;
         few = subst (λ (k : ℕ). k < max_missed rules.is_limited) so.counted so.few;
         next = name;
@@ -324,50 +331,49 @@ module _ (Meets : Case → Meeting → Type 0) (rules : RunRules) (report : Repo
       (notes_of rules.progress so.tests ++ name, (is, lacks), so.noted)
 
   -- the sink of a run that was stopped is a reporter that has written and told this
-  pub run_ended : {K : Type 0} (heard : Hearing K) (stopped : Stopping K) (old new : K) (why : RunStop)
-      (ended : Result Exit Fault) (output faults : Device)
+  pub run_ended : {K : Type 0} (heard : Hearing Case K) (stopped : Stopping Case K) (source : ListValue) (old new : K)
+      (why : RunStop) (ended : Result Exit Fault) (output faults : Device) → source.rest ≡ cases
       → ((came : List (Case × Meeting)) (next : Option Case) → heard old new came next
       → (score : Score) × (missed : ℕ) × HasReported rules report came next score missed output faults)
       → ((came : List (Case × Meeting)) (w : RunStop) → stopped old new came w
       → StopsReport rules report came w output faults)
-      → StopsRun Meets heard stopped cases old new why → IsEndOfStop why ended
+      → StopsRun (λ (c : Case). c) Meets GaveOfList heard stopped source old new why → IsEndOfStop why ended
       → RunsCases Meets rules report cases ended output faults
-  run_ended heard stopped old new stop.Output ended output faults hears stops h is =
+  run_ended heard stopped source old new stop.Enough ended output faults all hears stops h is =
+      absurd (stops h.came stop.Enough h.stops.1).ends
+  run_ended heard stopped source old new stop.Output ended output faults all hears stops h is =
       subst (λ (e : Result Exit Fault). RunsCases Meets rules report cases e output faults) (sym is)
-      (run_stopped h.n h.came stop.Output Failed output faults h.came_of (stops h.came stop.Output h.stops) refl)
-  run_ended heard stopped old new stop.NoConnection ended output faults hears stops h is =
+      (run_stopped (length (items_of h.came)) h.came stop.Output Failed output faults
+      (front_is cases (items_of h.came) h.last.rest (sym all ∙ h.stops.0.0)) h.met
+      (stops h.came stop.Output h.stops.1) refl)
+  run_ended heard stopped source old new (stop.NoConnection why) ended output faults all hears stops h is =
       subst (λ (e : Result Exit Fault). RunsCases Meets rules report cases e output faults) (sym is)
-      (run_stopped h.n h.came stop.NoConnection Failed output faults h.came_of (stops h.came stop.NoConnection h.stops)
-      refl)
-  run_ended heard stopped old new stop.NoMemory ended output faults hears stops h is =
-      let (next, is_next, told) = h.stops in
+      (run_stopped (length (items_of h.came)) h.came (stop.NoConnection why) Failed output faults
+      (front_is cases (items_of h.came) h.last.rest (sym all ∙ h.stops.0.0)) h.met
+      (stops h.came (stop.NoConnection why) h.stops.1) refl)
+  run_ended heard stopped source old new stop.NoMemory ended output faults all hears stops h is =
+      let (more, next, given, is_next, told) = h.stops in
       let (score, missed, so) = hears h.came next told in
+      let items = items_of h.came in
+      let whole = sym all ∙ given.0 in
       subst (λ (e : Result Exit Fault). RunsCases Meets rules report cases e output faults) (sym is)
-      (run_lacks h.n h.came next score missed (Err NoMemory) output faults h.came_of is_next so refl)
-
-  -- what holds of a sink whatever it was told holds where a run was stopped
-  pub still_so : {K : Type 0} (heard : Hearing K) (stopped : Stopping K) (old new : K) (why : RunStop) (Still : Type 0)
-      → ((came : List (Case × Meeting)) (next : Option Case) → heard old new came next → Still)
-      → ((came : List (Case × Meeting)) (w : RunStop) → stopped old new came w → Still)
-      → StopsRun Meets heard stopped cases old new why → Still
-  still_so heard stopped old new stop.Output Still hears stops h = stops h.came stop.Output h.stops
-  still_so heard stopped old new stop.NoConnection Still hears stops h = stops h.came stop.NoConnection h.stops
-  still_so heard stopped old new stop.NoMemory Still hears stops h =
-      let (next, is_next, told) = h.stops in hears h.came next told
+      (run_lacks (length items) h.came next score missed (Err NoMemory) output faults
+      (front_is cases items (more ++ h.last.rest) (whole ∙ append_assoc items more h.last.rest)) h.met
+      (next_is cases items more h.last.rest next whole is_next) so refl)
 
   -- all cases were run, and the total was written
   run_all : (came : List (Case × Meeting)) (score : Score) (missed : ℕ) (old mid new : Option (List ℕ)) (exit : Exit)
-      (worked failed : Bool) (faults : Device) → CameOf Meets cases came
+      (worked failed : Bool) (faults : Device) → items_of came ≡ cases → CameOf (λ (c : Case). c) Meets came
       → HasReported rules report came None score missed (record { failed = worked; old = old; new = mid }) faults
       → Delivers (exit_of_report score.is_failed) (end_text report (total_line score.tally)) exit
       (record { failed = failed; old = mid; new = new })
       → RunsCases Meets rules report cases (Ok exit) (record { failed = failed; old = old; new = new }) faults
-  run_all came score missed old mid new exit worked failed faults of so told =
+  run_all came score missed old mid new exit worked failed faults of met so told =
       let there = score_of report so.tests in
       let tells : TellsAll Meets rules report cases (notes_of rules.progress so.tests) exit
       (record { failed = failed; old = old; new = new }) = record {
         tests = so.tests;
-        are_tested = judged_tested Meets rules cases came so.tests of so.judged;
+        are_tested = judged_tested Meets rules cases came so.tests of met so.judged;
         may_run = so.may_run;
         few = subst (λ (k : ℕ). k < max_missed rules.is_limited) so.counted so.few;
         noted = refl;
@@ -380,7 +386,8 @@ module _ (Meets : Case → Meeting → Type 0) (rules : RunRules) (report : Repo
 
   -- after the total, or where memory ran out for it: `Same` says that nothing was written then
   pub run_told : (came : List (Case × Meeting)) (score : Score) (missed : ℕ) (old mid new : Option (List ℕ))
-      (worked failed : Bool) (faults : Device) (Same : Type 0) (ended : Result Exit Fault) → CameOf Meets cases came
+      (worked failed : Bool) (faults : Device) (Same : Type 0) (ended : Result Exit Fault) → items_of came ≡ cases
+      → CameOf (λ (c : Case). c) Meets came
       → HasReported rules report came None score missed (record { failed = worked; old = old; new = mid }) faults
       → (Same → (worked ≡ failed) × (mid ≡ new))
       → MatchResult ended
@@ -388,12 +395,12 @@ module _ (Meets : Case → Meeting → Type 0) (rules : RunRules) (report : Repo
       (record { failed = failed; old = mid; new = new }))
       (λ fault. (fault ≡ NoMemory) × Same)
       → RunsCases Meets rules report cases ended (record { failed = failed; old = old; new = new }) faults
-  run_told came score missed old mid new worked failed faults Same (Ok exit) of so same told =
-      run_all came score missed old mid new exit worked failed faults of so told
-  run_told came score missed old mid new worked failed faults Same (Err fault) of so same (is, stays) =
+  run_told came score missed old mid new worked failed faults Same (Ok exit) of met so same told =
+      run_all came score missed old mid new exit worked failed faults of met so told
+  run_told came score missed old mid new worked failed faults Same (Err fault) of met so same (is, stays) =
       let (as_before, held) = same stays in
       run_lacks (length cases) came None score missed (Err fault) (record { failed = failed; old = old; new = new })
-      faults (subst (λ (l : List Case). CameOf Meets l came) (sym (take_all (length cases) cases (omega arith))) of) tt
+      faults (of ∙ sym (take_all (length cases) cases (omega arith))) met tt
       (subst (λ (x : Option (List ℕ)). HasReported rules report came None score missed
       (record { failed = failed; old = old; new = x }) faults) held
       (subst (λ (w : Bool). HasReported rules report came None score missed
@@ -408,3 +415,10 @@ missed_bound false missed next is = omega (arith, is)
 pub missed_most : (b : Bool) (missed next most : ℕ) → next ≡ (if b then 1 + missed else 0) → missed < most
     → most ≤ next → next ≡ most
 missed_most b missed next most is few many = omega (arith, missed_bound b missed next is, few, many)
+
+-- as many in a row as end a run: the last of them is without a connection
+pub last_missed : (b is_limited : Bool) (missed next : ℕ) → next ≡ (if b then 1 + missed else 0)
+    → max_missed is_limited ≤ next → b ≡ true
+last_missed true is_limited missed next is many = refl
+last_missed false is_limited missed next is many =
+    absurd (omega (arith, is, many, some_missed is_limited))

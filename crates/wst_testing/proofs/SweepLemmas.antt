@@ -3,7 +3,7 @@ use Rattle.std.proofs.Common.{◌≡◌, ◌∙◌, ℕ, ◌+◌, ◌<◌, ◌^�
 use Rattle.std.proofs.Common.{length, filter}
 use Rattle.std.proofs.Common.{Option, Some, None, Result, Ok, Err, IsErrAnd, ap, refl, sym, subst, arith}
 use Rattle.std.proofs.Common.{append-nil, not}
-use Rattle.std.proofs.KnownBytes.{Appends-nil, Appends-trans, Keeps-refl}
+use Rattle.std.proofs.KnownBytes.{Appends-nil, Appends-trans}
 use Rattle.std.proofs.lemmas.Grind.{flat_map-append}
 use Rattle.std.proofs.lemmas.List.{length-append, length-map, map-append}
 use Rattle.std.proofs.lemmas.List.Filters.{length-filter_both}
@@ -19,20 +19,21 @@ use Rattle.ws_sweep.specs.Order.{ArePlaces, count_of_scripts, script_number}
 use Rattle.ws_sweep.specs.ShortCases.{CaseRules, IsShortCase}
 use Rattle.wst_commands.specs.declared.exit.Exit.{Exit}
 use Rattle.wst_testing.specs.Outcomes.{exit_of_tests, is_fail, is_loose, is_pass, no_tally, tally_of, tally_with}
-use Rattle.wst_testing.specs.Testing.{IsTested}
-use Rattle.wst_testing.specs.Sweeps.{IsConnected}
-use Rattle.wst_testing.specs.Sweeps.{AreSwept, CountsScripts, HasSwept, IsSwept, StopsAtScript, StopsSweep, SweepsAll}
-use Rattle.wst_testing.specs.Sweeps.{SweepsScript, SweepsScripts, SweptScript, WritesText, missed_by, outcomes_of}
-use Rattle.wst_testing.specs.Sweeps.{HasSweptScript, MakesCasesOf, case_rules, script_line, swept}
-use Rattle.wst_testing.specs.Sweeps.{sweep_lines, sweep_total, total_of_scripts}
+use Rattle.wst_testing.specs.Runner.{CameOf, Hearing, RunsEach, Stopping, items_of}
+use Rattle.wst_testing.specs.Testing.{IsOutcomeOf}
+use Rattle.wst_testing.specs.Sweeps.{AreJudgedScripts, AreShortRuns, AreSwept, CountsScripts, EndsScripts, GaveAllScripts}
+use Rattle.wst_testing.specs.Sweeps.{GaveScripts, HasSwept, HasToldScripts, IsCounted, IsNextSwept, IsShortRun, IsSwept}
+use Rattle.wst_testing.specs.Sweeps.{MakesCasesOf, ShortRunValue, ShortRunsValue, StopsAtScript, StopsBehind, StopsSweep}
+use Rattle.wst_testing.specs.Sweeps.{SweepsAll, SweepsScripts, SweptScript, case_rules, missed_by, outcomes_of}
+use Rattle.wst_testing.specs.Sweeps.{script_line, sweep_lines, sweep_total, swept, total_of_scripts}
+use Rattle.wst_sockets.specs.declared.meeting.ConnectFault.{ConnectFault}
 use Rattle.wst_sockets.specs.declared.meeting.Meeting.{Meeting}
 use Rattle.wst_testing.specs.declared.outcome.Outcome.{Outcome}
-use Rattle.wst_testing.specs.declared.outcome.Outcome.TheVariants.{NoConnection}
+use Rattle.wst_testing.specs.declared.outcome.Outcome.TheVariants.{HeadRefused, Judged, NoConnection, NotRun}
 use Rattle.wst_testing.specs.declared.outcome.Tally.{Tally}
 use Rattle.wst_testing.specs.declared.sweeping.SweepRules.{SweepRules}
-use Rattle.wst_testing.specs.declared.sweeping.SweepStop.{SweepStop}
-use Rattle.wst_testing.specs.declared.testing.RunRules.{RunRules}
-use Rattle.wst_testing.specs.declared.sweeping.SweepStop.TheVariants as stop
+use Rattle.wst_testing.specs.declared.runner.RunStop.{RunStop}
+use Rattle.wst_testing.specs.declared.runner.RunStop.TheVariants as stop
 use Rattle.ws_sweep.proofs.Numbers.{count_within}
 use Rattle.wst_testing.proofs.TestLemmas.{tally_more, then_begun}
 
@@ -43,20 +44,6 @@ still_written None mid new bytes written kept = tt
 still_written (Some xs) None new bytes written kept = absurd written
 still_written (Some xs) (Some ys) None bytes written kept = absurd kept
 still_written (Some xs) (Some ys) (Some zs) bytes written kept = kept ∙ written
-
--- one more script in the order
-one_more : (Meets : Case → Meeting → Type 0) (rules : SweepRules) (number : ℕ) (scripts : List SweptScript)
-    (next : SweptScript) → AreSwept Meets rules number scripts → ArePlaces next.places
-    → script_number next.places ≡ number + length scripts → missed_by next.outcome ≡ None → IsSwept Meets rules next
-    → AreSwept Meets rules number (scripts ++ next ∷ [])
-one_more Meets rules number [] next are places is there swept = (places, is ∙ omega arith, there, swept, tt)
-one_more Meets rules number (script ∷ scripts) next are places is there swept = (
-  are.0,
-  are.1,
-  are.2,
-  are.3,
-  one_more Meets rules (number + 1) scripts next are.4 places (is ∙ omega arith) there swept,
-)
 
 -- its line behind theirs
 lines_with : (rules : SweepRules) (scripts : List SweptScript) (next : SweptScript)
@@ -71,103 +58,29 @@ counted_with : (scripts : List SweptScript) (next : SweptScript)
 counted_with scripts next = tally_more (outcomes_of scripts) next.outcome
     ∙ ap (λ (l : List Outcome). tally_of l) (sym (map-append (λ (s : SweptScript). s.outcome) scripts (next ∷ [])))
 
-pub swept_nothing : (Meets : Case → Meeting → Type 0) (rules : SweepRules) (count : ℕ) (tally : Tally)
-    (held : Option (List ℕ)) (failed : Bool) → count ≡ 0 → tally ≡ no_tally
-    → HasSwept Meets rules count tally (record { failed = failed; old = held; new = held })
-swept_nothing Meets rules count tally held failed none empty = record {
-  scripts = [];
-  in_order = tt;
-  many = sym none;
-  counted = empty;
-  written = Appends-nil held;
-}
+kind_within : {X : Type 0} (p : X → Bool) (xs : List X) → length (filter p xs) ≤ length xs
+kind_within p xs = omega (arith, length-filter_both p (λ x. not (p x)) (λ x. refl) xs)
 
-pub swept_more : (Meets : Case → Meeting → Type 0) (rules : SweepRules) (count next_count : ℕ)
-    (tally next_tally : Tally) (places : List ℕ) (outcome : Outcome) (old mid new : Option (List ℕ)) (f g : Bool)
-    → HasSwept Meets rules count tally (record { failed = f; old = old; new = mid }) → ArePlaces places
-    → script_number places ≡ count → next_count ≡ count + 1 → next_tally ≡ tally_with tally outcome
-    → missed_by outcome ≡ None
-    → HasSweptScript Meets rules places outcome (record { failed = g; old = mid; new = new })
-    → HasSwept Meets rules next_count next_tally (record { failed = g; old = old; new = new })
-swept_more Meets rules count next_count tally next_tally places outcome old mid new f g before are number counts tallies
-    there (case, is_swept, written) =
-    let next = swept places case outcome in
-    record {
-      scripts = before.scripts ++ next ∷ [];
-      in_order = one_more Meets rules 0 before.scripts next before.in_order are
-          (number ∙ (sym before.many ∙ omega arith)) there is_swept;
-      many = length-append before.scripts (next ∷ []) ∙ (ap (λ (n : ℕ). n + 1) before.many ∙ sym counts);
-      counted = tallies ∙ (ap (λ (t : Tally). tally_with t outcome) before.counted ∙ counted_with before.scripts next);
-      written = subst (λ (l : List ℕ). Appends old new l) (lines_with rules before.scripts next)
-          (Appends-trans old mid new (sweep_lines rules before.scripts) (script_line rules next) before.written
-          written);
-    }
+-- ---- the scripts that were given
 
--- the run stops at the next script
-pub stops_behind : (Meets : Case → Meeting → Type 0) (rules : SweepRules) (count : ℕ) (tally : Tally)
-    (places : List ℕ) (why : SweepStop) (old mid new : Option (List ℕ)) (f g : Bool)
-    → HasSwept Meets rules count tally (record { failed = f; old = old; new = mid }) → ArePlaces places
-    → script_number places ≡ count → StopsAtScript Meets rules places why (record { failed = g; old = mid; new = new })
-    → StopsSweep Meets rules why (record { failed = g; old = old; new = new })
-stops_behind Meets rules count tally places stop.Device old mid new f g before are number
-    (case, (outcome, is_swept, begun, fails)) =
-    let next = swept places case outcome in record {
-      scripts = before.scripts;
-      in_order = before.in_order;
-      stops = (
-        script_line rules next,
-        inl (next, (are, number ∙ sym before.many, is_swept), refl),
-        fails,
-        then_begun old mid new (sweep_lines rules before.scripts) (script_line rules next) before.written begun,
-      );
-    }
-stops_behind Meets rules count tally places (stop.NoConnection why) old mid new f g before are number
-    ((case, is_swept), kept) =
-    record {
-      scripts = before.scripts;
-      in_order = before.in_order;
-      stops = (
-        (swept places case (NoConnection why), (are, number ∙ sym before.many, is_swept), refl),
-        still_written old mid new (sweep_lines rules before.scripts) before.written kept,
-      );
-    }
-stops_behind Meets rules count tally places stop.NoMemory old mid new f g before are number kept = record {
-  scripts = before.scripts;
-  in_order = before.in_order;
-  stops = still_written old mid new (sweep_lines rules before.scripts) before.written kept;
-}
+-- those at the front of some are scripts in their order too
+short_front : (rules : SweepRules) (number : ℕ) (runs more : List ShortRunValue)
+    → AreShortRuns rules number (runs ++ more) → AreShortRuns rules number runs
+short_front rules number [] more are = tt
+short_front rules number (run ∷ runs) more (is, rest) = (is, short_front rules (number + 1) runs more rest)
 
--- and so a count of them ends
-pub counts_stop : (Meets : Case → Meeting → Type 0) (rules : SweepRules) (count : ℕ) (tally : Tally)
-    (places : List ℕ) (why : SweepStop) (ended : Result Tally SweepStop) (old mid new : Option (List ℕ)) (f g : Bool)
-    → HasSwept Meets rules count tally (record { failed = f; old = old; new = mid }) → ArePlaces places
-    → script_number places ≡ count → StopsAtScript Meets rules places why (record { failed = g; old = mid; new = new })
-    → IsErrAnd ended (λ stopped. stopped ≡ why)
-    → CountsScripts Meets rules ended (record { failed = g; old = old; new = new })
-counts_stop Meets rules count tally places why (Ok all) old mid new f g before are number stops is = absurd is
-counts_stop Meets rules count tally places why (Err stopped) old mid new f g before are number stops is =
-    subst (λ (w : SweepStop). StopsSweep Meets rules w (record { failed = g; old = old; new = new })) (sym is)
-    (stops_behind Meets rules count tally places why old mid new f g before are number stops)
-
--- memory ran out before anything was written of a script
-pub script_lacks : (Meets : Case → Meeting → Type 0) (rules : SweepRules) (places : List ℕ)
-    (ended : Result Outcome SweepStop) (held : Option (List ℕ)) (f : Bool)
-    → IsErrAnd ended (λ stopped. stopped ≡ stop.NoMemory)
-    → SweepsScript Meets rules places ended (record { failed = f; old = held; new = held })
-script_lacks Meets rules places (Ok outcome) held f is = absurd is
-script_lacks Meets rules places (Err stopped) held f is =
-    subst (λ (w : SweepStop). StopsAtScript Meets rules places w (record { failed = f; old = held; new = held }))
-    (sym is) (Keeps-refl held)
-
--- what is told of an end by the rules of a sweep
-pub tested_so : (Meets : List ℕ → Case → Meeting → Type 0) (rules : SweepRules) (asked : RunRules) (case : Case)
-    (outcome : Outcome) → asked ≡ case_rules rules → IsTested (Meets asked.key) asked case outcome
-    → IsTested (Meets rules.key) (case_rules rules) case outcome
-tested_so Meets rules asked case outcome same tested =
-    subst (λ (r : RunRules). IsTested (Meets r.key) r case outcome) same tested
+-- one more of them
+short_more : (rules : SweepRules) (number : ℕ) (runs : List ShortRunValue) (run : ShortRunValue)
+    → AreShortRuns rules number runs → IsShortRun rules (number + length runs) run
+    → AreShortRuns rules number (runs ++ run ∷ [])
+short_more rules number [] run are is = (subst (λ (n : ℕ). IsShortRun rules n run) (omega arith) is, tt)
+short_more rules number (first ∷ runs) run (one, rest) is = (
+  one,
+  short_more rules (number + 1) runs run rest (subst (λ (n : ℕ). IsShortRun rules n run) (omega arith) is),
+)
 
 -- the case is made for the role and the key of the rules
-pub short_so : (rules : SweepRules) (cases : CaseRules) (places : List ℕ) (case : Case) → MakesCasesOf rules cases
+short_so : (rules : SweepRules) (cases : CaseRules) (places : List ℕ) (case : Case) → MakesCasesOf rules cases
     → IsShortCase cases.tested cases.expected cases.key places case
     → IsShortCase rules.tested rules.expected (key_for (other_role rules.tested) rules.key) places case
 short_so rules cases places case of_rules short =
@@ -175,37 +88,269 @@ short_so rules cases places case of_rules short =
     (subst (λ (x : Expectation). IsShortCase rules.tested x cases.key places case) of_rules.1
     (subst (λ (r : Role). IsShortCase r cases.expected cases.key places case) of_rules.0 short))
 
--- there is no connection to it
-pub script_misses : (Meets : Case → Meeting → Type 0) (rules : SweepRules) (places : List ℕ) (case : Case)
-    (outcome : Outcome) (why : SweepStop) (ended : Result Outcome SweepStop) (held : Option (List ℕ)) (f : Bool)
-    → IsShortCase rules.tested rules.expected (key_for (other_role rules.tested) rules.key) places case
-    → IsTested Meets (case_rules rules) case outcome
-    → IsConnected outcome (Err why)
-    → IsErrAnd ended (λ stopped. stopped ≡ why)
-    → SweepsScript Meets rules places ended (record { failed = f; old = held; new = held })
-script_misses Meets rules places case outcome why (Ok told) held f short tested misses is = absurd is
-script_misses Meets rules places case outcome stop.Device (Err stopped) held f short tested misses is = absurd misses
-script_misses Meets rules places case outcome stop.NoMemory (Err stopped) held f short tested misses is = absurd misses
-script_misses Meets rules places case outcome (stop.NoConnection why) (Err stopped) held f short tested misses is =
-    subst (λ (w : SweepStop). StopsAtScript Meets rules places w (record { failed = f; old = held; new = held }))
-    (sym is) (
-      (case, (short, subst (λ (o : Outcome). IsTested Meets (case_rules rules) case o) misses tested)),
-      Keeps-refl held,
+none_before : (n : ℕ) → 0 + n ≡ n
+none_before n = omega arith
+
+-- the next one is given
+pub given_more : (start old new : ShortRunsValue) (runs : List ShortRunValue) (cases : CaseRules) (places : List ℕ)
+    (case : Case) → GaveScripts start old runs → MakesCasesOf old.rules cases → ArePlaces places
+    → script_number places ≡ old.scripts.next → new.scripts.next ≡ old.scripts.next + 1
+    → new.scripts.left + 1 ≡ old.scripts.left → new.rules ≡ old.rules
+    → IsShortCase cases.tested cases.expected cases.key places case
+    → GaveScripts start new (runs ++ record { places = places; case = case } ∷ []) × (length runs + 1 < 2 ^ 64)
+given_more start old new runs cases places case gave makes are number next left same short =
+    let run : ShortRunValue = record { places = places; case = case } in
+    let of_start = subst (λ (r : SweepRules). MakesCasesOf r cases) gave.by_rules makes in
+    let there = gave.next in
+    let whole = gave.place in
+    let few = count_within start.rules.steps gave.few in (
+      record {
+        by_rules = same ∙ gave.by_rules;
+        in_order = short_more start.rules 0 runs run gave.in_order
+            (are, number ∙ gave.next ∙ sym (none_before (length runs)), short_so start.rules cases places case of_start short);
+        next = next ∙ (ap (λ (n : ℕ). n + 1) gave.next ∙ sym (length-append runs (run ∷ [])));
+        place = omega (arith, whole, next, left);
+        few = gave.few;
+      },
+      omega (arith, there, whole, few),
     )
 
--- its line could not be written, or memory ran out for it
-pub line_stops : (Meets : Case → Meeting → Type 0) (rules : SweepRules) (places : List ℕ) (case : Case)
-    (outcome : Outcome) (why : SweepStop) (ended : Result Outcome SweepStop) (d : Device)
-    → IsSwept Meets rules (swept places case outcome)
-    → WritesText (script_line rules (swept places case outcome)) (Err why) d → IsErrAnd ended (λ stopped. stopped ≡ why)
-    → SweepsScript Meets rules places ended d
-line_stops Meets rules places case outcome why (Ok told) d is_swept writes is = absurd is
-line_stops Meets rules places case outcome stop.Device (Err stopped) d is_swept (begun, fails) is =
-    subst (λ (w : SweepStop). StopsAtScript Meets rules places w d) (sym is)
-    (case, (outcome, is_swept, begun, fails))
-line_stops Meets rules places case outcome (stop.NoConnection why) (Err stopped) d is_swept writes is = absurd writes
-line_stops Meets rules places case outcome stop.NoMemory (Err stopped) d is_swept writes is =
-    subst (λ (w : SweepStop). StopsAtScript Meets rules places w d) (sym is) writes
+-- none is left
+pub given_all : (start old : ShortRunsValue) (runs : List ShortRunValue) → GaveScripts start old runs
+    → old.scripts.left ≡ 0 → GaveAllScripts start runs
+given_all start old runs gave none =
+    let there = gave.next in
+    let whole = gave.place in
+    (gave.in_order, omega (arith, there, whole, none))
+
+-- ---- what came of them, judged
+
+pub judged_one_more : (rules : SweepRules) (came : List (ShortRunValue × Meeting)) (scripts : List SweptScript)
+    (run : ShortRunValue) (meeting : Meeting) (outcome : Outcome) → AreJudgedScripts rules came scripts
+    → IsOutcomeOf (case_rules rules) meeting outcome → missed_by outcome ≡ None
+    → AreJudgedScripts rules (came ++ (run, meeting) ∷ []) (scripts ++ swept run.places run.case outcome ∷ [])
+judged_one_more rules [] [] run meeting outcome before is there = ((outcome, refl, is, there), tt)
+judged_one_more rules [] (script ∷ scripts) run meeting outcome before is there = absurd before
+judged_one_more rules (one ∷ came) [] run meeting outcome before is there = absurd before
+judged_one_more rules (one ∷ came) (script ∷ scripts) run meeting outcome (first, rest) is there =
+    (first, judged_one_more rules came scripts run meeting outcome rest is there)
+
+-- there are as many of them
+judged_many : (rules : SweepRules) (came : List (ShortRunValue × Meeting)) (scripts : List SweptScript)
+    → AreJudgedScripts rules came scripts → length scripts ≡ length came
+judged_many rules [] [] judged = refl
+judged_many rules [] (script ∷ scripts) judged = absurd judged
+judged_many rules (run ∷ came) [] judged = absurd judged
+judged_many rules (run ∷ came) (script ∷ scripts) (first, rest) = omega (arith, judged_many rules came scripts rest)
+
+many_items : (came : List (ShortRunValue × Meeting)) → length (items_of came) ≡ length came
+many_items came = length-map came (λ (r : ShortRunValue × Meeting). r.0)
+
+abbrev run_case : ShortRunValue → Case
+run_case run = run.case
+
+-- what came of the case of a script is told of it
+swept_so : (Meets : Case → Meeting → Type 0) (rules : SweepRules) (number : ℕ) (run : ShortRunValue)
+    (meeting : Meeting) (outcome : Outcome) → IsShortRun rules number run → Meets run.case meeting
+    → IsOutcomeOf (case_rules rules) meeting outcome → IsSwept Meets rules (swept run.places run.case outcome)
+swept_so Meets rules number run meeting outcome (are, is, short) met told =
+    (short, record { meeting = meeting; met = met; told = told })
+
+-- these are the scripts that were run
+all_swept : (Meets : Case → Meeting → Type 0) (rules : SweepRules) (number : ℕ)
+    (came : List (ShortRunValue × Meeting)) (scripts : List SweptScript) → AreShortRuns rules number (items_of came)
+    → CameOf run_case Meets came → AreJudgedScripts rules came scripts → AreSwept Meets rules number scripts
+all_swept Meets rules number [] [] are met judged = tt
+all_swept Meets rules number [] (script ∷ scripts) are met judged = absurd judged
+all_swept Meets rules number (run ∷ came) [] are met judged = absurd judged
+all_swept Meets rules number (run ∷ came) (script ∷ scripts) (short, others) (one, rest)
+    ((outcome, same, told, there), more) = subst (λ (s : SweptScript). AreSwept Meets rules number (s ∷ scripts))
+    (sym same) (
+      short.0,
+      short.1,
+      there,
+      swept_so Meets rules number run.0 run.1 outcome short one told,
+      all_swept Meets rules (number + 1) came scripts others rest more,
+    )
+
+-- the last of some scripts that were run, and those before it
+last_apart : (Meets : Case → Meeting → Type 0) (rules : SweepRules) (number : ℕ)
+    (before : List (ShortRunValue × Meeting)) (run : ShortRunValue) (meeting : Meeting)
+    → AreShortRuns rules number (items_of (before ++ (run, meeting) ∷ []))
+    → CameOf run_case Meets (before ++ (run, meeting) ∷ [])
+    → (AreShortRuns rules number (items_of before) × CameOf run_case Meets before)
+    × (IsShortRun rules (number + length before) run × Meets run.case meeting)
+last_apart Meets rules number [] run meeting (short, none) (met, rest) =
+    ((tt, tt), (subst (λ (n : ℕ). IsShortRun rules n run) (omega arith) short, met))
+last_apart Meets rules number (first ∷ before) run meeting (short, others) (met, rest) =
+    let ((are, came), (is, last)) = last_apart Meets rules (number + 1) before run meeting others rest in (
+      ((short, are), (met, came)),
+      (subst (λ (n : ℕ). IsShortRun rules n run) (omega arith) is, last),
+    )
+
+-- ---- what a sweeper has written
+
+abbrev reason_of : ConnectFault → Option ConnectFault → ConnectFault
+reason_of other None = other
+reason_of other (Some why) = why
+
+-- why there is no connection
+missed_so : (outcome : Outcome) (reason : ConnectFault) → missed_by outcome ≡ Some reason
+    → outcome ≡ NoConnection reason
+missed_so (Judged told) reason is = absurd cc
+missed_so (HeadRefused refusal) reason is = absurd cc
+missed_so (NoConnection why) reason is = ap (λ (o : Option ConnectFault). NoConnection (reason_of why o)) is
+missed_so NotRun reason is = absurd cc
+
+pub told_nothing : (rules : SweepRules) (tally : Tally) (held : Option (List ℕ)) (failed : Bool) → tally ≡ no_tally
+    → failed ≡ false → HasToldScripts rules [] tally (record { failed = failed; old = held; new = held })
+told_nothing rules tally held failed empty works =
+    record { scripts = []; judged = tt; counted = empty; written = Appends-nil held; works = works }
+
+module _ (rules : SweepRules) (came : List (ShortRunValue × Meeting)) (run : ShortRunValue) (meeting : Meeting)
+    (outcome : Outcome) (tally : Tally) (old mid new : Option (List ℕ)) (f g : Bool)
+    (so : HasToldScripts rules came tally (record { failed = f; old = old; new = mid }))
+    (is : IsOutcomeOf (case_rules rules) meeting outcome) where
+  -- the line of the next script was written
+  pub told_one_more : (next : Tally) → next ≡ tally_with tally outcome → missed_by outcome ≡ None
+      → Appends mid new (script_line rules (swept run.places run.case outcome)) → g ≡ false
+      → HasToldScripts rules (came ++ (run, meeting) ∷ []) next (record { failed = g; old = old; new = new })
+  told_one_more next counts there line works = record {
+    scripts = so.scripts ++ swept run.places run.case outcome ∷ [];
+    judged = judged_one_more rules came so.scripts run meeting outcome so.judged is there;
+    counted = counts ∙ (ap (λ (t : Tally). tally_with t outcome) so.counted
+        ∙ counted_with so.scripts (swept run.places run.case outcome));
+    written = subst (λ (l : List ℕ). Appends old new l) (lines_with rules so.scripts (swept run.places run.case outcome))
+        (Appends-trans old mid new (sweep_lines rules so.scripts)
+        (script_line rules (swept run.places run.case outcome)) so.written line);
+    works = works;
+  }
+
+  -- it could not be written whole
+  pub line_breaks : AppendsFront mid new (script_line rules (swept run.places run.case outcome)) → g ≡ true
+      → StopsAtScript rules (came ++ (run, meeting) ∷ []) stop.Output (record { failed = g; old = old; new = new })
+  line_breaks begun broken = record {
+    before = came;
+    run = run;
+    meeting = meeting;
+    last = refl;
+    scripts = so.scripts;
+    judged = so.judged;
+    outcome = outcome;
+    is = is;
+    ends = (
+      broken,
+      then_begun old mid new (sweep_lines rules so.scripts) (script_line rules (swept run.places run.case outcome))
+          so.written begun,
+    );
+  }
+
+  -- there is no connection to its end
+  pub script_misses : (reason : ConnectFault) → missed_by outcome ≡ Some reason
+      → StopsAtScript rules (came ++ (run, meeting) ∷ []) (stop.NoConnection reason)
+      (record { failed = f; old = old; new = mid })
+  script_misses reason misses = record {
+    before = came;
+    run = run;
+    meeting = meeting;
+    last = refl;
+    scripts = so.scripts;
+    judged = so.judged;
+    outcome = outcome;
+    is = is;
+    ends = (missed_so outcome reason misses, so.written);
+  }
+
+-- there is room for one outcome more in its counts
+pub script_room : (rules : SweepRules) (came : List (ShortRunValue × Meeting)) (tally : Tally) (output : Device)
+    → HasToldScripts rules came tally output → length came + 1 < 2 ^ 64
+    → (tally.pass + 1 < 2 ^ 64) × (tally.loose + 1 < 2 ^ 64) × (tally.fail + 1 < 2 ^ 64)
+script_room rules came tally output so fits =
+    let outcomes = outcomes_of so.scripts in
+    let many : length outcomes ≡ length came =
+    length-map so.scripts (λ (s : SweptScript). s.outcome) ∙ judged_many rules came so.scripts so.judged in
+    let pass : tally.pass ≡ length (filter is_pass outcomes) = ap (λ (t : Tally). t.pass) so.counted in
+    let loose : tally.loose ≡ length (filter is_loose outcomes) = ap (λ (t : Tally). t.loose) so.counted in
+    let fail : tally.fail ≡ length (filter is_fail outcomes) = ap (λ (t : Tally). t.fail) so.counted in (
+      omega (arith, many, pass, kind_within is_pass outcomes, fits),
+      omega (arith, many, loose, kind_within is_loose outcomes, fits),
+      omega (arith, many, fail, kind_within is_fail outcomes, fits),
+    )
+
+-- ---- how a run of them ends
+
+module _ (Meets : Case → Meeting → Type 0) (rules : SweepRules) where
+  -- why the run stops behind these scripts
+  behind : (scripts : List SweptScript) (next : SweptScript) (why : RunStop) (output : Device)
+      → IsNextSwept Meets rules scripts next → EndsScripts rules scripts next why output
+      → StopsBehind Meets rules scripts why output
+  behind scripts next stop.Enough output is ends = absurd ends
+  behind scripts next stop.Output output is (broken, begun) =
+      (script_line rules next, inl (next, is, refl), broken, begun)
+  behind scripts next (stop.NoConnection why) output is (misses, written) = ((next, is, misses), written)
+  behind scripts next stop.NoMemory output is ends = absurd ends
+
+  -- the sink has ended it
+  stopped_at : (came : List (ShortRunValue × Meeting)) (why : RunStop) (output : Device)
+      → AreShortRuns rules 0 (items_of came) → CameOf run_case Meets came → StopsAtScript rules came why output
+      → StopsSweep Meets rules why output
+  stopped_at came why output are met h =
+      let parts = last_apart Meets rules 0 h.before h.run h.meeting
+      (subst (λ (l : List (ShortRunValue × Meeting)). AreShortRuns rules 0 (items_of l)) h.last are)
+      (subst (λ (l : List (ShortRunValue × Meeting)). CameOf run_case Meets l) h.last met) in
+      let ((before, came_before), (is_run, met_last)) = parts in
+      let next = swept h.run.places h.run.case h.outcome in
+      let number = is_run.1 ∙ none_before (length h.before) ∙ sym (judged_many rules h.before h.scripts h.judged) in
+      record {
+        scripts = h.scripts;
+        in_order = all_swept Meets rules 0 h.before h.scripts before came_before h.judged;
+        stops = behind h.scripts next why output
+            (is_run.0, number, swept_so Meets rules _ h.run h.meeting h.outcome is_run met_last h.is) h.ends;
+      }
+
+  pub scripts_ended : {K : Type 0} (heard : Hearing ShortRunValue K) (stopped : Stopping ShortRunValue K)
+      (source : ShortRunsValue) (old new : K) (run : Result (Unit {0}) RunStop) (tally : Tally)
+      (ended : Result Tally RunStop) (output : Device)
+      → ((came : List (ShortRunValue × Meeting)) (next : Option ShortRunValue) → heard old new came next
+      → HasToldScripts rules came tally output)
+      → ((came : List (ShortRunValue × Meeting)) (w : RunStop) → stopped old new came w
+      → StopsAtScript rules came w output)
+      → source.rules ≡ rules
+      → RunsEach run_case Meets GaveScripts (λ start now runs. GaveAllScripts start runs) heard stopped source old new run
+      → IsCounted run tally ended → CountsScripts Meets rules ended output
+  scripts_ended heard stopped source old new (Ok _) tally ended output hears stops same h is =
+      let so = hears h.came None h.told in
+      let given = subst (λ (r : SweepRules). AreShortRuns r 0 (items_of h.came)
+      × (length (items_of h.came) ≡ count_of_scripts r.steps)) same h.given in
+      let swept_all : HasSwept Meets rules (count_of_scripts rules.steps) tally output = record {
+        scripts = so.scripts;
+        in_order = all_swept Meets rules 0 h.came so.scripts given.0 h.met so.judged;
+        many = judged_many rules h.came so.scripts so.judged ∙ sym (many_items h.came) ∙ given.1;
+        counted = so.counted;
+        written = so.written;
+      } in
+      subst (λ (e : Result Tally RunStop). CountsScripts Meets rules e output) (sym is) (swept_all, so.works)
+  scripts_ended heard stopped source old new (Err stop.NoMemory) tally ended output hears stops same h is =
+      let (more, next, given, is_next, told) = h.stops in
+      let so = hears h.came next told in
+      let are = subst (λ (r : SweepRules). AreShortRuns r 0 (items_of h.came)) same
+      (short_front source.rules 0 (items_of h.came) more given.in_order) in
+      let lacks : StopsSweep Meets rules stop.NoMemory output = record {
+        scripts = so.scripts;
+        in_order = all_swept Meets rules 0 h.came so.scripts are h.met so.judged;
+        stops = so.written;
+      } in
+      subst (λ (e : Result Tally RunStop). CountsScripts Meets rules e output) (sym is) lacks
+  scripts_ended heard stopped source old new (Err stop.Enough) tally ended output hears stops same h is =
+      absurd (stops h.came stop.Enough h.stops.1).ends
+  scripts_ended heard stopped source old new (Err stop.Output) tally ended output hears stops same h is =
+      let are = subst (λ (r : SweepRules). AreShortRuns r 0 (items_of h.came)) same h.stops.0.in_order in
+      subst (λ (e : Result Tally RunStop). CountsScripts Meets rules e output) (sym is)
+      (stopped_at h.came stop.Output output are h.met (stops h.came stop.Output h.stops.1))
+  scripts_ended heard stopped source old new (Err (stop.NoConnection why)) tally ended output hears stops same h is =
+      let are = subst (λ (r : SweepRules). AreShortRuns r 0 (items_of h.came)) same h.stops.0.in_order in
+      subst (λ (e : Result Tally RunStop). CountsScripts Meets rules e output) (sym is)
+      (stopped_at h.came (stop.NoConnection why) output are h.met (stops h.came (stop.NoConnection why) h.stops.1))
 
 -- ---- all of them
 
@@ -230,7 +375,7 @@ pub total_fails : (Meets : Case → Meeting → Type 0) (rules : SweepRules) (ta
     (old mid new : Option (List ℕ)) (f g : Bool)
     → HasSwept Meets rules (count_of_scripts rules.steps) tally (record { failed = f; old = old; new = mid })
     → text ≡ sweep_total (count_of_scripts rules.steps) tally → g ≡ true → AppendsFront mid new text
-    → StopsSweep Meets rules stop.Device (record { failed = g; old = old; new = new })
+    → StopsSweep Meets rules stop.Output (record { failed = g; old = old; new = new })
 total_fails Meets rules tally text old mid new f g all is fails begun =
     let total = is ∙ total_is Meets rules (count_of_scripts rules.steps) tally _ all in
     record {
@@ -261,33 +406,11 @@ total_told Meets rules tally text exit old mid new f g all is works written is_e
       is_exit = is_exit ∙ ap (λ (t : Tally). exit_of_tests t) all.counted;
     }
 
--- ---- counts
-
-kind_within : {X : Type 0} (p : X → Bool) (xs : List X) → length (filter p xs) ≤ length xs
-kind_within p xs = omega (arith, length-filter_both p (λ x. not (p x)) (λ x. refl) xs)
-
--- there is room for one outcome more while scripts are left
-pub room_left : (Meets : Case → Meeting → Type 0) (rules : SweepRules) (count left : ℕ) (tally : Tally) (d : Device)
-    → HasSwept Meets rules count tally d → count + left ≡ count_of_scripts rules.steps → rules.steps ≤ 4
-    → (tally.pass + 1 < 2 ^ 64) × (tally.loose + 1 < 2 ^ 64) × (tally.fail + 1 < 2 ^ 64)
-room_left Meets rules count left tally d so place few =
-    let small = count_within rules.steps few in
-    let outcomes = outcomes_of so.scripts in
-    let long : length outcomes ≡ length so.scripts = length-map so.scripts (λ (s : SweptScript). s.outcome) in
-    let pass : tally.pass ≡ length (filter is_pass outcomes) = ap (λ (t : Tally). t.pass) so.counted in
-    let loose : tally.loose ≡ length (filter is_loose outcomes) = ap (λ (t : Tally). t.loose) so.counted in
-    let fail : tally.fail ≡ length (filter is_fail outcomes) = ap (λ (t : Tally). t.fail) so.counted in
-    let many = so.many in (
-      omega (arith, small, place, many, long, pass, kind_within is_pass outcomes),
-      omega (arith, small, place, many, long, loose, kind_within is_loose outcomes),
-      omega (arith, small, place, many, long, fail, kind_within is_fail outcomes),
-    )
-
 -- ---- how all of it ends
 
-pub sweep_stops : (Meets : Case → Meeting → Type 0) (rules : SweepRules) (why : SweepStop)
-    (ended : Result Exit SweepStop) (d : Device) → StopsSweep Meets rules why d
+pub sweep_stops : (Meets : Case → Meeting → Type 0) (rules : SweepRules) (why : RunStop)
+    (ended : Result Exit RunStop) (d : Device) → StopsSweep Meets rules why d
     → IsErrAnd ended (λ stopped. stopped ≡ why) → SweepsScripts Meets rules ended d
 sweep_stops Meets rules why (Ok exit) d stops is = absurd is
 sweep_stops Meets rules why (Err stopped) d stops is =
-    subst (λ (w : SweepStop). StopsSweep Meets rules w d) (sym is) stops
+    subst (λ (w : RunStop). StopsSweep Meets rules w d) (sym is) stops

@@ -10,7 +10,7 @@ use Rattle.ws_scripts.specs.declared.script.Case.{Case}
 use Rattle.wst_commands.specs.TimeLimits.{is_limited}
 use Rattle.wst_sockets.specs.Meetings.{probe_of}
 use Rattle.wst_testing.specs.Servers.{AddressValue, IsProbedByCalls, MeetsByCalls, asked_within, plan_at}
-use Rattle.wst_testing.specs.declared.looping.Bounds.{Bounds}
+use Rattle.wst_testing.specs.declared.address_server.Bounds.{Bounds}
 use Rattle.wst_sockets.specs.declared.meeting.Meeting.{Meeting}
 
 -- the connection has this budget, and the probe is this one

@@ -4,8 +4,8 @@ use Rattle.std.specs.Borrow.{Bor}
 use Rattle.ws_scripts.specs.declared.script.Case.{Case}
 use Rattle.wst_sockets.specs.declared.meeting.Meeting.{Meeting}
 use Rattle.wst_testing.specs.Servers.{MeetsAtAddress, MeetsByCalls, MeetsInMemory, asked_by}
-use Rattle.wst_testing.specs.declared.end.End.{End}
-use Rattle.wst_testing.specs.declared.end.End.TheVariants as end
+use Rattle.wst_testing.specs.declared.runner.End.{End}
+use Rattle.wst_testing.specs.declared.runner.End.TheVariants as end
 use Rattle.wst_testing.specs.declared.run_plans.RunPlan.{RunPlan}
 use Rattle.wst_testing.specs.declared.run_plans.TestedEnd.{TestedEnd}
 use Rattle.wst_testing.specs.declared.run_plans.TestedEnd.TheVariants as tested

@@ -7,6 +7,7 @@ pub mod Reporting
 pub mod Testing
 pub mod Runner
 pub mod Reporter
+pub mod Capturer
 pub mod KnownInput
 pub mod LineWriting
 pub mod Sweeps

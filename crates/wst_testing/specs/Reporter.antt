@@ -8,15 +8,17 @@ use Rattle.wst_commands.specs.declared.exit.Exit.{Exit}
 use Rattle.wst_commands.specs.declared.exit.Exit.TheVariants.{Failed}
 use Rattle.wst_commands.specs.declared.fault.Fault.{Fault}
 use Rattle.wst_commands.specs.declared.fault.Fault.TheVariants.{NoMemory}
+use Rattle.wst_sockets.specs.declared.meeting.ConnectFault.{ConnectFault}
 use Rattle.wst_sockets.specs.declared.meeting.Meeting.{Meeting}
 use Rattle.wst_testing.specs.Notes.{TellsEach, notes_of, progress_notes}
 use Rattle.wst_testing.specs.Outcomes.{MayRunEach, max_missed, missed_at_end}
 use Rattle.wst_testing.specs.Reporting.{report_texts, score_of}
 use Rattle.wst_testing.specs.Testing.{IsOutcomeOf, outcomes_in}
 use Rattle.wst_testing.specs.declared.outcome.Outcome.{Outcome}
+use Rattle.wst_testing.specs.declared.outcome.Outcome.TheVariants.{NoConnection}
 use Rattle.wst_testing.specs.declared.runner.RunStop.{RunStop}
 use Rattle.wst_testing.specs.declared.runner.RunStop.TheVariants as stop
-use Rattle.wst_testing.specs.declared.score.Score.{Score}
+use Rattle.wst_testing.specs.declared.outcome.Score.{Score}
 use Rattle.wst_testing.specs.declared.testing.RunRules.{RunRules}
 
 -- these are the cases with what is told of each by these rules, where this came of them
@@ -45,14 +47,20 @@ pub record HasReported (rules : RunRules) (report : ReportValue) (came : List (C
   pub works : output.failed ≡ false
   pub noted : TellsEach (notes_so_far rules.progress tests next) faults
 
+-- to the end of the last of these cases there is no connection, for this reason
+abbrev pub EndsMissed : ConnectFault → List (Case × Outcome) → Type 0
+EndsMissed why tests =
+    (before : List (Case × Outcome)) × (case : Case) × (tests ≡ before ++ (case, NoConnection why) ∷ [])
+
 -- what the report has of the last case could not be written whole; or with it as many in a row are without a connection
 -- as end a run
 abbrev pub EndsReport : RunRules → ReportValue → List (Case × Outcome) → RunStop → Device → Type 0
 EndsReport rules report tests stop.Output output =
     (output.failed ≡ true) × HasBegun (report_texts report tests) output
-EndsReport rules report tests stop.NoConnection output =
+EndsReport rules report tests (stop.NoConnection why) output =
     (output.failed ≡ false) × HasWritten (report_texts report tests) output
-    × (missed_at_end (outcomes_in tests) ≡ max_missed rules.is_limited)
+    × (missed_at_end (outcomes_in tests) ≡ max_missed rules.is_limited) × EndsMissed why tests
+EndsReport rules report tests stop.Enough output = ⊥
 EndsReport rules report tests stop.NoMemory output = ⊥
 
 -- the run was ended behind these, for this reason
@@ -66,6 +74,7 @@ pub record StopsReport (rules : RunRules) (report : ReportValue) (came : List (C
 
 -- how a run ends that was stopped for this reason: what stopped it was told, but for want of memory
 abbrev pub IsEndOfStop : RunStop → Result Exit Fault → Type 0
+IsEndOfStop stop.Enough ended = ended ≡ Ok Failed
 IsEndOfStop stop.Output ended = ended ≡ Ok Failed
-IsEndOfStop stop.NoConnection ended = ended ≡ Ok Failed
+IsEndOfStop (stop.NoConnection why) ended = ended ≡ Ok Failed
 IsEndOfStop stop.NoMemory ended = ended ≡ Err NoMemory

@@ -15,7 +15,7 @@ use Rattle.wst_commands.specs.declared.fault.Fault.{Fault}
 use Rattle.wst_commands.specs.declared.fault.Fault.TheVariants as variant
 use Rattle.wst_testing.specs.Outcomes.{below_line, no_tally, outcome_words, tally_of, tally_with}
 use Rattle.wst_testing.specs.declared.outcome.Outcome.{Outcome}
-use Rattle.wst_testing.specs.declared.score.Score.{Score}
+use Rattle.wst_testing.specs.declared.outcome.Score.{Score}
 
 -- ---- one case
 

@@ -9,12 +9,20 @@ use Rattle.ws_connection.specs.Probing.{BeginsProbe, Probes, bytes_by_turn}
 use Rattle.ws_handshake.specs.Probes.{ProbeGives, ProbeValue, WasProbed, wanted_of}
 use Rattle.ws_loops.specs.Deeds.{Deed}
 use Rattle.ws_networks.specs.Bounds.{bounds_from}
-use Rattle.ws_networks.specs.Meetings.{HasEnded}
+use Rattle.ws_networks.specs.Meetings.{HasEnded, HasMet}
+use Rattle.ws_networks.specs.Networks.{NetworkDeed}
+use Rattle.ws_networks.specs.declared.connecting.Missed.{Missed}
+use Rattle.ws_networks.specs.declared.connecting.Missed.TheVariants as missed
 use Rattle.ws_networks.specs.declared.bounds.Limits.{Limits}
 use Rattle.ws_networks.specs.declared.meeting.Met.{Met}
 use Rattle.ws_networks.specs.declared.meeting.Met.TheVariants.{Ended, NotMade}
+use Rattle.wst_network.specs.declared.connector.ConnectMiss.{ConnectMiss}
+use Rattle.wst_network.specs.declared.connector.ConnectMiss.TheVariants.{NotFound, NotTaken}
+use Rattle.wst_network.specs.declared.connector.StreamEnd.{StreamEnd}
+use Rattle.wst_network.specs.declared.connector.StreamEnd.TheVariants as stream
 use Rattle.wst_network.specs.declared.fault.NetworkFault.{NetworkFault}
-use Rattle.wst_testing.specs.declared.looping.Bounds.{Bounds}
+use Rattle.wst_network.specs.declared.fault.NetworkFault.TheVariants as network
+use Rattle.wst_testing.specs.declared.address_server.Bounds.{Bounds}
 use Rattle.ws_peer.specs.EchoRuns.{IsEchoRun}
 use Rattle.ws_peer.specs.Runs.{IsRunOf}
 use Rattle.ws_peer.specs.Talks.{Entry}
@@ -33,7 +41,10 @@ use Rattle.wst_testing.specs.declared.case_server.MemoryPeer.{MemoryPeer}
 use Rattle.wst_testing.specs.declared.case_server.MemoryPeer.TheVariants.{Own, Tung}
 use Rattle.ws_handshake.specs.declared.probe_end.Probe.{Probe}
 use Rattle.ws_handshake.specs.declared.probe_end.Probe.TheVariants as probe
+use Rattle.wst_sockets.specs.Connecting.{connect_fault_at, lookup_miss_at}
 use Rattle.wst_sockets.specs.Meetings.{probe_of}
+use Rattle.wst_sockets.specs.declared.meeting.ConnectFault.{ConnectFault}
+use Rattle.wst_sockets.specs.declared.meeting.ConnectFault.TheVariants as why
 use Rattle.wst_sockets.specs.declared.meeting.Meeting.{Meeting}
 use Rattle.wst_sockets.specs.declared.meeting.Meeting.TheVariants.{NoConnection, Ran, Refused}
 use Rattle.ws_connection.specs.UpgradeRequests.{RequestValue, request_value}
@@ -113,11 +124,42 @@ abbrev pub MeetsAtAddress : AddressValue → List ℕ → Case → Meeting → T
 MeetsAtAddress server key case meeting =
     (probe_of meeting ≡ probe.NoConnection) ⊎ IsProbedSo server key case (probe_of meeting)
 
--- what came of a case, where this came of its machine: what that gives, or no connection
-abbrev pub IsMeetingBy : {S W : Type 0} → Result (Met Probe S W) NetworkFault → Meeting → Type 0
-IsMeetingBy (Ok (Ended probe stream)) meeting = probe_of meeting ≡ probe
-IsMeetingBy (Ok (NotMade why)) meeting = probe_of meeting ≡ probe.NoConnection
-IsMeetingBy (Err fault) meeting = probe_of meeting ≡ probe.NoConnection
+-- why there is no connection, where none was made for this reason
+abbrev pub reason_of_miss : Missed ConnectMiss → ConnectFault
+reason_of_miss missed.NoAddress = why.NoSuchHost
+reason_of_miss missed.TimedOut = why.TimedOut
+reason_of_miss (missed.Failed (NotFound kind)) = lookup_miss_at kind
+reason_of_miss (missed.Failed (NotTaken kind)) = connect_fault_at kind
+
+-- why an answer was not whole, where the stream has ended so; where it hasn't, a limit of time has passed
+abbrev pub reason_of_end : StreamEnd → ConnectFault
+reason_of_end stream.Open = why.TimedOut
+reason_of_end stream.Ended = why.ClosedBeforeAnswer
+reason_of_end (stream.Failed kind) = connect_fault_at kind
+
+-- what came of a case by what its probe tells, and why no answer was whole, if none was
+abbrev pub meeting_at : Probe → ConnectFault → Meeting
+meeting_at (probe.Ran transcript) reason = Ran transcript
+meeting_at (probe.Refused refusal) reason = Refused refusal
+meeting_at probe.NoConnection reason = NoConnection reason
+
+-- what came of a case, where this came of its machine: what that gives, or no connection, and why
+abbrev pub IsMeetingBy : {S : Type 0} → Result (Met Probe S ConnectMiss) NetworkFault → Meeting → Type 0
+IsMeetingBy (Ok (Ended probe ended)) meeting = (end : StreamEnd) × (meeting ≡ meeting_at probe (reason_of_end end))
+IsMeetingBy (Ok (NotMade reason)) meeting = meeting ≡ NoConnection (reason_of_miss reason)
+IsMeetingBy (Err network.NoMemory) meeting = ⊥
+IsMeetingBy (Err network.WaitFailed) meeting = meeting ≡ NoConnection why.Failed
+IsMeetingBy (Err network.NoOutput) meeting = meeting ≡ NoConnection why.Failed
+
+-- A machine that probes was run over a connection to this name, by a network that did just this, within these limits,
+-- and this came of it; or none was made, for the reason that is told; or nothing could be waited for.
+abbrev pub MeetsBecause : {S A N : Type 0} → (S → S → List Deed → Type 0)
+    → (N → N → List (NetworkDeed A ConnectMiss) → Type 0) → Limits → ℕ → ℕ → N → N → List ℕ → Meeting → Type 0
+MeetsBecause {S} did does limits from to old new name meeting =
+    ((start : ProbeValue) × (met : Met Probe S ConnectMiss)
+    × HasMet WasProbed (λ (now : ProbeValue). wanted_of now) ProbeGives did does limits from to old new name start met
+    × IsMeetingBy (Ok met) meeting)
+    ⊎ (meeting ≡ NoConnection why.Failed)
 
 -- what is asked so, within these bounds
 abbrev pub asked_within : Asked → Bounds → AddressValue

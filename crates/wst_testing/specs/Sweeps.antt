@@ -1,6 +1,6 @@
 -- Every short script run over new ends: what is told of them, a line for each with something to tell, and the total.
-use Rattle.std.specs.Prelude.{◌≡◌, ◌⊎◌, ⊤, ℕ, ◌+◌, Bool, true, false, if◌then◌else◌, List, [], ◌∷◌, ◌++◌, length, map}
-use Rattle.std.specs.Prelude.{Option, Some, None, Result, Ok, Err, MatchResult, codes, flat_map}
+use Rattle.std.specs.Prelude.{◌≡◌, ◌⊎◌, ◌≤◌, ⊤, ℕ, ◌+◌, Bool, true, false, if◌then◌else◌, List, [], ◌∷◌, ◌++◌}
+use Rattle.std.specs.Prelude.{length, map, Option, Some, None, Result, Ok, Err, MatchResult, codes, flat_map}
 use Rattle.std.specs.Fmt.{decimal}
 use Rattle.std.specs.List.{concat}
 use Rattle.ws_session.specs.Replies.{key_for}
@@ -9,7 +9,7 @@ use Rattle.ws_frame.specs.Devices.{Device, HasBegun, HasWritten, IsUntouched}
 use Rattle.ws_scripts.specs.declared.script.Case.{Case}
 use Rattle.ws_suite.specs.declared.verdict.Verdict.{Verdict}
 use Rattle.ws_suite.specs.declared.verdict.Verdict.TheVariants as verdict
-use Rattle.ws_sweep.specs.Order.{ArePlaces, count_of_scripts, script_number}
+use Rattle.ws_sweep.specs.Order.{ArePlaces, ScriptsLeft, count_of_scripts, max_steps, script_number}
 use Rattle.ws_sweep.specs.ShortCases.{CaseRules, IsShortCase}
 use Rattle.ws_sweep.specs.Telling.{steps_text}
 use Rattle.wst_commands.specs.Devices.{Tells}
@@ -18,16 +18,16 @@ use Rattle.wst_commands.specs.declared.exit.Exit.{Exit}
 use Rattle.wst_commands.specs.declared.exit.Exit.TheVariants.{Failed}
 use Rattle.wst_sockets.specs.Meetings.{miss_line}
 use Rattle.wst_testing.specs.Outcomes.{exit_of_tests, outcome_words, tally_of, total_line}
-use Rattle.wst_testing.specs.Testing.{IsTested}
+use Rattle.wst_testing.specs.Testing.{IsOutcomeOf, IsTested}
 use Rattle.wst_sockets.specs.declared.meeting.ConnectFault.{ConnectFault}
 use Rattle.wst_sockets.specs.declared.meeting.Meeting.{Meeting}
 use Rattle.wst_testing.specs.declared.outcome.Outcome.{Outcome}
 use Rattle.wst_testing.specs.declared.outcome.Outcome.TheVariants.{HeadRefused, Judged, NoConnection, NotRun}
 use Rattle.wst_testing.specs.declared.outcome.Tally.{Tally}
+use Rattle.wst_testing.specs.declared.runner.RunStop.{RunStop}
+use Rattle.wst_testing.specs.declared.runner.RunStop.TheVariants as stop
 use Rattle.wst_testing.specs.declared.sweeping.SweepRules.{SweepRules}
 use Rattle.wst_testing.specs.declared.testing.RunRules.{RunRules}
-use Rattle.wst_testing.specs.declared.sweeping.SweepStop.{SweepStop}
-use Rattle.wst_testing.specs.declared.sweeping.SweepStop.TheVariants as stop
 
 -- ---- one script
 
@@ -139,8 +139,9 @@ IsNextText Meets rules scripts text =
     ⊎ ((length scripts ≡ count_of_scripts rules.steps) × (text ≡ total_of_scripts scripts))
 
 -- why a run stopped behind these scripts
-abbrev pub StopsBehind : (Case → Meeting → Type 0) → SweepRules → List SweptScript → SweepStop → Device → Type 0
-StopsBehind Meets rules scripts stop.Device output = (text : List ℕ) × IsNextText Meets rules scripts text
+abbrev pub StopsBehind : (Case → Meeting → Type 0) → SweepRules → List SweptScript → RunStop → Device → Type 0
+StopsBehind Meets rules scripts stop.Enough output = ⊥
+StopsBehind Meets rules scripts stop.Output output = (text : List ℕ) × IsNextText Meets rules scripts text
     × (output.failed ≡ true) × HasBegun (sweep_lines rules scripts ++ text) output
 StopsBehind Meets rules scripts (stop.NoConnection why) output =
     ((next : SweptScript) × IsNextSwept Meets rules scripts next × (next.outcome ≡ NoConnection why))
@@ -149,69 +150,126 @@ StopsBehind Meets rules scripts stop.NoMemory output = HasWritten (sweep_lines r
 
 -- The first scripts were run, and their lines were written; the next line, or the total, could not be written, or to
 -- the next end there is no connection, or memory ran out.
-pub record StopsSweep (Meets : Case → Meeting → Type 0) (rules : SweepRules) (why : SweepStop) (output : Device)
+pub record StopsSweep (Meets : Case → Meeting → Type 0) (rules : SweepRules) (why : RunStop) (output : Device)
     : Type 0 where
   pub scripts : List SweptScript
   pub in_order : AreSwept Meets rules 0 scripts
   pub stops : StopsBehind Meets rules scripts why output
 
 -- how a run of every short script ended, over ends that meet cases so
-abbrev pub SweepsScripts : (Case → Meeting → Type 0) → SweepRules → Result Exit SweepStop → Device → Type 0
+abbrev pub SweepsScripts : (Case → Meeting → Type 0) → SweepRules → Result Exit RunStop → Device → Type 0
 SweepsScripts Meets rules ended output =
     MatchResult ended (λ exit. SweepsAll Meets rules exit output) (λ why. StopsSweep Meets rules why output)
 
 -- ---- what is told on the fault output, and the exit
 
-abbrev pub TellsSweepEnd : Result Exit SweepStop → Exit → Device → Type 0
+abbrev pub TellsSweepEnd : Result Exit RunStop → Exit → Device → Type 0
 TellsSweepEnd (Ok ended) exit faults = (exit ≡ ended) × IsUntouched faults
-TellsSweepEnd (Err stop.Device) exit faults = (exit ≡ Failed) × IsUntouched faults
+TellsSweepEnd (Err stop.Enough) exit faults = (exit ≡ Failed) × IsUntouched faults
+TellsSweepEnd (Err stop.Output) exit faults = (exit ≡ Failed) × IsUntouched faults
 TellsSweepEnd (Err (stop.NoConnection why)) exit faults = (exit ≡ Failed) × Tells (miss_line why) faults
 TellsSweepEnd (Err stop.NoMemory) exit faults = LacksMemory exit faults
 
 -- ---- parts of a run: a reader may skip what follows
-
--- a text was written, or a write failed, or memory ran out for it
-abbrev pub WritesText : List ℕ → Result (Unit {0}) SweepStop → Device → Type 0
-WritesText text (Ok _) output = HasWritten text output × (output.failed ≡ false)
-WritesText text (Err stop.Device) output = HasBegun text output × (output.failed ≡ true)
-WritesText text (Err (stop.NoConnection why)) output = ⊥
-WritesText text (Err stop.NoMemory) output = IsUntouched output
-
--- the outcome is told on, where there is a connection; or why there is none
-abbrev pub IsConnected : Outcome → Result Outcome SweepStop → Type 0
-IsConnected outcome (Ok told) = (told ≡ outcome) × (missed_by told ≡ None)
-IsConnected outcome (Err stop.Device) = ⊥
-IsConnected outcome (Err (stop.NoConnection why)) = outcome ≡ NoConnection why
-IsConnected outcome (Err stop.NoMemory) = ⊥
-
--- this script, in such a case
-abbrev pub swept : List ℕ → Case → Outcome → SweptScript
-swept places case outcome = record { places = places; case = case; outcome = outcome }
-
--- the script was run, and its line was written; or why not
-abbrev pub StopsAtScript : (Case → Meeting → Type 0) → SweepRules → List ℕ → SweepStop → Device → Type 0
-StopsAtScript Meets rules places stop.Device output = (case : Case) × ((outcome : Outcome)
-    × IsSwept Meets rules (swept places case outcome)
-    × HasBegun (script_line rules (swept places case outcome)) output × (output.failed ≡ true))
-StopsAtScript Meets rules places (stop.NoConnection why) output =
-    ((case : Case) × IsSwept Meets rules (swept places case (NoConnection why))) × IsUntouched output
-StopsAtScript Meets rules places stop.NoMemory output = IsUntouched output
-
--- its line was written, with this case
-abbrev pub HasSweptScript : (Case → Meeting → Type 0) → SweepRules → List ℕ → Outcome → Device → Type 0
-HasSweptScript Meets rules places outcome output = (case : Case) × IsSwept Meets rules (swept places case outcome)
-    × HasWritten (script_line rules (swept places case outcome)) output
-
-abbrev pub SweepsScript : (Case → Meeting → Type 0) → SweepRules → List ℕ → Result Outcome SweepStop → Device → Type 0
-SweepsScript Meets rules places ended output = MatchResult ended
-    (λ outcome. (missed_by outcome ≡ None) × HasSweptScript Meets rules places outcome output × (output.failed ≡ false))
-    (λ why. StopsAtScript Meets rules places why output)
 
 -- the cases are made for the tested ends of these rules, what is expected of them, and the key of their tester
 abbrev pub MakesCasesOf : SweepRules → CaseRules → Type 0
 MakesCasesOf rules cases =
     (cases.tested ≡ rules.tested) × (cases.expected ≡ rules.expected)
     × (cases.key ≡ key_for (other_role rules.tested) rules.key)
+
+-- ---- the scripts that are given
+
+-- a script by the places of its steps, and its case
+pub record ShortRunValue : Type 0 where
+  pub places : List ℕ
+  pub case : Case
+
+-- what is known of those that give them: their rules, which scripts are left, and the one that was given last
+pub record ShortRunsValue : Type 0 where
+  pub rules : SweepRules
+  pub scripts : ScriptsLeft
+  pub last : Option ShortRunValue
+
+-- it is the script of this number, in its case
+abbrev pub IsShortRun : SweepRules → ℕ → ShortRunValue → Type 0
+IsShortRun rules number run = ArePlaces run.places × (script_number run.places ≡ number)
+    × IsShortCase rules.tested rules.expected (key_for (other_role rules.tested) rules.key) run.places run.case
+
+-- these are the scripts one after the other in their order, from the one of this number on
+abbrev pub AreShortRuns : SweepRules → ℕ → List ShortRunValue → Type 0
+AreShortRuns rules number [] = ⊤
+AreShortRuns rules number (run ∷ runs) = IsShortRun rules number run × AreShortRuns rules (number + 1) runs
+
+-- all scripts of at most so many steps are to be given
+pub record AreAllScripts (rules : SweepRules) (runs : ShortRunsValue) : Type 0 where
+  pub by_rules : runs.rules ≡ rules
+  pub next : runs.scripts.next ≡ 0
+  pub left : runs.scripts.left ≡ count_of_scripts rules.steps
+  pub few : rules.steps ≤ max_steps
+
+-- these were given, and the others are left
+pub record GaveScripts (start now : ShortRunsValue) (runs : List ShortRunValue) : Type 0 where
+  pub by_rules : now.rules ≡ start.rules
+  pub in_order : AreShortRuns start.rules 0 runs
+  pub next : now.scripts.next ≡ length runs
+  pub place : now.scripts.next + now.scripts.left ≡ count_of_scripts start.rules.steps
+  pub few : start.rules.steps ≤ max_steps
+
+-- these are all
+abbrev pub GaveAllScripts : ShortRunsValue → List ShortRunValue → Type 0
+GaveAllScripts start runs = AreShortRuns start.rules 0 runs × (length runs ≡ count_of_scripts start.rules.steps)
+
+-- ---- what came of them, and is told
+
+-- this script, in such a case
+abbrev pub swept : List ℕ → Case → Outcome → SweptScript
+swept places case outcome = record { places = places; case = case; outcome = outcome }
+
+-- these are the scripts with what is told of each by these rules, where this came of them: to each end there is a
+-- connection
+abbrev pub AreJudgedScripts : SweepRules → List (ShortRunValue × Meeting) → List SweptScript → Type 0
+AreJudgedScripts rules [] [] = ⊤
+AreJudgedScripts rules (run ∷ came) (script ∷ scripts) = ((outcome : Outcome)
+    × (script ≡ swept run.0.places run.0.case outcome) × IsOutcomeOf (case_rules rules) run.1 outcome
+    × (missed_by outcome ≡ None)) × AreJudgedScripts rules came scripts
+AreJudgedScripts rules _ _ = ⊥
+
+-- this came of the scripts: they were counted, and their lines written
+pub record HasToldScripts (rules : SweepRules) (came : List (ShortRunValue × Meeting)) (tally : Tally)
+    (output : Device) : Type 0 where
+  pub scripts : List SweptScript
+  pub judged : AreJudgedScripts rules came scripts
+  pub counted : tally ≡ tally_of (outcomes_of scripts)
+  pub written : HasWritten (sweep_lines rules scripts) output
+  pub works : output.failed ≡ false
+
+-- behind these scripts, the line of this one could not be written whole, or there is no connection
+abbrev pub EndsScripts : SweepRules → List SweptScript → SweptScript → RunStop → Device → Type 0
+EndsScripts rules scripts next stop.Enough output = ⊥
+EndsScripts rules scripts next stop.Output output =
+    (output.failed ≡ true) × HasBegun (sweep_lines rules scripts ++ script_line rules next) output
+EndsScripts rules scripts next (stop.NoConnection why) output =
+    (next.outcome ≡ NoConnection why) × HasWritten (sweep_lines rules scripts) output
+EndsScripts rules scripts next stop.NoMemory output = ⊥
+
+-- the run was ended with the last of these, for this reason
+pub record StopsAtScript (rules : SweepRules) (came : List (ShortRunValue × Meeting)) (why : RunStop) (output : Device)
+    : Type 0 where
+  pub before : List (ShortRunValue × Meeting)
+  pub run : ShortRunValue
+  pub meeting : Meeting
+  pub last : came ≡ before ++ (run, meeting) ∷ []
+  pub scripts : List SweptScript
+  pub judged : AreJudgedScripts rules before scripts
+  pub outcome : Outcome
+  pub is : IsOutcomeOf (case_rules rules) meeting outcome
+  pub ends : EndsScripts rules scripts (swept run.places run.case outcome) why output
+
+-- what was counted, where a run came to its end; else why not
+abbrev pub IsCounted : Result (Unit {0}) RunStop → Tally → Result Tally RunStop → Type 0
+IsCounted (Ok _) tally ended = ended ≡ Ok tally
+IsCounted (Err why) tally ended = ended ≡ Err why
 
 -- the first so many scripts were run and counted, and their lines written
 pub record HasSwept (Meets : Case → Meeting → Type 0) (rules : SweepRules) (count : ℕ) (tally : Tally)
@@ -222,7 +280,7 @@ pub record HasSwept (Meets : Case → Meeting → Type 0) (rules : SweepRules) (
   pub counted : tally ≡ tally_of (outcomes_of scripts)
   pub written : HasWritten (sweep_lines rules scripts) output
 
-abbrev pub CountsScripts : (Case → Meeting → Type 0) → SweepRules → Result Tally SweepStop → Device → Type 0
+abbrev pub CountsScripts : (Case → Meeting → Type 0) → SweepRules → Result Tally RunStop → Device → Type 0
 CountsScripts Meets rules ended output = MatchResult ended
     (λ tally. HasSwept Meets rules (count_of_scripts rules.steps) tally output × (output.failed ≡ false))
     (λ why. StopsSweep Meets rules why output)

@@ -1,4 +1,5 @@
-//! A server at an address of a network: each case is run over a connection of its own.
+//! A server at an address of a network: each case is run over a connection of its own, by the loop that doesn't wait in
+//! a read, or call by call where somebody is told of it.
 
 ghost use Rattle.std.specs.Prelude.{◌≡◌, IfOk};
 ghost use Rattle.ws_scripts.specs.Scripts.{CanBeRun};
@@ -6,10 +7,13 @@ ghost use Rattle.ws_connection.specs.Observing.{HearsProbe, IsHearing};
 ghost use Rattle.wst_sockets.specs.Meetings.{probe_of};
 ghost use Rattle.ws_connection.specs.UpgradeRequests.{CanBeAsked, request_value};
 ghost use Rattle.wst_commands.specs.TimeLimits.{is_limited};
-ghost use Rattle.wst_testing.specs.Servers.{IsProbedByCalls, MeetsAtAddress, MeetsByCalls, asked_by, asked_within};
+ghost use Rattle.wst_testing.specs.Servers.{IsMeetingBy, IsProbedByCalls, MeetsAtAddress, MeetsByCalls, asked_by};
+ghost use Rattle.wst_testing.specs.Servers.{MeetsBecause, asked_within, limits_within, meeting_at, milliseconds_of};
+ghost use Rattle.wst_testing.specs.Servers.{reason_of_end, reason_of_miss};
+ghost use Rattle.wst_sockets.specs.Connecting.{connect_fault_at};
+ghost use Rattle.wst_sockets.specs.declared.meeting.Meeting.TheVariants.{NoConnection};
 
 use crate::case_server::CaseServer;
-use crate::looping::{Bounds, TellingPoller, run_looped, without_network};
 use crate::run_plans::RunPlan;
 use std::alloc::Global;
 use std::cell::{Cell, RefCell};
@@ -18,13 +22,17 @@ use std::marker::Model;
 use std::net::OpenStream;
 use std::slice;
 use ws_base::NoMemory;
-use ws_connection::{Asked, Connection, Observer, Probe, UpgradeRequest, probe};
+use ws_connection::{Asked, Connection, Observer, Probe, UpgradeRequest, probe, probe_machine};
+use ws_frame::READ_SIZE;
+use ws_loops::{Poller, Readiness, WaitFailed};
+use ws_networks::{Limits, Met, Missed, run_at};
 use ws_suite::{Case, Expectation};
 use ws_targets::Target;
-use wst_network::Connector;
+use wst_commands::TimeLimit;
+use wst_network::{ConnectMiss, Connector, EndingStream, NetworkFault, StreamEnd};
 use wst_sockets::{
-    ConnectFault, Meeting, Network, Noted, Notice, Pace, PatientReader, PatientWriter, Running,
-    WaitTeller, connect, connect_fault, shared,
+    ConnectFault, Meeting, Network, Noted, Notice, PATIENCE, Pace, PatientReader, PatientWriter,
+    Running, WaitTeller, connect, connect_fault, lookup_fault, shared,
 };
 
 /// A server that is met over a network, at an address. Contracts see what it is asked for, what is expected of it, how
@@ -207,4 +215,203 @@ fn fault_of(failure: Option<ErrorKind>) -> ConnectFault {
         Some(kind) => connect_fault(kind),
         None => ConnectFault::ClosedBeforeAnswer,
     }
+}
+
+/// So many milliseconds are a second.
+const SECOND: u64 = 1000;
+
+/// How much is read of a server at an address in one case, how long it is waited for, and how long that may last.
+#[derive(Clone, Copy)]
+pub struct Bounds {
+    /// At most so many bytes are read behind the head of its answer.
+    pub budget: u64,
+    /// A connection, and the server, is waited for so long.
+    pub timeout: TimeLimit,
+    /// The connection lasts so long.
+    pub deadline: TimeLimit,
+}
+
+impl Bounds {
+    /// Its limits of time, as a loop has them.
+    pub(crate) fn limits(self) -> Limits
+        ensures { result ≡ limits_within self.timeout self.deadline }
+    {
+        Limits {
+            limit: milliseconds(self.timeout),
+            deadline: milliseconds(self.deadline),
+        }
+    }
+}
+
+/// A limit of time in milliseconds.
+fn milliseconds(limit: TimeLimit) -> Option<u64>
+    ensures { result ≡ milliseconds_of limit }
+{
+    match limit {
+        TimeLimit::Unlimited => None,
+        TimeLimit::Seconds(seconds) => Some(u64::from(seconds) * 1000),
+    }
+}
+
+/// Runs a case over a connection to an address, and tells why there is none, or why its answer was not whole, if so.
+pub fn run_looped<N: ws_networks::Network<Miss = ConnectMiss>, P: Poller>(
+    alloc: Global,
+    case: &Case,
+    asked: &Asked<'_>,
+    network: &mut N,
+    poller: &mut P,
+    address: &str,
+    bounds: Bounds,
+) -> Result<Meeting, NoMemory>
+where
+    N::Stream: EndingStream<Fault = NetworkFault>,
+    requires runs { CanBeRun case.now }
+    requires request { CanBeAsked (request_value asked.now.request) }
+    requires timeouts { asked.now.has_timeouts ≡ is_limited bounds.timeout }
+    ensures meets { IfOk result (λ meeting.
+        MeetsAtAddress (asked_within asked.now bounds) asked.now.key case.now meeting) }
+    ensures why { IfOk result (λ meeting. MeetsBecause N.Stream.did N.did (limits_within bounds.timeout bounds.deadline)
+        (P.time poller.old) (P.time poller.new) network.old network.new address.now meeting) }
+{
+    let machine = probe_machine(alloc, case, asked, bounds.budget)?;
+    let mut room = [0; READ_SIZE];
+    let limits = bounds.limits();
+    let met = run_at(alloc, network, poller, address, machine, limits, &mut room);
+    meeting_by(met)
+}
+
+/// What came of a case, where this came of its machine. Where nothing could be waited for, there is no connection.
+fn meeting_by<S: EndingStream + Drop>(
+    met: Result<Met<Probe, S, ConnectMiss>, NetworkFault>,
+) -> Result<Meeting, NoMemory>
+    ensures { IfOk result (λ meeting. IsMeetingBy met meeting) }
+{
+    match met {
+        Ok(Met::Ended(probe, stream)) => Ok(meeting_of(probe, stream.stream_end())),
+        Ok(Met::NotMade(why)) => without_connection(why),
+        Err(NetworkFault::NoMemory) => Err(NoMemory),
+        Err(NetworkFault::WaitFailed | NetworkFault::NoOutput) => {
+            Ok(Meeting::NoConnection(ConnectFault::Failed))
+        }
+    }
+}
+
+/// What came of a case, where its stream has ended so.
+fn meeting_of(probe: Probe, end: StreamEnd) -> Meeting
+    ensures { result ≡ meeting_at probe (reason_of_end end) }
+{
+    match probe {
+        Probe::Ran(transcript) => Meeting::Ran(transcript),
+        Probe::Refused(refusal) => Meeting::Refused(refusal),
+        Probe::NoConnection => Meeting::NoConnection(end_fault(end)),
+    }
+}
+
+/// Why an answer was not whole, where the stream has ended so. Where it hasn't, a limit of time has passed.
+fn end_fault(end: StreamEnd) -> ConnectFault
+    ensures { result ≡ reason_of_end end }
+{
+    match end {
+        StreamEnd::Open => ConnectFault::TimedOut,
+        StreamEnd::Ended => ConnectFault::ClosedBeforeAnswer,
+        StreamEnd::Failed(kind) => connect_fault(kind),
+    }
+}
+
+/// What came of a case, where no connection was made for this reason. That memory ran out for the look-up is no reason
+/// of the network's.
+fn without_connection(why: Missed<ConnectMiss>) -> Result<Meeting, NoMemory>
+    ensures { IfOk result (λ meeting. meeting ≡ NoConnection (reason_of_miss why)) }
+{
+    match why {
+        Missed::Failed(ConnectMiss::NotFound(ErrorKind::OutOfMemory)) => Err(NoMemory),
+        Missed::NoAddress | Missed::TimedOut | Missed::Failed(_) => {
+            Ok(Meeting::NoConnection(missed_fault(why)))
+        }
+    }
+}
+
+/// What came of a case for which no network could be had, for this reason.
+pub fn without_network(kind: ErrorKind) -> Result<Meeting, NoMemory>
+    ensures { IfOk result (λ meeting. meeting ≡ NoConnection (connect_fault_at kind)) }
+{
+    match kind {
+        ErrorKind::OutOfMemory => Err(NoMemory),
+        _ => Ok(Meeting::NoConnection(connect_fault(kind))),
+    }
+}
+
+/// Why there is no connection, where none was made for this reason.
+fn missed_fault(why: Missed<ConnectMiss>) -> ConnectFault
+    ensures { result ≡ reason_of_miss why }
+{
+    match why {
+        Missed::NoAddress => ConnectFault::NoSuchHost,
+        Missed::TimedOut => ConnectFault::TimedOut,
+        Missed::Failed(ConnectMiss::NotFound(kind)) => lookup_fault(kind),
+        Missed::Failed(ConnectMiss::NotTaken(kind)) => connect_fault(kind),
+    }
+}
+
+/// It waits as another poller does. While it is still to be told that a run waits, a wait is interrupted after ten
+/// seconds in which no stream was found ready: it is told, and the wait goes on.
+#[derive(Drop)]
+pub struct TellingPoller<'a, P, N> {
+    poller: P,
+    teller: WaitTeller<'a, N>,
+    asked: u64,
+}
+
+impl<'a, P, N> TellingPoller<'a, P, N> {
+    /// One that waits by this poller, and tells of its waits so.
+    pub fn of(poller: P, teller: WaitTeller<'a, N>) -> TellingPoller<'a, P, N> {
+        TellingPoller {
+            poller,
+            teller,
+            asked: 0,
+        }
+    }
+}
+
+impl<P: Poller, N: Network> TellingPoller<'_, P, N> {
+    /// When it is to be told that a wait goes on, if that is before it ends.
+    fn patience(&self, until: Option<u64>) -> Option<u64> {
+        if !self.teller.is_pending() {
+            return None;
+        }
+        let patience = self.asked.saturating_add(PATIENCE * SECOND);
+        match until {
+            Some(until) if until <= patience => None,
+            Some(_) | None => Some(patience),
+        }
+    }
+}
+
+impl<P: Poller, N: Network> Poller for TellingPoller<'_, P, N> {
+    ghost time = { λ p. P.time p.poller };
+
+    ghost left = { λ p. P.left p.poller };
+
+    fn now(&mut self) -> u64 {
+        let now = self.poller.now();
+        self.asked = now;
+        now
+    }
+
+    fn wait(&mut self, ready: &mut [Readiness], until: Option<u64>) -> Result<(), WaitFailed> {
+        if let Some(patience) = self.patience(until) {
+            self.poller.wait(ready, Some(patience))?;
+            if is_any(ready) {
+                return Ok(());
+            }
+            self.teller.tell();
+        }
+        self.poller.wait(ready, until)?;
+        Ok(())
+    }
+}
+
+/// Whether a stream was found ready.
+fn is_any(ready: &[Readiness]) -> bool {
+    ready.iter().any(|mark| mark.read || mark.write)
 }

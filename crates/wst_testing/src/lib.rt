@@ -10,31 +10,25 @@
 #![tactic(auto)]
 
 mod address_server;
+mod capturing;
 mod case_server;
-mod end;
 mod known_input;
 pub mod laws;
 mod line_writer;
-mod looping;
 mod outcome;
-mod reporting;
 mod run_plans;
 mod runner;
-mod score;
+mod short_runs;
 mod sweeping;
 mod testing;
 
 pub use address_server::AddressServer;
+pub use capturing::{capture_case, capture_text, tell_capture};
 pub use case_server::{CaseServer, MemoryEnd, MemoryPeer};
-pub use end::End;
 pub use known_input::{KnownStop, known_given, tell_known_stop};
 pub use line_writer::{LineStop, LineWriter};
-pub use outcome::{Outcome, Tally, total_line};
-pub use reporting::{Reported, close_report, report_case};
+pub use outcome::{Outcome, Reported, Score, Tally, close_report, report_case, total_line};
 pub use run_plans::{Refusal, RunPlan, TestedEnd, UsualDeadline, is_url, plan_run, tell_refusal};
-pub use runner::{RunStop, Sink, run_cases};
-pub use score::Score;
-pub use sweeping::{SweepRules, SweepStop, is_told, sweep_scripts, tell_sweep_end, total_of};
-pub use testing::{
-    RunRules, capture_case, capture_text, tell_capture, tell_case, tell_progress, test_cases,
-};
+pub use runner::{CaseSource, End, HasCase, ListedCases, RunStop, Sink, run_cases};
+pub use sweeping::{SweepRules, is_told, sweep_scripts, tell_sweep_end, total_of};
+pub use testing::{RunRules, tell_case, tell_progress, test_cases};

@@ -4,28 +4,25 @@
 ghost use Rattle.std.specs.Prelude.{◌≡◌, ◌≤◌, IfOk, OnErr, OnOk, false, string_bytes};
 ghost use Rattle.ws_frame.specs.Devices.{watched};
 ghost use Rattle.ws_frame.specs.Watching.{has_failed};
-ghost use Rattle.ws_scripts.specs.Scripts.{CanBeRun};
-ghost use Rattle.ws_sweep.specs.Order.{ArePlaces, max_steps};
-ghost use Rattle.ws_sweep.specs.ShortCases.{IsShortCase};
+ghost use Rattle.ws_sweep.specs.Order.{max_steps};
 ghost use Rattle.wst_testing.specs.Notes.{TellsEach};
-ghost use Rattle.wst_testing.specs.Sweeps.{CountsScripts, IsConnected, MakesCasesOf, SweepsScript, SweepsScripts};
-ghost use Rattle.wst_testing.specs.Sweeps.{TellsSweepEnd};
-ghost use Rattle.wst_testing.specs.Sweeps.{WritesText, case_rules, is_told, script_line, script_notes, sweep_total};
-ghost use Rattle.wst_testing.specs.Sweeps.{swept, told_line, whole_text};
+ghost use Rattle.wst_testing.specs.Sweeps.{CountsScripts, IsCounted, SweepsScripts, TellsSweepEnd, case_rules, is_told};
+ghost use Rattle.wst_testing.specs.Sweeps.{missed_by, script_line, script_notes, sweep_total, swept, whole_text};
 
 use crate::case_server::CaseServer;
 use crate::outcome::{Outcome, Tally};
-use crate::testing::{RunRules, outcome_of};
+use crate::runner::{RunStop, Sink, run_cases};
+use crate::short_runs::{ShortRun, ShortRuns};
+use crate::testing::{RunRules, judged};
 use std::alloc::Global;
 use std::io::Write;
 use ws_base::NoMemory;
-use ws_frame::{Watched, WriteFault, write_whole};
-use ws_peer::tester_key;
-use ws_suite::{Case, Expectation, Verdict};
-use ws_sweep::{ShortCases, ShortScript, ShortScripts, script_count, tell_steps};
+use ws_frame::{Watched, write_whole};
+use ws_suite::{Expectation, Verdict};
+use ws_sweep::script_count;
 use ws_wire::Role;
 use wst_commands::{Exit, Fault, tell, tell_fault};
-use wst_sockets::ConnectFault;
+use wst_sockets::{ConnectFault, Meeting};
 
 /// How short scripts are run.
 #[derive(Clone, Copy)]
@@ -46,46 +43,15 @@ pub struct SweepRules {
     pub names: bool,
 }
 
-/// Why a sweep ended before its total.
-#[derive(Clone, Copy)]
-pub enum SweepStop {
-    /// The output failed.
-    Device,
-    /// There is no connection to the tested end, or no whole answer came.
-    NoConnection(ConnectFault),
-    /// Memory ran out.
-    NoMemory,
-}
-
-impl From<NoMemory> for SweepStop {
-    ghost use Rattle.wst_testing.specs.declared.sweeping.SweepStop.TheVariants as stop;
-
-    ghost from_gives = { λ _ given. given ≡ stop.NoMemory };
-
-    fn from(_refused: NoMemory) -> SweepStop {
-        SweepStop::NoMemory
-    }
-}
-
-impl From<WriteFault> for SweepStop {
-    ghost use Rattle.wst_testing.specs.declared.sweeping.SweepStop.TheVariants as stop;
-
-    ghost from_gives = { λ _ given. given ≡ stop.Device };
-
-    fn from(_failed: WriteFault) -> SweepStop {
-        SweepStop::Device
-    }
-}
-
-/// Runs every script of at most so many steps in their order, each over a new end, and writes its line, where there
-/// is one to tell, as soon as it is judged, and the total last.
+/// Every script of at most so many steps is run in their order, each over a new end, and its line is written, where
+/// there is one to tell, as soon as it is judged, and the total last.
 pub fn sweep_scripts<S: CaseServer, W: Write, F: Write>(
     alloc: Global,
     server: &S,
     rules: SweepRules,
     writer: &mut Watched<W>,
     faults: &mut Watched<F>,
-) -> Result<Exit, SweepStop>
+) -> Result<Exit, RunStop>
     requires works { has_failed writer.old ≡ false }
     requires steps { rules.steps ≤ max_steps }
     ensures { SweepsScripts (S.meets server.now rules.key) rules result (watched W.contents writer.old writer.new) }
@@ -103,70 +69,76 @@ fn run_scripts<S: CaseServer, W: Write, F: Write>(
     rules: SweepRules,
     writer: &mut Watched<W>,
     faults: &mut Watched<F>,
-) -> Result<Tally, SweepStop>
+) -> Result<Tally, RunStop>
     requires works { has_failed writer.old ≡ false }
     requires steps { rules.steps ≤ max_steps }
     ensures { CountsScripts (S.meets server.now rules.key) rules result (watched W.contents writer.old writer.new) }
 {
-    let key = tester_key(rules.tested, rules.key);
-    let mut cases = ShortCases::new(rules.tested, rules.expected, key);
-    let mut tally = Tally::new();
-    let mut scripts = ShortScripts::up_to(rules.steps);
-    while let Some(script) = scripts.next() {
-        let outcome = run_script(alloc, server, rules, &script, &mut cases, writer, faults)?;
-        tally = tally.with(&outcome);
-    }
-    Ok(tally)
+    let mut runs = ShortRuns::of(rules);
+    let mut sweeper = Sweeper {
+        rules,
+        tally: Tally::new(),
+        writer,
+        faults,
+    };
+    let ended = run_cases(alloc, server, rules.key, &mut runs, &mut sweeper);
+    counted(ended, sweeper.tally)
 }
 
-/// Runs a script over a new end, and writes its line, where there is one to tell. Answers what is told of that end.
-fn run_script<S: CaseServer, W: Write, F: Write>(
-    alloc: Global,
-    server: &S,
-    rules: SweepRules,
-    script: &ShortScript,
-    cases: &mut ShortCases,
-    writer: &mut Watched<W>,
-    faults: &mut Watched<F>,
-) -> Result<Outcome, SweepStop>
-    requires works { has_failed writer.old ≡ false }
-    requires places { ArePlaces script.now }
-    requires cases { MakesCasesOf rules cases.old }
-    ensures swept { SweepsScript (S.meets server.now rules.key) rules script.now result
-        (watched W.contents writer.old writer.new) }
-    ensures cases { MakesCasesOf rules cases.new }
+/// What was counted, where a run came to its end.
+fn counted(ended: Result<(), RunStop>, tally: Tally) -> Result<Tally, RunStop>
+    ensures { IsCounted ended tally result }
 {
-    let case = next_case(alloc, rules, script, cases)?;
-    tell_script(alloc, rules, script, &case, faults)?;
-    let outcome = outcome_of(alloc, server, &case, case_rules(rules))?;
-    let told = connected(outcome)?;
-    tell_outcome(alloc, rules, script, &case, &told, writer)?;
-    cases.give_back(case);
-    Ok(told)
+    match ended {
+        Ok(()) => Ok(tally),
+        Err(why) => Err(why),
+    }
 }
 
-/// The case of a script, named by all its steps where that is asked for.
-fn next_case(
-    alloc: Global,
+/// Writes the line of each script, where there is one to tell, as soon as it is judged, and counts them. The steps of
+/// a script are told to `faults` before it runs, where that is asked for.
+#[derive(Drop)]
+struct Sweeper<'w, 'f, W, F> {
     rules: SweepRules,
-    script: &ShortScript,
-    cases: &mut ShortCases,
-) -> Result<Case, NoMemory>
-    requires { ArePlaces script.now }
-    ensures is { IfOk result (λ case.
-        IsShortCase cases.old.tested cases.old.expected cases.old.key script.now case) }
-    ensures runs { IfOk result (λ case. CanBeRun case) }
-    ensures tested { cases.new.tested ≡ cases.old.tested }
-    ensures expected { cases.new.expected ≡ cases.old.expected }
-    ensures key { cases.new.key ≡ cases.old.key }
-{
-    let case = cases.case_of(alloc, script)?;
-    if !rules.names {
-        return Ok(case);
+    tally: Tally,
+    writer: &'w mut Watched<W>,
+    faults: &'f mut Watched<F>,
+}
+
+impl<W: Write, F: Write> Sink for Sweeper<'_, '_, W, F> {
+    ghost use Rattle.std.specs.Prelude.{◌≡◌, ◌∷◌, []};
+    ghost use Rattle.ws_frame.specs.Devices.{watched};
+    ghost use Rattle.wst_testing.specs.Sweeps.{HasToldScripts, StopsAtScript};
+
+    type Item = ShortRun;
+
+    ghost heard = { λ start now came next. (now.rules ≡ start.rules)
+        × HasToldScripts start.rules came now.tally (watched W.contents start.writer.now now.writer.now) };
+
+    ghost stopped = { λ start now came why.
+        StopsAtScript start.rules came why (watched W.contents start.writer.now now.writer.now) };
+
+    ghost borrows = { λ sweeper. sweeper.writer.ghost_name ∷ sweeper.faults.ghost_name ∷ [] };
+
+    fn begins(&mut self, alloc: Global, run: &ShortRun) -> Result<(), NoMemory> {
+        tell_run(alloc, self.rules, run, self.faults)?;
+        Ok(())
     }
-    let id = text_of(alloc, rules, script, &case)?;
-    let Case { steps, chop, .. } = case;
-    Ok(Case { id, steps, chop })
+
+    fn came(&mut self, alloc: Global, run: &ShortRun, meeting: Meeting) -> Result<(), RunStop> {
+        let outcome = judged(alloc, case_rules(self.rules), meeting)?;
+        match missed_by(&outcome) {
+            Some(why) => return Err(RunStop::NoConnection(why)),
+            None => {}
+        }
+        let line = line_of(alloc, self.rules, run, &outcome)?;
+        match write_whole(self.writer, line.as_bytes()) {
+            Ok(()) => {}
+            Err(_) => return Err(RunStop::Output),
+        }
+        self.tally = self.tally.with(&outcome);
+        Ok(())
+    }
 }
 
 /// How the case of a script is run.
@@ -184,59 +156,33 @@ fn case_rules(rules: SweepRules) -> RunRules
     }
 }
 
-/// The outcome, where there is a connection to the tested end.
-fn connected(outcome: Outcome) -> Result<Outcome, SweepStop>
-    ensures { IsConnected outcome result }
+/// Why there is no connection to the tested end, where there is none.
+fn missed_by(outcome: &Outcome) -> Option<ConnectFault>
+    ensures { result ≡ missed_by outcome.now }
 {
     match outcome {
-        Outcome::Judged(told) => Ok(Outcome::Judged(told)),
-        Outcome::HeadRefused(fault) => Ok(Outcome::HeadRefused(fault)),
-        Outcome::NoConnection(why) => Err(SweepStop::NoConnection(why)),
-        Outcome::NotRun => Ok(Outcome::NotRun),
+        Outcome::NoConnection(why) => Some(*why),
+        Outcome::Judged(_) | Outcome::HeadRefused(_) | Outcome::NotRun => None,
     }
 }
 
 /// Tells the steps of the case of a script that is run next, where that is asked for.
-fn tell_script<F: Write>(
+fn tell_run<F: Write>(
     alloc: Global,
     rules: SweepRules,
-    script: &ShortScript,
-    case: &Case,
+    run: &ShortRun,
     faults: &mut Watched<F>,
 ) -> Result<(), NoMemory>
-    requires { ArePlaces script.now }
-    ensures told { OnOk result (TellsEach (script_notes rules.progress (whole_text rules script.now case.now))
+    ensures told { OnOk result (TellsEach (script_notes rules.progress (whole_text rules run.now.places run.now.case))
         (watched F.contents faults.old faults.new)) }
     ensures kept { OnErr result (faults.new ≡ faults.old) }
 {
     if !rules.progress {
         return Ok(());
     }
-    let mut line = text_of(alloc, rules, script, case)?;
+    let mut line = run.text(alloc, rules)?;
     line.push_str("\n")?;
     tell(line.as_bytes(), faults);
-    Ok(())
-}
-
-/// Writes the line of a script, where there is one to tell.
-fn tell_outcome<W: Write>(
-    alloc: Global,
-    rules: SweepRules,
-    script: &ShortScript,
-    case: &Case,
-    outcome: &Outcome,
-    writer: &mut Watched<W>,
-) -> Result<(), SweepStop>
-    requires works { has_failed writer.old ≡ false }
-    requires places { ArePlaces script.now }
-    ensures { WritesText (script_line rules (swept script.now case.now outcome.now)) result
-        (watched W.contents writer.old writer.new) }
-{
-    if !is_told(rules.all, outcome) {
-        return Ok(());
-    }
-    let line = line_of(alloc, rules, script, case, outcome)?;
-    write_whole(writer, line.as_bytes())?;
     Ok(())
 }
 
@@ -254,34 +200,22 @@ pub fn is_told(all: bool, outcome: &Outcome) -> bool
     }
 }
 
-/// Its line.
+/// Its line, where there is one to tell.
 fn line_of(
     alloc: Global,
     rules: SweepRules,
-    script: &ShortScript,
-    case: &Case,
+    run: &ShortRun,
     outcome: &Outcome,
 ) -> Result<String, NoMemory>
-    requires { ArePlaces script.now }
-    ensures { IfOk result (λ line. string_bytes line ≡ told_line rules (swept script.now case.now outcome.now)) }
+    ensures { IfOk result (λ line.
+        string_bytes line ≡ script_line rules (swept run.now.places run.now.case outcome.now)) }
 {
-    let steps = text_of(alloc, rules, script, case)?;
+    if !is_told(rules.all, outcome) {
+        return Ok(String::new(alloc));
+    }
+    let steps = run.text(alloc, rules)?;
     let line = format!(in alloc; "{outcome}: {steps}\n")?;
     Ok(line)
-}
-
-/// All steps of its case, as they are told.
-fn text_of(
-    alloc: Global,
-    rules: SweepRules,
-    script: &ShortScript,
-    case: &Case,
-) -> Result<String, NoMemory>
-    requires { ArePlaces script.now }
-    ensures { IfOk result (λ text. string_bytes text ≡ whole_text rules script.now case.now) }
-{
-    let steps = case.steps.as_slice();
-    tell_steps(alloc, rules.tested, rules.expected, script, steps)
 }
 
 /// The line of the total.
@@ -298,18 +232,18 @@ pub fn total_of(alloc: Global, count: usize, tally: Tally) -> Result<String, NoM
 /// Tells how a sweep ended, where there is something to tell, and answers the exit that it stands for.
 pub fn tell_sweep_end<F: Write>(
     alloc: Global,
-    ended: Result<Exit, SweepStop>,
+    ended: Result<Exit, RunStop>,
     faults: &mut Watched<F>,
 ) -> Exit
     ensures { TellsSweepEnd ended result (watched F.contents faults.old faults.new) }
 {
     match ended {
         Ok(exit) => exit,
-        Err(SweepStop::Device) => Exit::Failed,
-        Err(SweepStop::NoConnection(why)) => {
+        Err(RunStop::Enough | RunStop::Output) => Exit::Failed,
+        Err(RunStop::NoConnection(why)) => {
             tell(why.line(), faults);
             Exit::Failed
         }
-        Err(SweepStop::NoMemory) => tell_fault(alloc, Fault::NoMemory, faults),
+        Err(RunStop::NoMemory) => tell_fault(alloc, Fault::NoMemory, faults),
     }
 }

@@ -1,37 +1,33 @@
 //! Cases run over new ends: each is judged, and its line is written, before the next one runs.
 
-ghost use Rattle.std.specs.Prelude.{◌≡◌, ◌+◌, ◌<◌, ◌^◌, List, ℕ, IfOk, MatchResult, OnErr, OnOk, false, if◌then◌else◌};
-ghost use Rattle.std.specs.Prelude.{string_bytes};
+ghost use Rattle.std.specs.Prelude.{◌≡◌, ◌+◌, ◌<◌, ◌^◌, List, ℕ, IfOk, MatchResult, OnErr, OnOk, false, true};
+ghost use Rattle.std.specs.Prelude.{if◌then◌else◌, string_bytes};
 ghost use Rattle.std.specs.List.{All};
 ghost use Rattle.ws_frame.specs.Devices.{watched};
 ghost use Rattle.ws_frame.specs.Watching.{has_failed};
-ghost use Rattle.ws_scripts.specs.Captures2.{written_capture2};
 ghost use Rattle.ws_scripts.specs.Scripts.{CanBeRun};
 ghost use Rattle.wst_commands.specs.Devices.{Delivers, StaysFailed};
 ghost use Rattle.wst_testing.specs.Notes.{TellsEach, miss_notes, progress_notes};
 ghost use Rattle.wst_testing.specs.Outcomes.{is_missed, max_missed, told_refusal};
 ghost use Rattle.wst_testing.specs.Reporter.{IsEndOfStop};
-ghost use Rattle.wst_testing.specs.Testing.{IsOutcomeOf, IsTested, RunsCapture, RunsCases, WritesCapture};
-ghost use Rattle.wst_testing.specs.Testing.{run_capture, test_line};
+ghost use Rattle.wst_testing.specs.Testing.{IsOutcomeOf, IsTested, RunsCases, test_line};
 ghost use Rattle.wst_commands.specs.declared.fault.Fault.TheVariants as variant;
+ghost use Rattle.wst_testing.specs.declared.outcome.Outcome.TheVariants.{NoConnection};
 
 use crate::case_server::CaseServer;
-use crate::outcome::{Below, Outcome};
-use crate::reporting::{report_case, tell_end};
-use crate::runner::{RunStop, Sink, run_cases};
-use crate::score::Score;
+use crate::outcome::{Below, Outcome, Score, report_case, tell_end};
+use crate::runner::{ListedCases, RunStop, Sink, run_cases};
 use std::alloc::Global;
 use std::io::Write;
 use ws_base::NoMemory;
 use ws_connection::HeadRefusal;
 use ws_frame::{Watched, write_whole};
-use ws_peer::tester_key;
 use ws_reports::Report;
-use ws_suite::{Capture, Case, Expectation, Transcript, judge_with, write_capture2};
+use ws_suite::{Case, Expectation};
 use ws_upgrade::HeadFault;
 use ws_wire::Role;
-use wst_commands::{Exit, Fault, deliver, exit_of, judgement_of, tell};
-use wst_sockets::Meeting;
+use wst_commands::{Exit, Fault, deliver, judgement_of, tell};
+use wst_sockets::{ConnectFault, Meeting};
 
 /// How cases are run.
 #[derive(Clone, Copy)]
@@ -78,7 +74,8 @@ pub fn test_cases<S: CaseServer, W: Write, F: Write>(
         writer,
         faults,
     };
-    let ended = run_cases(alloc, server, rules.key, cases, &mut reporter);
+    let mut listed = ListedCases::of(cases);
+    let ended = run_cases(alloc, server, rules.key, &mut listed, &mut reporter);
     let score = reporter.score;
     match ended {
         Ok(()) => tell_end(alloc, report, score, writer),
@@ -91,7 +88,7 @@ fn stopped_by(why: RunStop) -> Result<Exit, Fault>
     ensures { IsEndOfStop why result }
 {
     match why {
-        RunStop::Output | RunStop::NoConnection => Ok(Exit::Failed),
+        RunStop::Enough | RunStop::Output | RunStop::NoConnection(_) => Ok(Exit::Failed),
         RunStop::NoMemory => Err(Fault::NoMemory),
     }
 }
@@ -114,6 +111,8 @@ impl<W: Write, F: Write> Sink for Reporter<'_, '_, '_, W, F> {
     ghost use Rattle.ws_frame.specs.Devices.{watched};
     ghost use Rattle.wst_commands.specs.Devices.{StaysFailed};
     ghost use Rattle.wst_testing.specs.Reporter.{HasReported, StopsReport};
+
+    type Item = Case;
 
     ghost heard = { λ start now came next. (now.rules ≡ start.rules) × (now.report.now ≡ start.report.now)
         × HasReported start.rules start.report.now came next now.score now.missed
@@ -142,7 +141,7 @@ impl<W: Write, F: Write> Sink for Reporter<'_, '_, '_, W, F> {
         }
         self.missed = missed_after(self.missed, &outcome);
         if self.missed >= max_missed(self.rules.is_limited) {
-            return Err(RunStop::NoConnection);
+            return Err(RunStop::NoConnection(miss_of(&outcome)));
         }
         self.score = self.score.with(&outcome, reported.is_failed);
         Ok(())
@@ -167,6 +166,17 @@ fn missed_after(missed: u32, outcome: &Outcome) -> u32
     }
 }
 
+/// Why there is no connection, where there is none.
+fn miss_of(outcome: &Outcome) -> ConnectFault
+    requires { is_missed outcome.now ≡ true }
+    ensures { outcome.now ≡ NoConnection result }
+{
+    match outcome {
+        Outcome::NoConnection(why) => *why,
+        Outcome::Judged(_) | Outcome::HeadRefused(_) | Outcome::NotRun => unreachable!(),
+    }
+}
+
 /// Tells the name of a case that is run next, where that is asked for.
 pub fn tell_progress<F: Write>(
     alloc: Global,
@@ -188,7 +198,7 @@ pub fn tell_progress<F: Write>(
 }
 
 /// Tells why there is no connection to the tested end of a case, where there is none.
-fn tell_miss<F: Write>(outcome: &Outcome, faults: &mut Watched<F>)
+pub(crate) fn tell_miss<F: Write>(outcome: &Outcome, faults: &mut Watched<F>)
     ensures told { TellsEach (miss_notes outcome.now) (watched F.contents faults.old faults.new) }
     ensures still { StaysFailed faults.old faults.new }
 {
@@ -198,22 +208,8 @@ fn tell_miss<F: Write>(outcome: &Outcome, faults: &mut Watched<F>)
     }
 }
 
-/// What is told of a new end in a case.
-pub(crate) fn outcome_of<S: CaseServer>(
-    alloc: Global,
-    server: &S,
-    case: &Case,
-    rules: RunRules,
-) -> Result<Outcome, NoMemory>
-    requires { CanBeRun case.now }
-    ensures { IfOk result (λ outcome. IsTested (S.meets server.now rules.key) rules case.now outcome) }
-{
-    let meeting = server.run(alloc, case, rules.key)?;
-    judged(alloc, rules, meeting)
-}
-
 /// What is told of a case of which this came.
-fn judged(alloc: Global, rules: RunRules, meeting: Meeting) -> Result<Outcome, NoMemory>
+pub(crate) fn judged(alloc: Global, rules: RunRules, meeting: Meeting) -> Result<Outcome, NoMemory>
     ensures { IfOk result (λ outcome. IsOutcomeOf rules meeting outcome) }
 {
     match meeting {
@@ -265,74 +261,4 @@ pub(crate) fn case_line(alloc: Global, case: &Case, outcome: &Outcome) -> Result
     let below = Below(outcome);
     let lines = format!(in alloc; "{} {outcome}\n{below}", case.id)?;
     Ok(lines)
-}
-
-/// Runs a case over a new end, and writes the capture of it in format 2. Where there is none, it writes the line of
-/// the case. What is told to `faults` is told as by `test_cases`.
-pub fn capture_case<S: CaseServer, W: Write, F: Write>(
-    alloc: Global,
-    server: &S,
-    rules: RunRules,
-    case: &Case,
-    writer: &mut Watched<W>,
-    faults: &mut Watched<F>,
-) -> Result<Exit, Fault>
-    requires works { has_failed writer.old ≡ false }
-    requires can_be_run { CanBeRun case.now }
-    ensures runs { RunsCapture (S.meets server.now rules.key) rules case.now result
-        (watched W.contents writer.old writer.new) (watched F.contents faults.old faults.new) }
-    ensures still { StaysFailed faults.old faults.new }
-{
-    tell_progress(alloc, rules.progress, case, faults)?;
-    match server.run(alloc, case, rules.key)? {
-        Meeting::Ran(transcript) => tell_capture(alloc, rules, transcript, writer),
-        Meeting::Refused(refusal) => {
-            let outcome = Outcome::HeadRefused(HeadRefusal {
-                fault: refusal.fault,
-                status: None,
-            });
-            tell_case(alloc, case, &outcome, Exit::Damaged, writer)
-        }
-        Meeting::NoConnection(why) => {
-            let outcome = Outcome::NoConnection(why);
-            let told = tell_case(alloc, case, &outcome, Exit::Failed, writer)?;
-            tell_miss(&outcome, faults);
-            Ok(told)
-        }
-    }
-}
-
-/// Writes the capture of a run. The exit is that of the verdict on the tested end by its transcript.
-pub fn tell_capture<W: Write>(
-    alloc: Global,
-    rules: RunRules,
-    transcript: Transcript,
-    writer: &mut Watched<W>,
-) -> Result<Exit, Fault>
-    requires { has_failed writer.old ≡ false }
-    ensures { MatchResult result
-        (λ exit. WritesCapture rules.tested rules.expected (run_capture rules.tested rules.key transcript) exit
-        (watched W.contents writer.old writer.new))
-        (λ fault. (fault ≡ variant.NoMemory) × (writer.new ≡ writer.old)) }
-{
-    let verdict = judge_with(alloc, rules.tested, rules.expected, &transcript)?;
-    let text = capture_text(alloc, rules.tested, rules.key, transcript)?;
-    Ok(deliver(exit_of(verdict), text.as_slice(), writer))
-}
-
-/// The capture of a run that tests an end of this role, in format 2.
-pub fn capture_text(
-    alloc: Global,
-    tested: Role,
-    key: [u8; 4],
-    transcript: Transcript,
-) -> Result<Vec<u8>, NoMemory>
-    ensures { IfOk result (λ text. text.items ≡ written_capture2 (run_capture tested key transcript)) }
-{
-    let capture = Capture {
-        key: tester_key(tested, key),
-        transcript,
-    };
-    let text = write_capture2(alloc, &capture)?;
-    Ok(text)
 }

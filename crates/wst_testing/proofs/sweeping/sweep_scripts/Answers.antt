@@ -3,7 +3,7 @@ use Rattle.std.proofs.Common.{◌≡◌, ◌∙◌, ◌||◌, ℕ, Bool, true, I
 use Rattle.ws_frame.specs.Devices.{watched}
 use Rattle.ws_frame.specs.Watching.{has_failed, inner_of}
 use Rattle.wst_testing.specs.Sweeps.{sweep_total}
-use Rattle.wst_testing.specs.declared.sweeping.SweepStop.TheVariants as stop
+use Rattle.wst_testing.specs.declared.runner.RunStop.TheVariants as stop
 use Rattle.wst_testing.proofs.SweepLemmas.{sweep_stops, total_fails}
 use Rattle.wst_testing.proofs.sweeping.sweep_scripts.Goals as goal
 
@@ -17,8 +17,8 @@ returns-in_err-write_whole g c =
     ∙ ap (λ (n : ℕ). sweep_total n tally) c.script_count.ensures) in
     let fails : has_failed c.write_whole.new.writer ≡ true =
     c.in_err-write_whole.ensures.failed ∙ ap (λ (b : Bool). b || true) c.in_ok-tally.ensures.1 in
-    let stopped : IsErrAnd c.from_residual-in_err-write_whole.result (λ why. why ≡ stop.Device) = search rules in
-    sweep_stops Meets given stop.Device c.from_residual-in_err-write_whole.result
+    let stopped : IsErrAnd c.from_residual-in_err-write_whole.result (λ why. why ≡ stop.Output) = search rules in
+    sweep_stops Meets given stop.Output c.from_residual-in_err-write_whole.result
     (watched g.W.Write.contents c.args.writer.now c.write_whole.new.writer)
     (total_fails Meets given tally c.as_bytes.result.now (g.W.Write.contents (inner_of c.args.writer.now))
     (g.W.Write.contents (inner_of c.run_scripts.new.writer)) (g.W.Write.contents (inner_of c.write_whole.new.writer))

@@ -8,7 +8,7 @@ use Rattle.wst_testing.specs.Reporting.{fails_in, report_text, score_by}
 use Rattle.wst_testing.specs.Testing.{IsOutcomeOf}
 use Rattle.wst_testing.specs.declared.testing.RunRules.{RunRules}
 use Rattle.ws_reports.specs.Reports.{ReportValue}
-use Rattle.wst_testing.proofs.ReporterLemmas.{missed_most, report_breaks, report_misses, reported_more, reported_room}
+use Rattle.wst_testing.proofs.ReporterLemmas.{last_missed, missed_most, report_breaks, report_misses, reported_more, reported_room}
 use Rattle.wst_testing.proofs.testing.ReporterSink.came.Goals as goal
 
 pub with-self-requires-clause-pass : goal.with-self-requires-clause-pass
@@ -46,6 +46,11 @@ returns-in-Err-clause-heard g c = λ start came (kept, report, so, still).
       λ failed. c.tell_miss.ensures.still (still failed),
     )
 
+pub miss_of-requires : goal.miss_of-requires
+miss_of-requires g c = last_missed (is_missed c.in_ok-outcome.outcome) c.args.self.now.rules.is_limited
+    c.args.self.now.missed c.missed_after-self.result c.missed_after-self.ensures
+    (omega (arith, c.if-self-max_missed.true, c.max_missed.ensures))
+
 pub returns-then-self-max_missed-clause-heard : goal.returns-then-self-max_missed-clause-heard
 returns-then-self-max_missed-clause-heard g c = λ start came (kept, report, so, still).
     let old = c.args.self.now in
@@ -63,7 +68,8 @@ returns-then-self-max_missed-clause-heard g c = λ start came (kept, report, so,
           (has_failed old.writer.now) (has_failed c.write_whole-written.new.writer) (has_failed old.faults.now)
           (has_failed c.tell_miss.new.faults) (g.F.Write.contents (inner_of start.faults.now))
           (g.F.Write.contents (inner_of old.faults.now)) (g.F.Write.contents (inner_of c.tell_miss.new.faults)) so is
-          c.tell_miss.ensures.still c.tell_miss.ensures.told c.missed_after-self.ensures most
+          c.tell_miss.ensures.still c.tell_miss.ensures.told c.miss_of.result c.miss_of.ensures
+          c.missed_after-self.ensures most
           (subst (λ (l : List ℕ). Appends (g.W.Write.contents (inner_of old.writer.now))
           (g.W.Write.contents (inner_of c.write_whole-written.new.writer)) l) (sym line) c.in-Ok.ensures.written)
           (c.in-Ok.ensures.failed ∙ ap (λ (b : Bool). b || false) so.works),

@@ -3,7 +3,7 @@ use Rattle.std.proofs.Common.{rules, ◌≡◌, ◌∙◌, ap, string_bytes}
 use Rattle.ws_reports.specs.Reports.{case_text}
 use Rattle.ws_titles.specs.Titles.{title_of}
 use Rattle.wst_testing.specs.Outcomes.{below_line, outcome_words}
-use Rattle.wst_testing.proofs.reporting.report_case.Goals as goal
+use Rattle.wst_testing.proofs.outcome.report_case.Goals as goal
 
 pub returns-clause-text : goal.returns-clause-text
 returns-clause-text c =

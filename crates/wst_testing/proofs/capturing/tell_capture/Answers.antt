@@ -5,7 +5,7 @@ use Rattle.ws_scripts.specs.Captures2.{written_capture2}
 use Rattle.wst_commands.specs.Judge.{exit_of}
 use Rattle.wst_commands.proofs.Delivering.{delivers_same}
 use Rattle.wst_testing.specs.Testing.{run_capture}
-use Rattle.wst_testing.proofs.testing.tell_capture.Goals as goal
+use Rattle.wst_testing.proofs.capturing.tell_capture.Goals as goal
 
 pub returns : goal.returns
 returns g c =

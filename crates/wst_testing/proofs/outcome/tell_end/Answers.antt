@@ -5,7 +5,7 @@ use Rattle.ws_reports.specs.Reports.{end_text}
 use Rattle.wst_testing.specs.Outcomes.{total_line}
 use Rattle.wst_testing.specs.Reporting.{exit_of_report}
 use Rattle.wst_commands.proofs.Delivering.{delivers_same}
-use Rattle.wst_testing.proofs.reporting.tell_end.Goals as goal
+use Rattle.wst_testing.proofs.outcome.tell_end.Goals as goal
 
 pub returns : goal.returns
 returns g c =
