@@ -10,3 +10,4 @@ pub mod DamagedLines
 pub mod PartialTexts
 pub mod LineWords
 pub mod LetterLines
+pub mod QuotedTexts

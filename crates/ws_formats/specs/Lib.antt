@@ -1,4 +1,5 @@
 pub mod Words
 pub mod Lines
-pub mod Examples
+pub mod QuotedText
 pub mod Reading
+pub mod Examples

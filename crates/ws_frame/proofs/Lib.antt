@@ -12,4 +12,3 @@ pub mod Streams
 pub mod OneByte
 pub mod PutFrames
 pub mod EitherWay
-pub mod Quoted

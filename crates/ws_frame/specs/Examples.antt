@@ -1,11 +1,14 @@
 -- Worked examples, each a theorem.
-use Rattle.std.specs.Prelude.{◌≡◌, true, false, [], ◌∷◌, None, codes, refl}
+use Rattle.std.specs.Prelude.{◌≡◌, ⊤, true, false, [], ◌∷◌, ◌++◌, None, codes, refl}
+use Rattle.std.specs.Char.{encode_utf8}
 use Rattle.std.specs.Fmt.{digits}
+use Rattle.std.specs.Str.{chars, is_utf8}
 use Rattle.ws_wire.specs.declared.role.Role.TheVariants.{Client, Server}
 use Rattle.ws_wire.specs.declared.header.Form.TheVariants.{Short, Two}
 use Rattle.ws_frame.specs.declared.showing.StreamEnd.TheVariants.{CutAt, BadLengthAt}
 use Rattle.ws_frame.specs.declared.source.Mark.TheVariants.{Sent}
 use Rattle.ws_frame.specs.declared.source.DataStyle.TheVariants.{Hex, Text, All}
+use Rattle.ws_formats.specs.QuotedText.{quoted_word}
 use Rattle.ws_frame.specs.Lines.{alone, plain, line_of, last_line, payload_word}
 
 -- the line of "Hello", sent by a server
@@ -26,30 +29,41 @@ pub line_of_odd_frame : line_of (plain Client) 11 (record {
 unfolding digits
 line_of_odd_frame = refl
 
--- a payload as text, in quotation marks; a byte that can't stand there makes it digits
+-- what is computed at bytes that are written out
+unfoldable on_bytes : ⊤
+unfolding digits chars is_utf8 encode_utf8 quoted_word
+on_bytes = tt
+
+-- a payload as text, in quotation marks: `grüße` and a line end; a fragment that ends inside its ü is digits
 pub text_of_hello : line_of (alone Server Text) 0 (record {
   header = record { fin = true; rsv = 0; opcode = 1; key = None; len = 5; form = Short };
   payload = codes "Hello";
 })
     ≡ codes "0 text fin=1 rsv=0 key=- len=5 short \"Hello\"\n"
-unfolding digits
+unfolding on_bytes
 text_of_hello = refl
 
-pub digits_of_a_control : payload_word Text 1 (27 ∷ 91 ∷ []) ≡ codes "1b5b"
-unfolding digits
-digits_of_a_control = refl
+pub text_of_a_greeting : payload_word Text 1 (103 ∷ 114 ∷ 195 ∷ 188 ∷ 195 ∷ 159 ∷ 101 ∷ 10 ∷ [])
+    ≡ codes "\"gr" ++ (195 ∷ 188 ∷ 195 ∷ 159 ∷ codes "e\\n\"")
+unfolding on_bytes
+text_of_a_greeting = refl
 
--- a close of code 1000 with a reason, one without, and one of a single byte, which has no code
+pub digits_of_a_cut_character : payload_word Text 1 (103 ∷ 114 ∷ 195 ∷ []) ≡ codes "6772c3"
+unfolding on_bytes
+digits_of_a_cut_character = refl
+
+-- a close of code 1000 with a reason, one without, and one of a single byte, which has no code and is a control
+-- character
 pub close_with_a_reason : payload_word Text 8 (3 ∷ 232 ∷ codes "bye") ≡ codes "1000:\"bye\""
-unfolding digits
+unfolding on_bytes
 close_with_a_reason = refl
 
 pub close_without_a_reason : payload_word Text 8 (3 ∷ 232 ∷ []) ≡ codes "1000:\"\""
-unfolding digits
+unfolding on_bytes
 close_without_a_reason = refl
 
-pub close_of_one_byte : payload_word Text 8 (3 ∷ []) ≡ codes "03"
-unfolding digits
+pub close_of_one_byte : payload_word Text 8 (3 ∷ []) ≡ codes "\"\\u0003\""
+unfolding on_bytes
 close_of_one_byte = refl
 
 -- all of a payload, where the first sixteen bytes aren't all

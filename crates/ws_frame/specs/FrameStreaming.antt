@@ -1,7 +1,8 @@
 -- The lines of a stream that comes piece by piece, with payloads in any style (RFC 6455 section 5.2), and what each
 -- call writes of them.
-use Rattle.std.specs.Prelude.{◌≡◌, ◌<◌, ◌+◌, ◌^◌, ℕ, Bool, true, false, List, ◌++◌, length, Result, Ok, Err}
+use Rattle.std.specs.Prelude.{◌≡◌, ◌<◌, ◌+◌, ◌^◌, ℕ, Bool, true, false, List, ◌++◌, length, Result, Ok, Err, ⊤}
 use Rattle.ws_wire.specs.Header.{AreBytes}
+use Rattle.ws_frame.specs.declared.source.DataStyle.{DataStyle}
 use Rattle.ws_frame.specs.declared.source.Source.{Source}
 use Rattle.ws_frame.specs.declared.payload_lines.PayloadLines.{PayloadLines}
 use Rattle.ws_frame.specs.declared.frame_lines.FrameLines.{FrameLines}
@@ -10,7 +11,7 @@ use Rattle.ws_frame.specs.declared.show_fault.ShowFault.{ShowFault}
 use Rattle.ws_frame.specs.declared.show_fault.ShowFault.TheVariants.{Write, NoMemory}
 use Rattle.ws_frame.specs.declared.writing_whole.WriteFault.{WriteFault}
 use Rattle.ws_frame.specs.Devices.{Device, HasWritten}
-use Rattle.ws_frame.specs.Lines.{AreCertainLines}
+use Rattle.ws_frame.specs.Lines.{AreCertainLines, takes_memory}
 use Rattle.ws_frame.specs.InnerShowing.{BeginsLines}
 use Rattle.ws_frame.specs.Streaming.{HasShown, ShowsLast, source_of}
 use Rattle.ws_frame.specs.PayloadStreaming.{HasPutLines, stream_source}
@@ -19,6 +20,11 @@ use Rattle.ws_frame.specs.PayloadStreaming.{HasPutLines, stream_source}
 abbrev pub frames_source : FrameLines → Source
 frames_source (Digits lines) = source_of lines
 frames_source (Whole lines) = stream_source lines
+
+-- whether a frame is kept until it is whole, for which memory is taken
+abbrev pub keeps_frames : FrameLines → Bool
+keeps_frames (Digits lines) = false
+keeps_frames (Whole lines) = true
 
 -- where it stands, by how its lines are made
 abbrev pub StandsEitherWay : FrameLines → List ℕ → List ℕ → Type 0
@@ -44,6 +50,11 @@ HasRoomForFrames count stream =
 abbrev pub is_of_a_write : ShowFault → Bool
 is_of_a_write Write = true
 is_of_a_write NoMemory = false
+
+-- lines in this style may end so: only those that take memory can lack it
+abbrev pub MayEndBy : DataStyle → ShowFault → Type 0
+MayEndBy style Write = ⊤
+MayEndBy style NoMemory = takes_memory style ≡ true
 
 -- what came of more bytes: all lines that are certain then were written; or a beginning of them, since a write failed
 -- or memory ran out

@@ -1,11 +1,12 @@
 -- The lines of `show`: one for each frame of a stream (RFC 6455 section 5.2), in any form, and a last one where the
 -- stream stops inside a frame. A line ends with LF. Where the streams of both ends are shown, each line begins with the
 -- mark of its stream.
-use Rattle.std.specs.Prelude.{◌⊎◌, ◌≡◌, ℕ, ◌+◌, ◌*◌, ◌<◌, ◌≤◌, Bool, true, false, nat_lt, nat_le, ◌==◌, ◌&&◌, not}
+use Rattle.std.specs.Prelude.{◌⊎◌, ◌≡◌, ℕ, ◌+◌, ◌*◌, ◌<◌, ◌≤◌, Bool, true, false, nat_lt, ◌==◌}
 use Rattle.std.specs.Prelude.{if◌then◌else◌}
 use Rattle.std.specs.Prelude.{List, [], ◌∷◌, ◌++◌, length, take, Option, Some, None, codes}
-use Rattle.std.specs.List.{flat_map, concat, list_all}
+use Rattle.std.specs.List.{flat_map, concat}
 use Rattle.std.specs.Fmt.{decimal}
+use Rattle.std.specs.Str.{chars, is_utf8}
 use Rattle.std.specs.Io.KnownBytes.{IsAtEnd}
 use Rattle.ws_wire.specs.declared.role.Role.{Role}
 use Rattle.ws_wire.specs.declared.role.Role.TheVariants.{Client, Server}
@@ -25,6 +26,7 @@ use Rattle.ws_wire.specs.Stream.{SplitsIntoAnyForm}
 use Rattle.ws_wire.specs.Reading.{BeginsBadLength}
 use Rattle.ws_frame.specs.Devices.{Device, HasRead, HasWritten}
 use Rattle.ws_formats.specs.Words.{bit_word, hex_word, opcode_word}
+use Rattle.ws_formats.specs.QuotedText.{quoted_word}
 pub use Rattle.ws_formats.specs.Words.{hex}
 
 -- ---- the words of a line
@@ -43,18 +45,9 @@ data_word len first = if len == 0 then codes "-" else hex first ++ (if nat_lt 16
 abbrev pub first_word : List ℕ → List ℕ
 first_word payload = data_word (length payload) (take 16 payload)
 
--- a byte that may stand between quotation marks: 0x20 to 0x7e but the mark itself
-abbrev pub is_text_byte : ℕ → Bool
-is_text_byte byte = nat_le 32 byte && nat_le byte 126 && not (byte == 34)
-
--- the first 64 bytes between quotation marks, and two dots behind these where there are more
-abbrev pub quoted_word : List ℕ → List ℕ
-quoted_word payload =
-    codes "\"" ++ (take 64 payload ++ (codes "\"" ++ (if nat_lt 64 (length payload) then codes ".." else [])))
-
--- a payload as text: quoted where every byte of it may be; else its first bytes as digits
+-- a payload as text, between quotation marks, where it is UTF-8; else its first bytes as digits
 abbrev pub text_word : List ℕ → List ℕ
-text_word payload = if list_all is_text_byte payload then quoted_word payload else first_word payload
+text_word payload = if is_utf8 payload then quoted_word (chars payload) else first_word payload
 
 -- that of a close frame (section 5.5.1): of at least two bytes the code as a number, a colon, and the reason as text
 abbrev pub close_word : List ℕ → List ℕ
@@ -70,6 +63,12 @@ abbrev pub payload_word : DataStyle → ℕ → List ℕ → List ℕ
 payload_word Hex opcode payload = first_word payload
 payload_word Text opcode payload = readable_word opcode payload
 payload_word All opcode payload = hex_word payload
+
+-- whether lines in this style take memory: those of first bytes take none, the others are made of whole frames
+abbrev pub takes_memory : DataStyle → Bool
+takes_memory Hex = false
+takes_memory Text = true
+takes_memory All = true
 
 -- a client masks each frame and a server none (section 5.1); the other way round is marked
 abbrev pub mask_mark : Role → Option (List ℕ) → List ℕ
@@ -201,7 +200,7 @@ pub record HasEarlierLines (run : ShowRun) : Type 0 where
   pub more : List ℕ
   pub begins : run.written ≡ lines ++ more
 
--- what was written for what was read, by how the run ended
+-- what was written for what was read, by how the run ended: only lines that take memory can lack it
 abbrev pub IsShownAt : ShowEnd → ShowRun → Type 0
 IsShownAt show_end.Done run = AreLinesOf run.source run.read Whole run.written × (length run.read < run.budget)
 IsShownAt (show_end.CutAt place) run =
@@ -210,7 +209,8 @@ IsShownAt (show_end.BadLengthAt place) run = AreLinesOf run.source run.read (Bad
 IsShownAt show_end.Budget run = AreFrameLinesOf run.source run.read run.written × (length run.read ≡ run.budget)
 IsShownAt show_end.ReadFault run = AreFrameLinesOf run.source run.read run.written × (length run.read < run.budget)
 IsShownAt show_end.WriteFault run = BeginsDueLines run × HasEarlierLines run
-IsShownAt show_end.NoMemory run = BeginsDueLines run × HasEarlierLines run
+IsShownAt show_end.NoMemory run =
+    BeginsDueLines run × HasEarlierLines run × (takes_memory run.source.style ≡ true)
 
 -- a run of `show` over a reader and a writer: some bytes were read, at most as many as the budget, and what is due for
 -- them was written

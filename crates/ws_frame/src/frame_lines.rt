@@ -1,11 +1,13 @@
 //! The lines of a stream that comes piece by piece, with payloads in any style (RFC 6455 section 5.2).
 
-ghost use Rattle.std.specs.Prelude.{◌≡◌, [], false, length};
+ghost use Rattle.std.specs.Prelude.{◌≡◌, [], IsErrOf, false, length, true};
+ghost use Rattle.ws_frame.specs.Lines.{takes_memory};
+ghost use Rattle.ws_frame.specs.declared.show_fault.ShowFault.TheVariants.{NoMemory};
 ghost use Rattle.ws_frame.specs.Watching.{has_failed};
 ghost use Rattle.ws_frame.specs.Devices.{watched};
 ghost use Rattle.ws_frame.specs.PayloadStreaming.{HasRoomToPut, stream_source};
 ghost use Rattle.ws_frame.specs.FrameStreaming.{CanEndFrames, EndsFrames, HasRoomForFrames, HasTakenFrames, TakesMore};
-ghost use Rattle.ws_frame.specs.FrameStreaming.{WritesMore, frames_source};
+ghost use Rattle.ws_frame.specs.FrameStreaming.{WritesMore, frames_source, keeps_frames};
 
 use crate::payload_lines::PayloadLines;
 use crate::show_fault::ShowFault;
@@ -30,6 +32,7 @@ impl FrameLines {
     pub fn new(alloc: Global, source: Source) -> FrameLines
         ensures source { frames_source result ≡ source }
         ensures begun { HasTakenFrames result [] [] }
+        ensures kept { keeps_frames result ≡ takes_memory source.style }
     {
         match source.style {
             DataStyle::Hex => FrameLines::Digits(StreamLines::new(source)),
@@ -38,7 +41,8 @@ impl FrameLines {
     }
 
     /// More bytes come: the lines of the frames that they complete are written, and that of a bad length, behind which
-    /// no line follows. At an error a beginning of these lines was written.
+    /// no line follows. At an error a beginning of these lines was written. Memory can run out only where frames are
+    /// kept.
     pub fn take<W: Write>(
         &mut self,
         alloc: Global,
@@ -49,6 +53,9 @@ impl FrameLines {
         requires room { HasRoomForFrames (length piece.now) self.old }
         ensures source { frames_source self.new ≡ frames_source self.old }
         ensures taken { TakesMore self.old self.new piece.now (watched W.contents writer.old writer.new) result }
+
+        ensures kept { keeps_frames self.new ≡ keeps_frames self.old }
+        ensures memory { IsErrOf result NoMemory → keeps_frames self.old ≡ true }
     {
         match self {
             FrameLines::Digits(lines) => {

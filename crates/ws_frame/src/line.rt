@@ -4,11 +4,11 @@ ghost use Rattle.std.specs.Prelude.{◌≡◌, ◌<◌, ◌≤◌, ◌+◌, ◌+
 ghost use Rattle.ws_formats.specs.Words.{opcode_word};
 ghost use Rattle.ws_frame.specs.Lines.{key_word, data_word};
 ghost use Rattle.ws_frame.specs.Lines.{line_with};
-ghost use Rattle.ws_frame.specs.InnerPrinting.{place_words, bits_words, layout_words, end_words};
+ghost use Rattle.ws_frame.specs.InnerPrinting.{bits_words, end_words, front_words, layout_words, place_words};
 
 use crate::first_bytes::{FirstBytes, SHOWN};
 use crate::room::Room;
-use crate::source::Source;
+use crate::source::{Mark, Source};
 use ws_wire::{Form, Header, Role};
 
 /// No line has more bytes than this.
@@ -22,6 +22,12 @@ const RSV: usize = 11;
 
 /// How many bytes an opcode has in the table of their names.
 const KIND: usize = 8;
+
+/// The two ways in which lines are made. What both put is compiled once for each, so that it is made a part of either
+/// and the lines of first bytes, which most ask for, don't pay for the others.
+const BY_FIRST_BYTES: usize = 0;
+
+const BY_WHOLE: usize = 1;
 
 /// The name of each opcode in seven bytes, and how many of them it takes.
 static KINDS: [u8; 128] =
@@ -42,14 +48,34 @@ pub(crate) fn push_line(
     ensures len { length room.new ≤ length room.old + 200 }
 {
     source.mark.push_to(room);
-    push_place(room, offset, header);
-    push_layout(room, header);
+    push_place::<BY_FIRST_BYTES>(room, offset, header);
+    push_layout::<BY_FIRST_BYTES>(room, header);
     push_data(room, header.payload_len(), first);
-    push_marks(room, source.from, header);
+    push_marks::<BY_FIRST_BYTES>(room, source.from, header);
+}
+
+/// Puts what stands before a payload that is put elsewhere: the mark, where the frame begins, and its header.
+pub(crate) fn push_front(room: &mut Room, mark: Mark, offset: u64, header: &Header)
+    requires room { length room.old + 148 ≤ 65536 }
+    ensures pushed { room.new ≡ room.old ++ front_words mark offset header.now }
+    ensures len { length room.new ≤ length room.old + 148 }
+{
+    mark.push_to(room);
+    push_place::<BY_WHOLE>(room, offset, header);
+    push_layout::<BY_WHOLE>(room, header);
+}
+
+/// Puts what stands behind it: the remarks, and the end of the line.
+pub(crate) fn push_end(room: &mut Room, from: Role, header: &Header)
+    requires { length room.old + 13 ≤ 65536 }
+    ensures pushed { room.new ≡ room.old ++ end_words from header.now }
+    ensures len { length room.new ≤ length room.old + 13 }
+{
+    push_marks::<BY_WHOLE>(room, from, header);
 }
 
 /// Puts where a frame begins, and what its first byte says.
-fn push_place(room: &mut Room, offset: u64, header: &Header)
+fn push_place<const WAY: usize>(room: &mut Room, offset: u64, header: &Header)
     requires { length room.old + 80 ≤ 65536 }
     ensures pushed { room.new ≡ room.old ++ place_words offset header.now }
     ensures len { length room.new ≤ length room.old + 80 }
@@ -76,7 +102,7 @@ fn push_bits(room: &mut Room, fin: bool, rsv: u8)
 }
 
 /// Puts the masking key, and the payload length with its form.
-fn push_layout(room: &mut Room, header: &Header)
+fn push_layout<const WAY: usize>(room: &mut Room, header: &Header)
     requires { length room.old + 45 ≤ 65536 }
     ensures pushed { room.new ≡ room.old ++ layout_words header.now }
     ensures len { length room.new ≤ length room.old + 45 }
@@ -139,7 +165,7 @@ fn push_data(room: &mut Room, len: u64, first: &FirstBytes)
 
 /// Puts what the line adds where the frame is masked and should not be, or the other way round, and where the header's
 /// form is longer than needed, and ends it.
-fn push_marks(room: &mut Room, from: Role, header: &Header)
+fn push_marks<const WAY: usize>(room: &mut Room, from: Role, header: &Header)
     requires { length room.old + 13 ≤ 65536 }
     ensures pushed { room.new ≡ room.old ++ end_words from header.now }
     ensures len { length room.new ≤ length room.old + 13 }

@@ -1,21 +1,21 @@
 //! The lines of a stream that comes piece by piece, with payloads in any style (RFC 6455 section 5.2).
 
 ghost use Rattle.std.specs.Prelude.{◌≡◌, ◌≤◌, ◌<◌, ◌+◌, ◌^◌, ◌++◌, [], IfOk, OnOk, drop, false, length, true};
-ghost use Rattle.ws_wire.specs.Masking.{masked_payload};
 ghost use Rattle.ws_frame.specs.declared.showing.StreamEnd.TheVariants.{BadLengthAt};
-ghost use Rattle.ws_frame.specs.Lines.{last_line, line_of};
+ghost use Rattle.ws_frame.specs.Lines.{last_line};
 ghost use Rattle.ws_frame.specs.PayloadStreaming.{EndsPut, HasPutLines, HasRoomToPut, IsGoing, PutsMore};
 ghost use Rattle.ws_frame.specs.PayloadStreaming.{stream_end, stream_source};
 ghost use Rattle.ws_frame.specs.InnerPayloads.{PutsFrames, StandsAtFront};
 
-use crate::frame_line::FrameLine;
+use crate::frame_line::{FrameLine, put_frame};
 use crate::one_line::OneLine;
+use crate::room::Room;
 use crate::showing::StreamEnd;
 use crate::source::Source;
-use crate::writing_lines::last_line_of;
+use crate::writing_lines::{last_line_of, push_last_line};
 use std::alloc::Global;
 use ws_base::NoMemory;
-use ws_wire::{Header, HeaderRead, mask, read_header};
+use ws_wire::{Header, HeaderRead, read_header};
 
 /// The lines of a stream that comes piece by piece: those of `show`, with payloads in the style of the source. The
 /// bytes of a frame that is not whole are kept.
@@ -26,6 +26,8 @@ pub struct PayloadLines {
     pub(crate) offset: u64,
     /// Its bytes that have come.
     rest: Vec<u8>,
+    /// Where the words around a payload are made, and a last line.
+    pub(crate) room: Room,
     /// A header stands there whose length has the top bit set: nothing behind it is a frame.
     pub(crate) stopped: bool,
 }
@@ -41,6 +43,7 @@ impl PayloadLines {
             source,
             offset: 0,
             rest: Vec::new(alloc),
+            room: Room::new(),
             stopped: false,
         }
     }
@@ -94,12 +97,18 @@ impl PayloadLines {
         ensures within { IfOk result (λ done. done ≤ length self.new.rest.items) }
         ensures put { IfOk result (λ done. PutsFrames self.old self.new done lines.old.items lines.new.items) }
     {
+        let mut unmasked = Vec::new(alloc);
         let mut at = 0;
         while at < self.rest.len() {
             match frame_at(&self.rest[at..]) {
                 FrameAt::Whole { header, start, end } => {
-                    let payload = &self.rest[at + start..at + end];
-                    put_frame(alloc, self.source, self.offset, header, payload, lines)?;
+                    let frame = FrameLine {
+                        source: self.source,
+                        offset: self.offset,
+                        header,
+                        payload: &self.rest[at + start..at + end],
+                    };
+                    put_frame(&frame, &mut unmasked, &mut self.room, lines)?;
                     at += end;
                     self.offset += end as u64;
                 }
@@ -115,13 +124,18 @@ impl PayloadLines {
 
     /// A bad length stands where the next frame begins: its line is put.
     fn stop(&mut self, lines: &mut Vec<u8>) -> Result<(), NoMemory>
-        ensures stopped { self.new ≡ record self.old { stopped = true } }
+        ensures stopped { self.new ≡ record self.old { stopped = true; room = self.new.room } }
         ensures put { OnOk result (lines.new.items
             ≡ lines.old.items ++ last_line self.old.source (BadLengthAt self.old.offset)) }
     {
         self.stopped = true;
-        let line = last_line_of(self.source, StreamEnd::BadLengthAt(self.offset));
-        lines.extend_from_slice(line.as_slice())?;
+        self.room.clear();
+        push_last_line(
+            &mut self.room,
+            self.source,
+            StreamEnd::BadLengthAt(self.offset),
+        );
+        lines.extend_from_slice(self.room.as_slice())?;
         Ok(())
     }
 }
@@ -161,55 +175,15 @@ fn frame_at(bytes: &[u8]) -> FrameAt
     }
 }
 
-/// Puts the line of a frame whose payload stands so on the wire.
-fn put_frame(
-    alloc: Global,
-    source: Source,
-    offset: u64,
-    header: Header,
-    payload: &[u8],
-    lines: &mut Vec<u8>,
-) -> Result<(), NoMemory>
-    ensures { OnOk result (lines.new.items ≡ lines.old.items ++ line_of source offset
-        (record { header = header; payload = masked_payload header.key payload.now })) }
-{
-    let Some(key) = header.key() else {
-        return put_line(alloc, source, offset, header, payload, lines);
-    };
-    let mut unmasked = Vec::new(alloc);
-    unmasked.extend_from_slice(payload)?;
-    mask(key, 0, unmasked.as_mut_slice());
-    put_line(alloc, source, offset, header, unmasked.as_slice(), lines)
-}
-
-/// Puts the line of a frame with this payload.
-fn put_line(
-    alloc: Global,
-    source: Source,
-    offset: u64,
-    header: Header,
-    payload: &[u8],
-    lines: &mut Vec<u8>,
-) -> Result<(), NoMemory>
-    ensures { OnOk result (lines.new.items ≡ lines.old.items ++ line_of source offset
-        (record { header = header; payload = payload.now })) }
-{
-    let line = FrameLine {
-        source,
-        offset,
-        header,
-        payload,
-    };
-    let text = format!(in alloc; "{line}")?;
-    lines.extend_from_slice(text.as_bytes())?;
-    Ok(())
-}
-
 /// Drops so many bytes from the front of some.
 fn drop_front(bytes: &mut Vec<u8>, count: usize)
     requires { count ≤ length bytes.old.items }
     ensures { bytes.new.items ≡ drop count bytes.old.items }
 {
+    // Where a frame comes byte by byte, what came of it isn't moved at each.
+    if count == 0 {
+        return;
+    }
     let left = bytes.len() - count;
     bytes.copy_within(count.., 0);
     bytes.truncate(left);

@@ -1,14 +1,13 @@
 //! The lines of a stream of frames with payloads in any style (RFC 6455 section 5.2), from a reader to a writer.
 
-ghost use Rattle.std.specs.Prelude.{◌≡◌, false};
+ghost use Rattle.std.specs.Prelude.{◌≡◌, false, true};
 ghost use Rattle.ws_frame.specs.Watching.{has_failed};
 ghost use Rattle.ws_frame.specs.Devices.{watched};
-ghost use Rattle.ws_frame.specs.Lines.{IsFairEnd, Shows};
+ghost use Rattle.ws_frame.specs.Lines.{IsFairEnd, Shows, takes_memory};
 
 use crate::Watched;
 use crate::frame_lines::write_piece;
 use crate::payload_lines::PayloadLines;
-use crate::room::Room;
 use crate::show_fault::ShowFault;
 use crate::showing::{SHOW_READ_SIZE, ShowEnd};
 use crate::source::Source;
@@ -27,6 +26,7 @@ pub fn show_payloads<R: Read, W: Write>(
 ) -> ShowEnd
     requires reader_works { has_failed reader.old ≡ false }
     requires writer_works { has_failed writer.old ≡ false }
+    requires memory { takes_memory source.style ≡ true }
     ensures lines { Shows source budget result
         (watched R.remaining reader.old reader.new) (watched W.contents writer.old writer.new) }
     ensures fair { IsFairEnd result
@@ -40,7 +40,11 @@ pub fn show_payloads<R: Read, W: Write>(
         let buf = &mut room[..want];
         let count = match reader.read(buf) {
             Err(_) => return ShowEnd::ReadFault,
-            Ok(0) => return end_with(&mut Room::new(), writer, source, stream.end()),
+            Ok(0) => {
+                let end = stream.end();
+                stream.room.clear();
+                return end_with(&mut stream.room, writer, source, end);
+            }
             Ok(count) => count,
         };
         match write_piece(alloc, &mut stream, writer, &buf[..count]) {

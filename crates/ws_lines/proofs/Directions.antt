@@ -8,7 +8,7 @@ use Rattle.ws_wire.specs.Header.{AreBytes}
 use Rattle.ws_frame.specs.declared.source.Source.{Source}
 use Rattle.ws_frame.specs.declared.frame_lines.FrameLines.{FrameLines}
 use Rattle.ws_frame.specs.Lines.{AreCertainLines}
-use Rattle.ws_frame.specs.FrameStreaming.{HasTakenFrames, frames_source}
+use Rattle.ws_frame.specs.FrameStreaming.{HasTakenFrames, frames_source, keeps_frames}
 use Rattle.ws_frame.proofs.Partials.{AreBytes-append}
 use Rattle.ws_frame.proofs.Streams.{certain_lines_go_on}
 use Rattle.ws_scripts.specs.declared.transcript.Turn.{Turn}
@@ -73,13 +73,14 @@ certain_of source s a b e h = subst (λ (r : Source). AreCertainLines r a b) e h
 
 -- a turn more
 pub turn_told : (d : Direction) (old new : FrameLines) (turns : List Turn) (turn : Turn) (lines : List TurnLines) (line : TurnLines) → length lines ≡ length turns → IsToldIn d old turns lines → frames_source new ≡ frames_source old
-    → HasTakenFrames new (bytes_in d turns ++ d.bytes turn) (lines_in d lines ++ d.lines line) → IsToldIn d new (turns ++ turn ∷ []) (lines ++ line ∷ [])
-turn_told d old new turns turn lines line each told e shown =
+    → keeps_frames new ≡ keeps_frames old → HasTakenFrames new (bytes_in d turns ++ d.bytes turn) (lines_in d lines ++ d.lines line) → IsToldIn d new (turns ++ turn ∷ []) (lines ++ line ∷ [])
+turn_told d old new turns turn lines line each told e kept shown =
     let all = shown_so new (bytes_in d turns ++ d.bytes turn) (bytes_in d (turns ++ turn ∷ [])) (lines_in d lines ++ d.lines line) (lines_in d (lines ++ line ∷ [])) (sym (one_more d.bytes turns turn)) (sym (one_more d.lines lines line)) shown in
     let source = e ∙ told.source in
     record {
       source = source;
       stand = stand_more d turns turn lines line each told.stand (certain_of d.source new (bytes_in d (turns ++ turn ∷ [])) (lines_in d (lines ++ line ∷ [])) source all);
+      kept = kept ∙ told.kept;
       shown = all;
     }
 
@@ -99,15 +100,16 @@ certain_again d turns turn next lines line other piece more eb el c =
     (subst (λ (t : List ℕ). AreCertainLines d.source (bytes_in d (turns ++ turn ∷ []) ++ piece) t) (again d.lines lines line other more el) c)
 
 pub more_told : (d : Direction) (old new : FrameLines) (turns : List Turn) (turn next : Turn) (lines : List TurnLines) (line other : TurnLines) (piece more : List ℕ) → length lines ≡ length turns
-    → IsToldIn d old (turns ++ turn ∷ []) (lines ++ line ∷ []) → frames_source new ≡ frames_source old → d.bytes next ≡ d.bytes turn ++ piece → d.lines other ≡ d.lines line ++ more
+    → IsToldIn d old (turns ++ turn ∷ []) (lines ++ line ∷ []) → frames_source new ≡ frames_source old → keeps_frames new ≡ keeps_frames old → d.bytes next ≡ d.bytes turn ++ piece → d.lines other ≡ d.lines line ++ more
     → HasTakenFrames new (bytes_in d (turns ++ turn ∷ []) ++ piece) (lines_in d (lines ++ line ∷ []) ++ more) → IsToldIn d new (turns ++ next ∷ []) (lines ++ other ∷ [])
-more_told d old new turns turn next lines line other piece more each told e eb el shown =
+more_told d old new turns turn next lines line other piece more each told e kept eb el shown =
     let all = shown_so new (bytes_in d (turns ++ turn ∷ []) ++ piece) (bytes_in d (turns ++ next ∷ [])) (lines_in d (lines ++ line ∷ []) ++ more) (lines_in d (lines ++ other ∷ []))
     (again d.bytes turns turn next piece eb) (again d.lines lines line other more el) shown in
     let source = e ∙ told.source in
     record {
       source = source;
       stand = stand_more d turns next lines other each (stand_front d turns (turn ∷ []) lines (line ∷ []) each told.stand) (certain_of d.source new (bytes_in d (turns ++ next ∷ [])) (lines_in d (lines ++ other ∷ [])) source all);
+      kept = kept ∙ told.kept;
       shown = all;
     }
 

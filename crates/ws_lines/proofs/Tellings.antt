@@ -1,5 +1,5 @@
 -- What each call makes of the turns that were told.
-use Rattle.std.proofs.Common.{◌≡◌, ℕ, zero, suc, ◌+◌, ◌^◌, ◌<◌, List, [], ◌∷◌, ◌++◌, length, Option, refl, sym, ap, ◌∙◌, append_assoc, append-nil, arith, subst}
+use Rattle.std.proofs.Common.{◌≡◌, Bool, true, IsErrOf, Err, ℕ, zero, suc, ◌+◌, ◌^◌, ◌<◌, List, [], ◌∷◌, ◌++◌, length, Option, refl, sym, ap, ◌∙◌, append_assoc, append-nil, arith, subst}
 use Rattle.std.specs.Io.KnownBytes.{Appends}
 use Rattle.std.proofs.KnownBytes.{Appends-trans}
 use Rattle.ws_lines.specs.declared.transcript_lines.Showing.{Showing}
@@ -7,9 +7,12 @@ use Rattle.ws_frame.specs.declared.source.Source.{Source}
 use Rattle.ws_frame.specs.declared.showing.StreamEnd.{StreamEnd}
 use Rattle.ws_frame.specs.declared.frame_lines.FrameLines.{FrameLines}
 use Rattle.ws_frame.specs.Watching.{AppendsFront}
-use Rattle.ws_frame.specs.Lines.{AreCertainLines, AreLinesOf}
+use Rattle.ws_frame.specs.Lines.{AreCertainLines, AreLinesOf, takes_memory}
 use Rattle.ws_frame.specs.InnerShowing.{BeginsLines}
-use Rattle.ws_frame.specs.FrameStreaming.{HasTakenFrames, frames_source}
+use Rattle.ws_frame.specs.FrameStreaming.{HasTakenFrames, MayEndBy, frames_source, keeps_frames}
+use Rattle.ws_frame.specs.declared.show_fault.ShowFault.{ShowFault}
+use Rattle.ws_frame.specs.declared.show_fault.ShowFault.TheVariants.{NoMemory, Write}
+use Rattle.ws_frame.specs.declared.source.DataStyle.{DataStyle}
 use Rattle.ws_scripts.specs.declared.transcript.Turn.{Turn}
 use Rattle.ws_scripts.specs.declared.transcript.Ended.{Ended}
 use Rattle.ws_lines.specs.declared.transcript_lines.TranscriptLines.{TranscriptLines}
@@ -21,9 +24,9 @@ use Rattle.ws_lines.proofs.Texts.{text_of_begun, text_of_got}
 -- ---- a turn begins
 
 pub turn_is_told : (showing : Showing) (old : TranscriptLines) (new : FrameLines) (turns : List Turn) (written sent more : List ℕ) (h : HasToldTurns showing old turns written) → frames_source new ≡ frames_source old.sent
-    → HasTakenFrames new (bytes_in (sent_by_tester showing) turns ++ sent) (lines_in (sent_by_tester showing) h.lines ++ more)
+    → keeps_frames new ≡ keeps_frames old.sent → HasTakenFrames new (bytes_in (sent_by_tester showing) turns ++ sent) (lines_in (sent_by_tester showing) h.lines ++ more)
     → HasToldTurns showing (record { turns = old.turns + 1; sent = new; got = old.got }) (turns ++ begun_turn sent ∷ []) (written ++ (turn_line (old.turns + 1) ++ more))
-turn_is_told showing old new turns written sent more h e shown =
+turn_is_told showing old new turns written sent more h e kept shown =
     let line : TurnLines = record { sent = more; got = [] } in
     let nothing = shown_nothing old.got (bytes_in (got_by_tester showing) turns) (lines_in (got_by_tester showing) h.lines) h.got.shown in
     record {
@@ -31,8 +34,8 @@ turn_is_told showing old new turns written sent more h e shown =
       one_each = omega (arith, h.one_each, length-one-more h.lines line, length-one-more turns (begun_turn sent));
       all = ap (λ (t : List ℕ). t ++ (turn_line (old.turns + 1) ++ more)) h.all ∙ sym (text_of_begun h.lines more (old.turns + 1) (omega (arith, h.count, h.one_each)));
       count = omega (arith, h.count, length-one-more turns (begun_turn sent));
-      sent = turn_told (sent_by_tester showing) old.sent new turns (begun_turn sent) h.lines line h.one_each h.sent e shown;
-      got = turn_told (got_by_tester showing) old.got old.got turns (begun_turn sent) h.lines line h.one_each h.got refl nothing;
+      sent = turn_told (sent_by_tester showing) old.sent new turns (begun_turn sent) h.lines line h.one_each h.sent e kept shown;
+      got = turn_told (got_by_tester showing) old.got old.got turns (begun_turn sent) h.lines line h.one_each h.got refl refl nothing;
     }
 
 pub begins_turn : (showing : Showing) (old : TranscriptLines) (turns : List Turn) (written sent next front behind : List ℕ) (h : HasToldTurns showing old turns written)
@@ -62,9 +65,9 @@ certain_of_begun source other bytes lines more e b =
 -- ---- more is got
 
 pub got_is_told : (showing : Showing) (old : TranscriptLines) (new : FrameLines) (turns : List Turn) (turn : Turn) (written piece more : List ℕ) (h : HasToldTurns showing old (turns ++ turn ∷ []) written) → frames_source new ≡ frames_source old.got
-    → HasTakenFrames new (bytes_in (got_by_tester showing) (turns ++ turn ∷ []) ++ piece) (lines_in (got_by_tester showing) h.lines ++ more)
+    → keeps_frames new ≡ keeps_frames old.got → HasTakenFrames new (bytes_in (got_by_tester showing) (turns ++ turn ∷ []) ++ piece) (lines_in (got_by_tester showing) h.lines ++ more)
     → HasToldTurns showing (record { turns = old.turns; sent = old.sent; got = new }) (turns ++ with_got turn piece ∷ []) (written ++ more)
-got_is_told showing old new turns turn written piece more h e shown =
+got_is_told showing old new turns turn written piece more h e kept shown =
     let s = some_last h.lines (length turns) (h.one_each ∙ length-one-more turns turn) in
     let other : TurnLines = record { sent = s.last.sent; got = s.last.got ++ more } in
     let from = sent_by_tester showing in
@@ -77,9 +80,9 @@ got_is_told showing old new turns turn written piece more h e shown =
       one_each = omega (arith, s.count, length-one-more s.front other, length-one-more turns (with_got turn piece));
       all = ap (λ (t : List ℕ). t ++ more) (h.all ∙ ap (λ (l : List TurnLines). turns_text 1 l) s.parts) ∙ sym (text_of_got s.front s.last.sent s.last.got more);
       count = omega (arith, h.count, length-one-more turns turn, length-one-more turns (with_got turn piece));
-      sent = more_told from old.sent old.sent turns turn (with_got turn piece) s.front s.last other [] [] s.count sent refl (sym (append-nil turn.sent)) (sym (append-nil s.last.sent))
+      sent = more_told from old.sent old.sent turns turn (with_got turn piece) s.front s.last other [] [] s.count sent refl refl (sym (append-nil turn.sent)) (sym (append-nil s.last.sent))
           (shown_nothing old.sent (bytes_in from (turns ++ turn ∷ [])) (lines_in from (s.front ++ s.last ∷ [])) sent.shown);
-      got = more_told to old.got new turns turn (with_got turn piece) s.front s.last other piece more s.count got e refl refl next;
+      got = more_told to old.got new turns turn (with_got turn piece) s.front s.last other piece more s.count got e kept refl refl next;
     }
 
 pub begins_got : (showing : Showing) (old : TranscriptLines) (turns : List Turn) (turn : Turn) (written piece next front behind : List ℕ) (h : HasToldTurns showing old (turns ++ turn ∷ []) written)
@@ -94,7 +97,7 @@ begins_got showing old turns turn written piece next front behind h certain e =
     let sent = subst (λ (l : List TurnLines). IsToldIn from old.sent (turns ++ turn ∷ []) l) s.parts h.sent in
     let got = subst (λ (l : List TurnLines). IsToldIn to old.got (turns ++ turn ∷ []) l) s.parts h.got in
     let certain_got = subst (λ (l : List TurnLines). AreCertainLines to.source (bytes_in to (turns ++ turn ∷ []) ++ piece) (lines_in to l ++ next)) s.parts certain in
-    let nothing = more_told from old.sent old.sent turns turn then s.front s.last other [] [] s.count sent refl (sym (append-nil turn.sent)) (sym (append-nil s.last.sent))
+    let nothing = more_told from old.sent old.sent turns turn then s.front s.last other [] [] s.count sent refl refl (sym (append-nil turn.sent)) (sym (append-nil s.last.sent))
     (shown_nothing old.sent (bytes_in from (turns ++ turn ∷ [])) (lines_in from (s.front ++ s.last ∷ [])) sent.shown) in
     record {
       lines = s.front ++ other ∷ [];
@@ -149,13 +152,34 @@ no_turn : (d : Direction) (stream : FrameLines) → frames_source stream ≡ d.s
 no_turn d stream e shown zero le = certain_of d.source stream [] [] e shown
 no_turn d stream e shown (suc n) le = absurd (omega (arith, le))
 
-pub nothing_told : (showing : Showing) (sent got : FrameLines) → frames_source sent ≡ (sent_by_tester showing).source → HasTakenFrames sent [] [] → frames_source got ≡ (got_by_tester showing).source → HasTakenFrames got [] []
+pub nothing_told : (showing : Showing) (sent got : FrameLines) → frames_source sent ≡ (sent_by_tester showing).source
+    → keeps_frames sent ≡ takes_memory showing.style → HasTakenFrames sent [] []
+    → frames_source got ≡ (got_by_tester showing).source → keeps_frames got ≡ takes_memory showing.style
+    → HasTakenFrames got [] []
     → HasToldTurns showing (record { turns = 0; sent = sent; got = got }) [] []
-nothing_told showing sent got es shown_sent eg shown_got = record {
+nothing_told showing sent got es ks shown_sent eg kg shown_got = record {
   lines = [];
   one_each = refl;
   all = refl;
   count = refl;
-  sent = record { source = es; stand = no_turn (sent_by_tester showing) sent es shown_sent; shown = shown_sent };
-  got = record { source = eg; stand = no_turn (got_by_tester showing) got eg shown_got; shown = shown_got };
+  sent = record { source = es; kept = ks; stand = no_turn (sent_by_tester showing) sent es shown_sent; shown = shown_sent };
+  got = record { source = eg; kept = kg; stand = no_turn (got_by_tester showing) got eg shown_got; shown = shown_got };
 }
+
+-- ---- what a call may end by
+
+pub may_end : (style : DataStyle) (fault : ShowFault) (keeps : Bool) → keeps ≡ takes_memory style
+    → (IsErrOf {T = Unit {0}} (Err fault) NoMemory → keeps ≡ true) → MayEndBy style fault
+may_end style Write keeps same memory = tt
+may_end style NoMemory keeps same memory = sym same ∙ memory refl
+
+pub may_end_so : (style : DataStyle) (fault told : ShowFault) → told ≡ fault → MayEndBy style fault → MayEndBy style told
+may_end_so style fault told e may = subst (λ (f : ShowFault). MayEndBy style f) (sym e) may
+
+pub write_may_end : (style : DataStyle) (told : ShowFault) → told ≡ Write → MayEndBy style told
+write_may_end style told e = may_end_so style Write told e tt
+
+pub takes_where_it_lacks : (style : DataStyle) (told : ShowFault) → MayEndBy style told
+    → IsErrOf {T = Unit {0}} (Err told) NoMemory → takes_memory style ≡ true
+takes_where_it_lacks style Write may e = absurd cc
+takes_where_it_lacks style NoMemory may e = may

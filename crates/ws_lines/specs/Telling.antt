@@ -5,7 +5,8 @@ use Rattle.ws_lines.specs.declared.transcript_lines.Showing.{Showing}
 use Rattle.ws_frame.specs.declared.show_fault.ShowFault.{ShowFault}
 use Rattle.ws_frame.specs.declared.writing_whole.WriteFault.{WriteFault}
 use Rattle.ws_frame.specs.Devices.{Device, HasWritten, HasBegun}
-use Rattle.ws_frame.specs.FrameStreaming.{HasTakenFrames, frames_source, is_of_a_write}
+use Rattle.ws_frame.specs.FrameStreaming.{HasTakenFrames, MayEndBy, frames_source, is_of_a_write, keeps_frames}
+use Rattle.ws_frame.specs.Lines.{takes_memory}
 use Rattle.ws_frame.specs.Streaming.{WritesAll}
 use Rattle.ws_scripts.specs.declared.transcript.Turn.{Turn}
 use Rattle.ws_scripts.specs.declared.transcript.Ended.{Ended}
@@ -16,10 +17,12 @@ use Rattle.ws_frame.specs.declared.frame_lines.FrameLines.{FrameLines}
 use Rattle.ws_lines.specs.TurnLines.{TurnLines, Direction, StandInTheirTurns, AreTurnLines, HasTurnLines}
 use Rattle.ws_lines.specs.TurnLines.{bytes_in, lines_in, sent_by_tester, got_by_tester, turns_text}
 
--- a direction's lines in these turns stand in their turns, and its stream has shown them
+-- a direction's lines in these turns stand in their turns, and its stream has shown them: whether frames are kept is by
+-- the style
 pub record IsToldIn (direction : Direction) (stream : FrameLines) (turns : List Turn) (lines : List TurnLines)
     : Type 0 where
   pub source : frames_source stream ≡ direction.source
+  pub kept : keeps_frames stream ≡ takes_memory direction.source.style
   pub stand : StandInTheirTurns direction turns lines
   pub shown : HasTakenFrames stream (bytes_in direction turns) (lines_in direction lines)
 
@@ -56,12 +59,12 @@ pub record BeginsTurns (showing : Showing) (turns : List Turn) (front : List ℕ
   pub more : List ℕ
   pub begins : turns_text 1 lines ≡ front ++ more
 
--- what came of a call: all lines of these turns were written; or a beginning of them, since a write failed or memory
--- ran out
+-- what came of a call: all lines of these turns were written; or a beginning of them, since a write failed, or memory
+-- ran out in a style that takes it
 abbrev pub AreTold : Showing → TranscriptLines → List Turn → List ℕ → Bool → Result (Unit {0}) ShowFault → Type 0
 AreTold showing told turns written failed (Ok _) = (failed ≡ false) × HasToldTurns showing told turns written
 AreTold showing told turns written failed (Err fault) =
-    (failed ≡ is_of_a_write fault) × BeginsTurns showing turns written
+    (failed ≡ is_of_a_write fault) × BeginsTurns showing turns written × MayEndBy showing.style fault
 
 -- a turn begins in which these bytes are sent, and nothing is got yet
 abbrev pub begun_turn : List ℕ → Turn

@@ -1,8 +1,10 @@
 //! The lines of a transcript that has ended.
 
-ghost use Rattle.std.specs.Prelude.{◌≡◌, false, OnOk, OnErr};
+ghost use Rattle.std.specs.Prelude.{◌≡◌, IsErrOf, OnErr, OnOk, false, true};
 ghost use Rattle.ws_frame.specs.Watching.{has_failed};
 ghost use Rattle.ws_frame.specs.Devices.{watched};
+ghost use Rattle.ws_frame.specs.Lines.{takes_memory};
+ghost use Rattle.ws_frame.specs.declared.show_fault.ShowFault.TheVariants.{NoMemory};
 ghost use Rattle.ws_lines.specs.TurnLines.{FitsPlaces};
 ghost use Rattle.ws_lines.specs.Telling.{HasWrittenLines, HasBegunLines, is_failed_write};
 
@@ -29,6 +31,7 @@ pub fn show_transcript<T: AsTranscript, W: Write>(
     ensures begun { OnErr result (HasBegunLines showing (T.transcript transcript.now)
         (watched W.contents writer.old writer.new)) }
     ensures failed { has_failed writer.new ≡ is_failed_write result }
+    ensures memory { IsErrOf result NoMemory → takes_memory showing.style ≡ true }
 {
     let mut lines = TranscriptLines::new(alloc, showing);
     let lent = transcript.as_transcript();

@@ -49,16 +49,16 @@ returns-in-Ok-eq0-clause-lines g c =
     let below : length read < budget = omega (arith, count, c.loop-left-test.true) in
     let input = watched g.R.Read.remaining c.args.reader.now c.read.new.self in
     let output = watched g.W.Write.contents c.loop-left.writer c.end_with.new.writer in
-    let may = may_end c.end.result budget read input below
+    let may = may_end c.end-end.result budget read input below
     (c.in-Ok-eq0.ensures.failed ∙ ap (λ (b : Bool). b || false) before.reads)
     (c.in-Ok-eq0.ensures.bytes.1 (search rules) (search rules)) in
     let left : IsLeft stream.source read (stream_end stream) written =
     left_put_at_end stream stream.stopped read written before.going t.stands in
-    let at_end : IsLeft stream.source read c.end.result written =
-    subst (λ (e : StreamEnd). IsLeft stream.source read e written) (sym c.end.ensures) left in
-    let is_left = subst (λ (s : Source). IsLeft s read c.end.result written) before.source at_end in
+    let at_end : IsLeft stream.source read c.end-end.result written =
+    subst (λ (e : StreamEnd). IsLeft stream.source read e written) (sym c.end-end.ensures) left in
+    let is_left = subst (λ (s : Source). IsLeft s read c.end-end.result written) before.source at_end in
     let earlier = earlier_all source budget input.new read written lines in
-    let e = ended source budget c.end.result c.end_with.result read written input output may is_left earlier
+    let e = ended source budget c.end-end.result c.end_with.result read written input output may is_left earlier
     c.end_with.ensures in
     record {
       read = read;
@@ -116,6 +116,7 @@ returns-in-Err-NoMemory-clause-lines g c =
       shown = (
         due_on source budget _ (read ++ piece) (written ++ more) begun,
         earlier_lines source budget _ read piece written more w.1 lines,
+        c.requires.memory,
       );
     }
 

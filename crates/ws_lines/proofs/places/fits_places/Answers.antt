@@ -3,7 +3,6 @@ use Rattle.std.proofs.Common.{arith, ◌∙◌, ◌≡◌, ◌+◌, ◌++◌, �
 use Rattle.std.proofs.lemmas.List.Concat.{flat_map-append}
 use Rattle.std.specs.List.{flat_map}
 use Rattle.ws_scripts.specs.declared.transcript.Turn.{Turn}
-use Rattle.ws_scripts.specs.declared.transcript.Transcript.{Transcript}
 use Rattle.ws_scripts.specs.Pieces.{lent_turn}
 use Rattle.ws_scripts.proofs.WalkLemmas.{is_there, one_more_done, others_left, within}
 use Rattle.ws_lines.proofs.Wholes.{places_fit}

@@ -1,5 +1,5 @@
 -- Turn after turn the lines of the transcript are written; where a write fails, a beginning of all of them was written.
-use Rattle.std.proofs.Common.{arith, ◌∙◌, ◌^◌, ◌<◌, ◌≡◌, ◌++◌, ◌∷◌, [], List, ℕ, length, take, length-take, take_all, sym, ap, subst, append-nil, drop, refl, rules}
+use Rattle.std.proofs.Common.{arith, ◌∙◌, ◌^◌, ◌<◌, ◌≡◌, ◌++◌, ◌∷◌, [], List, ℕ, length, take, length-take, take_all, sym, ap, subst, append-nil, refl, rules}
 use Rattle.std.proofs.lemmas.Result.{err_from_is_err_and}
 use Rattle.std.specs.List.{flat_map}
 use Rattle.std.proofs.KnownBytes.{Appends-trans}
@@ -12,7 +12,7 @@ use Rattle.ws_scripts.proofs.WalkLemmas.{is_there, others_left, within}
 use Rattle.ws_lines.specs.TurnLines.{HasTurnLines}
 use Rattle.ws_lines.specs.Telling.{begun_turn}
 use Rattle.ws_lines.proofs.Directions.{one_more}
-use Rattle.ws_lines.proofs.Tellings.{begun_behind}
+use Rattle.ws_lines.proofs.Tellings.{begun_behind, may_end_so, takes_where_it_lacks, write_may_end}
 use Rattle.ws_lines.proofs.Wholes.{places_fit, turn_in_place, text_before_got, text_before_end, begun_text}
 use Rattle.ws_lines.proofs.showing.show_transcript.Goals as goal
 
@@ -51,7 +51,7 @@ returns-in_err-begin_turn-clause-begun g c =
     let is = is_there turns i turn others at in
     let transcript = g.T.AsTranscript.transcript c.args.transcript.now in
     let (written, wrote, told) = c.loop-number.invariant.told in
-    let (more, appends, (failed, begins)) = c.in_err-begin_turn.ensures.told c.args.showing (take i turns) written told in
+    let (more, appends, (failed, begins, may)) = c.in_err-begin_turn.ensures.told c.args.showing (take i turns) written told in
     let p = err_from_is_err_and c.from_residual.result c.from_residual.ensures.1 in
     rw p.1 (λ all.
     let s = text_before_got c.args.showing turns transcript.turns i turn transcript.ended turn.sent (written ++ more) less is refl refl all begins in
@@ -60,7 +60,7 @@ returns-in_err-begin_turn-clause-begun g c =
 pub returns-in_err-begin_turn-clause-failed : goal.returns-in_err-begin_turn-clause-failed
 returns-in_err-begin_turn-clause-failed g c =
     let (written, wrote, told) = c.loop-number.invariant.told in
-    let (more, appends, (failed, begins)) = c.in_err-begin_turn.ensures.told c.args.showing (take c.loop-number._number (g.T.AsTranscript.transcript c.args.transcript.now).turns) written told in
+    let (more, appends, (failed, begins, may)) = c.in_err-begin_turn.ensures.told c.args.showing (take c.loop-number._number (g.T.AsTranscript.transcript c.args.transcript.now).turns) written told in
     let p = err_from_is_err_and c.from_residual.result c.from_residual.ensures.1 in
     rw p.1 (failed ∙ sym (ap is_of_a_write p.2))
 
@@ -101,7 +101,7 @@ returns-in_err-got-clause-begun g c =
     let sent = turn.sent in
     let (written, wrote, told) = c.loop-number.invariant.told in
     let (more, appends, (works, after)) = c.in_ok-begin_turn.ensures.told c.args.showing (take i turns) written told in
-    let (next, appended, (failed, begins)) = c.in_err-got.ensures.told c.args.showing (take i turns) (begun_turn sent) (written ++ more) after in
+    let (next, appended, (failed, begins, may)) = c.in_err-got.ensures.told c.args.showing (take i turns) (begun_turn sent) (written ++ more) after in
     let p = err_from_is_err_and c.from_residual-in_err-got.result c.from_residual-in_err-got.ensures.1 in
     rw p.1 (λ all.
     let s = text_before_end c.args.showing turns transcript.turns i turn transcript.ended sent turn.got ((written ++ more) ++ next) less is refl
@@ -119,7 +119,7 @@ returns-in_err-got-clause-failed g c =
     let is = is_there turns i turn others at in
     let (written, wrote, told) = c.loop-number.invariant.told in
     let (more, appends, (works, after)) = c.in_ok-begin_turn.ensures.told c.args.showing (take i turns) written told in
-    let (next, appended, (failed, begins)) = c.in_err-got.ensures.told c.args.showing (take i turns) (begun_turn turn.sent) (written ++ more) after in
+    let (next, appended, (failed, begins, may)) = c.in_err-got.ensures.told c.args.showing (take i turns) (begun_turn turn.sent) (written ++ more) after in
     let p = err_from_is_err_and c.from_residual-in_err-got.result c.from_residual-in_err-got.ensures.1 in
     rw p.1 (failed ∙ sym (ap is_of_a_write p.2))
 
@@ -187,3 +187,26 @@ returns-clause-failed g c =
     let (written, wrote, told) = c.loop-number.invariant.told in
     let s = c.in_ok-end.ensures.told c.args.showing (take c.loop-number._number (g.T.AsTranscript.transcript c.args.transcript.now).turns) written told in
     s.writes.1
+
+pub returns-in_err-begin_turn-clause-memory : goal.returns-in_err-begin_turn-clause-memory
+returns-in_err-begin_turn-clause-memory g c =
+    let (written, wrote, told) = c.loop-number.invariant.told in
+    let (more, appends, (failed, begins, may)) = c.in_err-begin_turn.ensures.told c.args.showing (take c.loop-number._number (g.T.AsTranscript.transcript c.args.transcript.now).turns) written told in
+    let p = err_from_is_err_and c.from_residual.result c.from_residual.ensures.1 in
+    rw p.1 (takes_where_it_lacks c.args.showing.style p.0 (may_end_so c.args.showing.style _ p.0 p.2 may))
+
+pub returns-in_err-got-clause-memory : goal.returns-in_err-got-clause-memory
+returns-in_err-got-clause-memory g c =
+    let i = c.loop-number._number in
+    let turns = (g.T.AsTranscript.transcript c.args.transcript.now).turns in
+    let turn = lent_turn c.take_first-turn.result in
+    let (written, wrote, told) = c.loop-number.invariant.told in
+    let (more, appends, (works, after)) = c.in_ok-begin_turn.ensures.told c.args.showing (take i turns) written told in
+    let (next, appended, (failed, begins, may)) = c.in_err-got.ensures.told c.args.showing (take i turns) (begun_turn turn.sent) (written ++ more) after in
+    let p = err_from_is_err_and c.from_residual-in_err-got.result c.from_residual-in_err-got.ensures.1 in
+    rw p.1 (takes_where_it_lacks c.args.showing.style p.0 (may_end_so c.args.showing.style _ p.0 p.2 may))
+
+pub returns-in_err-end-clause-memory : goal.returns-in_err-end-clause-memory
+returns-in_err-end-clause-memory g c =
+    let p = err_from_is_err_and c.from_residual-in_err-end.result c.from_residual-in_err-end.ensures.1 in
+    rw p.1 (takes_where_it_lacks c.args.showing.style p.0 (write_may_end c.args.showing.style p.0 p.2))

@@ -19,12 +19,14 @@ returns-clause-put c = λ taken put t.
       source = self.source;
       offset = self.offset;
       rest = c.extend_from_slice.new.self;
+      room = self.room;
       stopped = self.stopped;
     } in
     let last : PayloadLines = record {
       source = new.source;
       offset = new.offset;
       rest = c.drop_front.new.bytes;
+      room = new.room;
       stopped = new.stopped;
     } in
     more_put self mid new last taken put c.args.piece.now c.args.lines.now.items c.put_frames.new.lines.items

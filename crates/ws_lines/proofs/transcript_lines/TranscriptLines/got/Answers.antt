@@ -7,7 +7,7 @@ use Rattle.ws_frame.specs.FrameStreaming.{is_of_a_write}
 use Rattle.ws_frame.specs.Watching.{has_failed}
 use Rattle.ws_lines.specs.Telling.{AreTold, begun_turn, got_first}
 use Rattle.ws_lines.proofs.Directions.{length-one-more}
-use Rattle.ws_lines.proofs.Tellings.{first_room}
+use Rattle.ws_lines.proofs.Tellings.{first_room, may_end_so}
 use Rattle.ws_lines.proofs.Wholes.{begins_first}
 use Rattle.ws_lines.proofs.transcript_lines.TranscriptLines.got.Goals as goal
 
@@ -21,9 +21,9 @@ returns-in_err-begin_turn g c = record {
   told = λ showing turns turn written h. absurd (omega (arith, c.if-self-eq0.true, h.count, length-one-more turns turn));
   first = λ showing written h.
       let are : AreBytes c.args.piece.now = λ i. omega (arith, c.type_inv.piece i) in
-      let (more, appends, (failed, begins)) = c.in_err-begin_turn.ensures.told showing [] written h in
+      let (more, appends, (failed, begins, may)) = c.in_err-begin_turn.ensures.told showing [] written h in
       let p = err_from_is_err_and c.from_residual.result c.from_residual.ensures.1 in
-      rw p.1 (more, appends, (failed ∙ sym (ap is_of_a_write p.2), begins_first showing c.args.piece.now (written ++ more) are begins));
+      rw p.1 (more, appends, (failed ∙ sym (ap is_of_a_write p.2), begins_first showing c.args.piece.now (written ++ more) are begins, may_end_so showing.style _ p.0 p.2 may));
 }
 
 pub got_in_turn-requires-clause-writer_works : goal.got_in_turn-requires-clause-writer_works

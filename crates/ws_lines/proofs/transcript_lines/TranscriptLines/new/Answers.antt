@@ -15,6 +15,6 @@ returns c =
     let source =
     c.new.ensures.source ∙ ap (λ (r : Role). sent_by c.args.showing.style r) c.tester_of.ensures in
     record {
-      begun = nothing_told c.args.showing c.new.result c.new-2.result source c.new.ensures.begun
-          c.new-2.ensures.source c.new-2.ensures.begun;
+      begun = nothing_told c.args.showing c.new.result c.new-2.result source c.new.ensures.kept
+          c.new.ensures.begun c.new-2.ensures.source c.new-2.ensures.kept c.new-2.ensures.begun;
     }
