@@ -12,6 +12,8 @@ mod CaptureTells
 mod CaptureLaws
 mod CaptureTexts
 mod ScriptWords
+mod QuotedFronts
+mod QuotedLemmas
 mod ScriptData
 mod ScriptFields
 mod ScriptFrames

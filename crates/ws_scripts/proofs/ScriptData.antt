@@ -9,7 +9,9 @@ use Rattle.ws_base.specs.declared.text_fault.LineFault.{LineFault}
 use Rattle.ws_formats.specs.Reading.{Reads}
 use Rattle.ws_formats.specs.Words.{IsHexWord, IsNumberWord, hex}
 use Rattle.ws_formats.proofs.HexWords.{are_bytes_cons, glyph_above, hex_cons, hex_one, high_of, low_of, same_byte}
+use Rattle.ws_scripts.specs.QuotedTexts.{IsQuotedText}
 use Rattle.ws_scripts.specs.ScriptLines.{IsDataWord, IsQuoted, IsRepeated}
+use Rattle.ws_scripts.proofs.QuotedLemmas.{text_one}
 
 abbrev at : ℕ → List ℕ → ℕ
 at i word = slice_index word i
@@ -59,10 +61,22 @@ repeated_one a b word h i =
     (ap (λ (l : List ℕ). drop 3 l) same) in
     h.are ∙ (ap₂ (λ (n b : ℕ). replicate n b) number byte ∙ sym i.are)
 
+same_inner : (one other word : List ℕ) → word ≡ 34 ∷ (one ++ 34 ∷ []) → word ≡ 34 ∷ (other ++ 34 ∷ []) → one ≡ other
+same_inner one other word e f =
+    append_cancel_right one other (34 ∷ []) (ap (λ (l : List ℕ). drop 1 l) (sym e ∙ f))
+
 quoted_one : (a b word : List ℕ) → IsQuoted a word → IsQuoted b word → a ≡ b
 quoted_one a b word h i =
-    let same = sym h.spelled ∙ i.spelled in
-    append_cancel_right a b (34 ∷ []) (ap (λ (l : List ℕ). drop 1 l) same)
+    let same = same_inner h.inner i.inner word h.spelled i.spelled in
+    text_one a b i.inner (subst (λ (l : List ℕ). IsQuotedText a l) same h.is_text) i.is_text
+
+-- what is read between the quotes is read of the word
+pub quoted_read : (r : Result (List ℕ) LineFault) (inner word : List ℕ) → word ≡ 34 ∷ (inner ++ 34 ∷ [])
+    → Reads r (λ bytes. IsQuotedText bytes inner) → Reads r (λ bytes. IsQuoted bytes word)
+quoted_read (Ok bytes) inner word e h = record { inner = inner; is_text = h; spelled = e }
+quoted_read (Err fault) inner word e h = λ f bytes is.
+    let same = same_inner is.inner inner word is.spelled e in
+    h f bytes (subst (λ (l : List ℕ). IsQuotedText bytes l) same is.is_text)
 
 -- ---- the first characters of a word
 

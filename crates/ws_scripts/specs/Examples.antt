@@ -14,6 +14,7 @@ use Rattle.ws_wire.specs.declared.header.Form.TheVariants.{Two}
 use Rattle.ws_scripts.specs.declared.script_text.fields.Layout.TheVariants.{Own}
 use Rattle.ws_scripts.specs.declared.script_text.frame_line.FrameName.TheVariants.{CloseWith}
 use Rattle.ws_scripts.specs.declared.script_text.line.ScriptLine.TheVariants.{Blank, Cut, Does}
+use Rattle.ws_scripts.specs.QuotedTexts.{IsPairEscape, IsUnitEscape, StandsFor, escaped_by, is_alone, is_unescaped}
 use Rattle.ws_scripts.specs.ScriptLines.{IsDataWord, IsPayloadField, frame_step}
 use Rattle.ws_scripts.specs.ScriptTexts.{AreScriptLines, steps_in, written_chop, written_step}
 use Rattle.ws_scripts.specs.Captures.{run_together, turns_in, written_capture}
@@ -119,6 +120,82 @@ two_of_a_byte = inr (inl (record {
   are = refl;
   spelled = refl;
 }))
+
+-- a quote stands for itself behind a backslash, and no other letter does
+pub quote_escaped : StandsFor 34 (codes "\\\"")
+quote_escaped = inr (inl (34, refl, refl))
+
+pub letter_without_a_meaning : escaped_by 97 ≡ None
+letter_without_a_meaning = refl
+
+-- U+00FC as itself, and by digits in either case
+pub character_as_it_is : StandsFor 0xfc (0xfc ∷ [])
+character_as_it_is = inl (refl, refl)
+
+pub digits_in_either_case : IsUnitEscape 0xfc (codes "\\u00Fc")
+digits_in_either_case = record {
+  first = 48;
+  second = 48;
+  third = 70;
+  fourth = 99;
+  is_first = lit≤ tt;
+  is_second = lit≤ tt;
+  is_third = lit≤ tt;
+  is_fourth = lit≤ tt;
+  value = refl;
+  spelled = refl;
+}
+
+-- U+1F600 by two escapes, of which neither stands for a character alone
+pub first_half : IsUnitEscape 0xd83d (codes "\\ud83d")
+first_half = record {
+  first = 100;
+  second = 56;
+  third = 51;
+  fourth = 100;
+  is_first = lit≤ tt;
+  is_second = lit≤ tt;
+  is_third = lit≤ tt;
+  is_fourth = lit≤ tt;
+  value = refl;
+  spelled = refl;
+}
+
+pub second_half : IsUnitEscape 0xde00 (codes "\\ude00")
+second_half = record {
+  first = 100;
+  second = 101;
+  third = 48;
+  fourth = 48;
+  is_first = lit≤ tt;
+  is_second = lit≤ tt;
+  is_third = lit≤ tt;
+  is_fourth = lit≤ tt;
+  value = refl;
+  spelled = refl;
+}
+
+pub both_halves : IsPairEscape 0x1f600 (codes "\\ud83d\\ude00")
+both_halves = record {
+  high = 0xd83d;
+  low = 0xde00;
+  front = codes "\\ud83d";
+  back = codes "\\ude00";
+  is_front = first_half;
+  is_back = second_half;
+  is_high = refl;
+  is_low = refl;
+  character = refl;
+  spelled = refl;
+}
+
+pub neither_half_alone : (is_alone 0xd83d ≡ false) × (is_alone 0xde00 ≡ false)
+neither_half_alone = (refl, refl)
+
+-- U+007E and U+00A0 stand as themselves, and what is between them doesn't
+pub edges_of_controls : (is_unescaped 0x7e ≡ true) × (is_unescaped 0x7f ≡ false) × (is_unescaped 0x9f ≡ false)
+    × (is_unescaped 0xa0 ≡ true)
+edges_of_controls = (refl, refl, refl, refl)
 
 -- ---- captures
 

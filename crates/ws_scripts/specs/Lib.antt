@@ -3,11 +3,13 @@ pub mod CaptureFeeds
 pub mod CaptureLines
 pub mod Captures
 pub mod Captures2
+pub mod QuotedTexts
 pub mod ScriptLines
 pub mod ScriptTexts
 pub mod CaseNames
 pub mod Pieces
 pub mod InnerCapturing
+pub mod InnerQuoting
 pub mod InnerScripting
 pub mod InnerCases
 pub mod InnerCutting

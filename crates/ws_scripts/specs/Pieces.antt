@@ -1,5 +1,5 @@
 -- Byte strings as they are kept: a list of short lengths, one of the long ones, and the joined bytes.
-use Rattle.std.specs.Prelude.{◌≡◌, ◌≤◌, ◌+◌, ℕ, ⊤, if◌then◌else◌, nat_eq, List, [], ◌∷◌, drop, length, take}
+use Rattle.std.specs.Prelude.{◌≡◌, ◌+◌, ℕ, ⊤, if◌then◌else◌, nat_eq, List, [], ◌∷◌, drop, length, take}
 use Rattle.ws_scripts.specs.declared.transcript.Turn.{Turn}
 use Rattle.ws_scripts.specs.declared.turn_walk.TurnRef.{TurnRef}
 

@@ -1,6 +1,6 @@
 -- The lines of scripts as text: what each tells, and the words that tell it. Words are parted by one space.
-use Rattle.std.specs.Prelude.{◌≡◌, ◌≢◌, ◌⊎◌, ℕ, ◌<◌, ◌≤◌, Bool, true, ⊤, List, [], ◌∷◌, ◌++◌, length, codes}
-use Rattle.std.specs.Prelude.{All, Option, Some, None, replicate}
+use Rattle.std.specs.Prelude.{◌≡◌, ◌⊎◌, ℕ, ◌<◌, ◌≤◌, Bool, true, ⊤, List, [], ◌∷◌, ◌++◌, length, codes}
+use Rattle.std.specs.Prelude.{Option, Some, None, replicate}
 use Rattle.std.specs.Int.{w16, to_be_bytes}
 use Rattle.std.specs.Fmt.{decimal}
 use Rattle.ws_formats.specs.Words.{IsHexWord, IsKeyWord, IsNumberWord, hex}
@@ -8,6 +8,7 @@ use Rattle.ws_wire.specs.declared.header.Form.{Form}
 use Rattle.ws_wire.specs.Header.{CanHold, HeaderFields, form_word, shortest_form}
 use Rattle.ws_wire.specs.Frame.{wire_bytes}
 use Rattle.ws_formats.specs.Words.{bit_word, opcode_word}
+use Rattle.ws_scripts.specs.QuotedTexts.{IsQuotedText}
 use Rattle.ws_scripts.specs.declared.script.Step.{Step}
 use Rattle.ws_scripts.specs.declared.script.Step.TheVariants.{Frame, Raw, Wait}
 use Rattle.ws_scripts.specs.declared.script.Chop.{Chop}
@@ -32,14 +33,11 @@ pub record IsRepeated (bytes word : List ℕ) : Type 0 where
   pub are : bytes ≡ replicate times byte
   pub spelled : word ≡ hex (byte ∷ []) ++ (codes "*" ++ decimal times)
 
--- what may stand between quotes: a space or another printed character of ASCII, but no quote
-abbrev pub IsPlain : ℕ → Type 0
-IsPlain byte = (32 ≤ byte) × (byte ≤ 126) × byte ≢ 34
-
--- a text between quotes, in which a backslash is itself
+-- a text between quotes: the first quote that no backslash escapes ends it, and the word
 pub record IsQuoted (bytes word : List ℕ) : Type 0 where
-  pub plain : All IsPlain bytes
-  pub spelled : word ≡ 34 ∷ (bytes ++ 34 ∷ [])
+  pub inner : List ℕ
+  pub is_text : IsQuotedText bytes inner
+  pub spelled : word ≡ 34 ∷ (inner ++ 34 ∷ [])
 
 -- the word spells the bytes: two digits each, or a dash for none; or one byte so many times; or a text between quotes
 abbrev pub IsDataWord : List ℕ → List ℕ → Type 0

@@ -1,6 +1,6 @@
 //! Byte strings that take little room: they stand one behind the other, and each has a length of one byte.
 
-ghost use Rattle.std.specs.Prelude.{◌≡◌, ◌<◌, ◌++◌, ◌∷◌, [], length, nat_le, OnOk};
+ghost use Rattle.std.specs.Prelude.{◌≡◌, ◌<◌, ◌++◌, ◌∷◌, [], length, nat_le, OnErr, OnOk};
 
 use std::alloc::Global;
 use std::marker::Model;
@@ -44,7 +44,8 @@ impl Pieces {
 
     /// One more byte string, behind the others.
     pub(crate) fn push(&mut self, piece: &[u8]) -> Result<(), NoMemory>
-        ensures { OnOk result (self.new ≡ self.old ++ piece.now ∷ []) }
+        ensures longer { OnOk result (self.new ≡ self.old ++ piece.now ∷ []) }
+        ensures kept { OnErr result (self.new ≡ self.old) }
     {
         if piece.len() < IS_LONG as usize {
             self.lens.reserve(1)?;

@@ -5,6 +5,7 @@ mod fields;
 mod frame_line;
 mod line;
 mod numbers;
+mod quoted;
 mod reading;
 mod words;
 mod writing;

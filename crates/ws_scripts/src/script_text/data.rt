@@ -1,14 +1,15 @@
 //! The bytes that a line of a script tells, in one of four notations, and as they are written.
 
-ghost use Rattle.std.specs.Prelude.{◌≡◌, ◌==◌, ◌↔◌, ◌∷◌, [], ℕ, All, IsTrue, Some, slice_index};
+ghost use Rattle.std.specs.Prelude.{◌≡◌, ◌==◌, ◌↔◌, ◌∷◌, [], ℕ, IsTrue, Some, slice_index};
 ghost use Rattle.std.specs.List.{list_all};
 ghost use Rattle.ws_base.specs.Finding.{Finds};
 ghost use Rattle.ws_formats.specs.Reading.{Reads};
-ghost use Rattle.ws_scripts.specs.ScriptLines.{IsDataWord, IsPlain, IsQuoted, IsRepeated};
+ghost use Rattle.ws_scripts.specs.ScriptLines.{IsDataWord, IsQuoted, IsRepeated};
 ghost use Rattle.ws_scripts.specs.InnerScripting.{EndsIn};
 ghost use Rattle.ws_scripts.specs.ScriptTexts.{is_counted, written_data};
 
 use crate::script_text::numbers::read_number;
+use crate::script_text::quoted::unquote;
 use crate::script_text::words::after_name;
 use std::alloc::Global;
 use std::fmt;
@@ -64,13 +65,7 @@ fn read_quoted(alloc: Global, word: &[u8]) -> Result<Payload, LineFault>
     let Some(text) = before_quote(after) else {
         return Err(LineFault::Damaged);
     };
-    if !are_plain(text) {
-        return Err(LineFault::Damaged);
-    }
-    match text.to_vec(alloc) {
-        Ok(bytes) => Ok(Payload::from_vec(bytes)),
-        Err(_) => Err(LineFault::NoMemory),
-    }
+    unquote(alloc, text)
 }
 
 /// What stands before a quote that stands last.
@@ -81,14 +76,6 @@ fn before_quote(text: &[u8]) -> Option<&[u8]>
         [front @ .., b'"'] => Some(front),
         _ => None,
     }
-}
-
-/// Whether each byte may stand between quotes.
-fn are_plain(text: &[u8]) -> bool
-    ensures { IsTrue result ↔ All IsPlain text.now }
-{
-    text.iter()
-        .all(|byte| *byte >= b' ' && *byte <= b'~' && *byte != b'"')
 }
 
 /// One byte so many times.

@@ -1,5 +1,5 @@
 -- There is one for each length.
-use Rattle.std.proofs.Common.{◌≡◌, ◌∙◌, List, ℕ, ap, length, sym}
+use Rattle.std.proofs.Common.{◌∙◌, List, ℕ, ap, length, sym}
 use Rattle.ws_scripts.proofs.PieceLemmas.{piece_count}
 use Rattle.ws_scripts.proofs.pieces.PieceWalk.len.Goals as goal
 

@@ -32,8 +32,8 @@ invariant_of-self-else-piece c =
     (subst (λ (l : List ℕ). HasPieces (old.lens.items ++ 255 ∷ []) (old.long.items ++ n ∷ []) l) (sym bytes)
     (long_has old.lens.items old.long.items old.bytes.items n piece c.self.invariant refl)))
 
-pub returns-in_ok-extend_from_slice : goal.returns-in_ok-extend_from_slice
-returns-in_ok-extend_from_slice c =
+pub returns-in_ok-extend_from_slice-clause-longer : goal.returns-in_ok-extend_from_slice-clause-longer
+returns-in_ok-extend_from_slice-clause-longer c =
     let old = c.self.inside in
     let piece = c.args.piece.now in
     let n = length piece in
@@ -44,8 +44,8 @@ returns-in_ok-extend_from_slice c =
     ∙ (short_pieces old.lens.items old.long.items old.bytes.items n piece c.self.invariant refl short
     ∙ ap (λ (l : List (List ℕ)). l ++ piece ∷ []) c.self.view_is)
 
-pub returns-in_ok-extend_from_slice-2 : goal.returns-in_ok-extend_from_slice-2
-returns-in_ok-extend_from_slice-2 c =
+pub returns-in_ok-extend_from_slice-2-clause-longer : goal.returns-in_ok-extend_from_slice-2-clause-longer
+returns-in_ok-extend_from_slice-2-clause-longer c =
     let old = c.self.inside in
     let piece = c.args.piece.now in
     let n = length piece in
