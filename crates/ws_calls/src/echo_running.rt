@@ -25,38 +25,11 @@ use crate::echo_script::read_echo_call;
 use crate::report_lines::{tell_ended, tell_last};
 use crate::taking_words::{keep_piece, take_words};
 use std::alloc::Global;
-use ws_base::{LineFault, NoMemory, TextFault};
+use ws_base::{LineFault, NoMemory};
 use ws_session::laws::{one_list_of_events, replies_go_on};
 use ws_session::{Echo, Limits};
-use ws_text_feed::{TakeValues, TextFeed};
+use ws_text_feed::TakeValues;
 use ws_wire::Role;
-
-/// Makes the calls of a script, one after the other, at a new echo, and tells what came of each, as `run_calls` does at
-/// a session; each line is `take HEX KEY` or `end`. An echo also sends each message back in one frame, and tells
-/// nothing of the bytes that it keeps.
-pub fn run_echo_calls(
-    alloc: Global,
-    role: Role,
-    limits: Limits,
-    text: &[u8],
-) -> Result<String, TextFault>
-    ensures { MatchResult result (λ lines. TellsEcho role limits text.now (string_bytes lines))
-        (λ fault. Damages AreEchoCallLines fault text.now) }
-{
-    let mut feed = TextFeed::new(alloc, Caller::of_echo(alloc, role, limits));
-    match feed.feed(alloc, text) {
-        Ok(()) => {}
-        Err(fault) => return Err(fault),
-    }
-    let caller = match feed.end() {
-        Ok(caller) => caller,
-        Err(fault) => return Err(fault),
-    };
-    match caller.echo_report(alloc) {
-        Ok(lines) => Ok(lines),
-        Err(NoMemory) => Err(TextFault::NoMemory),
-    }
-}
 
 impl TakeValues for Caller<Echo> {
     type Value = EchoCall;

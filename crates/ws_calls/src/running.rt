@@ -27,41 +27,11 @@ use crate::report_lines::{tell_ended, tell_last, tell_refused, tell_sent};
 use crate::script::read_call;
 use crate::taking_words::{keep_piece, take_words};
 use std::alloc::Global;
-use ws_base::{LineFault, NoMemory, TextFault};
+use ws_base::{LineFault, NoMemory};
 use ws_session::laws::{one_list_of_events, replies_go_on};
 use ws_session::{Limits, Outgoing, SendFault, Session};
-use ws_text_feed::{TakeValues, TextFeed};
+use ws_text_feed::TakeValues;
 use ws_wire::Role;
-
-/// Makes the calls of a script, one after the other, at a new session, and tells what came of each (RFC 6455 sections 5
-/// to 7), then the bytes kept and the status. The script has a line for each call, which ends with LF, and its words
-/// are parted by one space: `begin text|binary fin|part HEX KEY`, `more fin|part HEX KEY`, `ping HEX KEY`,
-/// `pong HEX KEY`, `close CODE|none HEX KEY`, `take HEX KEY` or `end`. A piece is taken whole, and each of its events
-/// has its place in all bytes taken since the start. Nothing is kept of a line once its call is told. `NoMemory` where
-/// a growth was refused, also of a send: then the run stops.
-pub fn run_calls(
-    alloc: Global,
-    role: Role,
-    limits: Limits,
-    text: &[u8],
-) -> Result<String, TextFault>
-    ensures { MatchResult result (λ lines. TellsSession role limits text.now (string_bytes lines))
-        (λ fault. Damages AreCallLines fault text.now) }
-{
-    let mut feed = TextFeed::new(alloc, Caller::of_session(alloc, role, limits));
-    match feed.feed(alloc, text) {
-        Ok(()) => {}
-        Err(fault) => return Err(fault),
-    }
-    let caller = match feed.end() {
-        Ok(caller) => caller,
-        Err(fault) => return Err(fault),
-    };
-    match caller.session_report(alloc) {
-        Ok(lines) => Ok(lines),
-        Err(NoMemory) => Err(TextFault::NoMemory),
-    }
-}
 
 impl TakeValues for Caller<Session> {
     type Value = Call;

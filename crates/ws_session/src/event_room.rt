@@ -108,24 +108,27 @@ impl EventRoom {
         }
     }
 
-    /// The event, which owns its bytes. What is left in the room doesn't matter.
+    /// The event, which owns its bytes. Nothing is left in the room.
     pub(crate) fn event(&mut self) -> Option<Event>
-        ensures { result ≡ self.old }
+        ensures told { result ≡ self.old }
+        ensures empty { self.new ≡ None }
     {
-        match &self.told {
+        let told = self.told;
+        self.told = Told::Nothing;
+        match told {
             Told::Nothing => None,
             Told::Part => Some(Event::Part),
             Told::Message(kind) => {
                 let payload = replace(&mut self.message, Vec::new(self.alloc));
                 Some(Event::Message(Message {
-                    kind: *kind,
+                    kind,
                     payload: Payload::from_vec(payload),
                 }))
             }
             Told::Ping => Some(Event::Ping(Small::of(&self.control[..self.len]))),
             Told::Pong => Some(Event::Pong(Small::of(&self.control[..self.len]))),
             Told::Close => Some(Event::Close(self.close)),
-            Told::Failed(reason) => Some(Event::Failed(*reason)),
+            Told::Failed(reason) => Some(Event::Failed(reason)),
         }
     }
 
@@ -160,13 +163,14 @@ impl EventRoom {
         swap(&mut self.message, payload);
     }
 
-    /// A message has come: its payload goes into the room, in exchange for what was handed out of it.
+    /// A message has come: its payload goes into the room with its memory. What the room has is given back: most often
+    /// nothing, since it was handed out for the message's first byte.
     pub(crate) fn tell_message(&mut self, kind: Kind, payload: &mut Vec<u8>)
         requires { self.old ≡ None }
         ensures told { self.new ≡ Some (event.Message (record { kind = kind; payload = payload.old.items })) }
         ensures empty { payload.new.items ≡ [] }
     {
-        swap(&mut self.message, payload);
+        self.message = replace(payload, Vec::new(self.alloc));
         self.told = Told::Message(kind);
     }
 

@@ -24,6 +24,7 @@ mod frame_end;
 mod header_end;
 mod header_kind;
 mod header_rules;
+mod inside;
 mod least_header;
 mod piece_check;
 mod ping_or_pong;
@@ -177,6 +178,10 @@ impl Receiver {
         let _ = &self.role;
         if let Some(used) = self.take_whole(status, answering, piece, key, out, room)? {
             return Ok(used);
+        }
+        // Most small pieces lie inside a payload.
+        if matches!(self.frame, UnderWay::Data { .. }) && self.take_inside(piece, room)? {
+            return Ok(piece.len());
         }
         self.take_part(status, answering, piece, key, out, room)
     }

@@ -42,7 +42,7 @@ use ws_wire::Role;
 #[derive(Drop)]
 pub struct Session {
     state: State,
-    /// What the last call of `take` told, but for a message, which was handed out: made once, and not at each call.
+    /// The room of `take`, made once and not at each call. It is empty between two calls: what is told is handed out.
     room: EventRoom,
 }
 
@@ -54,13 +54,15 @@ pub(crate) enum Answering {
 }
 
 impl Model for Session {
+    ghost use Rattle.std.specs.Prelude.{◌≡◌, None};
     ghost use Rattle.ws_session.specs.Exchange.{SessionValue, HasSomeExchange};
 
     ghost Value = { SessionValue };
 
     ghost view = { λ s. s.state };
 
-    ghost invariant = { λ s. HasSomeExchange s.state };
+    // No byte is kept beside the state: what was told has left the room.
+    ghost invariant = { λ s. HasSomeExchange s.state × (s.room ≡ None) };
 }
 
 impl Session {
@@ -171,8 +173,7 @@ impl Session {
     }
 
     /// Takes bytes as `take` does, and lends the payload of what it tells: `room` is emptied first, and holds it then.
-    /// So nothing is handed on by value, and a message's memory serves the next message too. After an error nothing is
-    /// said of what the room holds.
+    /// So nothing is handed on by value, and a message's memory serves the next message too.
     pub fn take_into(
         &mut self,
         piece: &[u8],
@@ -193,6 +194,10 @@ impl Session {
         ensures role { self.new.role ≡ self.old.role }
         ensures limits { self.new.limits ≡ self.old.limits }
 
+        // The room holds the payload of what is told, and nothing where it has none or nothing is told.
+        ensures lent { IfOk result (λ taken. room.new ≡ payload_in (event_if_any taken.event room.new)) }
+        ensures empty { OnErr result (room.new ≡ []) }
+
         // What is lent and what is kept are no more than a message, a header and a control frame's payload.
         ensures held { IfOk result (λ taken. length room.new + (length (open_payload self.new.opened)
             + length self.new.partial_frame) ≤ self.new.limits.max_message + most_beside) }
@@ -203,7 +208,11 @@ impl Session {
     {
         let room = &mut room.room;
         room.clear();
-        self.take_by(Answering::Plain, piece, key, out, room)
+        let Ok(taken) = self.take_by(Answering::Plain, piece, key, out, room) else {
+            room.clear();
+            return Err(NoMemory);
+        };
+        Ok(taken)
     }
 
     /// Takes bytes as `take` does, and where it is echoing sends each message back.
@@ -227,14 +236,18 @@ impl Session {
         ensures kept { OnErr result ((self.new ≡ self.old) × (out.new.items ≡ out.old.items)) }
         ensures memory { OnErr result (WantsMemory (reply_by answering) self.old piece.now) }
     {
-        self.room.clear();
-        let taken = self
+        let Ok(TakenInto { used, event: told }) = self
             .state
-            .take_by(answering, piece, key, out, &mut self.room)?;
-        Ok(Taken {
-            used: taken.used,
-            event: self.room.event(),
-        })
+            .take_by(answering, piece, key, out, &mut self.room)
+        else {
+            self.room.clear();
+            return Err(NoMemory);
+        };
+        let Some(_) = told else {
+            return Ok(Taken { used, event: None });
+        };
+        let event = self.room.event();
+        Ok(Taken { used, event })
     }
 
     /// The same, and leaves what it tells in the room.

@@ -121,7 +121,8 @@ impl Assembly {
         &self.payload[self.before + came..]
     }
 
-    /// Keeps of the frame under way the first bytes that came: the others are cut off.
+    /// Keeps of the frame under way the first bytes that came: the others are cut off. Where nothing is left its memory
+    /// is given back.
     pub(crate) fn cut(&mut self, came: usize)
         requires { HasKept self.old came }
         ensures opened { self.new.opened ≡ self.old.opened }
@@ -130,6 +131,9 @@ impl Assembly {
         ensures joined { IsJoined self.new }
     {
         self.payload.truncate(self.before + came);
+        if self.payload.is_empty() {
+            self.payload = Vec::new(self.alloc);
+        }
     }
 
     /// Puts bytes of the frame under way, unmasked, after those of it that came, which are all that is kept.

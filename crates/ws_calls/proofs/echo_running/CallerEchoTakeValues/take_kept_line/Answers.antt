@@ -1,6 +1,4 @@
 -- The word of the piece is kept in the room of its line; any other line stands there as it was.
-use Rattle.std.proofs.Common.{List, ℕ, subst, sym, ◌∙◌}
-use Rattle.ws_text_feed.specs.Taking.{TakesValue}
 use Rattle.ws_calls.proofs.TakeLines.{echo_word_taken}
 use Rattle.ws_calls.proofs.echo_running.CallerEchoTakeValues.take_kept_line.Goals as goal
 

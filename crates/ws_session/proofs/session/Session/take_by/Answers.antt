@@ -12,7 +12,7 @@ use Rattle.ws_session.proofs.session.Session.take_by.Goals as goal
 pub invariant_of-self : goal.invariant_of-self
 invariant_of-self c =
     let e = c.take_by.ensures in
-    after_takes c.self.inside.state c.take_by.new.self c.take_by.result c.take_by.new.room (reply_by c.args.answering) (call_of c.args.piece.now c.args.key c.args.out.now.items c.take_by.new.out.items) (c.take_by.new.out.items ≡ c.args.out.now.items) c.self.invariant e.taken e.over e.kept
+    (after_takes c.self.inside.state c.take_by.new.self c.take_by.result c.take_by.new.room (reply_by c.args.answering) (call_of c.args.piece.now c.args.key c.args.out.now.items c.take_by.new.out.items) (c.take_by.new.out.items ≡ c.args.out.now.items) c.self.invariant.0 e.taken e.over e.kept, c.self.invariant.1)
 
 pub returns-clause-taken : goal.returns-clause-taken
 returns-clause-taken c = subst (λ (v : SessionValue). IfOk c.take_by.result (λ taken. HasTaken (reply_by c.args.answering) v c.take_by.new.self (call_of c.args.piece.now c.args.key c.args.out.now.items c.take_by.new.out.items) (record { used = taken.used; event = c.take_by.new.room }))) c.self.view_is c.take_by.ensures.taken

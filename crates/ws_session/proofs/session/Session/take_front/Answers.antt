@@ -18,7 +18,7 @@ returns-in-Some-clause-taken c =
       event = Some c.in-Some.event;
       added = c.push_reserved.ensures.items ∙ ap (λ (l : List PlacedEvent). l ++ placed_at (c.args.before + used) (Some c.in-Some.event)) c.reserve.ensures.items;
       same = (c.in_ok-taken.ensures.role, c.in_ok-taken.ensures.limits);
-      takes = subst (λ (t : Option Event). HasTaken (reply_by c.args.answering) c.args.self.now c.take_by.new.self (call_of c.args.piece.now c.args.key c.args.out.now.items c.take_by.new.out.items) (record { used = used; event = t })) (sym c.event.ensures ∙ c.in-Some.is) c.in_ok-taken.ensures.taken;
+      takes = subst (λ (t : Option Event). HasTaken (reply_by c.args.answering) c.args.self.now c.take_by.new.self (call_of c.args.piece.now c.args.key c.args.out.now.items c.take_by.new.out.items) (record { used = used; event = t })) (sym c.event.ensures.told ∙ c.in-Some.is) c.in_ok-taken.ensures.taken;
     }
 
 pub returns-in_default-clause-taken : goal.returns-in_default-clause-taken
@@ -28,7 +28,7 @@ returns-in_default-clause-taken c =
       event = None;
       added = c.reserve.ensures.items ∙ sym (append-nil c.args.events.now.items);
       same = (c.in_ok-taken.ensures.role, c.in_ok-taken.ensures.limits);
-      takes = subst (λ (t : Option Event). HasTaken (reply_by c.args.answering) c.args.self.now c.take_by.new.self (call_of c.args.piece.now c.args.key c.args.out.now.items c.take_by.new.out.items) (record { used = used; event = t })) (sym c.event.ensures ∙ c.in_default.is) c.in_ok-taken.ensures.taken;
+      takes = subst (λ (t : Option Event). HasTaken (reply_by c.args.answering) c.args.self.now c.take_by.new.self (call_of c.args.piece.now c.args.key c.args.out.now.items c.take_by.new.out.items) (record { used = used; event = t })) (sym c.event.ensures.told ∙ c.in_default.is) c.in_ok-taken.ensures.taken;
     }
 
 pub returns-then-is_err-clause-taken : goal.returns-then-is_err-clause-taken

@@ -13,9 +13,11 @@ use Rattle.ws_session.proofs.session.Session.take_unplaced.Goals as goal
 pub invariant_of-self-then-branch : goal.invariant_of-self-then-branch
 invariant_of-self-then-branch c =
     let going : is_over c.self.inside.state.status ≡ false = ap (λ (x : SessionValue). is_over x.status) c.self.view_is ∙ c.requires.going in
-    let takes = c.in_ok-take_quiet.ensures.taken Plain [] [] tt c.if-branch.true in
-    after_take c.self.inside.state c.take_quiet.new.self (reply_by Plain) (call_of c.args.piece.now [] [] []) (record { used = length c.args.piece.now; event = None }) c.self.invariant takes
-    (λ over. let no : true ≡ false = sym over ∙ going in absurd cc)
+    let takes = c.in_ok-take_quiet.ensures.taken Plain [] [] tt c.if-branch.true in (
+      after_take c.self.inside.state c.take_quiet.new.self (reply_by Plain) (call_of c.args.piece.now [] [] []) (record { used = length c.args.piece.now; event = None }) c.self.invariant.0 takes
+          (λ over. let no : true ≡ false = sym over ∙ going in absurd cc),
+      c.self.invariant.1,
+    )
 
 pub returns-then-branch-clause-taken : goal.returns-then-branch-clause-taken
 returns-then-branch-clause-taken c = λ answering key before may.
