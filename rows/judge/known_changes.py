@@ -305,10 +305,24 @@ EQUAL = {
     "protocol, is_not_frames: close_of -> ending_of": "a fault that was got, or sent, is told before",
     "protocol, leaves_ping: close_of -> ending_of": "a fault that was got, or sent, is told before",
     "protocol, leaves_ping: close_of -> ending_of (2)": "a fault that was got, or sent, is told before",
-    "protocol, stays_open: fault_of -> ending_of": "a fault that was got, or sent, is told before",
-    "protocol, stays_open: close_of -> ending_of (2)": "a fault that was got, or sent, is told before",
+    "protocol, is_undefined: 2999 -> 3000": "3000 is a code that may be sent",
+    "protocol, is_undefined: 5000 -> 4999": "4999 is a code that may be sent",
+    (
+        "protocol, pongs_behind: x.header.opcode == PONG and is_right_control(role, x) -> ((x.header.opcode == PONG))"
+    ): (
+        "behind a close a pong that is none of the right ones is told before as NotFrames"
+    ),
+    "protocol, pongs_behind: PONG -> CLOSE (2)": "of an answer the payload and the turn count",
+    "protocol, pongs_behind: PONG -> PING (2)": "of an answer the payload and the turn count",
+    "protocol, ends_message: at == 0 -> at <= 0": "no place is below 0",
+    "protocol, must_end: fault_of -> ending_of": "a close is asked for before",
+    "protocol, leaves_close: close_of -> ending_of (2)": "a fault that was got is told before, or is too big",
+    "protocol, stays_open: close_of -> ending_of": "a fault that was got is told before, or is too big",
+    "protocol, stays_open: close_of -> ending_of (3)": "a fault that was got is told before, or is too big",
+    "protocol, stays_open: close_of(x.due) and x.is_open -> ((close_of(x.due)))": (
+        "a close that was sent and isn't answered is told before as Close, where no message is open"
+    ),
     "protocol, has_own_fault: close_of -> ending_of": "an own close is a close",
-    "protocol, has_undefined_close: close_of -> ending_of": "a fault that was got is told before, or is too big",
     (
         "protocol, has_own_end: not ending_of(x.due) and not close_of(x.got) and x.end == PEER -> ((not "
         "ending_of(x.due)) and (x.end == PEER))"
@@ -328,14 +342,14 @@ EQUAL = {
         "a close that was got is told before as OwnClose"
     ),
     (
-        'protocol, top: ("Tolerated", is_tolerated), ("NoClose", lacks_close) -> ("NoClose", lacks_close), '
+        'protocol, top: ("Tolerated", is_tolerated), ("NoClose", has_no_close) -> ("NoClose", has_no_close), '
         '("Tolerated", is_tolerated)'
     ): (
-        "the one is told of a fault, the other of a close"
+        "the one is told of a tolerable fault, the other of a close or of another fault"
     ),
     (
-        'protocol, top: ("NoClose", lacks_close), ("BehindClose", goes_on_behind) -> ("BehindClose", '
-        'goes_on_behind), ("NoClose", lacks_close)'
+        'protocol, top: ("NoClose", has_no_close), ("BehindClose", goes_on_behind) -> ("BehindClose", '
+        'goes_on_behind), ("NoClose", has_no_close)'
     ): (
         "the one is told without a close that was got, the other with one"
     ),

@@ -1,11 +1,13 @@
 """The verdict by RFC 6455 alone once more, on an end that needn't echo: written from docs/VERDICTS.md and the standard,
 and not from the program. Events, pongs and doom are those of the echo's twin."""
 
+from bisect import bisect_right
+from itertools import accumulate
 from typing import NamedTuple
 
-from twin import BINARY, BROKEN, CLIENT, CLOSE, CONTINUATION, DOOMED, FAULT, NOT_TEXT, PEER, PING, PONG, REST, SERVER
-from twin import TESTER, TEXT, TOO_BIG, InTurn, bad_byte, close_code, close_fault, close_of, counts_doom, ending_of
-from twin import fault_of, first, header_at, in_turns, is_control, is_doomed_after, pongs, unmasked, walk
+from twin import BINARY, BROKEN, CLIENT, CLOSE, CONTINUATION, DOOMED, FAULT, NOT_TEXT, PEER, PING, PONG, SERVER, TESTER
+from twin import TEXT, TOO_BIG, InTurn, bad_byte, close_code, close_fault, close_of, counts_doom, ending_of, fault_of
+from twin import first, header_at, in_turns, is_control, is_doomed, is_doomed_after, pongs, unmasked, walk
 
 # ---- frames in any form, one after the other
 
@@ -88,11 +90,27 @@ def is_right_control(role, frame):
     return close_fault(frame.payload) is None or has_undefined_code(frame.payload)
 
 
+def is_cut_control(role, rest):
+    """Less than a header and its payload, of a close, a ping or a pong that isn't doomed; or nothing."""
+    return rest == b"" or (rest[:1] in (b"\x88", b"\x89", b"\x8a") and not is_doomed(role, rest, None, b""))
+
+
 def are_controls(role, data):
     """Right pings, pongs and closes alone, the last perhaps cut."""
     frames, at = frames_from(data, 0)
-    is_cut = data[at : at + 1] in (b"\x88", b"\x89", b"\x8a")
-    return all(is_right_control(role, x) for x in frames) and (at == len(data) or is_cut)
+    return all(is_right_control(role, x) for x in frames) and is_cut_control(role, data[at:])
+
+
+def pongs_behind(role, data, ends):
+    """The right pongs behind the close, each in the turn that holds its last byte; the turns end at these places."""
+    frames = frames_from(data, behind_close(role, data))[0]
+    right = [x for x in frames if x.header.opcode == PONG and is_right_control(role, x)]
+    return [InTurn(PONG, x.payload, bisect_right(ends, x.end - 1)) for x in right]
+
+
+def behind_close(role, data):
+    """The place behind the frame of the close."""
+    return first_frame(data, frames_before(role, data)[1]).end
 
 
 # ---- the fault that was sent
@@ -104,18 +122,26 @@ def frames_at_fault(role, data):
 
 
 def is_late(role, data):
-    """The frame at fault wasn't sent whole; with text that is none, the last fragment of its message, and no close."""
+    """The frame at fault wasn't sent whole, or of a text the last fragment before another message; and no close was."""
     ended = last_event(role, data)
     if ended is None or ended.kind != FAULT:
         return False
     frames = frames_at_fault(role, data)
     if not frames:
         return True
-    at_fault, later = frames[0], frames[1:]
-    if ended.value != NOT_TEXT or at_fault.header.fin:
+    if ended.value != NOT_TEXT or any(x.header.opcode == CLOSE for x in frames[1:]):
         return False
-    ends = [x.header.opcode == CLOSE or (x.header.opcode == CONTINUATION and x.header.fin) for x in later]
-    return not any(ends)
+    return not ends_message(frames)
+
+
+def ends_message(frames):
+    """The first of these frames, or one that goes on with it, is the last of its message before another one begins."""
+    for at, frame in enumerate(frames):
+        if at > 0 and frame.header.opcode in (TEXT, BINARY):
+            return False
+        if frame.header.fin and (at == 0 or frame.header.opcode == CONTINUATION):
+            return True
+    return False
 
 
 def is_ordered(role, header):
@@ -140,6 +166,7 @@ class Evidence(NamedTuple):
     tested: str
     due: list  # what was sent, with the pings
     got: list
+    answers: list  # the pongs, also the right ones behind the close that was got
     behind: bytes  # what stands behind the close that was got, or else behind the last whole frame
     turns: int
     end: str
@@ -162,12 +189,14 @@ def evidence_of(tested, turns, end):
     answers_doom = bool(close and fault_of(due) and is_doomed_after(tested, pieces[: close.turn + 1]))
     frames, at = frames_before(tester, came)
     data = [x for x in frames if is_data(x)]
-    behind = came[at:] if close is None else came[frames_from(came, at)[0][0].end :]
+    behind = came[at:] if close is None else came[behind_close(tester, came) :]
     under_way = behind[0] % 16 if behind and not ending_of(got) else None
+    later = pongs_behind(tester, came, list(accumulate(map(len, answers)))) if close else []
     return Evidence(
         tested=tested,
         due=due,
         got=got,
+        answers=[*pongs(got), *later],
         behind=behind,
         turns=len(turns),
         end=end,
@@ -194,11 +223,6 @@ def has_own_close(x):
     return bool(close and (ending is None or (close.turn < ending.turn and not x.answers_doom)))
 
 
-def has_undefined_close(x):
-    close = close_of(x.got)
-    return bool(close and is_undefined(close.value))
-
-
 def is_too_big(x):
     fault = fault_of(x.got)
     return bool(fault and fault.value == TOO_BIG)
@@ -215,8 +239,8 @@ def owed(x):
 
 
 def is_answered(ping, x):
-    """A pong with its payload came in no earlier turn."""
-    return any(pong.value == ping.value and pong.turn >= ping.turn for pong in pongs(x.got))
+    """A pong with its payload came in no earlier turn, be it behind the close."""
+    return any(pong.value == ping.value and pong.turn >= ping.turn for pong in x.answers)
 
 
 def lacks_last_pong(x):
@@ -225,13 +249,9 @@ def lacks_last_pong(x):
     return bool(owed(x)) and not any(is_answered(ping, x) for ping in from_last)
 
 
-def is_still(x):
-    """Nothing too big came, and no message is open."""
-    return not is_too_big(x) and not x.is_open
-
-
-def lacks_close(x):
-    return bool(close_of(x.due) and not close_of(x.got))
+def must_end(x):
+    """A close was sent, or a fault in time for which the standard orders an end to fail."""
+    return bool(close_of(x.due) or (fault_of(x.due) and not x.is_late and not x.is_tolerable))
 
 
 # ---- the Fails
@@ -241,7 +261,7 @@ def is_not_frames(x):
     if fault_of(x.got):
         return not is_too_big(x)
     if close_of(x.got):
-        return x.tested == SERVER and not are_controls(CLIENT, x.behind)
+        return not are_controls(CLIENT if x.tested == SERVER else SERVER, x.behind)
     return bool(x.behind) and x.end == PEER and not fault_of(x.due)
 
 
@@ -256,17 +276,19 @@ def leaves_ping(x):
 
 
 def leaves_close(x):
-    return lacks_close(x) and is_still(x) and (x.end == TESTER or (x.end == PEER and not x.sends_data))
+    if not close_of(x.due) or close_of(x.got) or is_too_big(x) or x.is_open:
+        return False
+    return x.end == TESTER or (x.end == PEER and not x.sends_data)
 
 
 def stays_open(x):
-    has_to_end = close_of(x.due) or (fault_of(x.due) and not x.is_late and not x.is_tolerable)
-    if not has_to_end or x.end != TESTER or not is_still(x):
+    if not must_end(x) or x.end != TESTER or is_too_big(x):
+        return False
+    if not close_of(x.got) and (x.ends_in_data or (close_of(x.due) and x.is_open)):
         return False
     if x.tested == CLIENT:
         return not close_of(x.got)
-    waits = has_own_close(x) and not close_of(x.due)
-    return not (waits or has_undefined_close(x))
+    return bool(not has_own_close(x) or close_of(x.due))
 
 
 # ---- the Looses
@@ -285,7 +307,7 @@ def has_other_code(x):
 
 def ends_late(x):
     close, ending = close_of(x.got), ending_of(x.due)
-    if ending is None or has_own_close(x) or ending.turn + 1 >= x.turns:
+    if not must_end(x) or has_own_close(x) or ending.turn + 1 >= x.turns:
         return False
     return x.tested == SERVER or close is None or close.turn != ending.turn
 
@@ -307,11 +329,15 @@ def has_late_fault(x):
 
 
 def is_tolerated(x):
-    return x.is_tolerable and x.end == TESTER
+    return x.is_tolerable and x.end == TESTER and (x.tested == SERVER or not close_of(x.got))
+
+
+def has_no_close(x):
+    return bool(must_end(x) and not close_of(x.got) and (close_of(x.due) or x.end == TESTER))
 
 
 def goes_on_behind(x):
-    return bool(x.tested == SERVER and close_of(x.got) and x.behind)
+    return bool(close_of(x.got) and x.behind)
 
 
 # ---- the verdict
@@ -333,7 +359,7 @@ LOOSES = [
     ("OwnEnd", has_own_end),
     ("LateFault", has_late_fault),
     ("Tolerated", is_tolerated),
-    ("NoClose", lacks_close),
+    ("NoClose", has_no_close),
     ("BehindClose", goes_on_behind),
     ("TooBig", is_too_big),
 ]

@@ -1,5 +1,5 @@
 -- The evidence of an application's transcript is counted as its events say: so the law that no Fail is its verdict.
-use Rattle.std.proofs.Common.{◌≡◌, ◌∙◌, ℕ, false, List, Option, ap, sym, subst, inl, inr}
+use Rattle.std.proofs.Common.{◌≡◌, ◌∙◌, ℕ, false, List, ◌++◌, Option, ap, sym, subst, inl, inr}
 use Rattle.std.proofs.lemmas.Bool.{both_ways}
 use Rattle.std.specs.List.{concat}
 use Rattle.ws_wire.specs.declared.role.Role.{Role}
@@ -9,13 +9,14 @@ use Rattle.ws_suite.specs.declared.verdict.FailWhy.{FailWhy}
 use Rattle.ws_suite.specs.declared.verdict.Verdict.TheVariants.{Fail}
 use Rattle.ws_suite.specs.declared.evidence.InTurn.{InTurn}
 use Rattle.ws_suite.specs.declared.evidence.Ending.{Ending}
+use Rattle.ws_suite.specs.declared.evidence.Reply.{Reply}
 use Rattle.ws_suite.specs.declared.evidence.Direction.{Direction}
 use Rattle.ws_suite.specs.declared.evidence.Evidence.{Evidence}
 use Rattle.ws_suite.specs.declared.evidence.marks.Marks.{Marks}
-use Rattle.ws_suite.specs.Evidence.{got_in, got_turns, other_role}
+use Rattle.ws_suite.specs.Evidence.{by_turn, got_in, got_turns, other_role}
 use Rattle.ws_suite.specs.AppFairness.{IsAppTranscript}
 use Rattle.ws_suite.specs.Doom.{CountsAs}
-use Rattle.ws_suite.specs.Marks.{CountsUndefinedCode}
+use Rattle.ws_suite.specs.Marks.{CountsUndefinedCode, HasPongsCounted}
 use Rattle.ws_suite.specs.Matching.{ends_with_fault}
 use Rattle.ws_suite.specs.Protocol.{IsMarkedEvidenceOf, IsProtocolVerdictOf}
 use Rattle.ws_suite.specs.InnerEchoReplyLaws.{EchoReplyLaws}
@@ -48,19 +49,30 @@ module _ (laws : EchoReplyLaws) (tested : Role) (transcript : Transcript) (app :
     closed_ending =
         code_counts_none (other_role tested) (concat (got_turns transcript.turns)) m.shown.got.ending m.closed.got.ending shown_no_fault m.is_closed.ending ∙ ap (λ (d : Direction). d.ending) shown_got
 
+    abbrev p : HasPongsCounted tested transcript m.doomed counted
+    p = m.is_counted
+
     counted_ending : counted.got.ending ≡ m.closed.got.ending
-    counted_ending = ap (λ (d : Direction). d.ending) m.is_counted.got
+    counted_ending = ap (λ (y : Evidence). y.got.ending) p.is_counted ∙ ap (λ (d : Direction). d.ending) m.is_doomed.got
+
+    counted_due : counted.due.ending ≡ m.doomed.due.ending
+    counted_due = ap (λ (y : Evidence). y.due.ending) p.is_counted
+
+    shown_replies : m.doomed.got.replies ≡ by_turn got_in 0 got
+    shown_replies = ap (λ (d : Direction). d.replies) m.is_doomed.got ∙ (m.is_closed.replies ∙ ap (λ (d : Direction). d.replies) shown_got)
 
     pub is_counted_of : IsCountedOf tested transcript due got counted
     is_counted_of = record {
-      dues = m.is_counted.replies ∙ (ap (λ (d : Direction). d.replies) m.is_closed.due ∙ m.is_shown.due.replies);
-      gots = ap (λ (d : Direction). d.replies) m.is_counted.got ∙ (m.is_closed.replies ∙ ap (λ (d : Direction). d.replies) shown_got);
+      dues = ap (λ (y : Evidence). y.due.replies) p.is_counted ∙ (m.is_doomed.replies ∙ (ap (λ (d : Direction). d.replies) m.is_closed.due ∙ m.is_shown.due.replies));
+      pongs = p.pongs;
+      gots = ap (λ (y : Evidence). y.got.replies) p.is_counted ∙ ap (λ (l : List (InTurn Reply)). l ++ p.pongs) shown_replies;
       ending = counted_ending ∙ closed_ending;
-      no_rest = ap (λ (d : Direction). d.has_rest) m.is_counted.got ∙ (m.is_closed.has_rest ∙ ap (λ (d : Direction). d.has_rest) shown_got);
+      no_rest = ap (λ (y : Evidence). y.got.has_rest) p.is_counted ∙ (ap (λ (d : Direction). d.has_rest) m.is_doomed.got ∙ (m.is_closed.has_rest ∙ ap (λ (d : Direction). d.has_rest) shown_got));
       counts = subst (λ (o : Option (InTurn Ending)). CountsAs tested transcript o (last_ending due) counted.due.ending) (sym counted_ending)
-          (subst (λ (o : Option (InTurn Ending)). CountsAs tested transcript m.closed.got.ending o counted.due.ending) (ap (λ (d : Direction). d.ending) m.is_closed.due ∙ m.is_shown.due.ending) m.is_counted.ending);
-      turns = m.is_counted.turns ∙ (m.is_closed.turns ∙ m.is_shown.turns);
-      ended = m.is_counted.ended ∙ (m.is_closed.ended ∙ m.is_shown.ended);
+          (subst (λ (o : Option (InTurn Ending)). CountsAs tested transcript m.closed.got.ending o counted.due.ending) (ap (λ (d : Direction). d.ending) m.is_closed.due ∙ m.is_shown.due.ending)
+          (subst (λ (o : Option (InTurn Ending)). CountsAs tested transcript m.closed.got.ending m.closed.due.ending o) (sym counted_due) m.is_doomed.ending));
+      turns = ap (λ (y : Evidence). y.turns) p.is_counted ∙ (m.is_doomed.turns ∙ (m.is_closed.turns ∙ m.is_shown.turns));
+      ended = ap (λ (y : Evidence). y.ended) p.is_counted ∙ (m.is_doomed.ended ∙ (m.is_closed.ended ∙ m.is_shown.ended));
     }
 
 -- an application that keeps the protocol has no Fail

@@ -1,5 +1,5 @@
 -- No Loose applies to an application that sends no close of its own: each is refuted by name.
-use Rattle.std.proofs.Common.{◌≡◌, ◌∙◌, ℕ, ◌+◌, ◌<◌, ◌||◌, Bool, true, false, if◌then◌else◌, List, [], ◌∷◌}
+use Rattle.std.proofs.Common.{◌≡◌, ◌∙◌, ℕ, ◌+◌, ◌<◌, ◌⊎◌, ◌||◌, Bool, true, false, if◌then◌else◌, List, [], ◌∷◌}
 use Rattle.std.proofs.Common.{length, flat_map, Option, Some, None, MatchBool, ap, sym, refl, subst, arith, inl, inr}
 use Rattle.std.proofs.lemmas.Bool.{both_ways, or_right}
 use Rattle.std.specs.List.{concat}
@@ -26,8 +26,8 @@ use Rattle.ws_suite.specs.Evidence.{AreEventsByTurn, ending_in, joined_events, s
 use Rattle.ws_suite.specs.AppFairness.{IsAppTranscript, SendsNoClose, go_on}
 use Rattle.ws_suite.specs.Doom.{IsDoomOf, counts_doom}
 use Rattle.ws_suite.specs.Marks.{IsLate}
-use Rattle.ws_suite.specs.Matching.{IsCodeFor, ends_with_close, is_close_ending}
-use Rattle.ws_suite.specs.Protocol.{HasOwnClose, IsLooseByProtocol, is_size, is_tolerable, is_too_big}
+use Rattle.ws_suite.specs.Matching.{IsCodeFor, ends_with_close, ends_with_fault, is_close_ending}
+use Rattle.ws_suite.specs.Protocol.{HasOwnClose, HasToEnd, IsLooseByProtocol, is_size, is_tolerable, is_too_big}
 use Rattle.ws_suite.specs.Verdicts.{EndsLate, HasOtherCode, IsEarlyClose}
 use Rattle.ws_suite.specs.InnerEchoReplyLaws.{EchoReplyLaws}
 use Rattle.ws_suite.proofs.AnsweredEvents.{has_end, is_end, over_by_end}
@@ -180,8 +180,17 @@ module _ (laws : EchoReplyLaws) (tested : Role) (transcript : Transcript) (app :
       ended_by : x.ended ≡ Tester → has_end (joined_events due) ≡ false
       ended_by tester = peer_ends (sym is.ended ∙ tester)
 
+      -- where the tester ended the connection, nothing that was sent asks for an end
+      nothing_asks : x.ended ≡ Tester → HasToEnd x marks → ⊥
+      nothing_asks tester (inl closed) = both_ways false refl (sym (ap (λ (o : Option (InTurn Ending)). ends_with_close o) (nothing_due (ended_by tester))) ∙ closed)
+      nothing_asks tester (inr faulty) = both_ways false refl (sym (ap (λ (o : Option (InTurn Ending)). ends_with_fault o) (nothing_due (ended_by tester))) ∙ faulty.0)
+
+      closed_where_owed : ends_with_close x.got.ending ≡ false → (ends_with_close x.due.ending ≡ true) ⊎ (x.ended ≡ Tester) → HasToEnd x marks → ⊥
+      closed_where_owed open_yet (inl closed) asks = lacks_none laws tested transcript app due are x is marks (closed, open_yet)
+      closed_where_owed open_yet (inr tester) asks = nothing_asks tester asks
+
       pub nowhere_loose : (why : LooseWhy) → IsLooseByProtocol tested x marks why → ⊥
-      nowhere_loose loose.PongsSkipped h = skips_none laws tested transcript app due are x is.dues is.gots is.ending h
+      nowhere_loose loose.PongsSkipped h = skips_none laws tested transcript app due are x is.dues is.pongs is.gots is.ending h
       nowhere_loose loose.PongElsewhere h = h
       nowhere_loose loose.OtherCode h = right_code h.0
       nowhere_loose loose.LateEnd h = no_late_end is.turns h.0
@@ -192,6 +201,6 @@ module _ (laws : EchoReplyLaws) (tested : Role) (transcript : Transcript) (app :
       nowhere_loose loose.OwnEnd h = absurd (let wrong : Tester ≡ Peer = sym (tester_ended (none_due h.0)) ∙ (sym is.ended ∙ h.2) in cc)
       nowhere_loose loose.LateFault h = no_fault_sent (ended_by h.2) (late h.0)
       nowhere_loose loose.Tolerated h = both_ways false refl (sym (ap (λ (o : Option (InTurn Ending)). is_tolerable o) (nothing_due (ended_by h.1))) ∙ h.0)
-      nowhere_loose loose.NoClose h = lacks_none laws tested transcript app due are x is marks h
-      nowhere_loose loose.BehindClose h = both_ways x.got.has_rest is.no_rest h.2
+      nowhere_loose loose.NoClose h = closed_where_owed h.0 h.2 h.1
+      nowhere_loose loose.BehindClose h = both_ways x.got.has_rest is.no_rest h.1
       nowhere_loose loose.TooBig h = both_ways (is_too_big x.got.ending) not_too_big h

@@ -1,9 +1,10 @@
 -- The transcript of an application that keeps the protocol and sends no close of its own has the verdict Pass.
-use Rattle.std.proofs.Common.{◌≡◌, ◌∙◌, ℕ, ◌+◌, ◌<◌, ◌≤◌, ◌↔◌, Bool, true, false, List, [], ◌++◌, length, take, drop}
+use Rattle.std.proofs.Common.{◌≡◌, ◌∙◌, ℕ, ◌+◌, ◌<◌, ◌≤◌, ◌↔◌, Bool, true, false, List, [], ◌++◌, append-nil, length, take, drop}
 use Rattle.std.proofs.Common.{Option, Some, None, MatchBool, ap, sym, refl, subst, arith, inl, inr}
 use Rattle.std.proofs.Math.Seq.{drop-append_seam}
 use Rattle.std.specs.List.{concat}
 use Rattle.ws_wire.specs.declared.role.Role.{Role}
+use Rattle.ws_wire.specs.Stream.{SplitsIntoAnyForm}
 use Rattle.ws_session.specs.declared.event.Event.{Event}
 use Rattle.ws_session.specs.Events.{HasEvents}
 use Rattle.ws_session.specs.Sends.{most_limits}
@@ -12,11 +13,13 @@ use Rattle.ws_suite.specs.declared.verdict.Verdict.TheVariants.{Pass}
 use Rattle.ws_suite.specs.declared.evidence.InTurn.{InTurn}
 use Rattle.ws_suite.specs.declared.evidence.Ending.{Ending}
 use Rattle.ws_suite.specs.declared.evidence.Evidence.{Evidence}
-use Rattle.ws_suite.specs.Evidence.{AreEventsByTurn, HasRest, IsEvidenceOf, by_turn, due_for, got_turns, joined_events, other_role, sent_turns}
+use Rattle.ws_suite.specs.declared.evidence.Reply.{Reply}
+use Rattle.ws_suite.specs.Evidence.{AreEventsByTurn, HasRest, IsEvidenceOf, by_turn, due_for, got_in, got_turns, joined_events, other_role, sent_turns}
 use Rattle.ws_suite.specs.AppFairness.{IsAppTranscript, SendsNoClose}
 use Rattle.ws_suite.specs.Doom.{AnswersDoom, CountsAs, HasDoomCounted, IsDoomOf, counts_doom}
 use Rattle.ws_suite.specs.Fairness.{sent_within}
-use Rattle.ws_suite.specs.Marks.{FailsByUndefinedCode, HasUndefinedCodeCounted}
+use Rattle.ws_suite.specs.Marks.{ArePongsBehind, FailsByUndefinedCode, HasPongsCounted, HasUndefinedCodeCounted}
+use Rattle.ws_suite.specs.Matching.{ends_with_close}
 use Rattle.ws_suite.specs.Protocol.{IsProtocolVerdictOf}
 use Rattle.ws_suite.specs.InnerEchoReplyLaws.{EchoReplyLaws}
 use Rattle.ws_suite.proofs.AppDirections.{due_ends, frames, got_direction, got_ends, got_shown, gots_are, keys, layout, sent_as_many, told, told_by_turn, valid}
@@ -32,6 +35,13 @@ use Rattle.ws_suite.proofs.WorkedFrames.{none_valid}
 counted_none_by : (b : Bool) (tested : Role) (turns : List (List ℕ)) (o : Option (InTurn Ending)) → b ≡ false → o ≡ None → MatchBool b (IsDoomOf tested turns o) (o ≡ None)
 counted_none_by true tested turns o e none = absurd (let wrong : true ≡ false = e in cc)
 counted_none_by false tested turns o e none = none
+
+nothing_splits : SplitsIntoAnyForm [] [] []
+nothing_splits = record { each = tt; whole = refl; left = λ x more is e. absurd cc }
+
+whichever : {P Q : Type 0} (b : Bool) → P → Q → MatchBool b P Q
+whichever true p q = p
+whichever false p q = q
 
 module _ (laws : EchoReplyLaws) (tested : Role) (transcript : Transcript) (app : IsAppTranscript tested transcript) where
   abbrev count : ℕ
@@ -106,6 +116,33 @@ module _ (laws : EchoReplyLaws) (tested : Role) (transcript : Transcript) (app :
     answers_doom = false;
   }
 
+  abbrev with_replies : List (InTurn Reply) → Evidence
+  with_replies replies = record {
+    due = shown.due;
+    got = record { replies = replies; ending = last_ending got; has_rest = false };
+    turns = count;
+    ended = transcript.ended;
+    answers_doom = false;
+  }
+
+  -- no bytes are behind the last event, and so no pongs
+  no_pongs_behind : ArePongsBehind (other_role tested) (got_turns transcript.turns) []
+  no_pongs_behind = record {
+    events = joined_events got;
+    are_events = all_got;
+    behind = [];
+    stand_behind = record {
+      front = concat (got_turns transcript.turns);
+      parts = sym (append-nil (concat (got_turns transcript.turns)));
+      same = all_got;
+      fewest = λ n less has. whole (record { n = n; fewer = less; same = has });
+    };
+    frames = [];
+    rest = [];
+    split = nothing_splits;
+    among = refl;
+  }
+
   is_shown : IsEvidenceOf tested transcript shown
   is_shown = record {
     due = record { events = due; are_events = are; replies = refl; ending = refl; has_rest = rest.1 };
@@ -139,8 +176,8 @@ module _ (laws : EchoReplyLaws) (tested : Role) (transcript : Transcript) (app :
           ]
     ]
 
-    is_counted : HasDoomCounted tested transcript shown shown
-    is_counted = record {
+    is_doomed : HasDoomCounted tested transcript shown shown
+    is_doomed = record {
       replies = refl;
       ending = counts;
       has_rest = refl;
@@ -150,8 +187,15 @@ module _ (laws : EchoReplyLaws) (tested : Role) (transcript : Transcript) (app :
       answers_doom = (λ e. absurd (let wrong : false ≡ true = e in cc), λ d. absurd (answers_none d));
     }
 
+    is_counted : HasPongsCounted tested transcript shown shown
+    is_counted = record {
+      pongs = [];
+      are_pongs = whichever (ends_with_close (last_ending got)) no_pongs_behind refl;
+      is_counted = ap (λ (l : List (InTurn Reply)). with_replies l) (sym (append-nil (by_turn got_in 0 got)));
+    }
+
     counted_of : IsCountedOf tested transcript due got shown
-    counted_of = record { dues = refl; gots = refl; ending = refl; no_rest = refl; counts = counts; turns = refl; ended = refl }
+    counted_of = record { dues = refl; pongs = []; gots = sym (append-nil (by_turn got_in 0 got)); ending = refl; no_rest = refl; counts = counts; turns = refl; ended = refl }
 
     pub app_passes : IsProtocolVerdictOf tested transcript Pass
     app_passes =
@@ -159,7 +203,7 @@ module _ (laws : EchoReplyLaws) (tested : Role) (transcript : Transcript) (app :
         record {
           counted = shown;
           marks = marks.0;
-          is_evidence = record { shown = shown; is_shown = is_shown; closed = shown; is_closed = is_closed; is_counted = is_counted; are_marks = marks.1 };
+          is_evidence = record { shown = shown; is_shown = is_shown; closed = shown; is_closed = is_closed; doomed = shown; is_doomed = is_doomed; is_counted = is_counted; are_marks = marks.1 };
           is_verdict = (
             fails_nowhere laws tested transcript app due are shown counted_of marks.0,
             nowhere_loose laws tested transcript app none due are shown refl refl counted_of marks.0 marks.1.is_late.0,

@@ -1,6 +1,6 @@
 -- Each ping for which a pong is owed is answered in its turn by an application that keeps the protocol.
 use Rattle.std.proofs.Common.{◌≡◌, ◌∙◌, ℕ, zero, suc, ◌+◌, ◌-◌, ◌<◌, ◌≤◌, ◌&&◌, ◌||◌, nat_le, nat_lt, Bool, true, false}
-use Rattle.std.proofs.Common.{if◌then◌else◌, List, [], ◌∷◌, length, take, filter, flat_map, bytes_eq, Option, Some, None, ap, sym, refl, subst}
+use Rattle.std.proofs.Common.{if◌then◌else◌, List, [], ◌∷◌, ◌++◌, length, take, filter, flat_map, bytes_eq, Option, Some, None, ap, sym, refl, subst}
 use Rattle.std.proofs.Common.{arith, inl, inr}
 use Rattle.std.proofs.lemmas.Bool.{and_parts, and_from, both_ways, false_from_ne_true, or_cases, or_left, or_right}
 use Rattle.std.proofs.lemmas.Bool.Decides.{nat_tests}
@@ -139,7 +139,7 @@ not_before m n turns less e = false_from_ne_true (has_end (joined_events (take m
 -- ---- an application
 
 module _ (laws : EchoReplyLaws) (tested : Role) (transcript : Transcript) (app : IsAppTranscript tested transcript) (due : List (List Event)) (are : AreEventsByTurn tested (sent_turns transcript.turns) due)
-    (x : Evidence) (dues : x.due.replies ≡ by_turn due_for 0 due) (gots : x.got.replies ≡ by_turn got_in 0 (told tested transcript app)) (ending : x.got.ending ≡ last_ending (told tested transcript app)) where
+    (x : Evidence) (dues : x.due.replies ≡ by_turn due_for 0 due) (pongs : List (InTurn Reply)) (gots : x.got.replies ≡ by_turn got_in 0 (told tested transcript app) ++ pongs) (ending : x.got.ending ≡ last_ending (told tested transcript app)) where
   abbrev events : List (List Event)
   events = told tested transcript app
 
@@ -170,7 +170,10 @@ module _ (laws : EchoReplyLaws) (tested : Role) (transcript : Transcript) (app :
       let sent = turn.4 (none_sent pong n is less before.1) asked.payload asks in
       let there : list_any (tells_pong asked.payload) (turn_at events n) ≡ true =
       ap (λ (l : List Event). list_any (tells_pong asked.payload) l) (told_in_turn tested transcript app n turn.1 less turn.3) ∙ pongs_are_told asked.payload (frames_of (app.sent n)) (frames_of turn.1) sent in
-      ap (λ (l : List (InTurn Reply)). list_any (answers_it pong) (pong_replies l)) gots ∙ answers_at pong asked.payload 0 events n asked.same (omega (arith, is)) there
+      let all_got = by_turn got_in 0 events in
+      ap (λ (l : List (InTurn Reply)). list_any (answers_it pong) (pong_replies l)) gots
+      ∙ (ap (λ (l : List (InTurn Reply)). list_any (answers_it pong) l) (filter-append (λ x. is_pong x.what) all_got pongs)
+      ∙ any_in_front (answers_it pong) (pong_replies all_got) (pong_replies pongs) (answers_at pong asked.payload 0 events n asked.same (omega (arith, is)) there))
 
   -- each pong that is owed
   pub owed_are_answered : AllByRecursion (λ pong. is_answered x pong ≡ true) (owed_pongs x)

@@ -1,5 +1,5 @@
 -- By the protocol no Fail is the verdict on an application that keeps it: each is refuted by name.
-use Rattle.std.proofs.Common.{◌≡◌, ◌≢◌, ◌∙◌, ℕ, Bool, true, false, if◌then◌else◌, List}
+use Rattle.std.proofs.Common.{◌≡◌, ◌≢◌, ◌∙◌, ℕ, Bool, true, false, if◌then◌else◌, List, ◌++◌}
 use Rattle.std.proofs.Common.{length, Option, Some, None, MatchBool, ap, sym, refl, subst, arith, inl, inr}
 use Rattle.std.proofs.lemmas.Bool.{both_ways}
 use Rattle.ws_wire.specs.declared.role.Role.{Role}
@@ -13,6 +13,7 @@ use Rattle.ws_scripts.specs.declared.transcript.Transcript.{Transcript}
 use Rattle.ws_suite.specs.declared.verdict.FailWhy.{FailWhy}
 use Rattle.ws_suite.specs.declared.verdict.FailWhy.TheVariants as fail
 use Rattle.ws_suite.specs.declared.evidence.InTurn.{InTurn}
+use Rattle.ws_suite.specs.declared.evidence.Reply.{Reply}
 use Rattle.ws_suite.specs.declared.evidence.Ending.{Ending}
 use Rattle.ws_suite.specs.declared.evidence.Evidence.{Evidence}
 use Rattle.ws_suite.specs.declared.evidence.marks.Marks.{Marks}
@@ -20,7 +21,7 @@ use Rattle.ws_suite.specs.Evidence.{AreEventsByTurn, by_turn, due_for, got_in, j
 use Rattle.ws_suite.specs.AppFairness.{IsAppTranscript, go_on}
 use Rattle.ws_suite.specs.Doom.{CountsAs, IsDoomOf, counts_doom}
 use Rattle.ws_suite.specs.Matching.{ends_with_close, ends_with_fault, is_close_ending}
-use Rattle.ws_suite.specs.Protocol.{FailsProtocol, LacksClose, WaitsForEnd}
+use Rattle.ws_suite.specs.Protocol.{FailsProtocol, IsItsEnd, LacksClose}
 use Rattle.ws_suite.specs.InnerEchoReplyLaws.{EchoReplyLaws}
 use Rattle.ws_suite.proofs.AnsweredEvents.{has_end}
 use Rattle.ws_suite.proofs.AppDirections.{all_goes_on, due_ends, got_close, got_no_fault, told}
@@ -30,16 +31,17 @@ use Rattle.ws_suite.proofs.TurnEnds.{last_ending}
 -- ---- how doom counts
 
 -- what is doomed counts at the tester's end for a client alone, whose close was got
-doom_waits_by : (b : Bool) (tested : Role) (turns : List (List ℕ)) (due : Option (InTurn Ending)) → MatchBool b (IsDoomOf tested turns due) (due ≡ None) → due ≢ None → b ≡ true
-doom_waits_by true tested turns due counts some = refl
-doom_waits_by false tested turns due counts some = absurd (some counts)
+doom_its_end_by : (b : Bool) (tested : Role) (turns : List (List ℕ)) (due : Option (InTurn Ending)) → MatchBool b (IsDoomOf tested turns due) (due ≡ None) → due ≢ None → b ≡ true
+doom_its_end_by true tested turns due counts some = refl
+doom_its_end_by false tested turns due counts some = absurd (some counts)
 
 -- ---- the evidence of an application's transcript
 
--- as it counts: what was sent and what was got have these events, turn by turn
+-- as it counts: what was sent and what was got have these events, turn by turn; some pongs may count behind these
 pub record IsCountedOf (tested : Role) (transcript : Transcript) (due got : List (List Event)) (x : Evidence) : Type 0 where
   pub dues : x.due.replies ≡ by_turn due_for 0 due
-  pub gots : x.got.replies ≡ by_turn got_in 0 got
+  pub pongs : List (InTurn Reply)
+  pub gots : x.got.replies ≡ by_turn got_in 0 got ++ pongs
   pub ending : x.got.ending ≡ last_ending got
   pub no_rest : x.got.has_rest ≡ false
   pub counts : CountsAs tested transcript x.got.ending (last_ending due) x.due.ending
@@ -78,15 +80,15 @@ module _ (laws : EchoReplyLaws) (tested : Role) (transcript : Transcript) (app :
   counts_none : go_on (app.events (length transcript.turns)) ≡ true → CountsAs tested transcript x.got.ending None x.due.ending
   counts_none on = subst (λ (o : Option (InTurn Ending)). CountsAs tested transcript x.got.ending o x.due.ending) (none_sent on) is.counts
 
-  waits_by : (role : Role) → counts_doom role Tester x.got.ending ≡ true → WaitsForEnd role x
-  waits_by Server e = absurd (let wrong : false ≡ true = e in cc)
-  waits_by Client e = e
+  its_end_by : (role : Role) → counts_doom role Tester x.got.ending ≡ true → IsItsEnd role x → ⊥
+  its_end_by Server e its = absurd (let wrong : false ≡ true = e in cc)
+  its_end_by Client e open_yet = both_ways (ends_with_close x.got.ending) open_yet e
 
-  -- so at the tester's end a client was waited for
-  waits_for_doom : x.ended ≡ Tester → x.due.ending ≢ None → WaitsForEnd tested x
-  waits_for_doom tester some =
-      let counts = doom_waits_by (counts_doom tested transcript.ended x.got.ending) tested (sent_turns transcript.turns) x.due.ending (counts_none (tester_goes_on tester)) some in
-      waits_by tested (ap (λ (e : Ended). counts_doom tested e x.got.ending) (sym (sym is.ended ∙ tester)) ∙ counts)
+  -- so at the tester's end it was a client, of which no end is asked
+  not_its_end : x.ended ≡ Tester → x.due.ending ≢ None → IsItsEnd tested x → ⊥
+  not_its_end tester some =
+      let counts = doom_its_end_by (counts_doom tested transcript.ended x.got.ending) tested (sent_turns transcript.turns) x.due.ending (counts_none (tester_goes_on tester)) some in
+      its_end_by tested (ap (λ (e : Ended). counts_doom tested e x.got.ending) (sym (sym is.ended ∙ tester)) ∙ counts)
 
   some_close : ends_with_close x.due.ending ≡ true → x.due.ending ≢ None
   some_close e none = both_ways false refl (sym (ap (λ (o : Option (InTurn Ending)). ends_with_close o) none) ∙ e)
@@ -119,11 +121,11 @@ module _ (laws : EchoReplyLaws) (tested : Role) (transcript : Transcript) (app :
 
   pub fails_nowhere : (why : FailWhy) → FailsProtocol tested x marks why → ⊥
   fails_nowhere fail.NotFrames (inl h) = both_ways (ends_with_fault x.got.ending) no_fault h.0
-  fails_nowhere fail.NotFrames (inr (inl h)) = both_ways x.got.has_rest is.no_rest h.2
+  fails_nowhere fail.NotFrames (inr (inl h)) = both_ways x.got.has_rest is.no_rest h.1
   fails_nowhere fail.NotFrames (inr (inr h)) = both_ways x.got.has_rest is.no_rest h.3
   fails_nowhere fail.Early h = h
   fails_nowhere fail.Messages h = h
-  fails_nowhere fail.Pongs h = h.0.1 (last_is_answered laws tested transcript app due are x is.dues is.gots is.ending h.0.0)
+  fails_nowhere fail.Pongs h = h.0.1 (last_is_answered laws tested transcript app due are x is.dues is.pongs is.gots is.ending h.0.0)
   fails_nowhere fail.Close h = lacks_none h.0
-  fails_nowhere fail.End (inl closed, tester, still, waits) = waits (waits_for_doom tester (some_close closed))
-  fails_nowhere fail.End (inr faulty, tester, still, waits) = waits (waits_for_doom tester (some_fault faulty.0))
+  fails_nowhere fail.End (inl closed, tester, size, free, its) = not_its_end tester (some_close closed) its
+  fails_nowhere fail.End (inr faulty, tester, size, free, its) = not_its_end tester (some_fault faulty.0) its

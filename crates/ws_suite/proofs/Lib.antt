@@ -44,15 +44,21 @@ mod ChosenLemmas
 mod AnsweredLemmas
 mod TurnBytes
 mod StreamEndLemmas
+mod FoundLemmas
 mod ToldLemmas
 mod FrontFrames
 mod FoundFrames
 mod HiddenFaults
 mod UndefinedCodes
+pub mod UndefinedCloses
 mod RightControls
 mod RightStreams
 mod LaterLooses
 mod CountedLemmas
+mod CountedPongs
+mod PassedPlaces
+mod PongsAmong
+mod OnePongs
 mod MarkedStreams
 mod PairingLemmas
 mod AstrayLemmas
@@ -60,3 +66,4 @@ mod WaitLemmas
 mod PackedLemmas
 mod PrintLemmas
 mod DropLemmas
+mod GotLemmas

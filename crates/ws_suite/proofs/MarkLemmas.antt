@@ -21,7 +21,7 @@ use Rattle.ws_session.proofs.Faults.{one_fault}
 use Rattle.ws_scripts.specs.declared.transcript.Transcript.{Transcript}
 use Rattle.ws_suite.specs.declared.evidence.marks.Marks.{Marks}
 use Rattle.ws_suite.specs.Evidence.{HasRest, got_turns, other_role, sent_turns}
-use Rattle.ws_suite.specs.Marks.{AreMarksOf, EndsInDataFrame, EndsInFrame, HasControlsBehind, HasOpenMessage, HideFault, HoldData, IsLate, StandBehind, is_close_frame, is_last_fragment, leaves_open}
+use Rattle.ws_suite.specs.Marks.{AreMarksOf, ArePongsBehind, EndsInDataFrame, EndsInFrame, HasControlsBehind, HasOpenMessage, HideFault, HoldData, IsLate, StandBehind, end_message, is_close_frame, leaves_open}
 use Rattle.ws_suite.specs.InnerCollecting.{EventLaws}
 use Rattle.ws_suite.proofs.OneFault.{same_fault}
 
@@ -98,6 +98,19 @@ module _ (laws : EventLaws) (role : Role) (bytes : List ℕ) (events : List Even
     no_bytes_split : SplitsIntoAnyForm [] [] []
     no_bytes_split = record { each = tt; whole = refl; left = λ x more is e. absurd cc }
 
+    -- and so no pongs
+    pub no_pongs : (turns : List (List ℕ)) → concat turns ≡ bytes → ArePongsBehind role turns []
+    no_pongs turns all = record {
+      events = events;
+      are_events = subst (λ (l : List ℕ). HasEvents role most_limits l events) (sym all) has;
+      behind = [];
+      stand_behind = subst (λ (l : List ℕ). StandBehind role l events []) (sym all) none_behind;
+      frames = [];
+      rest = [];
+      split = no_bytes_split;
+      among = refl;
+    }
+
     controls_if : (true ≡ true) ↔ HasControlsBehind role bytes
     controls_if = (
       (λ e. record {
@@ -148,26 +161,28 @@ not_text_is CloseCode e = absurd cc
 not_text_is CloseReason e = absurd cc
 not_text_is FrameBig e = absurd cc
 
--- it shows the fault
-abbrev shows_it : WireFrame → Bool
-shows_it y = is_last_fragment y || is_close_frame y
+-- what is behind the frame at fault doesn't show it
+abbrev shows_none : List WireFrame → Bool
+shows_none later = not (end_message later) && not (list_any is_close_frame later)
 
 abbrev hides : Reason → List WireFrame → Bool
 hides reason [] = true
-hides reason (x ∷ later) = is_not_text reason && (not x.header.fin && not (list_any shows_it later))
+hides reason (x ∷ later) = is_not_text reason && (not x.header.fin && shows_none later)
 
 hidden_if : (reason : Reason) (frames : List WireFrame) → hides reason frames ≡ true → HideFault reason frames
 hidden_if reason [] e = tt
 hidden_if reason (x ∷ later) e =
-    let first = and_parts (is_not_text reason) (not x.header.fin && not (list_any shows_it later)) e in
-    let second = and_parts (not x.header.fin) (not (list_any shows_it later)) first.1 in
-    (not_text_is reason first.0, not-true x.header.fin second.0, not-true (list_any shows_it later) second.1)
+    let first = and_parts (is_not_text reason) (not x.header.fin && shows_none later) e in
+    let second = and_parts (not x.header.fin) (shows_none later) first.1 in
+    let third = and_parts (not (end_message later)) (not (list_any is_close_frame later)) second.1 in
+    (not_text_is reason first.0, not-true x.header.fin second.0, not-true (end_message later) third.0, not-true (list_any is_close_frame later) third.1)
 
 hidden_so : (reason : Reason) (frames : List WireFrame) → HideFault reason frames → hides reason frames ≡ true
 hidden_so reason [] h = refl
 hidden_so reason (x ∷ later) h =
-    and_from (is_not_text reason) (not x.header.fin && not (list_any shows_it later)) (ap (λ (r : Reason). is_not_text r) h.0)
-    (and_from (not x.header.fin) (not (list_any shows_it later)) (ap (λ b. not b) h.1) (ap (λ b. not b) h.2))
+    and_from (is_not_text reason) (not x.header.fin && shows_none later) (ap (λ (r : Reason). is_not_text r) h.0)
+    (and_from (not x.header.fin) (shows_none later) (ap (λ b. not b) h.1)
+    (and_from (not (end_message later)) (not (list_any is_close_frame later)) (ap (λ b. not b) h.2) (ap (λ b. not b) h.3)))
 
 module _ (role : Role) (bytes : List ℕ) (are : AreBytes bytes) (place : ℕ) (reason : Reason) (first : IsFirstFault role most_limits bytes place reason) where
   abbrev behind : List KeyedFrame → List ℕ

@@ -17,11 +17,12 @@ use Rattle.ws_suite.specs.declared.evidence.Evidence.{Evidence}
 use Rattle.ws_suite.specs.declared.evidence.marks.Marks.{Marks}
 use Rattle.ws_suite.specs.Evidence.{got_turns, other_role}
 use Rattle.ws_suite.specs.Doom.{HasDoomCounted}
-use Rattle.ws_suite.specs.Marks.{AreMarksOf, CountsUndefinedCode, HasUndefinedCodeCounted}
+use Rattle.ws_suite.specs.Marks.{AreMarksOf, CountsUndefinedCode, HasPongsCounted, HasUndefinedCodeCounted}
 use Rattle.ws_suite.specs.Protocol.{FailsProtocol, IsLooseByProtocol, IsProtocolVerdictOf, IsProtocolVerdictOn, IsVerdictBy}
 use Rattle.ws_suite.specs.Verdicts.{fail_number, loose_number}
 use Rattle.ws_suite.specs.InnerCollecting.{EventLaws}
 use Rattle.ws_suite.proofs.OneFault.{one_undefined_code}
+use Rattle.ws_suite.proofs.OnePongs.{one_with_pongs}
 use Rattle.ws_suite.proofs.OneVerdict.{fail_is, fail_with, loose_is, loose_with, one_counted, one_evidence, one_verdict_of, same_direction, same_evidence, same_flags}
 
 -- ---- one ending
@@ -94,8 +95,10 @@ one_protocol_verdict laws tested transcript one other p q =
     let shown = one_evidence laws tested transcript q.is_evidence.shown p.is_evidence.shown q.is_evidence.is_shown p.is_evidence.is_shown in
     let closed = one_closed tested transcript p.is_evidence.shown q.is_evidence.closed p.is_evidence.closed
     (subst (λ (x : Evidence). HasUndefinedCodeCounted tested transcript x q.is_evidence.closed) shown q.is_evidence.is_closed) p.is_evidence.is_closed in
-    let counted = one_counted tested transcript p.is_evidence.closed q.counted p.counted
-    (subst (λ (x : Evidence). HasDoomCounted tested transcript x q.counted) closed q.is_evidence.is_counted) p.is_evidence.is_counted in
+    let doomed = one_counted tested transcript p.is_evidence.closed q.is_evidence.doomed p.is_evidence.doomed
+    (subst (λ (x : Evidence). HasDoomCounted tested transcript x q.is_evidence.doomed) closed q.is_evidence.is_doomed) p.is_evidence.is_doomed in
+    let counted = one_with_pongs laws tested transcript p.is_evidence.doomed q.counted p.counted
+    (subst (λ (x : Evidence). HasPongsCounted tested transcript x q.counted) doomed q.is_evidence.is_counted) p.is_evidence.is_counted in
     let marks = one_marks tested transcript q.marks p.marks q.is_evidence.are_marks p.is_evidence.are_marks in
     one_on tested p.counted p.marks one other p.is_verdict
     (subst (λ (m : Marks). IsProtocolVerdictOn tested p.counted m other) marks (subst (λ (x : Evidence). IsProtocolVerdictOn tested x q.marks other) counted q.is_verdict))

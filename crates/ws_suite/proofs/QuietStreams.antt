@@ -1,9 +1,10 @@
 -- Bytes of which neither a close nor a fault is told, and the event of a few bytes more: it is of the frame behind.
 use Rattle.std.proofs.Common.{◌≡◌, ◌∙◌, ℕ, suc, ◌+◌, ◌-◌, ◌<◌, ◌≤◌, List, [], ◌∷◌, ◌++◌, length, take, drop}
 use Rattle.std.proofs.Common.{flat_map, Option, None, Some, ap, sym, refl, subst, inl, inr, arith, append-nil}
+use Rattle.std.proofs.Common.{append_assoc}
 use Rattle.std.proofs.lemmas.Bool.{cases_lt}
 use Rattle.std.proofs.lemmas.Grind.{flat_map-append}
-use Rattle.std.proofs.lemmas.List.{length-append, take-append-drop, take-append-le, take_at}
+use Rattle.std.proofs.lemmas.List.{length-append, length-take-le, take-append-drop, take-append-le, take_at}
 use Rattle.std.proofs.Math.Seq.{take-append-add}
 use Rattle.ws_wire.specs.declared.role.Role.{Role}
 use Rattle.ws_wire.specs.Header.{header_bytes}
@@ -260,6 +261,28 @@ module _ (role : Role) (limits : LimitsValue) (s p : List ℕ) (events : List Ev
               ∙ length-stream_bytes f.before h.next h.more in
               let early : place ≤ length s = omega (arith, at, within, all, same) in
               absurd (before.clean place reason (fault_before role limits s p place reason early f))
+        ]
+
+    -- it is told with their last byte
+    pub fails_with_last : (place : ℕ) (reason : Reason) → IsFaultAt role limits (s ++ p) place reason
+        → place ≡ length (s ++ p)
+    fails_with_last place reason f =
+        let at = fault_behind place reason f in
+        let place_at = place_is role limits (s ++ p) place reason f in
+        elim (cases_lt place (length (s ++ p))) [
+          | inr most ↦ omega (arith, most, f.long)
+          | inl less ↦
+              let n = place - length s in
+              let n_is : place ≡ length s + n = omega (arith, at, place_at) in
+              let short : n < length p = omega (arith, less, n_is, length-append s p) in
+              let bytes = s ++ take n p in
+              let size : length bytes ≡ place =
+              omega (arith, n_is, length-append s (take n p), length-take-le n p (omega (arith, short))) in
+              let here = quiet role limits bytes events (least n short) going in
+              let whole : s ++ p ≡ bytes ++ drop n p =
+              ap (λ (l : List ℕ). s ++ l) (sym (take-append-drop n p)) ∙ sym (append_assoc s (take n p) (drop n p)) in
+              absurd (here.clean place reason (fault_before role limits bytes (drop n p) place reason
+              (omega (arith, size)) (subst (λ (l : List ℕ). IsFaultAt role limits l place reason) whole f)))
         ]
 
     -- so where they fail

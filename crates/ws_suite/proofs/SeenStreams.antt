@@ -40,11 +40,11 @@ use Rattle.ws_suite.specs.declared.evidence.streams.StreamEnd.TheVariants as str
 use Rattle.ws_suite.specs.declared.evidence.streams.Seen.{Seen}
 use Rattle.ws_suite.specs.Evidence.{ending_in}
 use Rattle.ws_suite.specs.InnerCollecting.{way_bytes}
-use Rattle.ws_suite.specs.InnerMarks.{EndsSo, HasSeenBytes, IsSeen, left_open, nothing_seen, seen_if_any}
-use Rattle.ws_suite.specs.InnerMarks.{seen_more, seen_with}
+use Rattle.ws_suite.specs.InnerMarks.{EndsSo, FailsWithByte, HasSeenBytes, IsSeen, left_open, nothing_seen}
+use Rattle.ws_suite.specs.InnerMarks.{seen_if_any, seen_more, seen_with}
 use Rattle.ws_suite.specs.Marks.{leaves_open}
 use Rattle.ws_suite.proofs.EvidenceLemmas.{last_joined}
-use Rattle.ws_suite.proofs.QuietStreams.{closed_has_no_fault, ends_so, failed_not, fails_here, fewest_have}
+use Rattle.ws_suite.proofs.QuietStreams.{closed_has_no_fault, ends_so, failed_not, fails_here, fails_with_last, fewest_have}
 use Rattle.ws_suite.proofs.QuietStreams.{still_whole}
 use Rattle.ws_suite.proofs.TurnBytes.{bytes_before, bytes_more, bytes_of_all}
 use Rattle.ws_suite.proofs.TurnsCollected.{no_events}
@@ -65,6 +65,7 @@ seen_at_start role session same limits exchanged = record {
   place = refl;
   left = refl;
   ends = refl;
+  fails = tt;
   order = omega arith;
   within = omega arith;
   quiet = λ n le. subst (λ (l : List ℕ). HasEvents role most_limits l []) (sym (no_bytes n))
@@ -259,6 +260,7 @@ module _ (role : Role) (session new : SessionValue) (bytes piece key x y : List 
     place = omega (arith, h.place, all_size);
     left = h.left;
     ends = subst (λ (l : List ℕ). EndsSo role l h.events seen.end seen.last) (sym front_still) h.ends;
+    fails = subst (λ (l : List ℕ). FailsWithByte role l seen.end seen.after) (sym front_still) h.fails;
     order = h.order;
     within = omega (arith, h.within, all_size);
     quiet = still_quiet is;
@@ -300,9 +302,9 @@ module _ (role : Role) (session new : SessionValue) (bytes piece key x y : List 
     -- so it is seen
     seen_so : (now : Seen) → now.place ≡ seen.place + t.used → now.after ≡ now.place → now.last ≤ now.after
         → left_open now.frame ≡ last_or None (flat_map leaves_open more) → EndsSo role all more now.end now.last
-        → (now.end ≡ None → (frames : List KeyedFrame) × SplitsInto all frames [])
+        → FailsWithByte role all now.end now.after → (now.end ≡ None → (frames : List KeyedFrame) × SplitsInto all frames [])
         → (now.end ≡ None) ⊎ (is_over new.status ≡ true) → HasSeenBytes role new all now
-    seen_so now place after order left ends whole over =
+    seen_so now place after order left ends fails whole over =
         let size : now.after ≡ length all = omega (arith, place, after, h.place, all_size) in
         let every : take now.after all ≡ all = take_all now.after all (omega (arith, size)) in
         record {
@@ -314,6 +316,7 @@ module _ (role : Role) (session new : SessionValue) (bytes piece key x y : List 
           place = omega (arith, size, after);
           left = left;
           ends = subst (λ (l : List ℕ). EndsSo role l more now.end now.last) (sym every) ends;
+          fails = subst (λ (l : List ℕ). FailsWithByte role l now.end now.after) (sym every) fails;
           order = order;
           within = omega (arith, size);
           quiet = λ n past. subst (λ (l : List ℕ). HasEvents role most_limits l more)
@@ -335,6 +338,7 @@ module _ (role : Role) (session new : SessionValue) (bytes piece key x y : List 
         let split = h.whole open_end in
         seen_so now place after (omega (arith, place, after, last, h.place, h.order, h.within)) left
         (subst (λ (o : Option StreamEnd). EndsSo role all more o now.last) (sym (end ∙ open_end)) on)
+        (subst (λ (o : Option StreamEnd). FailsWithByte role all o now.after) (sym (end ∙ open_end)) tt)
         (λ e. subst (λ (l : List ℕ). (frames : List KeyedFrame) × SplitsInto l frames []) joined
         (still_whole role most_limits front later h.events front_events least going split.0 split.1 added more_events
         on))
@@ -356,12 +360,18 @@ module _ (role : Role) (session new : SessionValue) (bytes piece key x y : List 
     pub seen_ending : (now : Seen) (end : StreamEnd) → now.place ≡ seen.place + t.used → now.after ≡ now.place
         → now.last ≡ seen.after → now.end ≡ Some end → Ends added
         → left_open now.frame ≡ last_or None (flat_map leaves_open more)
-        → EndsSo role (front ++ later) more (Some end) seen.after → HasSeenBytes role new all now
-    seen_ending now end place after last is_end ends left so =
+        → EndsSo role (front ++ later) more (Some end) seen.after
+        → FailsWithByte role (front ++ later) (Some end) (length (front ++ later)) → HasSeenBytes role new all now
+    seen_ending now end place after last is_end ends left so fails =
         let here = subst (λ (l : List ℕ). EndsSo role l more (Some end) seen.after) joined so in
         let at = subst (λ (n : ℕ). EndsSo role all more (Some end) n) (sym last) here in
+        let size : length (front ++ later) ≡ now.after =
+        omega (arith, place, after, h.place, all_size, ap (λ (l : List ℕ). length l) joined) in
+        let with_last = subst (λ (n : ℕ). FailsWithByte role all (Some end) n) size
+        (subst (λ (l : List ℕ). FailsWithByte role l (Some end) (length (front ++ later))) joined fails) in
         seen_so now place after (omega (arith, place, after, last, h.place, h.within)) left
         (subst (λ (o : Option StreamEnd). EndsSo role all more o now.last) (sym is_end) at)
+        (subst (λ (o : Option StreamEnd). FailsWithByte role all o now.after) (sym is_end) with_last)
         (λ e. absurd (let wrong : Some end ≡ None = sym is_end ∙ e in cc)) (inr (over_now ends))
 
     pub ends_failed : (reason : Reason) → added ≡ event.Failed reason
@@ -371,6 +381,16 @@ module _ (role : Role) (session new : SessionValue) (bytes piece key x y : List 
         let fails = fails_here role most_limits front later h.events front_events least going split.0 split.1 reason
         (subst (λ (e : Event). HasEvents role most_limits (front ++ later) (h.events ++ e ∷ [])) so more_events) in
         (fails.0, fails.1, fails.2 ∙ front_size)
+
+    pub fails_so : (reason : Reason) → added ≡ event.Failed reason
+        → FailsWithByte role (front ++ later) (Some (stream.Failed reason)) (length (front ++ later))
+    fails_so reason so =
+        let split = h.whole open_end in
+        let fails = fails_here role most_limits front later h.events front_events least going split.0 split.1 reason
+        (subst (λ (e : Event). HasEvents role most_limits (front ++ later) (h.events ++ e ∷ [])) so more_events) in
+        subst (λ (n : ℕ). IsFirstFault role most_limits (front ++ later) n reason)
+        (fails_with_last role most_limits front later h.events front_events least going split.0 split.1 fails.0 reason
+        fails.1.fault) fails.1
 
     pub ends_closed : (close : Option CloseValue) → added ≡ event.Close close
         → EndsSo role (front ++ later) more (Some stream.Closed) seen.after
@@ -397,18 +417,19 @@ module _ (role : Role) (session new : SessionValue) (bytes piece key x y : List 
   seen_event (kind.Close None) payload is =
       seen_ending (kind.Close None) payload is (seen_with (seen_more seen t.used) (kind.Close None)) stream.Closed refl
       refl refl refl tt (left_as_before (left_open seen.frame) h.events (event.Close None) refl h.left)
-      (ends_closed (kind.Close None) payload is None refl)
+      (ends_closed (kind.Close None) payload is None refl) tt
   seen_event (kind.Close (Some code)) payload is =
       let close = Some (record { code = code; reason = payload }) in
       seen_ending (kind.Close (Some code)) payload is (seen_with (seen_more seen t.used) (kind.Close (Some code)))
       stream.Closed refl refl refl refl tt
       (left_as_before (left_open seen.frame) h.events (event.Close close) refl h.left)
-      (ends_closed (kind.Close (Some code)) payload is close refl)
+      (ends_closed (kind.Close (Some code)) payload is close refl) tt
   seen_event (kind.Failed reason) payload is =
       seen_ending (kind.Failed reason) payload is (seen_with (seen_more seen t.used) (kind.Failed reason))
       (stream.Failed reason) refl refl refl refl tt
       (left_as_before (left_open seen.frame) h.events (event.Failed reason) refl h.left)
       (ends_failed (kind.Failed reason) payload is reason refl)
+      (fails_so (kind.Failed reason) payload is reason refl)
 
   -- whatever was told
   pub seen_step : (of : Option EventKind) (payload : List ℕ) → t.event ≡ event_if_any of payload
@@ -459,6 +480,12 @@ ends_still role s more events (Some (stream.Failed reason)) last has all (place,
       at,
     )
 
+fails_still : (role : Role) (s u : List ℕ) (end : Option StreamEnd) (after : ℕ)
+    → FailsWithByte role s end after → FailsWithByte role (s ++ u) end after
+fails_still role s u None after h = tt
+fails_still role s u (Some stream.Closed) after h = tt
+fails_still role s u (Some (stream.Failed reason)) after h = first_stays role most_limits s u after reason h
+
 -- what is seen of the bytes that a session took
 module _ (role : Role) (session : SessionValue) (bytes : List ℕ) (seen : Seen)
     (h : HasSeenBytes role session bytes seen) where
@@ -483,6 +510,8 @@ module _ (role : Role) (session : SessionValue) (bytes : List ℕ) (seen : Seen)
     ends = subst (λ (l : List ℕ). EndsSo role l h.events seen.end seen.last) whole_is
         (ends_still role before beyond h.events seen.end seen.last (h.quiet seen.after (omega arith))
         (subst (λ (l : List ℕ). HasEvents role most_limits l h.events) (sym whole_is) all_events) h.ends);
+    fails = subst (λ (l : List ℕ). FailsWithByte role l seen.end seen.after) whole_is
+        (fails_still role before beyond seen.end seen.after h.fails);
     order = h.order;
     within = h.within;
     behind = record {

@@ -1,6 +1,9 @@
 -- The evidence by the protocol of a transcript in which both ends sent whole valid frames.
 use Rattle.std.proofs.Common.{◌≡◌, ◌∙◌, ℕ, true, false, List, [], length, map, sym}
-use Rattle.std.proofs.Common.{refl, subst, inr, append-nil, arith}
+use Rattle.std.proofs.Common.{refl, subst, inr, append-nil, arith, ap, Bool, MatchBool}
+use Rattle.ws_suite.specs.Matching.{ends_with_close}
+use Rattle.ws_suite.specs.declared.evidence.Reply.{Reply}
+use Rattle.ws_suite.specs.declared.evidence.InTurn.{InTurn}
 use Rattle.std.proofs.lemmas.List.{take_all}
 use Rattle.std.specs.List.{AllByRecursion, concat}
 use Rattle.ws_wire.specs.declared.role.Role.{Role}
@@ -19,7 +22,7 @@ use Rattle.ws_suite.specs.Doom.{AnswersDoom, CountsAs, IsDoomedAfter}
 use Rattle.ws_suite.specs.Marks.{FailsByUndefinedCode, HasUndefinedCodeCounted}
 use Rattle.ws_suite.specs.Protocol.{IsMarkedEvidenceOf}
 use Rattle.ws_suite.specs.InnerCollecting.{EventLaws, FrameLaws}
-use Rattle.ws_suite.proofs.MarkLemmas.{faultless_marks, marks_of}
+use Rattle.ws_suite.proofs.MarkLemmas.{faultless_marks, marks_of, no_pongs}
 use Rattle.ws_suite.proofs.TurnEnds.{all_by_turn, last_ending}
 use Rattle.ws_suite.proofs.ValidDirections.{all_bytes, are_by_turn, events_by, joined_frames, no_rest, valid_direction}
 
@@ -94,6 +97,16 @@ module _ (laws : FrameLaws) (events : EventLaws) (tested : Role) (transcript : T
   pub none_doomed : IsDoomedAfter tested (sent_turns transcript.turns) (length (sent_turns transcript.turns)) → ⊥
   none_doomed = subst (λ (l : List (List ℕ)). IsDoomedAfter tested l (length l) → ⊥) sent_is (not_doomed laws tested sent sent_are)
 
+  all_got : HasEvents (other_role tested) most_limits (concat (got_turns transcript.turns)) (joined_events (events_by [] got))
+  all_got = subst (λ (l : List (List ℕ)). HasEvents (other_role tested) most_limits (concat l) (joined_events (events_by [] got))) got_is (whole_events laws (other_role tested) got got_are)
+
+  no_got_rest : HasRest (other_role tested) (concat (got_turns transcript.turns)) (joined_events (events_by [] got)) → ⊥
+  no_got_rest = subst (λ (l : List (List ℕ)). HasRest (other_role tested) (concat l) (joined_events (events_by [] got)) → ⊥) got_is (no_rest laws (other_role tested) got got_are.layout got_are.keys got_are.valid)
+
+  whichever : {P Q : Type 0} (b : Bool) → P → Q → MatchBool b P Q
+  whichever true p q = p
+  whichever false p q = q
+
   pub is_marked : CountsAs tested transcript shown.got.ending shown.due.ending shown.due.ending → (AnswersDoom tested (sent_turns transcript.turns) shown.got.ending shown.due.ending → ⊥)
       → IsMarkedEvidenceOf tested transcript shown (marks_of false (joined_events (events_by [] sent)) (joined_events (events_by [] got)))
   is_marked counts answers = record {
@@ -101,7 +114,8 @@ module _ (laws : FrameLaws) (events : EventLaws) (tested : Role) (transcript : T
     is_shown = is_shown;
     closed = shown;
     is_closed = is_closed;
-    is_counted = record {
+    doomed = shown;
+    is_doomed = record {
       replies = refl;
       ending = counts;
       has_rest = refl;
@@ -110,9 +124,20 @@ module _ (laws : FrameLaws) (events : EventLaws) (tested : Role) (transcript : T
       ended = refl;
       answers_doom = (λ e. absurd (let wrong : false ≡ true = e in cc), λ d. absurd (answers d));
     };
+    is_counted = record {
+      pongs = [];
+      are_pongs = whichever (ends_with_close shown.got.ending)
+          (no_pongs events (other_role tested) (concat (got_turns transcript.turns)) (joined_events (events_by [] got)) all_got no_got_rest (got_turns transcript.turns) refl) refl;
+      is_counted = ap (λ (l : List (InTurn Reply)). record {
+        due = shown.due;
+        got = record { replies = l; ending = shown.got.ending; has_rest = shown.got.has_rest };
+        turns = shown.turns;
+        ended = shown.ended;
+        answers_doom = shown.answers_doom;
+      }) (sym (append-nil shown.got.replies));
+    };
     are_marks = faultless_marks events tested transcript (joined_events (events_by [] sent)) (joined_events (events_by [] got))
         (subst (λ (l : List (List ℕ)). HasEvents tested most_limits (concat l) (joined_events (events_by [] sent))) sent_is (whole_events laws tested sent sent_are))
-        (subst (λ (l : List (List ℕ)). HasEvents (other_role tested) most_limits (concat l) (joined_events (events_by [] got))) got_is (whole_events laws (other_role tested) got got_are))
-        (subst (λ (l : List (List ℕ)). HasRest (other_role tested) (concat l) (joined_events (events_by [] got)) → ⊥) got_is (no_rest laws (other_role tested) got got_are.layout got_are.keys got_are.valid))
+        all_got no_got_rest
         (subst (λ (l : List (List ℕ)). HasNoFault tested most_limits (concat l)) sent_is (faultless laws tested sent sent_are));
   }

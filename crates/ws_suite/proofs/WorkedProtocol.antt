@@ -41,14 +41,14 @@ answered_marks = marks_by ((text ∷ []) ∷ []) ((text_back ∷ []) ∷ [])
 
 answered_fails : (end : Ended) (why : FailWhy) → FailsProtocol Server (answered end) answered_marks why → ⊥
 answered_fails end fail.NotFrames (inl h) = no_true h.0
-answered_fails end fail.NotFrames (inr (inl h)) = no_true h.1
+answered_fails end fail.NotFrames (inr (inl h)) = no_true h.0
 answered_fails end fail.NotFrames (inr (inr h)) = no_true h.3
 answered_fails end fail.Early h = h
 answered_fails end fail.Messages h = h
 answered_fails end fail.Pongs h = omega (arith, h.0.0)
 answered_fails end fail.Close h = no_true h.0.0
-answered_fails end fail.End (inl h, at, still, waits) = no_true h
-answered_fails end fail.End (inr h, at, still, waits) = no_true h.0
+answered_fails end fail.End (inl h, at, big, free, its) = no_true h
+answered_fails end fail.End (inr h, at, big, free, its) = no_true h.0
 
 -- the Looses that don't apply, whoever ended it: all but the two of an end
 abbrev is_of_end : LooseWhy → Bool
@@ -72,7 +72,7 @@ answered_loose end loose.PongsSkipped other (inl h) = omega (arith, h.0)
 answered_loose end loose.PongsSkipped other (inr h) = no_true h
 answered_loose end loose.PongElsewhere other h = h
 answered_loose end loose.OtherCode other ((got, due, code, e, f, g, right), own) = absurd (let wrong : None ≡ Some got = e in cc)
-answered_loose end loose.LateEnd other ((due, e, early, last), own) = absurd (let wrong : None ≡ Some due = e in cc)
+answered_loose end loose.LateEnd other ((due, e, early, last), must, own) = absurd (let wrong : None ≡ Some due = e in cc)
 answered_loose end loose.EchoShort other h = h
 answered_loose end loose.BrokenEnd other h = absurd (let wrong : true ≡ false = other in cc)
 answered_loose end loose.OwnFault other (inl h, blames, sound) = no_true h.1
@@ -82,8 +82,9 @@ answered_loose end loose.OwnClose other (inr h, rest) = h.0
 answered_loose end loose.OwnEnd other h = absurd (let wrong : true ≡ false = other in cc)
 answered_loose end loose.LateFault other h = no_true h.0
 answered_loose end loose.Tolerated other h = no_true h.0
-answered_loose end loose.NoClose other h = no_true h.0
-answered_loose end loose.BehindClose other h = no_true h.1
+answered_loose end loose.NoClose other (none, inl h, why) = no_true h
+answered_loose end loose.NoClose other (none, inr h, why) = no_true h.0
+answered_loose end loose.BehindClose other h = no_true h.0
 answered_loose end loose.TooBig other h = no_true h
 
 nothing_loose : (why : LooseWhy) → IsLooseByProtocol Server (answered Tester) answered_marks why → ⊥
@@ -128,14 +129,14 @@ closing_marks = marks_by ((text ∷ []) ∷ []) ((text_back ∷ policy_back ∷ 
 
 closing_fails : (why : FailWhy) → FailsProtocol Server closing closing_marks why → ⊥
 closing_fails fail.NotFrames (inl h) = no_true h.0
-closing_fails fail.NotFrames (inr (inl h)) = no_true h.2
+closing_fails fail.NotFrames (inr (inl h)) = no_true h.1
 closing_fails fail.NotFrames (inr (inr h)) = no_true h.3
 closing_fails fail.Early h = h
 closing_fails fail.Messages h = h
 closing_fails fail.Pongs h = omega (arith, h.0.0)
 closing_fails fail.Close h = no_true h.0.0
-closing_fails fail.End (inl h, at, still, waits) = no_true h
-closing_fails fail.End (inr h, at, still, waits) = no_true h.0
+closing_fails fail.End (inl h, at, big, free, its) = no_true h
+closing_fails fail.End (inr h, at, big, free, its) = no_true h.0
 
 -- the code of a close, if there is one
 abbrev code_in : Ending → ℕ
@@ -161,7 +162,7 @@ own_close_first loose.PongsSkipped (inl h) = absurd (omega (arith, h.0))
 own_close_first loose.PongsSkipped (inr h) = absurd (no_true h)
 own_close_first loose.PongElsewhere h = absurd h
 own_close_first loose.OtherCode ((got, due, code, e, f, g, right), own) = absurd (let wrong : None ≡ Some due = f in cc)
-own_close_first loose.LateEnd ((due, e, early, last), own) = absurd (let wrong : None ≡ Some due = e in cc)
+own_close_first loose.LateEnd ((due, e, early, last), must, own) = absurd (let wrong : None ≡ Some due = e in cc)
 own_close_first loose.EchoShort h = absurd h
 own_close_first loose.BrokenEnd h = absurd (let wrong : Peer ≡ Broken = h in cc)
 own_close_first loose.OwnFault h = absurd (blames_none h)
@@ -193,7 +194,7 @@ not_own (inr h) = omega (arith, h.0.1)
 
 pongs_first : (other : FailWhy) → FailsProtocol Server silent silent_marks other → 4 ≤ fail_number other
 pongs_first fail.NotFrames (inl h) = absurd (no_true h.0)
-pongs_first fail.NotFrames (inr (inl h)) = absurd (no_true h.2)
+pongs_first fail.NotFrames (inr (inl h)) = absurd (no_true h.1)
 pongs_first fail.NotFrames (inr (inr h)) = absurd (no_true h.3)
 pongs_first fail.Early h = absurd h
 pongs_first fail.Messages h = absurd h
@@ -211,7 +212,7 @@ closed_marks = marks_by ((close ∷ []) ∷ []) ([] ∷ [])
 
 close_first : (other : FailWhy) → FailsProtocol Server closed closed_marks other → 5 ≤ fail_number other
 close_first fail.NotFrames (inl h) = absurd (no_true h.0)
-close_first fail.NotFrames (inr (inl h)) = absurd (no_true h.1)
+close_first fail.NotFrames (inr (inl h)) = absurd (no_true h.0)
 close_first fail.NotFrames (inr (inr h)) = absurd (no_true h.3)
 close_first fail.Early h = absurd h
 close_first fail.Messages h = absurd h
@@ -291,5 +292,5 @@ module _ (laws : FrameLaws) (events : EventLaws) where
     counted = closed;
     marks = closed_marks;
     is_evidence = is_marked laws events Server (in_one_turn close_sent [] Peer) ((close ∷ []) ∷ []) ([] ∷ []) close_whole nothing_whole refl refl refl (λ d. d);
-    is_verdict = record { wrong = ((refl, refl), (refl, refl), inr (refl, refl)); first = close_first };
+    is_verdict = record { wrong = ((refl, refl), refl, refl, inr (refl, refl)); first = close_first };
   }

@@ -20,6 +20,7 @@ use Rattle.ws_suite.specs.declared.evidence.Evidence.{Evidence}
 use Rattle.ws_suite.specs.declared.explaining.Explanation.{Explanation}
 use Rattle.ws_suite.specs.Evidence.{HoldsByte, IsDirectionOf, IsEvidenceOf, got_turns, other_role}
 use Rattle.ws_suite.specs.Doom.{HasDoomCounted}
+use Rattle.ws_suite.specs.Found.{ShowsFound}
 use Rattle.ws_suite.specs.Matching.{ends_with_close}
 use Rattle.ws_suite.specs.Marks.{CountsUndefinedCode, StandBehind}
 use Rattle.ws_suite.specs.Protocol.{IsMarkedEvidenceOf, IsProtocolVerdictOn, owed_pongs}
@@ -47,7 +48,8 @@ IsBeyondBy role found turns most (Some turn) =
 
 -- The verdict on a transcript, and why it is told. What was owed is what the verdict counts as due: the replies in the
 -- order of the events that were sent, each with the turn of its cause, and the close or the fault, as it counts. What
--- came are the events that were got, in their order, and whether bytes follow the close among them.
+-- came are the events that were got, in their order, and whether bytes follow the close among them. Where the first
+-- fault of what came is, and which bytes show it, is found in the bytes, as are the first ones behind the close.
 pub record IsExplanationOf (tested : Role) (transcript : Transcript) (x : Explanation) : Type 0 where
   pub evidence : Evidence
   pub is_evidence : IsEvidenceOf tested transcript evidence
@@ -57,6 +59,7 @@ pub record IsExplanationOf (tested : Role) (transcript : Transcript) (x : Explan
   pub due : x.due ≡ counted.due
   pub got : IsDirectionOf (other_role tested) told_in (got_turns transcript.turns) x.got
   pub beyond : IsBeyondBy (other_role tested) told_in (got_turns transcript.turns) (length transcript.turns) x.beyond
+  pub found : ShowsFound (other_role tested) (concat (got_turns transcript.turns)) x.found
   pub turns : x.turns ≡ counted.turns
   pub ended : x.ended ≡ counted.ended
 
@@ -78,7 +81,8 @@ IsBeyondClose role turns ending (Some turn) = (ends_with_close ending ≡ true) 
 
 -- The verdict by the protocol on a transcript, and why it is told. What was owed are the pongs for the pings in an
 -- earlier turn than what ends the connection, and the close or the fault that was sent, as it counts. What came are the
--- events that were got, where a close whose code the standard leaves undefined counts as one.
+-- events that were got, where a close whose code the standard leaves undefined counts as one. What is found in their
+-- bytes is as with an echo: there such a close is a fault.
 pub record IsProtocolExplanationOf (tested : Role) (transcript : Transcript) (x : Explanation) : Type 0 where
   pub counted : Evidence
   pub marks : Marks
@@ -93,6 +97,7 @@ pub record IsProtocolExplanationOf (tested : Role) (transcript : Transcript) (x 
   pub ending : CountsUndefinedCode (other_role tested) (concat (got_turns transcript.turns)) told.ending x.got.ending
   pub has_rest : x.got.has_rest ≡ told.has_rest
   pub beyond : IsBeyondClose (other_role tested) (got_turns transcript.turns) x.got.ending x.beyond
+  pub found : ShowsFound (other_role tested) (concat (got_turns transcript.turns)) x.found
   pub turns : x.turns ≡ counted.turns
   pub ended : x.ended ≡ counted.ended
 

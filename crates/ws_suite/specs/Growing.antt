@@ -1,5 +1,5 @@
 -- Evidence that grows with a connection: what went over it so far, turn by turn, and in a turn piece by piece.
-use Rattle.std.specs.Prelude.{◌≡◌, ℕ, ◌<◌, ◌≤◌, ◌⊎◌, Bool, true, false, ⊤, List, [], ◌∷◌, ◌++◌, length}
+use Rattle.std.specs.Prelude.{◌≡◌, ℕ, ◌<◌, ◌≤◌, ◌⊎◌, ◌↔◌, Bool, true, false, ⊤, List, [], ◌∷◌, ◌++◌, length}
 use Rattle.std.specs.Prelude.{Option, Some, None}
 use Rattle.std.specs.List.{concat, last_or, list_any}
 use Rattle.ws_wire.specs.declared.role.Role.{Role}
@@ -22,7 +22,7 @@ use Rattle.ws_suite.specs.declared.evidence.keeping.RunReplies.{RunReplies}
 use Rattle.ws_suite.specs.declared.evidence.pairing.Pairing.{Pairing}
 use Rattle.ws_suite.specs.Evidence.{IsDirectionOf, IsEvidenceOf, due_for, got_in, got_turns, other_role, sent_turns}
 use Rattle.ws_suite.specs.Matching.{HasLastPong, IsBeginningOf, IsShortOfMessages, bare, due_messages, due_pongs}
-use Rattle.ws_suite.specs.Matching.{got_messages, matches, message_replies, pong_replies}
+use Rattle.ws_suite.specs.Matching.{got_messages, is_pong, matches, message_replies, pong_replies}
 use Rattle.ws_suite.specs.Pairings.{IsPairingOf}
 use Rattle.ws_suite.specs.Verdicts.{is_unmatched}
 
@@ -108,6 +108,21 @@ abbrev pub IsAnsweredPong : Option (InTurn Reply) → Option (InTurn Reply) → 
 IsAnsweredPong None got = ⊤
 IsAnsweredPong (Some due) None = ⊥
 IsAnsweredPong (Some due) (Some got) = (got.what ≡ due.what) × (due.turn ≤ got.turn)
+
+-- These are due by now: from here on the last of their pongs is wanted, and none has come that answers it. Where one
+-- with the same payload of no earlier turn is wanted already, that stays so, and whether it has come.
+pub record IsWantedFrom (due old new : ReplyTally) : Type 0 where
+  pub messages : new.messages ≡ old.messages
+  pub last_pong : new.last_pong ≡ old.last_pong
+  pub already : IsAnsweredPong due.last_pong old.wanted
+      → (new.wanted ≡ old.wanted) × (new.has_wanted ≡ old.has_wanted)
+  pub anew : ¬ (IsAnsweredPong due.last_pong old.wanted) → (new.wanted ≡ due.last_pong) × (new.has_wanted ≡ false)
+
+-- with one reply more the pong that is wanted has come where it had before, or where this is it
+pub record IsWantedStill (reply : InTurn Reply) (old new : ReplyTally) : Type 0 where
+  pub wanted : new.wanted ≡ old.wanted
+  pub come : (new.has_wanted ≡ true) ↔ ((old.has_wanted ≡ true)
+      ⊎ ((is_pong reply.what ≡ true) × IsAnsweredPong old.wanted (Some reply)))
 
 -- what a run keeps of the replies: the tally of all, and those that were told since these were handed on
 pub record AreKeptSince (handed : List (InTurn Reply)) (kept : RunReplies) (replies : List (InTurn Reply))

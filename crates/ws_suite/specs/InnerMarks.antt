@@ -1,6 +1,7 @@
 -- Inside the crate: how the marks of a connection are found, and what its pings come to. A reader may skip this file.
-use Rattle.std.specs.Prelude.{◌≡◌, ◌≢◌, ℕ, ◌+◌, ◌<◌, ◌≤◌, ◌⊎◌, ◌↔◌, ◌&&◌, nat_le, Bool, true, false, List, []}
-use Rattle.std.specs.Prelude.{◌++◌, length, drop, take, flat_map, map, max, not, Option, Some, None}
+use Rattle.std.specs.Prelude.{◌≡◌, ◌≢◌, ℕ, ◌+◌, ◌-◌, ◌<◌, ◌≤◌, ◌⊎◌, ◌↔◌, ◌&&◌, nat_le, Bool, true, false, List, []}
+use Rattle.std.specs.Prelude.{◌++◌, if◌then◌else◌, length, drop, take, flat_map, map, max, not, Option, Some, None}
+use Rattle.std.specs.Prelude.{⊤}
 use Rattle.std.specs.Borrow.{Bor}
 use Rattle.std.specs.BTreeMap.{BTreeMap, get_by}
 use Rattle.std.specs.Cmp.Lexicographic.{slice_cmp}
@@ -10,7 +11,7 @@ use Rattle.ws_wire.specs.declared.role.Role.{Role}
 use Rattle.ws_wire.specs.Frame.{Frame, IsWireFrame, KeyedFrame, WireFrame, stream_bytes, wire_bytes}
 use Rattle.ws_wire.specs.Header.{HeaderFields, is_longer_than_needed, is_masked}
 use Rattle.ws_wire.specs.Masking.{masked_payload}
-use Rattle.ws_wire.specs.Stream.{SplitsInto}
+use Rattle.ws_wire.specs.Stream.{SplitsInto, SplitsIntoAnyForm}
 use Rattle.ws_text.specs.Close.{CloseValue, IsClosePayload}
 use Rattle.ws_session.specs.declared.event.Event.{Event}
 use Rattle.ws_session.specs.declared.payload_room.EventKind.{EventKind}
@@ -21,11 +22,14 @@ use Rattle.ws_session.specs.Exchange.{HasExchanged, SessionValue, is_over}
 use Rattle.ws_session.specs.Faults.{IsFirstFault, expects_key}
 use Rattle.ws_session.specs.Sends.{most_limits}
 use Rattle.ws_scripts.specs.declared.transcript.Transcript.{Transcript}
+use Rattle.ws_scripts.specs.declared.transcript.Turn.{Turn}
 use Rattle.ws_suite.specs.declared.evidence.InTurn.{InTurn}
 use Rattle.ws_suite.specs.declared.evidence.Reply.{Reply}
 use Rattle.ws_suite.specs.declared.evidence.Ending.{Ending}
 use Rattle.ws_suite.specs.declared.evidence.Ending.TheVariants.{Closed}
 use Rattle.ws_suite.specs.declared.evidence.Evidence.{Evidence}
+use Rattle.ws_suite.specs.declared.evidence.behind.GotPlace.{GotPlace}
+use Rattle.ws_suite.specs.declared.evidence.marks.MarkedEvidence.{MarkedEvidence}
 use Rattle.ws_suite.specs.declared.evidence.marks.Marks.{Marks}
 use Rattle.ws_suite.specs.declared.evidence.marks.Told.{Told}
 use Rattle.ws_suite.specs.declared.evidence.collecting.Way.{Way}
@@ -41,7 +45,9 @@ use Rattle.ws_suite.specs.declared.verdict.LooseWhy.{LooseWhy}
 use Rattle.ws_suite.specs.declared.verdict.LooseWhy.TheVariants as loose
 use Rattle.ws_suite.specs.Evidence.{AreEventsByTurn, HoldsByte, by_turn, ending_in, got_turns, other_role, sent_turns}
 use Rattle.ws_suite.specs.InnerCollecting.{way_bytes}
-use Rattle.ws_suite.specs.Marks.{HoldsUndefinedCode, StandBehind, leaves_open}
+use Rattle.ws_suite.specs.InnerJudging.{without_pings}
+use Rattle.ws_suite.specs.Marks.{ArePongsAmong, HoldsUndefinedCode, StandBehind, begins_message, is_last_fragment}
+use Rattle.ws_suite.specs.Marks.{leaves_open, with_pongs}
 use Rattle.ws_suite.specs.Matching.{has_payload_of, payload_of}
 use Rattle.ws_suite.specs.Protocol.{HasOwnClose, HasOwnFault, IsLastAnswered, IsLooseByProtocol, OwesPongs}
 use Rattle.ws_suite.specs.Protocol.{earlier_pongs, is_answered}
@@ -66,6 +72,11 @@ IsPlainControl role header payload = (header.fin ≡ true) × (header.rsv ≡ 0)
     × (is_longer_than_needed header.form header.len ≡ false) × (is_masked header.key ≡ expects_key role)
     × (length payload ≤ 125)
 
+-- whether a frame is the last fragment of a message under way, or begins another message; or neither
+abbrev pub message_end : WireFrame → Option Bool
+message_end x =
+    if is_last_fragment x then Some true else (if begins_message x then Some false else None)
+
 -- what a close frame may say, or nothing, or a code that the standard leaves undefined
 abbrev pub IsRightClose : List ℕ → Type 0
 IsRightClose payload = ((close : Option CloseValue) × IsClosePayload payload close)
@@ -80,6 +91,12 @@ EndsSo role bytes events (Some stream.Closed) last = (flat_map ending_in events 
     × ((reason : Reason) (place : ℕ) → ¬ (IsFirstFault role most_limits bytes place reason))
 EndsSo role bytes events (Some (stream.Failed reason)) last = (place : ℕ)
     × (found : IsFirstFault role most_limits bytes place reason) × (length (stream_bytes found.fault.before) ≡ last)
+
+-- with a fault they end at this place: with the byte at fault
+abbrev pub FailsWithByte : Role → List ℕ → Option StreamEnd → ℕ → Type 0
+FailsWithByte role bytes None after = ⊤
+FailsWithByte role bytes (Some stream.Closed) after = ⊤
+FailsWithByte role bytes (Some (stream.Failed reason)) after = IsFirstFault role most_limits bytes after reason
 
 -- the reason of the fault that ends the stream, if one does
 abbrev pub fault_of : Option StreamEnd → Option Reason
@@ -107,6 +124,7 @@ pub record IsSeen (role : Role) (bytes : List ℕ) (seen : Seen) : Type 0 where
   pub are_events : HasEvents role most_limits bytes events
   pub left : left_open seen.frame ≡ last_or None (flat_map leaves_open events)
   pub ends : EndsSo role bytes events seen.end seen.last
+  pub fails : FailsWithByte role bytes seen.end seen.after
   pub order : seen.last ≤ seen.after
   pub within : seen.after ≤ length bytes
   pub behind : StandBehind role bytes events (drop seen.after bytes)
@@ -145,6 +163,7 @@ pub record HasSeenBytes (role : Role) (session : SessionValue) (bytes : List ℕ
   pub place : seen.place ≡ length bytes
   pub left : left_open seen.frame ≡ last_or None (flat_map leaves_open events)
   pub ends : EndsSo role (take seen.after bytes) events seen.end seen.last
+  pub fails : FailsWithByte role (take seen.after bytes) seen.end seen.after
   pub order : seen.last ≤ seen.after
   pub within : seen.after ≤ length bytes
   pub quiet : (n : ℕ) → seen.after ≤ n → HasEvents role most_limits (take n bytes) events
@@ -235,6 +254,30 @@ abbrev pub IsTurnOfPlace : List (List ℕ) → ℕ → Option ℕ → Type 0
 IsTurnOfPlace turns place None = length (concat turns) ≤ place
 IsTurnOfPlace turns place (Some turn) = HoldsByte turns turn (place + 1)
 
+-- ---- pongs behind a close
+
+-- so many bytes of all that was got in these turns are before the place
+pub record IsPlaceIn (turns : List Turn) (n : ℕ) (place : GotPlace) : Type 0 where
+  pub begun : ℕ
+  pub most : begun ≤ length turns
+  pub later : place.later ≡ drop begun turns
+  pub count : place.count ≡ length turns
+  pub left : n + place.left ≡ length (concat (take begun (got_turns turns)))
+  -- and all those of the turns before the one under way
+  pub before : length (concat (take (begun - 1) (got_turns turns))) ≤ n
+  -- the last of them is in the turn under way
+  pub last : 0 < n → HoldsByte (got_turns turns) (begun - 1) n
+
+-- so many bytes more are there
+abbrev pub CanPass : GotPlace → ℕ → Type 0
+CanPass place passed = (turns : List Turn) × (n : ℕ) × IsPlaceIn turns n place
+    × (n + passed ≤ length (concat (got_turns turns)))
+
+-- the right pongs among the frames of these bytes, before which stand so many
+abbrev pub HavePongsAmong : Role → List (List ℕ) → ℕ → List ℕ → List (InTurn Reply) → Type 0
+HavePongsAmong role turns before bytes pongs = (frames : List WireFrame) × (rest : List ℕ)
+    × SplitsIntoAnyForm bytes frames rest × ArePongsAmong role turns before frames pongs
+
 -- ---- a close of its own
 
 -- what is told of an own close: whether it blames a fault where none was sent
@@ -260,6 +303,11 @@ IsLaterLoose tested x marks why = (loose_number loose.OwnClose < loose_number wh
     × IsLooseByProtocol tested x marks why
 
 -- ---- pings
+
+-- the evidence that the verdict is told on: the pings that were got are no part of it, and the pongs behind the close
+-- are
+abbrev pub counted_of : MarkedEvidence → Evidence
+counted_of x = with_pongs (without_pings x.evidence) x.behind
 
 -- what came of the pings for which a pong is owed
 pub record AreOwedFindings (x : Evidence) (found : OwedPongs) : Type 0 where

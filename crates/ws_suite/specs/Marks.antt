@@ -1,13 +1,15 @@
 -- What the verdict by the protocol asks of the bytes of a connection beside their events: a close whose code the
 -- standard leaves undefined, what is behind the last event, a message that has begun, and a fault that came too late to
 -- be seen. RFC 6455 sections 5.4 to 5.6, 7.1.7, 7.4 and 8.1.
-use Rattle.std.specs.Prelude.{◌≡◌, ◌≢◌, ℕ, ◌%◌, ◌==◌, ◌<◌, ◌≤◌, ◌⊎◌, ◌↔◌, ◌&&◌, ◌||◌, Bool, true, false, List, [], ◌∷◌}
-use Rattle.std.specs.Prelude.{◌++◌}
-use Rattle.std.specs.Prelude.{length, take, drop, flat_map, Option, Some, None, ⊤}
+use Rattle.std.specs.Prelude.{◌≡◌, ◌≢◌, ℕ, ◌+◌, ◌-◌, ◌%◌, ◌==◌, ◌<◌, ◌≤◌, ◌⊎◌, ◌↔◌, ◌&&◌, ◌||◌, nat_le, Bool, true}
+use Rattle.std.specs.Prelude.{false, MatchBool, if◌then◌else◌, List, [], ◌∷◌, ◌++◌, length, take, drop, flat_map}
+use Rattle.std.specs.Prelude.{Option, Some, None, ⊤}
 use Rattle.std.specs.Int.{IsInRange}
 use Rattle.std.specs.List.{AllByRecursion, concat, last_or, list_any}
 use Rattle.ws_wire.specs.declared.role.Role.{Role}
-use Rattle.ws_wire.specs.Frame.{WireFrame, stream_bytes}
+use Rattle.ws_wire.specs.declared.role.Role.TheVariants.{Client, Server}
+use Rattle.ws_wire.specs.Frame.{WireFrame, stream_bytes, wire_bytes}
+use Rattle.ws_wire.specs.Masking.{masked_payload}
 use Rattle.ws_wire.specs.Stream.{SplitsIntoAnyForm}
 use Rattle.ws_text.specs.Text.{IsText}
 use Rattle.ws_text.specs.Close.{HoldsCode}
@@ -16,15 +18,19 @@ use Rattle.ws_session.specs.declared.event.Event.TheVariants as event
 use Rattle.ws_session.specs.declared.reason.Reason.{Reason}
 use Rattle.ws_session.specs.declared.reason.Reason.TheVariants.{CloseCode, NotText}
 use Rattle.ws_session.specs.Events.{HasEvents}
-use Rattle.ws_session.specs.Faults.{Applies, IsControl, IsFirstFault}
+use Rattle.ws_session.specs.Faults.{Applies, IsControl, IsFirstFault, expects_key}
+use Rattle.ws_session.specs.InnerDoomed.{CanEndClose}
 use Rattle.ws_session.specs.Sends.{most_limits}
 use Rattle.ws_scripts.specs.declared.transcript.Transcript.{Transcript}
 use Rattle.ws_suite.specs.declared.evidence.InTurn.{InTurn}
+use Rattle.ws_suite.specs.declared.evidence.Reply.{Reply}
+use Rattle.ws_suite.specs.declared.evidence.Reply.TheVariants.{Pong}
 use Rattle.ws_suite.specs.declared.evidence.Ending.{Ending}
 use Rattle.ws_suite.specs.declared.evidence.Ending.TheVariants.{Closed, Failed}
 use Rattle.ws_suite.specs.declared.evidence.Evidence.{Evidence}
 use Rattle.ws_suite.specs.declared.evidence.marks.Marks.{Marks}
-use Rattle.ws_suite.specs.Evidence.{ending_in, got_turns, other_role, sent_turns}
+use Rattle.ws_suite.specs.Evidence.{HoldsByte, ending_in, got_turns, other_role, sent_turns}
+use Rattle.ws_suite.specs.Matching.{ends_with_close}
 
 -- ---- a close whose code the standard leaves undefined
 
@@ -124,10 +130,22 @@ pub record IsRightControl (role : Role) (x : WireFrame) : Type 0 where
       → Applies role most_limits None x.header (take count x.payload) reason
       → (reason ≡ CloseCode) × ((code : ℕ) × HoldsUndefinedCode x.payload code)
 
--- less than a header and its payload, and as far as its first byte says a close, a ping or a pong with FIN; or nothing
-abbrev pub IsCutControl : List ℕ → Type 0
-IsCutControl [] = ⊤
-IsCutControl (first ∷ more) = IsInRange 0x88 0x8a first
+-- the payload so far, without its mask, where these bytes are behind the first two of a frame of at most 125 bytes
+abbrev pub payload_so_far : Role → List ℕ → List ℕ
+payload_so_far Client bytes = bytes
+payload_so_far Server bytes = masked_payload (Some (take 4 bytes)) (drop 4 bytes)
+
+-- a close of so many bytes, of which these came, isn't doomed: as many as are missing make one of what may be said
+abbrev pub IsPartOfClose : List ℕ → ℕ → Type 0
+IsPartOfClose payload len = (len ≡ 0) ⊎ ((length payload < len) × CanEndClose payload (len - length payload))
+
+-- Less than a header and its payload: a close, a ping or a pong with FIN, as far as that came masked as it must be, of
+-- at most 125 bytes, and no doomed close; or nothing
+abbrev pub IsCutControl : Role → List ℕ → Type 0
+IsCutControl role [] = ⊤
+IsCutControl role (first ∷ []) = IsInRange 0x88 0x8a first
+IsCutControl role (first ∷ second ∷ more) = IsInRange 0x88 0x8a first × (nat_le 128 second ≡ expects_key role)
+    × (second % 128 ≤ 125) × (first ≡ 0x88 → IsPartOfClose (payload_so_far role more) (second % 128))
 
 -- pings, pongs and closes alone, right ones, the last perhaps cut
 pub record AreControls (role : Role) (bytes : List ℕ) : Type 0 where
@@ -135,7 +153,7 @@ pub record AreControls (role : Role) (bytes : List ℕ) : Type 0 where
   pub rest : List ℕ
   pub split : SplitsIntoAnyForm bytes frames rest
   pub right : AllByRecursion (IsRightControl role) frames
-  pub cut : IsCutControl rest
+  pub cut : IsCutControl role rest
 
 -- so it is behind the last event of these bytes
 pub record HasControlsBehind (role : Role) (bytes : List ℕ) : Type 0 where
@@ -145,25 +163,84 @@ pub record HasControlsBehind (role : Role) (bytes : List ℕ) : Type 0 where
   pub stand_behind : StandBehind role bytes events behind
   pub controls : AreControls role behind
 
+-- ---- pongs behind a close
+
+-- the evidence, with these pongs behind all that was got
+abbrev pub with_pongs : Evidence → List (InTurn Reply) → Evidence
+with_pongs x pongs = record {
+  due = x.due;
+  got = record { replies = x.got.replies ++ pongs; ending = x.got.ending; has_rest = x.got.has_rest };
+  turns = x.turns;
+  ended = x.ended;
+  answers_doom = x.answers_doom;
+}
+
+abbrev pub IsRightPong : Role → WireFrame → Type 0
+IsRightPong role x = (x.header.opcode ≡ 10) × IsRightControl role x
+
+-- what a frame, whose last byte is the n-th of all turns, counted from 1, is as an answer: a right pong is one, in the
+-- turn that holds this byte
+abbrev pub IsPongIn : Role → List (List ℕ) → ℕ → WireFrame → List (InTurn Reply) → Type 0
+IsPongIn role turns n x pongs = (IsRightPong role x
+    × ((turn : ℕ) × HoldsByte turns turn n × (pongs ≡ record { turn = turn; what = Pong x.payload } ∷ [])))
+    ⊎ ((IsRightPong role x → ⊥) × (pongs ≡ []))
+
+-- the right pongs among these frames, in their order; so many bytes are before the first frame
+abbrev pub ArePongsAmong : Role → List (List ℕ) → ℕ → List WireFrame → List (InTurn Reply) → Type 0
+ArePongsAmong role turns before [] pongs = pongs ≡ []
+ArePongsAmong role turns before (x ∷ later) pongs = (one others : List (InTurn Reply)) × (pongs ≡ one ++ others)
+    × IsPongIn role turns (before + length (wire_bytes x)) x one
+    × ArePongsAmong role turns (before + length (wire_bytes x)) later others
+
+-- so they are behind the last event of what came turn by turn
+pub record ArePongsBehind (role : Role) (turns : List (List ℕ)) (pongs : List (InTurn Reply)) : Type 0 where
+  pub events : List Event
+  pub are_events : HasEvents role most_limits (concat turns) events
+  pub behind : List ℕ
+  pub stand_behind : StandBehind role (concat turns) events behind
+  pub frames : List WireFrame
+  pub rest : List ℕ
+  pub split : SplitsIntoAnyForm behind frames rest
+  pub among : ArePongsAmong role turns (length (concat turns) - length behind) frames pongs
+
+-- The same evidence, and behind a close that was got the right pongs count as got: section 5.5.1 forbids data frames
+-- behind a close and no other. Where none was got it is the same.
+pub record HasPongsCounted (tested : Role) (transcript : Transcript) (x counted : Evidence) : Type 0 where
+  pub pongs : List (InTurn Reply)
+  pub are_pongs : MatchBool (ends_with_close x.got.ending)
+      (ArePongsBehind (other_role tested) (got_turns transcript.turns) pongs) (pongs ≡ [])
+  pub is_counted : counted ≡ with_pongs x pongs
+
 -- ---- a fault that needn't have been seen
 
 -- a continuation with FIN: the last fragment of the message under way (section 5.4)
 abbrev pub is_last_fragment : WireFrame → Bool
 is_last_fragment x = x.header.fin && (x.header.opcode == 0)
 
+-- a text or a binary frame, with which a message begins
+abbrev pub begins_message : WireFrame → Bool
+begins_message x = (x.header.opcode == 1) || (x.header.opcode == 2)
+
 abbrev pub is_close_frame : WireFrame → Bool
 is_close_frame x = x.header.opcode == 8
 
+-- among these frames, which are behind a fragment, is the last one of its message, and before that no other message
+-- begins
+abbrev pub end_message : List WireFrame → Bool
+end_message [] = false
+end_message (x ∷ later) =
+    if is_last_fragment x then true else (if begins_message x then false else end_message later)
+
 -- The whole frames from the one at fault on don't show the fault: there are none; or, since a text may be looked at
--- once it is whole (section 8.1), the first of them doesn't end its message, and behind it is neither the last fragment
--- nor a close frame.
+-- once it is whole (section 8.1), and an end may let another message begin before that, the first of them doesn't end
+-- its message, nor do those behind it before another text or binary frame, and none of those is a close frame.
 abbrev pub HideFault : Reason → List WireFrame → Type 0
 HideFault reason [] = ⊤
-HideFault reason (x ∷ later) = (reason ≡ NotText) × (x.header.fin ≡ false)
-    × (list_any (λ y. is_last_fragment y || is_close_frame y) later ≡ false)
+HideFault reason (x ∷ later) = (reason ≡ NotText) × (x.header.fin ≡ false) × (end_message later ≡ false)
+    × (list_any is_close_frame later ≡ false)
 
 -- The bytes hold a fault, and so that the end which takes them needn't have seen it: the frame at fault didn't come
--- whole, or of a text the last fragment didn't.
+-- whole, or of a text the last fragment didn't before another message began; and no close frame is behind it.
 pub record IsLate (role : Role) (bytes : List ℕ) : Type 0 where
   pub place : ℕ
   pub reason : Reason

@@ -31,7 +31,7 @@ use Rattle.ws_suite.specs.declared.evidence.Evidence.{Evidence}
 use Rattle.ws_suite.specs.declared.evidence.marks.Marks.{Marks}
 use Rattle.ws_suite.specs.Evidence.{IsEvidenceOf}
 use Rattle.ws_suite.specs.Doom.{HasDoomCounted}
-use Rattle.ws_suite.specs.Marks.{AreMarksOf, HasUndefinedCodeCounted, IsUndefinedCode}
+use Rattle.ws_suite.specs.Marks.{AreMarksOf, HasPongsCounted, HasUndefinedCodeCounted}
 use Rattle.ws_suite.specs.Matching.{due_pongs, ends_with_close, ends_with_fault, got_pongs, has_payload_of}
 use Rattle.ws_suite.specs.Matching.{is_close_ending}
 use Rattle.ws_suite.specs.Verdicts.{EndsLate, HasOtherCode, IsBroken, IsEarlyClose, IsVerdictOf, fail_number}
@@ -69,7 +69,8 @@ owed_pongs x = filter (is_owed x) (due_pongs x)
 abbrev pub later_pongs : Evidence → List (InTurn Reply)
 later_pongs x = filter (λ pong. not (is_owed x pong)) (due_pongs x)
 
--- a ping is answered: some pong with its payload was got in no earlier turn. Nothing is asked of other pongs
+-- a ping is answered: some pong with its payload was got in no earlier turn, be it behind the close. Nothing is asked
+-- of other pongs
 abbrev pub is_answered : Evidence → InTurn Reply → Bool
 is_answered x due = list_any (λ got. has_payload_of got due && nat_le due.turn got.turn) (got_pongs x)
 
@@ -129,20 +130,16 @@ abbrev pub is_tolerable : Option (InTurn Ending) → Bool
 is_tolerable None = false
 is_tolerable (Some x) = is_tolerable_ending x.what
 
--- nothing too big was got, and no message of it is open: so what is missing isn't held up by that
-abbrev pub IsStill : Evidence → Marks → Type 0
-IsStill x marks = (is_too_big x.got.ending ≡ false) × (marks.is_open ≡ false)
-
 -- ---- Fails
 
--- Fail 1 (sections 5.1 to 5.5, 7.4 and 8.1): what was got holds a fault that isn't too big; or, of a server, behind its
--- close are other bytes than right control frames (section 5.5.1); or the tested end ended the connection inside a
--- frame, where it had closed nothing, and no fault was sent.
-abbrev pub BreaksFrames : Role → Evidence → Marks → Type 0
-BreaksFrames tested x marks =
+-- Fail 1 (sections 5.1 to 5.5, 7.4 and 8.1): what was got holds a fault that isn't too big; or behind its close are
+-- other bytes than right control frames, which section 5.5.1 asks of both ends; or the tested end ended the connection
+-- inside a frame, where it had closed nothing, and no fault was sent. That last one breaks no MUST, but it sends no
+-- frame: it is ours.
+abbrev pub BreaksFrames : Evidence → Marks → Type 0
+BreaksFrames x marks =
     ((ends_with_fault x.got.ending ≡ true) × (is_too_big x.got.ending ≡ false))
-    ⊎ (((tested ≡ Server) × (ends_with_close x.got.ending ≡ true) × (x.got.has_rest ≡ true)
-    × (marks.has_controls ≡ false))
+    ⊎ (((ends_with_close x.got.ending ≡ true) × (x.got.has_rest ≡ true) × (marks.has_controls ≡ false))
     ⊎ ((x.ended ≡ Peer) × (ends_with_fault x.due.ending ≡ false) × (x.got.ending ≡ None) × (x.got.has_rest ≡ true)))
 
 -- a close was got, with the code, or the want of one, of the close that was sent
@@ -164,9 +161,11 @@ abbrev pub LacksClose : Evidence → Type 0
 LacksClose x = (ends_with_close x.due.ending ≡ true) × (ends_with_close x.got.ending ≡ false)
 
 -- Fail 5 (section 5.5.1): a close was sent and none was got, nothing is too big and no message open, and the tester
--- ended the connection, or the tested end did and was sent no message before, nor a part of one.
+-- ended the connection, or the tested end did and was sent no message before, nor a part of one. An end that drops the
+-- connection between its last answer and the tester's close can't be told from one that doesn't answer it: that is
+-- ours.
 abbrev pub LeavesClose : Evidence → Marks → Type 0
-LeavesClose x marks = LacksClose x × IsStill x marks
+LeavesClose x marks = LacksClose x × (is_too_big x.got.ending ≡ false) × (marks.is_open ≡ false)
     × ((x.ended ≡ Tester) ⊎ ((x.ended ≡ Peer) × (marks.sends_data ≡ false)))
 
 -- a close was sent, or a fault that was seen and for which the standard orders an end to fail
@@ -174,32 +173,28 @@ abbrev pub HasToEnd : Evidence → Marks → Type 0
 HasToEnd x marks = (ends_with_close x.due.ending ≡ true)
     ⊎ ((ends_with_fault x.due.ending ≡ true) × (marks.is_late ≡ false) × (is_tolerable x.due.ending ≡ false))
 
--- it is a close with a code that the standard leaves undefined
-abbrev pub HasUndefinedCode : Ending → Type 0
-HasUndefinedCode (Closed None) = ⊥
-HasUndefinedCode (Closed (Some code)) = IsUndefinedCode code
-HasUndefinedCode (Failed reason) = ⊥
-HasUndefinedCode Doomed = ⊥
+-- What was got keeps the tested end from ending by nothing: there is a close; or it doesn't end inside a data frame
+-- and, where a close was sent, no message is open. Section 5.5.1 lets the answer to a close wait for the message, and
+-- section 7.1.7 lets a failed connection wait for nothing.
+abbrev pub IsFreeToEnd : Evidence → Marks → Type 0
+IsFreeToEnd x marks = (ends_with_close x.got.ending ≡ true)
+    ⊎ ((marks.ends_in_data ≡ false) × (ends_with_close x.due.ending ≡ true → marks.is_open ≡ false))
 
-abbrev pub IsUndefinedClose : Option (InTurn Ending) → Type 0
-IsUndefinedClose None = ⊥
-IsUndefinedClose (Some x) = HasUndefinedCode x.what
-
--- A server that closed by itself waits for the answer, and of a client its close is all that is asked (section 7.1.1).
--- At a close of an undefined code a tester over a connection ends it at once, as at a fault: so nobody knows whether
--- the server would have.
-abbrev pub WaitsForEnd : Role → Evidence → Type 0
-WaitsForEnd Server x = (HasOwnClose x × (ends_with_close x.due.ending ≡ false)) ⊎ IsUndefinedClose x.got.ending
-WaitsForEnd Client x = ends_with_close x.got.ending ≡ true
+-- a server ends the connection, but where it closed by itself it waits for the answer; of a client its close is all
+-- that is asked (section 7.1.1)
+abbrev pub IsItsEnd : Role → Evidence → Type 0
+IsItsEnd Server x = (¬ (HasOwnClose x)) ⊎ (ends_with_close x.due.ending ≡ true)
+IsItsEnd Client x = ends_with_close x.got.ending ≡ false
 
 -- Fail 6 (sections 5.5.1, 7.1.1 and 7.1.7): the tested end had to end the connection, and the tester did; nothing is
--- too big and no message open.
+-- too big.
 abbrev pub StaysOpen : Role → Evidence → Marks → Type 0
-StaysOpen tested x marks = HasToEnd x marks × (x.ended ≡ Tester) × IsStill x marks × ¬ (WaitsForEnd tested x)
+StaysOpen tested x marks = HasToEnd x marks × (x.ended ≡ Tester) × (is_too_big x.got.ending ≡ false)
+    × IsFreeToEnd x marks × IsItsEnd tested x
 
 -- this Fail applies; that a message is early or another one is none by the protocol
 abbrev pub FailsProtocol : Role → Evidence → Marks → FailWhy → Type 0
-FailsProtocol tested x marks fail.NotFrames = BreaksFrames tested x marks
+FailsProtocol tested x marks fail.NotFrames = BreaksFrames x marks
 FailsProtocol tested x marks fail.Early = ⊥
 FailsProtocol tested x marks fail.Messages = ⊥
 FailsProtocol tested x marks fail.Pongs = LeavesPing x marks
@@ -222,17 +217,29 @@ BlamesFault x = (got : InTurn Ending) × (code : ℕ) × (x.got.ending ≡ Some 
 abbrev pub HasOwnFault : Evidence → Type 0
 HasOwnFault x = HasOwnClose x × BlamesFault x × (ends_with_fault x.due.ending ≡ false)
 
+-- Loose 11 (sections 5.2, 5.4 and 5.5): a fault was sent for which the standard doesn't order an end to fail, and the
+-- tester ended the connection, with a client before its close.
+abbrev pub IsTolerated : Role → Evidence → Type 0
+IsTolerated tested x = (is_tolerable x.due.ending ≡ true) × (x.ended ≡ Tester)
+    × ((tested ≡ Server) ⊎ (ends_with_close x.got.ending ≡ false))
+
+-- Loose 12 (sections 5.5.1 and 7.1.7): no close was got, and one was sent, or, where the tester ended the connection, a
+-- fault that was seen and for which the standard orders an end to fail. Where that is Fail 5 or 6, the Fail is told.
+abbrev pub HasNoClose : Evidence → Marks → Type 0
+HasNoClose x marks = (ends_with_close x.got.ending ≡ false) × HasToEnd x marks
+    × ((ends_with_close x.due.ending ≡ true) ⊎ (x.ended ≡ Tester))
+
 -- this Loose applies. Each is told by its number:
--- 3 and 4 as with an echo, without an own close; 8, another own close; 9, neither close nor fault was sent, no close
--- was got, and the tested end ended the connection (section 7.1.1); 10, a fault was sent that needn't have been seen,
--- no close was got, and the tester ended it; 11, a fault was sent for which the standard doesn't order an end to fail,
--- and the tester ended it; 12, a close isn't answered; 13, of a server, right control frames are behind its close; 14,
--- something is too big.
+-- 3, as with an echo, without an own close; 4, as with an echo, of a close, or of a fault that was seen and for which
+-- the standard orders an end to fail, without an own close; 8, another own close; 9, neither close nor fault was sent,
+-- no close was got, and the tested end ended the connection (section 7.1.1); 10, a fault was sent that needn't have
+-- been seen, no close was got, and the tester ended it; 13, right control frames are behind the close; 14, something is
+-- too big.
 abbrev pub IsLooseByProtocol : Role → Evidence → Marks → LooseWhy → Type 0
 IsLooseByProtocol tested x marks loose.PongsSkipped = SkipsOwedPong x
 IsLooseByProtocol tested x marks loose.PongElsewhere = ⊥
 IsLooseByProtocol tested x marks loose.OtherCode = HasOtherCode x × ¬ (HasOwnClose x)
-IsLooseByProtocol tested x marks loose.LateEnd = EndsLate tested x × ¬ (HasOwnClose x)
+IsLooseByProtocol tested x marks loose.LateEnd = EndsLate tested x × HasToEnd x marks × ¬ (HasOwnClose x)
 IsLooseByProtocol tested x marks loose.EchoShort = ⊥
 IsLooseByProtocol tested x marks loose.BrokenEnd = IsBroken x
 IsLooseByProtocol tested x marks loose.OwnFault = HasOwnFault x
@@ -241,10 +248,10 @@ IsLooseByProtocol tested x marks loose.OwnEnd =
     (x.due.ending ≡ None) × (ends_with_close x.got.ending ≡ false) × (x.ended ≡ Peer)
 IsLooseByProtocol tested x marks loose.LateFault =
     (marks.is_late ≡ true) × (ends_with_close x.got.ending ≡ false) × (x.ended ≡ Tester)
-IsLooseByProtocol tested x marks loose.Tolerated = (is_tolerable x.due.ending ≡ true) × (x.ended ≡ Tester)
-IsLooseByProtocol tested x marks loose.NoClose = LacksClose x
-IsLooseByProtocol tested x marks loose.BehindClose = (tested ≡ Server) × (ends_with_close x.got.ending ≡ true)
-    × (x.got.has_rest ≡ true) × (marks.has_controls ≡ true)
+IsLooseByProtocol tested x marks loose.Tolerated = IsTolerated tested x
+IsLooseByProtocol tested x marks loose.NoClose = HasNoClose x marks
+IsLooseByProtocol tested x marks loose.BehindClose = (ends_with_close x.got.ending ≡ true) × (x.got.has_rest ≡ true)
+    × (marks.has_controls ≡ true)
 IsLooseByProtocol tested x marks loose.TooBig = is_too_big x.got.ending ≡ true
 
 -- ---- the verdict
@@ -257,15 +264,17 @@ IsProtocolVerdictOn tested x marks (Loose why) = ((other : FailWhy) → ¬ (Fail
 IsProtocolVerdictOn tested x marks Pass = ((other : FailWhy) → ¬ (FailsProtocol tested x marks other))
     × ((other : LooseWhy) → ¬ (IsLooseByProtocol tested x marks other))
 
--- the evidence of a transcript as it counts by the protocol: a close whose code is undefined is one, and then what was
--- doomed counts; with the marks beside it
+-- the evidence of a transcript as it counts by the protocol: a close whose code is undefined is one, then what was
+-- doomed counts, and the pongs behind a close; with the marks beside it
 pub record IsMarkedEvidenceOf (tested : Role) (transcript : Transcript) (counted : Evidence) (marks : Marks)
     : Type 0 where
   pub shown : Evidence
   pub is_shown : IsEvidenceOf tested transcript shown
   pub closed : Evidence
   pub is_closed : HasUndefinedCodeCounted tested transcript shown closed
-  pub is_counted : HasDoomCounted tested transcript closed counted
+  pub doomed : Evidence
+  pub is_doomed : HasDoomCounted tested transcript closed doomed
+  pub is_counted : HasPongsCounted tested transcript doomed counted
   pub are_marks : AreMarksOf tested transcript marks
 
 -- the verdict by the protocol on a transcript, where the tested end has this role

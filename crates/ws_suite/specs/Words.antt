@@ -43,13 +43,13 @@ verdict_words (Fail why) = codes "FAIL " ++ fail_name why
 -- the rule that was broken, where the tested end has this role
 abbrev pub fail_rule : Role → FailWhy → List ℕ
 fail_rule Server fail.NotFrames =
-    codes "All that a server sends must be valid (the last `got` line says what was not): whole unmasked frames "
-    ++ codes "in a valid order, with valid lengths and close payloads (RFC 6455 section 5), text in UTF-8 "
-    ++ codes "(section 8.1), and nothing after its close frame (ours)"
+    codes "All that a server sends must be valid (the last `got` line says what was not): unmasked frames in "
+    ++ codes "a valid order, with valid lengths and close payloads (RFC 6455 section 5), text in UTF-8 (section "
+    ++ codes "8.1), no end inside a frame and nothing after its close frame (both ours)"
 fail_rule Client fail.NotFrames =
-    codes "All that a client sends must be valid (the last `got` line says what was not): whole masked frames "
-    ++ codes "in a valid order, with valid lengths and close payloads (RFC 6455 section 5), text in UTF-8 "
-    ++ codes "(section 8.1), and nothing after its close frame (ours)"
+    codes "All that a client sends must be valid (the last `got` line says what was not): masked frames in a "
+    ++ codes "valid order, with valid lengths and close payloads (RFC 6455 section 5), text in UTF-8 (section "
+    ++ codes "8.1), no end inside a frame and nothing after its close frame (both ours)"
 fail_rule tested fail.Early =
     codes "A pong, a close frame or an echo is sent only after what it answers (ours; RFC 6455 allows "
     ++ codes "unprompted pongs in section 5.5.3 and, from a server, an unprompted close in section 7.3)"
@@ -81,32 +81,36 @@ loose_rule tested loose.OtherCode =
     codes "A close frame after a violation has the code for that violation (RFC 6455 section 7.4.1), and one "
     ++ codes "that answers a valid close frame typically has its code (section 5.5.1)"
 loose_rule Server loose.LateEnd =
-    codes "A server ends the connection at once after a close frame or a violation (RFC 6455 sections 5.5.1 "
-    ++ codes "and 7.1.1)"
+    codes "After a close frame a server closes the connection immediately (RFC 6455 section 5.5.1), and after"
+    ++ codes " a violation it should (section 7.1.1)"
 loose_rule Client loose.LateEnd =
-    codes "A client sends its close frame in the turn in which it received the close frame or the violation "
-    ++ codes "(RFC 6455 section 5.5.1; the turn is ours)"
+    codes "A client should answer a close frame as soon as is practical (RFC 6455 section 5.5.1), and should "
+    ++ codes "send one at a violation at which it fails the connection (section 7.1.7); that it does so in the "
+    ++ codes "same turn is ours"
 loose_rule tested loose.EchoShort =
     codes "An endpoint that fails the connection may drop what it has read (RFC 6455 section 7.1.7); the "
     ++ codes "reference echo answers it (ours)"
 loose_rule tested loose.BrokenEnd =
-    codes "A connection is closed cleanly if possible (RFC 6455 section 7.1.1), but a read or a write failed"
+    codes "A connection should be closed cleanly (RFC 6455 section 7.1.1), but a read or a write failed"
 loose_rule tested loose.OwnFault =
-    codes "A close frame with the code 1002 or 1007 says that the other endpoint broke a rule (RFC 6455 "
-    ++ codes "section 7.4.1), but no complete violation was sent before it"
-loose_rule tested loose.OwnClose = codes "An endpoint may send a close frame at any time (RFC 6455 section 7.1.2)"
+    codes "An endpoint closes with 1002 because of a protocol error, and with 1007 because of data that does "
+    ++ codes "not fit its type (RFC 6455 section 7.4.1), but no complete violation was sent before"
+loose_rule Server loose.OwnClose = codes "A server may close the connection whenever desired (RFC 6455 section 7.3)"
+loose_rule Client loose.OwnClose = codes "A client should not close the connection arbitrarily (RFC 6455 section 7.3)"
 loose_rule tested loose.OwnEnd =
-    codes "An endpoint that wants to end the connection sends a close frame first (RFC 6455 section 7.1.2), "
-    ++ codes "but may end it by any means if necessary (section 7.1.1)"
+    codes "An endpoint closes the connection by a close frame first (RFC 6455 section 7.1.2); when necessary "
+    ++ codes "it may close it by any means (section 7.1.1), and at data that it does not understand it may drop "
+    ++ codes "it (section 10.7)"
 loose_rule tested loose.LateFault =
-    codes "An endpoint fails the connection once it has read a violation (RFC 6455 section 7.1.7), but the "
-    ++ codes "frame with the violation, or the message with invalid text, was not sent completely"
+    codes "How an endpoint fails the connection at a violation is in RFC 6455 section 7.1.7, and when is not;"
+    ++ codes " the frame with the violation, or the message with invalid text, was not sent completely"
 loose_rule tested loose.Tolerated =
-    codes "A sender keeps the rules for lengths, fragments and control frames (RFC 6455 sections 5.2, 5.4 and "
-    ++ codes "5.5); if it breaks one, the receiver may fail the connection or not"
+    codes "The rules for lengths, fragments and control frames bind the sender (RFC 6455 sections 5.2, 5.4 "
+    ++ codes "and 5.5), and none bounds a message (section 10.4); the receiver may fail the connection or not"
 loose_rule tested loose.NoClose =
-    codes "An endpoint that receives a close frame sends one (RFC 6455 section 5.5.1), unless it ended the "
-    ++ codes "connection before it read that frame"
+    codes "A close frame is answered by one (RFC 6455 section 5.5.1), and an endpoint that has to fail the "
+    ++ codes "connection closes it (section 7.1.7); it may not have read so far, or was sending a message of its"
+    ++ codes " own"
 loose_rule tested loose.BehindClose =
     codes "No data frame follows a close frame (RFC 6455 section 5.5.1); that no control frame follows one is "
     ++ codes "ours"
@@ -117,26 +121,31 @@ loose_rule tested loose.TooBig =
 -- the rule of the standard that an end broke which needn't echo; it has no rule that an echo alone keeps
 abbrev pub protocol_rule : Role → FailWhy → List ℕ
 protocol_rule Server fail.NotFrames =
-    codes "All that a server sends must be valid (the last `got` line says what was not): whole unmasked frames "
-    ++ codes "in a valid order (RFC 6455 section 5), text in UTF-8 (section 8.1), close codes that may be sent "
-    ++ codes "(section 7.4) and no data frame after its close frame (section 5.5.1)"
+    codes "All that a server sends must be valid (the last `got` line says what was not): unmasked frames in "
+    ++ codes "a valid order (RFC 6455 section 5), text in UTF-8 (section 8.1), close codes that may be sent "
+    ++ codes "(section 7.4) and no data frame after its close frame (section 5.5.1); that it does not end inside"
+    ++ codes " a frame is ours"
 protocol_rule Client fail.NotFrames =
-    codes "All that a client sends must be valid (the last `got` line says what was not): whole masked frames "
-    ++ codes "in a valid order (RFC 6455 section 5), text in UTF-8 (section 8.1) and close codes that may be sent "
-    ++ codes "(section 7.4)"
+    codes "All that a client sends must be valid (the last `got` line says what was not): masked frames in a "
+    ++ codes "valid order (RFC 6455 section 5), text in UTF-8 (section 8.1), close codes that may be sent "
+    ++ codes "(section 7.4) and no data frame after its close frame (section 5.5.1); that it does not end inside"
+    ++ codes " a frame is ours"
 protocol_rule tested fail.Early = fail_rule tested fail.Early
 protocol_rule tested fail.Messages = fail_rule tested fail.Messages
 protocol_rule tested fail.Pongs =
     codes "An endpoint that receives a ping sends a pong with its payload, unless it has already received a "
     ++ codes "close frame (RFC 6455 section 5.5.2); a pong for the latest ping is enough (section 5.5.3)"
 protocol_rule tested fail.Close =
-    codes "An endpoint that receives a close frame, and has sent none, sends one (RFC 6455 section 5.5.1)"
+    codes "An endpoint that receives a close frame, and has sent none, sends one (RFC 6455 section 5.5.1); "
+    ++ codes "one that drops the connection just before the close frame comes looks the same (that this is a "
+    ++ codes "FAIL is ours)"
 protocol_rule Server fail.End =
-    codes "A server closes the connection at once when it has to fail it after a violation (RFC 6455 sections "
-    ++ codes "5.1, 5.2, 7.1.7 and 8.1), or when it has sent and received a close frame (section 5.5.1)"
+    codes "A server closes the connection when it has to fail it after a violation (RFC 6455 sections 5.1, "
+    ++ codes "5.2, 7.1.7 and 8.1), and immediately when it has sent and received a close frame (section 5.5.1)"
 protocol_rule Client fail.End =
-    codes "A client that has to fail the connection closes it (RFC 6455 sections 5.1, 5.2, 7.1.7 and 8.1) or "
-    ++ codes "sends a close frame (section 7.1.7); it also answers a close frame by one (section 5.5.1)"
+    codes "A client that has to fail the connection closes it (RFC 6455 sections 5.1, 5.2, 7.1.7 and 8.1), "
+    ++ codes "and should send a close frame before (section 7.1.7); it also answers a close frame by one "
+    ++ codes "(section 5.5.1)"
 
 -- the rule that was broken by an end of which this is expected
 abbrev pub fail_rule_by : Expectation → Role → FailWhy → List ℕ
@@ -146,8 +155,9 @@ fail_rule_by Protocol tested why = protocol_rule tested why
 -- the rule that allows what an end did which needn't echo: it may also leave out the pong for the last ping
 abbrev pub protocol_loose_rule : Role → LooseWhy → List ℕ
 protocol_loose_rule tested loose.PongsSkipped =
-    codes "A ping needs no answer if a later one is answered (RFC 6455 section 5.5.3), or if the endpoint may "
-    ++ codes "not have read it or was sending a data frame"
+    codes "A ping needs no answer if a later one is answered (RFC 6455 section 5.5.3), or if the endpoint may"
+    ++ codes " not have read it or was sending a data frame: frames are not interleaved (section 5.4), and a "
+    ++ codes "pong should come as soon as is practical (section 5.5.2)"
 protocol_loose_rule tested why = loose_rule tested why
 
 -- the rule that asks or allows otherwise, of an end of which this is expected

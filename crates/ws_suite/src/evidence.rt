@@ -5,8 +5,11 @@ ghost use Rattle.ws_suite.specs.InnerDoom.{HasEndedInTurn};
 ghost use Rattle.ws_suite.specs.Matching.{ends_with_close, ends_with_fault, is_close_ending};
 ghost use Rattle.ws_suite.specs.Verdicts.{IsCloseInTurn};
 
+mod behind;
 mod collecting;
+mod cut_close;
 mod doom;
+mod found;
 mod growing;
 mod keeping;
 mod kept;
@@ -15,17 +18,20 @@ mod pairing;
 mod streams;
 mod telling;
 mod unanswered;
+mod undefined_close;
 mod watching;
 mod wire_frames;
 
 pub(crate) use doom::with_doom;
+pub(crate) use found::found_in;
+pub use found::{Found, FoundFault};
 pub use growing::RunEvidence;
 pub(crate) use keeping::KeepsReplies;
 pub(crate) use kept::is_same;
 pub use kept::{Kept, Replies, ReplyKind, Walk};
 pub(crate) use marks::{MarkedEvidence, Marks, marked};
 pub(crate) use telling::{Shown, evidence_of, told_evidence_of};
-pub(crate) use wire_frames::is_undefined_code;
+pub use undefined_close::has_undefined_close;
 use ws_scripts::Ended;
 use ws_session::{Message, Reason, Small};
 

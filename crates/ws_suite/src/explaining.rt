@@ -3,7 +3,9 @@
 ghost use Rattle.std.specs.Prelude.{IfOk};
 ghost use Rattle.ws_suite.specs.Explanation.{IsExplanationBy, IsExplanationOf, IsProtocolExplanationOf};
 
-use crate::evidence::{Direction, Evidence, MarkedEvidence, Shown, told_evidence_of, with_doom};
+use crate::evidence::{
+    Direction, Evidence, Found, MarkedEvidence, Shown, found_in, told_evidence_of, with_doom,
+};
 use crate::judging::{marked_with_doom, owed_among, verdict_by_protocol, verdict_on};
 use crate::verdict::Verdict;
 use std::alloc::Global;
@@ -22,6 +24,8 @@ pub struct Explanation {
     pub got: Direction,
     /// The turn, from 0, of the first byte that follows the close that came.
     pub beyond: Option<usize>,
+    /// Where the fault that came is, with the bytes that show it, and the first bytes behind the close.
+    pub found: Found,
     /// How many turns there were.
     pub turns: usize,
     /// How the connection ended.
@@ -53,8 +57,9 @@ fn explain_by_echo(
         evidence,
         dooms,
         beyond,
-        streams: _,
+        streams,
     } = told;
+    let found = found_in(alloc, transcript, streams.got)?;
     let counted = with_doom(tested, transcript, evidence, dooms);
     let verdict = verdict_on(alloc, tested, &counted)?;
     let Evidence {
@@ -69,6 +74,7 @@ fn explain_by_echo(
         due,
         got,
         beyond,
+        found,
         turns,
         ended,
     })
@@ -99,11 +105,13 @@ fn explain_by_protocol(
     ensures { IfOk result (λ x. IsProtocolExplanationOf tested transcript.now x) }
 {
     let told = told_evidence_of(alloc, tested, transcript)?;
+    let found = found_in(alloc, transcript, told.streams.got)?;
     let marked = marked_with_doom(alloc, tested, transcript, told)?;
     let verdict = verdict_by_protocol(alloc, tested, &marked)?;
     let owed = owed_among(alloc, &marked.evidence)?;
     let MarkedEvidence {
         evidence,
+        behind: _,
         marks: _,
         beyond,
     } = marked;
@@ -128,6 +136,7 @@ fn explain_by_protocol(
         },
         got,
         beyond,
+        found,
         turns,
         ended,
     })

@@ -10,7 +10,7 @@ mod pongs;
 mod protocol;
 mod replies;
 
-ghost use Rattle.std.specs.Prelude.{IfOk};
+ghost use Rattle.std.specs.Prelude.{◌≡◌, [], IfOk, MatchBool};
 ghost use Rattle.ws_wire.specs.declared.role.Role.TheVariants.{Server};
 ghost use Rattle.ws_suite.specs.declared.evidence.Evidence.{Evidence};
 ghost use Rattle.ws_suite.specs.Doom.{HasDoomCounted};
@@ -19,7 +19,8 @@ ghost use Rattle.ws_suite.specs.Explanation.{IsBeyondClose};
 ghost use Rattle.ws_suite.specs.InnerDoom.{AreDooms};
 ghost use Rattle.ws_suite.specs.InnerJudging.{without_pings};
 ghost use Rattle.ws_suite.specs.InnerMarks.{AreStreamsOf, IsEndingByTurn};
-ghost use Rattle.ws_suite.specs.Marks.{AreMarksOf, HasUndefinedCodeCounted};
+ghost use Rattle.ws_suite.specs.Marks.{AreMarksOf, ArePongsBehind, HasUndefinedCodeCounted};
+ghost use Rattle.ws_suite.specs.Matching.{ends_with_close};
 ghost use Rattle.ws_suite.specs.Protocol.{IsProtocolVerdictOf, IsVerdictBy};
 ghost use Rattle.ws_suite.specs.Verdicts.{IsVerdictOf, IsVerdictOn};
 
@@ -103,7 +104,7 @@ fn judge_by_protocol(
 }
 
 /// The evidence as it counts by the protocol: a close whose code the standard leaves undefined counts as one, and then
-/// what was doomed.
+/// what was doomed. The pongs behind the close stand beside it.
 pub(crate) fn marked_with_doom(
     alloc: Global,
     tested: Role,
@@ -116,6 +117,8 @@ pub(crate) fn marked_with_doom(
     ensures { IfOk result (λ marked. (closed : Evidence)
         × HasUndefinedCodeCounted tested transcript.now shown.evidence closed
         × HasDoomCounted tested transcript.now closed marked.evidence
+        × MatchBool (ends_with_close marked.evidence.got.ending)
+        (ArePongsBehind (other_role tested) (got_turns transcript.now.turns) marked.behind) (marked.behind ≡ [])
         × AreMarksOf tested transcript.now marked.marks
         × IsBeyondClose (other_role tested) (got_turns transcript.now.turns) closed.got.ending marked.beyond) }
 {
@@ -128,12 +131,14 @@ pub(crate) fn marked_with_doom(
     let closed = marked(alloc, tested, transcript, evidence, streams)?;
     let MarkedEvidence {
         evidence,
+        behind,
         marks,
         beyond,
     } = closed;
     let counted = with_doom(tested, transcript, evidence, dooms);
     Ok(MarkedEvidence {
         evidence: counted,
+        behind,
         marks,
         beyond,
     })

@@ -15,7 +15,10 @@ mod lemmas;
 mod rules;
 mod verdict;
 
-pub use evidence::{Direction, Ending, InTurn, Kept, Replies, Reply, ReplyKind, RunEvidence, Walk};
+pub use evidence::{
+    Direction, Ending, Found, FoundFault, InTurn, Kept, Replies, Reply, ReplyKind, RunEvidence,
+    Walk, has_undefined_close,
+};
 pub use explaining::{Explanation, explain, explain_with};
 pub use judging::{judge, judge_end, judge_with};
 pub use rules::{rule, rule_with};

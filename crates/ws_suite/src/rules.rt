@@ -41,13 +41,13 @@ fn fail_rule(tested: Role, why: FailWhy) -> &'static str
     match why {
         FailWhy::NotFrames => match tested {
             Role::Server =>
-                "All that a server sends must be valid (the last `got` line says what was not): whole unmasked \
-                 frames in a valid order, with valid lengths and close payloads (RFC 6455 section 5), text in UTF-8 \
-                 (section 8.1), and nothing after its close frame (ours)",
+                "All that a server sends must be valid (the last `got` line says what was not): unmasked \
+                 frames in a valid order, with valid lengths and close payloads (RFC 6455 section 5), text in \
+                 UTF-8 (section 8.1), no end inside a frame and nothing after its close frame (both ours)",
             Role::Client =>
-                "All that a client sends must be valid (the last `got` line says what was not): whole masked \
-                 frames in a valid order, with valid lengths and close payloads (RFC 6455 section 5), text in UTF-8 \
-                 (section 8.1), and nothing after its close frame (ours)",
+                "All that a client sends must be valid (the last `got` line says what was not): masked frames \
+                 in a valid order, with valid lengths and close payloads (RFC 6455 section 5), text in UTF-8 \
+                 (section 8.1), no end inside a frame and nothing after its close frame (both ours)",
         },
         FailWhy::Early =>
             "A pong, a close frame or an echo is sent only after what it answers (ours; RFC 6455 allows \
@@ -91,35 +91,41 @@ fn loose_rule(tested: Role, why: LooseWhy) -> &'static str
              5.5.1)",
         LooseWhy::LateEnd => match tested {
             Role::Server =>
-                "A server ends the connection at once after a close frame or a violation (RFC 6455 \
-                 sections 5.5.1 and 7.1.1)",
+                "After a close frame a server closes the connection immediately (RFC 6455 section 5.5.1), and \
+                 after a violation it should (section 7.1.1)",
             Role::Client =>
-                "A client sends its close frame in the turn in which it received the close frame or the \
-                 violation (RFC 6455 section 5.5.1; the turn is ours)",
+                "A client should answer a close frame as soon as is practical (RFC 6455 section 5.5.1), and \
+                 should send one at a violation at which it fails the connection (section 7.1.7); that it \
+                 does so in the same turn is ours",
         },
         LooseWhy::EchoShort =>
             "An endpoint that fails the connection may drop what it has read (RFC 6455 section 7.1.7); \
              the reference echo answers it (ours)",
         LooseWhy::BrokenEnd =>
-            "A connection is closed cleanly if possible (RFC 6455 section 7.1.1), but a read or a write \
-             failed",
+            "A connection should be closed cleanly (RFC 6455 section 7.1.1), but a read or a write failed",
         LooseWhy::OwnFault =>
-            "A close frame with the code 1002 or 1007 says that the other endpoint broke a rule (RFC 6455 \
-             section 7.4.1), but no complete violation was sent before it",
-        LooseWhy::OwnClose =>
-            "An endpoint may send a close frame at any time (RFC 6455 section 7.1.2)",
+            "An endpoint closes with 1002 because of a protocol error, and with 1007 because of data that \
+             does not fit its type (RFC 6455 section 7.4.1), but no complete violation was sent before",
+        LooseWhy::OwnClose => match tested {
+            Role::Server =>
+                "A server may close the connection whenever desired (RFC 6455 section 7.3)",
+            Role::Client =>
+                "A client should not close the connection arbitrarily (RFC 6455 section 7.3)",
+        },
         LooseWhy::OwnEnd =>
-            "An endpoint that wants to end the connection sends a close frame first (RFC 6455 section \
-             7.1.2), but may end it by any means if necessary (section 7.1.1)",
+            "An endpoint closes the connection by a close frame first (RFC 6455 section 7.1.2); when \
+             necessary it may close it by any means (section 7.1.1), and at data that it does not understand \
+             it may drop it (section 10.7)",
         LooseWhy::LateFault =>
-            "An endpoint fails the connection once it has read a violation (RFC 6455 section 7.1.7), but \
-             the frame with the violation, or the message with invalid text, was not sent completely",
+            "How an endpoint fails the connection at a violation is in RFC 6455 section 7.1.7, and when is \
+             not; the frame with the violation, or the message with invalid text, was not sent completely",
         LooseWhy::Tolerated =>
-            "A sender keeps the rules for lengths, fragments and control frames (RFC 6455 sections 5.2, \
-             5.4 and 5.5); if it breaks one, the receiver may fail the connection or not",
+            "The rules for lengths, fragments and control frames bind the sender (RFC 6455 sections 5.2, 5.4 \
+             and 5.5), and none bounds a message (section 10.4); the receiver may fail the connection or not",
         LooseWhy::NoClose =>
-            "An endpoint that receives a close frame sends one (RFC 6455 section 5.5.1), unless it ended \
-             the connection before it read that frame",
+            "A close frame is answered by one (RFC 6455 section 5.5.1), and an endpoint that has to fail the \
+             connection closes it (section 7.1.7); it may not have read so far, or was sending a message of \
+             its own",
         LooseWhy::BehindClose =>
             "No data frame follows a close frame (RFC 6455 section 5.5.1); that no control frame follows \
              one is ours",
@@ -136,13 +142,15 @@ fn protocol_rule(tested: Role, why: FailWhy) -> &'static str
     match why {
         FailWhy::NotFrames => match tested {
             Role::Server =>
-                "All that a server sends must be valid (the last `got` line says what was not): whole unmasked \
-                 frames in a valid order (RFC 6455 section 5), text in UTF-8 (section 8.1), close codes that may be \
-                 sent (section 7.4) and no data frame after its close frame (section 5.5.1)",
+                "All that a server sends must be valid (the last `got` line says what was not): unmasked \
+                 frames in a valid order (RFC 6455 section 5), text in UTF-8 (section 8.1), close codes that \
+                 may be sent (section 7.4) and no data frame after its close frame (section 5.5.1); that it \
+                 does not end inside a frame is ours",
             Role::Client =>
-                "All that a client sends must be valid (the last `got` line says what was not): whole masked \
-                 frames in a valid order (RFC 6455 section 5), text in UTF-8 (section 8.1) and close codes that may \
-                 be sent (section 7.4)",
+                "All that a client sends must be valid (the last `got` line says what was not): masked frames \
+                 in a valid order (RFC 6455 section 5), text in UTF-8 (section 8.1), close codes that may be \
+                 sent (section 7.4) and no data frame after its close frame (section 5.5.1); that it does not \
+                 end inside a frame is ours",
         },
         FailWhy::Early | FailWhy::Messages => fail_rule(tested, why),
         FailWhy::Pongs =>
@@ -150,16 +158,18 @@ fn protocol_rule(tested: Role, why: FailWhy) -> &'static str
              received a close frame (RFC 6455 section 5.5.2); a pong for the latest ping is enough \
              (section 5.5.3)",
         FailWhy::Close =>
-            "An endpoint that receives a close frame, and has sent none, sends one (RFC 6455 section \
-             5.5.1)",
+            "An endpoint that receives a close frame, and has sent none, sends one (RFC 6455 section 5.5.1); \
+             one that drops the connection just before the close frame comes looks the same (that this is a \
+             FAIL is ours)",
         FailWhy::End => match tested {
             Role::Server =>
-                "A server closes the connection at once when it has to fail it after a violation (RFC 6455 sections \
-                 5.1, 5.2, 7.1.7 and 8.1), or when it has sent and received a close frame (section 5.5.1)",
-            Role::Client =>
-                "A client that has to fail the connection closes it (RFC 6455 sections 5.1, 5.2, 7.1.7 \
-                 and 8.1) or sends a close frame (section 7.1.7); it also answers a close frame by one \
+                "A server closes the connection when it has to fail it after a violation (RFC 6455 sections \
+                 5.1, 5.2, 7.1.7 and 8.1), and immediately when it has sent and received a close frame \
                  (section 5.5.1)",
+            Role::Client =>
+                "A client that has to fail the connection closes it (RFC 6455 sections 5.1, 5.2, 7.1.7 and \
+                 8.1), and should send a close frame before (section 7.1.7); it also answers a close frame by \
+                 one (section 5.5.1)",
         },
     }
 }
@@ -171,8 +181,9 @@ fn protocol_loose_rule(tested: Role, why: LooseWhy) -> &'static str
 {
     match why {
         LooseWhy::PongsSkipped =>
-            "A ping needs no answer if a later one is answered (RFC 6455 section 5.5.3), or if the \
-             endpoint may not have read it or was sending a data frame",
+            "A ping needs no answer if a later one is answered (RFC 6455 section 5.5.3), or if the endpoint \
+             may not have read it or was sending a data frame: frames are not interleaved (section 5.4), and \
+             a pong should come as soon as is practical (section 5.5.2)",
         _ => loose_rule(tested, why),
     }
 }

@@ -14,7 +14,7 @@ ghost use Rattle.ws_suite.specs.Progress.{EndInOtherFrame, NotesGot, NotesSent};
 ghost use Rattle.ws_suite.specs.declared.evidence.InTurn.{InTurn};
 ghost use Rattle.ws_suite.specs.declared.evidence.Reply.{Reply};
 ghost use Rattle.ws_suite.specs.declared.evidence.collecting.Way.{Way};
-ghost use Rattle.ws_suite.specs.Waiting.{AreTurnsAnsweredBy, AreTurnsSeenAnswered};
+ghost use Rattle.ws_suite.specs.Waiting.{AnswersTallyBy, AreTurnsAnsweredBy, AreTurnsSeenAnswered};
 
 use crate::evidence::collecting::{Rooms, Taken, Way, nothing_taken};
 use crate::evidence::keeping::{KeepsReplies, RunReplies};
@@ -194,6 +194,8 @@ impl RunEvidence {
             AreTurnsSeenAnswered expected tested turns → IsTrue result }
         ensures answered { (tested : Role) (turns : List Turn) → HasGrown tested turns self.now →
             result ≡ true → AreTurnsAnsweredBy expected tested turns }
+        ensures kept { IsTrue result
+            ↔ AnswersTallyBy expected self.now.due.replies.tally self.now.got.replies.tally }
     {
         session_laws();
         self.got

@@ -3,7 +3,7 @@
 ghost use Rattle.std.specs.Prelude.{◌≡◌, ◌↔◌, [], ◌∷◌, ◌++◌, List, IsTrue, None, OnOk, Some};
 ghost use Rattle.ws_suite.specs.declared.evidence.InTurn.{InTurn};
 ghost use Rattle.ws_suite.specs.declared.evidence.Reply.{Reply};
-ghost use Rattle.ws_suite.specs.Growing.{AnswersTally, IsAnsweredPong, IsTallyOf};
+ghost use Rattle.ws_suite.specs.Growing.{AnswersTally, IsAnsweredPong, IsTallyOf, IsWantedFrom, IsWantedStill};
 ghost use Rattle.ws_suite.specs.Kept.{reply_in};
 ghost use Rattle.ws_suite.specs.InnerTally.{pong_of};
 ghost use Rattle.ws_suite.specs.Waiting.{AnswersTallyBy};
@@ -114,8 +114,9 @@ impl ReplyTally {
 
     /// One more reply is told.
     fn keep(&mut self, reply: Kept<'_>) -> Result<(), NoMemory>
-        ensures { OnOk result ((replies : List (InTurn Reply)) → IsTallyOf self.old replies →
+        ensures tally { OnOk result ((replies : List (InTurn Reply)) → IsTallyOf self.old replies →
             IsTallyOf self.new (replies ++ reply_in reply.entry ∷ [])) }
+        ensures wanted { OnOk result (IsWantedStill (reply_in reply.entry) self.old self.new) }
     {
         match reply.kind {
             ReplyKind::Text | ReplyKind::Binary => {
@@ -138,7 +139,8 @@ impl ReplyTally {
 
     /// These replies are due by now: from here on the last of their pongs is looked for.
     pub(crate) fn want(&mut self, due: &ReplyTally)
-        ensures { (replies : List (InTurn Reply)) → IsTallyOf self.old replies → IsTallyOf self.new replies }
+        ensures tally { (replies : List (InTurn Reply)) → IsTallyOf self.old replies → IsTallyOf self.new replies }
+        ensures wanted { IsWantedFrom due.now self.old self.new }
     {
         // A pong with the same payload of no later turn is wanted already.
         if !self.wanted.answers(&due.last_pong) {

@@ -1,6 +1,6 @@
 //! Replies that take little room: their payloads stand one behind the other, and each reply has a small head.
 
-ghost use Rattle.std.specs.Prelude.{◌≡◌, ◌↔◌, ◌≤◌, ◌∷◌, ◌++◌, [], length, IfOk, IsTrue, OnOk};
+ghost use Rattle.std.specs.Prelude.{◌≡◌, ◌↔◌, ◌≤◌, ◌∷◌, ◌++◌, [], length, IfOk, IsTrue, OnErr, OnOk};
 ghost use Rattle.ws_suite.specs.InnerAnswered.{AreAnsweredEach, AreHeadsAnswered};
 ghost use Rattle.ws_suite.specs.Kept.{first_of, reply_in, turn_in, what_of, IsHeadOf};
 
@@ -96,7 +96,8 @@ impl Replies {
 
     /// One more reply, whose payload goes straight behind the others.
     pub(crate) fn push(&mut self, reply: Kept<'_>) -> Result<(), NoMemory>
-        ensures { OnOk result (self.new ≡ self.old ++ reply_in reply.entry ∷ []) }
+        ensures ok { OnOk result (self.new ≡ self.old ++ reply_in reply.entry ∷ []) }
+        ensures err { OnErr result (self.new ≡ self.old) }
     {
         let head = Head::of(&reply)?;
         self.heads.reserve(1)?;

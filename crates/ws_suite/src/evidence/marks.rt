@@ -1,7 +1,7 @@
 //! What an end that needn't echo is judged by beside the evidence (RFC 6455 sections 5.4 to 5.6, 7.4 and 8.1).
 
 ghost use Rattle.std.specs.Prelude.{◌≡◌, ◌↔◌, ◌⊎◌, ◌-◌, ◌%◌, ◌<◌, ℕ, IfOk, IsTrue, List, MatchOption, drop, false};
-ghost use Rattle.std.specs.Prelude.{None, Some, map};
+ghost use Rattle.std.specs.Prelude.{[], MatchBool, None, Some, map};
 ghost use Rattle.std.specs.List.{concat};
 ghost use Rattle.ws_wire.specs.declared.role.Role.{Role};
 ghost use Rattle.ws_wire.specs.declared.opcode.Opcode.{Opcode};
@@ -11,15 +11,17 @@ ghost use Rattle.ws_suite.specs.Explanation.{IsBeyondClose};
 ghost use Rattle.ws_suite.specs.InnerCollecting.{way_bytes};
 ghost use Rattle.ws_suite.specs.InnerMarks.{AreStreamsOf, HasAllAsked, IsEndingByTurn, IsTold, IsToldStream};
 ghost use Rattle.ws_suite.specs.InnerMarks.{IsTurnOfPlace, closed_with, evidence_closed, fault_of, first_asked};
-ghost use Rattle.ws_suite.specs.Marks.{AreMarksOf, EndsInDataFrame, EndsInFrame, FailsByUndefinedCode, HasOpenMessage};
-ghost use Rattle.ws_suite.specs.Marks.{HasUndefinedCodeCounted, IsLate};
+ghost use Rattle.ws_suite.specs.Marks.{AreMarksOf, ArePongsBehind, EndsInDataFrame, EndsInFrame};
+ghost use Rattle.ws_suite.specs.Marks.{FailsByUndefinedCode, HasOpenMessage, HasUndefinedCodeCounted, IsLate};
+ghost use Rattle.ws_suite.specs.Matching.{ends_with_close};
 
+use crate::evidence::behind::pongs_behind;
 use crate::evidence::collecting::Way;
 use crate::evidence::growing::other;
 use crate::evidence::streams::{Seen, StreamEnd, Streams};
 use crate::evidence::telling::bytes_of;
 use crate::evidence::wire_frames::{are_controls, is_late, undefined_code};
-use crate::evidence::{Direction, Ending, Evidence, InTurn, ends_with_close};
+use crate::evidence::{Direction, Ending, Evidence, InTurn, Replies, ends_with_close};
 use crate::lemmas::{are_bytes, frame_laws};
 use std::alloc::Global;
 use ws_base::NoMemory;
@@ -46,6 +48,8 @@ pub(crate) struct Marks {
 #[derive(Drop)]
 pub(crate) struct MarkedEvidence {
     pub evidence: Evidence,
+    /// The right pongs behind the close that was got.
+    pub behind: Replies,
     pub marks: Marks,
     /// The turn of the first byte behind the close that was got.
     pub beyond: Option<usize>,
@@ -62,6 +66,8 @@ pub(crate) fn marked(
     requires streams { AreStreamsOf tested transcript.now streams }
     requires ending { IsEndingByTurn (other_role tested) (got_turns transcript.now.turns) shown.got.ending }
     ensures closed { IfOk result (λ marked. HasUndefinedCodeCounted tested transcript.now shown marked.evidence) }
+    ensures behind { IfOk result (λ marked. MatchBool (ends_with_close marked.evidence.got.ending)
+        (ArePongsBehind (other_role tested) (got_turns transcript.now.turns) marked.behind) (marked.behind ≡ [])) }
     ensures marks { IfOk result (λ marked. AreMarksOf tested transcript.now marked.marks) }
     ensures beyond { IfOk result (λ marked. IsBeyondClose (other_role tested) (got_turns transcript.now.turns)
         marked.evidence.got.ending marked.beyond) }
@@ -76,16 +82,39 @@ pub(crate) fn marked(
         has_controls: are_controls(other(tested), got.behind()),
     };
     let evidence = with_close(shown, got.undefined_code());
-    let beyond = if ends_with_close(&evidence.got.ending) {
+    let is_closed = ends_with_close(&evidence.got.ending);
+    let behind = answers_behind(alloc, tested, transcript, is_closed, &got)?;
+    let beyond = if is_closed {
         got_turn(transcript, got.seen.after)
     } else {
         None
     };
     Ok(MarkedEvidence {
         evidence,
+        behind,
         marks,
         beyond,
     })
+}
+
+/// The right pongs behind the close that was got, if one was.
+fn answers_behind(
+    alloc: Global,
+    tested: Role,
+    transcript: &TranscriptRef<'_>,
+    is_closed: bool,
+    got: &Told,
+) -> Result<Replies, NoMemory>
+    requires { IsToldStream (other_role tested) (concat (got_turns transcript.now.turns)) got.now }
+    ensures { IfOk result (λ pongs. MatchBool is_closed
+        (ArePongsBehind (other_role tested) (got_turns transcript.now.turns) pongs) (pongs ≡ [])) }
+{
+    if !is_closed {
+        return Ok(Replies::new(alloc));
+    }
+    let role = other(tested);
+    let pongs = pongs_behind(alloc, role, transcript, got.seen.after, got.behind())?;
+    Ok(pongs)
 }
 
 /// The turn in which the byte at this place of all that was got stands, if there is one.
@@ -148,10 +177,10 @@ fn closed_with(ending: Option<InTurn<Ending>>, code: Option<u16>) -> Option<InTu
 
 /// A stream, of which no bytes are kept but those that are asked about.
 #[derive(Drop)]
-struct Told {
-    seen: Seen,
+pub(super) struct Told {
+    pub(super) seen: Seen,
     /// From the first that is asked about on.
-    bytes: Vec<u8>,
+    pub(super) bytes: Vec<u8>,
 }
 
 /// A stream that was seen so.
@@ -225,7 +254,7 @@ impl Told {
     }
 
     /// The code of the close with which it ends, where the standard leaves that undefined.
-    fn undefined_code(&self) -> Option<u16>
+    pub(super) fn undefined_code(&self) -> Option<u16>
         requires { HasAllAsked self.now }
         ensures { (role : Role) (bytes : List ℕ) → IsToldStream role bytes self.now → MatchOption result
             ((code : ℕ) → FailsByUndefinedCode role bytes code → ⊥)

@@ -1,6 +1,6 @@
 //! The pings that were sent and aren't answered yet (RFC 6455 section 5.5.3).
 
-ghost use Rattle.std.specs.Prelude.{◌≡◌, ◌++◌, ◌∷◌, [], OnOk};
+ghost use Rattle.std.specs.Prelude.{◌≡◌, ◌++◌, ◌∷◌, [], OnErr, OnOk};
 ghost use Rattle.ws_suite.specs.InnerUnanswered.{fingerprint};
 ghost use Rattle.ws_suite.specs.Progress.{is_pong_owed, without_ping};
 
@@ -48,7 +48,8 @@ impl UnansweredPings {
 
     /// One more ping was sent.
     pub(super) fn add(&mut self, payload: &[u8]) -> Result<(), NoMemory>
-        ensures { OnOk result (self.new ≡ self.old ++ payload.now ∷ []) }
+        ensures ok { OnOk result (self.new ≡ self.old ++ payload.now ∷ []) }
+        ensures err { OnErr result (self.new ≡ self.old) }
     {
         count_one(&mut self.prints, fingerprint(payload))?;
         self.payloads.push(payload)

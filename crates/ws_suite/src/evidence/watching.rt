@@ -40,16 +40,52 @@ pub(super) fn take_watched<K: KeepsReplies>(
         × (pings.new ≡ noted_pings way pings.old later) × (progress ≡ notes_progress way pings.old later)) }
     ensures over { is_over taken.old.session.status ≡ true → taken.new.session ≡ taken.old.session }
 {
-    session_laws();
     let mut progress = false;
     let mut rest = piece;
     while !rest.is_empty() {
-        let (part, _) = cut_part(rest);
-        let front = take_front(way, number, part, rooms, taken)?;
+        let (part, after) = cut_part(rest);
+        let has_progress = take_watched_part(way, number, part, rooms, taken, pings)?;
+        progress = or_before(has_progress, progress);
+        rest = after;
+    }
+    Ok(progress)
+}
+
+/// The same of a part of it.
+fn take_watched_part<K: KeepsReplies>(
+    way: Way,
+    number: usize,
+    part: &[u8],
+    rooms: &mut Rooms,
+    taken: &mut Taken<K>,
+    pings: &mut UnansweredPings,
+) -> Result<bool, NoMemory>
+    ensures taken { (handed : List (InTurn Reply)) (role : Role) (turns : List (List ℕ)) (last : List ℕ) →
+        number ≡ length turns →
+        HasTakenWay (K.keeps handed) way role (turns ++ last ∷ []) taken.old.session taken.old.collected →
+        OnOk result (HasTakenWay (K.keeps handed) way role (turns ++ (last ++ part.now) ∷ [])
+        taken.new.session taken.new.collected) }
+    ensures noted { IfOk result (λ progress. (later : List Event)
+        × TellsAdded taken.old.session taken.new.session part.now later
+        × (pings.new ≡ noted_pings way pings.old later) × (progress ≡ notes_progress way pings.old later)) }
+    ensures over { is_over taken.old.session.status ≡ true → taken.new.session ≡ taken.old.session }
+{
+    session_laws();
+    let mut progress = false;
+    let mut rest = part;
+    while !rest.is_empty() {
+        let front = take_front(way, number, rest, rooms, taken)?;
         progress = note(way, front.event, rooms.payload(), pings, progress)?;
         rest = &rest[front.used..];
     }
     Ok(progress)
+}
+
+/// Whether there is progress now, or there was some before.
+fn or_before(now: bool, before: bool) -> bool
+    ensures { result ≡ (now || before) }
+{
+    now || before
 }
 
 /// Notes an event, if there is one, whose payload is lent: whether it is progress, or there was some before.

@@ -1,16 +1,20 @@
 //! Frames as they stand on the wire, one after the other: of what comes behind a close or a fault no session tells
 //! (RFC 6455 sections 5.2, 5.5 and 7.4).
 
-ghost use Rattle.std.specs.Prelude.{◌≡◌, ◌↔◌, ◌≤◌, ◌||◌, ◌++◌, ℕ, IsTrue, List, MatchOption, false, length, take};
+ghost use Rattle.std.specs.Prelude.{◌≡◌, ◌↔◌, ◌≤◌, ◌%◌, ◌++◌, nat_le, ℕ, IsTrue, List, MatchOption, false, length};
+ghost use Rattle.std.specs.Prelude.{take};
 ghost use Rattle.std.specs.Int.{IsInRange};
 ghost use Rattle.std.specs.List.{list_any};
 ghost use Rattle.ws_wire.specs.Frame.{IsWireFrame, WireFrame, wire_bytes};
 ghost use Rattle.ws_wire.specs.Masking.{masked_payload};
 ghost use Rattle.ws_wire.specs.Stream.{BeginsNone, SplitsIntoAnyForm};
-ghost use Rattle.ws_suite.specs.InnerMarks.{IsFrameFound, IsFrontFrame, IsPlainControl, IsRightClose};
+ghost use Rattle.ws_session.specs.Faults.{expects_key};
+ghost use Rattle.ws_suite.specs.InnerMarks.{IsFrameFound, IsFrontFrame, IsPlainControl, IsRightClose, message_end};
 ghost use Rattle.ws_suite.specs.Marks.{AreControls, HideFault, HoldsUndefinedCode, IsCutControl, IsRightControl};
-ghost use Rattle.ws_suite.specs.Marks.{IsUndefinedCode, is_close_frame, is_last_fragment};
+ghost use Rattle.ws_suite.specs.Marks.{IsPartOfClose, IsRightPong, IsUndefinedCode, end_message, is_close_frame};
+ghost use Rattle.ws_suite.specs.Marks.{payload_so_far};
 
+use crate::evidence::cut_close::is_part_of_close;
 use std::str;
 use ws_session::Reason;
 use ws_text::{CloseFault, ClosePayload, ControlBytes, MAX_CONTROL_PAYLOAD};
@@ -47,7 +51,8 @@ pub(super) fn whole_frame(bytes: &[u8]) -> Option<WholeFrame<'_>>
 }
 
 /// Whether a fault was sent so that the end that takes it needn't have seen it: the bytes begin with the frame at
-/// fault, and that isn't whole; or of a text the last fragment isn't, and no close frame is behind it.
+/// fault, and that isn't whole; or of a text the last fragment isn't before another message begins, and no close frame
+/// is behind it.
 pub(super) fn is_late(reason: Reason, bytes: &[u8]) -> bool
     ensures { (frames : List WireFrame) (rest : List ℕ) → SplitsIntoAnyForm bytes.now frames rest
         → IsTrue result ↔ HideFault reason frames }
@@ -56,34 +61,74 @@ pub(super) fn is_late(reason: Reason, bytes: &[u8]) -> bool
         return true;
     };
     match reason {
-        Reason::NotText => !frame.header.fin() && goes_on(frame.after),
+        Reason::NotText => leaves_open(&frame),
         _ => false,
     }
 }
 
-/// Whether the frames hold neither the last fragment of a message nor a close frame.
-fn goes_on(bytes: &[u8]) -> bool
+/// Whether a frame isn't the last one of its message, nor is one behind it before another message begins, and none of
+/// those is a close frame.
+fn leaves_open(frame: &WholeFrame<'_>) -> bool
+    ensures { (later : List WireFrame) (rest : List ℕ) → SplitsIntoAnyForm frame.now.after.now later rest
+        → IsTrue result ↔ ((frame.now.header.fin ≡ false) × (end_message later ≡ false)
+        × (list_any is_close_frame later ≡ false)) }
+{
+    !frame.header.fin() && !ends_message(frame.after) && !holds_close(frame.after)
+}
+
+/// Whether among the frames is the last fragment of the message under way, before another one begins.
+fn ends_message(bytes: &[u8]) -> bool
     ensures { (frames : List WireFrame) (rest : List ℕ) → SplitsIntoAnyForm bytes.now frames rest
-        → IsTrue result ↔ (list_any (λ x. is_last_fragment x || is_close_frame x) frames ≡ false) }
+        → result ≡ end_message frames }
 {
     let mut rest = bytes;
     while let Some(frame) = whole_frame(rest) {
-        if ends_message(&frame.header) {
-            return false;
+        if let Some(ends) = message_end(&frame.header) {
+            return ends;
         }
         rest = frame.after;
     }
-    true
+    false
 }
 
-/// Whether a frame is the last fragment of a message, or a close frame.
-fn ends_message(header: &Header) -> bool
-    ensures { (x : WireFrame) → x.header ≡ header.now → result ≡ (is_last_fragment x || is_close_frame x) }
+/// Whether a frame is the last fragment of the message under way, or begins another one; or neither.
+fn message_end(header: &Header) -> Option<bool>
+    ensures { (x : WireFrame) → x.header ≡ header.now → result ≡ message_end x }
 {
     match header.kind() {
-        Opcode::Continuation => header.fin(),
+        Opcode::Continuation => { if header.fin() { Some(true) } else { None } }
+        Opcode::Text | Opcode::Binary => Some(false),
+        Opcode::Close | Opcode::Ping | Opcode::Pong | Opcode::Reserved(_) => None,
+    }
+}
+
+/// Whether among the frames is a close.
+fn holds_close(bytes: &[u8]) -> bool
+    ensures { (frames : List WireFrame) (rest : List ℕ) → SplitsIntoAnyForm bytes.now frames rest
+        → result ≡ list_any is_close_frame frames }
+{
+    let mut rest = bytes;
+    while let Some(frame) = whole_frame(rest) {
+        if is_close(&frame.header) {
+            return true;
+        }
+        rest = frame.after;
+    }
+    false
+}
+
+/// Whether a frame is a close.
+fn is_close(header: &Header) -> bool
+    ensures { (x : WireFrame) → x.header ≡ header.now → result ≡ is_close_frame x }
+{
+    match header.kind() {
         Opcode::Close => true,
-        Opcode::Text | Opcode::Binary | Opcode::Ping | Opcode::Pong | Opcode::Reserved(_) => false,
+        Opcode::Continuation
+        | Opcode::Text
+        | Opcode::Binary
+        | Opcode::Ping
+        | Opcode::Pong
+        | Opcode::Reserved(_) => false,
     }
 }
 
@@ -98,17 +143,30 @@ pub(super) fn are_controls(role: Role, bytes: &[u8]) -> bool
         }
         rest = frame.after;
     }
-    is_cut_control(rest)
+    is_cut_control(role, rest)
 }
 
-/// Whether bytes that are no whole frame are nothing, or as far as the first of them says a close, a ping or a pong.
-fn is_cut_control(rest: &[u8]) -> bool
-    ensures { IsTrue result ↔ IsCutControl rest.now }
+/// Whether bytes that are no whole frame are nothing, or a part of a close, a ping or a pong that can still be right.
+fn is_cut_control(role: Role, rest: &[u8]) -> bool
+    ensures { IsTrue result ↔ IsCutControl role rest.now }
 {
     match rest {
         [] => true,
-        [first, ..] => begins_control(*first),
+        [first] => begins_control(*first),
+        [first, second, more @ ..] => begins_control(*first)
+            && is_cut_right(role, *first, *second, more),
     }
+}
+
+/// Whether the frame that begins so, with one of the first bytes of a control frame, can still be right.
+fn is_cut_right(role: Role, first: u8, second: u8, more: &[u8]) -> bool
+    ensures { IsTrue result ↔ ((nat_le 128 second ≡ expects_key role) × (second % 128 ≤ 125)
+        × (first ≡ 0x88 → IsPartOfClose (payload_so_far role more.now) (second % 128))) }
+{
+    if (second >= 128) != (role == Role::Server) || second % 128 > 125 {
+        return false;
+    }
+    first != 0x88 || is_part_of_close(role, (second % 128) as usize, more)
 }
 
 /// Whether a byte begins a close, a ping or a pong, with FIN and without reserved bits.
@@ -129,6 +187,28 @@ fn is_right_control(role: Role, frame: &WholeFrame<'_>) -> bool
         Opcode::Close => is_right_close(frame),
         Opcode::Ping | Opcode::Pong => true,
         Opcode::Continuation | Opcode::Text | Opcode::Binary | Opcode::Reserved(_) => false,
+    }
+}
+
+/// Whether a frame is a pong that breaks no rule where it comes to an end of this role.
+pub(super) fn is_right_pong(role: Role, frame: &WholeFrame<'_>) -> bool
+    ensures { (x : WireFrame) → IsWireFrame x → IsFrameFound x frame.now → IsTrue result ↔ IsRightPong role x }
+{
+    is_pong(&frame.header) && is_right_control(role, frame)
+}
+
+/// Whether a frame is a pong.
+fn is_pong(header: &Header) -> bool
+    ensures { IsTrue result ↔ (header.now.opcode ≡ 10) }
+{
+    match header.kind() {
+        Opcode::Pong => true,
+        Opcode::Continuation
+        | Opcode::Text
+        | Opcode::Binary
+        | Opcode::Close
+        | Opcode::Ping
+        | Opcode::Reserved(_) => false,
     }
 }
 
@@ -172,7 +252,7 @@ pub(super) fn undefined_code(bytes: &[u8]) -> Option<u16>
 }
 
 /// The payload of a control frame, without its mask; its first bytes where it has more than a control frame may have.
-fn control_payload(frame: &WholeFrame<'_>) -> ControlBytes
+pub(super) fn control_payload(frame: &WholeFrame<'_>) -> ControlBytes
     ensures payload { (x : WireFrame) → IsWireFrame x → IsFrameFound x frame.now → result ≡ take 125 x.payload }
     ensures short { length result ≤ 125 }
 {
@@ -214,7 +294,7 @@ fn undefined_code_in(payload: &[u8]) -> Option<u16>
 
 /// Whether the standard leaves a code undefined and forbids nobody to send it: 1004 and 1016 to 2999, which it keeps
 /// back (section 7.4.2), and those above 4999, of which it says nothing.
-pub(crate) fn is_undefined_code(code: u16) -> bool
+fn is_undefined_code(code: u16) -> bool
     ensures { IsTrue result ↔ IsUndefinedCode code }
 {
     matches!(code, 1004 | 1016..=2999 | 5000..=65535)

@@ -1,18 +1,17 @@
 //! The pongs that RFC 6455 asks of any end (sections 5.5.2 and 5.5.3): for the pings that it was sent in an earlier
 //! turn than what ends the connection, at the latest for the last of them.
 
-ghost use Rattle.std.specs.Prelude.{◌≡◌, ◌&&◌, nat_le, IfOk, List, false, true};
+ghost use Rattle.std.specs.Prelude.{◌≡◌, ◌&&◌, ◌++◌, nat_le, IfOk, List, OnOk, false, true};
 ghost use Rattle.std.specs.List.{list_any};
 ghost use Rattle.ws_suite.specs.declared.evidence.InTurn.{InTurn};
 ghost use Rattle.ws_suite.specs.declared.evidence.Reply.{Reply};
-ghost use Rattle.ws_suite.specs.InnerJudging.{without_pings};
-ghost use Rattle.ws_suite.specs.InnerMarks.{AreMet, AreLastTurns, AreOwedFindings, is_answered_by};
+ghost use Rattle.ws_suite.specs.InnerMarks.{AreMet, AreLastTurns, AreOwedFindings, counted_of, is_answered_by};
 ghost use Rattle.ws_suite.specs.InnerMarks.{latest};
 ghost use Rattle.ws_suite.specs.Kept.{first_of, reply_in};
 ghost use Rattle.ws_suite.specs.Matching.{due_pongs, got_pongs, has_payload_of};
 ghost use Rattle.ws_suite.specs.Protocol.{close_of, is_before_end, is_owed, owed_pongs};
 
-use crate::evidence::{Ending, Evidence, InTurn, Kept, Replies, is_close_ending};
+use crate::evidence::{Ending, Evidence, InTurn, Kept, MarkedEvidence, Replies, is_close_ending};
 use crate::judging::chosen::{Chosen, Wanted};
 use crate::judging::in_step::either;
 use std::alloc::Global;
@@ -32,13 +31,16 @@ pub(super) struct OwedPongs {
 type LastTurns<'a> = BTreeMap<&'a [u8], usize>;
 
 /// Which pings had to be answered, and whether they were. Each is looked up once.
-pub(super) fn owed_pongs(alloc: Global, x: &Evidence) -> Result<OwedPongs, NoMemory>
-    ensures { IfOk result (λ found. AreOwedFindings (without_pings x.now) found) }
+pub(super) fn owed_pongs(alloc: Global, marked: &MarkedEvidence) -> Result<OwedPongs, NoMemory>
+    ensures { IfOk result (λ found. AreOwedFindings (counted_of marked.now) found) }
 {
+    let x = &marked.evidence;
     if are_all_met(x) {
         return Ok(all_met());
     }
-    let turns = last_turns(alloc, Chosen::among(&x.got.replies, Wanted::Pongs))?;
+    let mut turns = BTreeMap::new(alloc);
+    note_turns(&mut turns, Chosen::among(&x.got.replies, Wanted::Pongs))?;
+    note_turns(&mut turns, Chosen::among(&marked.behind, Wanted::Pongs))?;
     let mut pings = Chosen::among(&x.due.replies, Wanted::Pongs);
     let mut lacks_last = false;
     let mut skips_one = false;
@@ -119,17 +121,17 @@ pub(crate) fn owed_among(alloc: Global, x: &Evidence) -> Result<Replies, NoMemor
     Ok(owed)
 }
 
-/// The last turns of the pongs.
-fn last_turns<'a>(alloc: Global, pongs: Chosen<'a>) -> Result<LastTurns<'a>, NoMemory>
-    ensures { IfOk result (λ turns. AreLastTurns pongs.entry turns) }
+/// These pongs came too: their turns are noted.
+fn note_turns<'a>(turns: &mut LastTurns<'a>, pongs: Chosen<'a>) -> Result<(), NoMemory>
+    ensures { OnOk result ((gots : List (InTurn Reply)) → AreLastTurns gots turns.old
+        → AreLastTurns (gots ++ pongs.entry) turns.new) }
 {
     let mut left = pongs;
-    let mut turns = BTreeMap::new(alloc);
     while let Some(pong) = left.next() {
         let last = latest(pong.turn, turns.get(&pong.payload).copied());
         turns.insert(pong.payload, last)?;
     }
-    Ok(turns)
+    Ok(())
 }
 
 /// The later of two turns, where there is another one.

@@ -8,16 +8,15 @@ ghost use Rattle.ws_wire.specs.declared.role.Role.TheVariants.{Server};
 ghost use Rattle.ws_suite.specs.declared.verdict.FailWhy.{FailWhy};
 ghost use Rattle.ws_suite.specs.declared.verdict.LooseWhy.{LooseWhy};
 ghost use Rattle.ws_suite.specs.InnerJudging.{without_pings};
-ghost use Rattle.ws_suite.specs.InnerMarks.{AreOwedFindings, IsLaterLoose, IsOwnLoose};
+ghost use Rattle.ws_suite.specs.InnerMarks.{AreOwedFindings, IsLaterLoose, IsOwnLoose, counted_of};
 ghost use Rattle.ws_suite.specs.Protocol.{BlamesFault, BreaksFrames, FailsProtocol, HasOwnClose, HasSameCode, HasToEnd};
-ghost use Rattle.ws_suite.specs.Protocol.{HasUndefinedCode, IsLooseByProtocol, IsProtocolVerdictOn, IsStill};
-ghost use Rattle.ws_suite.specs.Protocol.{IsUndefinedClose, LacksClose, LeavesClose, LeavesPing, StaysOpen};
-ghost use Rattle.ws_suite.specs.Protocol.{WaitsForEnd, is_tolerable, is_tolerable_reason, is_too_big};
+ghost use Rattle.ws_suite.specs.Protocol.{HasNoClose, IsFreeToEnd, IsItsEnd, IsLooseByProtocol, IsProtocolVerdictOn};
+ghost use Rattle.ws_suite.specs.Protocol.{IsTolerated, LacksClose, LeavesClose, LeavesPing, StaysOpen, is_tolerable};
+ghost use Rattle.ws_suite.specs.Protocol.{is_tolerable_reason, is_too_big};
 ghost use Rattle.ws_suite.specs.Verdicts.{fail_number, loose_number};
 
 use crate::evidence::{
     Ending, Evidence, InTurn, MarkedEvidence, Marks, ends_with_close, ends_with_fault,
-    is_undefined_code,
 };
 use crate::judging::fails::is_early_close;
 use crate::judging::looses::{ends_late, has_other_code};
@@ -36,14 +35,13 @@ pub(crate) fn verdict_by_protocol(
     marked: &MarkedEvidence,
 ) -> Result<Verdict, NoMemory>
     ensures { IfOk result (λ verdict.
-        IsProtocolVerdictOn tested (without_pings marked.now.evidence) marked.now.marks verdict) }
+        IsProtocolVerdictOn tested (counted_of marked.now) marked.now.marks verdict) }
 {
-    let x = &marked.evidence;
-    let pongs = owed_pongs(alloc, x)?;
-    if let Some(why) = first_fail(tested, x, marked.marks, pongs) {
+    let pongs = owed_pongs(alloc, marked)?;
+    if let Some(why) = first_fail(tested, marked, pongs) {
         return Ok(Verdict::Fail(why));
     }
-    match first_loose(tested, x, marked.marks, pongs) {
+    match first_loose(tested, marked, pongs) {
         Some(why) => Ok(Verdict::Loose(why)),
         None => Ok(Verdict::Pass),
     }
@@ -132,26 +130,21 @@ fn is_close_of(ending: &Ending, code: Option<u16>) -> bool
     }
 }
 
-/// Whether nothing keeps the tested end from being judged by what is missing: nothing that was got is too big, and no
-/// message of it is open.
-fn is_still(x: &Evidence, marks: Marks) -> bool
-    ensures { IsTrue result ↔ IsStill (without_pings x.now) marks }
-{
-    !is_too_big(&x.got.ending) && !marks.is_open
-}
-
 // ---- the Fails
 
 /// The lowest Fail that applies.
-fn first_fail(tested: Role, x: &Evidence, marks: Marks, pongs: OwedPongs) -> Option<FailWhy>
-    requires { AreOwedFindings (without_pings x.now) pongs }
-    ensures { MatchOption result ((why : FailWhy) → FailsProtocol tested (without_pings x.now) marks why → ⊥)
-        (IsLowest FailWhy fail_number (FailsProtocol tested (without_pings x.now) marks)) }
+fn first_fail(tested: Role, marked: &MarkedEvidence, pongs: OwedPongs) -> Option<FailWhy>
+    requires { AreOwedFindings (counted_of marked.now) pongs }
+    ensures { MatchOption result
+        ((why : FailWhy) → FailsProtocol tested (counted_of marked.now) marked.now.marks why → ⊥)
+        (IsLowest FailWhy fail_number (FailsProtocol tested (counted_of marked.now) marked.now.marks)) }
 {
-    if breaks_frames(tested, x, marks) {
+    let x = &marked.evidence;
+    let marks = marked.marks;
+    if breaks_frames(x, marks) {
         return Some(FailWhy::NotFrames);
     }
-    if leaves_ping(x, marks, pongs) {
+    if leaves_ping(marked, pongs) {
         return Some(FailWhy::Pongs);
     }
     if leaves_close(x, marks) {
@@ -164,37 +157,38 @@ fn first_fail(tested: Role, x: &Evidence, marks: Marks, pongs: OwedPongs) -> Opt
 }
 
 /// Whether what was got breaks a rule of frames.
-fn breaks_frames(tested: Role, x: &Evidence, marks: Marks) -> bool
-    ensures { IsTrue result ↔ BreaksFrames tested (without_pings x.now) marks }
+fn breaks_frames(x: &Evidence, marks: Marks) -> bool
+    ensures { IsTrue result ↔ BreaksFrames (without_pings x.now) marks }
 {
     if ends_with_fault(&x.got.ending) {
         return !is_too_big(&x.got.ending);
     }
     if ends_with_close(&x.got.ending) {
-        return tested == Role::Server && x.got.has_rest && !marks.has_controls;
+        return x.got.has_rest && !marks.has_controls;
     }
     x.got.has_rest && x.ended == Ended::Peer && !ends_with_fault(&x.due.ending)
 }
 
 /// Whether the last ping that had to be answered wasn't.
-fn leaves_ping(x: &Evidence, marks: Marks, pongs: OwedPongs) -> bool
-    requires { AreOwedFindings (without_pings x.now) pongs }
-    ensures { IsTrue result ↔ LeavesPing (without_pings x.now) marks }
+fn leaves_ping(marked: &MarkedEvidence, pongs: OwedPongs) -> bool
+    requires { AreOwedFindings (counted_of marked.now) pongs }
+    ensures { IsTrue result ↔ LeavesPing (counted_of marked.now) marked.now.marks }
 {
+    let x = &marked.evidence;
     if !pongs.lacks_last || ends_with_fault(&x.due.ending) || is_too_big(&x.got.ending) {
         return false;
     }
     if ends_with_close(&x.got.ending) {
         return has_same_code(x) && !has_own_close(x);
     }
-    x.ended == Ended::Tester && !marks.ends_in_data
+    x.ended == Ended::Tester && !marked.marks.ends_in_data
 }
 
 /// Whether a close had to be answered and wasn't.
 fn leaves_close(x: &Evidence, marks: Marks) -> bool
     ensures { IsTrue result ↔ LeavesClose (without_pings x.now) marks }
 {
-    if !lacks_close(x) || !is_still(x, marks) {
+    if !lacks_close(x) || is_too_big(&x.got.ending) || marks.is_open {
         return false;
     }
     match x.ended {
@@ -215,45 +209,31 @@ fn lacks_close(x: &Evidence) -> bool
 fn stays_open(tested: Role, x: &Evidence, marks: Marks) -> bool
     ensures { IsTrue result ↔ StaysOpen tested (without_pings x.now) marks }
 {
-    if x.ended != Ended::Tester || !must_end(x, marks) || !is_still(x, marks) {
+    if x.ended != Ended::Tester || is_too_big(&x.got.ending) || !must_end(x, marks) {
         return false;
     }
+    is_free_to_end(x, marks) && is_its_end(tested, x)
+}
+
+/// Whether the tested end could end the connection: it closed it; or it is inside no data frame and, where it has to
+/// answer a close, inside no message.
+fn is_free_to_end(x: &Evidence, marks: Marks) -> bool
+    ensures { IsTrue result ↔ IsFreeToEnd (without_pings x.now) marks }
+{
+    if ends_with_close(&x.got.ending) {
+        return true;
+    }
+    !marks.ends_in_data && !(ends_with_close(&x.due.ending) && marks.is_open)
+}
+
+/// Whether it is the tested end that ends the connection: a server, but where it waits for the answer to its own close;
+/// and a client before its close.
+fn is_its_end(tested: Role, x: &Evidence) -> bool
+    ensures { IsTrue result ↔ IsItsEnd tested (without_pings x.now) }
+{
     match tested {
-        Role::Server => !waits_for_end(x),
+        Role::Server => ends_with_close(&x.due.ending) || !has_own_close(x),
         Role::Client => !ends_with_close(&x.got.ending),
-    }
-}
-
-/// Whether a server waits for an answer to its own close; or its close has a code that the standard leaves undefined,
-/// at which a tester over a connection ends it at once.
-fn waits_for_end(x: &Evidence) -> bool
-    ensures { IsTrue result ↔ WaitsForEnd Server (without_pings x.now) }
-{
-    let waits = has_own_close(x) && !ends_with_close(&x.due.ending);
-    waits || is_undefined_close(&x.got.ending)
-}
-
-/// Whether what was got ends with a close whose code the standard leaves undefined.
-fn is_undefined_close(ending: &Option<InTurn<Ending>>) -> bool
-    ensures { IsTrue result ↔ IsUndefinedClose ending.now }
-{
-    match ending {
-        Some(ending) => has_undefined_code(&ending.what),
-        None => false,
-    }
-}
-
-/// Whether it is a close with such a code.
-fn has_undefined_code(ending: &Ending) -> bool
-    ensures { IsTrue result ↔ HasUndefinedCode ending.now }
-{
-    match ending {
-        Ending::Closed(code) => match code {
-            Some(code) => is_undefined_code(*code),
-            None => false,
-        },
-        Ending::Failed(_) => false,
-        Ending::Doomed => false,
     }
 }
 
@@ -270,18 +250,21 @@ fn must_end(x: &Evidence, marks: Marks) -> bool
 // ---- the Looses
 
 /// The lowest Loose that applies.
-fn first_loose(tested: Role, x: &Evidence, marks: Marks, pongs: OwedPongs) -> Option<LooseWhy>
-    requires { AreOwedFindings (without_pings x.now) pongs }
-    ensures { MatchOption result ((why : LooseWhy) → IsLooseByProtocol tested (without_pings x.now) marks why → ⊥)
-        (IsLowest LooseWhy loose_number (IsLooseByProtocol tested (without_pings x.now) marks)) }
+fn first_loose(tested: Role, marked: &MarkedEvidence, pongs: OwedPongs) -> Option<LooseWhy>
+    requires { AreOwedFindings (counted_of marked.now) pongs }
+    ensures { MatchOption result
+        ((why : LooseWhy) → IsLooseByProtocol tested (counted_of marked.now) marked.now.marks why → ⊥)
+        (IsLowest LooseWhy loose_number (IsLooseByProtocol tested (counted_of marked.now) marked.now.marks)) }
 {
+    let x = &marked.evidence;
+    let marks = marked.marks;
     if pongs.skips_one || pongs.lacks_last {
         return Some(LooseWhy::PongsSkipped);
     }
     if has_other_code(x) && !has_own_close(x) {
         return Some(LooseWhy::OtherCode);
     }
-    if ends_late(tested, x) && !has_own_close(x) {
+    if ends_late(tested, x) && must_end(x, marks) && !has_own_close(x) {
         return Some(LooseWhy::LateEnd);
     }
     if x.ended == Ended::Broken {
@@ -330,17 +313,39 @@ fn loose_end(tested: Role, x: &Evidence, marks: Marks) -> Option<LooseWhy>
     if marks.is_late && !is_closed && x.ended == Ended::Tester {
         return Some(LooseWhy::LateFault);
     }
-    if is_tolerable(&x.due.ending) && x.ended == Ended::Tester {
+    if is_tolerated(tested, x) {
         return Some(LooseWhy::Tolerated);
     }
-    if lacks_close(x) {
+    if has_no_close(x, marks) {
         return Some(LooseWhy::NoClose);
     }
-    if tested == Role::Server && is_closed && x.got.has_rest && marks.has_controls {
+    if is_closed && x.got.has_rest && marks.has_controls {
         return Some(LooseWhy::BehindClose);
     }
     if is_too_big(&x.got.ending) {
         return Some(LooseWhy::TooBig);
     }
     None
+}
+
+/// Whether the tester ended the connection after a fault for which the standard doesn't order an end to fail, with a
+/// client before its close.
+fn is_tolerated(tested: Role, x: &Evidence) -> bool
+    ensures { IsTrue result ↔ IsTolerated tested (without_pings x.now) }
+{
+    if !is_tolerable(&x.due.ending) || x.ended != Ended::Tester {
+        return false;
+    }
+    tested == Role::Server || !ends_with_close(&x.got.ending)
+}
+
+/// Whether no close was got, and one was sent, or a fault at which the tested end had to fail the connection and that
+/// it had time for.
+fn has_no_close(x: &Evidence, marks: Marks) -> bool
+    ensures { IsTrue result ↔ HasNoClose (without_pings x.now) marks }
+{
+    if ends_with_close(&x.got.ending) || !must_end(x, marks) {
+        return false;
+    }
+    ends_with_close(&x.due.ending) || x.ended == Ended::Tester
 }

@@ -23,6 +23,7 @@ returns c =
       got = subst (λ (d : Direction). IsDirectionOf (other_role c.args.tested) told_in (got_turns transcript.turns) d)
           (sym is_counted.got) told.ensures.evidence.got;
       beyond = told.ensures.beyond;
+      found = c.in_ok-found.ensures (other_role c.args.tested) told.ensures.streams.got;
       turns = refl;
       ended = refl;
     }

@@ -1,6 +1,10 @@
 -- The close that counts stands in the turn of the fault, so what is known of doom stays known.
+use Rattle.std.proofs.Common.{◌≡◌, [], MatchBool, subst, sym}
 use Rattle.std.specs.List.{concat}
+use Rattle.ws_suite.specs.declared.evidence.Direction.{Direction}
 use Rattle.ws_suite.specs.Evidence.{got_turns, other_role, sent_turns}
+use Rattle.ws_suite.specs.Marks.{ArePongsBehind}
+use Rattle.ws_suite.specs.Matching.{ends_with_close}
 use Rattle.ws_suite.proofs.CountedLemmas.{dooms_of_counted}
 use Rattle.ws_suite.proofs.judging.marked_with_doom.Goals as goal
 
@@ -18,6 +22,9 @@ returns c =
       closed.closed.evidence,
       closed.ensures.closed,
       c.with_doom-counted.ensures,
+      subst (λ (d : Direction). MatchBool (ends_with_close d.ending)
+          (ArePongsBehind (other_role c.args.tested) (got_turns c.args.transcript.now.turns) closed.closed.behind)
+          (closed.closed.behind ≡ [])) (sym c.with_doom-counted.ensures.got) closed.ensures.behind,
       closed.ensures.marks,
       closed.ensures.beyond,
     )

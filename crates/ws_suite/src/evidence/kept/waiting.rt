@@ -1,6 +1,7 @@
 //! Replies that wait for others: those that have waited longest are taken away first.
 
-ghost use Rattle.std.specs.Prelude.{◌≡◌, ◌↔◌, ◌≤◌, ◌∷◌, ◌++◌, [], List, drop, find, length, IsTrue, None, OnOk, Some};
+ghost use Rattle.std.specs.Prelude.{◌≡◌, ◌↔◌, ◌≤◌, ◌∷◌, ◌++◌, [], List, drop, find, length, IsTrue, None, OnErr, OnOk};
+ghost use Rattle.std.specs.Prelude.{Some};
 ghost use Rattle.ws_suite.specs.declared.evidence.InTurn.{InTurn};
 ghost use Rattle.ws_suite.specs.declared.evidence.Reply.{Reply};
 ghost use Rattle.ws_suite.specs.InnerWaiting.{IsPlaceOfMatch};
@@ -53,7 +54,8 @@ impl Waiting {
 
     /// One more reply, behind the others.
     pub(crate) fn push(&mut self, reply: Kept<'_>) -> Result<(), NoMemory>
-        ensures { OnOk result (self.new ≡ self.old ++ reply_in reply.entry ∷ []) }
+        ensures ok { OnOk result (self.new ≡ self.old ++ reply_in reply.entry ∷ []) }
+        ensures err { OnErr result (self.new ≡ self.old) }
     {
         let head = Head::of(&reply)?;
         self.heads.reserve(1)?;
@@ -101,17 +103,35 @@ impl Waiting {
         self.make_room();
     }
 
-    /// Where more than half of what is kept is gone, the rest moves to the front: so nothing is kept for long that is
-    /// gone, and each reply moves once.
+    /// Where more than half of what is kept is gone, of the heads or of the bytes, the rest moves to the front: so
+    /// nothing is kept for long that is gone, and no more moves than has gone.
     fn make_room(&mut self)
         ensures { self.new ≡ self.old }
     {
         if self.is_empty() {
             self.clear();
-        } else if self.heads_gone > self.heads.len() / 2 {
+        } else {
+            self.move_heads();
+            self.move_bytes();
+        }
+    }
+
+    /// The heads move.
+    fn move_heads(&mut self)
+        ensures { self.new ≡ self.old }
+    {
+        if self.heads_gone > self.heads.len() / 2 {
             drop_heads(&mut self.heads, self.heads_gone);
-            drop_bytes(&mut self.payloads, self.bytes_gone);
             self.heads_gone = 0;
+        }
+    }
+
+    /// The bytes move.
+    fn move_bytes(&mut self)
+        ensures { self.new ≡ self.old }
+    {
+        if self.bytes_gone > self.payloads.len() / 2 {
+            drop_bytes(&mut self.payloads, self.bytes_gone);
             self.bytes_gone = 0;
         }
     }
@@ -139,7 +159,7 @@ fn drop_heads(heads: &mut Vec<Head>, count: usize)
     heads.truncate(left);
 }
 
-/// Drops so many bytes from the front of some.
+/// Drops so many bytes from the front of some, and gives back room that is more than twice what is left.
 fn drop_bytes(bytes: &mut Vec<u8>, count: usize)
     requires { count ≤ length bytes.old.items }
     ensures { bytes.new.items ≡ drop count bytes.old.items }
@@ -147,6 +167,7 @@ fn drop_bytes(bytes: &mut Vec<u8>, count: usize)
     let left = bytes.len() - count;
     bytes.copy_within(count.., 0);
     bytes.truncate(left);
+    bytes.shrink_to(left.saturating_mul(2));
 }
 
 /// How many replies stand up to the first that has the payload of this pong, and with it, if one has it.

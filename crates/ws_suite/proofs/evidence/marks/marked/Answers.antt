@@ -1,17 +1,29 @@
 -- The marks, and the close that counts, are of what is told of both directions.
-use Rattle.std.proofs.Common.{◌≡◌, ◌∙◌, ◌↔◌, ℕ, true, false, drop, List, Option, sym, refl, subst, inl}
+use Rattle.std.proofs.Common.{◌≡◌, ◌∙◌, ◌↔◌, ℕ, Bool, true, false, drop, List, [], MatchBool, Option, sym, refl, subst}
+use Rattle.std.proofs.Common.{inl}
 use Rattle.std.specs.List.{concat}
 use Rattle.ws_wire.specs.declared.role.Role.{Role}
 use Rattle.ws_scripts.specs.declared.transcript.Turn.{Turn}
 use Rattle.ws_suite.specs.Evidence.{got_turns, other_role, sent_turns}
 use Rattle.ws_suite.specs.Explanation.{IsBeyondClose}
 use Rattle.ws_suite.specs.InnerMarks.{IsTurnOfPlace}
-use Rattle.ws_suite.specs.Marks.{AreControls}
+use Rattle.ws_suite.specs.Marks.{AreControls, ArePongsBehind}
 use Rattle.ws_suite.specs.Matching.{ends_with_close}
 use Rattle.ws_suite.proofs.MarkedStreams.{beyond_close, evidence_counted, marks_are}
 use Rattle.ws_suite.proofs.ToldLemmas.{all_asked, behind_told, got_told, sent_told}
 use Rattle.ws_suite.proofs.evidence.marks.marked.Goals as goal
-use Rattle.ws_suite.proofs.evidence.marks.marked.Goals.{then-ends_with_close, else-ends_with_close}
+use Rattle.ws_suite.proofs.evidence.marks.marked.Goals.{then-is_closed, else-is_closed}
+
+pub answers_behind-requires : goal.answers_behind-requires
+answers_behind-requires c =
+    got_told c.args.tested c.args.transcript.now c.args.streams c.args.transcript.now.turns c.in_ok-got.got
+    c.requires.streams refl c.in_ok-got.ensures
+
+pub returns-clause-behind : goal.returns-clause-behind
+returns-clause-behind c =
+    subst (λ (b : Bool). MatchBool b
+    (ArePongsBehind (other_role c.args.tested) (got_turns c.args.transcript.now.turns) c.in_ok-behind.behind)
+    (c.in_ok-behind.behind ≡ [])) c.ends_with_close-is_closed.ensures c.in_ok-behind.ensures
 
 pub is_late-requires : goal.is_late-requires
 is_late-requires c =
@@ -81,14 +93,14 @@ returns-clause-beyond c =
     let got = c.in_ok-got.got in
     let told = got_told c.args.tested c.args.transcript.now c.args.streams c.args.transcript.now.turns got
     c.requires.streams refl c.in_ok-got.ensures in
-    elim c.if-ends_with_close.branch [
-      | then-ends_with_close w ↦
-          let closes : ends_with_close ending ≡ true = sym c.ends_with_close.ensures ∙ w.if-ends_with_close.true in
+    elim c.if-is_closed.branch [
+      | then-is_closed w ↦
+          let closes : ends_with_close ending ≡ true = sym c.ends_with_close-is_closed.ensures ∙ w.if-is_closed.true in
           let found = w.got_turn-beyond.ensures in
           subst (λ (o : Option ℕ). IsBeyondClose role turns ending o) (sym w.beyond-is)
           (beyond_close role (concat turns) got.seen told.is_seen turns refl ending closes w.got_turn-beyond.result
           found)
-      | else-ends_with_close w ↦
-          let open_end : ends_with_close ending ≡ false = sym c.ends_with_close.ensures ∙ w.if-ends_with_close.false in
+      | else-is_closed w ↦
+          let open_end : ends_with_close ending ≡ false = sym c.ends_with_close-is_closed.ensures ∙ w.if-is_closed.false in
           subst (λ (o : Option ℕ). IsBeyondClose role turns ending o) (sym w.beyond-is) (inl open_end)
     ]

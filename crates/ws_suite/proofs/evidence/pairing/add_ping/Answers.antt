@@ -22,5 +22,5 @@ returns-in_ok-push c = λ dues gots h.
     let r = reply_in c.args.due in
     let old = c.args.unmatched.now in
     let waits = subst (λ (b : Bool). WaitsFor old r b) c.if-waits_for.false c.waits_for.ensures in
-    subst (λ (l : List (InTurn Reply)). ArePaired (dues ++ r ∷ []) gots l old) (sym c.in_ok-push.ensures)
+    subst (λ (l : List (InTurn Reply)). ArePaired (dues ++ r ∷ []) gots l old) (sym c.in_ok-push.ensures.ok)
     (due_waits dues gots c.args.pings.now old r waits h)

@@ -16,7 +16,7 @@ returns-then-not-is_empty c = λ dues gots h.
     let old = c.args.unmatched.now in
     let some : old ≡ [] → ⊥ = λ none. (let wrong : false ≡ true = sym c.if-not-is_empty.true
     ∙ c.is_empty.ensures.1 none in cc) in
-    subst (λ (l : List (InTurn Reply)). ArePaired dues (gots ++ r ∷ []) pings l) (sym c.in_ok-push.ensures)
+    subst (λ (l : List (InTurn Reply)). ArePaired dues (gots ++ r ∷ []) pings l) (sym c.in_ok-push.ensures.ok)
     (others_wait dues gots pings old r some h)
 
 -- it has a match
@@ -44,6 +44,6 @@ returns-in_ok-push-2 c = λ dues gots h.
     let met = first_waits dues gots pings r nowhere
     (subst (λ (l : List (InTurn Reply)). ArePaired dues gots pings l) none h) in
     let kept : c.push-then-not-answer.new.self ≡ r ∷ [] =
-    c.in_ok-push-2.ensures ∙ ap (λ (l : List (InTurn Reply)). l ++ r ∷ []) none in
+    c.in_ok-push-2.ensures.ok ∙ ap (λ (l : List (InTurn Reply)). l ++ r ∷ []) none in
     subst (λ (l : List (InTurn Reply)). ArePaired dues (gots ++ r ∷ []) c.answer.new.pings l) (sym kept)
     (subst (λ (l : List (InTurn Reply)). ArePaired dues (gots ++ r ∷ []) l (r ∷ [])) (sym same) met)

@@ -14,7 +14,7 @@ returns-in_ok-push-in-Nobody c = λ alls all_others h.
     let mine = c.args.mine.now in
     let others = c.args.others.now in
     subst (λ (l : List (InTurn Reply)). AreLeftOf (alls ++ what_of c.args.reply ∷ []) all_others (bare l) (bare others))
-    (sym c.in_ok-push-in-Nobody.ensures)
+    (sym c.in_ok-push-in-Nobody.ensures.ok)
     (left_alone alls all_others mine others r (what_of c.args.reply) refl h c.in-Nobody.ensures)
 
 pub returns-in-Same : goal.returns-in-Same

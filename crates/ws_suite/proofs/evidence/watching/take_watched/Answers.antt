@@ -1,4 +1,4 @@
--- The fronts are taken one after the other, and each event is noted.
+-- The parts are taken one after the other, and what each tells is noted.
 use Rattle.std.proofs.Common.{◌≡◌, ◌∙◌, ◌-◌, ◌||◌, ◌≤◌, ◌++◌, ◌∷◌, [], Bool, ℕ, List, ap, ap₂}
 use Rattle.std.proofs.Common.{sym, subst, refl, arith, rules, length, take, drop, append_assoc, append-nil}
 use Rattle.std.proofs.lemmas.List.{length-drop, take-append-drop, take-append-le, take_all}
@@ -28,43 +28,28 @@ loop-rest-init g c = (
 
 pub loop-rest-preserved : goal.loop-rest-preserved
 loop-rest-preserved g c =
-    let rest = c.loop-rest.rest.now in
-    let front = c.in_ok-front.front in
-    let used = front.used in
-    let cut = c.cut_part.result.0.now in
-    let part = take used rest in
-    let whole : cut ++ c.cut_part.result.1.now ≡ rest = c.cut_part.ensures.whole in
-    let fits : used ≤ length cut = c.in_ok-front.ensures.used.1 in
-    let same : take used cut ≡ part =
-    sym (take-append-le used cut c.cut_part.result.1.now fits) ∙ ap (λ (l : List ℕ). take used l) whole in
-    let after = take (length rest - used) (drop used rest) in
-    let all : after ≡ drop used rest =
-    take_all (length rest - used) (drop used rest) (omega (arith, length-drop used rest)) in
-    let split : rest ≡ part ++ after = sym (take-append-drop used rest) ∙ ap (λ (l : List ℕ). part ++ l) (sym all) in
-    let h = c.in_ok-front.ensures in
+    let part = c.cut_part.result.0.now in
+    let after = c.cut_part.result.1.now in
+    let split : c.loop-rest.rest.now ≡ part ++ after = sym c.cut_part.ensures.whole in
+    let h = c.in_ok-has_progress.ensures in
     let i = c.loop-rest.invariant in
     let later = i.3.0 in
-    let more : List Event = option_to_list (event_if_any front.event c.payload.result.now) in
+    let (more, tells, noted, told) = h.noted in
     let way = c.args.way in
     let pings = c.args.pings.now in (
       i.0 ++ part,
       i.1 ∙ (ap (λ (l : List ℕ). i.0 ++ l) split ∙ sym (append_assoc i.0 part after)),
       λ handed role turns last number taken.
           subst (λ (l : List ℕ). HasTakenWay (g.K.KeepsReplies.keeps handed) way role (turns ++ l ∷ [])
-          c.take_front.new.taken.session c.take_front.new.taken.collected)
-          (ap (λ (l : List ℕ). (last ++ i.0) ++ l) same ∙ append_assoc last i.0 part)
-          (h.taken c.session_laws.ensures handed role turns (last ++ i.0) number (i.2 handed role turns last number taken)),
+          c.take_watched_part.new.taken.session c.take_watched_part.new.taken.collected)
+          (append_assoc last i.0 part)
+          (h.taken handed role turns (last ++ i.0) number (i.2 handed role turns last number taken)),
       (
         later ++ more,
-        tells_more c.args.taken.now.session c.loop-rest.taken.session c.take_front.new.taken.session i.0 part later more
-            i.3.1 (subst (λ (l : List ℕ). TellsAdded c.loop-rest.taken.session c.take_front.new.taken.session part
-            (option_to_list (event_if_any front.event l))) (sym c.payload.ensures)
-            (subst (λ (l : List ℕ). TellsAdded c.loop-rest.taken.session c.take_front.new.taken.session l
-            (option_to_list (event_if_any front.event c.take_front.new.rooms.told))) same h.told)),
-        c.in_ok-progress.ensures.pings ∙ ap (λ (p : List (List ℕ)). noted_pings way p more) i.3.2
-            ∙ sym (noted_more way pings later more),
-        c.in_ok-progress.ensures.progress
-            ∙ ap₂ (λ (a b : Bool). a || b) (ap (λ (p : List (List ℕ)). notes_progress way p more) i.3.2) i.3.3
+        tells_more c.args.taken.now.session c.loop-rest.taken.session c.take_watched_part.new.taken.session i.0 part
+            later more i.3.1 tells,
+        noted ∙ ap (λ (p : List (List ℕ)). noted_pings way p more) i.3.2 ∙ sym (noted_more way pings later more),
+        c.or_before-progress.ensures ∙ ap₂ (λ (a b : Bool). a || b) (told ∙ ap (λ (p : List (List ℕ)). notes_progress way p more) i.3.2) i.3.3
             ∙ or_other (notes_progress way (noted_pings way pings later) more) (notes_progress way pings later)
             ∙ sym (notes_more way pings later more),
       ),

@@ -4,29 +4,30 @@ use Rattle.std.proofs.Common.{append_assoc, append-nil}
 use Rattle.ws_suite.specs.declared.evidence.InTurn.{InTurn}
 use Rattle.ws_suite.specs.declared.evidence.Reply.{Reply}
 use Rattle.ws_suite.specs.declared.judging.owed.OwedPongs.{OwedPongs}
-use Rattle.ws_suite.specs.InnerJudging.{without_pings}
-use Rattle.ws_suite.specs.InnerMarks.{AreMet, AreLastTurns}
+use Rattle.ws_suite.specs.InnerMarks.{AreLastTurns, counted_of}
 use Rattle.ws_suite.specs.Kept.{reply_in}
 use Rattle.ws_suite.specs.Matching.{due_pongs, got_pongs}
 use Rattle.ws_suite.specs.Protocol.{is_answered, is_owed}
+use Rattle.ws_suite.proofs.CountedPongs.{counted_turns, met_counted}
+use Rattle.ws_suite.proofs.LastTurns.{no_turns}
 use Rattle.ws_suite.proofs.OwedLemmas.{AreSoFar, found_of_all, found_of_met, later_more, none_so_far, owed_more}
-use Rattle.ws_suite.proofs.TellingLemmas.{same_pongs}
 use Rattle.ws_suite.proofs.judging.owed.owed_pongs.Goals as goal
 use Rattle.ws_suite.proofs.judging.owed.owed_pongs.Goals.{then-lacks_last, else-lacks_last}
 
 pub loop-ping-init : goal.loop-ping-init
-loop-ping-init c = ([], sym c.among-pings.ensures, none_so_far (without_pings c.args.x.now))
+loop-ping-init c = ([], sym c.among-pings.ensures, none_so_far (counted_of c.args.marked.now))
 
 pub loop-ping-preserved-then-is_owed : goal.loop-ping-preserved-then-is_owed
 loop-ping-preserved-then-is_owed c =
     let i = c.loop-ping.invariant in
-    let x = without_pings c.args.x.now in
+    let x = counted_of c.args.marked.now in
     let ping = c.in-Some.ping in
     let first = reply_in ping in
     let answered = c.is_answered-is_answered.result in
     let left : c.loop-ping.pings ≡ first ∷ c.next.new.self = search rules in
-    let turns = subst (λ (l : List (InTurn Reply)). AreLastTurns l c.in_ok-turns.turns)
-    (c.among.ensures ∙ same_pongs c.args.x.now.got.replies) c.in_ok-turns.ensures in
+    let none = no_turns c.new-turns.result c.new-turns.ensures.empty in
+    let turns = counted_turns c.args.marked.now c.among.result c.among-2.result c.note_turns-2.new.turns c.among.ensures
+    c.among-2.ensures (c.in_ok-note_turns-2.ensures c.among.result (c.in_ok-note_turns.ensures [] none)) in
     let is : answered ≡ is_answered x first = c.is_answered-is_answered.ensures (got_pongs x) turns in
     let owed : is_owed x first ≡ true = sym (c.is_owed.ensures first refl) ∙ search rules in (
       i.0 ++ first ∷ [],
@@ -38,13 +39,14 @@ loop-ping-preserved-then-is_owed c =
 pub loop-ping-preserved : goal.loop-ping-preserved
 loop-ping-preserved c =
     let i = c.loop-ping.invariant in
-    let x = without_pings c.args.x.now in
+    let x = counted_of c.args.marked.now in
     let ping = c.in-Some.ping in
     let first = reply_in ping in
     let answered = c.is_answered-is_answered.result in
     let left : c.loop-ping.pings ≡ first ∷ c.next.new.self = search rules in
-    let turns = subst (λ (l : List (InTurn Reply)). AreLastTurns l c.in_ok-turns.turns)
-    (c.among.ensures ∙ same_pongs c.args.x.now.got.replies) c.in_ok-turns.ensures in
+    let none = no_turns c.new-turns.result c.new-turns.ensures.empty in
+    let turns = counted_turns c.args.marked.now c.among.result c.among-2.result c.note_turns-2.new.turns c.among.ensures
+    c.among-2.ensures (c.in_ok-note_turns-2.ensures c.among.result (c.in_ok-note_turns.ensures [] none)) in
     let is : answered ≡ is_answered x first = c.is_answered-is_answered.ensures (got_pongs x) turns in
     let owed : is_owed x first ≡ false = sym (c.is_owed.ensures first refl) ∙ search rules in (
       i.0 ++ first ∷ [],
@@ -55,17 +57,16 @@ loop-ping-preserved c =
 
 pub returns-then-are_all_met : goal.returns-then-are_all_met
 returns-then-are_all_met c =
-    let x = c.args.x.now in
-    let all = subst (λ (l : List (InTurn Reply)). AreMet (due_pongs x) l) (same_pongs x.got.replies)
-    (c.are_all_met.ensures c.if-are_all_met.true) in
-    found_of_met (without_pings x) c.all_met.result all
+    let m = c.args.marked.now in
+    let all = met_counted m (c.are_all_met.ensures c.if-are_all_met.true) in
+    found_of_met (counted_of m) c.all_met.result all
     (ap (λ (found : OwedPongs). found.lacks_last) c.all_met.ensures)
     (ap (λ (found : OwedPongs). found.skips_one) c.all_met.ensures)
 
 pub returns : goal.returns
 returns c =
     let i = c.loop-ping.invariant in
-    let x = without_pings c.args.x.now in
+    let x = counted_of c.args.marked.now in
     let none : c.loop-ping.pings ≡ [] = search rules in
     let all : i.0 ≡ due_pongs x =
     sym (i.1 ∙ (ap (λ (l : List (InTurn Reply)). i.0 ++ l) none ∙ append-nil i.0)) in

@@ -11,8 +11,8 @@ use Rattle.ws_suite.specs.Matching.{is_pong}
 use Rattle.ws_suite.proofs.GrowingLemmas.{pong_kept}
 use Rattle.ws_suite.proofs.evidence.keeping.ReplyTally.keep.Goals as goal
 
-pub returns-then-answers : goal.returns-then-answers
-returns-then-answers c = λ replies h.
+pub returns-then-answers-clause-tally : goal.returns-then-answers-clause-tally
+returns-then-answers-clause-tally c = λ replies h.
     let tally = c.args.self.now in
     let turn = c.args.reply.turn in
     let payload = c.args.reply.payload.now in
@@ -30,8 +30,8 @@ returns-then-answers c = λ replies h.
     (λ e. inr (subst (λ (o : Option (InTurn Reply)). IsAnsweredPong tally.wanted o) kept
     (c.answers.ensures.0 c.if-answers.true))) h)
 
-pub returns-else-answers : goal.returns-else-answers
-returns-else-answers c = λ replies h.
+pub returns-else-answers-clause-tally : goal.returns-else-answers-clause-tally
+returns-else-answers-clause-tally c = λ replies h.
     let tally = c.args.self.now in
     let turn = c.args.reply.turn in
     let payload = c.args.reply.payload.now in

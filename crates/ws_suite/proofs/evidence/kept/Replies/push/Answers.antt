@@ -25,8 +25,8 @@ invariant_of-self-2 c =
     )
     ∙ ap (λ (l : List ℕ). length l) (sym payloads))
 
-pub returns : goal.returns
-returns c =
+pub returns-clause-ok : goal.returns-clause-ok
+returns-clause-ok c =
     let payload = c.args.reply.payload.now in
     let head : Head = c.in_ok-head.head in
     let heads : c.push_reserved.new.self.items ≡ c.self.inside.heads.items ++ head ∷ [] = search rules in

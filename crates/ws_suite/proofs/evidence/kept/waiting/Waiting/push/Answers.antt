@@ -21,8 +21,8 @@ invariant_of-self-2 c =
     (subst (λ (l : List ℕ). HasPlaces (old.heads.items ++ head ∷ []) l old.heads_gone old.bytes_gone) (sym payloads)
     (places_more old.heads.items old.payloads.items old.heads_gone old.bytes_gone c.self.invariant head payload is_head.len))
 
-pub returns : goal.returns
-returns c =
+pub returns-clause-ok : goal.returns-clause-ok
+returns-clause-ok c =
     let old = c.self.inside in
     let payload = c.args.reply.payload.now in
     let head : Head = c.in_ok-head.head in

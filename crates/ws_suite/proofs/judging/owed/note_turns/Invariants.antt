@@ -3,11 +3,12 @@ use Rattle.std.proofs.Common.{◌≡◌, ◌++◌, List, length}
 use Rattle.ws_suite.specs.InnerMarks.{AreLastTurns}
 use Rattle.ws_suite.specs.declared.evidence.InTurn.{InTurn}
 use Rattle.ws_suite.specs.declared.evidence.Reply.{Reply}
-use Rattle.ws_suite.proofs.judging.owed.last_turns.Given as goal
+use Rattle.ws_suite.proofs.judging.owed.note_turns.Given as goal
 
--- the last turns of those that were passed
+-- the last turns of those that were there and those that were passed
 abbrev pub invariant-loop-pong : goal.invariant-loop-pong
-invariant-loop-pong l = (done : List (InTurn Reply)) × (l.fn.pongs ≡ done ++ l.left) × AreLastTurns done l.turns
+invariant-loop-pong l = (done : List (InTurn Reply)) × (l.fn.pongs ≡ done ++ l.left)
+    × ((gots : List (InTurn Reply)) → AreLastTurns gots l.fn.turns → AreLastTurns (gots ++ done) l.turns)
 
 abbrev pub decreases-loop-pong : goal.decreases-loop-pong
 decreases-loop-pong l = length l.left

@@ -1,20 +1,25 @@
 -- One pong more: the last turn of its payload is its own or the one known before, and the other payloads keep theirs.
-use Rattle.std.proofs.Common.{◌≡◌, ◌∙◌, ◌++◌, ◌∷◌, [], ℕ, List, Option, Some, ap, refl, sym, rules, append_assoc}
+use Rattle.std.proofs.Common.{◌≡◌, ◌∙◌, ◌++◌, ◌∷◌, [], ℕ, List, Option, Some, ap, refl, sym, subst, rules}
+use Rattle.std.proofs.Common.{append_assoc, append-nil}
 use Rattle.std.proofs.lemmas.Map.Text.{btree_map_updates_str}
 use Rattle.std.specs.Map.{update}
 use Rattle.std.specs.Str.{bytes_eq}
 use Rattle.ws_suite.specs.declared.evidence.InTurn.{InTurn}
 use Rattle.ws_suite.specs.declared.evidence.Reply.{Reply}
-use Rattle.ws_suite.specs.InnerMarks.{latest}
+use Rattle.ws_suite.specs.InnerMarks.{AreLastTurns, latest}
 use Rattle.ws_suite.specs.Kept.{reply_in}
 use Rattle.ws_suite.specs.Matching.{payload_of}
 use Rattle.ws_suite.proofs.KeptLemmas.{payload_kept}
-use Rattle.ws_suite.proofs.LastTurns.{no_turns, turns_more}
+use Rattle.ws_suite.proofs.LastTurns.{turns_more}
 use Rattle.ws_suite.proofs.PlaceLemmas.{known}
-use Rattle.ws_suite.proofs.judging.owed.last_turns.Goals as goal
+use Rattle.ws_suite.proofs.judging.owed.note_turns.Goals as goal
 
 pub loop-pong-init : goal.loop-pong-init
-loop-pong-init c = ([], refl, no_turns c.new-turns.result c.new-turns.ensures.empty)
+loop-pong-init c = (
+  [],
+  refl,
+  λ gots h. subst (λ (l : List (InTurn Reply)). AreLastTurns l c.args.turns.now) (sym (append-nil gots)) h,
+)
 
 pub loop-pong-preserved : goal.loop-pong-preserved
 loop-pong-preserved c =
@@ -35,5 +40,14 @@ loop-pong-preserved c =
     (sym (payload_kept pong.kind pong.payload.now)) in (
       i.0 ++ first ∷ [],
       i.1 ∙ (ap (λ (l : List (InTurn Reply)). i.0 ++ l) left ∙ sym (append_assoc i.0 (first ∷ []) c.next.new.self)),
-      turns_more i.0 first last old new i.2 is moved,
+      λ gots h. subst (λ (l : List (InTurn Reply)). AreLastTurns l new) (append_assoc gots i.0 (first ∷ []))
+          (turns_more (gots ++ i.0) first last old new (i.2 gots h) is moved),
     )
+
+pub returns : goal.returns
+returns c = λ gots h.
+    let i = c.loop-pong.invariant in
+    let none : c.loop-pong.left ≡ [] = search rules in
+    let all : i.0 ≡ c.args.pongs =
+    sym (i.1 ∙ (ap (λ (l : List (InTurn Reply)). i.0 ++ l) none ∙ append-nil i.0)) in
+    subst (λ (l : List (InTurn Reply)). AreLastTurns (gots ++ l) c.loop-pong.turns) all (i.2 gots h)
