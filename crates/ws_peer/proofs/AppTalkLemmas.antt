@@ -26,7 +26,8 @@ use Rattle.ws_peer.specs.declared.app_peer.AppStep.{AppStep}
 use Rattle.ws_peer.specs.declared.peer.Going.{Going}
 use Rattle.ws_peer.specs.declared.peer.Going.TheVariants.{Ended, More}
 use Rattle.ws_peer.specs.Talks.{Entry, Fed, Finished, PeerEnd, PlannedStep, Says, fed_by, fed_in}
-use Rattle.ws_peer.specs.Apps.{AppHistory, AppPeerValue, IsAppTalk, MayHaveSaid, SaysAfter, SendsOwn, TakesFed, closes_next, nothing_said, plan_after, planned, planned_in, taken_next, taken_of_fed}
+use Rattle.ws_sends.specs.declared.keyed_send.KeyedSend.{KeyedSend}
+use Rattle.ws_peer.specs.Apps.{AppHistory, AppPeerValue, AreFramesOfSends, IsAppTalk, MayHaveSaid, SaysAfter, SendsOwn, TakesFed, nothing_said, plan_after, planned, planned_in, sends_next, taken_next, taken_of_fed}
 use Rattle.ws_peer.specs.EchoTalks.{HasTakenSomething}
 use Rattle.ws_peer.specs.InnerAppLaws.{AppLaws}
 use Rattle.ws_peer.proofs.Echoing.{at_equal, call_of, nothing_is_valid}
@@ -187,8 +188,8 @@ said_finished peer end talk had =
 
 -- ---- a piece was fed
 
--- what is known of the call: a session took some more of what was fed, and then sent frames of its own
-pub record IsStep (may_close : Bool) (old new : AppPeerValue) (mid : SessionValue) (count : ℕ) (piece before middle after : List ℕ) : Type 0 where
+-- what is known of the call: a session took some more of what was fed, and then did the sends of its plan
+pub record IsStep (sends : List KeyedSend) (old new : AppPeerValue) (mid : SessionValue) (count : ℕ) (piece before middle after : List ℕ) : Type 0 where
   pub short : old.taken ≤ length old.fed
   pub key : new.key ≡ old.key
   pub plan : new.plan ≡ old.plan
@@ -200,8 +201,8 @@ pub record IsStep (may_close : Bool) (old new : AppPeerValue) (mid : SessionValu
   pub told_before : List PlacedEvent
   pub told_after : List PlacedEvent
   pub took : HasTakenAll reply_to old.session mid (call_of (take count (drop old.taken new.fed)) old.key before middle) told_before told_after
-  pub own : SendsOwn may_close mid new.session middle after
-  pub closes : closes_next (drop old.done old.plan) ≡ false → may_close ≡ false
+  pub own : SendsOwn sends mid new.session middle after
+  pub sends_so : sends_next (drop old.done old.plan) ≡ sends
 
 abbrev exchange_of : List Frame → List ℕ → Exchange
 exchange_of sent taken = record { sent = sent; taken = taken; ended = false }
@@ -219,7 +220,7 @@ ended_by : (over : Bool) → (cond over Ended More ≡ Ended) ↔ (over ≡ true
 ended_by true = (λ e. refl, λ e. refl)
 ended_by false = (λ e. absurd cc, λ e. absurd cc)
 
-module _ (laws : AppLaws) (may_close : Bool) (old new : AppPeerValue) (mid : SessionValue) (count : ℕ) (piece before middle after : List ℕ) (step : IsStep may_close old new mid count piece before middle after) where
+module _ (laws : AppLaws) (sends : List KeyedSend) (old new : AppPeerValue) (mid : SessionValue) (count : ℕ) (piece before middle after : List ℕ) (step : IsStep sends old new mid count piece before middle after) where
   -- the peer before the call: after this talk, with this sent
   module _ (end : PeerEnd) (talk : List Entry) (sent : List Frame) (was_valid : AreValidFrames most_limits sent) (role : old.session.role ≡ end.role) (limits : old.session.limits ≡ most_limits) (key : old.key ≡ end.key)
       (exchanged : HasExchanged old.session sent (take old.taken old.fed) false) (going : Going) (answered : (going ≡ Ended) ↔ (is_over new.session.status ≡ true)) where
@@ -291,6 +292,14 @@ module _ (laws : AppLaws) (may_close : Bool) (old new : AppPeerValue) (mid : Ses
     ended : (going ≡ Ended) ↔ (is_over (status_of next.sent false (exchanged.events ++ later)) ≡ true)
     ended = subst (λ (s : Status). (going ≡ Ended) ↔ (is_over s ≡ true)) status answered
 
+    sent_so : AreFramesOfSends end.role (exchanged.events ++ later) (sent ++ replies) (sends_next (drop old.done old.plan)) step.own.own
+    sent_so =
+        let told =
+        at_equal old.session.role mid.role old.session.limits mid.limits (sym step.took.same.0) (sym step.took.same.1) between.taken (exchanged.events ++ later) (takes.events exchanged.events exchanged.has_events) in
+        subst (λ (l : List KeyedSend). AreFramesOfSends end.role (exchanged.events ++ later) (sent ++ replies) l step.own.own) (sym step.sends_so)
+        (subst (λ (r : Role). AreFramesOfSends r (exchanged.events ++ later) (sent ++ replies) sends step.own.own) (step.took.same.0 ∙ role)
+        (step.own.are_sent (sent ++ replies) between.taken (exchanged.events ++ later) takes.agrees told))
+
     takes_fed : TakesFed end was next piece (drop (length before) after) going
     takes_fed = record {
       fed = refl;
@@ -303,7 +312,7 @@ module _ (laws : AppLaws) (may_close : Bool) (old new : AppPeerValue) (mid : Ses
       own = step.own.own;
       layout = step.own.layout;
       keys = subst (λ (r : Role). KeysFit (other_role r) step.own.own) (step.took.same.0 ∙ role) step.own.keys;
-      closes = λ free. step.own.closes (step.closes free);
+      are_sent = sent_so;
       sent = refl;
       valid = now_valid;
       put = put;

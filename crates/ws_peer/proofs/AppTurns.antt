@@ -19,10 +19,10 @@ use Rattle.ws_peer.specs.declared.peer.Going.{Going}
 use Rattle.ws_peer.specs.declared.peer.Going.TheVariants.{More, Ended}
 use Rattle.ws_peer.specs.Talks.{Entry, Fed, Finished, PeerEnd, PlannedStep, appended_by, appended_in, fed_by, fed_in}
 use Rattle.ws_peer.specs.Runs.{PeerGoesOn, piece_fed, pieces_in}
-use Rattle.ws_peer.specs.Apps.{AppHistory, IsAppTalk, SaysAfter, SendNoClose, TakesFed, closes_next, plan_after, taken_next, taken_of_fed, waiting_after}
+use Rattle.ws_peer.specs.Apps.{AppHistory, IsAppTalk, SaysAfter, SendNoClose, TakesFed, has_close_send, plan_after, sends_next, taken_next, taken_of_fed, waiting_after}
 use Rattle.ws_peer.specs.InnerAppLaws.{AppLaws}
 use Rattle.ws_peer.proofs.AppReplies.{both_answered, end_closed, go_on_is, none_owed, pings_answered}
-use Rattle.ws_peer.proofs.AppSends.{frames_both, frames_keyed, has_close-append, keys_fit, neither, none_left, none_right, stream_both}
+use Rattle.ws_peer.proofs.AppSends.{frames_both, frames_keyed, has_close-append, keys_fit, neither, no_close_sent, none_left, none_right, stream_both}
 use Rattle.ws_peer.proofs.AppTalkLemmas.{AreCalls, first_call, get_front, get_there, later_calls}
 
 -- from what it had said to what it has said after these calls
@@ -65,7 +65,7 @@ waits_on plan waiting (piece ∷ first) second =
     let left = waiting + length piece - taken_next plan (waiting + length piece) in
     waits_on (plan_after plan) left first second ∙ ap (λ (p : List PlannedStep). waiting_after p (waiting_after (plan_after plan) left first) second) (sym (drop_more (length first) plan))
 
-no_close_next : (plan : List PlannedStep) → SendNoClose plan → closes_next plan ≡ false
+no_close_next : (plan : List PlannedStep) → SendNoClose plan → has_close_send (sends_next plan) ≡ false
 no_close_next [] none = refl
 no_close_next (step ∷ plan) none = none.0
 
@@ -163,7 +163,8 @@ module _ (laws : AppLaws) (end : PeerEnd) (is_key : IsMaskingKey (key_for end.ro
     closes = λ before was h. ap (λ (l : List Frame). has_close l) t.sent ∙ end_closed before t.later old.sent (frames_of t.own) was h;
     quiet = λ none free.
         ap (λ (l : List Frame). has_close l) frames_so
-        ∙ (has_close-append replies (frames_of t.own) ∙ neither (has_close replies) (has_close (frames_of t.own)) (none_owed old.sent t.later free) (t.closes (no_close_next old.plan none)));
+        ∙ (has_close-append replies (frames_of t.own) ∙ neither (has_close replies) (has_close (frames_of t.own)) (none_owed old.sent t.later free)
+        (no_close_sent end.role (t.before ++ t.later) (old.sent ++ replies) (sends_next old.plan) t.own t.are_sent (no_close_next old.plan none)));
   }
 
 ran_one : AppLaws → (end : PeerEnd) → IsMaskingKey (key_for end.role end.key) → (old new : AppHistory) (entry : Entry) → SaysAfter end old new entry → Ran end old new (entry ∷ [])

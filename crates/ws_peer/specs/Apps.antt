@@ -1,20 +1,22 @@
 -- The talks that a tester may have with an application that keeps the protocol: it sends frames of its own as the rules
 -- of sending allow, answers what it takes, and may lag behind what it was fed. RFC 6455 sections 5.4 to 5.6 and 7.1.
-use Rattle.std.specs.Prelude.{◌≡◌, ℕ, ◌+◌, ◌-◌, ◌↔◌, min, Bool, true, false, List, [], ◌∷◌, ◌++◌, length, map, take}
-use Rattle.std.specs.Prelude.{drop, Some, ⊤}
+use Rattle.std.specs.Prelude.{◌≡◌, ℕ, ◌+◌, ◌-◌, ◌⊎◌, ◌↔◌, min, Bool, true, false, List, [], ◌∷◌, ◌++◌, length, map}
+use Rattle.std.specs.Prelude.{take, drop, Some, ⊤}
 use Rattle.std.specs.List.{AllByRecursion, list_any, slice_get}
 use Rattle.ws_wire.specs.declared.role.Role.{Role}
 use Rattle.ws_wire.specs.Header.{AreBytes}
 use Rattle.ws_wire.specs.Frame.{Frame, KeyedFrame, FitsTheLayout, stream_bytes}
 use Rattle.ws_session.specs.declared.event.Event.{Event}
+use Rattle.ws_session.specs.declared.send_fault.SendFault.{SendFault}
 use Rattle.ws_session.specs.Events.{HasEvents}
 use Rattle.ws_session.specs.Exchange.{Exchange, SessionValue, HasExchanged, is_over, status_of}
 use Rattle.ws_session.specs.Faults.{KeysFit, frames_of}
-use Rattle.ws_session.specs.Replies.{has_close, key_for, replies_by, reply_to, under_key}
-use Rattle.ws_session.specs.Sends.{Send, most_limits}
+use Rattle.ws_session.specs.Replies.{key_for, replies_by, reply_to, under_key}
+use Rattle.ws_session.specs.Sends.{Send, IsFirstWrong, MaySend, frame_of, most_limits}
 use Rattle.ws_session.specs.Sends as send
 use Rattle.ws_session.specs.Validity.{AreValidFrames}
-use Rattle.ws_sends.specs.KeyedSends.{send_in}
+use Rattle.ws_sends.specs.declared.keyed_send.KeyedSend.{KeyedSend}
+use Rattle.ws_sends.specs.KeyedSends.{key_in, send_in}
 use Rattle.ws_scripts.specs.Scripts.{AreTurns}
 use Rattle.ws_scripts.specs.declared.script.Case.{Case}
 use Rattle.ws_scripts.specs.declared.transcript.Transcript.{Transcript}
@@ -35,7 +37,7 @@ is_close_send (send.Close close) = true
 is_close_send _ = false
 
 abbrev pub planned : AppStep → PlannedStep
-planned step = record { takes = step.takes; closes = list_any (λ x. is_close_send (send_in x)) step.sends.items }
+planned step = record { takes = step.takes; sends = step.sends.items }
 
 abbrev pub planned_in : List AppStep → List PlannedStep
 planned_in steps = map planned steps
@@ -45,10 +47,10 @@ abbrev pub taken_next : List PlannedStep → ℕ → ℕ
 taken_next [] waiting = waiting
 taken_next (step ∷ plan) waiting = min step.takes waiting
 
--- a close may be sent next
-abbrev pub closes_next : List PlannedStep → Bool
-closes_next [] = false
-closes_next (step ∷ plan) = step.closes
+-- these frames are to be sent next: none where the plan is at its end
+abbrev pub sends_next : List PlannedStep → List KeyedSend
+sends_next [] = []
+sends_next (step ∷ plan) = step.sends
 
 abbrev pub plan_after : List PlannedStep → List PlannedStep
 plan_after [] = []
@@ -66,9 +68,25 @@ TakesAllByTurn plan [] = ⊤
 TakesAllByTurn plan (pieces ∷ turns) = (waiting_after plan 0 pieces ≡ 0)
     × TakesAllByTurn (drop (length pieces) plan) turns
 
+abbrev pub has_close_send : List KeyedSend → Bool
+has_close_send sends = list_any (λ x. is_close_send (send_in x)) sends
+
 -- no step sends a close
 abbrev pub SendNoClose : List PlannedStep → Type 0
-SendNoClose steps = AllByRecursion (λ (step : PlannedStep). step.closes ≡ false) steps
+SendNoClose steps = AllByRecursion (λ (step : PlannedStep). has_close_send step.sends ≡ false) steps
+
+-- ---- sends, one after the other
+
+-- By an endpoint of this role that was told these events and has sent these frames: each send that is refused is passed
+-- by, and any other is the next of the frames, under its key. They are no others.
+abbrev pub AreFramesOfSends : Role → List Event → List Frame → List KeyedSend → List KeyedFrame → Type 0
+AreFramesOfSends role events sent [] frames = frames ≡ []
+AreFramesOfSends role events sent (x ∷ sends) frames =
+    ((fault : SendFault) × IsFirstWrong sent (status_of sent false events) (send_in x) fault
+    × AreFramesOfSends role events sent sends frames)
+    ⊎ (MaySend sent (status_of sent false events) (send_in x)
+    × ((later : List KeyedFrame) × (frames ≡ under_key role (key_in x) (frame_of (send_in x)) ∷ later)
+    × AreFramesOfSends role events (sent ++ frame_of (send_in x) ∷ []) sends later))
 
 -- ---- what an application has said
 
@@ -87,9 +105,9 @@ abbrev pub taken_of_fed : AppHistory → List ℕ
 taken_of_fed history = take history.taken history.fed
 
 -- At this end it was fed a piece: (1) it took as many more of the bytes that it was fed as its plan says; (2) it
--- answered the events of that as any session does (its messages aren't sent back), and then sent frames of its own,
--- under keys that fit, without a close where its plan has none; (3) all that it has sent is valid; (4) these frames are
--- what it appended; (5) it has ended exactly where its session is over.
+-- answered the events of that as any session does (its messages aren't sent back), and then sent those frames of its
+-- plan that may be sent, in order and each under its key, and no others; (3) all that it has sent is valid; (4) these
+-- frames are what it appended; (5) it has ended exactly where its session is over.
 pub record TakesFed (end : PeerEnd) (old new : AppHistory) (piece appended : List ℕ) (going : Going) : Type 0 where
   pub fed : new.fed ≡ old.fed ++ piece
   pub took : new.taken ≡ old.taken + taken_next old.plan (length new.fed - old.taken)
@@ -101,7 +119,8 @@ pub record TakesFed (end : PeerEnd) (old new : AppHistory) (piece appended : Lis
   pub own : List KeyedFrame
   pub layout : AllByRecursion FitsTheLayout own
   pub keys : KeysFit (other_role end.role) own
-  pub closes : closes_next old.plan ≡ false → has_close (frames_of own) ≡ false
+  pub are_sent : AreFramesOfSends end.role (before ++ later) (old.sent ++ replies_by reply_to old.sent later)
+      (sends_next old.plan) own
   pub sent : new.sent ≡ old.sent ++ (replies_by reply_to old.sent later ++ frames_of own)
   pub valid : AreValidFrames most_limits new.sent
   pub put : appended
@@ -150,13 +169,13 @@ pub record MayHaveSaid (peer : AppPeerValue) (end : PeerEnd) (talk : List Entry)
   pub taken : peer.taken ≡ (said (length talk)).taken
   pub rest : drop peer.done peer.plan ≡ (said (length talk)).plan
 
--- A session sends frames, under keys that fit, and a close only where it may: whatever it has exchanged, it has sent
--- these too.
-pub record SendsOwn (may_close : Bool) (old new : SessionValue) (before after : List ℕ) : Type 0 where
+-- A session does these sends, but for those that are refused: whatever it has exchanged, it has sent their frames too.
+pub record SendsOwn (sends : List KeyedSend) (old new : SessionValue) (before after : List ℕ) : Type 0 where
   pub own : List KeyedFrame
   pub layout : AllByRecursion FitsTheLayout own
   pub keys : KeysFit (other_role old.role) own
-  pub closes : may_close ≡ false → has_close (frames_of own) ≡ false
+  pub are_sent : (sent : List Frame) (taken : List ℕ) (events : List Event) → HasExchanged old sent taken false
+      → HasEvents old.role old.limits taken events → AreFramesOfSends old.role events sent sends own
   pub put : after ≡ before ++ stream_bytes own
   pub agrees : (exchange : Exchange) → HasExchanged old exchange.sent exchange.taken exchange.ended
       → HasExchanged new (exchange.sent ++ frames_of own) exchange.taken exchange.ended

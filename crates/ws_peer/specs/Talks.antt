@@ -1,7 +1,8 @@
 -- Talks of a tester with a peer: what the peer was fed, what it sent for that, and whether it went on.
-use Rattle.std.specs.Prelude.{◌≡◌, ℕ, Bool, List, [], ◌∷◌, ◌++◌}
+use Rattle.std.specs.Prelude.{◌≡◌, ℕ, List, [], ◌∷◌, ◌++◌}
 use Rattle.std.specs.List.{flat_map}
 use Rattle.ws_wire.specs.declared.role.Role.{Role}
+use Rattle.ws_sends.specs.declared.keyed_send.KeyedSend.{KeyedSend}
 use Rattle.ws_peer.specs.declared.peer.Going.{Going}
 
 -- One call: a piece was fed, the peer appended these bytes and went on or ended; or it was told that no more comes, and
@@ -29,10 +30,10 @@ appended_in talk = flat_map appended_by talk
 
 -- ---- calls
 
--- a step of a plan: how many of the bytes that it was fed a peer takes at most, and whether it may close by itself
+-- a step of a plan: how many of the bytes that it was fed a peer takes at most, and what it sends then by itself
 pub record PlannedStep : Type 0 where
   pub takes : ℕ
-  pub closes : Bool
+  pub sends : List KeyedSend
 
 -- which end of the connection a peer is, the key with which it masks what it sends where it is the client, and its
 -- plan: a step for each time that it is fed, and none where it takes all and sends nothing by itself

@@ -1,23 +1,22 @@
 //! An application as a peer that needn't echo: it sends what it likes, closes when it likes, and may lag behind what it
 //! was fed (RFC 6455 sections 5.4 to 5.6). By it the verdict by the protocol can be tried.
 
-ghost use Rattle.std.specs.Prelude.{◌≡◌, [], false, if◌then◌else◌, OnOk};
+ghost use Rattle.std.specs.Prelude.{◌≡◌, [], ◌∷◌, false, if◌then◌else◌, IsErr, OnOk, OnErr};
 ghost use Rattle.std.specs.Io.{StartsWith};
-ghost use Rattle.std.specs.List.{list_any};
 ghost use Rattle.ws_session.specs.Exchange.{is_over};
-ghost use Rattle.ws_sends.specs.KeyedSends.{send_in};
 ghost use Rattle.ws_peer.specs.declared.peer.Going.TheVariants.{Ended, More};
-ghost use Rattle.ws_peer.specs.Apps.{MayHaveSaid, SendsOwn, app_end, is_close_send, planned_in};
+ghost use Rattle.ws_peer.specs.Apps.{MayHaveSaid, SendsOwn, app_end, planned_in};
 ghost use Rattle.ws_peer.specs.EchoTalks.{HasTakenSomething};
+ghost use Rattle.ws_peer.specs.InnerAppLaws.{IsDoneOrRefused};
 ghost use Rattle.ws_peer.specs.Talks.{Fed, Says};
 
-use crate::lemmas::app_laws;
+use crate::lemmas::{app_laws, send_laws};
 use crate::peer::{Going, Peer};
 use std::alloc::Global;
 use std::marker::Model;
 use ws_base::NoMemory;
 use ws_sends::KeyedSend;
-use ws_session::{Limits, SendFault, Session, laws};
+use ws_session::{Limits, SendFault, Session};
 use ws_wire::Role;
 
 /// What an application does at one `feed`.
@@ -111,21 +110,42 @@ impl AppPeer {
 
 /// Sends each frame that isn't refused.
 fn send_each(session: &mut Session, sends: &[KeyedSend], out: &mut Vec<u8>) -> Result<(), NoMemory>
-    ensures sent { OnOk result (SendsOwn (list_any (λ x. is_close_send (send_in x)) sends.now) session.old session.new
-        out.old.items out.new.items) }
+    ensures sent { OnOk result (SendsOwn sends.now session.old session.new out.old.items out.new.items) }
     ensures grown { StartsWith out.new.items out.old.items }
     ensures some { HasTakenSomething session.old → HasTakenSomething session.new }
 {
-    laws::sends_stay_valid();
-    session.agrees();
     for send in sends {
-        match session.send(&send.outgoing(), send.key(), out) {
-            Ok(()) => {}
-            Err(SendFault::NoMemory) => return Err(NoMemory),
-            Err(_) => {}
-        }
+        send_unless_refused(session, send, out)?;
     }
     Ok(())
+}
+
+/// Sends a frame, if it isn't refused.
+fn send_unless_refused(
+    session: &mut Session,
+    send: &KeyedSend,
+    out: &mut Vec<u8>,
+) -> Result<(), NoMemory>
+    ensures sent { OnOk result (SendsOwn (send.now ∷ []) session.old session.new out.old.items out.new.items) }
+    ensures kept { OnErr result ((session.new ≡ session.old) × (out.new.items ≡ out.old.items)) }
+{
+    send_laws();
+    session.agrees();
+    let sent = session.send(&send.outgoing(), send.key(), out);
+    done_or_refused(sent)?;
+    Ok(())
+}
+
+/// A send was done, or refused for what is wrong with it. Want of memory is neither.
+fn done_or_refused(sent: Result<(), SendFault>) -> Result<(), NoMemory>
+    ensures told { OnOk result (IsDoneOrRefused sent) }
+    ensures memory { OnErr result (IsErr sent) }
+{
+    match sent {
+        Ok(()) => Ok(()),
+        Err(SendFault::NoMemory) => Err(NoMemory),
+        Err(_) => Ok(()),
+    }
 }
 
 impl Peer for AppPeer {

@@ -2,7 +2,7 @@
 
 ghost use Rattle.std.specs.Prelude.{Some};
 ghost use Rattle.ws_wire.specs.Header.{IsMaskingKey};
-ghost use Rattle.ws_peer.specs.InnerAppLaws.{AppLaws};
+ghost use Rattle.ws_peer.specs.InnerAppLaws.{AppLaws, SendLaws};
 ghost use Rattle.ws_peer.specs.InnerEchoLaws.{EchoLaws};
 
 use ws_session::laws;
@@ -28,6 +28,14 @@ pub(crate) fn app_laws()
     laws::valid_frames_are_told();
     laws::replies_stay_valid();
     laws::replies_can_be_sent();
+}
+
+/// The laws of the layer below on what an endpoint may send.
+pub(crate) fn send_laws()
+    ensures { SendLaws }
+{
+    laws::one_list_of_events();
+    laws::sends_stay_valid();
 }
 
 /// A key is four bytes, as its type says.

@@ -1,12 +1,10 @@
 -- A step takes as much as the plan says, answers it, and sends frames of its own: one call more in the peer's talk.
-use Rattle.std.proofs.Common.{◌≡◌, ◌∙◌, ℕ, ◌+◌, ◌-◌, ◌<◌, ◌≤◌, min, Bool, false, List, [], ◌∷◌, ◌++◌, length, get_or, take, drop, ap, sym, refl, subst, rules, arith}
-use Rattle.std.specs.List.{list_any}
+use Rattle.std.proofs.Common.{◌≡◌, ◌∙◌, ℕ, ◌+◌, ◌-◌, ◌<◌, ◌≤◌, min, List, [], ◌∷◌, ◌++◌, length, get_or, take, drop, ap, sym, refl, subst, rules, arith}
 use Rattle.std.proofs.lemmas.List.{length-drop, take_all}
 use Rattle.ws_session.specs.Replies.{reply_to}
 use Rattle.ws_session.specs.Taking.{HasTakenAll}
 use Rattle.ws_sends.specs.declared.keyed_send.KeyedSend.{KeyedSend}
-use Rattle.ws_sends.specs.KeyedSends.{send_in}
-use Rattle.ws_peer.specs.Apps.{AppPeerValue, MayHaveSaid, closes_next, is_close_send, plan_after, planned, planned_in, taken_next}
+use Rattle.ws_peer.specs.Apps.{AppPeerValue, MayHaveSaid, plan_after, planned, planned_in, sends_next, taken_next}
 use Rattle.ws_peer.specs.Talks.{PlannedStep}
 use Rattle.ws_peer.proofs.AppSends.{sends_none}
 use Rattle.ws_peer.proofs.AppTalkLemmas.{IsStep, planned_at, planned_none, says_fed, starts_on, still_short}
@@ -75,7 +73,7 @@ returns-in_default-clause-said c =
     let waiting : c.split_at.result.1.now ≡ drop inside.taken fed = search rules in
     let shown : c.split_at.result.1.now ≡ take count (drop inside.taken fed) = waiting ∙ sym (take_all count (drop inside.taken fed) (omega (arith, length-drop inside.taken fed))) in
     let (told, took) = c.in_ok-pass.ensures.taken in
-    let step : IsStep false old new c.pass.new.self count c.args.piece.now before after after = record {
+    let step : IsStep [] old new c.pass.new.self count c.args.piece.now before after after = record {
       short = c.self.invariant.0;
       key = refl;
       plan = refl;
@@ -87,10 +85,10 @@ returns-in_default-clause-said c =
       told_before = [];
       told_after = told;
       took = subst (λ (l : List ℕ). HasTakenAll reply_to inside.session c.pass.new.self (call_of l inside.key before after) [] told) shown took;
-      own = sends_none false c.pass.new.self after;
-      closes = λ e. refl;
+      own = sends_none c.pass.new.self after;
+      sends_so = ap (λ (p : List PlannedStep). sends_next p) none;
     } in
-    let says = says_fed c.app_laws.ensures false old new c.pass.new.self count c.args.piece.now before after after step c.self.invariant.1 in
+    let says = says_fed c.app_laws.ensures [] old new c.pass.new.self count c.args.piece.now before after after step c.self.invariant.1 in
     record { appended = says.appended; grown = says.grown; leads = λ end talk had. says.leads end talk (subst (λ (v : AppPeerValue). MayHaveSaid v end talk) (sym c.self.view_is) had) }
 
 -- ---- a step of the plan
@@ -129,10 +127,9 @@ returns-clause-said c =
     let front : c.split_at-2.result.0.now ≡ take count c.split_at.result.1.now = search rules in
     let shown : c.split_at-2.result.0.now ≡ take count (drop inside.taken fed) = front ∙ ap (λ (l : List ℕ). take count l) waiting in
     let sends : c.as_slice-3.result.now ≡ next.sends.items = search rules in
-    let test = (λ (x : KeyedSend). is_close_send (send_in x)) in
-    let closes : Bool = list_any test c.as_slice-3.result.now in
+    let own : List KeyedSend = c.as_slice-3.result.now in
     let (told, took) = c.in_ok-pass-2.ensures.taken in
-    let step : IsStep closes old new c.pass-2.new.self count c.args.piece.now before middle after = record {
+    let step : IsStep own old new c.pass-2.new.self count c.args.piece.now before middle after = record {
       short = c.self.invariant.0;
       key = refl;
       plan = refl;
@@ -145,9 +142,9 @@ returns-clause-said c =
       told_after = told;
       took = subst (λ (l : List ℕ). HasTakenAll reply_to inside.session c.pass-2.new.self (call_of l inside.key before middle) [] told) shown took;
       own = c.in_ok-send_each.ensures.sent;
-      closes = λ e. ap (λ (l : List KeyedSend). list_any test l) sends ∙ (ap (λ (p : List PlannedStep). closes_next p) (sym there) ∙ e);
+      sends_so = ap (λ (p : List PlannedStep). sends_next p) there ∙ sym sends;
     } in
-    let says = says_fed c.app_laws.ensures closes old new c.pass-2.new.self count c.args.piece.now before middle after step c.self.invariant.1 in
+    let says = says_fed c.app_laws.ensures own old new c.pass-2.new.self count c.args.piece.now before middle after step c.self.invariant.1 in
     record { appended = says.appended; grown = says.grown; leads = λ end talk had. says.leads end talk (subst (λ (v : AppPeerValue). MayHaveSaid v end talk) (sym c.self.view_is) had) }
 
 pub returns-clause-grown : goal.returns-clause-grown
