@@ -1,5 +1,5 @@
 -- A probe that is told one thing more: while its request is written, while the head of the answer is read, and behind it.
-use Rattle.std.proofs.Common.{◌≡◌, ◌∙◌, ℕ, suc, ◌+◌, ◌-◌, ◌<◌, ◌≤◌, ◌⊎◌, false, if◌then◌else◌}
+use Rattle.std.proofs.Common.{◌≡◌, ◌∙◌, ℕ, suc, ◌+◌, ◌-◌, ◌<◌, ◌≤◌, ◌⊎◌, Bool, true, false, if◌then◌else◌}
 use Rattle.std.proofs.Common.{List, [], ◌∷◌, ◌++◌, length, take, drop, refl, sym, ap, subst, arith, inl, inr}
 use Rattle.std.proofs.Common.{append_assoc, append-nil, length-append}
 use Rattle.std.proofs.lemmas.List.{length-drop, take-append-drop}
@@ -12,6 +12,7 @@ use Rattle.ws_machines.specs.declared.stream.StreamEvent.TheVariants as event
 use Rattle.ws_tester.specs.Outgoings.{Pieces}
 use Rattle.ws_tester.specs.Following.{BeginsBy, BeginsRun, ScriptValue, TesterValue, WasTold, first_state}
 use Rattle.ws_tester.specs.RunStates.{RunState, is_nothing, run_left, wanted_in}
+use Rattle.ws_tester.specs.Standings.{is_server_close}
 use Rattle.ws_tester.proofs.MeasureLemmas.{settles_lower}
 use Rattle.ws_handshake.specs.ReadingHeads.{AreHeadPieces, head_room, max_head_piece}
 use Rattle.ws_handshake.specs.Responses.{DecidesResponse, NeedsResponse}
@@ -241,10 +242,20 @@ begins_by : (script : List Pieces) (x start : RunState) → BeginsBy script x st
 begins_by [] x start same = subst (λ (y : RunState). run_left y ≤ run_left x) (sym same) (omega arith)
 begins_by (pieces ∷ turns) x start settles = settles_lower x start settles
 
+-- and where a close came with the head no higher than where none did
+closing_low : (run : ScriptValue) (closing : Bool) → run_left (first_state run closing) ≤ run_left (first_state run false)
+closing_low run true = omega arith
+closing_low run false = omega arith
+
 begins_low : (x : ProbeValue) (first : List ℕ) (start : RunState) → BeginsRun (script_behind x first) start
     → run_left start ≤ run_left (first_state (script_behind x []) false)
 begins_low x first start (standing, stands, by) =
-    begins_by x.script (first_state (script_behind x first) _) start by
+    let closing = is_server_close x.asked.plan.tested standing in
+    let low : run_left start ≤ run_left (first_state (script_behind x first) closing) =
+    begins_by x.script (first_state (script_behind x first) closing) start by in
+    let least : run_left (first_state (script_behind x first) closing)
+    ≤ run_left (first_state (script_behind x first) false) = closing_low (script_behind x first) closing in
+    omega (arith, low, least)
 
 left_open : (x : ProbeValue) → x.stage ≡ Opening → probe_left x ≡ probe_left_at Opening x
 left_open x e = ap (λ (s : ProbeStage). probe_left_at s x) e

@@ -13,7 +13,7 @@ use Rattle.ws_scripts.specs.declared.transcript.Turn.{Turn}
 use Rattle.ws_suite.specs.Evidence.{other_role}
 use Rattle.ws_suite.specs.Growing.{EndInsideFrame, GrowingValue, HasGrown, CannotComeAfter}
 use Rattle.ws_suite.specs.Waiting.{AreTurnsAnsweredBy, AreTurnsSeenAnswered}
-use Rattle.ws_tester.specs.Standings.{HearsAll, HasStanding, standing_of_status}
+use Rattle.ws_tester.specs.Standings.{HearsAll, HasStanding, StandsAs, standing_of_status}
 use Rattle.ws_tester.specs.Outcomes.{AreFacts, HasSentEnd, got_in_all, sent_in_all, has_end}
 use Rattle.ws_tester.specs.RunStates.{turns_of_run}
 use Rattle.ws_tester.specs.Following.{ShowsTurns, TesterValue}
@@ -40,9 +40,9 @@ over_at sent (Some (event.Failed reason)) = refl
 
 module _ (tested : Role) (turns : List Turn) (seen : GrowingValue)
     (grown : HasGrown tested turns seen) where
-  -- how what was got stands
-  pub got_stands : HasStanding (other_role tested) (standing_of_status seen.tester.status) (got_in_all turns)
-  got_stands = heard_stands (other_role tested) seen.tester (got_in_all turns) (record {
+  -- how what was got stands, as it shows
+  pub got_shown : HasStanding (other_role tested) (standing_of_status seen.tester.status) (got_in_all turns)
+  got_shown = heard_stands (other_role tested) seen.tester (got_in_all turns) (record {
     role = grown.got.same_role;
     limits = grown.got.limits;
     sent = grown.got.sent;
@@ -68,7 +68,7 @@ module _ (tested : Role) (turns : List Turn) (seen : GrowingValue)
   )
 
 -- what the evidence tells is so
-pub facts_are : (x v : TesterValue) → x ≡ v → (facts : TurnFacts) → facts.standing ≡ standing_of_status x.seen.tester.status
+pub facts_are : (x v : TesterValue) → x ≡ v → (facts : TurnFacts) → facts.standing ≡ x.standing
     → facts.has_sent_end ≡ is_over x.seen.tested.status → facts.had_sent_end ≡ x.had_sent_end
     → ((tested : Role) (turns : List Turn) → HasGrown tested turns x.seen
     → facts.is_answered ≡ true → AreTurnsAnsweredBy x.run.plan.expected tested turns)
@@ -81,9 +81,8 @@ pub facts_are : (x v : TesterValue) → x ≡ v → (facts : TurnFacts) → fact
     → ShowsTurns v → AreFacts v.run.plan v.run.past (turns_of_run v.run) facts
 facts_are x v same facts stands sent before come seen inside cannot shown =
     subst (λ (y : TesterValue). AreFacts y.run.plan y.run.past (turns_of_run y.run) facts) same (record {
-      standing = subst (λ (s : Standing). HasStanding (other_role x.run.plan.tested) s (got_in_all (turns_of_run x.run)))
-          (sym stands)
-          (got_stands x.run.plan.tested (turns_of_run x.run) x.seen h.grown);
+      standing = subst (λ (s : Standing). StandsAs x.run.plan.tested x.run.plan.expected s (got_in_all (turns_of_run x.run)))
+          (sym stands) h.stands;
       sent_end = subst (λ (b : Bool). HasSentEnd x.run.plan.tested (turns_of_run x.run) b) (sym sent)
           (sent_end x.run.plan.tested (turns_of_run x.run) x.seen h.grown);
       sent_before = subst (λ (b : Bool). HasSentEnd x.run.plan.tested x.run.past b) (sym before) h.before;

@@ -101,14 +101,14 @@ pub taken_changes : (old new : TesterValue) (ev : StreamEvent) (count : ℕ) →
     → is_some old.run.ended ≡ false
     → new.run ≡ with_anew true (with_unanswered new.run.pings
     (with_taken (take count (first_piece old.run.outgoing.rest)) old.run))
-    → new.had_sent_end ≡ old.had_sent_end
+    → new.standing ≡ old.standing → new.had_sent_end ≡ old.had_sent_end
     → ((tested : Role) (past : List Turn) (turn : Turn) → HasGrown tested (past ++ turn ∷ []) old.seen
     → HasGrown tested
     (past ++ turn_with_sent turn (take count (first_piece old.run.outgoing.rest)) ∷ []) new.seen)
     → ((tested : Role) (past : List Turn) (turn : Turn) → HasGrown tested (past ++ turn ∷ []) old.seen
     → NotesSent tested (past ++ turn ∷ []) (take count (first_piece old.run.outgoing.rest)) old.run.pings new.run.pings)
     → ShowsTurns old → Changes (told_at (wanted_in old.run) ev) old.run new.run × ShowsTurns new
-taken_changes old new ev count e undone taken before grown noted shown = (
+taken_changes old new ev count e undone taken standing before grown noted shown = (
   subst (λ (x : StreamEvent). Changes (told_at (wanted_in old.run) x) old.run new.run) (sym e)
       (subst (λ (l : List ℕ). HearsTaken (take count l) old.run (with_taken (take count l) old.run) new.run)
       (sym (piece_of old.run (goes old.run undone)))
@@ -117,7 +117,7 @@ taken_changes old new ev count e undone taken before grown noted shown = (
         noted = noted old.run.plan.tested old.run.past old.run.turn shown.grown;
         is = taken;
       })),
-  taken_shown old new (take count (first_piece old.run.outgoing.rest)) new.run.pings taken before
+  taken_shown old new (take count (first_piece old.run.outgoing.rest)) new.run.pings taken standing before
       (grown old.run.plan.tested old.run.past old.run.turn shown.grown) shown,
 )
 

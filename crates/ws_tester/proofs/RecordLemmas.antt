@@ -1,5 +1,5 @@
 -- What is recorded of a run, by all that it was told.
-use Rattle.std.proofs.Common.{◌≡◌, ◌∙◌, ℕ, ◌+◌, ◌<◌, ◌≤◌, ◌⊎◌, ◌||◌, Bool, true, if◌then◌else◌, List, [], ◌∷◌, ◌++◌}
+use Rattle.std.proofs.Common.{◌≡◌, ◌∙◌, ℕ, ◌+◌, ◌<◌, ◌≤◌, ◌⊎◌, ◌||◌, Bool, true, false, if◌then◌else◌, List, [], ◌∷◌, ◌++◌}
 use Rattle.std.proofs.Common.{length, take, map, refl, sym, ap, subst, arith, inl, inr, append_assoc, append-nil}
 use Rattle.std.proofs.Common.{length-append}
 use Rattle.std.proofs.lemmas.List.{map-append, take-append-le}
@@ -9,11 +9,11 @@ use Rattle.ws_scripts.specs.declared.transcript.Ended.{Ended}
 use Rattle.ws_scripts.specs.declared.transcript.Ended.TheVariants.{Tester, Peer, Broken}
 use Rattle.ws_scripts.specs.declared.transcript.Turn.{Turn}
 use Rattle.ws_scripts.specs.declared.transcript.Transcript.{Transcript}
-use Rattle.ws_suite.specs.Evidence.{other_role, sent_turns}
+use Rattle.ws_suite.specs.Evidence.{sent_turns}
 use Rattle.ws_suite.specs.Growing.{new_turn}
 use Rattle.ws_machines.specs.Told.{Told}
 use Rattle.ws_machines.specs.Told.Told.{NothingCame}
-use Rattle.ws_tester.specs.Standings.{HasServerClose, HasStanding, is_server_close}
+use Rattle.ws_tester.specs.Standings.{HasServerClose, StandsAs, is_server_close}
 use Rattle.ws_tester.specs.Outcomes.{got_in_all, sent_in_all}
 use Rattle.ws_tester.specs.Outgoings.{HaveBytes, Pieces, after_first, first_turn}
 use Rattle.ws_tester.specs.RunStates.{RunState, is_all_sent, recorded, turns_of_run, with_run_end}
@@ -80,8 +80,27 @@ follows_silent one run start now told before holds follows was = record {
 
 -- ---- the beginning, and the record
 
+-- what isn't sent of the first turn, where a close came with the head
+abbrev dropped_first : Bool → Pieces → List ℕ
+dropped_first true first = concat first
+dropped_first false first = []
+
+first_pieces : (closing : Bool) (first : Pieces) (others : List Pieces) → HaveBytes (first ∷ others)
+    → HaveBytes ((if closing then [] else first) ∷ others)
+first_pieces true first others h = (tt, h.1)
+first_pieces false first others h = h
+
+first_bytes : (closing : Bool) (first : Pieces)
+    → concat first ≡ concat (if closing then [] else first) ++ dropped_first closing first
+first_bytes true first = refl
+first_bytes false first = sym (append-nil (concat first))
+
+none_dropped : (closing : Bool) (first : Pieces) → closing ≡ false → dropped_first closing first ≡ []
+none_dropped true first c = absurd cc
+none_dropped false first c = refl
+
 pub begins_so : (run : ScriptValue) (first : Pieces) (others : List Pieces) (standing : Standing)
-    → HasStanding (other_role run.plan.tested) standing run.first → HaveBytes (first ∷ others)
+    → StandsAs run.plan.tested run.plan.expected standing run.first → HaveBytes (first ∷ others)
     → run.script ≡ first ∷ others → Holds run [] (first_state run (is_server_close run.plan.tested standing))
 begins_so run first others standing stands pieces e = record {
   plan_is = refl;
@@ -89,19 +108,23 @@ begins_so run first others standing stands pieces e = record {
   sent = refl;
   got = refl;
   budget = omega arith;
-  pieces = subst (λ (l : List Pieces). HaveBytes (first_turn l ∷ after_first l)) (sym e) pieces;
+  pieces = subst (λ (l : List Pieces). HaveBytes ((if is_server_close run.plan.tested standing then []
+      else first_turn l) ∷ after_first l)) (sym e)
+      (first_pieces (is_server_close run.plan.tested standing) first others pieces);
   bytes = record {
-    dropped = [];
-    split = subst (λ (l : List Pieces). map concat l ≡ (concat (first_turn l) ++ []) ∷ map concat (after_first l))
-        (sym e)
-        (ap (λ (l : List ℕ). l ∷ map concat others) (sym (append-nil (concat first))));
-    whole = λ c f. refl;
+    dropped = dropped_first (is_server_close run.plan.tested standing) first;
+    split = subst (λ (l : List Pieces). map concat l
+        ≡ (concat (if is_server_close run.plan.tested standing then [] else first_turn l)
+        ++ dropped_first (is_server_close run.plan.tested standing) first) ∷ map concat (after_first l)) (sym e)
+        (ap (λ (l : List ℕ). l ∷ map concat others)
+        (first_bytes (is_server_close run.plan.tested standing) first));
+    whole = λ c f. none_dropped (is_server_close run.plan.tested standing) first c;
   };
   has_failed = λ f. absurd cc;
   closed = λ c. (
     standing,
     c,
-    subst (λ (l : List ℕ). HasStanding (other_role run.plan.tested) standing l) (sym (append-nil run.first)) stands,
+    subst (λ (l : List ℕ). StandsAs run.plan.tested run.plan.expected standing l) (sym (append-nil run.first)) stands,
   );
   half = λ w. absurd w;
   waited = λ n some within. absurd (let wrong : n ≤ 0 = within in omega (arith, some, wrong));
@@ -109,7 +132,7 @@ begins_so run first others standing stands pieces e = record {
 
 pub recorded_so : (run : ScriptValue) (told : List Told) (now : RunState) (transcript : Transcript) → Holds run told now
     → EndsBy run told (turns_of_run now) (Some transcript.ended)
-    → (HasServerClose run.plan.tested (got_in_all (turns_of_run now)) → IsHalfClosed run told (turns_of_run now))
+    → (HasServerClose run.plan.tested run.plan.expected (got_in_all (turns_of_run now)) → IsHalfClosed told)
     → Went run told now.past → Waited run told (turns_of_run now)
     → ((before : List Told) (event : Told) → WasAt event told before → is_last_told event ≡ true → WasLast event told)
     → ((before : List Told) → WasAt NothingCame told before → IsWaitOver run (turns_of_run now) told before)
@@ -139,9 +162,8 @@ recorded_so run told now transcript h ends closed went waited lasts silent e = r
   peer = λ b. subst (λ (how : Ended). EndsBy run told (turns_of_run now) (Some how)) b ends;
   last = lasts;
   silences = λ before was. subst (λ (l : List Turn). IsWaitOver run l told before) (sym e) (silent before was);
-  half_closed = λ w. subst (λ (l : List Turn). HasServerClose run.plan.tested (got_in_all l)) (sym e) (h.closed (h.half w));
-  closes = λ s. inr (subst (λ (l : List Turn). IsHalfClosed run told l) (sym e)
-      (closed (subst (λ (l : List Turn). HasServerClose run.plan.tested (got_in_all l)) e s)));
+  half_closed = λ w. subst (λ (l : List Turn). HasServerClose run.plan.tested run.plan.expected (got_in_all l)) (sym e) (h.closed (h.half w));
+  closes = λ s. inr (closed (subst (λ (l : List Turn). HasServerClose run.plan.tested run.plan.expected (got_in_all l)) e s));
 }
   where
     within : (n : ℕ) → n < length transcript.turns → n ≤ length now.past

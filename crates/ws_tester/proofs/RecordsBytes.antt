@@ -19,7 +19,7 @@ use Rattle.ws_tester.proofs.RecordsHolds.{Holds}
 
 module _ (run : ScriptValue) (told : List Told) (s : RunState) (h : Holds run told s) (bytes : List ℕ) where
   pub came_holds : length bytes ≤ s.allowance
-      → (s.closing ≡ true → HasServerClose run.plan.tested (got_in_all (turns_of_run (with_came bytes s))))
+      → (s.closing ≡ true → HasServerClose run.plan.tested run.plan.expected (got_in_all (turns_of_run (with_came bytes s))))
       → Holds run (told ++ Came bytes ∷ []) (with_came bytes s)
   came_holds fits closed = record {
     plan_is = h.plan_is;
@@ -63,7 +63,7 @@ module _ (run : ScriptValue) (told : List Told) (s : RunState) (h : Holds run to
       whole = h.bytes.whole;
     };
     has_failed = λ f. was_more WriteFailed told (Taken bytes) (h.has_failed f);
-    closed = λ c. subst (λ (l : List ℕ). HasServerClose run.plan.tested l) (sym (got_stays s.past s.turn bytes))
+    closed = λ c. subst (λ (l : List ℕ). HasServerClose run.plan.tested run.plan.expected l) (sym (got_stays s.past s.turn bytes))
         (h.closed c);
     half = λ w. pick (was_before DirectionEnded told (Taken bytes) w);
     waited = λ n some within. waited_more run (take n s.past) told (Taken bytes) (h.waited n some within);

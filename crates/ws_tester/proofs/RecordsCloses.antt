@@ -10,11 +10,10 @@ use Rattle.ws_scripts.specs.Scripts.{has_bytes}
 use Rattle.ws_scripts.specs.declared.transcript.Ended.{Ended}
 use Rattle.ws_scripts.specs.declared.transcript.Ended.TheVariants.{Tester, Peer, Broken}
 use Rattle.ws_scripts.specs.declared.transcript.Turn.{Turn}
-use Rattle.ws_suite.specs.Evidence.{other_role, sent_turns}
 use Rattle.ws_machines.specs.Told.{Told}
 use Rattle.ws_machines.specs.Told.Told.{Came, DeadlinePassed, DirectionEnded, Ended as StreamEnded, NothingCame}
 use Rattle.ws_machines.specs.Told.Told.{ReadFailed, Reported, Taken, WriteFailed}
-use Rattle.ws_tester.specs.Standings.{HasServerClose, HasStanding, is_server_close, stops_run}
+use Rattle.ws_tester.specs.Standings.{HasServerClose, StandsAs, is_server_close, stops_run}
 use Rattle.ws_tester.specs.Outcomes.{AreFacts, by_deadline, by_silence, by_tests, got_in_all, has_end}
 use Rattle.ws_tester.specs.Outcomes.{is_spent, is_turn_over, next_or_end, outcome_of, outcome_of_event}
 use Rattle.ws_tester.specs.Outcomes.{sent_in_all, unless_failed}
@@ -43,22 +42,17 @@ use Rattle.ws_tester.proofs.RecordsTurns.{got_begun, got_stays}
 
 -- ---- what holds of a run as it goes on
 
--- a close that came with the head, in the first turn
-abbrev pub IsFirstClosed : ScriptValue → List Turn → Type 0
-IsFirstClosed run past = HasServerClose run.plan.tested run.first × (past ≡ [])
-
 -- Where a server's close was got it is closing; where the own direction was ended that was told; and where it is closing
--- all of the turn is sent, but where the close came with the head. Where it has ended while closing, the own direction
--- was ended or couldn't be.
+-- all of the turn is sent. Where it has ended while closing, the own direction was ended or couldn't be.
 pub record Closes (run : ScriptValue) (told : List Told) (x : RunState) : Type 0 where
-  pub closing : HasServerClose run.plan.tested (got_in_all (turns_of_run x)) → x.closing ≡ true
+  pub closing : HasServerClose run.plan.tested run.plan.expected (got_in_all (turns_of_run x)) → x.closing ≡ true
   pub half : x.half_closed ≡ true → Was DirectionEnded told
-  pub sent : x.closing ≡ true → (is_all_sent x ≡ true) ⊎ IsFirstClosed run x.past
+  pub sent : x.closing ≡ true → is_all_sent x ≡ true
 
 -- how it has ended
 abbrev pub EndsClosed : ScriptValue → List Told → RunState → Option Ended → Type 0
 EndsClosed run told x None = ⊤
-EndsClosed run told x (Some how) = x.closing ≡ true → IsHalfClosed run told (turns_of_run x)
+EndsClosed run told x (Some how) = x.closing ≡ true → IsHalfClosed told
 
 abbrev pub ClosesSo : ScriptValue → List Told → RunState → Type 0
 ClosesSo run told x = Closes run told x × EndsClosed run told x x.ended
@@ -115,14 +109,14 @@ module _ (one : OneStanding) (run : ScriptValue) (told : List Told) where
       → is_server_close x.plan.tested facts.standing ≡ true
   stands_closed x facts h are c =
       subst (λ (plan : PlanValue). is_server_close plan.tested facts.standing ≡ true) (sym h.plan_is)
-      (one_close one run.plan.tested facts.standing (got_in_all (turns_of_run x))
-      (subst (λ (plan : PlanValue). HasStanding (other_role plan.tested) facts.standing (got_in_all (turns_of_run x)))
+      (one_close one run.plan.tested run.plan.expected facts.standing (got_in_all (turns_of_run x))
+      (subst (λ (plan : PlanValue). StandsAs plan.tested plan.expected facts.standing (got_in_all (turns_of_run x)))
       h.plan_is are.standing) (h.closed c))
 
   -- where the table ends the run while it is closing, the own direction was ended
   table_closes : (x : RunState) (facts : TurnFacts) (how : Ended) → x.ended ≡ None → Holds run told x
       → AreFacts x.plan x.past (turns_of_run x) facts → Closes run told x → outcome_of x facts ≡ Ends how
-      → x.closing ≡ true → IsHalfClosed run told (turns_of_run x)
+      → x.closing ≡ true → IsHalfClosed told
   table_closes x facts how going h are k e c =
       let is = stands_closed x facts h are c in
       let over : is_turn_over x facts ≡ false =
@@ -134,14 +128,14 @@ module _ (one : OneStanding) (run : ScriptValue) (told : List Told) where
       (not_is (wants_own_end x) (both_true (nat_eq x.allowance 0) (not (wants_own_end x)) both.1).1))
     where
       pick : is_all_sent x ≡ true → (x.half_closed ≡ true) ⊎ (is_all_sent x ≡ false)
-          → IsHalfClosed run told (turns_of_run x)
+          → IsHalfClosed told
       pick sent (inl half) = inl (k.half half)
-      pick sent (inr unsent) = none_both (is_all_sent x) (IsHalfClosed run told (turns_of_run x)) sent unsent
+      pick sent (inr unsent) = none_both (is_all_sent x) (IsHalfClosed told) sent unsent
 
   -- ---- until the run rests
 
   ended_closes : (x now : RunState) (how : Ended) → Closes run told x
-      → (x.closing ≡ true → IsHalfClosed run told (turns_of_run x)) → now ≡ with_run_end how x → ClosesSo run told now
+      → (x.closing ≡ true → IsHalfClosed told) → now ≡ with_run_end how x → ClosesSo run told now
   ended_closes x now how k ends same = subst (λ (y : RunState). ClosesSo run told y) (sym same)
       (record { closing = k.closing; half = k.half; sent = k.sent }, ends)
 
@@ -151,10 +145,9 @@ module _ (one : OneStanding) (run : ScriptValue) (told : List Told) where
 
   pub next_closes : (x : RunState) → Closes run told x → x.closing ≡ false → Closes run told (with_next_turn x)
   next_closes x k unclosed = record {
-    closing = λ s. k.closing (subst (λ (l : List ℕ). HasServerClose run.plan.tested l) (got_begun (turns_of_run x)) s);
+    closing = λ s. k.closing (subst (λ (l : List ℕ). HasServerClose run.plan.tested run.plan.expected l) (got_begun (turns_of_run x)) s);
     half = k.half;
-    sent = λ c. none_both x.closing ((is_all_sent (with_next_turn x) ≡ true) ⊎ IsFirstClosed run (turns_of_run x)) c
-        unclosed;
+    sent = λ c. none_both x.closing (is_all_sent (with_next_turn x) ≡ true) c unclosed;
   }
 
   settled_closes_in : (n : ℕ) (x now : RunState) → x.ended ≡ None → Holds run told x → Closes run told x
@@ -179,40 +172,7 @@ no_pieces : (rest : Pieces) → AllByRecursion has_bytes rest → is_nothing (fi
 no_pieces [] h e = refl
 no_pieces (piece ∷ pieces) h e = absurd (no_byte piece e h.0)
 
--- a first piece with a byte is one of some bytes
-some_bytes : (rest : Pieces) → is_nothing (first_piece rest) ≡ false → 0 < length (concat rest)
-some_bytes [] e = absurd cc
-some_bytes ([] ∷ pieces) e = absurd cc
-some_bytes ((byte ∷ bytes) ∷ pieces) e = omega arith
-
--- the first of some lists
-abbrev head_of : List (List ℕ) → List ℕ
-head_of [] = []
-head_of (first ∷ others) = first
-
-first_bytes : (script : List Pieces) (bytes : List ℕ) (others : List (List ℕ)) → map concat script ≡ bytes ∷ others
-    → concat (first_turn script) ≡ bytes
-first_bytes [] bytes others e = absurd cc
-first_bytes (pieces ∷ turns) bytes others e = ap (λ (l : List (List ℕ)). head_of l) e
-
 module _ (one : OneStanding) (run : ScriptValue) (before : List Told) where
-  -- the first turn isn't all sent
-  short : (x : RunState) → Holds run before x → x.past ≡ [] → is_all_sent x ≡ false
-      → length (sent_in_all (turns_of_run x)) < length (concat (first_turn run.script))
-  short x h none unsent =
-      let is : concat (first_turn run.script) ≡ x.turn.sent ++ (concat x.outgoing.rest ++ h.bytes.dropped) =
-      first_bytes run.script (x.turn.sent ++ (concat x.outgoing.rest ++ h.bytes.dropped)) (map concat x.outgoing.later)
-      (h.bytes.split ∙ ap (λ (l : List Turn). sent_turns l
-      ++ (x.turn.sent ++ (concat x.outgoing.rest ++ h.bytes.dropped)) ∷ map concat x.outgoing.later) none) in
-      let len : length (concat (first_turn run.script))
-      ≡ length x.turn.sent + (length (concat x.outgoing.rest) + length h.bytes.dropped) =
-      ap (λ (l : List ℕ). length l) is ∙ (length-append x.turn.sent (concat x.outgoing.rest ++ h.bytes.dropped)
-      ∙ ap (λ (n : ℕ). length x.turn.sent + n) (length-append (concat x.outgoing.rest) h.bytes.dropped)) in
-      let all : length (sent_in_all (turns_of_run x)) ≡ length x.turn.sent =
-      ap (λ (l : List Turn). length (sent_in_all (l ++ x.turn ∷ []))) none
-      ∙ ap (λ (l : List ℕ). length l) (append-nil x.turn.sent) in
-      omega (arith, len, all, some_bytes x.outgoing.rest unsent)
-
   more_closes : (x : RunState) (event : Told) → Closes run before x → Closes run (before ++ event ∷ []) x
   more_closes x event k = record {
     closing = k.closing;
@@ -224,48 +184,24 @@ module _ (one : OneStanding) (run : ScriptValue) (before : List Told) where
   anew_closes : (x : RunState) (anew : Bool) → Closes run before x → Closes run before (with_anew anew x)
   anew_closes x anew k = record { closing = k.closing; half = k.half; sent = k.sent }
 
-  -- what a read has told, and then the run ends: the own direction was ended, or the first turn isn't all sent
-  read_ends : (x : RunState) (event : Told) → (event ≡ StreamEnded) ⊎ (event ≡ ReadFailed) → x.ended ≡ None
-      → Holds run before x → Closes run before x → wants_own_end x ≡ false → x.closing ≡ true
-      → IsHalfClosed run (before ++ event ∷ []) (turns_of_run x)
-  read_ends x event is going h k own c =
+  -- what was told ends the run, while the own direction isn't to be ended: it was
+  told_ends : (x : RunState) (event : Told) → x.ended ≡ None → Closes run before x → wants_own_end x ≡ false
+      → x.closing ≡ true → IsHalfClosed (before ++ event ∷ [])
+  told_ends x event going k own c =
       pick (own_end_done x.ended x.closing x.half_closed (is_all_sent x) going c own)
     where
-      last : (event ≡ StreamEnded) ⊎ (event ≡ ReadFailed)
-          → WasLast StreamEnded (before ++ event ∷ []) ⊎ WasLast ReadFailed (before ++ event ∷ [])
-      last (inl e) = inl (before, ap (λ (x : Told). before ++ x ∷ []) e)
-      last (inr e) = inr (before, ap (λ (x : Told). before ++ x ∷ []) e)
-
-      first : is_all_sent x ≡ false → (is_all_sent x ≡ true) ⊎ IsFirstClosed run x.past
-          → IsHalfClosed run (before ++ event ∷ []) (turns_of_run x)
-      first unsent (inl sent) = none_both (is_all_sent x) (IsHalfClosed run (before ++ event ∷ []) (turns_of_run x))
-          sent unsent
-      first unsent (inr (close, none)) = inr (inr (close, last is, short x h none unsent))
-
-      pick : (x.half_closed ≡ true) ⊎ (is_all_sent x ≡ false)
-          → IsHalfClosed run (before ++ event ∷ []) (turns_of_run x)
+      pick : (x.half_closed ≡ true) ⊎ (is_all_sent x ≡ false) → IsHalfClosed (before ++ event ∷ [])
       pick (inl half) = inl (was_more DirectionEnded before event (k.half half))
-      pick (inr unsent) = first unsent (k.sent c)
+      pick (inr unsent) = none_both (is_all_sent x) (IsHalfClosed (before ++ event ∷ [])) (k.sent c) unsent
 
   stream_end_closes : (x now : RunState) (failed : Bool) → x.ended ≡ None → Holds run before x → Closes run before x
       → wants_own_end x ≡ false → Obeys (unless_failed failed Peer) x now → ClosesSo run (before ++ StreamEnded ∷ []) now
   stream_end_closes x now true going h k own obeys = ended_closes one run (before ++ StreamEnded ∷ []) x now Broken
-      (more_closes x StreamEnded k) (λ c. read_ends x StreamEnded (inl refl) going h k own c) obeys
+      (more_closes x StreamEnded k) (λ c. told_ends x StreamEnded going k own c) obeys
   stream_end_closes x now false going h k own obeys = ended_closes one run (before ++ StreamEnded ∷ []) x now Peer
-      (more_closes x StreamEnded k) (λ c. read_ends x StreamEnded (inl refl) going h k own c) obeys
+      (more_closes x StreamEnded k) (λ c. told_ends x StreamEnded going k own c) obeys
 
   -- nothing came in time
-  sent_half : (x : RunState) (event : Told) → x.ended ≡ None → Closes run before x → wants_own_end x ≡ false
-      → is_all_sent x ≡ true → x.closing ≡ true → IsHalfClosed run (before ++ event ∷ []) (turns_of_run x)
-  sent_half x event going k own sent c =
-      pick (own_end_done x.ended x.closing x.half_closed (is_all_sent x) going c own)
-    where
-      pick : (x.half_closed ≡ true) ⊎ (is_all_sent x ≡ false)
-          → IsHalfClosed run (before ++ event ∷ []) (turns_of_run x)
-      pick (inl half) = inl (was_more DirectionEnded before event (k.half half))
-      pick (inr unsent) = none_both (is_all_sent x) (IsHalfClosed run (before ++ event ∷ []) (turns_of_run x))
-          sent unsent
-
   silence_closes : (x now : RunState) (sent failed : Bool) → x.ended ≡ None → is_all_sent x ≡ sent
       → x.write_failed ≡ failed → Holds run (before ++ NothingCame ∷ []) x → Closes run before x
       → wants_own_end x ≡ false → Obeys (by_silence sent failed (has_more x && not x.closing)) x now
@@ -273,7 +209,7 @@ module _ (one : OneStanding) (run : ScriptValue) (before : List Told) where
   silence_closes x now false failed going s f h k own obeys =
       rests_closes one run (before ++ NothingCame ∷ []) x now going (more_closes x NothingCame k) obeys
   silence_closes x now true true going s f h k own obeys = ended_closes one run (before ++ NothingCame ∷ []) x now Broken
-      (more_closes x NothingCame k) (λ c. sent_half x NothingCame going k own s c) obeys
+      (more_closes x NothingCame k) (λ c. told_ends x NothingCame going k own c) obeys
   silence_closes x now true false going s f h k own obeys = pick (has_more x && not x.closing) refl obeys
     where
       pick : (more : Bool) → (has_more x && not x.closing) ≡ more → Obeys (next_or_end more) x now
@@ -286,14 +222,14 @@ module _ (one : OneStanding) (run : ScriptValue) (before : List Told) where
           (next_closes one run (before ++ NothingCame ∷ []) x (more_closes x NothingCame k) (not_is x.closing both.1))
           obey
       pick false e obey = ended_closes one run (before ++ NothingCame ∷ []) x now Tester
-          (more_closes x NothingCame k) (λ c. sent_half x NothingCame going k own s c) obey
+          (more_closes x NothingCame k) (λ c. told_ends x NothingCame going k own c) obey
 
   deadline_closes : (x now : RunState) (waited : Bool) (b : Bool) → Closes run before x → Obeys (by_deadline b) x now
       → ClosesSo run (before ++ DeadlinePassed waited ∷ []) now
   deadline_closes x now waited true k obeys = ended_closes one run (before ++ DeadlinePassed waited ∷ []) x now Tester
-      (more_closes x (DeadlinePassed waited) k) (λ c. inr (inl (waited, (before, refl)))) obeys
+      (more_closes x (DeadlinePassed waited) k) (λ c. inr (waited, (before, refl))) obeys
   deadline_closes x now waited false k obeys = ended_closes one run (before ++ DeadlinePassed waited ∷ []) x now Broken
-      (more_closes x (DeadlinePassed waited) k) (λ c. inr (inl (waited, (before, refl)))) obeys
+      (more_closes x (DeadlinePassed waited) k) (λ c. inr (waited, (before, refl))) obeys
 
   -- how what came stands
   came_closes : (old : RunState) (bytes : List ℕ) (pings : List (List ℕ)) (anew : Bool) (standing : Standing) (b : Bool)
@@ -304,12 +240,12 @@ module _ (one : OneStanding) (run : ScriptValue) (before : List Told) where
   came_closes old bytes pings anew standing true h k stands e = record {
     closing = λ s. refl;
     half = λ d. was_more DirectionEnded before (Came bytes) (k.half d);
-    sent = λ c. inl refl;
+    sent = λ c. refl;
   }
   came_closes old bytes pings anew standing false h k stands e = record {
     closing = λ s. closed (subst (λ (plan : PlanValue). is_server_close plan.tested standing ≡ true) (sym h.plan_is)
-        (one_close one run.plan.tested standing (got_in_all (turns_of_run (with_came bytes old)))
-        (subst (λ (plan : PlanValue). HasStanding (other_role plan.tested) standing
+        (one_close one run.plan.tested run.plan.expected standing (got_in_all (turns_of_run (with_came bytes old)))
+        (subst (λ (plan : PlanValue). StandsAs plan.tested plan.expected standing
         (got_in_all (turns_of_run (with_came bytes old)))) h.plan_is stands.stands) s));
     half = λ d. was_more DirectionEnded before (Came bytes) (k.half d);
     sent = k.sent;
@@ -327,17 +263,12 @@ module _ (one : OneStanding) (run : ScriptValue) (before : List Told) where
       → Closes run before old → Closes run (before ++ Taken bytes ∷ [])
       (with_anew true (with_unanswered pings (with_taken bytes old)))
   taken_closes old bytes pings h k = record {
-    closing = λ s. k.closing (subst (λ (l : List ℕ). HasServerClose run.plan.tested l)
+    closing = λ s. k.closing (subst (λ (l : List ℕ). HasServerClose run.plan.tested run.plan.expected l)
         (got_stays old.past old.turn bytes) s);
     half = λ d. was_more DirectionEnded before (Taken bytes) (k.half d);
-    sent = λ c. pick (k.sent c);
+    sent = λ c. ap (λ (rest : Pieces). is_nothing (first_piece (without_front (length bytes) rest)))
+        (no_pieces old.outgoing.rest h.pieces.0 (k.sent c));
   }
-    where
-      pick : (is_all_sent old ≡ true) ⊎ IsFirstClosed run old.past
-          → (is_all_sent (with_taken bytes old) ≡ true) ⊎ IsFirstClosed run old.past
-      pick (inl sent) = inl (ap (λ (rest : Pieces). is_nothing (first_piece (without_front (length bytes) rest)))
-          (no_pieces old.outgoing.rest h.pieces.0 sent))
-      pick (inr first) = inr first
 
   -- ---- what holds after an event, once it is heard
 
@@ -386,7 +317,7 @@ module _ (one : OneStanding) (run : ScriptValue) (before : List Told) where
       subst (λ (y : RunState). Closes run (before ++ WriteFailed ∷ []) y) (sym same) (record {
         closing = k.closing;
         half = λ d. was_more DirectionEnded before WriteFailed (k.half d);
-        sent = λ c. inl refl;
+        sent = λ c. refl;
       })
   heard_closes old heard DirectionEnded h k may same =
       subst (λ (y : RunState). Closes run (before ++ DirectionEnded ∷ []) y) (sym same) (record {
@@ -439,7 +370,7 @@ module _ (one : OneStanding) (run : ScriptValue) (before : List Told) where
   event_closes old heard new ReadFailed going h k may same on =
       let x = with_anew false old in
       ended_closes one run (before ++ ReadFailed ∷ []) x new Broken (more_closes x ReadFailed (anew_closes old false k))
-      (λ c. read_ends x ReadFailed (inr refl) going h (anew_closes old false k) may c)
+      (λ c. told_ends x ReadFailed going (anew_closes old false k) may c)
       (subst (λ (y : RunState). Obeys (Ends Broken) y new) same on)
   event_closes old heard new NothingCame going h k may same on =
       silence_closes (with_anew true old) new (is_all_sent old) old.write_failed going refl refl
@@ -467,18 +398,18 @@ follows_closes one run before start now (event ∷ told) h k (next, happens, res
 
 -- the beginning: where what came with the head has a server's close it is closing
 pub begins_closes : OneStanding → (run : ScriptValue) (standing : Standing)
-    → HasStanding (other_role run.plan.tested) standing run.first
+    → StandsAs run.plan.tested run.plan.expected standing run.first
     → Closes run [] (first_state run (is_server_close run.plan.tested standing))
 begins_closes one run standing stands = record {
-  closing = λ s. one_close one run.plan.tested standing run.first stands
-      (subst (λ (l : List ℕ). HasServerClose run.plan.tested l) (append-nil run.first) s);
+  closing = λ s. one_close one run.plan.tested run.plan.expected standing run.first stands
+      (subst (λ (l : List ℕ). HasServerClose run.plan.tested run.plan.expected l) (append-nil run.first) s);
   half = λ d. absurd cc;
-  sent = λ c. inr ((standing, c, stands), refl);
+  sent = λ c. ap (λ (b : Bool). is_nothing (first_piece (if b then [] else first_turn run.script))) c;
 }
 
 -- where it has ended with a server's close
 pub closed_so : (run : ScriptValue) (told : List Told) (x : RunState) (how : Ended) → ClosesSo run told x
-    → x.ended ≡ Some how → HasServerClose run.plan.tested (got_in_all (turns_of_run x))
-    → IsHalfClosed run told (turns_of_run x)
+    → x.ended ≡ Some how → HasServerClose run.plan.tested run.plan.expected (got_in_all (turns_of_run x))
+    → IsHalfClosed told
 closed_so run told x how (k, ends) e s =
     subst (λ (o : Option Ended). EndsClosed run told x o) e ends (k.closing s)

@@ -62,13 +62,13 @@ module _ (one : OneStanding) (run : ScriptValue) (before : List Told) where
     where
       by_close : (closing : Bool) → x.closing ≡ closing → has_more x ≡ false
           → (map concat run.script ≡ sent_turns (turns_of_run x))
-          ⊎ HasServerClose run.plan.tested (got_in_all (turns_of_run x))
+          ⊎ HasServerClose run.plan.tested run.plan.expected (got_in_all (turns_of_run x))
       by_close true c last = inr (h.closed c)
       by_close false c last = inl (all_sent run (before ++ NothingCame ∷ []) x h sent last c works)
 
       pick : (has_more x ≡ false) ⊎ (x.closing ≡ true)
           → (map concat run.script ≡ sent_turns (turns_of_run x))
-          ⊎ HasServerClose run.plan.tested (got_in_all (turns_of_run x))
+          ⊎ HasServerClose run.plan.tested run.plan.expected (got_in_all (turns_of_run x))
       pick (inl last) = by_close x.closing refl last
       pick (inr closing) = inr (h.closed closing)
 
@@ -106,7 +106,7 @@ module _ (one : OneStanding) (run : ScriptValue) (before : List Told) where
 
   -- how what came stands, and what that changes
   pub standing_so : (b : Bool) (x : RunState) (bytes : List ℕ) → Holds run (before ++ Came bytes ∷ []) x
-      → (b ≡ true → HasServerClose run.plan.tested (got_in_all (turns_of_run x)))
+      → (b ≡ true → HasServerClose run.plan.tested run.plan.expected (got_in_all (turns_of_run x)))
       → Holds run (before ++ Came bytes ∷ []) (if b then with_closing (with_nothing_to_send x) else x)
   standing_so true x bytes h closes = closing_holds run (before ++ Came bytes ∷ []) x h (closes refl)
   standing_so false x bytes h closes = h
@@ -114,9 +114,9 @@ module _ (one : OneStanding) (run : ScriptValue) (before : List Told) where
   -- a standing by which the own direction is ended is that of a server's close
   pub closes_by : (old : RunState) (bytes : List ℕ) (standing : Standing) → Holds run before old
       → StandsBy (with_came bytes old) standing → is_server_close old.plan.tested standing ≡ true
-      → HasServerClose run.plan.tested (got_in_all (turns_of_run (with_came bytes old)))
+      → HasServerClose run.plan.tested run.plan.expected (got_in_all (turns_of_run (with_came bytes old)))
   closes_by old bytes standing h stands e = subst (λ (plan : PlanValue).
-      HasServerClose plan.tested (got_in_all (turns_of_run (with_came bytes old)))) h.plan_is (standing, e, stands.stands)
+      HasServerClose plan.tested plan.expected (got_in_all (turns_of_run (with_came bytes old)))) h.plan_is (standing, e, stands.stands)
 
   pub standing_ends : (b : Bool) (x : RunState)
       → (if b then with_closing (with_nothing_to_send x) else x).ended ≡ x.ended

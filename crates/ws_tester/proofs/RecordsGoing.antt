@@ -1,5 +1,4 @@
--- What is sent is sent while what was got has neither a close nor a fault, but the first turn behind a close that came with
--- the head; and so is each further turn.
+-- What is sent is sent while what was got has neither a close nor a fault, and so is each further turn.
 use Rattle.std.proofs.Common.{◌≡◌, ◌∙◌, ℕ, ◌<◌, ◌≤◌, ◌⊎◌, ◌&&◌, ◌||◌, not, Bool, true, false, if◌then◌else◌, List, []}
 use Rattle.std.proofs.Common.{◌∷◌, ◌++◌, length, take, refl, sym, ap, subst, inl, inr, arith, append_assoc, append-nil}
 use Rattle.std.proofs.Common.{length-append}
@@ -11,11 +10,10 @@ use Rattle.ws_wire.specs.declared.role.Role.TheVariants.{Client, Server}
 use Rattle.ws_scripts.specs.declared.transcript.Ended.{Ended}
 use Rattle.ws_scripts.specs.declared.transcript.Ended.TheVariants.{Tester, Peer, Broken}
 use Rattle.ws_scripts.specs.declared.transcript.Turn.{Turn}
-use Rattle.ws_suite.specs.Evidence.{other_role}
 use Rattle.ws_machines.specs.Told.{Told}
 use Rattle.ws_machines.specs.Told.Told.{Came, DeadlinePassed, DirectionEnded, Ended as StreamEnded, NothingCame}
 use Rattle.ws_machines.specs.Told.Told.{ReadFailed, Reported, Taken, WriteFailed}
-use Rattle.ws_tester.specs.Standings.{HasStanding, is_server_close, stops_run}
+use Rattle.ws_tester.specs.Standings.{StandsAs, is_server_close, stops_run}
 use Rattle.ws_tester.specs.Outcomes.{AreFacts, by_deadline, by_silence, by_tests, got_in_all, has_come, has_end, is_spent}
 use Rattle.ws_tester.specs.Outcomes.{is_turn_over, next_or_end, outcome_of, outcome_of_event, unless_failed}
 use Rattle.ws_tester.specs.Outgoings.{first_piece}
@@ -31,7 +29,7 @@ use Rattle.ws_tester.specs.declared.standing.Standing.{Standing}
 use Rattle.ws_tester.specs.declared.standing.Standing.TheVariants.{Going, Closed, Faulty}
 use Rattle.ws_tester.proofs.OutcomeLemmas.{next_come, next_more, next_sent}
 use Rattle.ws_tester.proofs.RecordsEvent.{event_so, silence_waits, standing_ends}
-use Rattle.ws_tester.proofs.RecordsCloses.{Closes, ClosesSo, IsFirstClosed, event_closes, heard_closes, heard_so}
+use Rattle.ws_tester.proofs.RecordsCloses.{Closes, ClosesSo, event_closes, heard_closes, heard_so}
 use Rattle.ws_tester.proofs.RecordsCloses.{next_closes, none_both, not_is}
 use Rattle.ws_tester.proofs.RecordsHolds.{Holds, HoldsSo, holds_more}
 use Rattle.ws_tester.proofs.RecordsSettled.{next_so, next_waits}
@@ -40,7 +38,7 @@ use Rattle.ws_tester.proofs.RecordsTests.{OneStanding, both_true, is_false, open
 -- ---- what holds of a run as it goes on
 
 abbrev pub IsGoing : ScriptValue → List ℕ → Type 0
-IsGoing run got = HasStanding (other_role run.plan.tested) Going got
+IsGoing run got = StandsAs run.plan.tested run.plan.expected Going got
 
 -- Each byte was taken in time, and behind each of the turns before another one was sent in time.
 pub record Went (run : ScriptValue) (told : List Told) (past : List Turn) : Type 0 where
@@ -131,14 +129,14 @@ module _ (one : OneStanding) (run : ScriptValue) (told : List Told) where
   rests_going : (x : RunState) (facts : TurnFacts) → Holds run told x → Closes run told x
       → AreFacts x.plan x.past (turns_of_run x) facts → outcome_of x facts ≡ Rests → RestsGoing run x
   rests_going x facts h k are e = λ going unclosed.
-      subst (λ (s : Standing). HasStanding (other_role run.plan.tested) s (got_in_all (turns_of_run x)))
+      subst (λ (s : Standing). StandsAs run.plan.tested run.plan.expected s (got_in_all (turns_of_run x)))
       (going_by run.plan.tested facts.standing unstopped
       (is_false (is_server_close run.plan.tested facts.standing) (λ is. (let wrong : true ≡ false =
       sym (k.closing (facts.standing, is, stands)) ∙ unclosed in cc)))) stands
     where
-      stands : HasStanding (other_role run.plan.tested) facts.standing (got_in_all (turns_of_run x))
+      stands : StandsAs run.plan.tested run.plan.expected facts.standing (got_in_all (turns_of_run x))
       stands = subst (λ (plan : PlanValue).
-          HasStanding (other_role plan.tested) facts.standing (got_in_all (turns_of_run x))) h.plan_is are.standing
+          StandsAs plan.tested plan.expected facts.standing (got_in_all (turns_of_run x))) h.plan_is are.standing
 
       unstopped : stops_run run.plan.tested facts.standing ≡ false
       unstopped = subst (λ (plan : PlanValue). stops_run plan.tested facts.standing ≡ false) h.plan_is
@@ -150,8 +148,8 @@ module _ (one : OneStanding) (run : ScriptValue) (told : List Told) where
       → AreFacts x.plan x.past (turns_of_run x) facts → has_come x facts ≡ true
       → IsGoing run (got_in_all (turns_of_run x))
   next_going x facts h are come = subst (λ (plan : PlanValue).
-      HasStanding (other_role plan.tested) Going (got_in_all (turns_of_run x))) h.plan_is
-      (subst (λ (s : Standing). HasStanding (other_role x.plan.tested) s (got_in_all (turns_of_run x)))
+      StandsAs plan.tested plan.expected Going (got_in_all (turns_of_run x))) h.plan_is
+      (subst (λ (s : Standing). StandsAs x.plan.tested x.plan.expected s (got_in_all (turns_of_run x)))
       (no_end facts.standing (first_not (has_end facts.standing) _ come)) are.standing)
 
   next_went : (x : RunState) → Went run told x.past → IsGoing run (got_in_all (turns_of_run x))
@@ -218,13 +216,9 @@ module _ (one : OneStanding) (run : ScriptValue) (before : List Told) where
       unsent_now : (byte : ℕ) (others : List ℕ) → bytes ≡ byte ∷ others → is_all_sent old ≡ false
       unsent_now byte others is = ap (λ (l : List ℕ). is_nothing l) (e ∙ ap (λ (l : List ℕ). l ++ unsent) is)
 
-      first : is_all_sent old ≡ false → (is_all_sent old ≡ true) ⊎ IsFirstClosed run old.past → IsSentInTime run before
-      first not_sent (inl sent) = none_both (is_all_sent old) (IsSentInTime run before) sent not_sent
-      first not_sent (inr closed) = inr closed.0
-
       in_time : (closing : Bool) → old.closing ≡ closing → is_all_sent old ≡ false → IsSentInTime run before
-      in_time false c not_sent = inl (subst (λ (l : List ℕ). IsGoing run l) h.got (rests going c))
-      in_time true c not_sent = first not_sent (k.sent c)
+      in_time false c not_sent = subst (λ (l : List ℕ). IsGoing run l) h.got (rests going c)
+      in_time true c not_sent = none_both (is_all_sent old) (IsSentInTime run before) (k.sent c) not_sent
 
       pick : (at : List Told) (byte : ℕ) (others : List ℕ)
           → WasAt (Taken (byte ∷ others)) before at ⊎ ((at ≡ before) × (Taken bytes ≡ Taken (byte ∷ others)))

@@ -44,7 +44,7 @@ pub record HoldsOf (run : ScriptValue) (told : List Told) (plan : PlanValue) (pa
   pub pieces : HaveBytes (outgoing.rest ∷ outgoing.later)
   pub bytes : AreBytesOf run past turn outgoing closing failed
   pub has_failed : failed ≡ true → Was WriteFailed told
-  pub closed : closing ≡ true → HasServerClose run.plan.tested (got_in_all (past ++ turn ∷ []))
+  pub closed : closing ≡ true → HasServerClose run.plan.tested run.plan.expected (got_in_all (past ++ turn ∷ []))
   pub half : Was DirectionEnded told → closing ≡ true
   pub waited : (n : ℕ) → 0 < n → n ≤ length past → IsWaitedFor run (take n past) told
 
@@ -105,7 +105,7 @@ module _ (run : ScriptValue) (told : List Told) (s : RunState) (h : Holds run to
   }
 
   -- a server's close was got
-  pub closing_holds : HasServerClose run.plan.tested (got_in_all (turns_of_run s))
+  pub closing_holds : HasServerClose run.plan.tested run.plan.expected (got_in_all (turns_of_run s))
       → Holds run told (with_closing (with_nothing_to_send s))
   closing_holds closes = record {
     plan_is = h.plan_is;

@@ -35,7 +35,7 @@ module _ (run : ScriptValue) (told : List Told) (plan : PlanValue) (past : List 
       pieces = h.pieces.1;
       bytes = record { dropped = []; split = h.bytes.split ∙ parts; whole = λ c f. refl };
       has_failed = h.has_failed;
-      closed = λ c. subst (λ (l : List ℕ). HasServerClose run.plan.tested l) (sym (got_begun (past ++ turn ∷ [])))
+      closed = λ c. subst (λ (l : List ℕ). HasServerClose run.plan.tested run.plan.expected l) (sym (got_begun (past ++ turn ∷ [])))
           (h.closed c);
       half = h.half;
       waited = λ n some within. pick n some (cases_lt (length past) n);

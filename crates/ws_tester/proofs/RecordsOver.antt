@@ -6,7 +6,7 @@ use Rattle.std.specs.List.{concat}
 use Rattle.ws_wire.specs.declared.role.Role.{Role}
 use Rattle.ws_scripts.specs.declared.expectation.Expectation.{Expectation}
 use Rattle.ws_scripts.specs.declared.transcript.Turn.{Turn}
-use Rattle.ws_suite.specs.Evidence.{other_role, sent_turns}
+use Rattle.ws_suite.specs.Evidence.{sent_turns}
 use Rattle.ws_suite.specs.Growing.{EndInsideFrame}
 use Rattle.ws_machines.specs.Told.{Told}
 use Rattle.ws_tester.specs.Standings.{stops_run}
@@ -20,7 +20,7 @@ use Rattle.ws_tester.specs.declared.outcome.TurnFacts.{TurnFacts}
 use Rattle.ws_tester.specs.declared.standing.Standing.{Standing}
 use Rattle.ws_tester.specs.declared.standing.Standing.TheVariants.{Going}
 use Rattle.ws_tester.proofs.RecordsHolds.{Holds}
-use Rattle.ws_tester.proofs.RecordsTests.{OneStanding, is_false, one_end}
+use Rattle.ws_tester.proofs.RecordsTests.{OneStanding, is_false, one_end, stands_once}
 
 -- ---- tests
 
@@ -121,7 +121,8 @@ module _ (one : OneStanding) (run : ScriptValue) (told : List Told) (x : RunStat
 
   going : IsUnbroken run told (turns_of_run x) → has_end facts.standing ≡ false
   going u = ap (λ (s : Standing). has_end s)
-      (one (other_role run.plan.tested) facts.standing Going (got_in_all (turns_of_run x)) facts_are.standing u.going)
+      (stands_once one run.plan.tested run.plan.expected facts.standing Going (got_in_all (turns_of_run x))
+      facts_are.standing u.going)
 
   whole_frames : ¬ (EndInsideFrame run.plan.tested (turns_of_run x)) → facts.is_inside ≡ false
   whole_frames never = is_false facts.is_inside (λ e. never (facts_are.inside.0 e))
@@ -183,7 +184,8 @@ module _ (one : OneStanding) (run : ScriptValue) (told : List Told) (x : RunStat
       let stops : stops_run x.plan.tested facts.standing ≡ true =
       ap (λ (plan : PlanValue). stops_run plan.tested facts.standing) h.plan_is
       ∙ (ap (λ (s : Standing). stops_run run.plan.tested s)
-      (one (other_role run.plan.tested) facts.standing t (got_in_all (turns_of_run x)) facts_are.standing stands)
+      (stands_once one run.plan.tested run.plan.expected facts.standing t (got_in_all (turns_of_run x))
+      facts_are.standing stands)
       ∙ is) in
       let wrong : true ≡ false = sym stops ∙ goes in cc
   not_over goes waits (inr (u, inl n)) = sent_and_over (next_over u n) waits

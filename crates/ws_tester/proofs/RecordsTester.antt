@@ -8,11 +8,11 @@ use Rattle.ws_wire.specs.declared.role.Role.TheVariants.{Client, Server}
 use Rattle.ws_scripts.specs.declared.expectation.Expectation.{Expectation}
 use Rattle.ws_scripts.specs.declared.expectation.Expectation.TheVariants.{Echo, Protocol}
 use Rattle.ws_scripts.specs.declared.transcript.Turn.{Turn}
-use Rattle.ws_suite.specs.Evidence.{other_role, sent_turns}
+use Rattle.ws_suite.specs.Evidence.{sent_turns}
 use Rattle.ws_suite.specs.Growing.{EndInsideFrame, CannotComeAfter}
 use Rattle.ws_suite.specs.Waiting.{AreTurnsAnsweredBy}
 use Rattle.ws_machines.specs.Told.{Told}
-use Rattle.ws_tester.specs.Standings.{HasStanding, HasStandingBy, stops_run}
+use Rattle.ws_tester.specs.Standings.{HasStandingBy, StandsAs, stops_run}
 use Rattle.ws_tester.specs.Outcomes.{AreFacts, got_in_all, has_come, has_end, is_in_vain, is_turn_over, is_waited_out}
 use Rattle.ws_tester.specs.Outcomes.{HasSentEnd, owes_messages, waits_for_end}
 use Rattle.ws_tester.specs.Outgoings.{Pieces}
@@ -144,8 +144,8 @@ module _ (one : OneStanding) (run : ScriptValue) (told : List Told) (x : RunStat
       record {
         sent = all_sent run told x h sent last unclosed parts.1;
         echo = subst (λ (plan : PlanValue). plan.expected ≡ Echo) h.plan_is (is_echo x.plan.expected parts.0);
-        going = subst (λ (plan : PlanValue). HasStanding (other_role plan.tested) Going (got_in_all (turns_of_run x)))
-            h.plan_is (subst (λ (s : Standing). HasStanding (other_role x.plan.tested) s (got_in_all (turns_of_run x)))
+        going = subst (λ (plan : PlanValue). StandsAs plan.tested plan.expected Going (got_in_all (turns_of_run x)))
+            h.plan_is (subst (λ (s : Standing). StandsAs x.plan.tested x.plan.expected s (got_in_all (turns_of_run x)))
             parts.2 are.standing);
         cannot = subst (λ (plan : PlanValue). CannotComeAfter plan.tested (turns_of_run x)) h.plan_is
             (are.cannot.0 parts.3);
@@ -155,7 +155,7 @@ module _ (one : OneStanding) (run : ScriptValue) (told : List Told) (x : RunStat
   pub tester_so : (stops_run x.plan.tested facts.standing ≡ true)
       ⊎ ((is_all_sent x ≡ true) × (is_turn_over x facts ≡ true) × (has_more x ≡ false))
       → IsEndedByTester run told (turns_of_run x)
-  tester_so (inl final) = inl (subst (λ (plan : PlanValue). HasStandingBy stops_run true plan.tested
+  tester_so (inl final) = inl (subst (λ (plan : PlanValue). HasStandingBy stops_run true plan.tested plan.expected
       (got_in_all (turns_of_run x))) h.plan_is (facts.standing, final, are.standing))
   tester_so (inr (sent, over, last)) = pick (either_so (has_come x facts) (is_in_vain x facts) over)
     where

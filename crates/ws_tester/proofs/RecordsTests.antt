@@ -6,7 +6,8 @@ use Rattle.ws_scripts.specs.declared.transcript.Ended.TheVariants.{Tester, Peer,
 use Rattle.ws_scripts.specs.declared.transcript.Turn.{Turn}
 use Rattle.ws_suite.specs.Evidence.{other_role}
 use Rattle.ws_machines.specs.Told.{Told}
-use Rattle.ws_tester.specs.Standings.{HasServerClose, HasStanding, is_server_close}
+use Rattle.ws_scripts.specs.declared.expectation.Expectation.{Expectation}
+use Rattle.ws_tester.specs.Standings.{HasServerClose, HasStanding, StandsAs, is_server_close}
 use Rattle.ws_tester.specs.Outcomes.{AreFacts, HasSentEnd, got_in_all, by_tests, has_come, has_end, is_waited_out}
 use Rattle.ws_tester.specs.Outcomes.{sent_in_all}
 use Rattle.ws_tester.specs.RunStates.{PlanValue, RunState, has_more, turns_of_run}
@@ -16,17 +17,25 @@ use Rattle.ws_tester.specs.declared.outcome.TurnFacts.{TurnFacts}
 use Rattle.ws_tester.specs.declared.standing.Standing.{Standing}
 use Rattle.ws_tester.specs.declared.standing.Standing.TheVariants.{Going, Closed, Faulty}
 use Rattle.ws_tester.proofs.RecordsHolds.{Holds}
+use Rattle.ws_tester.proofs.StandingLemmas.{one_stands}
 
 -- bytes stand in one way
 abbrev pub OneStanding : Type 0
 OneStanding = (reader : Role) (s t : Standing) (bytes : List ℕ) → HasStanding reader s bytes
     → HasStanding reader t bytes → s ≡ t
 
+-- so does what was got stand to a run
+pub stands_once : OneStanding → (tested : Role) (expected : Expectation) (s t : Standing) (got : List ℕ)
+    → StandsAs tested expected s got → StandsAs tested expected t got → s ≡ t
+stands_once one tested expected s t got a b =
+    one_stands tested expected got (λ x y g h. one (other_role tested) x y got g h) s t a b
+
 -- where what was got stands so, a server's close is its last event or isn't
-pub one_close : OneStanding → (tested : Role) (standing : Standing) (got : List ℕ)
-    → HasStanding (other_role tested) standing got → HasServerClose tested got → is_server_close tested standing ≡ true
-one_close one tested standing got at (t, is, stands) =
-    ap (λ (s : Standing). is_server_close tested s) (one (other_role tested) standing t got at stands) ∙ is
+pub one_close : OneStanding → (tested : Role) (expected : Expectation) (standing : Standing) (got : List ℕ)
+    → StandsAs tested expected standing got → HasServerClose tested expected got
+    → is_server_close tested standing ≡ true
+one_close one tested expected standing got at (t, is, stands) =
+    ap (λ (s : Standing). is_server_close tested s) (stands_once one tested expected standing t got at stands) ∙ is
 
 pub both_true : (a b : Bool) → (a && b) ≡ true → (a ≡ true) × (b ≡ true)
 both_true true true e = (refl, refl)
@@ -51,11 +60,11 @@ close_ends tested Faulty e = refl
 pub closing_ends : OneStanding → (run : ScriptValue) (told : List Told) (x : RunState) (facts : TurnFacts)
     → Holds run told x → AreFacts x.plan x.past (turns_of_run x) facts → x.closing ≡ true → has_end facts.standing ≡ true
 closing_ends one run told x facts h are c =
-    let stands : HasStanding (other_role run.plan.tested) facts.standing (got_in_all (turns_of_run x)) =
-    subst (λ (plan : PlanValue). HasStanding (other_role plan.tested) facts.standing (got_in_all (turns_of_run x)))
+    let stands : StandsAs run.plan.tested run.plan.expected facts.standing (got_in_all (turns_of_run x)) =
+    subst (λ (plan : PlanValue). StandsAs plan.tested plan.expected facts.standing (got_in_all (turns_of_run x)))
     h.plan_is are.standing in
     close_ends run.plan.tested facts.standing
-    (one_close one run.plan.tested facts.standing (got_in_all (turns_of_run x)) stands (h.closed c))
+    (one_close one run.plan.tested run.plan.expected facts.standing (got_in_all (turns_of_run x)) stands (h.closed c))
 
 -- what has to be so where what is waited for has come
 come_parts : (ends failed out answered whole : Bool)

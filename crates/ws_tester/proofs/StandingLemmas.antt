@@ -1,5 +1,6 @@
 -- How bytes stand, by the status of the session that has taken them, and what a run makes of it.
-use Rattle.std.proofs.Common.{◌≡◌, ◌∙◌, ℕ, List, Bool, true, false, if◌then◌else◌, Option, refl, sym, ap, subst}
+use Rattle.std.proofs.Common.{◌≡◌, ◌∙◌, ℕ, ◌⊎◌, List, ◌++◌, Bool, true, false, if◌then◌else◌, Option, refl, sym, ap, subst}
+use Rattle.std.proofs.Common.{inl, inr}
 use Rattle.std.specs.Prelude.{None, Some}
 use Rattle.ws_wire.specs.declared.role.Role.{Role}
 use Rattle.ws_wire.specs.Frame.{Frame}
@@ -13,10 +14,13 @@ use Rattle.ws_session.specs.Exchange.{SessionValue, is_over, last_event, status_
 use Rattle.ws_session.specs.Replies.{has_close}
 use Rattle.ws_session.specs.Sends.{most_limits}
 use Rattle.ws_suite.specs.Evidence.{other_role}
-use Rattle.ws_tester.specs.Standings.{HasStanding, HasStandingBy, HearsAll, is_server_close, standing_after}
+use Rattle.ws_scripts.specs.declared.expectation.Expectation.{Expectation}
+use Rattle.ws_scripts.specs.declared.expectation.Expectation.TheVariants.{Echo, Protocol}
+use Rattle.ws_suite.proofs.UndefinedCloses.{undefined_is_last, undefined_stays}
+use Rattle.ws_tester.specs.Standings.{CountsAsClose, HasStanding, HearsAll, StandsAs, is_server_close, standing_after}
 use Rattle.ws_tester.specs.Standings.{standing_of_status}
 use Rattle.ws_tester.specs.declared.standing.Standing.{Standing}
-use Rattle.ws_tester.specs.declared.standing.Standing.TheVariants.{Going}
+use Rattle.ws_tester.specs.declared.standing.Standing.TheVariants.{Going, Closed, Faulty}
 
 -- ---- by the status
 
@@ -61,16 +65,63 @@ one_standing one reader s t got a b = sym a.last
     ∙ ap (λ (l : List Event). standing_after (last_event l))
     (one reader most_limits got a.events b.events a.are_events b.are_events) ∙ b.last
 
--- a standing by which a test answers so is the only one
-pub stands_so : OneList → (test : Role → Standing → Bool) (answer : Bool) (tested : Role) (s : Standing) (got : List ℕ)
-    → HasStanding (other_role tested) s got → HasStandingBy test answer tested got → test tested s ≡ answer
-stands_so one test answer tested s got at (t, is, stands) =
-    ap (λ (x : Standing). test tested x) (one_standing one (other_role tested) s t got at stands) ∙ is
+-- what was got stands to a run in one way
+pub one_stands : (tested : Role) (expected : Expectation) (got : List ℕ)
+    → ((s t : Standing) → HasStanding (other_role tested) s got → HasStanding (other_role tested) t got → s ≡ t)
+    → (s t : Standing) → StandsAs tested expected s got → StandsAs tested expected t got → s ≡ t
+one_stands tested expected got one s t a b = pick a.counted b.counted
+  where
+    pick : (CountsAsClose expected (other_role tested) got × (s ≡ Closed))
+        ⊎ ((¬ (CountsAsClose expected (other_role tested) got)) × HasStanding (other_role tested) s got)
+        → (CountsAsClose expected (other_role tested) got × (t ≡ Closed))
+        ⊎ ((¬ (CountsAsClose expected (other_role tested) got)) × HasStanding (other_role tested) t got) → s ≡ t
+    pick (inl a) (inl b) = a.1 ∙ sym b.1
+    pick (inl a) (inr b) = absurd (b.0 a.0)
+    pick (inr a) (inl b) = absurd (a.0 b.0)
+    pick (inr a) (inr b) = one s t a.1 b.1
 
--- a session that has heard an end is over
-pub closes_is_over : (tested : Role) (s : Status) → is_server_close tested (standing_of_status s) ≡ true → is_over s ≡ true
-closes_is_over tested status.Open e = absurd cc
-closes_is_over tested status.Closing e = absurd cc
-closes_is_over tested (status.Clean code) e = refl
-closes_is_over tested (status.Failed reason) e = absurd cc
-closes_is_over tested status.Lost e = absurd cc
+-- ---- what counts as a close
+
+-- where the last event isn't a fault, nothing does
+pub never_counts : (expected : Expectation) (reader : Role) (standing : Standing) (bytes : List ℕ)
+    → HasStanding reader standing bytes → (standing ≡ Faulty → ⊥) → ¬ (CountsAsClose expected reader bytes)
+never_counts Echo reader standing bytes h other counts = counts
+never_counts Protocol reader standing bytes h other (code, fails) =
+    other (sym h.last ∙ ap (λ (o : Option Event). standing_after o)
+    (undefined_is_last reader bytes code h.events fails h.are_events))
+
+-- more bytes leave what does
+pub counts_on : (expected : Expectation) (reader : Role) (bytes more : List ℕ) → CountsAsClose expected reader bytes
+    → CountsAsClose expected reader (bytes ++ more)
+counts_on Echo reader bytes more counts = counts
+counts_on Protocol reader bytes more (code, fails) = (code, undefined_stays reader bytes more code fails)
+
+-- what shows no fault stands to a run as it shows
+pub stands_shown : (tested : Role) (expected : Expectation) (standing : Standing) (got : List ℕ)
+    → HasStanding (other_role tested) standing got → (standing ≡ Faulty → ⊥) → StandsAs tested expected standing got
+stands_shown tested expected standing got h other =
+    record { counted = inr (never_counts expected (other_role tested) standing got h other, h) }
+
+-- what shows a fault stands as a close where that counts as one
+pub stands_faulty : (tested : Role) (expected : Expectation) (standing : Standing) (got : List ℕ)
+    → HasStanding (other_role tested) Faulty got
+    → (CountsAsClose expected (other_role tested) got × (standing ≡ Closed))
+    ⊎ ((¬ (CountsAsClose expected (other_role tested) got)) × (standing ≡ Faulty)) → StandsAs tested expected standing got
+stands_faulty tested expected standing got h (inl counts) = record { counted = inl counts }
+stands_faulty tested expected standing got h (inr (never, is)) = record {
+  counted = inr (never, subst (λ (s : Standing). HasStanding (other_role tested) s got) (sym is) h);
+}
+
+-- a close of a server is one
+pub close_is : (tested : Role) (standing : Standing) → is_server_close tested standing ≡ true → standing ≡ Closed
+close_is tested Going e = absurd cc
+close_is tested Closed e = refl
+close_is tested Faulty e = absurd cc
+
+-- a session that has heard a close is over
+pub closed_is_over : (s : Status) → standing_of_status s ≡ Closed → is_over s ≡ true
+closed_is_over status.Open e = absurd cc
+closed_is_over status.Closing e = absurd cc
+closed_is_over (status.Clean code) e = refl
+closed_is_over (status.Failed reason) e = absurd cc
+closed_is_over status.Lost e = absurd cc

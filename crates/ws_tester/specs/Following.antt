@@ -1,14 +1,14 @@
 -- What was told of a run, event by event.
 use Rattle.std.specs.Prelude.{◌≡◌, ℕ, zero, suc, ◌≤◌, ◌⊎◌, ◌||◌, ⊤, Bool, true, false, List, [], ◌∷◌, ◌++◌, length}
+use Rattle.std.specs.Prelude.{if◌then◌else◌}
 use Rattle.std.specs.Prelude.{Option, Some, None}
 use Rattle.ws_scripts.specs.declared.transcript.Ended.{Ended}
 use Rattle.ws_scripts.specs.declared.transcript.Ended.TheVariants.{Tester}
-use Rattle.ws_suite.specs.Evidence.{other_role}
 use Rattle.ws_suite.specs.Growing.{GrowingValue, HasGrown}
 use Rattle.ws_suite.specs.Progress.{NotesGot, NotesSent}
 use Rattle.ws_machines.specs.Told.{Told}
 use Rattle.ws_machines.specs.Told.Told.{Came, Ended as StreamEnded, ReadFailed, NothingCame, Taken, DirectionEnded}
-use Rattle.ws_tester.specs.Standings.{HasServerClose, HasStanding, is_server_close}
+use Rattle.ws_tester.specs.Standings.{HasServerClose, StandsAs, is_server_close}
 use Rattle.ws_tester.specs.Outgoings.{Pieces, after_first, first_piece, first_turn}
 use Rattle.ws_tester.specs.Outcomes.{AreFacts, HasSentEnd, got_in_all, outcome_of, outcome_of_event}
 use Rattle.ws_tester.specs.RunStates.{PlanValue, RunState, turns_of_run, with_event, with_next_turn, with_run_end}
@@ -17,6 +17,7 @@ use Rattle.ws_tester.specs.declared.outcome.Outcome.{Outcome}
 use Rattle.ws_tester.specs.declared.outcome.Outcome.TheVariants.{Rests, Next, Ends}
 use Rattle.ws_tester.specs.declared.outcome.TurnFacts.{TurnFacts}
 use Rattle.ws_tester.specs.declared.standing.Standing.{Standing}
+use Rattle.ws_tester.specs.declared.standing.Standing.TheVariants.{Closed}
 
 -- ---- until the run rests
 
@@ -64,7 +65,7 @@ MayHappen x _ = ⊤
 
 -- what was got stands so, and a server's close that was got before is still its last event
 pub record StandsBy (x : RunState) (standing : Standing) : Type 0 where
-  pub stands : HasStanding (other_role x.plan.tested) standing (got_in_all (turns_of_run x))
+  pub stands : StandsAs x.plan.tested x.plan.expected standing (got_in_all (turns_of_run x))
   pub still : x.closing ≡ true → is_server_close x.plan.tested standing ≡ true
 
 -- What comes is heard: how what was got stands by now, which pings it answers, and whether it is progress. Only then
@@ -123,13 +124,14 @@ abbrev pub has_items : {X : Type 0} → List X → Bool
 has_items [] = false
 has_items (x ∷ xs) = true
 
--- before anything is sent, where what came with the head has a server's close, or hasn't
+-- Before anything is sent, where what came with the head has a server's close, or hasn't. Where it has, nothing is sent
+-- of the first turn.
 abbrev pub first_state : ScriptValue → Bool → RunState
 first_state run closing = record {
   plan = run.plan;
   past = [];
   turn = record { sent = []; got = run.first };
-  outgoing = record { rest = first_turn run.script; later = after_first run.script };
+  outgoing = record { rest = if closing then [] else first_turn run.script; later = after_first run.script };
   allowance = run.budget;
   closing = closing;
   half_closed = false;
@@ -147,22 +149,32 @@ BeginsBy (pieces ∷ turns) first start = Settles first start
 
 -- A run begins in this state, by how what came with the head stands.
 abbrev pub BeginsRun : ScriptValue → RunState → Type 0
-BeginsRun run start = (standing : Standing) × HasStanding (other_role run.plan.tested) standing run.first
+BeginsRun run start = (standing : Standing) × StandsAs run.plan.tested run.plan.expected standing run.first
     × BeginsBy run.script (first_state run (is_server_close run.plan.tested standing)) start
 
 -- ---- the machine
 
--- a run as its machine has it: the state, what is shown of it, and whether a close or a fault was sent before the turn
+-- a run as its machine has it: the state, what is shown of it, how what was got stands to it, and whether a close or a
+-- fault was sent before the turn
 pub record TesterValue : Type 0 where
   pub run : RunState
   pub seen : GrowingValue
+  pub standing : Standing
   pub had_sent_end : Bool
 
--- what is shown is that of the turns so far
+-- What is shown is that of the turns so far, and so does what was got stand to the run.
 pub record ShowsTurns (x : TesterValue) : Type 0 where
   pub grown : HasGrown x.run.plan.tested (turns_of_run x.run) x.seen
+  pub stands : StandsAs x.run.plan.tested x.run.plan.expected x.standing (got_in_all (turns_of_run x.run))
   pub before : HasSentEnd x.run.plan.tested x.run.past x.had_sent_end
-  pub closing : x.run.closing ≡ true → HasServerClose x.run.plan.tested (got_in_all (turns_of_run x.run))
+  pub closing : x.run.closing ≡ true
+      → HasServerClose x.run.plan.tested x.run.plan.expected (got_in_all (turns_of_run x.run))
+
+-- By now what was got stands so: a close that was there before is one still, and else it stands as it shows.
+abbrev pub StandsNow : TesterValue → Standing → Type 0
+StandsNow x standing = HasGrown x.run.plan.tested (turns_of_run x.run) x.seen
+    → (x.standing ≡ Closed → StandsAs x.run.plan.tested x.run.plan.expected Closed (got_in_all (turns_of_run x.run)))
+    → StandsAs x.run.plan.tested x.run.plan.expected standing (got_in_all (turns_of_run x.run))
 
 -- from the first state to the second one the machine was told just this
 abbrev pub WasTold : TesterValue → TesterValue → List Told → Type 0

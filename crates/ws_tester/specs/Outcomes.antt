@@ -8,13 +8,13 @@ use Rattle.ws_scripts.specs.declared.expectation.Expectation.{Expectation}
 use Rattle.ws_scripts.specs.declared.transcript.Ended.{Ended}
 use Rattle.ws_scripts.specs.declared.transcript.Ended.TheVariants.{Tester, Peer, Broken}
 use Rattle.ws_scripts.specs.declared.transcript.Turn.{Turn}
-use Rattle.ws_suite.specs.Evidence.{got_turns, other_role, sent_turns}
+use Rattle.ws_suite.specs.Evidence.{got_turns, sent_turns}
 use Rattle.ws_scripts.specs.declared.expectation.Expectation.TheVariants.{Echo, Protocol}
 use Rattle.ws_suite.specs.Growing.{EndInsideFrame, CannotComeAfter}
 use Rattle.ws_suite.specs.Waiting.{AreTurnsAnsweredBy, AreTurnsSeenAnswered}
 use Rattle.ws_machines.specs.Told.{Told}
 use Rattle.ws_machines.specs.Told.Told.{ReadFailed, Ended as StreamEnded, NothingCame, DeadlinePassed}
-use Rattle.ws_tester.specs.Standings.{HasStanding, stops_run}
+use Rattle.ws_tester.specs.Standings.{HasStanding, StandsAs, stops_run}
 use Rattle.ws_tester.specs.RunStates.{PlanValue, RunState, has_more, is_all_sent, wants_own_end}
 use Rattle.ws_tester.specs.declared.outcome.Outcome.{Outcome}
 use Rattle.ws_tester.specs.declared.outcome.Outcome.TheVariants.{Rests, Next, Ends}
@@ -41,11 +41,11 @@ abbrev pub HasSentEnd : Role → List Turn → Bool → Type 0
 HasSentEnd tested turns answer =
     (standing : Standing) × HasStanding tested standing (sent_in_all turns) × (answer ≡ has_end standing)
 
--- The answers are right: how what was got stands; whether what was sent has a close or a fault by now, and whether that
--- was so before the turn; whether what is owed has come, where a yes is right and what a run sees is a yes; whether
--- what was got ends inside a frame; and whether what an echo owes can't come any more.
+-- The answers are right: how what was got stands to the run; whether what was sent has a close or a fault by now, and
+-- whether that was so before the turn; whether what is owed has come, where a yes is right and what a run sees is a
+-- yes; whether what was got ends inside a frame; and whether what an echo owes can't come any more.
 pub record AreFacts (plan : PlanValue) (past turns : List Turn) (facts : TurnFacts) : Type 0 where
-  pub standing : HasStanding (other_role plan.tested) facts.standing (got_in_all turns)
+  pub standing : StandsAs plan.tested plan.expected facts.standing (got_in_all turns)
   pub sent_end : HasSentEnd plan.tested turns facts.has_sent_end
   pub sent_before : HasSentEnd plan.tested past facts.had_sent_end
   pub come : facts.is_answered ≡ true → AreTurnsAnsweredBy plan.expected plan.tested turns

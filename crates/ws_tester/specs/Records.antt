@@ -7,14 +7,14 @@ use Rattle.ws_scripts.specs.declared.expectation.Expectation.TheVariants.{Echo}
 use Rattle.ws_scripts.specs.declared.transcript.Ended.TheVariants.{Tester, Peer, Broken}
 use Rattle.ws_scripts.specs.declared.transcript.Turn.{Turn}
 use Rattle.ws_scripts.specs.declared.transcript.Transcript.{Transcript}
-use Rattle.ws_suite.specs.Evidence.{other_role, sent_turns}
+use Rattle.ws_suite.specs.Evidence.{sent_turns}
 use Rattle.ws_suite.specs.Growing.{EndInsideFrame, CannotComeAfter, new_turn}
 use Rattle.ws_suite.specs.Waiting.{AreTurnsAnsweredBy, AreTurnsSeenAnswered}
 use Rattle.ws_machines.specs.Told.{Told, all_came, all_taken}
 use Rattle.ws_machines.specs.Told.Told.{ReadFailed, WriteFailed, Ended, NothingCame, DirectionEnded, DeadlinePassed}
 use Rattle.ws_machines.specs.Told.Told.{Taken}
-use Rattle.ws_tester.specs.Standings.{HasServerClose, HasStanding, HasStandingBy, stops_run}
-use Rattle.ws_tester.specs.Outgoings.{HaveBytes, first_turn}
+use Rattle.ws_tester.specs.Standings.{HasServerClose, HasStandingBy, StandsAs, stops_run}
+use Rattle.ws_tester.specs.Outgoings.{HaveBytes}
 use Rattle.ws_tester.specs.Outcomes.{HasSentEnd, got_in_all, sent_in_all}
 use Rattle.ws_tester.specs.Following.{BeginsRun, Follows, ScriptValue}
 use Rattle.ws_tester.specs.RunStates.{RunState, recorded}
@@ -61,13 +61,13 @@ pub record AreSentOf (script sent : List (List ℕ)) : Type 0 where
 pub record CannotComeAnyMore (run : ScriptValue) (turns : List Turn) : Type 0 where
   pub sent : map concat run.script ≡ sent_turns turns
   pub echo : run.plan.expected ≡ Echo
-  pub going : HasStanding (other_role run.plan.tested) Going (got_in_all turns)
+  pub going : StandsAs run.plan.tested run.plan.expected Going (got_in_all turns)
   pub cannot : CannotComeAfter run.plan.tested turns
   pub whole : ¬ (EndInsideFrame run.plan.tested turns)
 
 -- What was got has neither a close nor a fault, and no write has failed.
 pub record IsUnbroken (run : ScriptValue) (told : List Told) (turns : List Turn) : Type 0 where
-  pub going : HasStanding (other_role run.plan.tested) Going (got_in_all turns)
+  pub going : StandsAs run.plan.tested run.plan.expected Going (got_in_all turns)
   pub works : ¬ (Was WriteFailed told)
 
 -- where waits can be in vain, the turn behind these isn't the one that has sent a close or a fault
@@ -96,7 +96,8 @@ pub record IsClientAnswered (run : ScriptValue) (turns : List Turn) : Type 0 whe
 -- close; or it is unbroken, and what is owed has come and the next turn is due, or the client of the last one has
 -- answered; or what is owed can't come any more.
 abbrev pub IsOver : ScriptValue → List Told → List Turn → Turn → Type 0
-IsOver run told past turn = HasStandingBy stops_run true run.plan.tested (got_in_all (past ++ turn ∷ []))
+IsOver run told past turn =
+    HasStandingBy stops_run true run.plan.tested run.plan.expected (got_in_all (past ++ turn ∷ []))
     ⊎ (IsUnbroken run told (past ++ turn ∷ []) × (IsNextDue run past turn
     ⊎ (IsClientAnswered run (past ++ turn ∷ []) ⊎ CannotComeAnyMore run (past ++ turn ∷ []))))
 
@@ -114,7 +115,7 @@ IsWaitedFor run turns told = (AreTurnsAnsweredBy run.plan.expected run.plan.test
 -- These turns were sent whole, and are the first of the script; unless a write has failed, or a server's close was got.
 abbrev pub AreSentWhole : ScriptValue → List Told → List Turn → Type 0
 AreSentWhole run told turns = ((later : List (List ℕ)) × (map concat run.script ≡ sent_turns turns ++ later))
-    ⊎ (Was WriteFailed told ⊎ HasServerClose run.plan.tested (got_in_all turns))
+    ⊎ (Was WriteFailed told ⊎ HasServerClose run.plan.tested run.plan.expected (got_in_all turns))
 
 -- the budget was used up, all of the last turn was sent, and something was still waited for in it
 pub record IsBudgetUsed (run : ScriptValue) (told : List Told) (turns : List Turn) : Type 0 where
@@ -144,7 +145,8 @@ pub record HasAllOwed (run : ScriptValue) (turns : List Turn) : Type 0 where
 -- it was told last that nothing came, and all turns of the script were sent, or a server's close was got
 pub record IsEndedBySilence (run : ScriptValue) (told : List Told) (turns : List Turn) : Type 0 where
   pub last : WasLast NothingCame told
-  pub sent : (map concat run.script ≡ sent_turns turns) ⊎ HasServerClose run.plan.tested (got_in_all turns)
+  pub sent : (map concat run.script ≡ sent_turns turns)
+      ⊎ HasServerClose run.plan.tested run.plan.expected (got_in_all turns)
 
 -- the deadline passed last; and it was waited long enough, or no wait can be in vain
 abbrev pub IsEndedByDeadline : ScriptValue → List Told → Type 0
@@ -155,21 +157,17 @@ IsEndedByDeadline run told = (waited : Bool) × ((waited ≡ true) ⊎ (run.plan
 -- nothing came in time for the last turn, or behind a server's close; by the deadline; and in the last turn, where a
 -- client has sent all that is owed, or what is owed can't come any more.
 abbrev pub IsEndedByTester : ScriptValue → List Told → List Turn → Type 0
-IsEndedByTester run told turns = HasStandingBy stops_run true run.plan.tested (got_in_all turns)
+IsEndedByTester run told turns = HasStandingBy stops_run true run.plan.tested run.plan.expected (got_in_all turns)
     ⊎ (IsEndedBySilence run told turns ⊎ (IsEndedByDeadline run told
     ⊎ (HasAllOwed run turns ⊎ CannotComeAnyMore run turns)))
 
--- The own direction was ended; or before that could be, the deadline passed, or, where the close came with the head,
--- the stream ended or a read failed before the first turn was all sent.
-abbrev pub IsHalfClosed : ScriptValue → List Told → List Turn → Type 0
-IsHalfClosed run told turns = Was DirectionEnded told ⊎ (((waited : Bool) × WasLast (DeadlinePassed waited) told)
-    ⊎ (HasServerClose run.plan.tested run.first × (WasLast Ended told ⊎ WasLast ReadFailed told)
-    × (length (sent_in_all turns) < length (concat (first_turn run.script)))))
+-- the own direction was ended; or before that could be, the deadline passed
+abbrev pub IsHalfClosed : List Told → Type 0
+IsHalfClosed told = Was DirectionEnded told ⊎ ((waited : Bool) × WasLast (DeadlinePassed waited) told)
 
--- by then neither a close nor a fault was got; or a close of a server came with the head
+-- by then neither a close nor a fault was got, with the head or behind it
 abbrev pub IsSentInTime : ScriptValue → List Told → Type 0
-IsSentInTime run before = HasStanding (other_role run.plan.tested) Going (run.first ++ all_came before)
-    ⊎ HasServerClose run.plan.tested run.first
+IsSentInTime run before = StandsAs run.plan.tested run.plan.expected Going (run.first ++ all_came before)
 
 -- what a turn has sent and got is a beginning of what it has in the end
 pub record HasBegunTurn (turn whole : Turn) : Type 0 where
@@ -225,13 +223,14 @@ pub record IsRecordOf (run : ScriptValue) (told : List Told) (transcript : Trans
   pub peer : transcript.ended ≡ Peer → WasLast Ended told
   pub last : (before : List Told) (event : Told) → WasAt event told before → is_last_told event ≡ true
       → WasLast event told
-  pub half_closed : Was DirectionEnded told → HasServerClose run.plan.tested (got_in_all transcript.turns)
-  pub closes : HasServerClose run.plan.tested (got_in_all transcript.turns) → (run.script ≡ [])
-      ⊎ IsHalfClosed run told transcript.turns
+  pub half_closed : Was DirectionEnded told
+      → HasServerClose run.plan.tested run.plan.expected (got_in_all transcript.turns)
+  pub closes : HasServerClose run.plan.tested run.plan.expected (got_in_all transcript.turns) → (run.script ≡ [])
+      ⊎ IsHalfClosed told
   pub in_time : (before : List Told) (byte : ℕ) (bytes : List ℕ) → WasAt (Taken (byte ∷ bytes)) told before
       → IsSentInTime run before
   pub follows : (n : ℕ) → 0 < n → n < length transcript.turns
-      → HasStanding (other_role run.plan.tested) Going (got_in_all (take n transcript.turns))
+      → StandsAs run.plan.tested run.plan.expected Going (got_in_all (take n transcript.turns))
   pub waits : (before : List Told) (event : Told) → WasAt event told before → WasWaiting run transcript.turns before
   pub silences : (before : List Told) → WasAt NothingCame told before → IsWaitOver run transcript.turns told before
 

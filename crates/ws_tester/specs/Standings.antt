@@ -1,6 +1,6 @@
 -- How what one end sent stands, at the other one, which takes the largest messages, and what a run makes of it (RFC
 -- 6455 sections 5 and 7.1).
-use Rattle.std.specs.Prelude.{◌≡◌, ℕ, Bool, true, false, List, Option, Some}
+use Rattle.std.specs.Prelude.{◌≡◌, ℕ, ◌⊎◌, Bool, true, false, List, Option, Some}
 use Rattle.ws_wire.specs.declared.role.Role.{Role}
 use Rattle.ws_wire.specs.declared.role.Role.TheVariants.{Client, Server}
 use Rattle.ws_wire.specs.Frame.{Frame}
@@ -11,7 +11,10 @@ use Rattle.ws_session.specs.Exchange.{HasExchanged, SessionValue, last_event}
 use Rattle.ws_session.specs.Sends.{most_limits}
 use Rattle.ws_session.specs.declared.status.Status.{Status}
 use Rattle.ws_session.specs.declared.status.Status.TheVariants as status
+use Rattle.ws_scripts.specs.declared.expectation.Expectation.{Expectation}
+use Rattle.ws_scripts.specs.declared.expectation.Expectation.TheVariants.{Echo, Protocol}
 use Rattle.ws_suite.specs.Evidence.{other_role}
+use Rattle.ws_suite.specs.Marks.{FailsByUndefinedCode}
 use Rattle.ws_tester.specs.declared.standing.Standing.{Standing}
 use Rattle.ws_tester.specs.declared.standing.Standing.TheVariants.{Going, Closed, Faulty}
 
@@ -27,6 +30,19 @@ pub record HasStanding (reader : Role) (standing : Standing) (bytes : List ℕ) 
   pub events : List Event
   pub are_events : HasEvents reader most_limits bytes events
   pub last : standing_after (last_event events) ≡ standing
+
+-- ---- how what was got stands to a run
+
+-- the fault at which a close frame's code is one that the standard leaves undefined (section 7.4): by the protocol it
+-- counts as a close, of an echo it doesn't
+abbrev pub CountsAsClose : Expectation → Role → List ℕ → Type 0
+CountsAsClose Echo reader bytes = ⊥
+CountsAsClose Protocol reader bytes = (code : ℕ) × FailsByUndefinedCode reader bytes code
+
+-- What was got from the tested end stands so to a run: a fault that counts as a close as a close, all else as it is.
+pub record StandsAs (tested : Role) (expected : Expectation) (standing : Standing) (got : List ℕ) : Type 0 where
+  pub counted : (CountsAsClose expected (other_role tested) got × (standing ≡ Closed))
+      ⊎ ((¬ (CountsAsClose expected (other_role tested) got)) × HasStanding (other_role tested) standing got)
 
 -- ---- what a run makes of it
 
@@ -53,13 +69,13 @@ is_server_close tested Closed = waits_at_close tested
 is_server_close tested Faulty = false
 
 -- what was got from the tested end stands in one of these ways
-abbrev pub HasStandingBy : (Role → Standing → Bool) → Bool → Role → List ℕ → Type 0
-HasStandingBy test answer tested got =
-    (standing : Standing) × (test tested standing ≡ answer) × HasStanding (other_role tested) standing got
+abbrev pub HasStandingBy : (Role → Standing → Bool) → Bool → Role → Expectation → List ℕ → Type 0
+HasStandingBy test answer tested expected got =
+    (standing : Standing) × (test tested standing ≡ answer) × StandsAs tested expected standing got
 
 -- it has a close of a server
-abbrev pub HasServerClose : Role → List ℕ → Type 0
-HasServerClose tested got = HasStandingBy is_server_close true tested got
+abbrev pub HasServerClose : Role → Expectation → List ℕ → Type 0
+HasServerClose tested expected got = HasStandingBy is_server_close true tested expected got
 
 -- ---- by a session
 

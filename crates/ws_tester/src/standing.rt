@@ -1,12 +1,21 @@
 //! How what was got from a tested end stands.
 
-ghost use Rattle.std.specs.Prelude.{◌≡◌};
-ghost use Rattle.ws_tester.specs.Standings.{is_server_close, stops_run, standing_of_status};
+ghost use Rattle.std.specs.Prelude.{◌≡◌, ◌++◌, ◌∷◌, [], ◌⊎◌, IfOk};
+ghost use Rattle.std.specs.List.{concat};
+ghost use Rattle.ws_scripts.specs.declared.transcript.Turn.{Turn};
+ghost use Rattle.ws_suite.specs.Evidence.{got_turns, other_role};
+ghost use Rattle.ws_suite.specs.Growing.{HasGrown};
+ghost use Rattle.ws_tester.specs.Outcomes.{got_in_all};
+ghost use Rattle.ws_tester.specs.Standings.{CountsAsClose, StandsAs, is_server_close, standing_of_status, stops_run};
+ghost use Rattle.ws_tester.specs.declared.standing.Standing.TheVariants.{Closed, Faulty};
 
-use ws_suite::RunEvidence;
+use crate::tester::TestPlan;
+use std::alloc::Global;
+use ws_base::NoMemory;
+use ws_suite::{Expectation, RunEvidence, Turn, has_undefined_close};
 use ws_wire::Role;
 
-/// What the bytes that were got end with, as the tester reads them.
+/// What the bytes that were got end with, as the run takes them.
 #[derive(Clone, Copy, PartialEq, Eq)]
 pub enum Standing {
     /// They hold neither a close nor a fault.
@@ -17,8 +26,55 @@ pub enum Standing {
     Faulty,
 }
 
-/// How what was got so far stands.
-pub(crate) fn standing_of(evidence: &RunEvidence) -> Standing
+/// How what was got so far stands to a run by this plan: in the turns that are over, and in the one under way these
+/// bytes.
+pub(crate) fn standing_of(
+    alloc: Global,
+    plan: TestPlan,
+    evidence: &RunEvidence,
+    past: &[Turn],
+    got: &[u8],
+) -> Result<Standing, NoMemory>
+    ensures { IfOk result (λ standing. (turn : Turn) → turn.got ≡ got.now
+        → HasGrown plan.tested (past.now ++ turn ∷ []) evidence.now
+        → StandsAs plan.tested plan.expected standing (got_in_all (past.now ++ turn ∷ []))) }
+{
+    match shown_standing(evidence) {
+        Standing::Going => Ok(Standing::Going),
+        Standing::Closed => Ok(Standing::Closed),
+        Standing::Faulty => faulty_standing(alloc, plan, past, got),
+    }
+}
+
+/// How what was got stands, where it has a fault: by the protocol that is a close where its code is one that the
+/// standard leaves undefined.
+fn faulty_standing(
+    alloc: Global,
+    plan: TestPlan,
+    past: &[Turn],
+    got: &[u8],
+) -> Result<Standing, NoMemory>
+    ensures { IfOk result (λ standing.
+        (CountsAsClose plan.expected (other_role plan.tested) (concat (got_turns past.now) ++ got.now)
+        × (standing ≡ Closed))
+        ⊎ ((¬ (CountsAsClose plan.expected (other_role plan.tested) (concat (got_turns past.now) ++ got.now)))
+        × (standing ≡ Faulty))) }
+{
+    match plan.expected {
+        Expectation::Echo => Ok(Standing::Faulty),
+        Expectation::Protocol => {
+            let counts = has_undefined_close(alloc, plan.tested, past, got)?;
+            Ok(if counts {
+                Standing::Closed
+            } else {
+                Standing::Faulty
+            })
+        }
+    }
+}
+
+/// How the bytes that were got so far stand.
+fn shown_standing(evidence: &RunEvidence) -> Standing
     ensures { result ≡ standing_of_status evidence.now.tester.status }
 {
     if evidence.has_got_fault() {

@@ -3,17 +3,19 @@
 mod changing;
 mod deciding;
 
-ghost use Rattle.std.specs.Prelude.{◌≡◌, ◌∷◌, [], Some, IfOk};
+ghost use Rattle.std.specs.Prelude.{◌≡◌, ◌∷◌, [], Some, IfOk, if◌then◌else◌};
 ghost use Rattle.ws_session.specs.Exchange.{is_over};
 ghost use Rattle.ws_scripts.specs.declared.transcript.Ended.{Ended};
 ghost use Rattle.ws_suite.specs.Growing.{HasGrown};
 ghost use Rattle.ws_machines.specs.Machines.{HasNext};
-ghost use Rattle.ws_tester.specs.Standings.{is_server_close, standing_of_status};
+ghost use Rattle.ws_tester.specs.Standings.{StandsAs, is_server_close};
 ghost use Rattle.ws_tester.specs.Following.{BeginsRun, WasTold, first_state, has_items};
+ghost use Rattle.ws_tester.specs.Outcomes.{got_in_all};
+ghost use Rattle.ws_tester.specs.Outgoings.{after_first, first_turn};
 ghost use Rattle.ws_tester.specs.RunStates.{plan_value, recorded, wanted_in};
 
 use crate::outgoing::Outgoing;
-use crate::standing::{is_server_close, standing_of};
+use crate::standing::{Standing, is_server_close, standing_of};
 use crate::tester::changing::push_turn;
 use std::alloc::Global;
 use std::marker::Model;
@@ -41,7 +43,8 @@ pub struct TestPlan {
 /// Runs a script against a tested end whose handshake is done, turn by turn, and records what went over the stream.
 /// What comes while a turn is sent counts to it. A turn is over once what is owed has come, or nothing has come in
 /// time; the last one to a server is read to the end of the stream. Once a server's close was got nothing more is sent,
-/// and its own direction is to be ended. Pings of the tested end aren't answered.
+/// also where it came with the head, and its own direction is to be ended. By the protocol a close whose code the
+/// standard leaves undefined is a close. Pings of the tested end aren't answered.
 #[derive(Drop)]
 pub struct Tester {
     alloc: Global,
@@ -51,6 +54,7 @@ pub struct Tester {
     got: Vec<u8>,
     outgoing: Outgoing,
     evidence: RunEvidence,
+    standing: Standing,
     had_sent_end: bool,
     allowance: u64,
     is_closing: bool,
@@ -83,6 +87,7 @@ impl Model for Tester {
         ended = x.ended;
       };
       seen = x.evidence;
+      standing = x.standing;
       had_sent_end = x.had_sent_end;
     } };
 }
@@ -150,14 +155,17 @@ impl Tester {
     ) -> Result<Tester, NoMemory>
         ensures state { IfOk result (λ tester. tester.run ≡ first_state
             (record { plan = plan_value plan; script = script; budget = budget; first = first.items })
-            (is_server_close plan.tested (standing_of_status tester.seen.tester.status))) }
+            (is_server_close plan.tested tester.standing)) }
         ensures grown { IfOk result (λ tester. HasGrown plan.tested
             (record { sent = []; got = first.items } ∷ []) tester.seen) }
+        ensures stands { IfOk result (λ tester. StandsAs plan.tested plan.expected tester.standing
+            (got_in_all (record { sent = []; got = first.items } ∷ []))) }
         ensures before { IfOk result (λ tester. tester.had_sent_end ≡ is_over tester.seen.tested.status) }
     {
         let evidence = first_evidence(alloc, plan.tested, first.as_slice())?;
         let had_sent_end = evidence.has_sent_end();
-        let is_closing = is_server_close(plan.tested, standing_of(&evidence));
+        let standing = standing_of(alloc, plan, &evidence, &[], first.as_slice())?;
+        let is_closing = is_server_close(plan.tested, standing);
         let has_begun = has_turns(&script) || has_bytes(first.as_slice());
         Ok(Tester {
             alloc,
@@ -165,8 +173,9 @@ impl Tester {
             past: Vec::new(alloc),
             sent: Vec::new(alloc),
             got: first,
-            outgoing: Outgoing::new(alloc, script),
+            outgoing: first_outgoing(alloc, script, is_closing),
             evidence,
+            standing,
             had_sent_end,
             allowance: budget,
             is_closing,
@@ -202,6 +211,18 @@ impl Tester {
             ended: ended.unwrap_or(Ended::Tester),
         })
     }
+}
+
+/// What is to be sent first: nothing of the first turn where a server's close came with the head.
+fn first_outgoing(alloc: Global, script: Sequence<CutTurn>, is_closing: bool) -> Outgoing
+    ensures rest { result.rest ≡ (if is_closing then [] else first_turn script) }
+    ensures later { result.later ≡ after_first script }
+{
+    let mut outgoing = Outgoing::new(alloc, script);
+    if is_closing {
+        outgoing.stop();
+    }
+    outgoing
 }
 
 /// Whether there is any turn.

@@ -8,16 +8,16 @@ ghost use Rattle.ws_session.specs.Exchange.{is_over};
 ghost use Rattle.ws_wire.specs.declared.role.Role.{Role};
 ghost use Rattle.ws_suite.specs.Growing.{HasGrown, new_turn, turn_with_got, turn_with_sent};
 ghost use Rattle.ws_suite.specs.Progress.{NotesGot, NotesSent};
-ghost use Rattle.ws_tester.specs.Following.{Changes, LeadsOnBy, HearsCame, ShowsTurns, Obeys, Settles};
+ghost use Rattle.ws_tester.specs.Following.{Changes, LeadsOnBy, HearsCame, ShowsTurns, Obeys, Settles, StandsNow};
 ghost use Rattle.ws_tester.specs.Outcomes.{outcome_of_event};
 ghost use Rattle.ws_tester.specs.Outgoings.{first_piece};
 ghost use Rattle.ws_tester.specs.RunStates.{is_all_sent, turns_of_run, wanted_in, with_came, with_run_end};
 ghost use Rattle.ws_tester.specs.RunStates.{with_anew, with_next_turn, with_standing, with_taken, with_unanswered};
-ghost use Rattle.ws_tester.specs.Standings.{standing_of_status};
+ghost use Rattle.ws_tester.specs.declared.standing.Standing.TheVariants.{Closed};
 ghost use Rattle.ws_tester.specs.declared.outcome.Outcome.TheVariants.{Rests};
 
 use crate::outcome::Outcome;
-use crate::standing::{is_server_close, standing_of};
+use crate::standing::{Standing, is_server_close, standing_of};
 use crate::tester::Tester;
 use std::mem;
 use ws_base::{NoMemory, Payload};
@@ -47,6 +47,7 @@ impl Tester {
     pub(super) fn end_with(&mut self, how: Ended)
         ensures ended { self.new.run ≡ with_run_end how self.old.run }
         ensures seen { self.new.seen ≡ self.old.seen }
+        ensures standing { self.new.standing ≡ self.old.standing }
         ensures before { self.new.had_sent_end ≡ self.old.had_sent_end }
     {
         self.ended = Some(how);
@@ -58,6 +59,7 @@ impl Tester {
         ensures grown { OnOk result ((tested : Role) →
             HasGrown tested (turns_of_run self.old.run) self.old.seen →
             HasGrown tested (turns_of_run self.old.run ++ new_turn ∷ []) self.new.seen) }
+        ensures standing { OnOk result (self.new.standing ≡ self.old.standing) }
         ensures before { OnOk result (self.new.had_sent_end ≡ is_over self.old.seen.tested.status) }
     {
         let sent = mem::replace(&mut self.sent, Vec::new(self.alloc));
@@ -78,7 +80,7 @@ impl Tester {
     {
         one_list_of_events();
         self.keep_came(piece)?;
-        self.hear();
+        self.hear()?;
         Ok(())
     }
 
@@ -95,6 +97,7 @@ impl Tester {
             piece.now self.old.run.pings self.new.run.pings self.new.run.waits_anew) }
         ensures over { OnOk result (is_over self.old.seen.tester.status ≡ true →
             self.new.seen.tester ≡ self.old.seen.tester) }
+        ensures standing { OnOk result (self.new.standing ≡ self.old.standing) }
         ensures before { OnOk result (self.new.had_sent_end ≡ self.old.had_sent_end) }
     {
         append(&mut self.got, piece)?;
@@ -104,16 +107,42 @@ impl Tester {
         Ok(())
     }
 
-    /// Once what was got has a server's close nothing more of the turn is sent, unless it had one before.
-    fn hear(&mut self)
-        ensures heard { self.new.run ≡ with_standing (standing_of_status self.old.seen.tester.status) self.old.run }
-        ensures seen { self.new.seen ≡ self.old.seen }
-        ensures before { self.new.had_sent_end ≡ self.old.had_sent_end }
+    /// Hears how what was got stands by now. Once it has a server's close nothing more of the turn is sent, unless it
+    /// had one before.
+    fn hear(&mut self) -> Result<(), NoMemory>
+        ensures heard { OnOk result (self.new.run ≡ with_standing self.new.standing self.old.run) }
+        ensures seen { OnOk result (self.new.seen ≡ self.old.seen) }
+        ensures stands { OnOk result (StandsNow self.old self.new.standing) }
+        ensures kept { OnOk result (self.old.standing ≡ Closed → self.new.standing ≡ Closed) }
+        ensures before { OnOk result (self.new.had_sent_end ≡ self.old.had_sent_end) }
     {
-        if is_server_close(self.plan.tested, standing_of(&self.evidence)) && !self.is_closing {
+        self.note_standing()?;
+        if is_server_close(self.plan.tested, self.standing) && !self.is_closing {
             self.outgoing.stop();
             self.is_closing = true;
         }
+        Ok(())
+    }
+
+    /// How what was got stands by now, of which a close stays one.
+    fn note_standing(&mut self) -> Result<(), NoMemory>
+        ensures run { OnOk result (self.new.run ≡ self.old.run) }
+        ensures seen { OnOk result (self.new.seen ≡ self.old.seen) }
+        ensures stands { OnOk result (StandsNow self.old self.new.standing) }
+        ensures kept { OnOk result (self.old.standing ≡ Closed → self.new.standing ≡ Closed) }
+        ensures before { OnOk result (self.new.had_sent_end ≡ self.old.had_sent_end) }
+    {
+        if self.standing == Standing::Closed {
+            return Ok(());
+        }
+        self.standing = standing_of(
+            self.alloc,
+            self.plan,
+            &self.evidence,
+            self.past.as_slice(),
+            self.got.as_slice(),
+        )?;
+        Ok(())
     }
 
     /// So many bytes of the piece that is next were taken.
@@ -127,6 +156,7 @@ impl Tester {
         ensures noted { OnOk result ((tested : Role) (past : List Turn) (turn : Turn) →
             HasGrown tested (past ++ turn ∷ []) self.old.seen → NotesSent tested (past ++ turn ∷ [])
             (take count (first_piece self.old.run.outgoing.rest)) self.old.run.pings self.new.run.pings) }
+        ensures standing { OnOk result (self.new.standing ≡ self.old.standing) }
         ensures before { OnOk result (self.new.had_sent_end ≡ self.old.had_sent_end) }
     {
         let bytes = &self.outgoing.piece()[..count];

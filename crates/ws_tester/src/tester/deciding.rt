@@ -9,7 +9,7 @@ ghost use Rattle.ws_tester.specs.Outcomes.{outcome_of_silence};
 ghost use Rattle.ws_tester.specs.RunStates.{has_more, turns_of_run};
 
 use crate::outcome::{Outcome, TurnFacts};
-use crate::standing::{Standing, standing_of, stops_run};
+use crate::standing::{Standing, stops_run};
 use crate::tester::Tester;
 use ws_machines::{Machine, StreamEvent};
 use ws_suite::{Ended, Expectation};
@@ -22,7 +22,7 @@ impl Tester {
             AreFacts self.now.run.plan self.now.run.past (turns_of_run self.now.run) result }
     {
         TurnFacts {
-            standing: standing_of(&self.evidence),
+            standing: self.standing,
             has_sent_end: self.evidence.has_sent_end(),
             had_sent_end: self.had_sent_end,
             is_answered: self.evidence.is_answered_by(self.plan.expected),

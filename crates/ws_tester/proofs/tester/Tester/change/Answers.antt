@@ -16,5 +16,6 @@ returns-in_ok-on_came-in-Came-clause-changes c = λ shown.
 pub returns-in_ok-on_taken-in-Taken-clause-changes : goal.returns-in_ok-on_taken-in-Taken-clause-changes
 returns-in_ok-on_taken-in-Taken-clause-changes c = λ shown.
     taken_changes c.args.self.now c.on_taken.new.self c.args.event c.in-Taken.count c.in-Taken.is c.requires.0
-    c.in_ok-on_taken-in-Taken.ensures.taken c.in_ok-on_taken-in-Taken.ensures.before
+    c.in_ok-on_taken-in-Taken.ensures.taken c.in_ok-on_taken-in-Taken.ensures.standing
+    c.in_ok-on_taken-in-Taken.ensures.before
     c.in_ok-on_taken-in-Taken.ensures.grown c.in_ok-on_taken-in-Taken.ensures.noted shown

@@ -17,9 +17,9 @@ returns-then-has_turns-clause-begins c =
     } in
     let first = c.in_ok-tester.tester in
     let laws = c.in_ok-tester.ensures in
-    begins_settled run first laws.state laws.grown laws.before c.settle.new.self.run
+    begins_settled run first laws.state laws.grown laws.stands laws.before c.settle.new.self.run
     (sym c.has_turns-has_turns.ensures ∙ c.if-has_turns.true)
-    (c.in_ok-settle.ensures.settles (first_shown run first laws.state laws.grown laws.before)).0
+    (c.in_ok-settle.ensures.settles (first_shown run first laws.state laws.grown laws.stands laws.before)).0
 
 pub returns-then-has_turns-clause-told : goal.returns-then-has_turns-clause-told
 returns-then-has_turns-clause-told c =
@@ -31,7 +31,7 @@ returns-then-has_turns-clause-told c =
     } in
     let first = c.in_ok-tester.tester in
     let laws = c.in_ok-tester.ensures in
-    (refl, (c.in_ok-settle.ensures.settles (first_shown run first laws.state laws.grown laws.before)).1)
+    (refl, (c.in_ok-settle.ensures.settles (first_shown run first laws.state laws.grown laws.stands laws.before)).1)
 
 pub returns-then-has_turns-clause-goes_on : goal.returns-then-has_turns-clause-goes_on
 returns-then-has_turns-clause-goes_on c =
@@ -47,7 +47,7 @@ returns-clause-begins c =
     } in
     let first = c.in_ok-tester.tester in
     let laws = c.in_ok-tester.ensures in
-    begins_ended run first laws.state laws.grown laws.before c.end_with.new.self.run
+    begins_ended run first laws.state laws.grown laws.stands laws.before c.end_with.new.self.run
     (sym c.has_turns-has_turns.ensures ∙ c.if-has_turns.false) c.end_with.ensures.ended
 
 pub returns-clause-told : goal.returns-clause-told
@@ -62,5 +62,5 @@ returns-clause-told c =
     let laws = c.in_ok-tester.ensures in (
       refl,
       ended_shown first c.end_with.new.self Tester c.end_with.ensures.ended c.end_with.ensures.seen
-          c.end_with.ensures.before (first_shown run first laws.state laws.grown laws.before),
+          c.end_with.ensures.standing c.end_with.ensures.before (first_shown run first laws.state laws.grown laws.stands laws.before),
     )

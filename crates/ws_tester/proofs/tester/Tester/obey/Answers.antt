@@ -18,7 +18,7 @@ returns-in-Rests-clause-next c = λ going unsent. unsent_wants c.args.self.now.r
 pub returns-in_ok-settle-in-Next-clause-obeys : goal.returns-in_ok-settle-in-Next-clause-obeys
 returns-in_ok-settle-in-Next-clause-obeys c = λ shown.
     let begun = next_shown c.args.self.now c.begin_next_turn.new.self c.in_ok-begin_next_turn-in-Next.ensures.next
-    c.in_ok-begin_next_turn-in-Next.ensures.before
+    c.in_ok-begin_next_turn-in-Next.ensures.standing c.in_ok-begin_next_turn-in-Next.ensures.before
     (c.in_ok-begin_next_turn-in-Next.ensures.grown c.args.self.now.run.plan.tested shown.grown) shown in
     let settled = c.in_ok-settle-in-Next.ensures.settles begun in (
       subst (λ (o : Outcome). Obeys o c.args.self.now.run c.settle.new.self.run) (sym c.in-Next.is)
@@ -35,7 +35,7 @@ returns-in-Ends-clause-obeys c = λ shown. (
   subst (λ (o : Outcome). Obeys o c.args.self.now.run c.end_with.new.self.run) (sym c.in-Ends.is)
       c.end_with.ensures.ended,
   ended_shown c.args.self.now c.end_with.new.self c.in-Ends.how c.end_with.ensures.ended c.end_with.ensures.seen
-      c.end_with.ensures.before shown,
+      c.end_with.ensures.standing c.end_with.ensures.before shown,
 )
 
 pub returns-in-Ends-clause-next : goal.returns-in-Ends-clause-next

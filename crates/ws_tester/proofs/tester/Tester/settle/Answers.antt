@@ -9,7 +9,7 @@ use Rattle.ws_tester.proofs.tester.Tester.settle.Goals as goal
 pub turns-preserved : goal.turns-preserved
 turns-preserved c = record {
   shown = λ h. next_shown c.turns.self c.begin_next_turn.new.self c.in_ok-begin_next_turn-in-Next.ensures.next
-      c.in_ok-begin_next_turn-in-Next.ensures.before
+      c.in_ok-begin_next_turn-in-Next.ensures.standing c.in_ok-begin_next_turn-in-Next.ensures.before
       (c.in_ok-begin_next_turn-in-Next.ensures.grown c.turns.self.run.plan.tested (c.turns.invariant.shown h).grown)
       (c.turns.invariant.shown h);
   settles = λ h now rest. c.turns.invariant.settles h now (next_settled c.turns.self c.begin_next_turn.new.self now
@@ -39,7 +39,7 @@ returns-in-Ends-clause-settles c = λ h. (
       c.outcome.result c.in-Ends.how c.facts.ensures c.outcome.ensures c.in-Ends.is c.end_with.ensures.ended
       (c.turns.invariant.shown h)),
   ended_shown c.turns.self c.end_with.new.self c.in-Ends.how c.end_with.ensures.ended c.end_with.ensures.seen
-      c.end_with.ensures.before (c.turns.invariant.shown h),
+      c.end_with.ensures.standing c.end_with.ensures.before (c.turns.invariant.shown h),
 )
 
 pub returns-in-Ends-clause-goes_on : goal.returns-in-Ends-clause-goes_on
