@@ -6,6 +6,7 @@ use Rattle.std.specs.List.{flat_map}
 use Rattle.ws_formats.specs.Words.{hex, hex_word}
 use Rattle.ws_frame.specs.Devices.{Device, HasBegun, watched}
 use Rattle.ws_frame.specs.Streaming.{WritesAll}
+use Rattle.ws_frame.specs.Watching.{has_failed}
 use Rattle.ws_frame.specs.declared.watching.Watched.{Watched}
 use Rattle.ws_frame.specs.declared.writing_whole.WriteFault.{WriteFault}
 use Rattle.ws_rooms.specs.Rooms.{WritesAndKeeps}
@@ -54,10 +55,22 @@ module _ {W : Type 0} (contents : W → Option (List ℕ)) where
       → PutsBehind contents b room left old new
   same_put a b room left old new e p = subst (λ (l : List ℕ). PutsBehind contents l room left old new) e p
 
+  -- behind a failed write whatever else was to be put counts as put
+  pub stopped_put : (a b room left : List ℕ) (old new : Watched W) → has_failed new ≡ true
+      → PutsBehind contents a room left old new → PutsBehind contents (a ++ b) room left old new
+  stopped_put a b room left old new failed p = λ first due h.
+      subst (λ (l : List ℕ). IsDue l left (watched contents first new)) (append_assoc due a b)
+      (due_failed (due ++ a) b left _ _ _ failed (p first due h))
+
 -- ---- lists of lines
 
 pub flat_more : {T : Type 0} (f : T → List ℕ) (xs : List T) (x : T) → flat_map f (xs ++ x ∷ []) ≡ flat_map f xs ++ f x
 flat_more f xs x = flat_map-append f xs (x ∷ []) ∙ ap (λ (l : List ℕ). flat_map f xs ++ l) (append-nil (f x))
+
+-- the lines of some, and of those that follow them
+pub flat_all : {T : Type 0} (f : T → List ℕ) (xs ys all : List T) → all ≡ xs ++ ys
+    → flat_map f xs ++ flat_map f ys ≡ flat_map f all
+flat_all f xs ys all e = sym (ap (λ (l : List _). flat_map f l) e ∙ flat_map-append f xs ys)
 
 pub word_of_some : (bytes : List ℕ) → 0 < length bytes → hex bytes ≡ hex_word bytes
 word_of_some [] some = absurd (omega (arith, some))

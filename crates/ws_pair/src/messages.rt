@@ -1,6 +1,6 @@
 //! Messages that take little room: their payloads stand one behind the other, and each message has a small head.
 
-ghost use Rattle.std.specs.Prelude.{◌≡◌, ◌∷◌, ◌++◌, [], OnOk};
+ghost use Rattle.std.specs.Prelude.{◌≡◌, ◌∷◌, ◌++◌, [], OnErr, OnOk};
 ghost use Rattle.ws_pair.specs.KeptMessages.{first_message, whole_message};
 
 use std::alloc::Global;
@@ -46,7 +46,8 @@ impl Messages {
 
     /// One more message, whose payload goes straight behind the others.
     pub(crate) fn push(&mut self, kind: Kind, payload: &[u8]) -> Result<(), NoMemory>
-        ensures { OnOk result (self.new.items ≡ self.old.items ++ whole_message kind payload.now ∷ []) }
+        ensures longer { OnOk result (self.new.items ≡ self.old.items ++ whole_message kind payload.now ∷ []) }
+        ensures kept { OnErr result (self.new ≡ self.old) }
     {
         // No payload is longer than the longest message.
         let Ok(len) = u32::try_from(payload.len()) else {

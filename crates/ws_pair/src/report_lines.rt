@@ -94,11 +94,14 @@ fn put_more<W: Write>(room: &mut Room, bytes: &[u8], writer: &mut Watched<W>)
     let _ = put(room, bytes, writer);
 }
 
-/// Puts a line for each move.
+/// Puts a line for each move. Behind a failed write, here and below, no further line and no digits are made.
 fn put_answers<W: Write>(room: &mut Room, answers: &[Answer], writer: &mut Watched<W>)
     ensures { PutsBehind W.contents (flat_map answer_line answers.now) room.old room.new writer.old writer.new }
 {
     for answer in answers {
+        if writer.failed() {
+            return;
+        }
         put_answer(room, *answer, writer);
     }
 }
@@ -191,6 +194,9 @@ fn put_messages<W: Write>(room: &mut Room, side: End, messages: &Messages, write
 {
     let mut walk = messages.iter();
     while let Some(message) = walk.next() {
+        if writer.failed() {
+            return;
+        }
         put_message(room, side, message.kind, message.payload, writer);
     }
 }
@@ -241,6 +247,9 @@ fn put_blocks<W: Write>(room: &mut Room, bytes: &[u8], writer: &mut Watched<W>)
 {
     let mut at = 0;
     while at < bytes.len() {
+        if writer.failed() {
+            return;
+        }
         let end = at + (bytes.len() - at).min(BLOCK);
         put_block(room, &bytes[at..end], writer);
         at = end;

@@ -1,9 +1,10 @@
 -- One block more: its digits are put behind those of the bytes before it.
-use Rattle.std.proofs.Common.{◌≡◌, ℕ, ◌+◌, ◌-◌, ◌++◌, ◌∙◌, List, ap, arith, drop, sym, take}
+use Rattle.std.proofs.Common.{◌≡◌, ℕ, ◌+◌, ◌-◌, ◌++◌, ◌∙◌, List, ap, arith, drop, length, rules, sym, take, true}
 use Rattle.std.proofs.lemmas.List.{take_all}
 use Rattle.ws_formats.specs.Words.{hex}
+use Rattle.ws_frame.specs.Watching.{has_failed}
 use Rattle.ws_formats.proofs.HexByBlocks.{hex_more}
-use Rattle.ws_pair.proofs.Putting.{both_put, none_put, same_put}
+use Rattle.ws_pair.proofs.Putting.{both_put, none_put, same_put, stopped_put}
 use Rattle.ws_pair.proofs.report_lines.put_blocks.Goals as goal
 
 pub loop-at-init : goal.loop-at-init
@@ -27,3 +28,15 @@ returns g c =
     same_put g.W.Write.contents _ _ _ _ _ _
     (ap (λ (l : List ℕ). hex l) (take_all c.loop-at.at c.args.bytes.now (omega (arith, c.loop-at-test.false))))
     c.loop-at.invariant.put
+
+pub returns-then-failed : goal.returns-then-failed
+returns-then-failed g c =
+    let bytes = c.args.bytes.now in
+    let at = c.loop-at.at in
+    let n = length bytes - at in
+    let failed : has_failed c.loop-at.writer ≡ true = search rules in
+    let within = c.loop-at.invariant.within in
+    same_put g.W.Write.contents _ _ _ _ _ _
+    (sym (hex_more bytes at n) ∙ ap (λ (l : List ℕ). hex l) (take_all (at + n) bytes (omega (arith, within))))
+    (stopped_put g.W.Write.contents (hex (take at bytes)) (hex (take n (drop at bytes))) _ _ _ _ failed
+    c.loop-at.invariant.put)

@@ -23,8 +23,8 @@ invariant_of-self-2 c =
     )
     ∙ ap (λ (l : List ℕ). length l) (sym payloads))
 
-pub returns : goal.returns
-returns c =
+pub returns-clause-longer : goal.returns-clause-longer
+returns-clause-longer c =
     let payload = c.args.payload.now in
     let head : Head = record { kind = c.args.kind; len = c.in-Ok.len } in
     let heads : c.push_reserved.new.self.items ≡ c.self.inside.heads.items ++ head ∷ [] = search rules in
