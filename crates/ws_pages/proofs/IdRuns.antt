@@ -2,7 +2,7 @@
 use Rattle.std.proofs.Common.{◌≡◌, ◌∙◌, ℕ, Bool, true, false, List, [], ◌∷◌, ◌++◌, ap, refl, sym, append_assoc}
 use Rattle.std.proofs.Common.{if◌then◌else◌}
 use Rattle.std.proofs.lemmas.List.{map-append}
-use Rattle.ws_pages.specs.Summary.{IdRunValue, follows, run_of_one, run_then, with_id, longer_run}
+use Rattle.ws_pages.specs.Summary.{IdRunValue, goes_on, run_of_one, run_then, with_id, longer_run}
 use Rattle.ws_pages.specs.Views.{run_value, run_values}
 use Rattle.ws_pages.specs.declared.id_runs.IdRun.{IdRun}
 
@@ -24,7 +24,7 @@ after_runs listed old rest run id last is_old joined =
 
 -- the case goes on with the last run
 pub run_goes_on : (listed : List (List ℕ)) (old rest new : List IdRun) (run longer : IdRun) (id : List ℕ)
-    → old ≡ rest ++ run ∷ [] → new ≡ rest ++ longer ∷ [] → follows listed run.last.now id ≡ true
+    → old ≡ rest ++ run ∷ [] → new ≡ rest ++ longer ∷ [] → goes_on listed run.last.now id ≡ true
     → run_value longer ≡ longer_run (run_value run) id → run_values new ≡ with_id listed (run_values old) id
 run_goes_on listed old rest new run longer id is_old is_new follow is_longer =
     ap run_values is_new ∙ map-append run_value rest (longer ∷ [])
@@ -35,7 +35,7 @@ run_goes_on listed old rest new run longer id is_old is_new follow is_longer =
 -- the case begins another run
 pub run_begins : (listed : List (List ℕ)) (old rest kept new : List IdRun) (run other : IdRun) (id : List ℕ)
     → old ≡ rest ++ run ∷ [] → kept ≡ rest ++ run ∷ [] → new ≡ kept ++ other ∷ []
-    → follows listed run.last.now id ≡ false → run_value other ≡ run_of_one id
+    → goes_on listed run.last.now id ≡ false → run_value other ≡ run_of_one id
     → run_values new ≡ with_id listed (run_values old) id
 run_begins listed old rest kept new run other id is_old is_kept is_new apart is_other =
     ap run_values is_new ∙ map-append run_value kept (other ∷ [])

@@ -12,7 +12,7 @@ use Rattle.ws_pages.specs.declared.mark.Mark.{Mark}
 use Rattle.ws_pages.specs.declared.mark.Mark.TheVariants.{Fail, Loose, Missing, Pass}
 use Rattle.ws_pages.specs.declared.named_text.NamedText.{NamedText}
 use Rattle.ws_pages.specs.declared.run_line.RunLine.{RunLine}
-use Rattle.ws_pages.specs.declared.style.TheConstants.{BACK, FILTER, FRONT}
+use Rattle.ws_pages.specs.declared.style.TheConstants.{BACK, FAILS, FILTER, FRONT}
 
 -- what the tables of a page are made of: the results, the columns, the rows, the scripts of cases, and the rules of
 -- verdicts by their names
@@ -111,11 +111,11 @@ cell_in_row table id peer = cell_html table.rules (last_result table.results pee
 abbrev pub cells_html : TableValue → List ℕ → List ℕ
 cells_html table id = flat_map (cell_in_row table id) table.peers
 
--- the row of a case: its name, and its cells
+-- the row of a case: its name, by which a link finds it, and its cells
 abbrev pub row_html : TableValue → List ℕ → List ℕ
 row_html table id = concat (codes "<tr class=\"" ∷ row_class (is_same table.results table.peers id)
-    ∷ codes "\"><th scope=\"row\">" ∷ case_html table.scripts id ∷ codes "</th>" ∷ cells_html table id
-    ∷ codes "</tr>\n" ∷ [])
+    ∷ codes "\" id=\"c-" ∷ on_page id ∷ codes "\"><th scope=\"row\">" ∷ case_html table.scripts id ∷ codes "</th>"
+    ∷ cells_html table id ∷ codes "</tr>\n" ∷ [])
 
 -- ---- a group
 
@@ -163,16 +163,17 @@ total_html table peer = concat (codes "<tr><th scope=\"row\">" ∷ on_page peer 
 abbrev pub totals_html : TableValue → List ℕ
 totals_html table = flat_map (total_html table) table.peers
 
--- the fixed parts of a page: what comes in front of the totals, the filter for rows in which peers differ, and what
--- comes last
+-- the fixed parts of a page: what comes in front of the totals, the filter for rows with a Fail, that for rows in which
+-- peers differ, and what comes last
 pub record PageFrame : Type 0 where
   pub front : List ℕ
+  pub fails : List ℕ
   pub filter : List ℕ
   pub back : List ℕ
 
 -- the fixed parts of each page, in which no text of the input is
 abbrev pub fixed_parts : PageFrame
-fixed_parts = record { front = FRONT.now; filter = FILTER.now; back = BACK.now }
+fixed_parts = record { front = FRONT.now; fails = FAILS.now; filter = FILTER.now; back = BACK.now }
 
 -- the filter, if there is more than one peer
 abbrev pub filter_html : PageFrame → List (List ℕ) → List ℕ
@@ -181,7 +182,8 @@ filter_html frame peers = if nat_lt 1 (length peers) then frame.filter else []
 -- the page of a table, by groups
 abbrev pub page_html : PageFrame → TableValue → List (List ℕ) → List ℕ
 page_html frame table groups = concat (frame.front ∷ totals_html table ∷ codes "</tbody></table>\n"
-    ∷ filter_html frame table.peers ∷ codes "<main>\n" ∷ groups_html table groups ∷ codes "</main>\n" ∷ frame.back ∷ [])
+    ∷ frame.fails ∷ filter_html frame table.peers ∷ codes "<main>\n" ∷ groups_html table groups ∷ codes "</main>\n"
+    ∷ frame.back ∷ [])
 
 -- the table of these lines
 abbrev pub table_of : List RunLine → List NamedText → List NamedText → TableValue

@@ -40,6 +40,7 @@ table_value table = record {
 abbrev pub page_frame : Page → PageFrame
 page_frame page = record {
   front = page.front.now;
+  fails = page.fails.now;
   filter = page.filter.now;
   back = page.back.now;
 }

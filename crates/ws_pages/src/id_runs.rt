@@ -1,8 +1,9 @@
-//! Names of cases in short: three or more that follow one another in the list of cases are the first and the last.
+//! Names of cases in short: three or more of a section that follow one another in the list of cases are the first and
+//! the last.
 
 ghost use Rattle.std.specs.Prelude.{◌≡◌, [], IfOk, Some, map, string_bytes};
-ghost use Rattle.ws_pages.specs.Summary.{begins_with_name, follows, run_of_one, run_text, runs_of, runs_text};
-ghost use Rattle.ws_pages.specs.Summary.{with_cell, with_id, longer_run};
+ghost use Rattle.ws_pages.specs.Summary.{are_one_section, begins_with_name, follows, goes_on, has_dot, longer_run};
+ghost use Rattle.ws_pages.specs.Summary.{run_of_one, run_text, runs_of, runs_text, with_cell, with_id};
 ghost use Rattle.ws_pages.specs.Views.{result_value, result_values, run_value, run_values};
 
 use crate::escaping::Shown;
@@ -11,7 +12,7 @@ use std::alloc::Global;
 use std::fmt;
 use ws_base::NoMemory;
 
-/// Cases that follow one another in the list.
+/// Cases of one section that follow one another in the list.
 #[derive(Clone, Copy)]
 pub(crate) struct IdRun<'a> {
     first: &'a [u8],
@@ -53,7 +54,7 @@ fn put_cell<'a>(
     Ok(())
 }
 
-/// Appends a case to the runs: to the last one, if it follows that one in the list.
+/// Appends a case to the runs: to the last one, if it goes on with that.
 fn put_id<'a>(id: &'a [u8], listed: &[String], runs: &mut Vec<IdRun<'a>>) -> Result<(), NoMemory>
     ensures { IfOk result (λ _. run_values runs.new.items
         ≡ with_id (map string_bytes listed.now) (run_values runs.old.items) id.now) }
@@ -62,7 +63,7 @@ fn put_id<'a>(id: &'a [u8], listed: &[String], runs: &mut Vec<IdRun<'a>>) -> Res
         runs.push(run_of_one(id))?;
         return Ok(());
     };
-    if follows(listed, run.last, id) {
+    if goes_on(listed, run.last, id) {
         runs.push(longer_run(run, id))?;
     } else {
         runs.push(run)?;
@@ -91,6 +92,40 @@ fn longer_run<'a>(run: IdRun<'a>, id: &'a [u8]) -> IdRun<'a>
         last: id,
         between: run.first != run.last,
     }
+}
+
+/// Whether the other case goes on with a run that ends with the one: it directly follows in the list, and is of its
+/// section.
+fn goes_on(listed: &[String], one: &[u8], other: &[u8]) -> bool
+    ensures { result ≡ goes_on (map string_bytes listed.now) one.now other.now }
+{
+    follows(listed, one, other) && are_one_section(one, other)
+}
+
+/// Whether two names are of one section: they differ behind their last dots alone.
+fn are_one_section(one: &[u8], other: &[u8]) -> bool
+    ensures { result ≡ are_one_section one.now other.now }
+{
+    let mut left = one;
+    let mut right = other;
+    while let Some((byte, behind_byte)) = left.split_first() {
+        let Some((same, behind_same)) = right.split_first() else {
+            return !has_dot(left);
+        };
+        if byte != same {
+            return !has_dot(left) && !has_dot(right);
+        }
+        left = behind_byte;
+        right = behind_same;
+    }
+    !has_dot(right)
+}
+
+/// Whether there is a dot in it.
+fn has_dot(bytes: &[u8]) -> bool
+    ensures { result ≡ has_dot bytes.now }
+{
+    bytes.contains(&b'.')
 }
 
 /// Whether the other case directly follows the one in the list.

@@ -10,7 +10,7 @@ use crate::named_text::NamedText;
 use crate::results::{CaseResult, results_of};
 use crate::row_html::Table;
 use crate::run_line::RunLine;
-use crate::style::{BACK, FILTER, FRONT};
+use crate::style::{BACK, FAILS, FILTER, FRONT};
 use crate::total_html::TotalsHtml;
 use std::alloc::Global;
 use std::fmt;
@@ -73,6 +73,7 @@ fn page_of<'a>(alloc: Global, table: Table<'a>, groups: &'a [Payload]) -> Result
 {
     let page = Page {
         front: FRONT,
+        fails: FAILS,
         filter: FILTER,
         back: BACK,
         table,
@@ -85,8 +86,9 @@ fn page_of<'a>(alloc: Global, table: Table<'a>, groups: &'a [Payload]) -> Result
 /// A page.
 #[derive(Clone, Copy)]
 struct Page<'f, 'a> {
-    /// What comes in front of the totals, the filter, and what comes last.
+    /// What comes in front of the totals, the filters, and what comes last.
     front: &'f str,
+    fails: &'f str,
     filter: &'f str,
     back: &'f str,
     table: Table<'a>,
@@ -97,7 +99,7 @@ impl fmt::Display for Page<'_, '_> {
     ghost output = { λ page. Some (page_html (page_frame page) (table_value page.table) page.groups.now) };
 
     fn fmt<W: fmt::Write>(&self, f: &mut fmt::Formatter<W>) -> fmt::Result {
-        let (front, back) = (self.front, self.back);
+        let (front, fails, back) = (self.front, self.fails, self.back);
         let totals = TotalsHtml(self.table);
         let filter = if self.table.peers.len() > 1 {
             self.filter
@@ -110,7 +112,7 @@ impl fmt::Display for Page<'_, '_> {
         };
         write!(
             f,
-            "{front}{totals}</tbody></table>\n{filter}<main>\n{groups}</main>\n{back}"
+            "{front}{totals}</tbody></table>\n{fails}{filter}<main>\n{groups}</main>\n{back}"
         )
     }
 }

@@ -28,7 +28,7 @@ pub(crate) struct Table<'a> {
     pub(crate) rules: &'a [NamedText],
 }
 
-/// The row of a case: its name, which opens its script, and a cell for each peer.
+/// The row of a case: its name, by which a link finds it and which opens its script, and a cell for each peer.
 #[derive(Clone, Copy)]
 pub(crate) struct RowHtml<'a> {
     pub(crate) table: Table<'a>,
@@ -48,9 +48,10 @@ impl fmt::Display for RowHtml<'_> {
             table: self.table,
             id: self.id,
         };
+        let id = Escaped(self.id);
         write!(
             f,
-            "<tr class=\"{class}\"><th scope=\"row\">{case}</th>{cells}</tr>\n"
+            "<tr class=\"{class}\" id=\"c-{id}\"><th scope=\"row\">{case}</th>{cells}</tr>\n"
         )
     }
 }

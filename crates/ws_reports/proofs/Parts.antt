@@ -1,11 +1,13 @@
 -- The line of a case is read in one way, and so is a total.
-use Rattle.std.proofs.Common.{◌≡◌, ◌≢◌, ◌∙◌, ℕ, ◌<◌, ◌≤◌, inl, inr, IsTrue, List, [], ◌∷◌, ◌++◌, length, ap, sym, refl, subst, arith, All, codes, string_bytes, Option, Some, None, MatchOption, Result, Ok, Err, IfOk, Bor, String}
+use Rattle.std.proofs.Common.{◌≡◌, ◌≢◌, ◌∙◌, ℕ, ◌<◌, ◌≤◌, ◌⊎◌, ◌↔◌, Bool, true, false, inl, inr, IsTrue, List, [], ◌∷◌, ◌++◌, length, ap, sym, refl, subst, arith, All, codes, string_bytes, Option, Some, None, MatchOption, Result, Ok, Err, IfOk, Bor, String}
+use Rattle.std.proofs.lemmas.Bool.{false≢true}
 use Rattle.std.proofs.lemmas.Bool.Decides.{nat_tests}
 use Rattle.std.proofs.lemmas.List.Elements.{All-append, All-from_recursion, All-same, All-weaker}
 use Rattle.std.proofs.lemmas.Str.Ascii.{IsAscii-from_all}
 use Rattle.std.specs.declared.alloc.AllocError.{AllocError}
 use Rattle.std.specs.declared.alloc.Global.{Global}
 use Rattle.std.specs.Char.{is_ascii_alphabetic, is_ascii_digit}
+use Rattle.std.specs.List.{AllByRecursion}
 use Rattle.std.specs.Str.{IsAscii, IsUtf8}
 use Rattle.std.proofs.lemmas.Str.{IsUtf8-from_ascii}
 use Rattle.ws_base.specs.declared.text_fault.LineFault.{LineFault}
@@ -15,7 +17,8 @@ use Rattle.ws_reports.specs.Cutting.{AreParts, BeginsRemark, CountsPasses, CutsR
 use Rattle.ws_reports.specs.KnownLines.{HasCount, HasInBrackets, IsBesideCases, IsCaseLine, IsCount, IsKnownLine, IsRemark}
 use Rattle.ws_reports.specs.declared.known_line.KnownLine.{KnownLine}
 use Rattle.ws_reports.specs.declared.known_line.KnownLine.TheVariants.{Other, Verdict}
-use Rattle.ws_reports.specs.Verdicts.{HasName, IsVerdict}
+use Rattle.ws_reports.specs.Verdicts.{HasName, HasRule, IsHeadFail, IsNamedLoose, IsPlainFail, IsVerdict}
+use Rattle.ws_reports.specs.Verdicts.{NamesFail, NamesLoose, NamesRefusal}
 use Rattle.ws_reports.proofs.Cuts.{no_cut, one_cut, same_front, same_rest}
 
 -- ---- verdicts have no brackets, and are ASCII
@@ -34,6 +37,13 @@ named_safe : (front words : List ℕ) → All IsSafe front → HasName front wor
 named_safe front words safe (name, is, e) =
     All-same IsSafe words (front ++ name) e
     (All-append IsSafe front name safe (All-weaker (λ byte. IsTrue (is_ascii_alphabetic byte)) IsSafe letter_safe name is.1))
+
+letters_safe : (word : List ℕ) → AllByRecursion (λ byte. IsTrue (is_ascii_alphabetic byte)) word → All IsSafe word
+letters_safe word h = All-weaker (λ byte. IsTrue (is_ascii_alphabetic byte)) IsSafe letter_safe word
+    (All-from_recursion (λ byte. IsTrue (is_ascii_alphabetic byte)) word h)
+
+ruled_safe : (front words : List ℕ) → All IsSafe front → HasRule front words → All IsSafe words
+ruled_safe front words safe (name, is, e) = named_safe front words safe (name, is.0, e)
 
 letter : (byte : ℕ) → 41 ≤ byte → byte < 128 → IsSafe byte
 letter byte low high = (λ is. omega (arith, is, low), high)
@@ -81,6 +91,14 @@ head_safe = All-from_recursion IsSafe (codes "Head ") (
   ),
 )
 
+near_safe : All IsSafe (codes "near ")
+near_safe = All-append IsSafe (codes "near") (codes " ") (letters_safe (codes "near") (refl, (refl, (refl, (refl, tt)))))
+    (All-from_recursion IsSafe (codes " ") (a_space, tt))
+
+far_safe : All IsSafe (codes "far ")
+far_safe = All-append IsSafe (codes "far") (codes " ") (letters_safe (codes "far") (refl, (refl, (refl, tt))))
+    (All-from_recursion IsSafe (codes " ") (a_space, tt))
+
 no_safe : All IsSafe (codes "no ")
 no_safe = All-from_recursion IsSafe (codes "no ")
     (letter 110 (omega arith) (omega arith), (letter 111 (omega arith) (omega arith), (a_space, tt)))
@@ -89,14 +107,38 @@ connection_safe : All IsSafe (codes "connection")
 connection_safe = All-weaker (λ byte. IsTrue (is_ascii_alphabetic byte)) IsSafe letter_safe (codes "connection")
     (All-from_recursion (λ byte. IsTrue (is_ascii_alphabetic byte)) (codes "connection") (refl, (refl, (refl, (refl, (refl, (refl, (refl, (refl, (refl, (refl, tt)))))))))))
 
+-- a word and then the word for a hop
+hop_safe : (front hop : List ℕ) → All IsSafe front → All IsSafe hop → All IsSafe (front ++ hop)
+hop_safe front hop a b = All-append IsSafe front hop a b
+
+is_loose_safe : (words : List ℕ) → NamesLoose words → All IsSafe words
+is_loose_safe words (inl named) = named_safe (codes "LOOSE ") words loose_safe named
+is_loose_safe words (inr (inl named)) = named_safe (codes "LOOSE " ++ codes "near ") words
+    (hop_safe (codes "LOOSE ") (codes "near ") loose_safe near_safe) named
+is_loose_safe words (inr (inr named)) = named_safe (codes "LOOSE " ++ codes "far ") words
+    (hop_safe (codes "LOOSE ") (codes "far ") loose_safe far_safe) named
+
+is_fail_safe : (words : List ℕ) → NamesFail words → All IsSafe words
+is_fail_safe words (inl ruled) = ruled_safe (codes "FAIL ") words fail_safe ruled
+is_fail_safe words (inr (inl ruled)) = ruled_safe (codes "FAIL " ++ codes "near ") words
+    (hop_safe (codes "FAIL ") (codes "near ") fail_safe near_safe) ruled
+is_fail_safe words (inr (inr ruled)) = ruled_safe (codes "FAIL " ++ codes "far ") words
+    (hop_safe (codes "FAIL ") (codes "far ") fail_safe far_safe) ruled
+
+is_head_safe : (words : List ℕ) → NamesRefusal words → All IsSafe words
+is_head_safe words (inl named) = named_safe (codes "FAIL " ++ codes "Head ") words
+    (hop_safe (codes "FAIL ") (codes "Head ") fail_safe head_safe) named
+is_head_safe words (inr named) = named_safe (codes "FAIL " ++ (codes "far " ++ codes "Head ")) words
+    (hop_safe (codes "FAIL ") (codes "far " ++ codes "Head ") fail_safe
+    (hop_safe (codes "far ") (codes "Head ") far_safe head_safe)) named
+
 verdict_safe : (words : List ℕ) → IsVerdict words → All IsSafe words
 verdict_safe words (inl e) = All-same IsSafe words (codes "PASS") e pass_safe
 verdict_safe words (inr (inl e)) =
     All-same IsSafe words (codes "no " ++ codes "connection") e (All-append IsSafe (codes "no ") (codes "connection") no_safe connection_safe)
-verdict_safe words (inr (inr (inl named))) = named_safe (codes "LOOSE ") words loose_safe named
-verdict_safe words (inr (inr (inr (inl plain)))) = named_safe (codes "FAIL ") words fail_safe plain.0
-verdict_safe words (inr (inr (inr (inr named)))) =
-    named_safe (codes "FAIL " ++ codes "Head ") words (All-append IsSafe (codes "FAIL ") (codes "Head ") fail_safe head_safe) named
+verdict_safe words (inr (inr (inl loose))) = is_loose_safe words loose.names
+verdict_safe words (inr (inr (inr (inl plain)))) = is_fail_safe words plain.names
+verdict_safe words (inr (inr (inr (inr head)))) = is_head_safe words head.names
 
 pub verdict_plain : (words : List ℕ) → IsVerdict words → All (λ byte. byte ≢ 40) words
 verdict_plain words h = All-weaker IsSafe (λ byte. byte ≢ 40) (λ byte safe. safe.0) words (verdict_safe words h)
@@ -213,3 +255,36 @@ line_read line (Err fault) beside h = λ e found told. other e found told
     other : fault ≡ Damaged → (found : KnownLine) → IsKnownLine found line → ⊥
     other e (Verdict id words) told = h e (Verdict id words) told
     other e Other told = beside told
+
+-- ---- the words of a verdict
+
+-- where they are none of the others they are a verdict if they are the last
+pub last_told : (words : List ℕ) (bare loose fail head : Bool)
+    → (IsTrue bare ↔ ((words ≡ codes "PASS") ⊎ (words ≡ codes "no connection"))) → bare ≡ false
+    → (IsTrue loose ↔ IsNamedLoose words) → loose ≡ false → (IsTrue fail ↔ IsPlainFail words) → fail ≡ false
+    → (IsTrue head ↔ IsHeadFail words) → (IsTrue head ↔ IsVerdict words)
+last_told words bare loose fail head b not_bare l not_loose f not_fail h =
+    (λ so. inr (inr (inr (inr (h.0 so)))), λ v. back v)
+  where
+    back : IsVerdict words → IsTrue head
+    back (inl e) = absurd (false≢true (sym not_bare ∙ b.1 (inl e)))
+    back (inr (inl e)) = absurd (false≢true (sym not_bare ∙ b.1 (inr e)))
+    back (inr (inr (inl x))) = absurd (false≢true (sym not_loose ∙ l.1 x))
+    back (inr (inr (inr (inl x)))) = absurd (false≢true (sym not_fail ∙ f.1 x))
+    back (inr (inr (inr (inr x)))) = h.1 x
+
+-- where they are one of them they are a verdict
+pub told_true : (A : Type 0) → A → (IsTrue true ↔ A)
+told_true A a = (λ so. a, λ x. refl)
+
+pub told_false : (A : Type 0) → (A → ⊥) → (IsTrue false ↔ A)
+told_false A never = (λ so. absurd (false≢true so), λ x. absurd (never x))
+
+pub bare_told : (words : List ℕ) → (words ≡ codes "PASS") ⊎ (words ≡ codes "no connection") → IsVerdict words
+bare_told words (inl e) = inl e
+bare_told words (inr e) = inr (inl e)
+
+-- parts of a line of which the first two are right
+pub parts_told : (id words remark : List ℕ) (answer : Bool) → 1 ≤ length id → IsVerdict words
+    → (IsTrue answer ↔ IsRemark remark) → (IsTrue answer ↔ AreParts id words remark)
+parts_told id words remark answer some verdict h = (λ so. (some, verdict, h.0 so), λ p. h.1 p.2)

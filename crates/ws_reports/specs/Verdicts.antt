@@ -12,14 +12,40 @@ IsName word = (1 ≤ length word) × All (λ byte. IsTrue (is_ascii_alphabetic b
 abbrev pub HasName : List ℕ → List ℕ → Type 0
 HasName front words = (name : List ℕ) × IsName name × (words ≡ front ++ name)
 
--- a Fail with the name of a rule; the name of a refusal of the answer stands behind `Head`
-abbrev pub IsPlainFail : List ℕ → Type 0
-IsPlainFail words = HasName (codes "FAIL ") words × (words ≢ codes "FAIL Head")
+-- a name as of a rule, but for `Head`: behind that stands the name of a refusal of the answer
+abbrev pub IsRuleName : List ℕ → Type 0
+IsRuleName word = IsName word × (word ≢ codes "Head")
+
+-- the words are these and then such a name
+abbrev pub HasRule : List ℕ → List ℕ → Type 0
+HasRule front words = (name : List ℕ) × IsRuleName name × (words ≡ front ++ name)
+
+-- a Loose, of a connection or of one of two hops: the near one or the far one
+abbrev pub NamesLoose : List ℕ → Type 0
+NamesLoose words = HasName (codes "LOOSE ") words ⊎ HasName (codes "LOOSE near ") words
+    ⊎ HasName (codes "LOOSE far ") words
+
+pub record IsNamedLoose (words : List ℕ) : Type 0 where
+  pub names : NamesLoose words
+
+-- so a Fail with the name of a rule
+abbrev pub NamesFail : List ℕ → Type 0
+NamesFail words = HasRule (codes "FAIL ") words ⊎ HasRule (codes "FAIL near ") words ⊎ HasRule (codes "FAIL far ") words
+
+pub record IsPlainFail (words : List ℕ) : Type 0 where
+  pub names : NamesFail words
+
+-- and one with that of a refusal, of a connection or of the far hop
+abbrev pub NamesRefusal : List ℕ → Type 0
+NamesRefusal words = HasName (codes "FAIL Head ") words ⊎ HasName (codes "FAIL far Head ") words
+
+pub record IsHeadFail (words : List ℕ) : Type 0 where
+  pub names : NamesRefusal words
 
 -- the words tell a verdict. Which names there are isn't asked: a list may be of an earlier or a later version
 abbrev pub IsVerdict : List ℕ → Type 0
-IsVerdict words = (words ≡ codes "PASS") ⊎ (words ≡ codes "no connection") ⊎ HasName (codes "LOOSE ") words
-    ⊎ IsPlainFail words ⊎ HasName (codes "FAIL Head ") words
+IsVerdict words = (words ≡ codes "PASS") ⊎ (words ≡ codes "no connection") ⊎ IsNamedLoose words ⊎ IsPlainFail words
+    ⊎ IsHeadFail words
 
 -- the words tell a Fail; a case without a connection counts as one
 abbrev pub tells_fail : List ℕ → Bool

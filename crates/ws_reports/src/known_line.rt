@@ -131,7 +131,13 @@ fn parts_of(line: &[u8]) -> Option<(&[u8], &[u8])>
 fn are_parts(id: &[u8], words: &[u8], remark: &[u8]) -> bool
     ensures { IsTrue result ↔ AreParts id.now words.now remark.now }
 {
-    !id.is_empty() && is_verdict(words) && is_remark(remark)
+    if id.is_empty() {
+        return false;
+    }
+    if is_verdict(words) {
+        return is_remark(remark);
+    }
+    false
 }
 
 /// What stands before a space and the first bracket, and from that space on.

@@ -1,26 +1,93 @@
 //! The words of a verdict, as the line of a case has them.
 
-ghost use Rattle.std.specs.Prelude.{◌≡◌, ◌↔◌, IsTrue};
-ghost use Rattle.ws_reports.specs.Verdicts.{HasName, IsName, IsPlainFail, IsVerdict, is_same_verdict, tells_fail};
+ghost use Rattle.std.specs.Prelude.{◌≡◌, ◌⊎◌, ◌↔◌, IsTrue, codes};
+ghost use Rattle.ws_reports.specs.Verdicts.{HasName, HasRule, IsHeadFail, IsName, IsNamedLoose, IsPlainFail};
+ghost use Rattle.ws_reports.specs.Verdicts.{IsRuleName, IsVerdict, NamesFail, NamesLoose, NamesRefusal};
+ghost use Rattle.ws_reports.specs.Verdicts.{is_same_verdict, tells_fail};
 
 use crate::cutting::behind;
 
 /// Whether these are the words of a verdict: `PASS`, `no connection`, or `LOOSE`, `FAIL` or `FAIL Head` with a name.
+/// `near` or `far` in front of the name tells of which of two hops it is.
 pub(crate) fn is_verdict(words: &[u8]) -> bool
     ensures { IsTrue result ↔ IsVerdict words.now }
 {
-    words == b"PASS".as_slice()
-        || words == b"no connection".as_slice()
-        || has_name(words, b"LOOSE ")
-        || is_plain_fail(words)
-        || has_name(words, b"FAIL Head ")
+    if is_bare(words) {
+        return true;
+    }
+    if is_named_loose(words) {
+        return true;
+    }
+    if is_plain_fail(words) {
+        return true;
+    }
+    is_head_fail(words)
 }
 
-/// Whether the words are `FAIL` and a name other than `Head`.
+/// Whether the words are `PASS` or `no connection`.
+fn is_bare(words: &[u8]) -> bool
+    ensures { IsTrue result ↔ ((words.now ≡ codes "PASS") ⊎ (words.now ≡ codes "no connection")) }
+{
+    words == b"PASS".as_slice() || words == b"no connection".as_slice()
+}
+
+/// Whether the words are `LOOSE`, a hop or none, and a name.
+fn is_named_loose(words: &[u8]) -> bool
+    ensures { IsTrue result ↔ IsNamedLoose words.now }
+{
+    names_loose(words)
+}
+
+/// The same, by the words that may stand in front of the name.
+fn names_loose(words: &[u8]) -> bool
+    ensures { IsTrue result ↔ NamesLoose words.now }
+{
+    has_name(words, b"LOOSE ") || has_name(words, b"LOOSE near ") || has_name(words, b"LOOSE far ")
+}
+
+/// Whether the words are `FAIL`, a hop or none, and a name other than `Head`.
 fn is_plain_fail(words: &[u8]) -> bool
     ensures { IsTrue result ↔ IsPlainFail words.now }
 {
-    has_name(words, b"FAIL ") && words != b"FAIL Head".as_slice()
+    names_fail(words)
+}
+
+/// The same, by the words that may stand in front of the name.
+fn names_fail(words: &[u8]) -> bool
+    ensures { IsTrue result ↔ NamesFail words.now }
+{
+    has_rule(words, b"FAIL ") || has_rule(words, b"FAIL near ") || has_rule(words, b"FAIL far ")
+}
+
+/// Whether the words are `FAIL Head` or `FAIL far Head` and a name.
+fn is_head_fail(words: &[u8]) -> bool
+    ensures { IsTrue result ↔ IsHeadFail words.now }
+{
+    names_refusal(words)
+}
+
+/// The same, by the words that may stand in front of the name.
+fn names_refusal(words: &[u8]) -> bool
+    ensures { IsTrue result ↔ NamesRefusal words.now }
+{
+    has_name(words, b"FAIL Head ") || has_name(words, b"FAIL far Head ")
+}
+
+/// Whether a name other than `Head` stands behind these bytes, and nothing else.
+fn has_rule(words: &[u8], front: &[u8]) -> bool
+    ensures { IsTrue result ↔ HasRule front.now words.now }
+{
+    match behind(words, front) {
+        Some(name) => is_rule_name(name),
+        None => false,
+    }
+}
+
+/// Whether this is a name other than `Head`.
+fn is_rule_name(word: &[u8]) -> bool
+    ensures { IsTrue result ↔ IsRuleName word.now }
+{
+    is_name(word) && word != b"Head".as_slice()
 }
 
 /// Whether a name stands behind these bytes, and nothing else.
