@@ -20,5 +20,5 @@ pub stop_answered : (Answers : List ℕ → Result Exit CommandFault → Device 
     → Answers text (Err (capture_fault fault)) output)
     → AnswersInput Answers ended input output
 stop_answered Answers (Stop stop) ended input output fails untouched e give = inr (stop, fails, e, untouched)
-stop_answered Answers (Fault fault) ended input output (text, reads, damages) untouched e give =
+stop_answered Answers (Fault fault) ended input output (text, reads, damages, names) untouched e give =
     inl (text, reads, subst (λ (r : Result Exit CommandFault). Answers text r output) (sym e) (give fault text damages))

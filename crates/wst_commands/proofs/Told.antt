@@ -1,5 +1,5 @@
 -- A verdict that was written in its line, and what stands below it.
-use Rattle.std.proofs.Common.{◌≡◌, ◌∙◌, ℕ, List, [], ◌++◌, Bool, true, Result, Ok, Err, ap, refl, subst, sym, append_assoc}
+use Rattle.std.proofs.Common.{◌≡◌, ◌∙◌, ℕ, List, [], ◌++◌, Bool, true, None, Result, Ok, Err, ap, refl, subst, sym, append_assoc}
 use Rattle.std.specs.List.{flat_map}
 use Rattle.ws_frame.specs.Devices.{Device}
 use Rattle.ws_wire.specs.declared.role.Role.{Role}
@@ -87,16 +87,16 @@ fail_told tested expected transcript x lines why ended output of is a told =
 
 -- what is written through a room is the verdict's line with the lines of the explanation
 pub explained_is : (x : Explanation) (tested : Role) (expected : Expectation) (cut : _)
-    (line due_end got_end : List ℕ) → line ≡ verdict_line x.verdict → due_end ≡ ending_line Due x.due.ending
-    → got_end ≡ ending_line Got x.got.ending ++ lines_after_replies tested expected cut x
+    (line due_end got_end : List ℕ) → line ≡ verdict_line x.verdict → due_end ≡ ending_line Due None x.due.ending
+    → got_end ≡ ending_line Got x.found.fault x.got.ending ++ lines_after_replies tested expected cut x
     → explained_text line x due_end got_end ≡ verdict_line x.verdict ++ explanation_lines tested expected cut x
 explained_is x tested expected cut line due_end got_end e f g =
     let due = flat_map (reply_line Due) x.due.replies in
     let got = flat_map (reply_line Got) x.got.replies in
-    let got_ending = ending_line Got x.got.ending in
+    let got_ending = ending_line Got x.found.fault x.got.ending in
     let last = lines_after_replies tested expected cut x in
     ap (λ (l : List ℕ). l ++ ((due ++ due_end) ++ (got ++ got_end))) e
     ∙ (ap (λ (l : List ℕ). verdict_line x.verdict ++ ((due ++ l) ++ (got ++ got_end))) f
-    ∙ (ap (λ (l : List ℕ). verdict_line x.verdict ++ ((due ++ ending_line Due x.due.ending) ++ (got ++ l))) g
-    ∙ ap (λ (l : List ℕ). verdict_line x.verdict ++ ((due ++ ending_line Due x.due.ending) ++ l))
+    ∙ (ap (λ (l : List ℕ). verdict_line x.verdict ++ ((due ++ ending_line Due None x.due.ending) ++ (got ++ l))) g
+    ∙ ap (λ (l : List ℕ). verdict_line x.verdict ++ ((due ++ ending_line Due None x.due.ending) ++ l))
     (sym (append_assoc got got_ending last))))

@@ -21,10 +21,11 @@ use Rattle.ws_suite.specs.declared.evidence.Ending.TheVariants.{Closed, Failed, 
 use Rattle.ws_suite.specs.declared.evidence.InTurn.{InTurn}
 use Rattle.ws_suite.specs.declared.evidence.Reply.{Reply}
 use Rattle.ws_suite.specs.declared.evidence.Reply.TheVariants as reply
+use Rattle.ws_suite.specs.declared.evidence.found.FoundFault.{FoundFault}
 use Rattle.ws_suite.specs.declared.explaining.Explanation.{Explanation}
 use Rattle.ws_suite.specs.declared.verdict.Verdict.{Verdict}
 use Rattle.ws_suite.specs.declared.verdict.Verdict.TheVariants.{Pass, Loose, Fail}
-use Rattle.wst_commands.specs.FaultRules.{sent_rule}
+use Rattle.wst_commands.specs.FaultRules.{got_rule, sent_rule}
 use Rattle.wst_commands.specs.declared.explaining.Judgement.{Judgement}
 use Rattle.wst_commands.specs.declared.explanation_lines.Side.{Side}
 use Rattle.wst_commands.specs.declared.explanation_lines.Side.TheVariants.{Due, Got}
@@ -50,11 +51,18 @@ reply_words (reply.Message message) = kind_word message.kind ++ (codes " " ++ sh
 reply_words (reply.Pong payload) = codes "pong " ++ shown_data payload
 reply_words (reply.Ping payload) = codes "ping " ++ shown_data payload
 
-abbrev pub ending_words : Side → Ending → List ℕ
-ending_words side (Closed None) = codes "close none"
-ending_words side (Closed (Some code)) = codes "close " ++ decimal code
-ending_words side (Failed reason) = fault_word side ++ (codes " " ++ reason_name reason)
-ending_words side Doomed = fault_word side ++ codes " Doomed"
+-- where a fault is, a count of the bytes that came, and the bytes that show it, which are at most sixteen
+abbrev pub found_words : Option FoundFault → List ℕ
+found_words None = []
+found_words (Some fault) =
+    concat (codes " at " ∷ decimal fault.place ∷ codes " " ∷ shown_data fault.bytes.items ∷ [])
+
+-- a fault that came with its place, where it is found
+abbrev pub ending_words : Side → Option FoundFault → Ending → List ℕ
+ending_words side fault (Closed None) = codes "close none"
+ending_words side fault (Closed (Some code)) = codes "close " ++ decimal code
+ending_words side fault (Failed reason) = fault_word side ++ (codes " " ++ (reason_name reason ++ found_words fault))
+ending_words side fault Doomed = fault_word side ++ codes " Doomed"
 
 -- ---- lines
 
@@ -66,19 +74,24 @@ line_in side turn words =
 abbrev pub reply_line : Side → InTurn Reply → List ℕ
 reply_line side reply = line_in side reply.turn (reply_words reply.what)
 
-abbrev pub ending_line : Side → Option (InTurn Ending) → List ℕ
-ending_line side None = []
-ending_line side (Some ending) = line_in side ending.turn (ending_words side ending.what)
+abbrev pub ending_line : Side → Option FoundFault → Option (InTurn Ending) → List ℕ
+ending_line side fault None = []
+ending_line side fault (Some ending) = line_in side ending.turn (ending_words side fault ending.what)
 
 -- what was owed, or what came: a line each, in its order, and then one for the close or the fault
-abbrev pub direction_lines : Side → Direction → List ℕ
-direction_lines side direction =
-    flat_map (reply_line side) direction.replies ++ ending_line side direction.ending
+abbrev pub direction_lines : Side → Option FoundFault → Direction → List ℕ
+direction_lines side fault direction =
+    flat_map (reply_line side) direction.replies ++ ending_line side fault direction.ending
 
--- where something was got in a turn that has no words of its own
-abbrev pub note_line : List ℕ → Option ℕ → List ℕ
-note_line note None = []
-note_line note (Some turn) = line_in Got turn note
+-- where bytes follow the close that came, with the first of them
+abbrev pub beyond_line : List ℕ → Option ℕ → List ℕ
+beyond_line bytes None = []
+beyond_line bytes (Some turn) = line_in Got turn (codes "beyond " ++ shown_data bytes)
+
+-- where the bytes that came end inside a frame
+abbrev pub cut_line : Option ℕ → List ℕ
+cut_line None = []
+cut_line (Some turn) = line_in Got turn (codes "cut")
 
 abbrev pub ended_word : Ended → List ℕ
 ended_word Tester = codes "tester"
@@ -95,12 +108,13 @@ rule_line None = []
 rule_line (Some sentence) = concat (codes "  rule " ∷ sentence ∷ codes "\n" ∷ [])
 
 -- The lines of an explanation: what was owed, what came, where bytes follow the close that came, where the bytes that
--- came end inside a frame, who ended it, the rule behind the verdict, and the rule that what was sent breaks.
+-- came end inside a frame, who ended it, the rule behind the verdict, the rule that what came breaks, where the verdict
+-- is about that, and the rule that what was sent breaks.
 abbrev pub explanation_lines : Role → Expectation → Option ℕ → Explanation → List ℕ
 explanation_lines tested expected cut x = concat (
-    direction_lines Due x.due ∷ direction_lines Got x.got ∷ note_line (codes "beyond") x.beyond
-    ∷ note_line (codes "cut") cut ∷ ended_line x.ended x.turns ∷ rule_line (rule_words tested expected x.verdict)
-    ∷ rule_line (sent_rule x.due.ending) ∷ [])
+    direction_lines Due None x.due ∷ direction_lines Got x.found.fault x.got ∷ beyond_line x.found.behind.items x.beyond
+    ∷ cut_line cut ∷ ended_line x.ended x.turns ∷ rule_line (rule_words tested expected x.verdict)
+    ∷ rule_line (got_rule x.verdict x.got.ending) ∷ rule_line (sent_rule x.due.ending) ∷ [])
 
 -- ---- where what came is cut
 

@@ -38,7 +38,8 @@ not_listening_line why.Failed = codes "not listening: failed\n"
 
 abbrev pub TellsFault : Fault → Exit → Device → Type 0
 TellsFault BadLimits exit faults = (exit ≡ WrongWords) × Tells (codes "bad limits\n") faults
-TellsFault BadProtocols exit faults = (exit ≡ WrongWords) × Tells (codes "bad protocol list\n") faults
+TellsFault BadProtocols exit faults = (exit ≡ WrongWords)
+    × Tells (codes "bad protocol list\n  up to 16 different names, joined by commas: --protocols chat,echo\n") faults
 TellsFault BadTimeout exit faults = (exit ≡ WrongWords)
     × Tells (codes "bad timeout\n  a whole number of seconds, 1 to 3600: --timeout 5\n") faults
 TellsFault TimeoutWithUnit exit faults =

@@ -1,5 +1,6 @@
 -- What the printed types of `explanation_lines.rt` print. A reader may skip this file: no public contract speaks of it.
 use Rattle.std.specs.Prelude.{◌≡◌, ℕ, ◌+◌, List, [], ◌∷◌, ◌++◌, Option, codes, option_map}
+use Rattle.std.specs.Borrow.{Bor}
 use Rattle.std.specs.List.{concat, flat_map}
 use Rattle.std.specs.Fmt.{decimal}
 use Rattle.ws_scripts.specs.declared.expectation.Expectation.{Expectation}
@@ -8,16 +9,20 @@ use Rattle.ws_suite.specs.Kept.{reply_in}
 use Rattle.ws_suite.specs.Words.{rule_words}
 use Rattle.ws_suite.specs.declared.evidence.kept.ReplyKind.{ReplyKind}
 use Rattle.ws_suite.specs.declared.evidence.kept.ReplyKind.TheVariants.{Text, Binary, Pong, Ping}
+use Rattle.ws_suite.specs.declared.evidence.found.FoundFault.{FoundFault}
 use Rattle.ws_suite.specs.declared.explaining.Explanation.{Explanation}
 use Rattle.ws_wire.specs.declared.role.Role.{Role}
-use Rattle.wst_commands.specs.Explaining.{direction_lines, ending_line, explanation_lines, note_line}
-use Rattle.wst_commands.specs.Explaining.{IsCutIn, ended_line, is_cut, reply_line, rule_line, shown_data, side_word}
-use Rattle.wst_commands.specs.FaultRules.{sent_rule}
+use Rattle.wst_commands.specs.Explaining.{beyond_line, cut_line, direction_lines, ending_line, explanation_lines}
+use Rattle.wst_commands.specs.Explaining.{IsCutIn, ended_line, is_cut, found_words, reply_line, rule_line}
+use Rattle.wst_commands.specs.Explaining.{shown_data, side_word}
+use Rattle.wst_commands.specs.FaultRules.{got_rule, sent_rule}
+use Rattle.wst_commands.specs.declared.explanation_lines.BeyondLine.{BeyondLine}
+use Rattle.wst_commands.specs.declared.explanation_lines.CutLine.{CutLine}
 use Rattle.wst_commands.specs.declared.explanation_lines.EndingLine.{EndingLine}
 use Rattle.wst_commands.specs.declared.explanation_lines.ExplanationLines.{ExplanationLines}
 use Rattle.wst_commands.specs.declared.explanation_lines.LastLines.{LastLines}
 use Rattle.wst_commands.specs.declared.explanation_lines.LineStart.{LineStart}
-use Rattle.wst_commands.specs.declared.explanation_lines.NoteLine.{NoteLine}
+use Rattle.wst_commands.specs.declared.explanation_lines.PlaceWords.{PlaceWords}
 use Rattle.wst_commands.specs.declared.explanation_lines.ReplyLine.{ReplyLine}
 use Rattle.wst_commands.specs.declared.explanation_lines.RuleLine.{RuleLine}
 use Rattle.wst_commands.specs.declared.explanation_lines.Shown.{Shown}
@@ -31,8 +36,9 @@ printed_explanation lines = explanation_lines lines.0.tested lines.0.expected li
 -- the lines of an explanation behind those of what was owed and of what came
 abbrev pub lines_after_replies : Role → Expectation → Option ℕ → Explanation → List ℕ
 lines_after_replies tested expected cut x = concat (
-    note_line (codes "beyond") x.beyond ∷ note_line (codes "cut") cut ∷ ended_line x.ended x.turns
-    ∷ rule_line (rule_words tested expected x.verdict) ∷ rule_line (sent_rule x.due.ending) ∷ [])
+    beyond_line x.found.behind.items x.beyond ∷ cut_line cut ∷ ended_line x.ended x.turns
+    ∷ rule_line (rule_words tested expected x.verdict) ∷ rule_line (got_rule x.verdict x.got.ending)
+    ∷ rule_line (sent_rule x.due.ending) ∷ [])
 
 abbrev pub printed_last : LastLines → List ℕ
 printed_last lines = lines_after_replies lines.tested lines.expected lines.cut lines.explanation.now
@@ -45,17 +51,27 @@ pub record AreLastLines (tested : Role) (expected : Expectation) (transcript : T
   pub explanation_is : lines.explanation.now ≡ x
   pub cut_is : IsCutIn (is_cut x.got) transcript.turns lines.cut
 
+-- the fault that is lent, if there is one
+abbrev pub lent_fault : Option (Bor FoundFault) → Option FoundFault
+lent_fault fault = option_map (λ x. x.now) fault
+
+abbrev pub printed_place : PlaceWords → List ℕ
+printed_place place = found_words (lent_fault place.0)
+
 abbrev pub printed_side : SideLines → List ℕ
-printed_side lines = direction_lines lines.side lines.direction.now
+printed_side lines = direction_lines lines.side (lent_fault lines.fault) lines.direction.now
 
 abbrev pub printed_reply : ReplyLine → List ℕ
 printed_reply line = reply_line line.side (reply_in line.reply)
 
 abbrev pub printed_ending : EndingLine → List ℕ
-printed_ending line = ending_line line.side line.ending.now
+printed_ending line = ending_line line.side (lent_fault line.fault) line.ending.now
 
-abbrev pub printed_note : NoteLine → List ℕ
-printed_note line = note_line line.note.now line.turn
+abbrev pub printed_beyond : BeyondLine → List ℕ
+printed_beyond line = beyond_line line.bytes.now line.turn
+
+abbrev pub printed_cut : CutLine → List ℕ
+printed_cut line = cut_line line.0
 
 abbrev pub printed_rule : RuleLine → List ℕ
 printed_rule line = rule_line (option_map (λ words. words.now) line.0)

@@ -3,7 +3,7 @@ use Rattle.std.specs.Prelude.{◌≡◌, ◌⊎◌, ℕ, Bool, true, false, List
 use Rattle.ws_wire.specs.declared.role.Role.{Role}
 use Rattle.ws_wire.specs.declared.role.Role.TheVariants.{Server}
 use Rattle.ws_frame.specs.Devices.{Device, IsUntouched}
-use Rattle.ws_frame.specs.Lines.{Shows, IsFairEnd, alone}
+use Rattle.ws_frame.specs.Lines.{Shows, IsFairEnd, alone, takes_memory}
 use Rattle.ws_frame.specs.declared.source.DataStyle.{DataStyle}
 use Rattle.ws_frame.specs.declared.source.Source.{Source}
 use Rattle.ws_frame.specs.declared.showing.ShowEnd.{ShowEnd}
@@ -61,20 +61,23 @@ shown end.ReadFault = Ok Failed
 shown end.WriteFault = Ok Failed
 shown end.NoMemory = Err NoMemory
 
--- the lines of what was read were written, which devices have failed, and how that ended
+-- the lines of what was read were written, which devices have failed, and how that ended. Memory runs out only in a
+-- style that takes it, as `Shows` says, and so never by the first bytes of payloads.
 abbrev pub ShowsStream : Source → ℕ → Result Exit Fault → Device → Device → Type 0
 ShowsStream source budget ended input output = (end : ShowEnd) × Shows source budget end input output
     × IsFairEnd end input output × (ended ≡ shown end)
 
 -- ---- a capture
 
--- The text of lines of the transcript was written; or a write failed, or memory ran out, and a beginning of it was
--- written. Of a transcript with a place that 64 bits can't tell nothing is written, and it is told as want of memory.
+-- The text of lines of the transcript was written; or a write failed, or memory ran out in a style that takes it, and a
+-- beginning of it was written. Of a transcript with a place that 64 bits can't tell nothing is written, and it is told
+-- as want of memory.
 abbrev pub TellsLines : Showing → Transcript → Result Exit Fault → Device → Type 0
 TellsLines showing transcript ended output =
     ((ended ≡ Ok Done) × (output.failed ≡ false) × HasWrittenLines showing transcript output)
     ⊎ ((ended ≡ Ok Failed) × (output.failed ≡ true) × HasBegunLines showing transcript output)
-    ⊎ ((ended ≡ Err NoMemory) × (output.failed ≡ false) × HasBegunLines showing transcript output)
+    ⊎ ((ended ≡ Err NoMemory) × (output.failed ≡ false) × (takes_memory showing.style ≡ true)
+    × HasBegunLines showing transcript output)
     ⊎ ((ended ≡ Err NoMemory) × ¬ (FitsPlaces transcript.turns) × IsUntouched output)
 
 -- what is done with a text: as a capture, in either format, its lines are written; else nothing is written, and what is

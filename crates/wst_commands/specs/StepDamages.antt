@@ -1,13 +1,15 @@
 -- What is wrong with a line that is no step, where that is known to be typed often, and what is told of it.
-use Rattle.std.specs.Prelude.{◌≡◌, ℕ, zero, suc, ◌+◌, ◌-◌, ◌==◌, nat_eq, nat_lt, Bool, false, ◌||◌, ◌&&◌, if◌then◌else◌}
+use Rattle.std.specs.Prelude.{◌≡◌, ℕ, zero, suc, ◌+◌, ◌-◌, ◌==◌, nat_eq, nat_lt, Bool, false, true}
+use Rattle.std.specs.Prelude.{not, ◌||◌, ◌&&◌, if◌then◌else◌}
 use Rattle.std.specs.Prelude.{List, [], ◌∷◌, drop, take, position, codes, Option, Some, None, MatchOption}
 use Rattle.std.specs.Borrow.{Bor}
 use Rattle.std.specs.List.{ends_with, list_all, list_any, starts_with}
-use Rattle.std.specs.Str.{bytes_eq}
+use Rattle.std.specs.Char.{is_ascii_control}
+use Rattle.std.specs.Str.{bytes_eq, is_utf8}
 use Rattle.ws_formats.specs.Words.{words_of}
 use Rattle.wst_commands.specs.declared.step_damages.StepDamage.{StepDamage}
-use Rattle.wst_commands.specs.declared.step_damages.StepDamage.TheVariants.{EndsInCr, Order, Other, Quotes, Unended}
-use Rattle.wst_commands.specs.declared.step_damages.StepDamage.TheVariants.{NoPayload, Unprintable}
+use Rattle.wst_commands.specs.declared.step_damages.StepDamage.TheVariants.{EndsInCr, Escape, Order, Other, Quotes}
+use Rattle.wst_commands.specs.declared.step_damages.StepDamage.TheVariants.{NoPayload, Unended, Unprintable}
 
 -- ---- cutting
 
@@ -77,20 +79,55 @@ order_damage line = words_damage (words_of line)
 abbrev pub behind_damage : List (List ℕ) → StepDamage
 behind_damage words = if descend 5 words then Order else Other
 
--- a byte that no text has: one outside 0x20 to 0x7e
-abbrev pub is_unprintable : ℕ → Bool
-is_unprintable byte = nat_lt byte 32 || nat_lt 126 byte
+-- what no text has between its quotes: bytes that aren't UTF-8, or a control character of ASCII
+abbrev pub is_unprintable : List ℕ → Bool
+is_unprintable text = if is_utf8 text then list_any is_ascii_control text else true
 
--- a line that ends with this text, before which this is wrong: where that is nothing else (the payload is the text), a
--- byte of the text may be it
+-- what may follow a backslash: a quote, a backslash, `/`, `b`, `f`, `n`, `r`, `t` or `u`
+abbrev pub is_escape_letter : ℕ → Bool
+is_escape_letter byte = byte == 34 || (byte == 92 || (byte == 47 || (byte == 98 || (byte == 102 || (byte == 110
+    || (byte == 114 || (byte == 116 || byte == 117)))))))
+
+-- something else follows a backslash that no backslash escapes
+abbrev pub has_wrong_escape : List ℕ → Bool
+has_wrong_escape [] = false
+has_wrong_escape (byte ∷ []) = false
+has_wrong_escape (byte ∷ next ∷ rest) =
+    if byte == 92 then not (is_escape_letter next) || has_wrong_escape rest else has_wrong_escape (next ∷ rest)
+
+-- what may be wrong with a text itself
+abbrev pub text_fault : List ℕ → StepDamage
+text_fault text = if is_unprintable text then Unprintable else (if has_wrong_escape text then Escape else Other)
+
+-- a line that ends with this text, before which this is wrong: where that is nothing else (the payload is the text),
+-- the text may be it
 abbrev pub inner_damage : List ℕ → StepDamage → StepDamage
-inner_damage text Other = if list_any is_unprintable text then Unprintable else Other
-inner_damage text NoPayload = if list_any is_unprintable text then Unprintable else Other
+inner_damage text Other = text_fault text
+inner_damage text NoPayload = text_fault text
 inner_damage text Unended = Unended
 inner_damage text EndsInCr = EndsInCr
 inner_damage text Quotes = Quotes
 inner_damage text Order = Order
 inner_damage text Unprintable = Unprintable
+inner_damage text Escape = Escape
+
+-- a byte, which a backslash escapes or none, escapes the next one
+abbrev pub escapes : Bool → ℕ → Bool
+escapes escaped byte = not escaped && byte == 92
+
+-- where a text ends, from this place on, behind a backslash that escapes or none: at the first quote that none escapes
+abbrev pub closing_from : Bool → ℕ → List ℕ → Option ℕ
+closing_from escaped at [] = None
+closing_from escaped at (byte ∷ rest) =
+    if not escaped && byte == 34 then Some at else closing_from (escapes escaped byte) (at + 1) rest
+
+abbrev pub closing_quote : List ℕ → Option ℕ
+closing_quote bytes = closing_from false 0 bytes
+
+-- the bytes are cut so at that quote
+abbrev pub CutsAtQuote : List ℕ → Option (Bor (List ℕ) × Bor (List ℕ)) → Type 0
+CutsAtQuote bytes result = MatchOption result (cut_by (closing_quote bytes) bytes ≡ None)
+    (λ parts. cut_by (closing_quote bytes) bytes ≡ Some (parts.0.now, parts.1.now))
 
 -- what stands behind the second quote: no quote, and nothing else
 abbrev pub text_damage : List ℕ → Option (List ℕ × List ℕ) → StepDamage
@@ -101,15 +138,16 @@ text_damage front (Some (_, byte ∷ behind)) =
 
 -- a line of which this stands before its first quote, and this behind it
 abbrev pub quoted_damage : List ℕ → List ℕ → StepDamage
-quoted_damage front rest = text_damage front (cut_of 34 rest)
+quoted_damage front rest = text_damage front (cut_by (closing_quote rest) rest)
 
 -- a line that is cut so at its first quote
 abbrev pub cut_damage : List ℕ → Option (List ℕ × List ℕ) → StepDamage
 cut_damage line None = order_damage line
 cut_damage line (Some parts) = quoted_damage parts.0 parts.1
 
--- a line that has an LF: it ends in CR; or else it has quotes, and not two; or else its fields stand in another order,
--- or one of them behind its data; or else its text has a byte that no text has, or it names a frame and has no payload
+-- a line that has an LF: it ends in CR; or else it has quotes, but not two that no backslash escapes; or else its
+-- fields stand in another order, or one of them behind its data; or else its text is no UTF-8, has a control character
+-- or a wrong escape, or it names a frame and has no payload
 abbrev pub line_damage : List ℕ → StepDamage
 line_damage line = if ends_with nat_eq line (13 ∷ []) then EndsInCr else cut_damage line (cut_of 34 line)
 
@@ -127,8 +165,11 @@ step_damage text number = ended_damage (cut_of 10 (behind_lines (number - 1) tex
 abbrev pub damage_words : StepDamage → List ℕ
 damage_words Unended = codes "not a step\n  end the last line with a line feed too"
 damage_words EndsInCr = codes "not a step\n  end lines with LF alone, not with CR LF: tr -d '\\r'"
-damage_words Quotes = codes "not a step\n  a text has a quote at each end and none between: text \"hi\""
+damage_words Quotes = codes "not a step\n  a text has a quote at each end, and \\\" between: text \"say \\\"hi\\\"\""
 damage_words Order = codes "not a step\n  the order is KIND fin= rsv= key= form= DATA"
-damage_words Unprintable = codes "not a step\n  a text is printable ASCII, other bytes are hex: text c3a9"
+damage_words Unprintable =
+    codes "not a step\n  a text is UTF-8 without control characters, other bytes are hex: text ff"
+damage_words Escape =
+    codes "not a step\n  an escape is \\\" \\\\ \\/ \\b \\f \\n \\r \\t or \\uXXXX: text \"C:\\\\temp\""
 damage_words NoPayload = codes "not a step\n  the payload stands last, - is an empty one: ping -"
 damage_words Other = codes "not a step"

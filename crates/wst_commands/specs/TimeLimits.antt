@@ -1,6 +1,6 @@
 -- The limits of time that words give.
 use Rattle.std.specs.Prelude.{◌≡◌, ℕ, ◌*◌, ◌≤◌, ◌<◌, min, Bool, true, false, not, IsTrue, ⊤, List, length, drop}
-use Rattle.std.specs.Prelude.{position, All}
+use Rattle.std.specs.Prelude.{position, All, codes}
 use Rattle.std.specs.Prelude.{Option, Some, None}
 use Rattle.std.specs.Char.{is_ascii_alphabetic, is_ascii_digit}
 use Rattle.std.specs.Borrow.{Bor}
@@ -22,6 +22,16 @@ GivesLimit most (Some word) (Seconds seconds) = IsSecondsWord most seconds word.
 abbrev pub HasLimit : ℕ → Option (Bor (List ℕ)) → Type 0
 HasLimit most word = (limit : TimeLimit) × GivesLimit most word limit
 
+-- the option gives this limit of at most so many seconds, or none by the word `none`; and this one where it is left out
+abbrev pub GivesLimitOrNone : ℕ → TimeLimit → Option (Bor (List ℕ)) → TimeLimit → Type 0
+GivesLimitOrNone most usual None limit = limit ≡ usual
+GivesLimitOrNone most usual (Some word) Unlimited = word.now ≡ codes "none"
+GivesLimitOrNone most usual (Some word) (Seconds seconds) = IsSecondsWord most seconds word.now
+
+-- the option gives one, or none, or is left out
+abbrev pub HasLimitOrNone : ℕ → Option (Bor (List ℕ)) → Type 0
+HasLimitOrNone most word = (limit : TimeLimit) × GivesLimitOrNone most Unlimited word limit
+
 -- for how long the tested end is waited for: an hour at most
 abbrev pub GivesTimeout : Option (Bor (List ℕ)) → TimeLimit → Type 0
 GivesTimeout word limit = GivesLimit 3600 word limit
@@ -29,12 +39,20 @@ GivesTimeout word limit = GivesLimit 3600 word limit
 abbrev pub HasTimeout : Option (Bor (List ℕ)) → Type 0
 HasTimeout word = HasLimit 3600 word
 
--- for how long a client is waited for: a day at most
+-- for how long the tested end is waited for where scripts are run, an hour at most, or without a limit; and so long
+-- where the option is left out
+abbrev pub GivesRunTimeout : TimeLimit → Option (Bor (List ℕ)) → TimeLimit → Type 0
+GivesRunTimeout usual word limit = GivesLimitOrNone 3600 usual word limit
+
+abbrev pub HasRunTimeout : Option (Bor (List ℕ)) → Type 0
+HasRunTimeout word = HasLimitOrNone 3600 word
+
+-- for how long a client is waited for: a day at most, or without a limit, and a minute where the option is left out
 abbrev pub GivesWait : Option (Bor (List ℕ)) → TimeLimit → Type 0
-GivesWait word limit = GivesLimit 86400 word limit
+GivesWait word limit = GivesLimitOrNone 86400 (Seconds 60) word limit
 
 abbrev pub HasWait : Option (Bor (List ℕ)) → Type 0
-HasWait word = HasLimit 86400 word
+HasWait word = HasLimitOrNone 86400 word
 
 -- how long a connection lasts: a day at most, and so long where the option is left out
 abbrev pub GivesDeadline : TimeLimit → Option (Bor (List ℕ)) → TimeLimit → Type 0

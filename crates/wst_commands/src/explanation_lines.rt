@@ -2,15 +2,17 @@
 
 ghost use Rattle.std.specs.Prelude.{◌≡◌};
 ghost use Rattle.wst_commands.specs.Explaining.{ended_word, fault_word, side_word};
-ghost use Rattle.wst_commands.specs.InnerExplaining.{printed_data, printed_ending, printed_explanation, printed_line};
-ghost use Rattle.wst_commands.specs.InnerExplaining.{printed_last, printed_note, printed_reply, printed_rule};
-ghost use Rattle.wst_commands.specs.InnerExplaining.{printed_side};
+ghost use Rattle.wst_commands.specs.InnerExplaining.{lent_fault, printed_beyond, printed_cut, printed_data};
+ghost use Rattle.wst_commands.specs.InnerExplaining.{printed_ending, printed_explanation, printed_last, printed_line};
+ghost use Rattle.wst_commands.specs.InnerExplaining.{printed_place, printed_reply, printed_rule, printed_side};
 
-use crate::fault_rules::sent_rule;
+use crate::fault_rules::{got_rule, sent_rule};
 use std::fmt;
 use ws_formats::HexDigits;
 use ws_scripts::Ended;
-use ws_suite::{Direction, Ending, Expectation, Explanation, InTurn, Kept, ReplyKind, rule_with};
+use ws_suite::{
+    Direction, Ending, Expectation, Explanation, FoundFault, InTurn, Kept, ReplyKind, rule_with,
+};
 use ws_wire::Role;
 
 /// A payload is shown up to so many bytes.
@@ -58,10 +60,12 @@ impl fmt::Display for ExplanationLines<'_> {
         let due = SideLines {
             side: Side::Due,
             direction: &self.0.explanation.due,
+            fault: None,
         };
         let got = SideLines {
             side: Side::Got,
             direction: &self.0.explanation.got,
+            fault: found_fault(self.0.explanation),
         };
         write!(f, "{due}{got}{}", self.0)
     }
@@ -83,20 +87,18 @@ impl fmt::Display for LastLines<'_> {
     ghost output = { λ lines. Some (printed_last lines) };
 
     fn fmt<W: fmt::Write>(&self, f: &mut fmt::Formatter<W>) -> fmt::Result {
-        let beyond = NoteLine {
+        let beyond = BeyondLine {
             turn: self.explanation.beyond,
-            note: "beyond",
+            bytes: self.explanation.found.behind.as_slice(),
         };
-        let cut = NoteLine {
-            turn: self.cut,
-            note: "cut",
-        };
+        let cut = CutLine(self.cut);
         let ended = ended_word(self.explanation.ended);
         let rule = RuleLine(rule_with(self.tested, self.expected, self.explanation.verdict));
         write!(f, "{beyond}{cut}")?;
         writeln!(f, "  end {ended} {}", self.explanation.turns)?;
+        let got = RuleLine(got_rule(self.explanation.verdict, &self.explanation.got.ending));
         let sent = RuleLine(sent_rule(&self.explanation.due.ending));
-        write!(f, "{rule}{sent}")
+        write!(f, "{rule}{got}{sent}")
     }
 }
 
@@ -105,6 +107,7 @@ impl fmt::Display for LastLines<'_> {
 struct SideLines<'a> {
     side: Side,
     direction: &'a Direction,
+    fault: Option<&'a FoundFault>,
 }
 
 impl fmt::Display for SideLines<'_> {
@@ -124,6 +127,7 @@ impl fmt::Display for SideLines<'_> {
         let last = EndingLine {
             side: self.side,
             ending: &self.direction.ending,
+            fault: self.fault,
         };
         write!(f, "{last}")
     }
@@ -161,6 +165,8 @@ impl fmt::Display for ReplyLine<'_> {
 pub(crate) struct EndingLine<'a> {
     pub(crate) side: Side,
     pub(crate) ending: &'a Option<InTurn<Ending>>,
+    /// Where the fault is, with the bytes that show it: only of what came.
+    pub(crate) fault: Option<&'a FoundFault>,
 }
 
 impl fmt::Display for EndingLine<'_> {
@@ -177,26 +183,57 @@ impl fmt::Display for EndingLine<'_> {
             turn: ending.turn,
         };
         let fault = self.side.fault_word();
+        let place = PlaceWords(self.fault);
         match ending.what {
             Ending::Closed(None) => writeln!(f, "{start}close none"),
             Ending::Closed(Some(code)) => writeln!(f, "{start}close {code}"),
-            Ending::Failed(reason) => writeln!(f, "{start}{fault} {reason}"),
+            Ending::Failed(reason) => writeln!(f, "{start}{fault} {reason}{place}"),
             Ending::Doomed => writeln!(f, "{start}{fault} Doomed"),
         }
     }
 }
 
-/// The line of a note on what came in a turn, if there is one.
+/// Where a fault is, and the bytes that show it, if there is one.
 #[derive(Drop)]
-struct NoteLine {
-    turn: Option<usize>,
-    note: &'static str,
-}
+struct PlaceWords<'a>(Option<&'a FoundFault>);
 
-impl fmt::Display for NoteLine {
+impl fmt::Display for PlaceWords<'_> {
     ghost use Rattle.std.specs.Prelude.{Some};
 
-    ghost output = { λ line. Some (printed_note line) };
+    ghost output = { λ place. Some (printed_place place) };
+
+    fn fmt<W: fmt::Write>(&self, f: &mut fmt::Formatter<W>) -> fmt::Result {
+        match self.0 {
+            None => Ok(()),
+            Some(fault) => {
+                let data = Shown(fault.bytes.as_slice());
+                write!(f, " at {} {data}", fault.place)
+            }
+        }
+    }
+}
+
+/// The fault that is found in what came, if there is one.
+pub(crate) fn found_fault(explanation: &Explanation) -> Option<&FoundFault>
+    ensures { lent_fault result ≡ explanation.now.found.fault }
+{
+    match &explanation.found.fault {
+        None => None,
+        Some(fault) => Some(fault),
+    }
+}
+
+/// The line that bytes follow the close that came, if they do: with the first of them.
+#[derive(Drop)]
+struct BeyondLine<'a> {
+    turn: Option<usize>,
+    bytes: &'a [u8],
+}
+
+impl fmt::Display for BeyondLine<'_> {
+    ghost use Rattle.std.specs.Prelude.{Some};
+
+    ghost output = { λ line. Some (printed_beyond line) };
 
     fn fmt<W: fmt::Write>(&self, f: &mut fmt::Formatter<W>) -> fmt::Result {
         match self.turn {
@@ -206,7 +243,31 @@ impl fmt::Display for NoteLine {
                     side: Side::Got,
                     turn,
                 };
-                writeln!(f, "{start}{}", self.note)
+                let data = Shown(self.bytes);
+                writeln!(f, "{start}beyond {data}")
+            }
+        }
+    }
+}
+
+/// The line that the bytes that came end inside a frame, if they do.
+#[derive(Drop)]
+struct CutLine(Option<usize>);
+
+impl fmt::Display for CutLine {
+    ghost use Rattle.std.specs.Prelude.{Some};
+
+    ghost output = { λ line. Some (printed_cut line) };
+
+    fn fmt<W: fmt::Write>(&self, f: &mut fmt::Formatter<W>) -> fmt::Result {
+        match self.0 {
+            None => Ok(()),
+            Some(turn) => {
+                let start = LineStart {
+                    side: Side::Got,
+                    turn,
+                };
+                writeln!(f, "{start}cut")
             }
         }
     }

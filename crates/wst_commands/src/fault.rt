@@ -105,7 +105,10 @@ pub fn tell_fault<F: Write>(alloc: Global, fault: Fault, faults: &mut Watched<F>
             Exit::WrongWords
         }
         Fault::BadProtocols => {
-            tell(b"bad protocol list\n", faults);
+            tell(
+                b"bad protocol list\n  up to 16 different names, joined by commas: --protocols chat,echo\n",
+                faults,
+            );
             Exit::WrongWords
         }
         Fault::BadTimeout => {

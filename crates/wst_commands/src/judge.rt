@@ -11,7 +11,7 @@ ghost use Rattle.wst_commands.specs.Judge.{capture_fault, exit_of};
 
 use crate::exit::Exit;
 use crate::explaining::last_lines;
-use crate::explanation_lines::{EndingLine, LastLines, Side};
+use crate::explanation_lines::{EndingLine, LastLines, Side, found_fault};
 use crate::fault::Fault;
 use crate::reading_capture::{ended_by, read_capture};
 use crate::telling::deliver;
@@ -151,10 +151,12 @@ fn tell_lines<W: Write>(
     let due = EndingLine {
         side: Side::Due,
         ending: &explanation.due.ending,
+        fault: None,
     };
     let got = EndingLine {
         side: Side::Got,
         ending: &explanation.got.ending,
+        fault: found_fault(explanation),
     };
     let Ok(line) = format!(in alloc; "{}\n", explanation.verdict) else {
         return Err(Fault::NoMemory);

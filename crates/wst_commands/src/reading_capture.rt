@@ -3,7 +3,7 @@
 ghost use Rattle.std.specs.Prelude.{◌≡◌, false};
 ghost use Rattle.ws_frame.specs.Devices.{watched};
 ghost use Rattle.ws_frame.specs.Watching.{has_failed};
-ghost use Rattle.wst_commands.specs.ReadingCapture.{FeedsCapture, ReadsCapture, ended_by};
+ghost use Rattle.wst_commands.specs.ReadingCapture.{FeedsCapture, ReadsCapture, capture_stop, ended_by};
 
 use crate::exit::Exit;
 use crate::fault::Fault;
@@ -20,12 +20,12 @@ use ws_suite::{CaptureFault, CaptureFeed, KeptCapture};
 pub(crate) enum CaptureStop {
     /// The input was not read whole.
     Stop(ReadStop),
-    /// It was, and it is no capture, or memory ran out for it.
+    /// It was, and a line of it is damaged.
     Fault(CaptureFault),
 }
 
 /// The capture that the reader gives, in either format. Its text isn't kept. Behind a damaged line the rest is read and
-/// dropped, and a read that fails there is told in its place.
+/// dropped, and a read that fails there is told in its place. Once memory lacks nothing more is read.
 pub(crate) fn read_capture<R: Read>(
     alloc: Global,
     reader: &mut Watched<R>,
@@ -36,7 +36,7 @@ pub(crate) fn read_capture<R: Read>(
     match feed_capture(alloc, reader) {
         Ok(feed) => match feed.end() {
             Ok(capture) => Ok(capture),
-            Err(fault) => Err(CaptureStop::Fault(fault)),
+            Err(fault) => Err(capture_stop(fault)),
         },
         Err(CaptureStop::Stop(stop)) => Err(CaptureStop::Stop(stop)),
         Err(CaptureStop::Fault(fault)) => match drop_rest(reader) {
@@ -59,12 +59,22 @@ fn feed_capture<R: Read>(alloc: Global, reader: &mut Watched<R>) -> Result<Captu
             Ok(0) => return Ok(feed),
             Ok(count) => match feed.feed(alloc, &room[..count]) {
                 Ok(longer) => feed = longer,
-                Err(fault) => return Err(CaptureStop::Fault(fault)),
+                Err(fault) => return Err(capture_stop(fault)),
             },
         }
     }
     // Nobody reads so often.
     Err(CaptureStop::Stop(ReadStop::NoMemory))
+}
+
+/// What ends the reading at a fault of a capture.
+fn capture_stop(fault: CaptureFault) -> CaptureStop
+    ensures { result ≡ capture_stop fault }
+{
+    match fault {
+        CaptureFault::Damaged(line) => CaptureStop::Fault(CaptureFault::Damaged(line)),
+        CaptureFault::NoMemory => CaptureStop::Stop(ReadStop::NoMemory),
+    }
 }
 
 /// How a run ends whose input gave no capture.

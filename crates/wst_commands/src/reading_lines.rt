@@ -4,7 +4,7 @@ ghost use Rattle.std.specs.Prelude.{◌≡◌, false, []};
 ghost use Rattle.ws_frame.specs.Devices.{watched};
 ghost use Rattle.ws_frame.specs.Watching.{has_failed};
 ghost use Rattle.ws_text_feed.specs.Feeding.{IsFed, WasFed};
-ghost use Rattle.wst_commands.specs.ReadingLines.{DropsRest, FeedsInput, TakesInput};
+ghost use Rattle.wst_commands.specs.ReadingLines.{DropsRest, FeedsInput, TakesInput, input_fault};
 
 use crate::reading_whole::ReadStop;
 use std::alloc::Global;
@@ -18,13 +18,13 @@ use ws_text_feed::{TakeValues, TextFeed};
 pub enum InputFault {
     /// The input was not read whole.
     Stop(ReadStop),
-    /// It was, and it is damaged, or memory ran out for what its lines tell.
+    /// It was, and a line of it is damaged.
     Text(TextFault),
 }
 
 /// Takes the values that the lines of an input tell, each as soon as its line is read. Nothing is kept of a line whose
 /// value is taken. Behind a damaged line the rest is read and dropped, and a read that fails there is told in its
-/// place.
+/// place. Once memory lacks nothing more is read.
 pub fn take_input<R: Read, T: TakeValues>(
     alloc: Global,
     reader: &mut Watched<R>,
@@ -45,7 +45,7 @@ pub fn take_input<R: Read, T: TakeValues>(
     }
     match feed.end() {
         Ok(taker) => Ok(taker),
-        Err(fault) => Err(InputFault::Text(fault)),
+        Err(fault) => Err(input_fault(fault)),
     }
 }
 
@@ -67,12 +67,22 @@ fn feed_input<R: Read, T: TakeValues>(
             Ok(0) => return Ok(()),
             Ok(count) => match feed.feed(alloc, &room[..count]) {
                 Ok(()) => {}
-                Err(fault) => return Err(InputFault::Text(fault)),
+                Err(fault) => return Err(input_fault(fault)),
             },
         }
     }
     // Nobody reads so often.
     Err(InputFault::Stop(ReadStop::NoMemory))
+}
+
+/// What ends the reading at a fault of a text.
+fn input_fault(fault: TextFault) -> InputFault
+    ensures { result ≡ input_fault fault }
+{
+    match fault {
+        TextFault::Damaged(line) => InputFault::Text(TextFault::Damaged(line)),
+        TextFault::NoMemory => InputFault::Stop(ReadStop::NoMemory),
+    }
 }
 
 /// Reads the rest of an input, and drops it.

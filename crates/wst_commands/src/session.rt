@@ -97,7 +97,7 @@ fn session_lines<R: Read>(
     };
     match caller.session_report(alloc) {
         Ok(lines) => Ok(lines),
-        Err(NoMemory) => Err(InputFault::Text(TextFault::NoMemory)),
+        Err(NoMemory) => Err(InputFault::Stop(ReadStop::NoMemory)),
     }
 }
 
@@ -120,6 +120,6 @@ fn echo_lines<R: Read>(
     };
     match caller.echo_report(alloc) {
         Ok(lines) => Ok(lines),
-        Err(NoMemory) => Err(InputFault::Text(TextFault::NoMemory)),
+        Err(NoMemory) => Err(InputFault::Stop(ReadStop::NoMemory)),
     }
 }

@@ -1,9 +1,11 @@
 //! What is wrong with a line that is no step, where that is known to be typed often.
 
-ghost use Rattle.std.specs.Prelude.{◌≡◌, ◌==◌, IfOk, map, position};
+ghost use Rattle.std.specs.Prelude.{◌≡◌, ◌==◌, ◌<◌, IfOk, IfSome, length, map, position};
+ghost use Rattle.std.specs.Char.{is_ascii_control};
 ghost use Rattle.std.specs.List.{list_any};
-ghost use Rattle.wst_commands.specs.StepDamages.{CutsAtMark, behind_damage, behind_lines, damage_words, descend};
-ghost use Rattle.wst_commands.specs.StepDamages.{inner_damage, is_unprintable};
+ghost use Rattle.wst_commands.specs.StepDamages.{CutsAtMark, CutsAtQuote, behind_damage, behind_lines, damage_words};
+ghost use Rattle.wst_commands.specs.StepDamages.{closing_quote, descend, escapes, has_wrong_escape, inner_damage};
+ghost use Rattle.wst_commands.specs.StepDamages.{is_escape_letter, is_unprintable, text_fault};
 ghost use Rattle.wst_commands.specs.StepDamages.{are_fields, field_rank, is_frame_name, line_damage, ordered_damage};
 ghost use Rattle.wst_commands.specs.StepDamages.{order_damage, quoted_damage, step_damage, words_damage};
 
@@ -21,12 +23,14 @@ pub enum StepDamage {
     Unended,
     /// It ends in CR.
     EndsInCr,
-    /// It has quotes, and not two.
+    /// It has quotes, but not two that no backslash escapes.
     Quotes,
     /// Its fields stand in another order.
     Order,
-    /// A byte of its text is no printable ASCII.
+    /// Its text is no UTF-8, or has a control character.
     Unprintable,
+    /// A backslash of its text begins no escape.
+    Escape,
     /// It names a frame and has no payload.
     NoPayload,
     /// It is none of these.
@@ -43,10 +47,12 @@ impl StepDamage {
             StepDamage::EndsInCr =>
                 "not a step\n  end lines with LF alone, not with CR LF: tr -d '\\r'",
             StepDamage::Quotes =>
-                "not a step\n  a text has a quote at each end and none between: text \"hi\"",
+                "not a step\n  a text has a quote at each end, and \\\" between: text \"say \\\"hi\\\"\"",
             StepDamage::Order => "not a step\n  the order is KIND fin= rsv= key= form= DATA",
             StepDamage::Unprintable =>
-                "not a step\n  a text is printable ASCII, other bytes are hex: text c3a9",
+                "not a step\n  a text is UTF-8 without control characters, other bytes are hex: text ff",
+            StepDamage::Escape =>
+                "not a step\n  an escape is \\\" \\\\ \\/ \\b \\f \\n \\r \\t or \\uXXXX: text \"C:\\\\temp\"",
             StepDamage::NoPayload =>
                 "not a step\n  the payload stands last, - is an empty one: ping -",
             StepDamage::Other => "not a step",
@@ -96,7 +102,7 @@ fn line_damage(alloc: Global, line: &[u8]) -> Result<StepDamage, AllocError>
 fn quoted_damage(alloc: Global, front: &[u8], rest: &[u8]) -> Result<StepDamage, AllocError>
     ensures { IfOk result (λ damage. damage ≡ quoted_damage front.now rest.now) }
 {
-    let Some((text, behind)) = cut_at(rest, b'"') else {
+    let Some((text, behind)) = cut_at_quote(rest) else {
         return Ok(StepDamage::Quotes);
     };
     if behind.contains(&b'"') {
@@ -120,28 +126,67 @@ fn inner_damage(text: &[u8], fields: StepDamage) -> StepDamage
         StepDamage::Quotes => StepDamage::Quotes,
         StepDamage::Order => StepDamage::Order,
         StepDamage::Unprintable => StepDamage::Unprintable,
-        StepDamage::NoPayload | StepDamage::Other => {
-            if has_unprintable(text) {
-                StepDamage::Unprintable
-            } else {
-                StepDamage::Other
-            }
-        }
+        StepDamage::Escape => StepDamage::Escape,
+        StepDamage::NoPayload | StepDamage::Other => text_fault(text),
     }
 }
 
-/// Whether one of these bytes is no printable character of ASCII.
-fn has_unprintable(text: &[u8]) -> bool
-    ensures { result ≡ list_any is_unprintable text.now }
+/// What may be wrong with a text itself.
+fn text_fault(text: &[u8]) -> StepDamage
+    ensures { result ≡ text_fault text.now }
 {
-    text.iter().any(|byte| is_unprintable(*byte))
+    if is_unprintable(text) {
+        StepDamage::Unprintable
+    } else if has_wrong_escape(text) {
+        StepDamage::Escape
+    } else {
+        StepDamage::Other
+    }
 }
 
-/// Whether a byte is no printable character of ASCII.
-fn is_unprintable(byte: u8) -> bool
-    ensures { result ≡ is_unprintable byte }
+/// Whether these bytes are no UTF-8, or hold a control character of ASCII.
+fn is_unprintable(text: &[u8]) -> bool
+    ensures { result ≡ is_unprintable text.now }
 {
-    !(b' '..=b'~').contains(&byte)
+    match std::str::from_utf8(text) {
+        Ok(_) => has_control(text),
+        Err(_) => true,
+    }
+}
+
+/// Whether one of these bytes is a control character of ASCII.
+fn has_control(text: &[u8]) -> bool
+    ensures { result ≡ list_any is_ascii_control text.now }
+{
+    text.iter().any(|byte| byte.is_ascii_control())
+}
+
+/// Whether a backslash that no backslash escapes begins no escape.
+fn has_wrong_escape(text: &[u8]) -> bool
+    ensures { result ≡ has_wrong_escape text.now }
+{
+    let mut rest = text;
+    while let [byte, next, ..] = rest {
+        if *byte == b'\\' {
+            if !is_escape_letter(*next) {
+                return true;
+            }
+            rest = &rest[2..];
+        } else {
+            rest = &rest[1..];
+        }
+    }
+    false
+}
+
+/// Whether a backslash may stand before this byte.
+fn is_escape_letter(byte: u8) -> bool
+    ensures { result ≡ is_escape_letter byte }
+{
+    match byte {
+        b'"' | b'\\' | b'/' | b'b' | b'f' | b'n' | b'r' | b't' | b'u' => true,
+        _ => false,
+    }
 }
 
 /// What is wrong with the words behind a text.
@@ -247,6 +292,38 @@ pub(crate) fn cut_at(bytes: &[u8], mark: u8) -> Option<(&[u8], &[u8])>
 {
     let at = first_at(bytes, mark)?;
     Some((&bytes[..at], &bytes[at + 1..]))
+}
+
+/// What stands before the quote that ends a text, and behind it. `None` where none does.
+fn cut_at_quote(bytes: &[u8]) -> Option<(&[u8], &[u8])>
+    ensures { CutsAtQuote bytes.now result }
+{
+    let at = closing_quote(bytes)?;
+    Some((&bytes[..at], &bytes[at + 1..]))
+}
+
+/// Where the first quote stands that no backslash escapes, if there is one.
+fn closing_quote(bytes: &[u8]) -> Option<usize>
+    ensures quote { result ≡ closing_quote bytes.now }
+    ensures inside { IfSome result (λ at. at < length bytes.now) }
+{
+    let mut escaped = false;
+    let mut at = 0;
+    for byte in bytes {
+        if !escaped && *byte == b'"' {
+            return Some(at);
+        }
+        escaped = escapes(escaped, *byte);
+        at += 1;
+    }
+    None
+}
+
+/// Whether a byte, which a backslash escapes or none, escapes the next one.
+fn escapes(escaped: bool, byte: u8) -> bool
+    ensures { result ≡ escapes escaped byte }
+{
+    !escaped && byte == b'\\'
 }
 
 /// Where the first of these bytes stands, if there is one.

@@ -3,6 +3,7 @@
 ghost use Rattle.std.specs.Prelude.{◌≡◌, ◌↔◌, ◌≤◌, IsTrue, MatchOption, position};
 ghost use Rattle.ws_base.specs.Finding.{Finds};
 ghost use Rattle.wst_commands.specs.TimeLimits.{GivesDeadline, GivesLimit, GivesTimeout, GivesWait, HasDeadline};
+ghost use Rattle.wst_commands.specs.TimeLimits.{GivesLimitOrNone, GivesRunTimeout, HasLimitOrNone, HasRunTimeout};
 ghost use Rattle.wst_commands.specs.TimeLimits.{HasLimit, HasTimeout, HasUnit, HasUnitAt, HasWait, IsSecondsWord};
 ghost use Rattle.wst_commands.specs.TimeLimits.{IsWithUnit, Reaches, is_limited, is_no_digit, shorter, ten_times};
 
@@ -14,6 +15,9 @@ const MAX_TIMEOUT: u32 = 3600;
 
 /// For at most so many seconds a client is waited for, and at most so many a connection may last: a day.
 const MAX_WAIT: u32 = 86_400;
+
+/// For so many seconds a client is waited for, where nothing else is asked for.
+const USUAL_WAIT: u32 = 60;
 
 /// How long is waited for a peer that sends nothing, or for one that comes, or how long a connection may last.
 #[derive(Clone, Copy, PartialEq, Eq)]
@@ -75,11 +79,20 @@ pub fn timeout_given(word: Option<&str>) -> Option<TimeLimit>
     limit_given(word, MAX_TIMEOUT)
 }
 
-/// The limit that it gives for a client to come: a number of 1 to 86400.
+/// The limit that it gives for the tested end where scripts are run: a number of 1 to 3600, or none by the word `none`.
+/// This one where it is left out.
+pub fn run_timeout_given(word: Option<&str>, usual: TimeLimit) -> Option<TimeLimit>
+    ensures { MatchOption result (¬ (HasRunTimeout word.entry)) (GivesRunTimeout usual word.entry) }
+{
+    limit_or_none(word, MAX_TIMEOUT, usual)
+}
+
+/// The limit that it gives for a client to come: a number of 1 to 86400, or none by the word `none`. A minute where it
+/// is left out.
 pub fn wait_given(word: Option<&str>) -> Option<TimeLimit>
     ensures { MatchOption result (¬ (HasWait word.entry)) (GivesWait word.entry) }
 {
-    limit_given(word, MAX_WAIT)
+    limit_or_none(word, MAX_WAIT, TimeLimit::Seconds(USUAL_WAIT))
 }
 
 /// The limit that it gives for a connection, a number of 1 to 86400, or this one where it is left out.
@@ -87,7 +100,7 @@ pub fn deadline_given(word: Option<&str>, usual: TimeLimit) -> Option<TimeLimit>
     ensures { MatchOption result (¬ (HasDeadline word.entry)) (GivesDeadline usual word.entry) }
 {
     match word {
-        Some(_) => wait_given(word),
+        Some(_) => limit_given(word, MAX_WAIT),
         None => Some(usual),
     }
 }
@@ -100,6 +113,23 @@ fn limit_given(word: Option<&str>, most: u32) -> Option<TimeLimit>
     let Some(word) = word else {
         return Some(TimeLimit::Unlimited);
     };
+    match seconds_of(word, most) {
+        Some(seconds) => Some(TimeLimit::Seconds(seconds)),
+        None => None,
+    }
+}
+
+/// The limit of at most so many seconds that it gives, or none by the word `none`. This one where it is left out.
+fn limit_or_none(word: Option<&str>, most: u32, usual: TimeLimit) -> Option<TimeLimit>
+    requires { most ≤ 86400 }
+    ensures { MatchOption result (¬ (HasLimitOrNone most word.entry)) (GivesLimitOrNone most usual word.entry) }
+{
+    let Some(word) = word else {
+        return Some(usual);
+    };
+    if word == "none" {
+        return Some(TimeLimit::Unlimited);
+    }
     match seconds_of(word, most) {
         Some(seconds) => Some(TimeLimit::Seconds(seconds)),
         None => None,

@@ -27,7 +27,7 @@ use Rattle.wst_testing.specs.Outcomes.{outcome_words}
 use Rattle.wst_testing.specs.Testing.{run_capture}
 use Rattle.ws_handshake.specs.declared.probe_end.HeadRefusal.{HeadRefusal}
 use Rattle.wst_testing.specs.RunPlans.{IsRunPlan, CanNotRun, TellsRefusal, tested_role}
-use Rattle.wst_testing.specs.declared.run_plans.UsualDeadline.TheVariants.{Never}
+use Rattle.wst_testing.specs.declared.run_plans.UsualTimes.TheVariants.{OfScript}
 use Rattle.wst_testing.specs.Servers.{MeetsInMemory, MeetsTargetByCalls}
 use Rattle.wst_testing.specs.declared.run_plans.Refusal.{Refusal}
 use Rattle.wst_testing.specs.declared.run_plans.TestedEnd.{TestedEnd}
@@ -43,7 +43,7 @@ use Rattle.wst_run.specs.declared.send.SendStop.TheVariants as stop
 
 -- the words ask for this
 pub record IsSendPlan (options : SendOptions) (plan : SendPlan) : Type 0 where
-  pub run : IsRunPlan Never options.run plan.run
+  pub run : IsRunPlan OfScript options.run plan.run
   pub capture : plan.capture ≡ options.capture
   pub style : plan.style ≡ options.style
 

@@ -9,7 +9,7 @@ use Rattle.wst_commands.specs.declared.exit.Exit.{Exit}
 use Rattle.wst_commands.specs.declared.exit.Exit.TheVariants.{WrongWords}
 use Rattle.wst_run.specs.ClientSweeps.{SweepsClientsAt}
 use Rattle.wst_testing.specs.RunPlans.{CanNotRun, IsRunPlan, TellsRefusal, tested_role, tells_waits}
-use Rattle.wst_testing.specs.declared.run_plans.UsualDeadline.TheVariants.{TenTimeouts}
+use Rattle.wst_testing.specs.declared.run_plans.UsualTimes.TheVariants.{OfCases}
 use Rattle.wst_testing.specs.Servers.{MeetsAtTarget, MeetsInMemory}
 use Rattle.wst_testing.specs.Sweeps.{SweepsScripts, TellsSweepEnd}
 use Rattle.wst_sockets.specs.declared.meeting.Meeting.{Meeting}
@@ -33,7 +33,7 @@ GivesSteps steps given = (given ≡ steps) × (steps ≤ max_steps)
 -- the words ask for this
 pub record IsSweepPlan (options : SweepOptions) (plan : SweepPlan) : Type 0 where
   pub steps : GivesSteps options.steps plan.steps
-  pub run : IsRunPlan TenTimeouts options.run plan.run
+  pub run : IsRunPlan OfCases options.run plan.run
   pub all : plan.all ≡ options.all
   pub progress : plan.progress ≡ options.progress
 

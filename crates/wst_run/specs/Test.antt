@@ -9,7 +9,6 @@ use Rattle.ws_scripts.specs.declared.script.Case.{Case}
 use Rattle.wst_words.specs.declared.test.TestOptions.{TestOptions}
 use Rattle.wst_commands.specs.Faults.{Ends}
 use Rattle.wst_commands.specs.GivenCases.{AreCasesFor, LackCases, is_glob, names_of, or_all}
-use Rattle.wst_commands.specs.TimeLimits.{is_limited}
 use Rattle.wst_commands.specs.declared.exit.Exit.{Exit}
 use Rattle.wst_commands.specs.declared.fault.Fault.{Fault}
 use Rattle.wst_commands.specs.declared.given_cases.NoCases.TheVariants.{NoMemory, NoSuchCase}
@@ -17,7 +16,7 @@ use Rattle.wst_run.specs.ClientRuns.{TestsClientsAt}
 use Rattle.wst_testing.specs.KnownInput.{IsKnownBy, StopsKnowing, TellsKnownStop}
 use Rattle.wst_testing.specs.Reporting.{ClosesReport, StopsAtStart}
 use Rattle.wst_testing.specs.RunPlans.{IsRunPlan, CanNotRun, TellsRefusal, tested_role}
-use Rattle.wst_testing.specs.declared.run_plans.UsualDeadline.TheVariants.{TenTimeouts}
+use Rattle.wst_testing.specs.declared.run_plans.UsualTimes.TheVariants.{OfCases}
 use Rattle.wst_testing.specs.Servers.{MeetsAtTarget, MeetsInMemory}
 use Rattle.wst_testing.specs.Testing.{RunsCapture, RunsCases}
 use Rattle.wst_testing.specs.declared.known_input.KnownStop.{KnownStop}
@@ -61,7 +60,7 @@ words_given options = or_all (names_of options.ids.items)
 -- the words ask for this
 pub record IsPlan (options : TestOptions) (plan : TestPlan) : Type 0 where
   pub can_report : CanReport options
-  pub run : IsRunPlan TenTimeouts options.run plan.run
+  pub run : IsRunPlan OfCases options.run plan.run
   pub target : plan.target.now ≡ options.run.target.now
   pub capture : plan.capture ≡ options.capture
   pub explain : plan.explain ≡ (options.explain || options.junit)
@@ -77,7 +76,7 @@ CanBeTested plan = All CanBeRun plan.cases.items × (plan.capture ≡ true → l
 
 -- a report can be made where one is asked for, and nothing is wrong with the words that are shared
 abbrev pub CanRun : TestOptions → Type 0
-CanRun options = CanReport options × ((run : RunPlan) × IsRunPlan TenTimeouts options.run run)
+CanRun options = CanReport options × ((run : RunPlan) × IsRunPlan OfCases options.run run)
 
 -- The first of these that applies: a capture is asked for beside a report; the shared words can't be run; a capture is
 -- not of one case; a word stands for no case. Memory may run out at any of them but the first.
@@ -99,7 +98,7 @@ rules_of plan = record {
   key = plan.run.key;
   explains = plan.explain;
   progress = plan.progress;
-  is_limited = is_limited plan.run.timeout;
+  is_limited = plan.run.gives_limit;
 }
 
 -- What the report has before all cases was written, the cases were run, and where that ended early, what it has behind

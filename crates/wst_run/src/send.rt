@@ -24,7 +24,7 @@ use wst_commands::{
 use wst_network::Connector;
 use wst_sockets::{ConnectFault, Meeting, Network};
 use wst_testing::{
-    CaseServer, End, LineStop, LineWriter, Outcome, Refusal, RunPlan, UsualDeadline, capture_text,
+    CaseServer, End, LineStop, LineWriter, Outcome, Refusal, RunPlan, UsualTimes, capture_text,
     plan_run,
 };
 use wst_words::SendOptions;
@@ -79,7 +79,7 @@ impl From<WriteFault> for SendStop {
 pub fn plan_send<'a>(alloc: Global, options: &SendOptions<'a>) -> Result<SendPlan<'a>, Refusal<'a>>
     ensures { MatchResult result (IsSendPlan options.now) (CanNotRun options.now.run) }
 {
-    let run = plan_run(alloc, &options.run, UsualDeadline::Never)?;
+    let run = plan_run(alloc, &options.run, UsualTimes::OfScript)?;
     Ok(SendPlan {
         run,
         capture: options.capture,

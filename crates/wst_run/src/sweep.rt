@@ -16,7 +16,7 @@ use wst_commands::{Exit, tell};
 use wst_network::Connector;
 use wst_sockets::Network;
 use wst_testing::{
-    CaseServer, End, Refusal, RunPlan, SweepRules, UsualDeadline, plan_run, sweep_scripts,
+    CaseServer, End, Refusal, RunPlan, SweepRules, UsualTimes, plan_run, sweep_scripts,
     tell_refusal, tell_sweep_end,
 };
 use wst_words::SweepOptions;
@@ -64,7 +64,7 @@ pub fn plan_sweep<'a>(
     let Some(steps) = steps_given(options.steps) else {
         return Err(SweepRefusal::TooManySteps);
     };
-    let run = plan_run(alloc, &options.run, UsualDeadline::TenTimeouts)?;
+    let run = plan_run(alloc, &options.run, UsualTimes::OfCases)?;
     Ok(SweepPlan {
         run,
         steps,

@@ -18,8 +18,8 @@ use wst_commands::{Exit, Fault, cases_of, deliver, end_run, is_glob};
 use wst_network::Connector;
 use wst_sockets::Network;
 use wst_testing::{
-    CaseServer, End, Refusal, RunPlan, RunRules, UsualDeadline, capture_case, close_report,
-    plan_run, test_cases,
+    CaseServer, End, Refusal, RunPlan, RunRules, UsualTimes, capture_case, close_report, plan_run,
+    test_cases,
 };
 use wst_words::TestOptions;
 
@@ -147,7 +147,7 @@ fn rules_of(plan: &TestPlan<'_>) -> RunRules
         key: plan.run.key,
         explains: plan.explain,
         progress: plan.progress,
-        is_limited: plan.run.timeout.is_limited(),
+        is_limited: plan.run.gives_limit,
     }
 }
 
@@ -159,7 +159,7 @@ pub fn plan_test<'a>(alloc: Global, options: &TestOptions<'a>) -> Result<TestPla
     if options.capture && (options.known || options.junit) {
         return Err(Refusal::CaptureInReport);
     }
-    let run = plan_run(alloc, &options.run, UsualDeadline::TenTimeouts)?;
+    let run = plan_run(alloc, &options.run, UsualTimes::OfCases)?;
     if options.capture && !is_one_case(options.ids.as_slice()) {
         return Err(Refusal::NotOneCase);
     }

@@ -5,9 +5,9 @@ use Rattle.ws_wire.specs.declared.role.Role.TheVariants as role
 use Rattle.ws_targets.specs.Advice.{Advises}
 use Rattle.ws_targets.specs.Targets.{TargetValue, IsTargetText}
 use Rattle.ws_targets.specs.declared.advice.Advice.{Advice}
-use Rattle.wst_commands.specs.TimeLimits.{GivesDeadline, HasDeadline, HasTimeout, HasWait}
+use Rattle.wst_commands.specs.TimeLimits.{GivesDeadline, GivesRunTimeout, GivesWait, HasDeadline, HasRunTimeout, HasWait}
 use Rattle.wst_commands.specs.declared.time_limit.TimeLimit.{TimeLimit}
-use Rattle.wst_commands.specs.declared.time_limit.TimeLimit.TheVariants.{Unlimited}
+use Rattle.wst_commands.specs.declared.time_limit.TimeLimit.TheVariants.{Seconds, Unlimited}
 use Rattle.wst_commands.specs.declared.given_cases.NoCases.TheVariants.{NoMemory, NoSuchCase}
 use Rattle.wst_testing.specs.RunPlans.{AdvisesClients, CanNotRun, HasAllButEnd, HasRequestWords, IsClientsAddress}
 use Rattle.wst_testing.specs.RunPlans.{IsNoMemoryWord}
@@ -49,7 +49,7 @@ address_refused word given none lacks is = (no_clients word none lacks, is)
 -- ---- seconds
 
 -- what is told of seconds that are no limit of time for a byte
-pub timeout_refused : (options : RunOptions) (why : Refusal) → HasRequestWords options → ¬ (HasTimeout options.timeout)
+pub timeout_refused : (options : RunOptions) (why : Refusal) → HasRequestWords options → ¬ (HasRunTimeout options.timeout)
     → IsTimeoutRefusal options.timeout why → CanNotRun options why
 timeout_refused options refusal.BadTimeout head lacks is = (head, lacks, is)
 timeout_refused options refusal.TimeoutWithUnit head lacks is = (head, lacks, is)
@@ -67,7 +67,7 @@ timeout_refused options refusal.NotOneCase head lacks is = absurd is
 timeout_refused options (refusal.NoCases why) head lacks is = absurd is
 
 -- and for a client to come
-pub wait_refused : (options : RunOptions) (why : Refusal) → HasRequestWords options → HasTimeout options.timeout
+pub wait_refused : (options : RunOptions) (why : Refusal) → HasRequestWords options → HasRunTimeout options.timeout
     → ¬ (HasWait options.wait) → IsWaitRefusal options.wait why → CanNotRun options why
 wait_refused options refusal.BadWait head limit lacks is = (head, limit, lacks, is)
 wait_refused options refusal.WaitWithUnit head limit lacks is = (head, limit, lacks, is)
@@ -85,7 +85,7 @@ wait_refused options refusal.NotOneCase head limit lacks is = absurd is
 wait_refused options (refusal.NoCases why) head limit lacks is = absurd is
 
 -- and for a connection
-pub deadline_refused : (options : RunOptions) (why : Refusal) → HasRequestWords options → HasTimeout options.timeout
+pub deadline_refused : (options : RunOptions) (why : Refusal) → HasRequestWords options → HasRunTimeout options.timeout
     → HasWait options.wait → ¬ (HasDeadline options.deadline) → IsDeadlineRefusal options.deadline why
     → CanNotRun options why
 deadline_refused options refusal.BadDeadline head limit wait lacks is = (head, limit, wait, lacks, is)
@@ -104,6 +104,17 @@ deadline_refused options refusal.NotOneCase head limit wait lacks is = absurd is
 deadline_refused options (refusal.NoCases why) head limit wait lacks is = absurd is
 
 -- a word that gives one has one
+pub has_timeout : (usual : TimeLimit) (word : Option (Bor (List ℕ))) (limit : TimeLimit)
+    → GivesRunTimeout usual word limit → HasRunTimeout word
+has_timeout usual None limit given = (Unlimited, refl)
+has_timeout usual (Some word) Unlimited given = (Unlimited, given)
+has_timeout usual (Some word) (Seconds seconds) given = (Seconds seconds, given)
+
+pub has_wait : (word : Option (Bor (List ℕ))) (limit : TimeLimit) → GivesWait word limit → HasWait word
+has_wait None limit given = (Unlimited, refl)
+has_wait (Some word) Unlimited given = (Unlimited, given)
+has_wait (Some word) (Seconds seconds) given = (Seconds seconds, given)
+
 pub has_deadline : (usual : TimeLimit) (word : Option (Bor (List ℕ))) (limit : TimeLimit)
     → GivesDeadline usual word limit → HasDeadline word
 has_deadline usual None limit given = (Unlimited, refl)

@@ -18,6 +18,8 @@ use Rattle.wst_commands.specs.declared.fault.Fault.{Fault}
 use Rattle.wst_commands.specs.declared.fault.Fault.TheVariants.{NoMemory}
 use Rattle.wst_sockets.specs.declared.meeting.ConnectFault.{ConnectFault}
 use Rattle.wst_sockets.specs.declared.meeting.Meeting.{Meeting}
+use Rattle.wst_testing.specs.Hints.{IsHintState, hint_place, hint_with, notes_with}
+use Rattle.wst_testing.specs.declared.hinting.HintState.{HintState}
 use Rattle.wst_testing.specs.Notes.{TellsEach, miss_notes, notes_of, progress_notes}
 use Rattle.wst_testing.specs.Outcomes.{MayRunEach, is_fail, is_loose, is_missed, is_pass, max_missed, missed_at_end}
 use Rattle.wst_testing.specs.Outcomes.{total_line}
@@ -32,7 +34,7 @@ use Rattle.wst_testing.specs.declared.runner.RunStop.{RunStop}
 use Rattle.wst_testing.specs.declared.runner.RunStop.TheVariants as stop
 use Rattle.wst_testing.specs.declared.outcome.Score.{Score}
 use Rattle.wst_testing.specs.declared.testing.RunRules.{RunRules}
-use Rattle.wst_testing.proofs.NoteLemmas.{may_run_more, missed_more, noted_next, notes_more}
+use Rattle.wst_testing.proofs.NoteLemmas.{hint_kept, hint_told, may_run_more, missed_more, noted_next, notes_more}
 use Rattle.wst_testing.proofs.RunnerLemmas.{IsNextCase, front_is, next_is}
 use Rattle.wst_testing.proofs.TestLemmas.{delivers_after, one_more_line, score_more, then_begun}
 
@@ -113,11 +115,11 @@ may_run_then most tests case outcome missed may counted few =
 count_within : {X : Type 0} (p : X → Bool) (xs : List X) → length (filter p xs) ≤ length xs
 count_within p xs = omega (arith, length-filter_both p (λ x. not (p x)) (λ x. refl) xs)
 
-module _ (rules : RunRules) (report : ReportValue) where
-  pub reported_nothing : (score : Score) (held : Option (List ℕ)) (failed : Bool) (faults : Device)
-      → score ≡ no_score → failed ≡ false → TellsEach [] faults
-      → HasReported rules report [] None score 0 (record { failed = failed; old = held; new = held }) faults
-  reported_nothing score held failed faults none works untouched = record {
+module _ (rules : RunRules) (report : ReportValue) (place : ℕ) where
+  pub reported_nothing : (score : Score) (hint : HintState) (held : Option (List ℕ)) (failed : Bool) (faults : Device)
+      → score ≡ no_score → IsHintState place [] hint → failed ≡ false → TellsEach [] faults
+      → HasReported rules report place [] None score 0 hint (record { failed = failed; old = held; new = held }) faults
+  reported_nothing score hint held failed faults none starts works untouched = record {
     tests = [];
     judged = tt;
     may_run = λ k below. absurd (omega (arith, below));
@@ -127,17 +129,18 @@ module _ (rules : RunRules) (report : ReportValue) where
     written = Appends-nil held;
     works = works;
     noted = untouched;
+    hinted = starts;
   }
 
   -- the name of the next case was told, where that is asked for; `f` and `g` say whether the fault output has failed
   -- before and since
-  pub reported_begun : (came : List (Case × Meeting)) (case : Case) (score : Score) (missed : ℕ) (output : Device)
-      (f g : Bool) (a b c : Option (List ℕ))
-      → HasReported rules report came None score missed output (record { failed = f; old = a; new = b })
+  pub reported_begun : (came : List (Case × Meeting)) (case : Case) (score : Score) (missed : ℕ) (hint : HintState)
+      (output : Device) (f g : Bool) (a b c : Option (List ℕ))
+      → HasReported rules report place came None score missed hint output (record { failed = f; old = a; new = b })
       → (f ≡ true → g ≡ true) → TellsEach (progress_notes rules.progress case)
       (record { failed = g; old = b; new = c })
-      → HasReported rules report came (Some case) score missed output (record { failed = g; old = a; new = c })
-  reported_begun came case score missed output f g a b c so still told = record {
+      → HasReported rules report place came (Some case) score missed hint output (record { failed = g; old = a; new = c })
+  reported_begun came case score missed hint output f g a b c so still told = record {
     tests = so.tests;
     judged = so.judged;
     may_run = so.may_run;
@@ -146,16 +149,18 @@ module _ (rules : RunRules) (report : ReportValue) where
     scored = so.scored;
     written = so.written;
     works = so.works;
-    noted = noted_next (notes_of rules.progress so.tests) (progress_notes rules.progress case) f g a b c still
+    noted = noted_next (notes_of rules.progress place so.tests) (progress_notes rules.progress case) f g a b c still
         so.noted told;
+    hinted = so.hinted;
   }
 
   -- there is room for one case more in its counts
   pub reported_room : (came : List (Case × Meeting)) (next : Option Case) (score : Score) (missed : ℕ)
-      (output faults : Device) → HasReported rules report came next score missed output faults
+      (hint : HintState) (output faults : Device)
+      → HasReported rules report place came next score missed hint output faults
       → length came + 1 < 2 ^ 64
       → (score.tally.pass + 1 < 2 ^ 64) × (score.tally.loose + 1 < 2 ^ 64) × (score.tally.fail + 1 < 2 ^ 64)
-  reported_room came next score missed output faults so fits =
+  reported_room came next score missed hint output faults so fits =
       let outcomes = outcomes_in so.tests in
       let many : length outcomes ≡ length came =
       length-map so.tests (λ (t : Case × Outcome). t.1) ∙ judged_count rules came so.tests so.judged in
@@ -171,10 +176,11 @@ module _ (rules : RunRules) (report : ReportValue) where
   -- The next case is judged so: `f` and `g` say whether the fault output has failed before and since, which held `a`,
   -- then `b`, then `c`.
   module _ (came : List (Case × Meeting)) (case : Case) (meeting : Meeting) (outcome : Outcome) (score : Score)
-      (missed less : ℕ) (old mid new : Option (List ℕ)) (worked failed f g : Bool) (a b c : Option (List ℕ))
-      (so : HasReported rules report came (Some case) score missed (record { failed = worked; old = old; new = mid })
+      (missed less : ℕ) (hint : HintState) (old mid new : Option (List ℕ)) (worked failed f g : Bool) (a b c : Option (List ℕ))
+      (so : HasReported rules report place came (Some case) score missed hint (record { failed = worked; old = old; new = mid })
       (record { failed = f; old = a; new = b })) (is : IsOutcomeOf rules meeting outcome)
-      (still : f ≡ true → g ≡ true) (why : TellsEach (miss_notes outcome) (record { failed = g; old = b; new = c }))
+      (still : f ≡ true → g ≡ true)
+      (why : TellsEach (miss_notes outcome ++ notes_with hint outcome) (record { failed = g; old = b; new = c }))
     where
       abbrev tests_then : List (Case × Outcome)
       tests_then = so.tests ++ (case, outcome) ∷ []
@@ -186,13 +192,22 @@ module _ (rules : RunRules) (report : ReportValue) where
       allowed_then = may_run_then (max_missed rules.is_limited) so.tests case outcome missed so.may_run so.counted
           so.few
 
-      noted_then : TellsEach (notes_of rules.progress tests_then) (record { failed = g; old = a; new = c })
+      noted_then : TellsEach (notes_of rules.progress place tests_then) (record { failed = g; old = a; new = c })
       noted_then =
-          let notes = notes_of rules.progress so.tests in
+          let notes = notes_of rules.progress place so.tests in
           let name = progress_notes rules.progress case in
+          let behind = miss_notes outcome ++ notes_with hint outcome in
           subst (λ (l : List (List ℕ)). TellsEach l (record { failed = g; old = a; new = c }))
-          (append_assoc notes name (miss_notes outcome) ∙ notes_more rules.progress so.tests case outcome)
-          (noted_next (notes ++ name) (miss_notes outcome) f g a b c still so.noted why)
+          (append_assoc notes name behind
+          ∙ ap (λ (l : List (List ℕ)). notes ++ (name ++ (miss_notes outcome ++ l)))
+          (hint_told place (outcomes_in so.tests) hint outcome so.hinted)
+          ∙ notes_more rules.progress place so.tests case outcome)
+          (noted_next (notes ++ name) behind f g a b c still so.noted why)
+
+      hinted_then : IsHintState place (outcomes_in tests_then) (hint_with hint outcome)
+      hinted_then = subst (λ (l : List Outcome). IsHintState place l (hint_with hint outcome))
+          (sym (map-append (λ (t : Case × Outcome). t.1) so.tests ((case, outcome) ∷ [])))
+          (hint_kept place (outcomes_in so.tests) hint outcome so.hinted)
 
       written_then : Appends mid new (report_text report (case, outcome)) → Appends old new (report_texts report tests_then)
       written_then line = subst (λ (l : List ℕ). Appends old new l) (one_more_line report so.tests (case, outcome))
@@ -200,12 +215,13 @@ module _ (rules : RunRules) (report : ReportValue) where
           line)
 
       -- what the report has of it was written
-      pub reported_more : (next : Score) → next ≡ score_with report score (case, outcome)
+      pub reported_more : (next : Score) (later : HintState) → next ≡ score_with report score (case, outcome)
+          → later ≡ hint_with hint outcome
           → less ≡ (if is_missed outcome then 1 + missed else 0) → less < max_missed rules.is_limited
           → Appends mid new (report_text report (case, outcome)) → failed ≡ false
-          → HasReported rules report (came ++ (case, meeting) ∷ []) None next less
+          → HasReported rules report place (came ++ (case, meeting) ∷ []) None next less later
           (record { failed = failed; old = old; new = new }) (record { failed = g; old = a; new = c })
-      reported_more next scored counted few line works = record {
+      reported_more next later scored with_it counted few line works = record {
         tests = tests_then;
         judged = judged_then;
         may_run = allowed_then;
@@ -216,11 +232,12 @@ module _ (rules : RunRules) (report : ReportValue) where
         written = written_then line;
         works = works;
         noted = noted_then;
+        hinted = subst (λ (h : HintState). IsHintState place (outcomes_in tests_then) h) (sym with_it) hinted_then;
       }
 
       -- it could not be written whole
       pub report_breaks : AppendsFront mid new (report_text report (case, outcome)) → failed ≡ true
-          → StopsReport rules report (came ++ (case, meeting) ∷ []) stop.Output
+          → StopsReport rules report place (came ++ (case, meeting) ∷ []) stop.Output
           (record { failed = failed; old = old; new = new }) (record { failed = g; old = a; new = c })
       report_breaks begun broken = record {
         tests = tests_then;
@@ -239,7 +256,7 @@ module _ (rules : RunRules) (report : ReportValue) where
       pub report_misses : (reason : ConnectFault) → outcome ≡ NoConnection reason
           → less ≡ (if is_missed outcome then 1 + missed else 0) → less ≡ max_missed rules.is_limited
           → Appends mid new (report_text report (case, outcome)) → failed ≡ false
-          → StopsReport rules report (came ++ (case, meeting) ∷ []) (stop.NoConnection reason)
+          → StopsReport rules report place (came ++ (case, meeting) ∷ []) (stop.NoConnection reason)
           (record { failed = failed; old = old; new = new }) (record { failed = g; old = a; new = c })
       report_misses reason misses counted most line works = record {
         tests = tests_then;
@@ -260,11 +277,11 @@ module _ (Meets : Case → Meeting → Type 0) (rules : RunRules) (report : Repo
   -- the reporter has ended it
   pub run_stopped : (n : ℕ) (came : List (Case × Meeting)) (why : RunStop) (exit : Exit) (output faults : Device)
       → items_of came ≡ take n cases → CameOf (λ (c : Case). c) Meets came
-      → StopsReport rules report came why output faults → exit ≡ Failed
+      → StopsReport rules report (hint_place (length cases)) came why output faults → exit ≡ Failed
       → RunsCases Meets rules report cases (Ok exit) output faults
   run_stopped n came stop.Enough exit output faults of met h is = absurd h.ends
   run_stopped n came stop.Output exit output faults of met h is =
-      let stops : StopsAtLine Meets rules report cases (notes_of rules.progress h.tests) exit output = record {
+      let stops : StopsAtLine Meets rules report cases (notes_of rules.progress (hint_place (length cases)) h.tests) exit output = record {
         n = n;
         tests = h.tests;
         are_tested = judged_tested Meets rules (take n cases) came h.tests of met h.judged;
@@ -273,10 +290,10 @@ module _ (Meets : Case → Meeting → Type 0) (rules : RunRules) (report : Repo
         failed = (is, h.ends.0);
         begun = h.ends.1;
       } in
-      (notes_of rules.progress h.tests, inr (inl stops), h.noted)
+      (notes_of rules.progress (hint_place (length cases)) h.tests, inr (inl stops), h.noted)
   run_stopped n came (stop.NoConnection why) exit output faults of met h is =
       let (works, written, most, last) = h.ends in
-      let stops : StopsAtConnection Meets rules report cases (notes_of rules.progress h.tests) exit output = record {
+      let stops : StopsAtConnection Meets rules report cases (notes_of rules.progress (hint_place (length cases)) h.tests) exit output = record {
         n = n;
         tests = h.tests;
         are_tested = judged_tested Meets rules (take n cases) came h.tests of met h.judged;
@@ -286,17 +303,17 @@ module _ (Meets : Case → Meeting → Type 0) (rules : RunRules) (report : Repo
         ended = (is, works);
         written = written;
       } in
-      (notes_of rules.progress h.tests, inr (inr stops), h.noted)
+      (notes_of rules.progress (hint_place (length cases)) h.tests, inr (inr stops), h.noted)
   run_stopped n came stop.NoMemory exit output faults of met h is = absurd h.ends
 
   -- memory ran out, where the name of the next case may have been told
-  pub run_lacks : (n : ℕ) (came : List (Case × Meeting)) (next : Option Case) (score : Score) (missed : ℕ)
+  pub run_lacks : (n : ℕ) (came : List (Case × Meeting)) (next : Option Case) (score : Score) (missed : ℕ) (hint : HintState)
       (ended : Result Exit Fault) (output faults : Device) → items_of came ≡ take n cases
-      → CameOf (λ (c : Case). c) Meets came → IsNextCase cases n next → HasReported rules report came next score missed output faults
+      → CameOf (λ (c : Case). c) Meets came → IsNextCase cases n next → HasReported rules report (hint_place (length cases)) came next score missed hint output faults
       → IsErrAnd ended (λ fault. fault ≡ NoMemory) → RunsCases Meets rules report cases ended output faults
-  run_lacks n came next score missed (Ok exit) output faults of met is_next so is = absurd is
-  run_lacks n came None score missed (Err fault) output faults of met is_next so is =
-      let notes = notes_of rules.progress so.tests ++ [] in
+  run_lacks n came next score missed hint (Ok exit) output faults of met is_next so is = absurd is
+  run_lacks n came None score missed hint (Err fault) output faults of met is_next so is =
+      let notes = notes_of rules.progress (hint_place (length cases)) so.tests ++ [] in
       let lacks : LacksMemoryAfter Meets rules report cases notes output = record {
         n = n;
         tests = so.tests;
@@ -311,12 +328,12 @@ module _ (Meets : Case → Meeting → Type 0) (rules : RunRules) (report : Repo
       } in (
         notes,
         (is, lacks),
-        subst (λ (l : List (List ℕ)). TellsEach l faults) (sym (append-nil (notes_of rules.progress so.tests)))
+        subst (λ (l : List (List ℕ)). TellsEach l faults) (sym (append-nil (notes_of rules.progress (hint_place (length cases)) so.tests)))
             so.noted,
       )
-  run_lacks n came (Some case) score missed (Err fault) output faults of met is_next so is =
+  run_lacks n came (Some case) score missed hint (Err fault) output faults of met is_next so is =
       let name = progress_notes rules.progress case in
-      let lacks : LacksMemoryAfter Meets rules report cases (notes_of rules.progress so.tests ++ name) output = record {
+      let lacks : LacksMemoryAfter Meets rules report cases (notes_of rules.progress (hint_place (length cases)) so.tests ++ name) output = record {
         n = n;
         tests = so.tests;
         are_tested = judged_tested Meets rules (take n cases) came so.tests of met so.judged;
@@ -328,15 +345,15 @@ module _ (Meets : Case → Meeting → Type 0) (rules : RunRules) (report : Repo
         works = so.works;
         written = so.written;
       } in
-      (notes_of rules.progress so.tests ++ name, (is, lacks), so.noted)
+      (notes_of rules.progress (hint_place (length cases)) so.tests ++ name, (is, lacks), so.noted)
 
   -- the sink of a run that was stopped is a reporter that has written and told this
   pub run_ended : {K : Type 0} (heard : Hearing Case K) (stopped : Stopping Case K) (source : ListValue) (old new : K)
       (why : RunStop) (ended : Result Exit Fault) (output faults : Device) → source.rest ≡ cases
       → ((came : List (Case × Meeting)) (next : Option Case) → heard old new came next
-      → (score : Score) × (missed : ℕ) × HasReported rules report came next score missed output faults)
+      → (score : Score) × (missed : ℕ) × (hint : HintState) × HasReported rules report (hint_place (length cases)) came next score missed hint output faults)
       → ((came : List (Case × Meeting)) (w : RunStop) → stopped old new came w
-      → StopsReport rules report came w output faults)
+      → StopsReport rules report (hint_place (length cases)) came w output faults)
       → StopsRun (λ (c : Case). c) Meets GaveOfList heard stopped source old new why → IsEndOfStop why ended
       → RunsCases Meets rules report cases ended output faults
   run_ended heard stopped source old new stop.Enough ended output faults all hears stops h is =
@@ -353,24 +370,24 @@ module _ (Meets : Case → Meeting → Type 0) (rules : RunRules) (report : Repo
       (stops h.came (stop.NoConnection why) h.stops.1) refl)
   run_ended heard stopped source old new stop.NoMemory ended output faults all hears stops h is =
       let (more, next, given, is_next, told) = h.stops in
-      let (score, missed, so) = hears h.came next told in
+      let (score, missed, hint, so) = hears h.came next told in
       let items = items_of h.came in
       let whole = sym all ∙ given.0 in
       subst (λ (e : Result Exit Fault). RunsCases Meets rules report cases e output faults) (sym is)
-      (run_lacks (length items) h.came next score missed (Err NoMemory) output faults
+      (run_lacks (length items) h.came next score missed hint (Err NoMemory) output faults
       (front_is cases items (more ++ h.last.rest) (whole ∙ append_assoc items more h.last.rest)) h.met
       (next_is cases items more h.last.rest next whole is_next) so refl)
 
   -- all cases were run, and the total was written
-  run_all : (came : List (Case × Meeting)) (score : Score) (missed : ℕ) (old mid new : Option (List ℕ)) (exit : Exit)
+  run_all : (came : List (Case × Meeting)) (score : Score) (missed : ℕ) (hint : HintState) (old mid new : Option (List ℕ)) (exit : Exit)
       (worked failed : Bool) (faults : Device) → items_of came ≡ cases → CameOf (λ (c : Case). c) Meets came
-      → HasReported rules report came None score missed (record { failed = worked; old = old; new = mid }) faults
+      → HasReported rules report (hint_place (length cases)) came None score missed hint (record { failed = worked; old = old; new = mid }) faults
       → Delivers (exit_of_report score.is_failed) (end_text report (total_line score.tally)) exit
       (record { failed = failed; old = mid; new = new })
       → RunsCases Meets rules report cases (Ok exit) (record { failed = failed; old = old; new = new }) faults
-  run_all came score missed old mid new exit worked failed faults of met so told =
+  run_all came score missed hint old mid new exit worked failed faults of met so told =
       let there = score_of report so.tests in
-      let tells : TellsAll Meets rules report cases (notes_of rules.progress so.tests) exit
+      let tells : TellsAll Meets rules report cases (notes_of rules.progress (hint_place (length cases)) so.tests) exit
       (record { failed = failed; old = old; new = new }) = record {
         tests = so.tests;
         are_tested = judged_tested Meets rules cases came so.tests of met so.judged;
@@ -382,28 +399,28 @@ module _ (Meets : Case → Meeting → Type 0) (rules : RunRules) (report : Repo
             (subst (λ (t : Score). Delivers (exit_of_report t.is_failed) (end_text report (total_line t.tally)) exit
             (record { failed = failed; old = mid; new = new })) so.scored told);
       } in
-      (notes_of rules.progress so.tests, inl tells, so.noted)
+      (notes_of rules.progress (hint_place (length cases)) so.tests, inl tells, so.noted)
 
   -- after the total, or where memory ran out for it: `Same` says that nothing was written then
-  pub run_told : (came : List (Case × Meeting)) (score : Score) (missed : ℕ) (old mid new : Option (List ℕ))
+  pub run_told : (came : List (Case × Meeting)) (score : Score) (missed : ℕ) (hint : HintState) (old mid new : Option (List ℕ))
       (worked failed : Bool) (faults : Device) (Same : Type 0) (ended : Result Exit Fault) → items_of came ≡ cases
       → CameOf (λ (c : Case). c) Meets came
-      → HasReported rules report came None score missed (record { failed = worked; old = old; new = mid }) faults
+      → HasReported rules report (hint_place (length cases)) came None score missed hint (record { failed = worked; old = old; new = mid }) faults
       → (Same → (worked ≡ failed) × (mid ≡ new))
       → MatchResult ended
       (λ exit. Delivers (exit_of_report score.is_failed) (end_text report (total_line score.tally)) exit
       (record { failed = failed; old = mid; new = new }))
       (λ fault. (fault ≡ NoMemory) × Same)
       → RunsCases Meets rules report cases ended (record { failed = failed; old = old; new = new }) faults
-  run_told came score missed old mid new worked failed faults Same (Ok exit) of met so same told =
-      run_all came score missed old mid new exit worked failed faults of met so told
-  run_told came score missed old mid new worked failed faults Same (Err fault) of met so same (is, stays) =
+  run_told came score missed hint old mid new worked failed faults Same (Ok exit) of met so same told =
+      run_all came score missed hint old mid new exit worked failed faults of met so told
+  run_told came score missed hint old mid new worked failed faults Same (Err fault) of met so same (is, stays) =
       let (as_before, held) = same stays in
-      run_lacks (length cases) came None score missed (Err fault) (record { failed = failed; old = old; new = new })
+      run_lacks (length cases) came None score missed hint (Err fault) (record { failed = failed; old = old; new = new })
       faults (of ∙ sym (take_all (length cases) cases (omega arith))) met tt
-      (subst (λ (x : Option (List ℕ)). HasReported rules report came None score missed
+      (subst (λ (x : Option (List ℕ)). HasReported rules report (hint_place (length cases)) came None score missed hint
       (record { failed = failed; old = old; new = x }) faults) held
-      (subst (λ (w : Bool). HasReported rules report came None score missed
+      (subst (λ (w : Bool). HasReported rules report (hint_place (length cases)) came None score missed hint
       (record { failed = w; old = old; new = mid }) faults) as_before so)) is
 
 -- one case more is one in a row more at most

@@ -2,6 +2,7 @@ pub mod RunPlans
 pub mod Servers
 pub mod Ends
 pub mod Outcomes
+pub mod Hints
 pub mod Notes
 pub mod Reporting
 pub mod Testing

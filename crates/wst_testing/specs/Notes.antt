@@ -1,10 +1,11 @@
 -- What a run of `test` tells on the fault output beside its lines: the name of a case before it runs, where that is
--- asked for, and why there is no connection to its server, after its line.
-use Rattle.std.specs.Prelude.{ℕ, Bool, true, false, List, [], ◌∷◌, ◌++◌, Option, codes, flat_map, string_bytes}
+-- asked for, why there is no connection to its server, after its line, and what the first cases have in common.
+use Rattle.std.specs.Prelude.{ℕ, Bool, true, false, List, [], ◌∷◌, ◌++◌, Option, codes, string_bytes}
 use Rattle.ws_frame.specs.Devices.{Device, IsUntouched}
 use Rattle.ws_scripts.specs.declared.script.Case.{Case}
 use Rattle.wst_commands.specs.Devices.{Tells}
 use Rattle.wst_sockets.specs.Meetings.{miss_line}
+use Rattle.wst_testing.specs.Hints.{hint_notes}
 use Rattle.wst_testing.specs.declared.outcome.Outcome.{Outcome}
 use Rattle.wst_testing.specs.declared.outcome.Outcome.TheVariants.{HeadRefused, Judged, NoConnection, NotRun}
 
@@ -26,6 +27,12 @@ miss_notes (HeadRefused refusal) = []
 miss_notes (NoConnection why) = miss_line why ∷ []
 miss_notes NotRun = []
 
--- of cases with these outcomes
-abbrev pub notes_of : Bool → List (Case × Outcome) → List (List ℕ)
-notes_of progress tests = flat_map (λ test. progress_notes progress test.0 ++ miss_notes test.1) tests
+-- of cases with these outcomes behind others, where a hint is told behind some
+abbrev pub notes_behind : Bool → (List Outcome → List (List ℕ)) → List Outcome → List (Case × Outcome) → List (List ℕ)
+notes_behind progress hints before [] = []
+notes_behind progress hints before (test ∷ tests) = progress_notes progress test.0 ++ (miss_notes test.1
+    ++ (hints (before ++ test.1 ∷ []) ++ notes_behind progress hints (before ++ test.1 ∷ []) tests))
+
+-- of the first cases of a run, with these outcomes, where it is told at this place what they have in common
+abbrev pub notes_of : Bool → ℕ → List (Case × Outcome) → List (List ℕ)
+notes_of progress place tests = notes_behind progress (hint_notes place) [] tests

@@ -10,6 +10,8 @@ use Rattle.wst_commands.specs.declared.fault.Fault.{Fault}
 use Rattle.wst_commands.specs.declared.fault.Fault.TheVariants.{NoMemory}
 use Rattle.wst_sockets.specs.declared.meeting.ConnectFault.{ConnectFault}
 use Rattle.wst_sockets.specs.declared.meeting.Meeting.{Meeting}
+use Rattle.wst_testing.specs.Hints.{IsHintState}
+use Rattle.wst_testing.specs.declared.hinting.HintState.{HintState}
 use Rattle.wst_testing.specs.Notes.{TellsEach, notes_of, progress_notes}
 use Rattle.wst_testing.specs.Outcomes.{MayRunEach, max_missed, missed_at_end}
 use Rattle.wst_testing.specs.Reporting.{report_texts, score_of}
@@ -29,14 +31,15 @@ AreJudged rules (run ∷ came) (test ∷ tests) =
 AreJudged rules _ _ = ⊥
 
 -- what is told beside the lines of these cases, and of the name of the next one, if it was begun
-abbrev pub notes_so_far : Bool → List (Case × Outcome) → Option Case → List (List ℕ)
-notes_so_far progress tests None = notes_of progress tests
-notes_so_far progress tests (Some case) = notes_of progress tests ++ progress_notes progress case
+abbrev pub notes_so_far : Bool → ℕ → List (Case × Outcome) → Option Case → List (List ℕ)
+notes_so_far progress place tests None = notes_of progress place tests
+notes_so_far progress place tests (Some case) = notes_of progress place tests ++ progress_notes progress case
 
--- This came of the cases: what the report has of them was written, and what there is to tell beside it was told. They
--- come to this, and so many at their end are without a connection, fewer than end a run.
-pub record HasReported (rules : RunRules) (report : ReportValue) (came : List (Case × Meeting)) (next : Option Case)
-    (score : Score) (missed : ℕ) (output faults : Device) : Type 0 where
+-- This came of the cases: what the report has of them was written, and what there is to tell beside it was told, at
+-- this place what the first ones have in common. They come to this, and so many at their end are without a connection,
+-- fewer than end a run.
+pub record HasReported (rules : RunRules) (report : ReportValue) (place : ℕ) (came : List (Case × Meeting))
+    (next : Option Case) (score : Score) (missed : ℕ) (hint : HintState) (output faults : Device) : Type 0 where
   pub tests : List (Case × Outcome)
   pub judged : AreJudged rules came tests
   pub may_run : MayRunEach (max_missed rules.is_limited) (outcomes_in tests)
@@ -45,7 +48,8 @@ pub record HasReported (rules : RunRules) (report : ReportValue) (came : List (C
   pub scored : score ≡ score_of report tests
   pub written : HasWritten (report_texts report tests) output
   pub works : output.failed ≡ false
-  pub noted : TellsEach (notes_so_far rules.progress tests next) faults
+  pub noted : TellsEach (notes_so_far rules.progress place tests next) faults
+  pub hinted : IsHintState place (outcomes_in tests) hint
 
 -- to the end of the last of these cases there is no connection, for this reason
 abbrev pub EndsMissed : ConnectFault → List (Case × Outcome) → Type 0
@@ -64,12 +68,12 @@ EndsReport rules report tests stop.Enough output = ⊥
 EndsReport rules report tests stop.NoMemory output = ⊥
 
 -- the run was ended behind these, for this reason
-pub record StopsReport (rules : RunRules) (report : ReportValue) (came : List (Case × Meeting)) (why : RunStop)
-    (output faults : Device) : Type 0 where
+pub record StopsReport (rules : RunRules) (report : ReportValue) (place : ℕ) (came : List (Case × Meeting))
+    (why : RunStop) (output faults : Device) : Type 0 where
   pub tests : List (Case × Outcome)
   pub judged : AreJudged rules came tests
   pub may_run : MayRunEach (max_missed rules.is_limited) (outcomes_in tests)
-  pub noted : TellsEach (notes_of rules.progress tests) faults
+  pub noted : TellsEach (notes_of rules.progress place tests) faults
   pub ends : EndsReport rules report tests why output
 
 -- how a run ends that was stopped for this reason: what stopped it was told, but for want of memory

@@ -19,10 +19,10 @@ use Rattle.ws_upgrade.specs.Texts.{IsHost}
 use Rattle.wst_words.specs.declared.run_options.RunOptions.{RunOptions}
 use Rattle.wst_commands.specs.Devices.{Tells}
 use Rattle.wst_commands.specs.GivenCases.{TellsNoCases}
-use Rattle.wst_commands.specs.TimeLimits.{GivesDeadline, GivesTimeout, GivesWait, HasDeadline, HasTimeout, HasUnit}
-use Rattle.wst_commands.specs.TimeLimits.{HasWait, is_limited, ten_times}
+use Rattle.wst_commands.specs.TimeLimits.{GivesDeadline, GivesRunTimeout, GivesWait, HasDeadline, HasRunTimeout}
+use Rattle.wst_commands.specs.TimeLimits.{HasUnit, HasWait, is_limited, ten_times}
 use Rattle.wst_commands.specs.declared.time_limit.TimeLimit.{TimeLimit}
-use Rattle.wst_commands.specs.declared.time_limit.TimeLimit.TheVariants.{Unlimited}
+use Rattle.wst_commands.specs.declared.time_limit.TimeLimit.TheVariants.{Seconds, Unlimited}
 use Rattle.wst_commands.specs.declared.exit.Exit.{Exit}
 use Rattle.wst_commands.specs.declared.exit.Exit.TheVariants.{WrongWords}
 use Rattle.wst_commands.specs.declared.given_cases.NoCases.TheVariants.{NoMemory, NoSuchCase}
@@ -33,8 +33,8 @@ use Rattle.wst_testing.specs.declared.run_plans.Refusal.TheVariants as refusal
 use Rattle.wst_testing.specs.declared.run_plans.RunPlan.{RunPlan}
 use Rattle.wst_testing.specs.declared.run_plans.TestedEnd.{TestedEnd}
 use Rattle.wst_testing.specs.declared.run_plans.TestedEnd.TheVariants.{Clients, Memory, Server}
-use Rattle.wst_testing.specs.declared.run_plans.UsualDeadline.{UsualDeadline}
-use Rattle.wst_testing.specs.declared.run_plans.UsualDeadline.TheVariants.{Never, TenTimeouts}
+use Rattle.wst_testing.specs.declared.run_plans.UsualTimes.{UsualTimes}
+use Rattle.wst_testing.specs.declared.run_plans.UsualTimes.TheVariants.{OfCases, OfScript}
 
 -- ---- the tested end
 
@@ -109,19 +109,30 @@ WaitsForServer role.Client word = ⊥
 abbrev pub FitsRole : RunOptions → Type 0
 FitsRole options = ¬ (WaitsForServer options.role options.wait)
 
--- how long a connection lasts whose end is waited for so long, where that isn't given
-abbrev pub usual_deadline : UsualDeadline → TimeLimit → TimeLimit
-usual_deadline Never timeout = Unlimited
-usual_deadline TenTimeouts timeout = ten_times timeout
+-- how long a tested end is waited for, where that isn't given: ten seconds by cases
+abbrev pub usual_timeout : UsualTimes → TimeLimit
+usual_timeout OfScript = Unlimited
+usual_timeout OfCases = Seconds 10
 
--- the words ask for this, where a connection lasts so long if none of them says it
-pub record IsRunPlan (usual : UsualDeadline) (options : RunOptions) (plan : RunPlan) : Type 0 where
+-- how long a connection lasts whose end is waited for so long, where that isn't given
+abbrev pub usual_deadline : UsualTimes → TimeLimit → TimeLimit
+usual_deadline OfScript timeout = Unlimited
+usual_deadline OfCases timeout = ten_times timeout
+
+-- this limit of time was asked for: one that is only usual wasn't
+abbrev pub gives_limit : Option (Bor (List ℕ)) → TimeLimit → Bool
+gives_limit None limit = false
+gives_limit (Some word) limit = is_limited limit
+
+-- the words ask for this, with these times where none of them says it
+pub record IsRunPlan (usual : UsualTimes) (options : RunOptions) (plan : RunPlan) : Type 0 where
   pub fits_role : FitsRole options
   pub has_offers : HasOffers options
   pub protocols : plan.protocols ≡ protocols_given options.protocols
   pub has_headers : HasHeaders options
   pub headers : plan.headers ≡ headers_in (header_words options)
-  pub timeout : GivesTimeout options.timeout plan.timeout
+  pub timeout : GivesRunTimeout (usual_timeout usual) options.timeout plan.timeout
+  pub gives_limit : plan.gives_limit ≡ gives_limit options.timeout plan.timeout
   pub wait : GivesWait options.wait plan.wait
   pub deadline : GivesDeadline (usual_deadline usual plan.timeout) options.deadline plan.deadline
   pub key : IsKeyWord plan.key options.key.now
@@ -166,7 +177,7 @@ HasRequestWords options = FitsRole options × HasOffers options × HasHeaders op
 
 -- nor with these
 abbrev pub HasTimes : RunOptions → Type 0
-HasTimes options = HasRequestWords options × HasTimeout options.timeout × HasWait options.wait
+HasTimes options = HasRequestWords options × HasRunTimeout options.timeout × HasWait options.wait
     × HasDeadline options.deadline
 
 -- nor with anything that stands before the target
@@ -200,16 +211,16 @@ CanNotRun options refusal.WaitForServer = WaitsForServer options.role options.wa
 CanNotRun options refusal.BadProtocols = FitsRole options × ¬ (HasOffers options)
 CanNotRun options refusal.BadHeader = FitsRole options × HasOffers options × ¬ (HasHeaders options)
 CanNotRun options refusal.BadTimeout =
-    HasRequestWords options × ¬ (HasTimeout options.timeout) × ¬ (HasUnit options.timeout)
+    HasRequestWords options × ¬ (HasRunTimeout options.timeout) × ¬ (HasUnit options.timeout)
 CanNotRun options refusal.TimeoutWithUnit =
-    HasRequestWords options × ¬ (HasTimeout options.timeout) × HasUnit options.timeout
+    HasRequestWords options × ¬ (HasRunTimeout options.timeout) × HasUnit options.timeout
 CanNotRun options refusal.BadWait =
-    HasRequestWords options × HasTimeout options.timeout × ¬ (HasWait options.wait) × ¬ (HasUnit options.wait)
+    HasRequestWords options × HasRunTimeout options.timeout × ¬ (HasWait options.wait) × ¬ (HasUnit options.wait)
 CanNotRun options refusal.WaitWithUnit =
-    HasRequestWords options × HasTimeout options.timeout × ¬ (HasWait options.wait) × HasUnit options.wait
-CanNotRun options refusal.BadDeadline = HasRequestWords options × HasTimeout options.timeout × HasWait options.wait
+    HasRequestWords options × HasRunTimeout options.timeout × ¬ (HasWait options.wait) × HasUnit options.wait
+CanNotRun options refusal.BadDeadline = HasRequestWords options × HasRunTimeout options.timeout × HasWait options.wait
     × ¬ (HasDeadline options.deadline) × ¬ (HasUnit options.deadline)
-CanNotRun options refusal.DeadlineWithUnit = HasRequestWords options × HasTimeout options.timeout
+CanNotRun options refusal.DeadlineWithUnit = HasRequestWords options × HasRunTimeout options.timeout
     × HasWait options.wait × ¬ (HasDeadline options.deadline) × HasUnit options.deadline
 CanNotRun options refusal.BadKey = HasTimes options × ((key : List ℕ) → ¬ (IsKeyWord key options.key.now))
 CanNotRun options (refusal.BadAddress given) = HasAllButEnd options
@@ -225,8 +236,8 @@ CanNotRun options (refusal.NoCases NoMemory) = ⊤
 -- what is told of a bad address: the second line says what to type, where that is known
 abbrev pub address_text : Advice → List ℕ
 address_text advice.Encrypted =
-    codes "bad address\nwss is not spoken: put a TLS client before it, see --connect\n"
-address_text advice.Web = codes "bad address\n  a ws:// URL is wanted: ws://HOST:PORT/PATH\n"
+    codes "bad address\nwss:// is not supported; run socat or stunnel and pass its address to --connect\n"
+address_text advice.Web = codes "bad address\n  expected ws://HOST:PORT/PATH\n"
 address_text advice.User = codes "bad address\n  no user before the host: ws://HOST:PORT/PATH, see --header\n"
 address_text advice.Port =
     codes "bad address\n  a port is at most 65535, and 80 without one: ws://HOST:PORT/PATH\n"
@@ -237,8 +248,11 @@ address_text advice.Nothing = codes "bad address\n"
 abbrev pub TellsRefusal : Refusal → Exit → Device → Type 0
 TellsRefusal refusal.WaitForServer exit faults =
     (exit ≡ WrongWords) × Tells (codes "--wait takes --role client\n") faults
-TellsRefusal refusal.BadProtocols exit faults = (exit ≡ WrongWords) × Tells (codes "bad protocol list\n") faults
-TellsRefusal refusal.BadHeader exit faults = (exit ≡ WrongWords) × Tells (codes "bad header\n") faults
+TellsRefusal refusal.BadProtocols exit faults = (exit ≡ WrongWords)
+    × Tells (codes "bad protocol list\n  up to 16 different names, joined by commas: --protocols chat,echo\n") faults
+TellsRefusal refusal.BadHeader exit faults = (exit ≡ WrongWords)
+    × Tells (codes "bad header\n  none that the request has itself, up to 32: --header 'Origin: http://localhost'\n")
+    faults
 TellsRefusal refusal.BadTimeout exit faults = (exit ≡ WrongWords)
     × Tells (codes "bad timeout\n  a whole number of seconds, 1 to 3600: --timeout 5\n") faults
 TellsRefusal refusal.TimeoutWithUnit exit faults =
@@ -251,7 +265,8 @@ TellsRefusal refusal.BadDeadline exit faults = (exit ≡ WrongWords)
     × Tells (codes "bad timeout\n  a whole number of seconds, 1 to 86400: --deadline 60\n") faults
 TellsRefusal refusal.DeadlineWithUnit exit faults =
     (exit ≡ WrongWords) × Tells (codes "bad timeout\n  seconds without a unit: --deadline 60\n") faults
-TellsRefusal refusal.BadKey exit faults = (exit ≡ WrongWords) × Tells (codes "bad key\n") faults
+TellsRefusal refusal.BadKey exit faults =
+    (exit ≡ WrongWords) × Tells (codes "bad key\n  eight lower-case hexadecimal digits: --key 37fa213d\n") faults
 TellsRefusal (refusal.BadAddress given) exit faults = (exit ≡ WrongWords) × Tells (address_text given) faults
 TellsRefusal refusal.CaptureInReport exit faults =
     (exit ≡ WrongWords) × Tells (codes "--capture does not go with --known or --junit\n") faults

@@ -1,7 +1,7 @@
 -- Cases run over new ends: what a report has of them is written, of each as soon as it is judged, and of the total; and
 -- what is told on the fault output.
 use Rattle.std.specs.Prelude.{◌≡◌, ◌⊎◌, ℕ, ◌+◌, ◌<◌, true, false, List, [], ◌∷◌, ◌++◌}
-use Rattle.std.specs.Prelude.{map, take, Result, MatchResult, codes, string_bytes}
+use Rattle.std.specs.Prelude.{length, map, take, Result, MatchResult, codes, string_bytes}
 use Rattle.std.specs.List.{AllByRecursion, concat}
 use Rattle.ws_wire.specs.declared.role.Role.{Role}
 use Rattle.ws_frame.specs.Devices.{Device, HasBegun, HasWritten, IsUntouched}
@@ -18,6 +18,7 @@ use Rattle.ws_suite.specs.declared.verdict.Verdict.{Verdict}
 use Rattle.wst_commands.specs.Devices.{Delivers}
 use Rattle.wst_commands.specs.Explaining.{IsJudgementOf}
 use Rattle.wst_commands.specs.Judge.{exit_of}
+use Rattle.wst_testing.specs.Hints.{hint_place}
 use Rattle.wst_testing.specs.Notes.{TellsEach, miss_notes, notes_of, progress_notes}
 use Rattle.wst_testing.specs.Outcomes.{MayRunEach, below_line, max_missed, missed_at_end}
 use Rattle.wst_testing.specs.Outcomes.{outcome_words, told_refusal, total_line}
@@ -77,7 +78,7 @@ pub record TellsAll (Meets : Case → Meeting → Type 0) (rules : RunRules) (re
   pub are_tested : AreTested Meets rules cases tests
   pub may_run : MayRunEach (max_missed rules.is_limited) (outcomes_in tests)
   pub few : missed_at_end (outcomes_in tests) < max_missed rules.is_limited
-  pub noted : notes ≡ notes_of rules.progress tests
+  pub noted : notes ≡ notes_of rules.progress (hint_place (length cases)) tests
   pub told : Delivers (exit_of_report (score_of report tests).is_failed)
       (report_texts report tests ++ end_text report (total_line (score_of report tests).tally)) exit output
 
@@ -89,7 +90,7 @@ pub record StopsAtLine (Meets : Case → Meeting → Type 0) (rules : RunRules) 
   pub tests : List (Case × Outcome)
   pub are_tested : AreTested Meets rules (take n cases) tests
   pub may_run : MayRunEach (max_missed rules.is_limited) (outcomes_in tests)
-  pub noted : notes ≡ notes_of rules.progress tests
+  pub noted : notes ≡ notes_of rules.progress (hint_place (length cases)) tests
   pub failed : (exit ≡ Failed) × (output.failed ≡ true)
   pub begun : HasBegun (report_texts report tests) output
 
@@ -103,7 +104,7 @@ pub record StopsAtConnection (Meets : Case → Meeting → Type 0) (rules : RunR
   pub are_tested : AreTested Meets rules (take n cases) tests
   pub may_run : MayRunEach (max_missed rules.is_limited) (outcomes_in tests)
   pub missed : missed_at_end (outcomes_in tests) ≡ max_missed rules.is_limited
-  pub noted : notes ≡ notes_of rules.progress tests
+  pub noted : notes ≡ notes_of rules.progress (hint_place (length cases)) tests
   pub ended : (exit ≡ Failed) × (output.failed ≡ false)
   pub written : HasWritten (report_texts report tests) output
 
@@ -123,7 +124,7 @@ pub record LacksMemoryAfter (Meets : Case → Meeting → Type 0) (rules : RunRu
   pub few : missed_at_end (outcomes_in tests) < max_missed rules.is_limited
   pub next : List (List ℕ)
   pub is_next : IsNextNote rules cases n next
-  pub noted : notes ≡ notes_of rules.progress tests ++ next
+  pub noted : notes ≡ notes_of rules.progress (hint_place (length cases)) tests ++ next
   pub works : output.failed ≡ false
   pub written : HasWritten (report_texts report tests) output
 

@@ -12,6 +12,7 @@
 mod address_server;
 mod capturing;
 mod case_server;
+mod hinting;
 mod known_input;
 pub mod laws;
 mod line_writer;
@@ -28,7 +29,7 @@ pub use case_server::{CaseServer, MemoryEnd, MemoryPeer};
 pub use known_input::{KnownStop, known_given, tell_known_stop};
 pub use line_writer::{LineStop, LineWriter};
 pub use outcome::{Outcome, Reported, Score, Tally, close_report, report_case, total_line};
-pub use run_plans::{Refusal, RunPlan, TestedEnd, UsualDeadline, is_url, plan_run, tell_refusal};
+pub use run_plans::{Refusal, RunPlan, TestedEnd, UsualTimes, is_url, plan_run, tell_refusal};
 pub use runner::{CaseSource, End, HasCase, ListedCases, RunStop, Sink, run_cases};
 pub use sweeping::{SweepRules, is_told, sweep_scripts, tell_sweep_end, total_of};
 pub use testing::{RunRules, tell_case, tell_progress, test_cases};

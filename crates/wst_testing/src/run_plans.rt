@@ -8,7 +8,7 @@ ghost use Rattle.wst_testing.specs.RunPlans.{HasHeaders, header_words};
 ghost use Rattle.wst_testing.specs.RunPlans.{CanConnect, IsClientsAddress, IsEndOf, IsRunPlan, IsUrl, CanNotRun};
 ghost use Rattle.wst_testing.specs.RunPlans.{AdvisesClients, RefusesTarget, TellsRefusal, address_text, tested_role};
 ghost use Rattle.wst_testing.specs.RunPlans.{IsDeadlineRefusal, IsTimeoutRefusal, IsWaitRefusal, WaitsForServer};
-ghost use Rattle.wst_testing.specs.RunPlans.{tells_waits, usual_deadline};
+ghost use Rattle.wst_testing.specs.RunPlans.{gives_limit, tells_waits, usual_deadline, usual_timeout};
 ghost use Rattle.ws_wire.specs.declared.role.Role.{Role};
 ghost use Rattle.ws_wire.specs.declared.role.Role.TheVariants.{Client, Server};
 ghost use Rattle.wst_commands.specs.declared.exit.Exit.TheVariants.{WrongWords};
@@ -28,7 +28,7 @@ use ws_targets::{
 use ws_upgrade::is_host;
 use ws_wire::Role;
 use wst_commands::{
-    Exit, NoCases, TimeLimit, deadline_given, has_unit, tell, tell_no_cases, timeout_given,
+    Exit, NoCases, TimeLimit, deadline_given, has_unit, run_timeout_given, tell, tell_no_cases,
     wait_given,
 };
 use wst_words::RunOptions;
@@ -67,6 +67,8 @@ pub struct RunPlan<'a> {
     pub expected: Expectation,
     /// How long an end that is not in memory is waited for.
     pub timeout: TimeLimit,
+    /// Whether that limit was asked for: one that is only usual changes nothing where there is no connection.
+    pub gives_limit: bool,
     /// How long a connection to such an end may last.
     pub deadline: TimeLimit,
     /// How long a client is waited for that comes to an address.
@@ -91,23 +93,33 @@ impl RunPlan<'_> {
     }
 }
 
-/// How long a connection may last, where that isn't given.
+/// How long a tested end is waited for, and how long a connection to it may last, where that isn't given.
 #[derive(Clone, Copy, PartialEq, Eq)]
-pub enum UsualDeadline {
-    /// As long as it takes.
-    Never,
-    /// Ten times as long as the tested end is waited for.
-    TenTimeouts,
+pub enum UsualTimes {
+    /// As long as it takes, both: a script whose command gives a limit of its own.
+    OfScript,
+    /// Ten seconds, and ten times as long as the tested end is waited for: so no run of cases hangs.
+    OfCases,
 }
 
-impl UsualDeadline {
-    /// How long that is, where the tested end is waited for so long.
-    fn limit(self, timeout: TimeLimit) -> TimeLimit
+impl UsualTimes {
+    /// How long the tested end is waited for.
+    fn timeout(self) -> TimeLimit
+        ensures { result ≡ usual_timeout self }
+    {
+        match self {
+            UsualTimes::OfScript => TimeLimit::Unlimited,
+            UsualTimes::OfCases => TimeLimit::Seconds(10),
+        }
+    }
+
+    /// How long a connection lasts, where the tested end is waited for so long.
+    fn deadline(self, timeout: TimeLimit) -> TimeLimit
         ensures { result ≡ usual_deadline self timeout }
     {
         match self {
-            UsualDeadline::Never => TimeLimit::Unlimited,
-            UsualDeadline::TenTimeouts => timeout.ten_times(),
+            UsualTimes::OfScript => TimeLimit::Unlimited,
+            UsualTimes::OfCases => timeout.ten_times(),
         }
     }
 }
@@ -167,12 +179,12 @@ impl From<NoMemory> for Refusal<'_> {
     }
 }
 
-/// What the options ask for, with this deadline where none is given, or the first reason against it.
+/// What the options ask for, with these times where none are given, or the first reason against it.
 #[tactic(auto, using(crate::proofs::PlanLemmas::timeout_refused, crate::proofs::PlanLemmas::wait_refused))]
 pub fn plan_run<'a>(
     alloc: Global,
     options: &RunOptions<'a>,
-    usual: UsualDeadline,
+    usual: UsualTimes,
 ) -> Result<RunPlan<'a>, Refusal<'a>>
     ensures { MatchResult result (IsRunPlan usual options.now) (CanNotRun options.now) }
 {
@@ -185,13 +197,13 @@ pub fn plan_run<'a>(
     let Some(headers) = headers_given(alloc, options)? else {
         return Err(Refusal::BadHeader);
     };
-    let Some(timeout) = timeout_given(options.timeout) else {
+    let Some(timeout) = run_timeout_given(options.timeout, usual.timeout()) else {
         return Err(timeout_refusal(options.timeout));
     };
     let Some(wait) = wait_given(options.wait) else {
         return Err(wait_refusal(options.wait));
     };
-    let Some(deadline) = deadline_given(options.deadline, usual.limit(timeout)) else {
+    let Some(deadline) = deadline_given(options.deadline, usual.deadline(timeout)) else {
         return Err(deadline_refusal(options.deadline));
     };
     let Some(key) = read_key(options.key.as_bytes()) else {
@@ -207,12 +219,23 @@ pub fn plan_run<'a>(
         tested,
         expected: options.expect,
         timeout,
+        gives_limit: gives_limit(options.timeout, timeout),
         deadline,
         wait,
         budget: options.budget,
         protocols,
         headers,
     })
+}
+
+/// Whether this limit of time for a tested end was asked for.
+fn gives_limit(word: Option<&str>, timeout: TimeLimit) -> bool
+    ensures { result ≡ gives_limit word.entry timeout }
+{
+    match word {
+        Some(_) => timeout.is_limited(),
+        None => false,
+    }
 }
 
 /// Whether it is given how long a client is waited for, and a server is tested.
@@ -387,8 +410,14 @@ pub fn tell_refusal<F: Write>(alloc: Global, refusal: Refusal<'_>, faults: &mut 
 {
     match refusal {
         Refusal::WaitForServer => tell_wrong(b"--wait takes --role client\n", faults),
-        Refusal::BadProtocols => tell_wrong(b"bad protocol list\n", faults),
-        Refusal::BadHeader => tell_wrong(b"bad header\n", faults),
+        Refusal::BadProtocols => tell_wrong(
+            b"bad protocol list\n  up to 16 different names, joined by commas: --protocols chat,echo\n",
+            faults,
+        ),
+        Refusal::BadHeader => tell_wrong(
+            b"bad header\n  none that the request has itself, up to 32: --header 'Origin: http://localhost'\n",
+            faults,
+        ),
         Refusal::BadTimeout => tell_wrong(
             b"bad timeout\n  a whole number of seconds, 1 to 3600: --timeout 5\n",
             faults,
@@ -413,7 +442,10 @@ pub fn tell_refusal<F: Write>(alloc: Global, refusal: Refusal<'_>, faults: &mut 
             b"bad timeout\n  seconds without a unit: --deadline 60\n",
             faults,
         ),
-        Refusal::BadKey => tell_wrong(b"bad key\n", faults),
+        Refusal::BadKey => tell_wrong(
+            b"bad key\n  eight lower-case hexadecimal digits: --key 37fa213d\n",
+            faults,
+        ),
         Refusal::BadAddress(advice) => tell_wrong(address_text(advice), faults),
         Refusal::CaptureInReport => {
             tell_wrong(b"--capture does not go with --known or --junit\n", faults)
@@ -429,9 +461,9 @@ fn address_text(advice: Advice) -> &'static [u8]
 {
     match advice {
         Advice::Encrypted => {
-            b"bad address\nwss is not spoken: put a TLS client before it, see --connect\n"
+            b"bad address\nwss:// is not supported; run socat or stunnel and pass its address to --connect\n"
         }
-        Advice::Web => b"bad address\n  a ws:// URL is wanted: ws://HOST:PORT/PATH\n",
+        Advice::Web => b"bad address\n  expected ws://HOST:PORT/PATH\n",
         Advice::User =>
             b"bad address\n  no user before the host: ws://HOST:PORT/PATH, see --header\n",
         Advice::Port =>

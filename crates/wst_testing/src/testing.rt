@@ -1,12 +1,13 @@
 //! Cases run over new ends: each is judged, and its line is written, before the next one runs.
 
 ghost use Rattle.std.specs.Prelude.{◌≡◌, ◌+◌, ◌<◌, ◌^◌, List, ℕ, IfOk, MatchResult, OnErr, OnOk, false, true};
-ghost use Rattle.std.specs.Prelude.{if◌then◌else◌, string_bytes};
+ghost use Rattle.std.specs.Prelude.{◌++◌, if◌then◌else◌, string_bytes};
 ghost use Rattle.std.specs.List.{All};
 ghost use Rattle.ws_frame.specs.Devices.{watched};
 ghost use Rattle.ws_frame.specs.Watching.{has_failed};
 ghost use Rattle.ws_scripts.specs.Scripts.{CanBeRun};
 ghost use Rattle.wst_commands.specs.Devices.{Delivers, StaysFailed};
+ghost use Rattle.wst_testing.specs.Hints.{notes_with};
 ghost use Rattle.wst_testing.specs.Notes.{TellsEach, miss_notes, progress_notes};
 ghost use Rattle.wst_testing.specs.Outcomes.{is_missed, max_missed, told_refusal};
 ghost use Rattle.wst_testing.specs.Reporter.{IsEndOfStop};
@@ -15,6 +16,7 @@ ghost use Rattle.wst_commands.specs.declared.fault.Fault.TheVariants as variant;
 ghost use Rattle.wst_testing.specs.declared.outcome.Outcome.TheVariants.{NoConnection};
 
 use crate::case_server::CaseServer;
+use crate::hinting::{HintState, tell_hint};
 use crate::outcome::{Below, Outcome, Score, report_case, tell_end};
 use crate::runner::{ListedCases, RunStop, Sink, run_cases};
 use std::alloc::Global;
@@ -49,8 +51,8 @@ pub struct RunRules {
 
 /// Runs the cases in their order, each over a new end, and writes what the report has of each as soon as it is judged,
 /// and of the total last. What can't be written ends the run, and so does, after it is told, an end to which there is
-/// no connection, or the third in a row. Why there is none is told to `faults`, and the name of a case where that is
-/// asked for.
+/// no connection, or the third in a row. Why there is none is told to `faults`, the name of a case where that is asked
+/// for, and what the first ten cases have in common, where that says what to type.
 pub fn test_cases<S: CaseServer, W: Write, F: Write>(
     alloc: Global,
     server: &S,
@@ -71,6 +73,7 @@ pub fn test_cases<S: CaseServer, W: Write, F: Write>(
         report,
         score: Score::new(),
         missed: 0,
+        hint: HintState::of(cases.len()),
         writer,
         faults,
     };
@@ -102,6 +105,8 @@ struct Reporter<'r, 'w, 'f, W, F> {
     score: Score,
     /// So many cases in a row are without a connection.
     missed: u32,
+    /// What the cases have in common.
+    hint: HintState,
     writer: &'w mut Watched<W>,
     faults: &'f mut Watched<F>,
 }
@@ -115,11 +120,11 @@ impl<W: Write, F: Write> Sink for Reporter<'_, '_, '_, W, F> {
     type Item = Case;
 
     ghost heard = { λ start now came next. (now.rules ≡ start.rules) × (now.report.now ≡ start.report.now)
-        × HasReported start.rules start.report.now came next now.score now.missed
+        × HasReported start.rules start.report.now start.hint.left came next now.score now.missed now.hint
         (watched W.contents start.writer.now now.writer.now) (watched F.contents start.faults.now now.faults.now)
         × StaysFailed start.faults.now now.faults.now };
 
-    ghost stopped = { λ start now came why. StopsReport start.rules start.report.now came why
+    ghost stopped = { λ start now came why. StopsReport start.rules start.report.now start.hint.left came why
         (watched W.contents start.writer.now now.writer.now) (watched F.contents start.faults.now now.faults.now)
         × StaysFailed start.faults.now now.faults.now };
 
@@ -134,7 +139,7 @@ impl<W: Write, F: Write> Sink for Reporter<'_, '_, '_, W, F> {
         let outcome = judged(alloc, self.rules, meeting)?;
         let reported = report_case(alloc, self.report, case, &outcome)?;
         let written = write_whole(self.writer, reported.text.as_bytes());
-        tell_miss(&outcome, self.faults);
+        tell_behind(self.hint, &outcome, self.faults);
         match written {
             Ok(()) => {}
             Err(_) => return Err(RunStop::Output),
@@ -144,8 +149,20 @@ impl<W: Write, F: Write> Sink for Reporter<'_, '_, '_, W, F> {
             return Err(RunStop::NoConnection(miss_of(&outcome)));
         }
         self.score = self.score.with(&outcome, reported.is_failed);
+        self.hint = self.hint.with(&outcome);
         Ok(())
     }
+}
+
+/// Tells what there is to tell behind the line of a case: why there is no connection, where there is none, and what
+/// all cases so far have in common, where that is the place for it.
+fn tell_behind<F: Write>(hint: HintState, outcome: &Outcome, faults: &mut Watched<F>)
+    ensures told { TellsEach (miss_notes outcome.now ++ notes_with hint outcome.now)
+        (watched F.contents faults.old faults.new) }
+    ensures still { StaysFailed faults.old faults.new }
+{
+    tell_miss(outcome, faults);
+    tell_hint(hint, outcome, faults);
 }
 
 /// After so many cases in a row without a connection a run ends.

@@ -210,7 +210,7 @@ Examples:
   # send it a frame that it should refuse
   echo 'text key=- \"Hello\"' | wst send ws://localhost:9001/echo
   # test any other server, by the protocol alone
-  wst test --expect protocol --explain ws://localhost:9001/chat
+  wst test --timeout 5 --expect protocol --explain ws://localhost:9001/chat
   # prints: 0 text fin=1 rsv=0 key=- len=5 short 48656c6c6f
   printf '\\201\\005Hello' | wst show
 

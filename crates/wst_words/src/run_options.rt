@@ -22,11 +22,11 @@ pub struct RunOptions<'a> {
     pub expect: Expectation,
     /// The masking key of the client's frames that have none of their own, as a word.
     pub key: &'a str,
-    /// For so many seconds, as a word, the tested end is waited for, where that is given.
+    /// For so many seconds, or without a limit, as a word, the tested end is waited for, where that is given.
     pub timeout: Option<&'a str>,
     /// For so many seconds, as a word, a connection may last, where that is given.
     pub deadline: Option<&'a str>,
-    /// For so many seconds, as a word, a client is waited for, where that is given.
+    /// For so many seconds, or without a limit, as a word, a client is waited for, where that is given.
     pub wait: Option<&'a str>,
     /// At most so many bytes are read of the tested end in one script behind its head.
     pub budget: u64,
@@ -73,7 +73,7 @@ pub(crate) const TIMEOUT: Argument = Argument {
     default: None,
     value_name: "SECONDS",
     heading: Some("Limits"),
-    help: "Wait SECONDS for progress, 1 to 3600 [default: none]",
+    help: "Wait SECONDS for progress, or `none` [default: 10]",
 };
 
 pub(crate) const DEADLINE: Argument = Argument {
@@ -91,7 +91,7 @@ pub(crate) const WAIT: Argument = Argument {
     default: None,
     value_name: "SECONDS",
     heading: Some("Limits"),
-    help: "Wait SECONDS for clients, 1 to 86400 [default: none]",
+    help: "Wait SECONDS for clients, or `none` [default: 60]",
 };
 
 pub(crate) const BUDGET: Argument = Argument {

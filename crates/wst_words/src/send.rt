@@ -38,7 +38,7 @@ static ARGUMENTS: [Argument; 13] = [
     KEY,
     Argument {
         default: Some("2"),
-        help: "Wait SECONDS for progress, 1 to 3600",
+        help: "Wait SECONDS for progress, or `none`",
         ..TIMEOUT
     },
     Argument {
@@ -122,12 +122,9 @@ const AFTER_HELP: &str =
   wait                 the turn ends: wait for the replies that are due
 A text in quotes is printable ASCII; any other payload is written in hex.
 
-Printed are frames sent (`>`) and received (`<`), and `end WHO`: `peer`, the
-tested endpoint, ended the connection, or `tester`, wst, did: all that was due
-came, a rule was broken, or --timeout has passed. Without --expect protocol, a
-message that is no echo breaks a rule. `broken`: the connection broke off.
-With --role client, the first connection gets the script. A client of Autobahn's
-would take it for the number of cases: test that one with `wst test`.
+Printed are frames sent (`>`) and received (`<`), and last who ended the
+connection: `end peer`, `end tester` (wst did) or `end broken`.
+With --role client, the first connection gets the script.
 
 Exit status:
   0  the script was run, whoever ended the connection

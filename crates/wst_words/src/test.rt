@@ -163,18 +163,14 @@ pub(crate) fn help<'a>() -> HelpText<'a> {
 const AFTER_HELP: &str =
     "Each case gives PASS, LOOSE WHY (permitted, but not the reference behaviour),
 FAIL WHY (a rule is broken), FAIL Head NAME (the handshake failed; --header and
---protocols may mend it) or `no connection`. `man wst` explains WHY and NAME.
-With --explain, `due N` is what was expected in turn N, `got N` what came, up to
-16 bytes (`send --data all` prints more). `due N end RULE`: wst broke RULE on
-purpose: the peer had to end. `got N failed RULE`: the peer broke RULE.
-`end WHO N`: ended in turn N by `peer` or by `tester` (wst: it waits for no more
-after a broken rule); `broken`: it broke off. `ours`: RFC 6455 asks less.
+--protocols may mend it) or `no connection`. `wst judge --help` explains the
+lines of --explain, and `man wst` all of these words.
 With --role client, start your client after `listening on`: it must reconnect
 for each next case. Clients for Autobahn's fuzzing server run unchanged.
 
 Exit status:
-  0  no FAIL; with --known, no new case and no other result
-  1  a FAIL or, with --timeout, no connection; with --known, what differs
+  0  no FAIL; with --known, no case is new, no failure new, changed or fixed
+  1  a FAIL or, with --timeout, no connection; with --known, one of these
   2  usage error
   3  no connection (with --timeout, three in a row), I/O or memory error
 
@@ -182,4 +178,4 @@ Examples:
   # an echo; any other server; a client, which connects once per case
   wst test --timeout 5 --explain ws://localhost:9001/echo
   wst test --timeout 5 --expect protocol ws://localhost:9001/chat
-  wst test --timeout 5 --role client 127.0.0.1:9001";
+  wst test --timeout 5 --wait 60 --role client 127.0.0.1:9001";

@@ -1,5 +1,5 @@
 -- What is delivered is the verdict's line with the lines of the explanation below it.
-use Rattle.std.proofs.Common.{◌≡◌, ◌++◌, refl, rules}
+use Rattle.std.proofs.Common.{◌≡◌, ◌++◌, None, refl, rules}
 use Rattle.ws_frame.specs.Devices.{watched}
 use Rattle.wst_commands.specs.Explaining.{ending_line, explanation_lines}
 use Rattle.wst_commands.specs.InnerExplaining.{explained_text, lines_after_replies}
@@ -17,8 +17,9 @@ returns g c =
     let due_end = c.as_str-2.result.now in
     let got_end = c.as_str-3.result.now in
     let line_is : line ≡ verdict_line x.verdict = search rules in
-    let due_is : due_end ≡ ending_line Due x.due.ending = search rules in
-    let got_is : got_end ≡ ending_line Got x.got.ending ++ lines_after_replies lines.tested lines.expected lines.cut x = search rules in
+    let due_is : due_end ≡ ending_line Due None x.due.ending = search rules in
+    let got_is : got_end ≡ ending_line Got x.found.fault x.got.ending
+    ++ lines_after_replies lines.tested lines.expected lines.cut x = search rules in
     delivers_same (exit_of x.verdict) (exit_of x.verdict) (explained_text line x due_end got_end)
     (verdict_line x.verdict ++ explanation_lines lines.tested lines.expected lines.cut x) c.deliver_explained.result
     (watched g.W.Write.contents c.args.writer.now c.deliver_explained.new.writer) refl

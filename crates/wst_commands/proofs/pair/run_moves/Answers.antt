@@ -38,7 +38,7 @@ returns-in-Err-Text g c =
     let both = c.in-Some.ensures in
     let limits = c.in-Some.limits in
     let client = limits_given c.args.options.limit_client c.args.options.frame_client in
-    let (text, read, damages) = subst (λ (fault : InputFault). FailsInput (Damages AreMoveLines) fault input)
+    let (text, read, damages, names) = subst (λ (fault : InputFault). FailsInput (Damages AreMoveLines) fault input)
     c.in-Err-Text.field-0-is c.in-Err-Text.ensures in
     let ended = Err c.fault_of.result in
     let same = c.in-Err-Text.fault-is in

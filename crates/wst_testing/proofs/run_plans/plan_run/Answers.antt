@@ -6,10 +6,10 @@ use Rattle.ws_connection.specs.Protocols.{protocols_given}
 use Rattle.ws_connection.specs.RequestHeaders.{headers_in}
 use Rattle.wst_testing.specs.RunPlans.{CanConnect, FitsRole, HasHeaders, HasOffers, header_words}
 use Rattle.wst_testing.specs.RunPlans.{RefusesTarget}
-use Rattle.wst_commands.specs.TimeLimits.{GivesDeadline}
+use Rattle.wst_commands.specs.TimeLimits.{GivesDeadline, GivesRunTimeout}
 use Rattle.wst_commands.specs.declared.time_limit.TimeLimit.{TimeLimit}
 use Rattle.wst_testing.specs.declared.run_plans.Refusal.{Refusal}
-use Rattle.wst_testing.proofs.PlanLemmas.{deadline_refused, end_refused, has_deadline, wait_refused}
+use Rattle.wst_testing.proofs.PlanLemmas.{deadline_refused, end_refused, has_deadline, has_timeout, has_wait, wait_refused}
 use Rattle.wst_testing.proofs.run_plans.plan_run.Goals as goal
 
 pub returns : goal.returns
@@ -25,10 +25,12 @@ returns c =
       protocols = offered.0;
       has_headers = added.1;
       headers = added.0;
-      timeout = c.in-Some-timeout_given.ensures;
+      timeout = subst (λ (usual : TimeLimit). GivesRunTimeout usual options.timeout c.in-Some-run_timeout_given.timeout)
+          c.timeout.ensures c.in-Some-run_timeout_given.ensures;
+      gives_limit = c.gives_limit.ensures;
       wait = c.in-Some-wait_given.ensures;
       deadline = subst (λ (usual : TimeLimit). GivesDeadline usual options.deadline c.in-Some-deadline_given.deadline)
-          c.limit.ensures c.in-Some-deadline_given.ensures;
+          c.deadline.ensures c.in-Some-deadline_given.ensures;
       key = subst (λ (word : List ℕ). IsKeyWord c.in-Some-read_key.key word) c.as_bytes.ensures.value c.in-Some-read_key.ensures;
       named = (c.in_ok-named.named, c.in_ok-named.ensures);
       can_connect = can;
@@ -49,8 +51,8 @@ returns-then-not-can_connect c =
       (
         (
           (fits, offered.1, added.1),
-          (c.in-Some-timeout_given.timeout, c.in-Some-timeout_given.ensures),
-          (c.in-Some-wait_given.wait, c.in-Some-wait_given.ensures),
+          has_timeout _ options.timeout _ c.in-Some-run_timeout_given.ensures,
+          has_wait options.wait _ c.in-Some-wait_given.ensures,
           has_deadline _ options.deadline _ c.in-Some-deadline_given.ensures,
         ),
         (c.in-Some-read_key.key, key),
@@ -65,7 +67,7 @@ returns-in_default-wait_given c =
     let added : (c.in-Some-2.headers ≡ headers_in (header_words options)) × HasHeaders options = search rules in
     let fits : FitsRole options = search rules in
     wait_refused options c.wait_refusal.result (fits, offered.1, added.1)
-    (c.in-Some-timeout_given.timeout, c.in-Some-timeout_given.ensures) c.in_default-wait_given.ensures
+    (has_timeout _ options.timeout _ c.in-Some-run_timeout_given.ensures) c.in_default-wait_given.ensures
     c.wait_refusal.ensures
 
 pub returns-in_default-deadline_given : goal.returns-in_default-deadline_given
@@ -75,8 +77,8 @@ returns-in_default-deadline_given c =
     let added : (c.in-Some-2.headers ≡ headers_in (header_words options)) × HasHeaders options = search rules in
     let fits : FitsRole options = search rules in
     deadline_refused options c.deadline_refusal.result (fits, offered.1, added.1)
-    (c.in-Some-timeout_given.timeout, c.in-Some-timeout_given.ensures)
-    (c.in-Some-wait_given.wait, c.in-Some-wait_given.ensures) c.in_default-deadline_given.ensures
+    (has_timeout _ options.timeout _ c.in-Some-run_timeout_given.ensures)
+    (has_wait options.wait _ c.in-Some-wait_given.ensures) c.in_default-deadline_given.ensures
     c.deadline_refusal.ensures
 
 pub returns-in_err-named : goal.returns-in_err-named
@@ -91,8 +93,8 @@ returns-in_err-named c =
     rw p.1 (end_refused options _ (
       (
         (fits, offered.1, added.1),
-        (c.in-Some-timeout_given.timeout, c.in-Some-timeout_given.ensures),
-        (c.in-Some-wait_given.wait, c.in-Some-wait_given.ensures),
+        has_timeout _ options.timeout _ c.in-Some-run_timeout_given.ensures,
+        has_wait options.wait _ c.in-Some-wait_given.ensures,
         has_deadline _ options.deadline _ c.in-Some-deadline_given.ensures,
       ),
       (c.in-Some-read_key.key, key),

@@ -7,6 +7,7 @@ use Rattle.ws_suite.specs.declared.evidence.InTurn.{InTurn}
 use Rattle.ws_suite.specs.declared.evidence.Reply.{Reply}
 use Rattle.ws_suite.specs.Kept.{reply_in}
 use Rattle.wst_commands.specs.Explaining.{ending_line, reply_line}
+use Rattle.wst_commands.specs.InnerExplaining.{lent_fault}
 use Rattle.wst_commands.proofs.explanation_lines.SideLinesDisplay.fmt.Goals as goal
 
 pub loop-reply-preserved : goal.loop-reply-preserved
@@ -28,11 +29,12 @@ returns-clause-writes g c = λ plain ok.
     let i = c.loop-reply.invariant plain in
     let side = c.args.self.now.side in
     let direction = c.args.self.now.direction.now in
+    let fault = lent_fault c.args.self.now.fault in
     let line = reply_line side in
     let none : c.loop-reply.replies ≡ [] = search rules in
     let all : direction.replies ≡ i.0 = i.1 ∙ (ap (λ (l : List (InTurn Reply)). i.0 ++ l) none ∙ append-nil i.0) in
-    let written : HasWritten g.W.Write.write_str_gives c.loop-reply.f (ending_line side direction.ending) c.write-2.new.self = search rules in
-    let joined : flat_map line i.0 ++ ending_line side direction.ending ≡ flat_map line direction.replies ++ ending_line side direction.ending =
-    ap (λ (l : List (InTurn Reply)). flat_map line l ++ ending_line side direction.ending) (sym all) in
-    put_two g.W.Write.write_str_gives c.args.f.now c.loop-reply.f c.write-2.new.self (flat_map line i.0) (ending_line side direction.ending)
-    (flat_map line direction.replies ++ ending_line side direction.ending) i.2 written joined
+    let written : HasWritten g.W.Write.write_str_gives c.loop-reply.f (ending_line side fault direction.ending) c.write-2.new.self = search rules in
+    let joined : flat_map line i.0 ++ ending_line side fault direction.ending ≡ flat_map line direction.replies ++ ending_line side fault direction.ending =
+    ap (λ (l : List (InTurn Reply)). flat_map line l ++ ending_line side fault direction.ending) (sym all) in
+    put_two g.W.Write.write_str_gives c.args.f.now c.loop-reply.f c.write-2.new.self (flat_map line i.0) (ending_line side fault direction.ending)
+    (flat_map line direction.replies ++ ending_line side fault direction.ending) i.2 written joined

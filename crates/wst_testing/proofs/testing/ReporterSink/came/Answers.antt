@@ -14,17 +14,17 @@ use Rattle.wst_testing.proofs.testing.ReporterSink.came.Goals as goal
 pub with-self-requires-clause-pass : goal.with-self-requires-clause-pass
 with-self-requires-clause-pass g c =
     let (start, came, fits, (kept, report, so, still)) = c.requires in
-    (reported_room start.rules start.report.now came _ _ _ _ _ so fits).0
+    (reported_room start.rules start.report.now start.hint.left came _ _ _ _ _ _ so fits).0
 
 pub with-self-requires-clause-loose : goal.with-self-requires-clause-loose
 with-self-requires-clause-loose g c =
     let (start, came, fits, (kept, report, so, still)) = c.requires in
-    (reported_room start.rules start.report.now came _ _ _ _ _ so fits).1
+    (reported_room start.rules start.report.now start.hint.left came _ _ _ _ _ _ so fits).1
 
 pub with-self-requires-clause-fail : goal.with-self-requires-clause-fail
 with-self-requires-clause-fail g c =
     let (start, came, fits, (kept, report, so, still)) = c.requires in
-    (reported_room start.rules start.report.now came _ _ _ _ _ so fits).2
+    (reported_room start.rules start.report.now start.hint.left came _ _ _ _ _ _ so fits).2
 
 pub returns-in-Err-clause-heard : goal.returns-in-Err-clause-heard
 returns-in-Err-clause-heard g c = λ start came (kept, report, so, still).
@@ -33,17 +33,17 @@ returns-in-Err-clause-heard g c = λ start came (kept, report, so, still).
     let is = subst (λ (r : RunRules). IsOutcomeOf r c.args.meeting outcome) kept c.in_ok-outcome.ensures in
     let line = subst (λ (r : ReportValue). report_text r (c.args.case.now, outcome) ≡ c.as_bytes.result.now) report
     (sym (c.as_bytes.ensures.value ∙ c.in_ok-reported.ensures.text)) in (
-      report_breaks start.rules start.report.now came c.args.case.now c.args.meeting outcome old.score old.missed
-          old.missed (g.W.Write.contents (inner_of start.writer.now)) (g.W.Write.contents (inner_of old.writer.now))
+      report_breaks start.rules start.report.now start.hint.left came c.args.case.now c.args.meeting outcome old.score old.missed
+          old.missed old.hint (g.W.Write.contents (inner_of start.writer.now)) (g.W.Write.contents (inner_of old.writer.now))
           (g.W.Write.contents (inner_of c.write_whole-written.new.writer)) (has_failed old.writer.now)
-          (has_failed c.write_whole-written.new.writer) (has_failed old.faults.now) (has_failed c.tell_miss.new.faults)
+          (has_failed c.write_whole-written.new.writer) (has_failed old.faults.now) (has_failed c.tell_behind.new.faults)
           (g.F.Write.contents (inner_of start.faults.now)) (g.F.Write.contents (inner_of old.faults.now))
-          (g.F.Write.contents (inner_of c.tell_miss.new.faults)) so is c.tell_miss.ensures.still
-          c.tell_miss.ensures.told
+          (g.F.Write.contents (inner_of c.tell_behind.new.faults)) so is c.tell_behind.ensures.still
+          c.tell_behind.ensures.told
           (subst (λ (l : List ℕ). AppendsFront (g.W.Write.contents (inner_of old.writer.now))
           (g.W.Write.contents (inner_of c.write_whole-written.new.writer)) l) (sym line) c.in-Err.ensures.begun)
           (c.in-Err.ensures.failed ∙ ap (λ (b : Bool). b || true) so.works),
-      λ failed. c.tell_miss.ensures.still (still failed),
+      λ failed. c.tell_behind.ensures.still (still failed),
     )
 
 pub miss_of-requires : goal.miss_of-requires
@@ -62,18 +62,18 @@ returns-then-self-max_missed-clause-heard g c = λ start came (kept, report, so,
     c.missed_after-self.ensures so.few
     (subst (λ (r : RunRules). max_missed r.is_limited ≤ c.missed_after-self.result) kept
     (omega (arith, c.if-self-max_missed.true, c.max_missed.ensures))) in (
-      report_misses start.rules start.report.now came c.args.case.now c.args.meeting outcome old.score old.missed
-          c.missed_after-self.result (g.W.Write.contents (inner_of start.writer.now))
+      report_misses start.rules start.report.now start.hint.left came c.args.case.now c.args.meeting outcome old.score old.missed
+          c.missed_after-self.result old.hint (g.W.Write.contents (inner_of start.writer.now))
           (g.W.Write.contents (inner_of old.writer.now)) (g.W.Write.contents (inner_of c.write_whole-written.new.writer))
           (has_failed old.writer.now) (has_failed c.write_whole-written.new.writer) (has_failed old.faults.now)
-          (has_failed c.tell_miss.new.faults) (g.F.Write.contents (inner_of start.faults.now))
-          (g.F.Write.contents (inner_of old.faults.now)) (g.F.Write.contents (inner_of c.tell_miss.new.faults)) so is
-          c.tell_miss.ensures.still c.tell_miss.ensures.told c.miss_of.result c.miss_of.ensures
+          (has_failed c.tell_behind.new.faults) (g.F.Write.contents (inner_of start.faults.now))
+          (g.F.Write.contents (inner_of old.faults.now)) (g.F.Write.contents (inner_of c.tell_behind.new.faults)) so is
+          c.tell_behind.ensures.still c.tell_behind.ensures.told c.miss_of.result c.miss_of.ensures
           c.missed_after-self.ensures most
           (subst (λ (l : List ℕ). Appends (g.W.Write.contents (inner_of old.writer.now))
           (g.W.Write.contents (inner_of c.write_whole-written.new.writer)) l) (sym line) c.in-Ok.ensures.written)
           (c.in-Ok.ensures.failed ∙ ap (λ (b : Bool). b || false) so.works),
-      λ failed. c.tell_miss.ensures.still (still failed),
+      λ failed. c.tell_behind.ensures.still (still failed),
     )
 
 pub returns-clause-heard : goal.returns-clause-heard
@@ -89,16 +89,17 @@ returns-clause-heard g c = λ start came (kept, report, so, still).
     (omega (arith, c.if-self-max_missed.false, c.max_missed.ensures)) in (
       kept,
       report,
-      reported_more start.rules start.report.now came c.args.case.now c.args.meeting outcome old.score old.missed
-          c.missed_after-self.result (g.W.Write.contents (inner_of start.writer.now))
+      reported_more start.rules start.report.now start.hint.left came c.args.case.now c.args.meeting outcome old.score old.missed
+          c.missed_after-self.result old.hint (g.W.Write.contents (inner_of start.writer.now))
           (g.W.Write.contents (inner_of old.writer.now)) (g.W.Write.contents (inner_of c.write_whole-written.new.writer))
           (has_failed old.writer.now) (has_failed c.write_whole-written.new.writer) (has_failed old.faults.now)
-          (has_failed c.tell_miss.new.faults) (g.F.Write.contents (inner_of start.faults.now))
-          (g.F.Write.contents (inner_of old.faults.now)) (g.F.Write.contents (inner_of c.tell_miss.new.faults)) so is
-          c.tell_miss.ensures.still c.tell_miss.ensures.told c.with-self.result
-          (c.with-self.ensures ∙ ap (λ (b : Bool). score_by old.score outcome b) fails) c.missed_after-self.ensures few
+          (has_failed c.tell_behind.new.faults) (g.F.Write.contents (inner_of start.faults.now))
+          (g.F.Write.contents (inner_of old.faults.now)) (g.F.Write.contents (inner_of c.tell_behind.new.faults)) so is
+          c.tell_behind.ensures.still c.tell_behind.ensures.told c.with-self.result c.with-self-2.result
+          (c.with-self.ensures ∙ ap (λ (b : Bool). score_by old.score outcome b) fails) c.with-self-2.ensures
+          c.missed_after-self.ensures few
           (subst (λ (l : List ℕ). Appends (g.W.Write.contents (inner_of old.writer.now))
           (g.W.Write.contents (inner_of c.write_whole-written.new.writer)) l) (sym line) c.in-Ok.ensures.written)
           (c.in-Ok.ensures.failed ∙ ap (λ (b : Bool). b || false) so.works),
-      λ failed. c.tell_miss.ensures.still (still failed),
+      λ failed. c.tell_behind.ensures.still (still failed),
     )
